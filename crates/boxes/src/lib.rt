@@ -1,0 +1,4 @@
+//! The rules of boxes: the definitions, and the rows that they are about.
+#![tactic(auto)]
+
+pub mod rows;

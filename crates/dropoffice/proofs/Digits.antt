@@ -1,0 +1,47 @@
+-- Texts of decimal digits.
+use Rattle.std.proofs.Common.{◌≡◌, ℕ, ◌<◌, ◌≤◌, ◌^◌, Bool, true, false, List, [], ◌∷◌, length, drop, cond, refl, sym, ap, subst, ◌∙◌, arith, All, ⊎_elim, lit<}
+use Rattle.std.proofs.lemmas.Bool.{cases_lt}
+use Rattle.std.proofs.Math.ListN.{get_or-eq_default}
+use Rattle.std.specs.Prelude.{IsAscii, IsUtf8, slice_index, ◌==◌, ◌&&◌}
+use Rattle.std.specs.List.{list_all}
+use Rattle.std.specs.Char.{is_ascii_digit, digit_value}
+use Rattle.std.specs.Str.Parse.{AllDigits, IsNumeral, digits_value, without_leading_plus}
+use Rattle.std.proofs.lemmas.Bool.Decides.{nat_tests}
+use Rattle.std.proofs.lemmas.Str.{IsUtf8-from_ascii}
+use Rattle.std.proofs.lemmas.List.Elements.{All-nil, All-cons}
+
+pub digit_small : (c : ℕ) → is_ascii_digit c ≡ true → digit_value c < 10
+digit_small c e = grind (arith, nat_tests)
+
+digit_ascii : (c : ℕ) → is_ascii_digit c ≡ true → c < 128
+digit_ascii c e = grind (arith, nat_tests)
+
+no_plus : (c : ℕ) → is_ascii_digit c ≡ true → (c == 43) ≡ false
+no_plus c e = grind (arith, nat_tests)
+
+both : (a b : Bool) → (a && b) ≡ true → (a ≡ true) × (b ≡ true)
+both true b e = (refl, e)
+both false b e = absurd cc
+
+pub all_digits : (text : List ℕ) → list_all is_ascii_digit text ≡ true → AllDigits 10 text
+all_digits [] e = tt
+all_digits (c ∷ text) e = let p = both (is_ascii_digit c) (list_all is_ascii_digit text) e in (digit_small c p.0, all_digits text p.1)
+
+all_ascii : (text : List ℕ) → list_all is_ascii_digit text ≡ true → All (λ b. b < 128) text
+all_ascii [] e = All-nil (λ b. b < 128)
+all_ascii (c ∷ text) e = let p = both (is_ascii_digit c) (list_all is_ascii_digit text) e in All-cons (λ b. b < 128) c text (digit_ascii c p.0) (all_ascii text p.1)
+
+-- past the end stands 0
+ascii_at : (text : List ℕ) → All (λ b. b < 128) text → (i : ℕ) → slice_index text i < 128
+ascii_at text small i =
+    ⊎_elim (λ (within : i < length text). small i 0 within) (λ (past : length text ≤ i). subst (λ (n : ℕ). n < 128) (sym (get_or-eq_default text 0 past)) (lit< tt)) (cases_lt i (length text))
+
+pub digits_utf8 : (text : List ℕ) → list_all is_ascii_digit text ≡ true → IsUtf8 text
+digits_utf8 text e = IsUtf8-from_ascii text (ascii_at text (all_ascii text e))
+
+pub plus_stays : (text : List ℕ) → list_all is_ascii_digit text ≡ true → without_leading_plus text ≡ text
+plus_stays [] e = refl
+plus_stays (c ∷ text) e = let p = both (is_ascii_digit c) (list_all is_ascii_digit text) e in ap (λ (b : Bool). drop (cond b 1 0) (c ∷ text)) (no_plus c p.0)
+
+pub numeral : (text : List ℕ) → list_all is_ascii_digit text ≡ true → 0 < length text → IsNumeral 10 (without_leading_plus text)
+numeral text e some = subst (IsNumeral 10) (sym (plus_stays text e)) (some, all_digits text e)

@@ -1,0 +1,9 @@
+pub mod Rules
+pub mod Answering
+pub mod Sessions
+pub mod Connections
+pub mod Served
+pub mod PlainLinks
+pub mod Lists
+pub mod OneKey
+pub mod Views

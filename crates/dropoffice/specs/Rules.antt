@@ -1,0 +1,68 @@
+-- All rules of numbers 7 to 36, over a state, a request and a moment.
+use Rattle.std.specs.Prelude.{◌≡◌, ◌≢◌, ℕ, ◌⊎◌, ◌==◌, IsTrue, List, [], ◌∷◌, drop, codes, Option, IfSome, option_map, ⊤}
+use Rattle.std.specs.List.{before_first, after_first}
+use Rattle.std.specs.FinMap.{get}
+use Rattle.sigtext.specs.declared.refusal.Refusal.{Refusal}
+use Rattle.sigtext.specs.declared.refusal.Refusal.TheVariants as rule
+use Rattle.sigtext.specs.Request.{Request}
+use Rattle.links.specs.WellFormed.{Parts, HeadRule, HasValue}
+use Rattle.links.specs.Admits.{KnownKey, LinkRule}
+use Rattle.boxes.specs.declared.rows.Role.TheVariants.{Clerk}
+use Rattle.boxes.specs.State.{Place, State}
+use Rattle.boxes.specs.Rules.{Upload, UploadRule, FetchRule}
+use Rattle.boxes.specs.Steps.{Order, IsPossible}
+
+abbrev pub IsPut : Request → Type 0
+IsPut r = r.method ≡ codes "PUT"
+
+abbrev pub IsPost : Request → Type 0
+IsPost r = r.method ≡ codes "POST"
+
+-- GET or HEAD
+abbrev pub IsFetch : Request → Type 0
+IsFetch r = (r.method ≡ codes "GET") ⊎ (r.method ≡ codes "HEAD")
+
+-- the box stands between the first `/` and the second, or the end; the name is what follows the second
+abbrev pub place_of : List ℕ → Place
+place_of path = record { box = before_first (λ b. b == 47) (drop 1 path); name = after_first (λ b. b == 47) (drop 1 path) }
+
+-- what the state says of a key id
+abbrev pub known : State → List ℕ → Option KnownKey
+known s id = option_map (λ k. record { secret = k.secret; revoked = k.revoked }) (get s.keys id)
+
+-- the upload that a request is
+abbrev pub upload_of : Request → ℕ → Parts → Upload
+upload_of r now p = record { place = place_of p.path; bytes = r.body; now = now; key = p.key_id }
+
+-- 24 to 26: the role of the key, and whether a body belongs to the method
+abbrev pub FormRule : Refusal → State → Request → Parts → Type 0
+FormRule rule.RoleNotAllowed s r p = IsPost r → IfSome (get s.keys p.key_id) (λ k. k.role ≡ Clerk)
+FormRule rule.LengthMissing s r p = IsPut r → IsTrue r.has_length
+FormRule rule.BodyNotTaken s r p = (r.method ≢ codes "PUT") → r.body ≡ []
+FormRule _ s r p = ⊤
+
+-- the text is a desk command. No command has a form until the desk is served.
+abbrev pub IsCommand : List ℕ → Order → Type 0
+IsCommand text order = ⊥
+
+-- the path is `/`, and the parameter `desk` holds this command
+pub record Asks (p : Parts) (order : Order) : Type 0 where
+  pub at_desk : p.path ≡ 47 ∷ []
+  pub text : List ℕ
+  pub given : HasValue p.params (codes "desk") text
+  pub is_command : IsCommand text order
+
+-- 35 and 36
+abbrev pub DeskRule : Refusal → State → Parts → Type 0
+DeskRule rule.CommandMalformed s p = (order : Order) × Asks p order
+DeskRule rule.CommandNotPossible s p = (order : Order) × Asks p order × IsPossible s order
+DeskRule _ s p = ⊤
+
+-- the rule that this refusal reports. A refusal of framing, and that of want of memory, have none.
+pub record Rule (s : State) (r : Request) (now : ℕ) (q : Refusal) (p : Parts) : Type 0 where
+  pub head : HeadRule q r p
+  pub link : LinkRule q (known s p.key_id) r now p
+  pub form : FormRule q s r p
+  pub put : IsPut r → UploadRule q s (upload_of r now p)
+  pub fetch : IsFetch r → FetchRule q s (place_of p.path)
+  pub post : IsPost r → DeskRule q s p

@@ -1,0 +1,65 @@
+-- A connection, and a list of connections.
+use Rattle.std.specs.Prelude.{◌≡◌, ℕ, zero, suc, false, List, [], ◌∷◌, ◌++◌}
+use Rattle.sigtext.specs.declared.refusal.Refusal.{Refusal}
+use Rattle.sigtext.specs.declared.refusal.Refusal.TheVariants as rule
+use Rattle.sigtext.specs.Refusals.{number_of}
+use Rattle.sigtext.specs.Request.{Request}
+use Rattle.boxes.specs.State.{State}
+use Rattle.wire.specs.Answers.{answer_text}
+use Rattle.wire.specs.Answers as answer
+use Rattle.wire.specs.Framing.{Next}
+use Rattle.wire.specs.Framing as frame
+use Rattle.wire.specs.Sending.{IsBeginning}
+use Rattle.dropoffice.specs.declared.session.SessionEnd.{SessionEnd}
+use Rattle.dropoffice.specs.declared.session.SessionEnd.TheVariants.{Ended, Truncated, Refused, Limit, ReadFault, WriteFault}
+use Rattle.dropoffice.specs.Answering.{Answers}
+
+-- the text of a refusal that closes the connection
+abbrev pub closing : Refusal → List ℕ
+closing q = answer_text false (answer.Refused q)
+
+-- Up to n further messages of a stream are served from a state. This takes the moments, one for each
+-- message that was read whole, writes the bytes, ends so, and leaves the last state.
+pub data Session : ℕ → List ℕ → State → List ℕ → List ℕ → SessionEnd → State → Type 0 where
+  limit : (stream : List ℕ) (s : State) → Session zero stream s [] [] Limit s
+  ended : (n : ℕ) (stream : List ℕ) (s : State) → Next stream frame.Ended [] → Session (suc n) stream s [] [] Ended s
+  truncated : (n : ℕ) (stream : List ℕ) (s : State) → Next stream frame.Truncated [] → Session (suc n) stream s [] [] Truncated s
+  unframed : (n : ℕ) (stream : List ℕ) (s : State) (q : Refusal) → Next stream (frame.Refused q) []
+      → Session (suc n) stream s [] (closing q) (Refused (number_of q)) s
+  served : (n : ℕ) (stream rest : List ℕ) (s mid after : State) (r : Request) (now : ℕ) (moments text out : List ℕ) (e : SessionEnd)
+      → Next stream (frame.Message r) rest → Answers s r now text mid → Session n rest mid moments out e after
+      → Session (suc n) stream s (now ∷ moments) (text ++ out) e after
+  -- memory was refused, or the keeper counted a fault: before a message, or at one
+  gave_up : (n : ℕ) (stream : List ℕ) (s : State) → Session (suc n) stream s [] (closing rule.TryAgain) (Refused 40) s
+  gave_up_at : (n : ℕ) (stream rest : List ℕ) (s : State) (r : Request) (now : ℕ) → Next stream (frame.Message r) rest
+      → Session (suc n) stream s (now ∷ []) (closing rule.TryAgain) (Refused 40) s
+  -- a read failed, and no further message stands whole in the bytes read before it
+  read_failed : (n : ℕ) (stream : List ℕ) (s : State) → ((r : Request) (rest : List ℕ) → Next stream (frame.Message r) rest → ⊥)
+      → Session (suc n) stream s [] [] ReadFault s
+  -- a write failed, and a beginning of the answer was written; the request has taken effect, or was refused
+  write_failed : (n : ℕ) (stream rest : List ℕ) (s after : State) (r : Request) (now : ℕ) (text front : List ℕ)
+      → Next stream (frame.Message r) rest → Answers s r now text after → IsBeginning front text
+      → Session (suc n) stream s (now ∷ []) front WriteFault after
+  write_failed_unframed : (n : ℕ) (stream : List ℕ) (s : State) (q : Refusal) (front : List ℕ) → Next stream (frame.Refused q) []
+      → IsBeginning front (closing q) → Session (suc n) stream s [] front WriteFault s
+  write_failed_giving_up : (n : ℕ) (stream : List ℕ) (s : State) (front : List ℕ)
+      → IsBeginning front (closing rule.TryAgain) → Session (suc n) stream s [] front WriteFault s
+  write_failed_giving_up_at : (n : ℕ) (stream rest : List ℕ) (s : State) (r : Request) (now : ℕ) (front : List ℕ) → Next stream (frame.Message r) rest
+      → IsBeginning front (closing rule.TryAgain) → Session (suc n) stream s (now ∷ []) front WriteFault s
+
+-- how many messages a connection is served
+abbrev pub most_messages : ℕ
+most_messages = 1000
+
+-- a connection as it was served
+pub record Connection : Type 0 where
+  pub stream : List ℕ
+  pub answers : List ℕ
+  pub end : SessionEnd
+
+-- the connections one after another
+abbrev pub Run : State → List Connection → List ℕ → State → Type 0
+Run s [] moments after = (moments ≡ []) × (after ≡ s)
+Run s (c ∷ cs) moments after =
+    (first others : List ℕ) × (mid : State) × (moments ≡ first ++ others)
+    × Session most_messages c.stream s first c.answers c.end mid × Run mid cs others after

@@ -1,0 +1,71 @@
+//! The forms of a link's parameters.
+ghost use Rattle.std.specs.Prelude.{◌≡◌, ◌↔◌, ℕ, List, IsTrue, IfSome, IfNone};
+ghost use Rattle.std.specs.List.{list_all};
+ghost use Rattle.std.specs.Char.{is_ascii_digit};
+ghost use Rattle.sigtext.specs.declared.encode.Slash.TheVariants.{Kept};
+ghost use Rattle.sigtext.specs.UriEncode.{stays};
+ghost use Rattle.links.specs.Forms.{IsExpiry, IsSignatureText, is_signature_digit};
+
+fn is_path_byte(byte: u8) -> bool
+    ensures { result ≡ stays Kept byte }
+{
+    byte.is_ascii_alphanumeric() || matches!(byte, b'-' | b'.' | b'_' | b'~' | b'/')
+}
+
+/// Whether each byte of the path is unreserved or `/`.
+pub(crate) fn is_plain_path(path: &[u8]) -> bool
+    ensures { result ≡ list_all (stays Kept) path.now }
+{
+    path.iter().all(|byte| is_path_byte(*byte))
+}
+
+fn are_digits(text: &[u8]) -> bool
+    ensures { result ≡ list_all is_ascii_digit text.now }
+{
+    text.iter().all(|byte| byte.is_ascii_digit())
+}
+
+/// The seconds of an expiry: 1 to 604800, in 1 to 6 digits without a leading zero.
+pub(crate) fn read_expiry(text: &[u8]) -> Option<u64>
+    ensures some { IfSome result (IsExpiry text.now) }
+    ensures none { IfNone result ((n : ℕ) → IsExpiry text.now n → ⊥) }
+{
+    if text.is_empty() || text.len() > 6 || text[0] == b'0' {
+        return None;
+    }
+    if !are_digits(text) {
+        return None;
+    }
+    let Ok(digits) = str::from_utf8(text) else {
+        return None;
+    };
+    let Ok(seconds) = digits.parse::<u64>() else {
+        return None;
+    };
+    if seconds == 0 || seconds > MOST_SECONDS {
+        return None;
+    }
+    Some(seconds)
+}
+
+/// The greatest expiry: seven days.
+const MOST_SECONDS: u64 = 604_800;
+
+fn is_signature_digit(byte: u8) -> bool
+    ensures { result ≡ is_signature_digit byte }
+{
+    matches!(byte, b'0'..=b'9' | b'a'..=b'f')
+}
+
+fn are_signature_digits(text: &[u8]) -> bool
+    ensures { result ≡ list_all is_signature_digit text.now }
+{
+    text.iter().all(|byte| is_signature_digit(*byte))
+}
+
+/// Whether the text is 64 lower-case hexadecimal digits.
+pub(crate) fn is_signature_text(text: &[u8]) -> bool
+    ensures { IsTrue result ↔ IsSignatureText text.now }
+{
+    text.len() == 64 && are_signature_digits(text)
+}

@@ -1,0 +1,3 @@
+pub mod Forms
+pub mod WellFormed
+pub mod Admits

@@ -1,0 +1,2 @@
+//! Presigned links: the definitions of well-formed links and of those that are admitted.
+#![tactic(auto)]

@@ -1,0 +1,22 @@
+-- Texts as lists of bytes.
+use Rattle.std.specs.Prelude.{ℕ, ◌<◌, List, Bool, nat_eq}
+use Rattle.std.specs.List.{AllByRecursion, starts_with}
+use Rattle.std.specs.Ordering.{nat_cmp}
+use Rattle.std.specs.declared.cmp.Ordering.{Ordering}
+use Rattle.std.specs.Cmp.Lexicographic.{slice_cmp, pointwise}
+
+-- each number is a byte
+abbrev pub AreBytes : List ℕ → Type 0
+AreBytes bytes = AllByRecursion (λ b. b < 256) bytes
+
+-- the two texts are equal, byte for byte
+abbrev pub same_bytes : List ℕ → List ℕ → Bool
+same_bytes a b = pointwise nat_eq a b
+
+-- the text begins with this one
+abbrev pub begins_with : List ℕ → List ℕ → Bool
+begins_with text front = starts_with nat_eq text front
+
+-- the order of texts by their bytes, a beginning of a text before the text
+abbrev pub bytes_cmp : List ℕ → List ℕ → Ordering
+bytes_cmp a b = slice_cmp nat_cmp a b

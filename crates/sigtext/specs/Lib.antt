@@ -1,0 +1,12 @@
+pub mod Bytes
+pub mod UriEncode
+pub mod Spelling
+pub mod Target
+pub mod CanonicalQuery
+pub mod SignedHeaders
+pub mod CanonicalRequest
+pub mod Request
+pub mod Refusals
+pub mod Rules
+pub mod Counts
+pub mod Fields

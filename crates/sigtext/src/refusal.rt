@@ -1,0 +1,198 @@
+//! The refusals: which rule failed, and the number, status, word and text that answer it.
+
+/// Why a message is refused. Each variant is the rule that failed.
+#[derive(Clone, Copy, Debug, PartialEq, Eq)]
+pub enum Refusal {
+    /// The bytes through the first CR LF CR LF are not, as a whole, one request head with at most 64 fields.
+    HeadMalformed,
+    /// No CR LF CR LF ends within the first 8192 bytes of the message.
+    HeadTooLong,
+    /// A Transfer-Encoding field is there.
+    TransferCoding,
+    /// Content-Length stands twice, or is not 1 to 10 digits.
+    LengthMalformed,
+    /// Content-Length is over the greatest length of a body.
+    BodyTooLarge,
+    /// The input ended in the body.
+    BodyIncomplete,
+    /// The method is not PUT, GET, HEAD or POST.
+    Method,
+    /// The target has no reading.
+    Target,
+    /// None of the six signing parameters is there.
+    NotSigned,
+    /// A parameter stands twice, one of the six is missing, or there is another `X-Amz-` name.
+    Parameters,
+    /// `X-Amz-Algorithm` is another one.
+    Algorithm,
+    /// `X-Amz-Credential` is malformed, or its day is not the date's.
+    Credential,
+    /// `X-Amz-Date` is not a moment of the years 1970 to 9999.
+    Date,
+    /// `X-Amz-Expires` is not 1 to 604800, or has a leading zero.
+    Expiry,
+    /// `X-Amz-SignedHeaders` is malformed, or `host` is missing in it.
+    SignedHeaders,
+    /// `X-Amz-Signature` is not 64 lower-case hexadecimal digits.
+    SignatureText,
+    /// A signed header is absent, doubled or unfit.
+    SignedValues,
+    /// An `x-amz-` header is there and not signed.
+    HeaderNotSigned,
+    /// The key is unknown.
+    KeyUnknown,
+    /// The key is revoked.
+    KeyRevoked,
+    /// The signature is not that of the canonical request.
+    SignatureMismatch,
+    /// The moment is before the link's start.
+    NotYetValid,
+    /// The moment is at or past the link's end.
+    Expired,
+    /// A POST with a key whose role is not `clerk`.
+    RoleNotAllowed,
+    /// A PUT without Content-Length.
+    LengthMissing,
+    /// A GET, HEAD or POST with a body of one byte or more.
+    BodyNotTaken,
+    /// The box is not there.
+    NoSuchBox,
+    /// The name has over 1024 bytes.
+    NameTooLong,
+    /// The name is empty, no plain UTF-8, or against the box's rule.
+    NameNotAllowed,
+    /// The box is closed at this moment.
+    BoxClosed,
+    /// The box keeps what it has, and other bytes stand under the name.
+    OtherBytesKept,
+    /// The name is new, and the box has its greatest number of files.
+    TooManyFiles,
+    /// The box would hold more bytes than its quota.
+    QuotaPassed,
+    /// The file is not there.
+    NoSuchFile,
+    /// The desk command is malformed.
+    CommandMalformed,
+    /// The desk command is not possible.
+    CommandNotPossible,
+    /// Memory was refused, or the keeper counted a fault.
+    TryAgain,
+}
+
+impl Refusal {
+    ghost use Rattle.std.specs.Prelude.{◌≡◌};
+    ghost use Rattle.sigtext.specs.Refusals.{number_of, status_of, word_of, text_of};
+
+    // The number, the status and the word.
+    fn row(self) -> (u8, u16, &'static str)
+        ensures number { result.0 ≡ number_of self }
+        ensures status { result.1 ≡ status_of self }
+        ensures word { result.2.now ≡ word_of self }
+    {
+        match self {
+            Refusal::HeadMalformed => (1, 400, "InvalidRequest"),
+            Refusal::HeadTooLong => (2, 400, "InvalidRequest"),
+            Refusal::TransferCoding => (3, 501, "NotImplemented"),
+            Refusal::LengthMalformed => (4, 400, "InvalidRequest"),
+            Refusal::BodyTooLarge => (5, 400, "EntityTooLarge"),
+            Refusal::BodyIncomplete => (6, 400, "IncompleteBody"),
+            Refusal::Method => (7, 405, "MethodNotAllowed"),
+            Refusal::Target => (8, 400, "InvalidURI"),
+            Refusal::NotSigned => (9, 403, "AccessDenied"),
+            Refusal::Parameters => (10, 400, "AuthorizationQueryParametersError"),
+            Refusal::Algorithm => (11, 400, "AuthorizationQueryParametersError"),
+            Refusal::Credential => (12, 400, "AuthorizationQueryParametersError"),
+            Refusal::Date => (13, 400, "AuthorizationQueryParametersError"),
+            Refusal::Expiry => (14, 400, "AuthorizationQueryParametersError"),
+            Refusal::SignedHeaders => (15, 400, "AuthorizationQueryParametersError"),
+            Refusal::SignatureText => (16, 400, "AuthorizationQueryParametersError"),
+            Refusal::SignedValues => (17, 400, "InvalidRequest"),
+            Refusal::HeaderNotSigned => (18, 403, "AccessDenied"),
+            Refusal::KeyUnknown => (19, 403, "InvalidAccessKeyId"),
+            Refusal::KeyRevoked => (20, 403, "InvalidAccessKeyId"),
+            Refusal::SignatureMismatch => (21, 403, "SignatureDoesNotMatch"),
+            Refusal::NotYetValid => (22, 403, "AccessDenied"),
+            Refusal::Expired => (23, 403, "AccessDenied"),
+            Refusal::RoleNotAllowed => (24, 403, "AccessDenied"),
+            Refusal::LengthMissing => (25, 411, "MissingContentLength"),
+            Refusal::BodyNotTaken => (26, 400, "InvalidRequest"),
+            Refusal::NoSuchBox => (27, 404, "NoSuchBucket"),
+            Refusal::NameTooLong => (28, 400, "KeyTooLongError"),
+            Refusal::NameNotAllowed => (29, 400, "InvalidArgument"),
+            Refusal::BoxClosed => (30, 403, "AccessDenied"),
+            Refusal::OtherBytesKept => (31, 412, "PreconditionFailed"),
+            Refusal::TooManyFiles => (32, 403, "AccessDenied"),
+            Refusal::QuotaPassed => (33, 403, "AccessDenied"),
+            Refusal::NoSuchFile => (34, 404, "NoSuchKey"),
+            Refusal::CommandMalformed => (35, 400, "InvalidArgument"),
+            Refusal::CommandNotPossible => (36, 400, "InvalidArgument"),
+            Refusal::TryAgain => (40, 500, "InternalError"),
+        }
+    }
+
+    /// The number of the rule: 1 to 36, or 40.
+    pub fn number(self) -> u8
+        ensures { result ≡ number_of self }
+    {
+        self.row().0
+    }
+
+    /// The status of the answer (RFC 9110, section 15): 400 to 501.
+    pub fn status(self) -> u16
+        ensures { result ≡ status_of self }
+    {
+        self.row().1
+    }
+
+    /// The word with which the body begins, as `AccessDenied`.
+    pub fn word(self) -> &'static str
+        ensures { result.now ≡ word_of self }
+    {
+        self.row().2
+    }
+
+    /// The text with which the body ends.
+    pub fn text(self) -> &'static str
+        ensures { result.now ≡ text_of self }
+    {
+        match self {
+            Refusal::HeadMalformed => "the head is not a request head",
+            Refusal::HeadTooLong => "the head is too long",
+            Refusal::TransferCoding => "transfer codings are not served",
+            Refusal::LengthMalformed => "Content-Length is malformed",
+            Refusal::BodyTooLarge => "the body is too large",
+            Refusal::BodyIncomplete => "the input ended in the body",
+            Refusal::Method => "the method is not served",
+            Refusal::Target => "the target is malformed",
+            Refusal::NotSigned => "the request is not signed",
+            Refusal::Parameters => "the signing parameters are not the six",
+            Refusal::Algorithm => "the algorithm is not AWS4-HMAC-SHA256",
+            Refusal::Credential => "the credential is malformed",
+            Refusal::Date => "the date is malformed",
+            Refusal::Expiry => "the expiry is not 1 to 604800 seconds",
+            Refusal::SignedHeaders => "the signed headers are malformed",
+            Refusal::SignatureText => "the signature is not 64 lower-case hexadecimal digits",
+            Refusal::SignedValues => "a signed header is absent, doubled or unfit",
+            Refusal::HeaderNotSigned => "an x-amz- header is not signed",
+            Refusal::KeyUnknown => "the key is unknown",
+            Refusal::KeyRevoked => "the key is revoked",
+            Refusal::SignatureMismatch => "the signature does not match",
+            Refusal::NotYetValid => "the link is not valid yet",
+            Refusal::Expired => "the link has expired",
+            Refusal::RoleNotAllowed => "the key may not do this",
+            Refusal::LengthMissing => "Content-Length is missing",
+            Refusal::BodyNotTaken => "a body is not taken here",
+            Refusal::NoSuchBox => "no such box",
+            Refusal::NameTooLong => "the name is too long",
+            Refusal::NameNotAllowed => "the name is not allowed",
+            Refusal::BoxClosed => "the box is closed",
+            Refusal::OtherBytesKept => "other bytes are kept under this name",
+            Refusal::TooManyFiles => "the box has its greatest number of files",
+            Refusal::QuotaPassed => "the box's quota would be passed",
+            Refusal::NoSuchFile => "no such file",
+            Refusal::CommandMalformed => "the desk command is malformed",
+            Refusal::CommandNotPossible => "the desk command is not possible",
+            Refusal::TryAgain => "try again",
+        }
+    }
+}

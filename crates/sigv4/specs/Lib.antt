@@ -1,0 +1,7 @@
+pub mod Hmac
+pub mod Hashers
+pub mod Dates
+pub mod Signature
+pub mod Credential
+pub mod Scopes
+pub mod Stamps

@@ -1,0 +1,110 @@
+//! Credential scopes.
+ghost use Rattle.std.specs.Prelude.{◌≡◌, ◌≢◌, ◌↔◌, ℕ, List, ◌∷◌, ◌++◌, length, IsTrue, IfSome, IfNone, IfOk, IfErr};
+ghost use Rattle.std.specs.List.{All, list_all};
+ghost use Rattle.std.specs.Char.{is_ascii_digit};
+ghost use Rattle.sigtext.specs.Bytes.{begins_with};
+ghost use Rattle.sigv4.specs.Signature.{CredentialScope, scope_text};
+ghost use Rattle.sigv4.specs.Credential.{is_key_byte, is_region_byte, IsKeyId, IsRegion, IsCredential};
+ghost use Rattle.sigv4.specs.Scopes.{scope_of};
+
+use sigtext::Refusal;
+
+/// A credential: the key id, and what of its scope is not fixed.
+#[derive(Clone, Copy, Debug)]
+pub struct Scope<'a> {
+    /// 1 to 64 bytes of `A-Z a-z 0-9 - _`.
+    pub key_id: &'a [u8],
+    /// The day, `yyyyMMdd`.
+    pub date: &'a [u8],
+    /// 1 to 32 bytes of `a-z 0-9 -`.
+    pub region: &'a [u8],
+}
+
+fn are_key_bytes(text: &[u8]) -> bool
+    ensures { result ≡ list_all is_key_byte text.now }
+{
+    text.iter().all(|byte| byte.is_ascii_alphanumeric() || matches!(byte, b'-' | b'_'))
+}
+
+fn is_key_id(text: &[u8]) -> bool
+    ensures { IsTrue result ↔ IsKeyId text.now }
+{
+    !text.is_empty() && text.len() <= 64 && are_key_bytes(text)
+}
+
+fn are_region_bytes(text: &[u8]) -> bool
+    ensures { result ≡ list_all is_region_byte text.now }
+{
+    text.iter().all(|byte| byte.is_ascii_lowercase() || byte.is_ascii_digit() || *byte == b'-')
+}
+
+fn is_region(text: &[u8]) -> bool
+    ensures { IsTrue result ↔ IsRegion text.now }
+{
+    !text.is_empty() && text.len() <= 32 && are_region_bytes(text)
+}
+
+fn are_digits(text: &[u8]) -> bool
+    ensures { result ≡ list_all is_ascii_digit text.now }
+{
+    text.iter().all(u8::is_ascii_digit)
+}
+
+// Eight digits, with which the date begins.
+fn is_day_of(day: &[u8], date: &[u8]) -> bool
+    ensures { IsTrue result ↔ ((length day.now ≡ 8) × IsTrue (list_all is_ascii_digit day.now) × IsTrue (begins_with date.now day.now)) }
+{
+    day.len() == 8 && are_digits(day) && date.starts_with(day)
+}
+
+// What stands before the first `/`, and what after it.
+fn cut(text: &[u8]) -> Option<(&[u8], &[u8])>
+    ensures found { IfSome result (λ parts. (text.now ≡ parts.0.now ++ 47 ∷ parts.1.now) × All (λ b. b ≢ 47) parts.0.now) }
+    ensures absent { IfNone result (All (λ b. b ≢ 47) text.now) }
+{
+    let at = text.iter().position(|byte| *byte == b'/')?;
+    Some((&text[..at], &text[at + 1..]))
+}
+
+// The parts of a credential, of any form.
+fn parts(credential: &[u8]) -> Option<Scope<'_>>
+    ensures found { IfSome result (λ s. (credential.now ≡ s.key_id.now ++ 47 ∷ scope_text (scope_of s)) × All (λ b. b ≢ 47) s.key_id.now × All (λ b. b ≢ 47) s.date.now) }
+    ensures absent { IfNone result ((key_id : List ℕ) (scope : CredentialScope) → All (λ b. b ≢ 47) key_id → All (λ b. b ≢ 47) scope.date → credential.now ≡ key_id ++ 47 ∷ scope_text scope → ⊥) }
+{
+    let front = credential.strip_suffix(b"/s3/aws4_request")?;
+    let (key_id, rest) = cut(front)?;
+    let (date, region) = cut(rest)?;
+    Some(Scope {
+        key_id,
+        date,
+        region,
+    })
+}
+
+// Whether each part has its form.
+fn is_well_formed(scope: &Scope<'_>, date: &[u8]) -> bool
+    ensures { IsTrue result ↔ (IsKeyId scope.now.key_id.now × ((length scope.now.date.now ≡ 8) × IsTrue (list_all is_ascii_digit scope.now.date.now) × IsTrue (begins_with date.now scope.now.date.now)) × IsRegion scope.now.region.now) }
+{
+    is_key_id(scope.key_id) && is_day_of(scope.date, date) && is_region(scope.region)
+}
+
+impl<'a> Scope<'a> {
+    /// Reads `<key id>/<yyyyMMdd>/<region>/s3/aws4_request`, the value of `X-Amz-Credential` (Amazon
+    /// S3 API Reference, "Authenticating Requests: Using Query Parameters"). Its day must be the
+    /// first eight bytes of `date`, the value of `X-Amz-Date`.
+    ///
+    /// # Errors
+    ///
+    /// `Refusal::Credential` where the credential is of another form, or its day another one.
+    pub fn read(credential: &'a [u8], date: &[u8]) -> Result<Scope<'a>, Refusal>
+        ensures ok { IfOk result (λ s. IsCredential credential.now date.now s.key_id.now (scope_of s)) }
+        ensures err { IfErr result (λ r. (r ≡ Refusal.Credential) × ((key_id : List ℕ) (scope : CredentialScope) → IsCredential credential.now date.now key_id scope → ⊥)) }
+    {
+        let scope = parts(credential).ok_or(Refusal::Credential)?;
+        if is_well_formed(&scope, date) {
+            Ok(scope)
+        } else {
+            Err(Refusal::Credential)
+        }
+    }
+}

@@ -1,0 +1,4 @@
+pub mod Written
+pub mod Texts
+pub mod AnswerRows
+pub mod Heads
