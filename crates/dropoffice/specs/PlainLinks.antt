@@ -1,5 +1,5 @@
 -- A link in the one form that is served so far, piece by piece.
-use Rattle.std.specs.Prelude.{◌≡◌, ℕ, false, IsTrue, not, List, ◌∷◌, ◌++◌, length, codes, All, ◌==◌}
+use Rattle.std.specs.Prelude.{◌≡◌, ℕ, false, IsTrue, not, List, [], ◌∷◌, ◌++◌, length, codes, All, ◌==◌}
 use Rattle.std.specs.List.{list_all}
 use Rattle.sigtext.specs.declared.encode.Slash.TheVariants.{Kept, Encoded}
 use Rattle.sigtext.specs.Bytes.{begins_with}
@@ -58,10 +58,11 @@ pub record PlainLink : Type 0 where
 abbrev pub HasNoAmzHeader : List Header → Type 0
 HasNoAmzHeader headers = IsTrue (list_all (λ h. not (begins_with (lower_case h.name) (codes "x-amz-"))) headers)
 
--- a GET without Content-Length, whose link has the served form and says this
+-- a GET without Content-Length and without a body, whose link has the served form and says this
 pub record IsPlainLink (r : Request) (l : PlainLink) : Type 0 where
   pub get : r.method ≡ codes "GET"
   pub no_length : r.has_length ≡ false
+  pub no_body : r.body ≡ []
   pub slash : BeginsWithSlash l.path
   pub plain : IsTrue (list_all (stays Kept) l.path)
   pub raw : IsRawLink r.target (record { path = l.path; query = l.query; credential = uri_encoded Encoded l.credential; date = l.date; expires = l.expiry; signature = l.signature })
@@ -71,4 +72,19 @@ pub record IsPlainLink (r : Request) (l : PlainLink) : Type 0 where
   pub signature : IsSignatureText l.signature
   pub host : IsSignedValue r.headers (codes "host") l.host
   pub fit : IsFitValue l.host
+  pub no_amz : HasNoAmzHeader r.headers
+
+-- the same but for the credential: what the raw pieces, and the request's fields, say without it
+pub record IsPlainBut (r : Request) (l : RawLink) (start expires : ℕ) (host : List ℕ) : Type 0 where
+  pub get : r.method ≡ codes "GET"
+  pub no_length : r.has_length ≡ false
+  pub no_body : r.body ≡ []
+  pub slash : BeginsWithSlash l.path
+  pub plain : IsTrue (list_all (stays Kept) l.path)
+  pub raw : IsRawLink r.target l
+  pub moment : WritesMoment l.date start
+  pub expiry : IsExpiry l.expires expires
+  pub signature : IsSignatureText l.signature
+  pub is_host : IsSignedValue r.headers (codes "host") host
+  pub fit : IsFitValue host
   pub no_amz : HasNoAmzHeader r.headers

@@ -18,10 +18,11 @@ pub record IsServedTarget (target : List ℕ) (p : Parts) : Type 0 where
   pub order : map (λ q. q.name) p.params ≡ signing_names
   pub written : target ≡ p.path ++ 63 ∷ join_with_byte 38 (map param_text p.params)
 
--- a GET without Content-Length, whose link is well formed, of that form, and signs `host` alone
+-- a GET without Content-Length and without a body, whose link is well formed, of that form, and signs `host` alone
 pub record IsServedAs (r : Request) (p : Parts) : Type 0 where
   pub get : r.method ≡ codes "GET"
   pub no_length : r.has_length ≡ false
+  pub no_body : r.body ≡ []
   pub well_formed : IsWellFormed r p
   pub target : IsServedTarget r.target p
   pub host_alone : map (λ h. h.name) p.signed ≡ codes "host" ∷ []

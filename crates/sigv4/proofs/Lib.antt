@@ -1,2 +1,3 @@
 pub mod Credentials
 pub mod Moments
+pub mod Vectors

@@ -4,3 +4,9 @@
 pub mod hash;
 pub mod moment;
 pub mod scope;
+pub mod signing;
+
+pub use hash::{Hmac, Sha};
+pub use moment::Moment;
+pub use scope::Scope;
+pub use signing::{derive, signature};

@@ -1,5 +1,6 @@
 //! Moments: the seconds since 1970-01-01T00:00:00Z, and their text in a request.
 ghost use Rattle.std.specs.Prelude.{◌≡◌, ℕ, ◌+◌, ◌/◌, ◌%◌, ◌<◌, ◌≤◌, List, pos, slice_index, IfSome, IfNone, SomeIff};
+ghost use Rattle.sigv4.specs.Dates.{WritesMoment};
 ghost use Rattle.jiff.specs.Words.{epoch_day};
 
 use jiff::civil::Date;
@@ -170,8 +171,6 @@ impl Model for Moment {
 }
 
 impl Moment {
-    ghost use Rattle.sigv4.specs.Dates.{WritesMoment};
-
     /// The moment that is this many seconds after 1970-01-01T00:00:00Z, if its year has four digits:
     /// up to 253402300799.
     pub fn new(seconds: u64) -> Option<Moment>
@@ -208,4 +207,12 @@ impl Moment {
         let seconds = Stamp::read(text)?.seconds()?;
         Some(Moment { seconds })
     }
+}
+
+/// The law of moments and their texts: a text writes one moment at most, and a moment has one text at
+/// most. So what `text` gives `read` gives back, and the other way round.
+pub fn law_read_back()
+    ensures one_moment { (text : List ℕ) (m n : ℕ) → WritesMoment text m → WritesMoment text n → n ≡ m }
+    ensures one_text { (t u : List ℕ) (m : ℕ) → WritesMoment t m → WritesMoment u m → t ≡ u }
+{
 }

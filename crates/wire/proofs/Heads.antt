@@ -1,5 +1,5 @@
 -- Where a head ends, and the fronts of a stream.
-use Rattle.std.proofs.Common.{◌≡◌, ◌<◌, ◌≤◌, ◌+◌, ℕ, List, [], ◌∷◌, ◌++◌, length, take, drop, map, arith, refl, sym, ap, ◌∙◌, append_assoc, length-append, length-drop, take-append-drop, take-add, subst}
+use Rattle.std.proofs.Common.{◌≡◌, ◌<◌, ◌≤◌, ◌+◌, ◌-◌, ℕ, List, [], ◌∷◌, ◌++◌, length, take, drop, map, arith, refl, sym, ap, ◌∙◌, append_assoc, length-append, length-drop, take-append-drop, take-add, subst}
 use Rattle.std.proofs.lemmas.List.{drop_at, length-take-le, nil_from_length, take_at, take-append-le}
 use Rattle.std.proofs.lemmas.Simd.{map-map}
 use Rattle.httparse.specs.Grammar.{Field}
@@ -28,10 +28,10 @@ head_end_at bytes at here within before = record {
   within = within;
   ends = (take at bytes, take-add at 4 bytes ∙ ap (λ (t : List ℕ). take at bytes ++ t) here);
   shortest = λ front more e ends.
-    let whole : bytes ≡ front ++ (more ++ drop (at + 4) bytes) = sym (take-append-drop (at + 4) bytes) ∙ ap (λ (t : List ℕ). t ++ drop (at + 4) bytes) e ∙ append_assoc front more _ in
-    let (k, is, fits, found) = end_at bytes front _ whole ends in
-    let late : k < at → ⊥ = λ early. before k early found in
-    nil_from_length more (omega (arith, ap length e, length-append front more, length-take-le (at + 4) bytes within));
+      let whole : bytes ≡ front ++ (more ++ drop (at + 4) bytes) = sym (take-append-drop (at + 4) bytes) ∙ ap (λ (t : List ℕ). t ++ drop (at + 4) bytes) e ∙ append_assoc front more _ in
+      let (k, is, fits, found) = end_at bytes front _ whole ends in
+      let late : k < at → ⊥ = λ early. before k early found in
+      nil_from_length more (omega (arith, ap length e, length-append front more, length-take-le (at + 4) bytes within));
 }
 
 pub no_head_end : (bytes : List ℕ) → ((k : ℕ) → k < length bytes → take 4 (drop k bytes) ≡ 13 ∷ 10 ∷ 13 ∷ 10 ∷ [] → ⊥) → HasNoHeadEnd bytes
@@ -77,8 +77,19 @@ head_end_more bytes more n is =
       shortest = λ front rest e. is.shortest front rest (sym same ∙ e);
     }
 
+head_end_no_later : (bytes : List ℕ) (m n : ℕ) → IsHeadEnd bytes m → IsHeadEnd bytes n → m ≤ n → n ≤ m
+head_end_no_later bytes m n is also le =
+    let whole : take n bytes ≡ take m bytes ++ take (n - m) (drop m bytes) =
+    let sum : n ≡ m + (n - m) = omega arith in ap (λ (k : ℕ). take k bytes) sum ∙ take-add m (n - m) bytes in
+    let nothing = also.shortest (take m bytes) _ whole is.ends in
+    let rest : n - m ≤ length (drop m bytes) = omega (arith, length-drop m bytes, also.within) in
+    omega (arith, ap length nothing, length-take-le (n - m) (drop m bytes) rest)
+
 pub head_end_unique : (bytes : List ℕ) (m n : ℕ) → IsHeadEnd bytes m → IsHeadEnd bytes n → m ≡ n
-head_end_unique bytes m n is also = ?
+head_end_unique bytes m n is also =
+    let above : m ≤ n → n ≤ m = head_end_no_later bytes m n is also in
+    let below : n ≤ m → m ≤ n = head_end_no_later bytes n m also is in
+    grind arith
 
 -- a stream with no head's end has no front
 pub no_front : (stream : List ℕ) → HasNoHeadEnd stream → HasNoFront stream
@@ -86,4 +97,6 @@ no_front stream none head rest is = none head rest is.whole is.ends
 
 -- a head that ends too late is no front
 pub no_front_late : (stream : List ℕ) (n : ℕ) → IsHeadEnd stream n → 8192 < n → HasNoFront stream
-no_front_late stream n is late head rest front = ?
+no_front_late stream n is late head rest front =
+    let same = head_end_unique stream (length head) n (front_is_end stream head rest front) is in
+    omega (arith, same, front.short, late)

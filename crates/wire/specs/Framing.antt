@@ -1,14 +1,13 @@
 -- How a stream is cut into messages (RFC 9112, sections 2, 5 and 6; the limits are the office's own).
-use Rattle.std.specs.Prelude.{◌≡◌, ◌≢◌, ℕ, ◌<◌, ◌≤◌, Bool, true, false, IsTrue, List, [], ◌∷◌, ◌++◌, length, map, filter, codes}
+use Rattle.std.specs.Prelude.{◌≡◌, ◌≢◌, ℕ, ◌<◌, ◌≤◌, Bool, true, false, IsTrue, List, [], ◌∷◌, ◌++◌, length, map, codes}
 use Rattle.std.specs.List.{list_all}
 use Rattle.std.specs.Char.{is_ascii_digit}
 use Rattle.std.specs.Str.Parse.{digits_value}
 use Rattle.httparse.specs.Grammar.{RequestHead, Field, field_value, ReadsRequest}
 use Rattle.sigtext.specs.declared.refusal.Refusal.{Refusal}
 use Rattle.sigtext.specs.declared.refusal.Refusal.TheVariants as rule
-use Rattle.sigtext.specs.Bytes.{same_bytes}
 use Rattle.sigtext.specs.Request.{Request}
-use Rattle.sigtext.specs.SignedHeaders.{Header, lower_case, named}
+use Rattle.sigtext.specs.SignedHeaders.{Header, named}
 
 -- the bytes end in CR LF CR LF
 abbrev pub EndsHead : List ℕ → Type 0

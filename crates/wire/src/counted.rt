@@ -142,10 +142,19 @@ pub fn fill<R: Read>(reader: &mut Counted<R>, buffer: &mut [u8]) -> Filled
     let mut len = 0;
     'room: while len < buffer.len() {
         match reader.read(&mut buffer[len..]) {
-            Ok(0) => return Filled { len, stop: Stop::End },
+            Ok(0) => return Filled {
+                len,
+                stop: Stop::End,
+            },
             Ok(n) => len += n,
-            Err(_) => return Filled { len, stop: Stop::Fault },
+            Err(_) => return Filled {
+                len,
+                stop: Stop::Fault,
+            },
         }
     }
-    Filled { len, stop: Stop::Full }
+    Filled {
+        len,
+        stop: Stop::Full,
+    }
 }

@@ -3,6 +3,8 @@
 
 pub mod answer;
 pub mod counted;
+#[cfg(test)]
+mod fakes;
 pub mod head;
 
 pub use answer::{Answer, Reply, put_answer};

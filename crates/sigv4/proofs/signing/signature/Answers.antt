@@ -1,0 +1,31 @@
+use Rattle.std.proofs.Common.{◌≡◌, ℕ, List, ◌∷◌, [], ◌++◌, Ok, codes, append_assoc, ap, ◌∙◌}
+use Rattle.sha2.specs.Sha256.{sha256}
+use Rattle.hex.specs.Hex.{encode_lower}
+use Rattle.sigv4.specs.Hmac.{hmac}
+use Rattle.sigv4.specs.Signature.{CredentialScope, string_to_sign, signature_of}
+use Rattle.sigv4.specs.Scopes.{scope_of}
+use Rattle.sigv4.proofs.Moments.{text_once}
+use Rattle.sigv4.proofs.signing.signature.Goals as goal
+
+regroup : (a n m d s r f g : List ℕ) → [] ++ (a ++ n) ++ m ++ n ++ d ++ s ++ r ++ (f ++ n) ++ g ≡ a ++ (n ++ m) ++ (n ++ (d ++ (s ++ r) ++ f)) ++ (n ++ g)
+regroup a n m d s r f g = simp append_assoc
+
+-- the pieces in the order in which they are fed
+joined : (text : List ℕ) (s : CredentialScope) (digest canonical : List ℕ) → digest ≡ encode_lower (sha256 canonical)
+    → [] ++ codes "AWS4-HMAC-SHA256\n" ++ text ++ 10 ∷ [] ++ s.date ++ 47 ∷ [] ++ s.region ++ codes "/s3/aws4_request\n" ++ digest ≡ string_to_sign text s canonical
+unfolding string_to_sign
+joined text s digest canonical e =
+    rw e (regroup (codes "AWS4-HMAC-SHA256") (10 ∷ []) text s.date (47 ∷ []) s.region (codes "/s3/aws4_request") (encode_lower (sha256 canonical)))
+
+pub returns-clause-value : goal.returns-clause-value
+unfolding signature_of
+returns-clause-value c text writes =
+    let scope = scope_of c.args.scope.now in
+    let canonical = c.args.canonical.now in
+    let fed = c.update-8.ensures _ _ (c.update-7.ensures _ _ (c.update-6.ensures _ _ (c.update-5.ensures _ _ (c.update-4.ensures _ _ (c.update-3.ensures _ _ (c.update-2.ensures _ _ (c.update.ensures _ _ c.new-signed.ensures))))))) in
+    let digest = c.hex_digits-digest.ensures ∙ ap encode_lower c.digest_of.ensures in
+    let same = text_once c.text.result text c.args.moment.now c.text.ensures writes in
+    let signed = joined c.text.result scope c.hex_digits-digest.result canonical digest ∙ ap (λ (t : List ℕ). string_to_sign t scope canonical) same in
+    let keyed = ap (λ (key : List ℕ). hmac key (string_to_sign text scope canonical)) c.derive.ensures in
+    let digits = c.hex_digits.ensures ∙ ap encode_lower (c.finish.ensures _ _ fed ∙ ap (hmac c.derive.result) signed ∙ keyed) in
+    ap (λ (d : List ℕ). Ok d) digits
