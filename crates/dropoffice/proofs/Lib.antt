@@ -3,3 +3,12 @@ pub mod Texts
 pub mod RawLinks
 pub mod Spaces
 pub mod Digits
+pub mod Lookups
+pub mod Deciding
+pub mod PlainPieces
+pub mod Credentials
+pub mod Judging
+pub mod PlainBytes
+pub mod PlainForms
+pub mod ServedForms
+pub mod Answered

@@ -97,3 +97,24 @@ value_not c text word after None e l = λ value rest f. holds_not c after value 
 pub not_true : (b : Bool) → true ≡ not b → b ≡ false
 not_true true e = absurd cc
 not_true false e = refl
+
+pub not_false : (b : Bool) → false ≡ not b → b ≡ true
+not_false true e = refl
+not_false false e = absurd cc
+
+-- two texts that end in parts of one length
+pub split_last : (a x b y : List ℕ) → length x ≡ length y → a ++ x ≡ b ++ y → (a ≡ b) × (x ≡ y)
+split_last a x b y same e =
+    let first = last_once (a ++ x) a x (length y) refl same in
+    let second = last_once (a ++ x) b y (length y) (sym e) refl in
+    (sym first.0 ∙ second.0, sym first.1 ∙ second.1)
+
+pub clash : (b : Bool) → b ≡ false → b ≡ true → ⊥
+clash b f t = differs (sym f ∙ t)
+  where
+    differs : false ≡ true → ⊥
+    differs e = cc
+
+pub empty_is : (text : List ℕ) → eqb (length text) 0 ≡ true → text ≡ []
+empty_is [] e = refl
+empty_is (b ∷ text) e = let zero : length (b ∷ text) ≡ 0 = eqb-true (length (b ∷ text)) 0 e in absurd (omega arith)

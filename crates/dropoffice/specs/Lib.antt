@@ -7,3 +7,6 @@ pub mod PlainLinks
 pub mod Lists
 pub mod OneKey
 pub mod Views
+pub mod Clocks
+pub mod Deciding
+pub mod Offices

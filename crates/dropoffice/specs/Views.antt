@@ -1,5 +1,6 @@
 -- What the structs of the code mean.
 use Rattle.std.specs.Prelude.{◌≡◌}
+use Rattle.sigtext.specs.Request.{Request}
 use Rattle.dropoffice.specs.PlainLinks as plain
 use Rattle.dropoffice.specs.declared.raw_link.RawLink.{RawLink}
 use Rattle.dropoffice.specs.declared.plain_link.PlainLink.{PlainLink}
@@ -24,3 +25,10 @@ pub record Says (l : PlainLink) (p : plain.PlainLink) : Type 0 where
   pub expires : l.expires ≡ p.expires
   pub host : l.host.now ≡ p.host
   pub signature : l.signature.now ≡ p.signature
+
+-- the link is one that was read
+pub record IsRead (l : PlainLink) : Type 0 where
+  pub request : Request
+  pub link : plain.PlainLink
+  pub says : Says l link
+  pub is : plain.IsPlainLink request link

@@ -1,6 +1,18 @@
 //! The office: one request, one connection, a list of connections, and the program's words.
 #![tactic(auto)]
 
+pub mod clocks;
+mod decode;
 mod fields;
 mod forms;
+pub mod one_key;
+mod plain_link;
 mod raw_link;
+pub mod serving;
+pub mod session;
+
+pub use clocks::{Clock, FixedClock, ListedClock};
+pub use one_key::OneKey;
+pub use serving::Office;
+pub use session::SessionEnd;
+pub use wire::{Answer, Counted, Message};

@@ -4,8 +4,10 @@ ghost use Rattle.sigtext.specs.Target.{BeginsWithSlash};
 ghost use Rattle.sigtext.specs.Fields.{header_of};
 ghost use Rattle.sigtext.specs.SignedHeaders.{IsSignedValue};
 ghost use Rattle.sigv4.specs.Dates.{WritesMoment};
+ghost use Rattle.sigv4.specs.Credential.{IsCredential};
+ghost use Rattle.sigv4.specs.Signature.{CredentialScope};
 ghost use Rattle.links.specs.WellFormed.{IsFitValue};
-ghost use Rattle.wire.specs.Shown.{request_in};
+ghost use Rattle.wire.specs.Messages.{request_in};
 ghost use Rattle.dropoffice.specs.PlainLinks.{HasNoAmzHeader, IsPlainLink, IsPlainBut};
 ghost use Rattle.dropoffice.specs.PlainLinks as plain;
 ghost use Rattle.dropoffice.specs.Views.{raw_of, Says};
@@ -79,7 +81,13 @@ fn read_moment(date: &[u8]) -> Option<Moment>
 fn has_served_method(message: &Message<'_>) -> bool
     ensures { IsTrue result ↔ ((message.now.method.now ≡ codes "GET") × (message.now.has_length ≡ false) × (message.now.body.now ≡ [])) }
 {
-    message.method == b"GET".as_slice() && !message.has_length && message.body.is_empty()
+    if message.method != b"GET".as_slice() {
+        return false;
+    }
+    if message.has_length {
+        return false;
+    }
+    message.body.is_empty()
 }
 
 fn is_absolute(path: &[u8]) -> bool
@@ -88,6 +96,15 @@ fn is_absolute(path: &[u8]) -> bool
     match path {
         [first, ..] => *first == b'/',
         [] => false,
+    }
+}
+
+fn is_credential(text: &[u8], date: &[u8]) -> bool
+    ensures { IsTrue result ↔ ((key_id : List ℕ) × (scope : CredentialScope) × IsCredential text.now date.now key_id scope) }
+{
+    match Scope::read(text, date) {
+        Ok(_) => true,
+        Err(_) => false,
     }
 }
 
@@ -102,7 +119,13 @@ fn read_pieces<'a>(message: &Message<'a>) -> Option<Pieces<'a>>
     let Some(raw) = RawLink::read(message.target) else {
         return None;
     };
-    if !is_absolute(raw.path) || !is_plain_path(raw.path) || !is_signature_text(raw.signature) {
+    if !is_absolute(raw.path) {
+        return None;
+    }
+    if !is_plain_path(raw.path) {
+        return None;
+    }
+    if !is_signature_text(raw.signature) {
         return None;
     }
     let Some(start) = read_moment(raw.date) else {
@@ -124,7 +147,7 @@ fn read_pieces<'a>(message: &Message<'a>) -> Option<Pieces<'a>>
 
 impl<'a> PlainLink<'a> {
     ghost use Rattle.std.specs.Prelude.{IfOk, IfSome, IfNone};
-    ghost use Rattle.wire.specs.Shown.{request_in};
+    ghost use Rattle.wire.specs.Messages.{request_in};
     ghost use Rattle.dropoffice.specs.PlainLinks.{IsPlainLink};
     ghost use Rattle.dropoffice.specs.PlainLinks as plain;
     ghost use Rattle.dropoffice.specs.Views.{Says};
@@ -143,7 +166,7 @@ impl<'a> PlainLink<'a> {
         let Some(credential) = decode(alloc, raw.credential)? else {
             return Ok(None);
         };
-        if Scope::read(credential.as_slice(), raw.date).is_err() {
+        if !is_credential(credential.as_slice(), raw.date) {
             return Ok(None);
         }
         Ok(Some(PlainLink {

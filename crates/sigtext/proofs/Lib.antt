@@ -7,3 +7,4 @@ pub mod Published
 pub mod Ascending
 pub mod Uniqueness
 pub mod PlainTexts
+pub mod Decoding

@@ -1,14 +1,14 @@
 -- A text is one credential at most: no slash stands in a key id, a day or a region.
-use Rattle.std.proofs.Common.{◌≡◌, ◌≢◌, ℕ, Bool, true, List, [], ◌∷◌, ◌++◌, codes, refl, sym, ap, ◌∙◌, subst, append_assoc, arith, All, eqb}
+use Rattle.std.proofs.Common.{◌≡◌, ◌≢◌, ℕ, Bool, true, List, [], ◌∷◌, ◌++◌, codes, refl, sym, ap, ◌∙◌, subst, append_assoc, arith, All}
 use Rattle.std.specs.Prelude.{IsTrue}
 use Rattle.std.specs.List.{list_all}
 use Rattle.std.specs.Char.{is_ascii_digit}
 use Rattle.std.proofs.lemmas.Bool.{and_parts}
 use Rattle.std.proofs.lemmas.Bool.Decides.{nat_tests}
 use Rattle.std.proofs.lemmas.List.{append_cancel_right}
-use Rattle.std.proofs.lemmas.List.Elements.{All-nil, All-cons, All-head, All-tail, All-append}
+use Rattle.std.proofs.lemmas.List.Elements.{All-nil, All-cons, All-head, All-tail}
 use Rattle.sigv4.specs.Signature.{CredentialScope, scope_text}
-use Rattle.sigv4.specs.Credential.{is_key_byte, is_region_byte, IsCredential}
+use Rattle.sigv4.specs.Credential.{is_key_byte, IsCredential}
 
 -- no slash is there
 abbrev pub LacksSlash : List ℕ → Type 0
@@ -86,7 +86,7 @@ scope_once : (s t : CredentialScope) → scope_text s ≡ scope_text t → Lacks
 scope_once s t e h h₂ =
     let end = codes "/s3/aws4_request" in
     let cut : s.date ++ 47 ∷ (s.region ++ end) ≡ t.date ++ 47 ∷ (t.region ++ end) =
-      sym (append_assoc s.date (47 ∷ s.region) end) ∙ e ∙ append_assoc t.date (47 ∷ t.region) end in
+    sym (append_assoc s.date (47 ∷ s.region) end) ∙ e ∙ append_assoc t.date (47 ∷ t.region) end in
     let parts = cut_once s.date (s.region ++ end) t.date (t.region ++ end) cut h h₂ in
     same_scope s t parts.0 (append_cancel_right t.region s.region end parts.1)
 

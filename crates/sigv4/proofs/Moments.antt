@@ -1,5 +1,5 @@
 -- A text writes one moment at most, and a moment has one text at most.
-use Rattle.std.proofs.Common.{◌≡◌, ℕ, ◌+◌, ◌*◌, ◌/◌, ◌%◌, ◌<◌, ◌≤◌, List, [], ◌∷◌, get_or, refl, sym, ap, ◌∙◌, subst, inl, inr, arith, rules, ℤ, pos, negsuc, unsigned_abs, to_z, of_z, w16, w32, to_z-of_z, FitsSigned, ◌+ℤ◌, ◌*ℤ◌, ◌≤ℤ◌}
+use Rattle.std.proofs.Common.{◌≡◌, ℕ, ◌+◌, ◌*◌, ◌/◌, ◌%◌, ◌<◌, ◌≤◌, List, get_or, sym, ap, ◌∙◌, subst, inl, inr, arith, rules, ℤ, pos, negsuc, unsigned_abs, to_z, of_z, w16, w32, to_z-of_z, FitsSigned, ◌≤ℤ◌}
 use Rattle.std.proofs.lemmas.Int.{by_lt_z}
 use Rattle.std.specs.Int.{Width}
 use Rattle.jiff_core.specs.declared.civil.date.Date.{Date}
@@ -9,7 +9,7 @@ use Rattle.jiff_core.proofs.SignedLemmas.{signed_arith}
 use Rattle.jiff_core.proofs.CalendarLemmas.{days_in_month_bounds}
 use Rattle.jiff_core.proofs.DateLemmas.{cases_date, epoch_day-lt, epoch_day_injective, epoch_day_range, epoch_day_same}
 use Rattle.jiff_core.proofs.StandardFacts.{known_days}
-use Rattle.sigv4.specs.Dates.{Stamp, IsStamp, two_digits, four_digits, stamp_text, IsSeconds, WritesMoment}
+use Rattle.sigv4.specs.Dates.{Stamp, IsStamp, stamp_text, IsSeconds, WritesMoment}
 
 -- each number is written whole by its digits
 pub record IsSmall (s : Stamp) : Type 0 where

@@ -10,3 +10,6 @@ pub use hash::{Hmac, Sha};
 pub use moment::Moment;
 pub use scope::Scope;
 pub use signing::{derive, signature};
+
+#[cfg(test)]
+mod tests;

@@ -9,13 +9,13 @@ use std::marker::Model;
 
 const SECONDS_PER_DAY: u64 = 86_400;
 
-// From -9999-01-01, the first date that `jiff` has.
+// The days from -9999-01-01, the first date that `jiff` has, to 1970-01-01.
 const DAYS_TO_1970: u32 = 4_371_587;
 
 // 9999-12-31T23:59:59Z
 const LAST_SECOND: u64 = 253_402_300_799;
 
-// A date and a time of day as written, which may not be there on any calendar.
+// A date and a time of day as sixteen bytes write them: the calendar need not have the date.
 #[derive(Clone, Copy)]
 struct Stamp {
     year: u16,
@@ -95,7 +95,9 @@ impl Stamp {
         }
         let date = Date::new(self.year as i16, self.month as i8, self.day as i8).ok()?;
         let day = date.to_plain().to_unix_epoch_day().unsigned_abs();
-        let time = 3600 * u64::from(self.hour) + 60 * u64::from(self.minute) + u64::from(self.second);
+        let time = 3600 * u64::from(self.hour)
+            + 60 * u64::from(self.minute)
+            + u64::from(self.second);
         Some(u64::from(day) * SECONDS_PER_DAY + time)
     }
 
@@ -214,5 +216,4 @@ impl Moment {
 pub fn law_read_back()
     ensures one_moment { (text : List ℕ) (m n : ℕ) → WritesMoment text m → WritesMoment text n → n ≡ m }
     ensures one_text { (t u : List ℕ) (m : ℕ) → WritesMoment t m → WritesMoment u m → t ≡ u }
-{
-}
+{}

@@ -40,7 +40,7 @@ no_head_end bytes none front more e ends =
     none k (omega arith) found
 
 -- the pairs that the parser's spans cover, as fields
-abbrev pub header_from : List ℕ × List ℕ → Header
+abbrev header_from : List ℕ × List ℕ → Header
 header_from pair = record { name = pair.0; value = pair.1 }
 
 pub headers_at : (bytes : List ℕ) (spans : List HeaderSpan) (fields : List Field)

@@ -10,15 +10,6 @@ use Rattle.sigtext.specs.Refusals.{number_of, status_of, word_of, text_of}
 use Rattle.wire.specs.Answers.{Refused, answer_text, closes, refusal_body}
 use Rattle.wire.specs.Shown.{plain_answer, plain_parts}
 
-pub IsStatusCode-status_of : (r : Refusal) → IsStatusCode (status_of r)
-IsStatusCode-status_of HeadMalformed = (lit≤ tt, lit≤ tt)
-IsStatusCode-status_of _ = (lit≤ tt, lit≤ tt)
-
-pub refusal_body_fits : (r : Refusal) → length (refusal_body r) ≤ 512
-unfolding digits
-refusal_body_fits HeadMalformed = lit≤ tt
-refusal_body_fits _ = lit≤ tt
-
 -- no answer to a refusal is longer than the buffer
 pub refusal_fits : (is_head : Bool) (r : Refusal) → length (answer_text is_head (Refused r)) ≤ 512
 unfolding answer_text digits
@@ -26,14 +17,6 @@ refusal_fits true HeadMalformed = lit≤ tt
 refusal_fits true _ = lit≤ tt
 refusal_fits false HeadMalformed = lit≤ tt
 refusal_fits false _ = lit≤ tt
-
-body_pieces : (word a number b text c : List ℕ)
-    → word ++ (a ++ (number ++ (b ++ (text ++ (c ++ []))))) ≡ word ++ a ++ number ++ b ++ text ++ c
-body_pieces word a number b text c = simp (append_assoc, append-nil)
-
-pub refusal_body-pieces : (r : Refusal)
-    → word_of r ++ (codes " " ++ (decimal (number_of r) ++ (codes " " ++ (text_of r ++ codes "\n")))) ≡ refusal_body r
-refusal_body-pieces r = body_pieces (word_of r) (codes " ") (decimal (number_of r)) (codes " ") (text_of r) (codes "\n")
 
 plain_pieces : (http status space phrase end kind label size fields shown : List ℕ)
     → http ++ (status ++ (space ++ (phrase ++ ((end ++ kind ++ end ++ label) ++ (size ++ (end ++ (fields ++ (end ++ (shown ++ [])))))))))

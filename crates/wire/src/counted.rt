@@ -40,6 +40,14 @@ impl<T> Counted<T> {
     {
         Counted { inner, faults: 0 }
     }
+
+    // One fault more.
+    fn add_fault(&mut self)
+        ensures inner { self.new.inner ≡ self.old.inner }
+        ensures rose { Rose self.old.faults self.new.faults }
+    {
+        self.faults = self.faults.saturating_add(1);
+    }
 }
 
 impl<T: Read> Read for Counted<T> {
@@ -50,11 +58,11 @@ impl<T: Read> Read for Counted<T> {
         ensures bytes { ReadConsumes (T.remaining self.old.inner) (T.remaining self.new.inner) result buf.new }
         ensures count { CountsErrors self.old.faults self.new.faults result }
     {
-        let result = self.inner.read(buf);
-        if result.is_err() {
-            self.faults = self.faults.saturating_add(1);
+        let read = self.inner.read(buf);
+        if read.is_err() {
+            self.add_fault();
         }
-        result
+        read
     }
 }
 
@@ -69,12 +77,12 @@ impl<T: Write> Write for Counted<T> {
         match self.inner.write(buf) {
             Ok(n) => {
                 if n == 0 && !buf.is_empty() {
-                    self.faults = self.faults.saturating_add(1);
+                    self.add_fault();
                 }
                 Ok(n)
             }
             Err(e) => {
-                self.faults = self.faults.saturating_add(1);
+                self.add_fault();
                 Err(e)
             }
         }
@@ -84,11 +92,11 @@ impl<T: Write> Write for Counted<T> {
         ensures bytes { Keeps (T.contents self.old.inner) (T.contents self.new.inner) }
         ensures count { CountsErrors self.old.faults self.new.faults result }
     {
-        let result = self.inner.flush();
-        if result.is_err() {
-            self.faults = self.faults.saturating_add(1);
+        let flushed = self.inner.flush();
+        if flushed.is_err() {
+            self.add_fault();
         }
-        result
+        flushed
     }
 }
 
@@ -158,3 +166,6 @@ pub fn fill<R: Read>(reader: &mut Counted<R>, buffer: &mut [u8]) -> Filled
         stop: Stop::Full,
     }
 }
+
+#[cfg(test)]
+mod tests;

@@ -56,6 +56,7 @@ pub fn read_head<'a>(bytes: &'a [u8], fields: &mut [Field<'a>; MOST_FIELDS]) -> 
     ensures found { IfSome result (λ h. (head : RequestHead) × IsHead bytes.now head × (h.method.now ≡ head.method) × (h.target.now ≡ head.target)
         × (h.count ≤ 64) × (map header_of (take h.count fields.new) ≡ headers_of head)) }
     ensures none { IfNone result ((head : RequestHead) → IsHead bytes.now head → ⊥) }
+    ensures kept { length fields.new ≡ 64 }
 {
     let mut spans = [EMPTY_HEADER_SPAN; MOST_FIELDS];
     let parts = whole_head(bytes, &mut spans)?;
@@ -93,3 +94,6 @@ fn put_fields<'a>(bytes: &'a [u8], spans: &[HeaderSpan], fields: &mut [Field<'a>
         };
     }
 }
+
+#[cfg(test)]
+mod tests;

@@ -17,7 +17,8 @@ returns-clause-found c =
     let day : pos date.day ≡ pos s.day = parts.2 ∙ to_z_pos w8 s.day (omega arith) in
     let from : pos 1970 ≤ℤ date.year = omega (arith, signed_arith) in
     let taken : c.unsigned_abs-day.result ≡ unsigned_abs (to_z w32 (of_z w32 (epoch_day date))) =
-      c.unsigned_abs-day.ensures.value ∙ ap (λ (z : ℤ). unsigned_abs (to_z w32 (of_z w32 z))) (c.to_unix_epoch_day.ensures.value ∙ ap epoch_day c.to_plain.ensures) in
-    let number : epoch_day date ≡ pos c.unsigned_abs-day.result = day_is date c.unsigned_abs-day.result from taken in
-    (IsStamp-of_date date _ (omega (arith, signed_arith, number)) year month day (omega arith) (omega arith) (omega arith),
-     IsSeconds-of_date date _ c.unsigned_abs-day.result _ number year month day (omega arith))
+    c.unsigned_abs-day.ensures.value ∙ ap (λ (z : ℤ). unsigned_abs (to_z w32 (of_z w32 z))) (c.to_unix_epoch_day.ensures.value ∙ ap epoch_day c.to_plain.ensures) in
+    let number : epoch_day date ≡ pos c.unsigned_abs-day.result = day_is date c.unsigned_abs-day.result from taken in (
+      IsStamp-of_date date _ (omega (arith, signed_arith, number)) year month day (omega arith) (omega arith) (omega arith),
+      IsSeconds-of_date date _ c.unsigned_abs-day.result _ number year month day (omega arith),
+    )

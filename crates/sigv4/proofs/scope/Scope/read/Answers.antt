@@ -11,5 +11,5 @@ returns-else-is_well_formed-clause-err c =
     let is : c.parts.result ≡ Some scope = grind arith in
     let found = rw is at c.parts.ensures.found in
     let none : IsCredential c.args.credential.now c.args.date.now scope.key_id.now (scope_of scope) → ⊥ =
-      λ k. iff_false c.is_well_formed.ensures c.if-is_well_formed.false (k.key_form, (k.day_length, k.day_digits, k.same_day), k.region_form) in
+    λ k. iff_false c.is_well_formed.ensures c.if-is_well_formed.false (k.key_form, (k.day_length, k.day_digits, k.same_day), k.region_form) in
     (refl, λ key_id t. no_form c.args.credential.now c.args.date.now scope.key_id.now key_id (scope_of scope) t found.0 found.1 found.2 none)

@@ -1,0 +1,187 @@
+//! The office: one message, one connection, a list of connections.
+ghost use Rattle.std.specs.Prelude.{false, ◌≡◌, ◌≢◌, ◌⊎◌, ◌++◌, ◌↔◌, ◌≤◌, ℕ, List, [], Some, None, IsTrue, IsFalse, IfOk, IfSome, IfNone, OnOk};
+ghost use Rattle.std.specs.List.{flat_map};
+ghost use Rattle.std.specs.FinMap.{get};
+ghost use Rattle.sigtext.specs.Counts.{Rose};
+ghost use Rattle.sigtext.specs.Request.{Request};
+ghost use Rattle.sigtext.specs.Rules.{IsFirstToFail};
+ghost use Rattle.sigv4.specs.Dates.{WritesMoment};
+ghost use Rattle.sigv4.specs.Scopes.{scope_of};
+ghost use Rattle.sigv4.specs.Signature.{signature_of};
+ghost use Rattle.boxes.specs.State.{Key, State};
+ghost use Rattle.dropoffice.specs.Deciding.{plain_text};
+ghost use Rattle.dropoffice.specs.PlainLinks.{IsPlainLink};
+ghost use Rattle.dropoffice.specs.PlainLinks as plain;
+ghost use Rattle.dropoffice.specs.Rules.{Rule};
+ghost use Rattle.dropoffice.specs.Served.{HasNoBox};
+ghost use Rattle.dropoffice.specs.Views.{Says, IsRead};
+
+use crate::clocks::Clock;
+use crate::plain_link::PlainLink;
+use crate::session::SessionEnd;
+use keeper::Keeper;
+use sigtext::{Field, Refusal};
+use sigv4::{Moment, Scope, signature};
+use std::alloc::{AllocError, Global};
+use std::io::{Read, Write};
+use wire::{Answer, Counted, Message, Reply, Stop, fill, head_end, put_answer, read_head};
+
+/// The greatest length of a head, CR LF CR LF included.
+const MOST_HEAD: usize = 8192;
+
+/// An office over a keeper.
+#[derive(Drop)]
+pub struct Office<K> {
+    pub keeper: K,
+    pub alloc: Global,
+}
+
+fn append_all(pieces: &[&[u8]], text: &mut Vec<u8>) -> Result<(), AllocError>
+    ensures { OnOk result (text.new.items ≡ text.old.items ++ flat_map (λ p. p.now) pieces.now) }
+{
+    'pieces: for piece in pieces {
+        text.extend_from_slice(piece)?;
+    }
+    Ok(())
+}
+
+// The canonical request of a plain link.
+fn canonical_text(alloc: Global, link: &PlainLink<'_>) -> Result<Vec<u8>, AllocError>
+    ensures { IfOk result (λ t. t.items ≡ plain_text link.now.path.now link.now.query.now link.now.host.now) }
+{
+    let mut text = Vec::new(alloc);
+    let pieces = [
+        b"GET\n".as_slice(),
+        link.path,
+        b"\n",
+        link.query,
+        b"\nhost:",
+        link.host,
+        b"\n\nhost\nUNSIGNED-PAYLOAD",
+    ];
+    append_all(&pieces, &mut text)?;
+    Ok(text)
+}
+
+// Whether the link's signature is that of its canonical request under the secret.
+fn is_signed_by(alloc: Global, link: &PlainLink<'_>, scope: &Scope<'_>, secret: &[u8]) -> Result<bool, AllocError>
+    ensures { IfOk result (λ signed. (date : List ℕ) → WritesMoment date link.now.start
+        → (IsTrue signed ↔ (link.now.signature.now ≡ signature_of secret.now date (scope_of scope.now)
+            (plain_text link.now.path.now link.now.query.now link.now.host.now)))) }
+{
+    let text = canonical_text(alloc, link)?;
+    let digits = signature(secret, scope, &link.start, &text)?;
+    Ok(digits.as_slice() == link.signature)
+}
+
+// The least rule that fails, where the link's key stands unrevoked with this secret, and there is no box.
+fn judge(alloc: Global, link: &PlainLink<'_>, scope: &Scope<'_>, secret: &[u8], now: Moment) -> Refusal
+    requires { link.now.expires ≤ 604800 }
+    ensures { (s : State) (r : Request) (p : plain.PlainLink) (k : Key) → Says link.now p → IsPlainLink r p
+        → scope_of scope.now ≡ p.scope → get s.keys p.key_id ≡ Some k → k.secret ≡ secret.now → IsFalse k.revoked → HasNoBox s
+        → (result ≢ Refusal.TryAgain) → IsFirstToFail (Rule s r now) result }
+{
+    match is_signed_by(alloc, link, scope, secret) {
+        Ok(true) => {}
+        Ok(false) => return Refusal::SignatureMismatch,
+        Err(_) => return Refusal::TryAgain,
+    }
+    let moment = now.seconds();
+    let start = link.start.seconds();
+    if moment < start {
+        return Refusal::NotYetValid;
+    }
+    if moment >= start + link.expires {
+        return Refusal::Expired;
+    }
+    Refusal::NoSuchBox
+}
+
+impl<K: Keeper> Office<K> {
+    ghost use Rattle.std.specs.Prelude.{◌≡◌, ◌≢◌, ◌⊎◌, ℕ, List, Some, None, IfSome, IfNone, IfOk};
+    ghost use Rattle.sigtext.specs.Counts.{Rose};
+    ghost use Rattle.sigtext.specs.Request.{Request};
+    ghost use Rattle.sigtext.specs.Rules.{IsFirstToFail};
+    ghost use Rattle.boxes.specs.State.{State};
+    ghost use Rattle.dropoffice.specs.PlainLinks.{IsPlainLink};
+    ghost use Rattle.dropoffice.specs.PlainLinks as plain;
+    ghost use Rattle.dropoffice.specs.Rules.{Rule};
+    ghost use Rattle.links.specs.WellFormed.{Parts};
+    ghost use Rattle.wire.specs.Messages.{request_in};
+    ghost use Rattle.dropoffice.specs.Offices.{try_again, IsAnswered};
+    ghost use Rattle.dropoffice.specs.Served.{IsServedAs, HasNoBox};
+    ghost use Rattle.dropoffice.specs.Views.{Says, IsRead};
+
+    /// An office over this keeper, which it holds as it is.
+    pub fn new(alloc: Global, keeper: K) -> Office<K>
+        ensures { result.keeper ≡ keeper }
+    {
+        Office { keeper, alloc }
+    }
+
+    // The least rule that fails for a link of the served form.
+    fn refusal_of(&mut self, link: &PlainLink<'_>, now: Moment) -> Refusal
+        requires { IsRead link.now }
+        ensures fails { (s : State) (r : Request) (p : plain.PlainLink) → K.means self.old.keeper s → K.is_honest self.new.keeper
+            → HasNoBox s → Says link.now p → IsPlainLink r p → (result ≢ Refusal.TryAgain) → IsFirstToFail (Rule s r now) result }
+        ensures same { (s : State) → K.means self.old.keeper s → K.means self.new.keeper s }
+        ensures honest { K.is_honest self.new.keeper → K.is_honest self.old.keeper }
+        ensures counted { (result ≢ Refusal.TryAgain) → K.faults self.new.keeper ≡ K.faults self.old.keeper }
+    {
+        let Ok(scope) = Scope::read(link.credential.as_slice(), link.date) else {
+            unreachable!()
+        };
+        match self.keeper.key(scope.key_id) {
+            Ok(None) => Refusal::KeyUnknown,
+            Ok(Some(key)) => {
+                if key.revoked {
+                    return Refusal::KeyRevoked;
+                }
+                judge(self.alloc, link, &scope, &key.secret, now)
+            }
+            Err(_) => Refusal::TryAgain,
+        }
+    }
+
+    // What a link of the served form is answered.
+    fn answer_link(&mut self, link: &PlainLink<'_>, now: Moment) -> Answer
+        requires { IsRead link.now }
+        ensures answers { (s : State) (r : Request) (p : plain.PlainLink) → K.means self.old.keeper s → K.is_honest self.new.keeper
+            → HasNoBox s → Says link.now p → IsPlainLink r p → IsAnswered (K.means self.new.keeper) s r now result }
+        ensures same { (s : State) → K.means self.old.keeper s → K.means self.new.keeper s }
+        ensures honest { K.is_honest self.new.keeper → K.is_honest self.old.keeper }
+        ensures counted { (result ≢ try_again) → K.faults self.new.keeper ≡ K.faults self.old.keeper }
+    {
+        refused(self.refusal_of(link, now))
+    }
+
+    /// Answers one message at a moment. `None` where it is not of the kind that is served so far: then
+    /// nothing is changed. Otherwise the answer is that of the rules; or it is refusal 40, where memory
+    /// was refused or the keeper counted a fault, and then the state is as it was.
+    pub fn answer(&mut self, message: &Message<'_>, now: Moment) -> Option<Answer>
+        ensures answers { IfSome result (λ a. (s : State) → K.means self.old.keeper s → K.is_honest self.new.keeper → HasNoBox s
+            → IsAnswered (K.means self.new.keeper) s (request_in message.now) now a) }
+        ensures again { (result ≡ Some try_again) → (s : State) → K.means self.old.keeper s → K.means self.new.keeper s }
+        ensures counted { (result ≢ Some try_again) → K.faults self.new.keeper ≡ K.faults self.old.keeper }
+        ensures served { IfSome result (λ a. (a ≢ try_again) → (p : Parts) × IsServedAs (request_in message.now) p) }
+        ensures unserved { IfNone result ((p : Parts) → IsServedAs (request_in message.now) p → ⊥) }
+        ensures untouched { IfNone result (self.new ≡ self.old) }
+        ensures honest { K.is_honest self.new.keeper → K.is_honest self.old.keeper }
+    {
+        match PlainLink::read(self.alloc, message) {
+            Ok(Some(link)) => Some(self.answer_link(&link, now)),
+            Ok(None) => None,
+            Err(_) => Some(refused(Refusal::TryAgain)),
+        }
+    }
+}
+
+// The answer of a refusal to a GET.
+fn refused(refusal: Refusal) -> Answer
+    ensures { result ≡ record { reply = Reply.Refused refusal; is_head = false } }
+{
+    Answer {
+        reply: Reply::Refused(refusal),
+        is_head: false,
+    }
+}
