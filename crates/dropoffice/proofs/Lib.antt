@@ -12,3 +12,5 @@ pub mod PlainBytes
 pub mod PlainForms
 pub mod ServedForms
 pub mod Answered
+pub mod Handlings
+pub mod Fronts

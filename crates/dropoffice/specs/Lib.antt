@@ -10,3 +10,6 @@ pub mod Views
 pub mod Clocks
 pub mod Deciding
 pub mod Offices
+pub mod Handling
+pub mod Sent
+pub mod Streams

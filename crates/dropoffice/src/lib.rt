@@ -5,6 +5,7 @@ pub mod clocks;
 mod decode;
 mod fields;
 mod forms;
+mod handling;
 pub mod one_key;
 mod plain_link;
 mod raw_link;

@@ -9,6 +9,7 @@ ghost use Rattle.sigv4.specs.Dates.{WritesMoment};
 ghost use Rattle.sigv4.specs.Scopes.{scope_of};
 ghost use Rattle.sigv4.specs.Signature.{signature_of};
 ghost use Rattle.boxes.specs.State.{Key, State};
+ghost use Rattle.wire.specs.Framing.{IsFront};
 ghost use Rattle.dropoffice.specs.Deciding.{plain_text};
 ghost use Rattle.dropoffice.specs.PlainLinks.{IsPlainLink};
 ghost use Rattle.dropoffice.specs.PlainLinks as plain;
@@ -17,6 +18,8 @@ ghost use Rattle.dropoffice.specs.Served.{HasNoBox};
 ghost use Rattle.dropoffice.specs.Views.{Says, IsRead};
 
 use crate::clocks::Clock;
+use crate::fields::has_field;
+use crate::handling::{Handled, refused, send_answer};
 use crate::plain_link::PlainLink;
 use crate::session::SessionEnd;
 use keeper::Keeper;
@@ -28,6 +31,9 @@ use wire::{Answer, Counted, Message, Reply, Stop, fill, head_end, put_answer, re
 
 /// The greatest length of a head, CR LF CR LF included.
 const MOST_HEAD: usize = 8192;
+
+/// One byte more, which shows that a stream is no head.
+const BUFFER: usize = 8193;
 
 /// An office over a keeper.
 #[derive(Drop)]
@@ -109,7 +115,10 @@ impl<K: Keeper> Office<K> {
     ghost use Rattle.links.specs.WellFormed.{Parts};
     ghost use Rattle.wire.specs.Messages.{request_in};
     ghost use Rattle.dropoffice.specs.Offices.{try_again, IsAnswered};
-    ghost use Rattle.dropoffice.specs.Served.{IsServedAs, HasNoBox};
+    ghost use Rattle.dropoffice.specs.Handling.{Handles};
+    ghost use Rattle.dropoffice.specs.Streams.{IsMessage};
+    ghost use Rattle.dropoffice.specs.Connections.{Serves};
+    ghost use Rattle.dropoffice.specs.Served.{IsServed, IsServedAs, HasNoBox};
     ghost use Rattle.dropoffice.specs.Views.{Says, IsRead};
 
     /// An office over this keeper, which it holds as it is.
@@ -174,14 +183,133 @@ impl<K: Keeper> Office<K> {
             Err(_) => Some(refused(Refusal::TryAgain)),
         }
     }
+
+    // Handles one message: takes its moment, and writes its answer.
+    fn serve_message<W: Write, C: Clock>(
+        &mut self,
+        message: &Message<'_>,
+        writer: &mut Counted<W>,
+        clock: &mut C,
+    ) -> Handled
+        ensures handled { (s : State) → K.means self.old.keeper s → K.is_honest self.new.keeper → HasNoBox s → (result ≢ Handled.Unserved)
+            → Handles C.now_gives clock.old clock.new (W.contents writer.old.inner) (W.contents writer.new.inner)
+                (K.means self.new.keeper) s (request_in message.now) result }
+        ensures served { result ≡ Handled.Answered → (p : Parts) × IsServedAs (request_in message.now) p }
+        ensures unserved { result ≡ Handled.Unserved → (p : Parts) → IsServedAs (request_in message.now) p → ⊥ }
+        ensures untouched { result ≡ Handled.Unserved → (self.new ≡ self.old) × (writer.new ≡ writer.old) × (clock.new ≡ clock.old) }
+        ensures honest { K.is_honest self.new.keeper → K.is_honest self.old.keeper }
+        ensures fault { result ≡ Handled.Broken → Rose writer.old.faults writer.new.faults }
+        ensures counted { (result ≢ Handled.GaveUp) → (result ≢ Handled.Broken) → K.faults self.new.keeper ≡ K.faults self.old.keeper }
+    {
+        match PlainLink::read(self.alloc, message) {
+            Ok(Some(link)) => {
+                let now = clock.now();
+                let answer = self.answer_link(&link, now);
+                send_answer(&answer, writer)
+            }
+            Ok(None) => Handled::Unserved,
+            Err(_) => send_answer(&refused(Refusal::TryAgain), writer),
+        }
+    }
+
+    // Handles the one message that the bytes are, where they are one.
+    fn serve_bytes<W: Write, C: Clock>(
+        &mut self,
+        bytes: &[u8],
+        writer: &mut Counted<W>,
+        clock: &mut C,
+    ) -> Handled
+        ensures handled { (s : State) → K.means self.old.keeper s → K.is_honest self.new.keeper → HasNoBox s → (result ≢ Handled.Unserved)
+            → (r : Request) × IsMessage bytes.now r × Handles C.now_gives clock.old clock.new
+                (W.contents writer.old.inner) (W.contents writer.new.inner) (K.means self.new.keeper) s r result }
+        ensures served { result ≡ Handled.Answered → IsServed bytes.now }
+        ensures unserved { result ≡ Handled.Unserved → IsServed bytes.now → ⊥ }
+        ensures untouched { result ≡ Handled.Unserved → (self.new ≡ self.old) × (writer.new ≡ writer.old) × (clock.new ≡ clock.old) }
+        ensures honest { K.is_honest self.new.keeper → K.is_honest self.old.keeper }
+        ensures fault { result ≡ Handled.Broken → Rose writer.old.faults writer.new.faults }
+        ensures counted { (result ≢ Handled.GaveUp) → (result ≢ Handled.Broken) → K.faults self.new.keeper ≡ K.faults self.old.keeper }
+    {
+        if !is_one_front(bytes) {
+            return Handled::Unserved;
+        }
+        let mut fields = [Field { name: &[], value: &[] }; 64];
+        let Some(head) = read_head(bytes, &mut fields) else {
+            return Handled::Unserved;
+        };
+        let given = &fields[..head.count];
+        if has_field(given, b"transfer-encoding") {
+            return Handled::Unserved;
+        }
+        if has_field(given, b"content-length") {
+            return Handled::Unserved;
+        }
+        let message = Message {
+            method: head.method,
+            target: head.target,
+            fields: given,
+            has_length: false,
+            body: &[],
+        };
+        self.serve_message(&message, writer, clock)
+    }
+
+    /// Serves a connection: reads its stream, and answers the message that it is, where it is of the
+    /// kind that is served so far. What was read, which moments were told, what was written, how it
+    /// ended and the state after it are those of a session of the machine. `Unserved` is every other
+    /// stream, or one that is too long for a head: then nothing is answered, changed or told.
+    pub fn session<R: Read, W: Write, C: Clock>(
+        &mut self,
+        reader: &mut Counted<R>,
+        writer: &mut Counted<W>,
+        clock: &mut C,
+    ) -> SessionEnd
+        ensures serves { (s : State) → K.means self.old.keeper s → K.is_honest self.new.keeper → HasNoBox s → (result ≢ SessionEnd.Unserved)
+            → (after : State) × K.means self.new.keeper after × Serves C.now_gives
+                (R.remaining reader.old.inner) (R.remaining reader.new.inner)
+                (W.contents writer.old.inner) (W.contents writer.new.inner) clock.old clock.new s after result }
+        ensures unserved { result ≡ SessionEnd.Unserved → (stream : List ℕ) → R.remaining reader.old.inner ≡ Some stream → IsServed stream → ⊥ }
+        ensures untouched { result ≡ SessionEnd.Unserved → (self.new ≡ self.old) × (writer.new ≡ writer.old) × (clock.new ≡ clock.old) }
+        ensures only { result ≡ SessionEnd.Ended → (stream : List ℕ) → R.remaining reader.old.inner ≡ Some stream → IsServed stream }
+        ensures honest { K.is_honest self.new.keeper → K.is_honest self.old.keeper }
+        ensures read_fault { result ≡ SessionEnd.ReadFault → Rose reader.old.faults reader.new.faults }
+        ensures write_fault { result ≡ SessionEnd.WriteFault → Rose writer.old.faults writer.new.faults }
+        ensures counted { (result ≢ SessionEnd.Refused 40) → (result ≢ SessionEnd.WriteFault) → K.faults self.new.keeper ≡ K.faults self.old.keeper }
+    {
+        let mut buffer = [0; BUFFER];
+        let filled = fill(reader, &mut buffer);
+        if filled.stop == Stop::Full {
+            return SessionEnd::Unserved;
+        }
+        let failed = filled.stop == Stop::Fault;
+        let bytes = &buffer[..filled.len];
+        match self.serve_bytes(bytes, writer, clock) {
+            Handled::Unserved => {
+                if failed && head_end(bytes).is_none() {
+                    return SessionEnd::ReadFault;
+                }
+                SessionEnd::Unserved
+            }
+            Handled::Answered => {
+                if failed {
+                    return SessionEnd::ReadFault;
+                }
+                SessionEnd::Ended
+            }
+            Handled::GaveUp => SessionEnd::Refused(40),
+            Handled::Broken => SessionEnd::WriteFault,
+        }
+    }
 }
 
-// The answer of a refusal to a GET.
-fn refused(refusal: Refusal) -> Answer
-    ensures { result ≡ record { reply = Reply.Refused refusal; is_head = false } }
+// Whether the bytes are one front that ends in CR LF CR LF, and no longer than a head may be.
+fn is_one_front(bytes: &[u8]) -> bool
+    ensures { IsTrue result ↔ IsFront bytes.now bytes.now [] }
 {
-    Answer {
-        reply: Reply::Refused(refusal),
-        is_head: false,
+    let Some(end) = head_end(bytes) else {
+        return false;
+    };
+    if end > MOST_HEAD {
+        return false;
     }
+    end == bytes.len()
 }
