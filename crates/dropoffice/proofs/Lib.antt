@@ -14,3 +14,4 @@ pub mod ServedForms
 pub mod Answered
 pub mod Handlings
 pub mod Fronts
+pub mod SessionEnds

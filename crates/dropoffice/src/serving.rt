@@ -10,6 +10,7 @@ ghost use Rattle.sigv4.specs.Scopes.{scope_of};
 ghost use Rattle.sigv4.specs.Signature.{signature_of};
 ghost use Rattle.boxes.specs.State.{Key, State};
 ghost use Rattle.wire.specs.Framing.{IsFront};
+ghost use Rattle.wire.specs.Heads.{IsHeadEnd, HasNoHeadEnd};
 ghost use Rattle.dropoffice.specs.Deciding.{plain_text};
 ghost use Rattle.dropoffice.specs.PlainLinks.{IsPlainLink};
 ghost use Rattle.dropoffice.specs.PlainLinks as plain;
@@ -277,14 +278,14 @@ impl<K: Keeper> Office<K> {
     {
         let mut buffer = [0; BUFFER];
         let filled = fill(reader, &mut buffer);
-        if filled.stop == Stop::Full {
+        if is_full(filled.stop) {
             return SessionEnd::Unserved;
         }
-        let failed = filled.stop == Stop::Fault;
+        let failed = has_failed(filled.stop);
         let bytes = &buffer[..filled.len];
         match self.serve_bytes(bytes, writer, clock) {
             Handled::Unserved => {
-                if failed && head_end(bytes).is_none() {
+                if failed && !holds_head(bytes) {
                     return SessionEnd::ReadFault;
                 }
                 SessionEnd::Unserved
@@ -298,6 +299,39 @@ impl<K: Keeper> Office<K> {
             Handled::GaveUp => SessionEnd::Refused(40),
             Handled::Broken => SessionEnd::WriteFault,
         }
+    }
+}
+
+fn is_full(stop: Stop) -> bool
+    ensures full { IsTrue result → stop ≡ Stop.Full }
+    ensures other { IsFalse result → stop ≢ Stop.Full }
+{
+    match stop {
+        Stop::Full => true,
+        Stop::End => false,
+        Stop::Fault => false,
+    }
+}
+
+fn has_failed(stop: Stop) -> bool
+    ensures failed { IsTrue result → stop ≡ Stop.Fault }
+    ensures ended { IsFalse result → (stop ≢ Stop.Full) → stop ≡ Stop.End }
+{
+    match stop {
+        Stop::Full => false,
+        Stop::End => false,
+        Stop::Fault => true,
+    }
+}
+
+// Whether a front of the bytes ends a head.
+fn holds_head(bytes: &[u8]) -> bool
+    ensures found { IsTrue result → (n : ℕ) × IsHeadEnd bytes.now n }
+    ensures none { IsFalse result → HasNoHeadEnd bytes.now }
+{
+    match head_end(bytes) {
+        Some(_) => true,
+        None => false,
     }
 }
 
