@@ -76,7 +76,7 @@ pub key_unknown : (s : State) (r : Request) (now : ℕ) (p : Parts) → IsServed
 key_unknown s r now p served none = record {
   parts = p;
   before = rules_before s r now p rule.KeyUnknown (omega arith) served
-    (link_before (known s p.key_id) r now p 19 (λ lt. absurd (omega arith)) (λ lt. absurd (omega arith)) (λ lt. absurd (omega arith)) (λ lt. absurd (omega arith)) (λ lt. absurd (omega arith)));
+      (link_before (known s p.key_id) r now p 19 (λ lt. absurd (omega arith)) (λ lt. absurd (omega arith)) (λ lt. absurd (omega arith)) (λ lt. absurd (omega arith)) (λ lt. absurd (omega arith)));
   fails = λ other hold bad.
       let same = same_parts s r now p other rule.KeyUnknown (omega arith) served hold in
       none_some (known s p.key_id) (known_none s p.key_id none) (subst (λ (q : Parts). IsSome (known s q.key_id)) same bad.link);
@@ -96,7 +96,7 @@ pub key_revoked : (s : State) (r : Request) (now : ℕ) (p : Parts) (k : Key) �
 key_revoked s r now p k served there revoked = record {
   parts = p;
   before = rules_before s r now p rule.KeyRevoked (omega arith) served
-    (link_before (known s p.key_id) r now p 20 (λ lt. some_key s p k there) (λ lt. absurd (omega arith)) (λ lt. absurd (omega arith)) (λ lt. absurd (omega arith)) (λ lt. absurd (omega arith)));
+      (link_before (known s p.key_id) r now p 20 (λ lt. some_key s p k there) (λ lt. absurd (omega arith)) (λ lt. absurd (omega arith)) (λ lt. absurd (omega arith)) (λ lt. absurd (omega arith)));
   fails = λ other hold bad.
       let same = same_parts s r now p other rule.KeyRevoked (omega arith) served hold in
       let unrevoked = of_key s p k (λ x. IsFalse x.revoked) there (subst (λ (q : Parts). IfSome (known s q.key_id) (λ x. IsFalse x.revoked)) same bad.link) in
@@ -111,7 +111,7 @@ pub signature_mismatch : (s : State) (r : Request) (now : ℕ) (p : Parts) (k : 
 signature_mismatch s r now p k served there unrevoked mismatch = record {
   parts = p;
   before = rules_before s r now p rule.SignatureMismatch (omega arith) served
-    (link_before (known s p.key_id) r now p 21 (λ lt. some_key s p k there) (λ lt. at_key s p k (λ x. IsFalse x.revoked) there unrevoked) (λ lt. absurd (omega arith)) (λ lt. absurd (omega arith)) (λ lt. absurd (omega arith)));
+      (link_before (known s p.key_id) r now p 21 (λ lt. some_key s p k there) (λ lt. at_key s p k (λ x. IsFalse x.revoked) there unrevoked) (λ lt. absurd (omega arith)) (λ lt. absurd (omega arith)) (λ lt. absurd (omega arith)));
   fails = λ other hold bad.
       let same = same_parts s r now p other rule.SignatureMismatch (omega arith) served hold in
       mismatch (of_key s p k (λ x. IsSignedBy x.secret r p) there (subst (λ (q : Parts). IfSome (known s q.key_id) (λ x. IsSignedBy x.secret r q)) same bad.link));
@@ -122,7 +122,7 @@ pub not_yet_valid : (s : State) (r : Request) (now : ℕ) (p : Parts) (k : Key) 
 not_yet_valid s r now p k served there unrevoked signed early = record {
   parts = p;
   before = rules_before s r now p rule.NotYetValid (omega arith) served
-    (link_before (known s p.key_id) r now p 22 (λ lt. some_key s p k there) (λ lt. at_key s p k (λ x. IsFalse x.revoked) there unrevoked) (λ lt. at_key s p k (λ x. IsSignedBy x.secret r p) there signed) (λ lt. absurd (omega arith)) (λ lt. absurd (omega arith)));
+      (link_before (known s p.key_id) r now p 22 (λ lt. some_key s p k there) (λ lt. at_key s p k (λ x. IsFalse x.revoked) there unrevoked) (λ lt. at_key s p k (λ x. IsSignedBy x.secret r p) there signed) (λ lt. absurd (omega arith)) (λ lt. absurd (omega arith)));
   fails = λ other hold bad.
       let same = same_parts s r now p other rule.NotYetValid (omega arith) served hold in
       let begun : p.start ≤ now = subst (λ (q : Parts). q.start ≤ now) same bad.link in
@@ -134,7 +134,7 @@ pub expired : (s : State) (r : Request) (now : ℕ) (p : Parts) (k : Key) → Is
 expired s r now p k served there unrevoked signed begun late = record {
   parts = p;
   before = rules_before s r now p rule.Expired (omega arith) served
-    (link_before (known s p.key_id) r now p 23 (λ lt. some_key s p k there) (λ lt. at_key s p k (λ x. IsFalse x.revoked) there unrevoked) (λ lt. at_key s p k (λ x. IsSignedBy x.secret r p) there signed) (λ lt. begun) (λ lt. absurd (omega arith)));
+      (link_before (known s p.key_id) r now p 23 (λ lt. some_key s p k there) (λ lt. at_key s p k (λ x. IsFalse x.revoked) there unrevoked) (λ lt. at_key s p k (λ x. IsSignedBy x.secret r p) there signed) (λ lt. begun) (λ lt. absurd (omega arith)));
   fails = λ other hold bad.
       let same = same_parts s r now p other rule.Expired (omega arith) served hold in
       let not_over : now < p.start + p.expires = subst (λ (q : Parts). now < q.start + q.expires) same bad.link in
@@ -146,6 +146,6 @@ pub no_such_box : (s : State) (r : Request) (now : ℕ) (p : Parts) (k : Key) �
 no_such_box s r now p k served there unrevoked signed begun not_over none = record {
   parts = p;
   before = rules_before s r now p rule.NoSuchBox (omega arith) served
-    (link_before (known s p.key_id) r now p 27 (λ lt. some_key s p k there) (λ lt. at_key s p k (λ x. IsFalse x.revoked) there unrevoked) (λ lt. at_key s p k (λ x. IsSignedBy x.secret r p) there signed) (λ lt. begun) (λ lt. not_over));
+      (link_before (known s p.key_id) r now p 27 (λ lt. some_key s p k there) (λ lt. at_key s p k (λ x. IsFalse x.revoked) there unrevoked) (λ lt. at_key s p k (λ x. IsSignedBy x.secret r p) there signed) (λ lt. begun) (λ lt. not_over));
   fails = λ other hold bad. none_some (get s.boxes (place_of other.path).box) (none (place_of other.path).box) (bad.fetch (inl served.get));
 }

@@ -37,16 +37,19 @@ pub record Stands (r : Request) (l : PlainLink) (p : Parts) : Type 0 where
 
 pub stands : (r : Request) (l : PlainLink) → IsPlainLink r l → (p : Parts) × Stands r l p
 unfolding plain_text text.plain_text
-stands r l plain = (parts_of l, record {
-  served = plain_served r l plain;
-  key_id = refl;
-  scope = refl;
-  date = refl;
-  start = refl;
-  expires = refl;
-  signature = refl;
-  canonical = plain_canonical r l plain;
-})
+stands r l plain = (
+  parts_of l,
+  record {
+    served = plain_served r l plain;
+    key_id = refl;
+    scope = refl;
+    date = refl;
+    start = refl;
+    expires = refl;
+    signature = refl;
+    canonical = plain_canonical r l plain;
+  },
+)
 
 -- what the test of a signature says
 abbrev pub Tells : Bool → List ℕ → List ℕ → CredentialScope → ℕ → List ℕ → Type 0

@@ -49,98 +49,130 @@ headless bytes none r rest next = let m = made bytes r rest next in none m.has.f
 pub ends : {C : Type 0} (gives : C → ℕ → C → Type 0) (clock clock' : C) (input input' output output' : Option (List ℕ)) (means : State → Type 0) (s : State) (r : Request) (bytes : List ℕ)
     → Consumes input input' bytes → IsAtEnd input' → IsMessage bytes r → Handles gives clock clock' output output' means s r handled.Answered
     → (after : State) × means after × Serves gives input input' output output' clock clock' s after Ended
-ends gives clock clock' input input' output output' means s r bytes read end message (answered now text after told written same answers) = (after, same, record {
-  stream = bytes;
-  moments = now ∷ [];
-  answers = text ++ [];
-  read = known_end input input' bytes read end;
-  told = (clock', told, refl);
-  written = subst (Appends output output') (sym (append-nil text)) written;
-  session = session.served 999 bytes [] s after after r now [] text [] Ended (message_alone bytes r message) answers (session.ended 998 [] after (frame.ended refl));
-})
+ends gives clock clock' input input' output output' means s r bytes read end message (answered now text after told written same answers) = (
+  after,
+  same,
+  record {
+    stream = bytes;
+    moments = now ∷ [];
+    answers = text ++ [];
+    read = known_end input input' bytes read end;
+    told = (clock', told, refl);
+    written = subst (Appends output output') (sym (append-nil text)) written;
+    session = session.served 999 bytes [] s after after r now [] text [] Ended (message_alone bytes r message) answers (session.ended 998 [] after (frame.ended refl));
+  },
+)
 
 pub ends_by_fault : {C : Type 0} (gives : C → ℕ → C → Type 0) (clock clock' : C) (input input' output output' : Option (List ℕ)) (means : State → Type 0) (s : State) (r : Request) (bytes : List ℕ)
     → Consumes input input' bytes → IsMessage bytes r → Handles gives clock clock' output output' means s r handled.Answered
     → (after : State) × means after × Serves gives input input' output output' clock clock' s after ReadFault
-ends_by_fault gives clock clock' input input' output output' means s r bytes read message (answered now text after told written same answers) = (after, same, record {
-  stream = bytes;
-  moments = now ∷ [];
-  answers = text ++ [];
-  read = read;
-  told = (clock', told, refl);
-  written = subst (Appends output output') (sym (append-nil text)) written;
-  session = session.served 999 bytes [] s after after r now [] text [] ReadFault (message_alone bytes r message) answers (session.read_failed 998 [] after no_message);
-})
+ends_by_fault gives clock clock' input input' output output' means s r bytes read message (answered now text after told written same answers) = (
+  after,
+  same,
+  record {
+    stream = bytes;
+    moments = now ∷ [];
+    answers = text ++ [];
+    read = read;
+    told = (clock', told, refl);
+    written = subst (Appends output output') (sym (append-nil text)) written;
+    session = session.served 999 bytes [] s after after r now [] text [] ReadFault (message_alone bytes r message) answers (session.read_failed 998 [] after no_message);
+  },
+)
 
 pub fails_before : {C : Type 0} (gives : C → ℕ → C → Type 0) (clock : C) (input input' output : Option (List ℕ)) (means : State → Type 0) (s : State) (bytes : List ℕ)
     → Consumes input input' bytes → HasNoHeadEnd bytes → means s → (after : State) × means after × Serves gives input input' output output clock clock s after ReadFault
-fails_before gives clock input input' output means s bytes read none same = (s, same, record {
-  stream = bytes;
-  moments = [];
-  answers = [];
-  read = read;
-  told = refl;
-  written = Appends-nil output;
-  session = session.read_failed 999 bytes s (headless bytes none);
-})
+fails_before gives clock input input' output means s bytes read none same = (
+  s,
+  same,
+  record {
+    stream = bytes;
+    moments = [];
+    answers = [];
+    read = read;
+    told = refl;
+    written = Appends-nil output;
+    session = session.read_failed 999 bytes s (headless bytes none);
+  },
+)
 
 pub gives_up : {C : Type 0} (gives : C → ℕ → C → Type 0) (clock clock' : C) (input input' output output' : Option (List ℕ)) (means : State → Type 0) (s : State) (r : Request) (bytes : List ℕ)
     → Consumes input input' bytes → IsMessage bytes r → Handles gives clock clock' output output' means s r handled.GaveUp
     → (after : State) × means after × Serves gives input input' output output' clock clock' s after (Refused 40)
 gives_up gives clock clock' input input' output output' means s r bytes read message (gave_up told written same) =
-    let whole = known_whole input input' bytes read in (s, same, record {
-      stream = bytes ++ whole.0;
-      moments = [];
-      answers = closing rule.TryAgain;
-      read = whole.1;
-      told = told;
-      written = written;
-      session = session.gave_up 999 (bytes ++ whole.0) s;
-    })
+    let whole = known_whole input input' bytes read in (
+      s,
+      same,
+      record {
+        stream = bytes ++ whole.0;
+        moments = [];
+        answers = closing rule.TryAgain;
+        read = whole.1;
+        told = told;
+        written = written;
+        session = session.gave_up 999 (bytes ++ whole.0) s;
+      },
+    )
 gives_up gives clock clock' input input' output output' means s r bytes read message (gave_up_at now told written same) =
-    let whole = known_whole input input' bytes read in (s, same, record {
-      stream = bytes ++ whole.0;
-      moments = now ∷ [];
-      answers = closing rule.TryAgain;
-      read = whole.1;
-      told = (clock', told, refl);
-      written = written;
-      session = session.gave_up_at 999 (bytes ++ whole.0) whole.0 s r now (message whole.0);
-    })
+    let whole = known_whole input input' bytes read in (
+      s,
+      same,
+      record {
+        stream = bytes ++ whole.0;
+        moments = now ∷ [];
+        answers = closing rule.TryAgain;
+        read = whole.1;
+        told = (clock', told, refl);
+        written = written;
+        session = session.gave_up_at 999 (bytes ++ whole.0) whole.0 s r now (message whole.0);
+      },
+    )
 
 pub breaks : {C : Type 0} (gives : C → ℕ → C → Type 0) (clock clock' : C) (input input' output output' : Option (List ℕ)) (means : State → Type 0) (s : State) (r : Request) (bytes : List ℕ)
     → Consumes input input' bytes → IsMessage bytes r → Handles gives clock clock' output output' means s r handled.Broken
     → (after : State) × means after × Serves gives input input' output output' clock clock' s after WriteFault
 breaks gives clock clock' input input' output output' means s r bytes read message (broke now text front after told written beginning same answers) =
-    let whole = known_whole input input' bytes read in (after, same, record {
-      stream = bytes ++ whole.0;
-      moments = now ∷ [];
-      answers = front;
-      read = whole.1;
-      told = (clock', told, refl);
-      written = written;
-      session = session.write_failed 999 (bytes ++ whole.0) whole.0 s after r now text front (message whole.0) answers beginning;
-    })
+    let whole = known_whole input input' bytes read in (
+      after,
+      same,
+      record {
+        stream = bytes ++ whole.0;
+        moments = now ∷ [];
+        answers = front;
+        read = whole.1;
+        told = (clock', told, refl);
+        written = written;
+        session = session.write_failed 999 (bytes ++ whole.0) whole.0 s after r now text front (message whole.0) answers beginning;
+      },
+    )
 breaks gives clock clock' input input' output output' means s r bytes read message (broke_giving_up front told written beginning same) =
-    let whole = known_whole input input' bytes read in (s, same, record {
-      stream = bytes ++ whole.0;
-      moments = [];
-      answers = front;
-      read = whole.1;
-      told = told;
-      written = written;
-      session = session.write_failed_giving_up 999 (bytes ++ whole.0) s front beginning;
-    })
+    let whole = known_whole input input' bytes read in (
+      s,
+      same,
+      record {
+        stream = bytes ++ whole.0;
+        moments = [];
+        answers = front;
+        read = whole.1;
+        told = told;
+        written = written;
+        session = session.write_failed_giving_up 999 (bytes ++ whole.0) s front beginning;
+      },
+    )
 breaks gives clock clock' input input' output output' means s r bytes read message (broke_giving_up_at now front told written beginning same) =
-    let whole = known_whole input input' bytes read in (s, same, record {
-      stream = bytes ++ whole.0;
-      moments = now ∷ [];
-      answers = front;
-      read = whole.1;
-      told = (clock', told, refl);
-      written = written;
-      session = session.write_failed_giving_up_at 999 (bytes ++ whole.0) whole.0 s r now front (message whole.0) beginning;
-    })
+    let whole = known_whole input input' bytes read in (
+      s,
+      same,
+      record {
+        stream = bytes ++ whole.0;
+        moments = now ∷ [];
+        answers = front;
+        read = whole.1;
+        told = (clock', told, refl);
+        written = written;
+        session = session.write_failed_giving_up_at 999 (bytes ++ whole.0) whole.0 s r now front (message whole.0) beginning;
+      },
+    )
 
 -- ---- streams that are not served
 

@@ -3,6 +3,8 @@
 
 pub mod clocks;
 mod decode;
+#[cfg(test)]
+mod fakes;
 mod fields;
 mod forms;
 mod handling;
@@ -17,3 +19,6 @@ pub use one_key::OneKey;
 pub use serving::Office;
 pub use session::SessionEnd;
 pub use wire::{Answer, Counted, Message};
+
+#[cfg(test)]
+mod tests;

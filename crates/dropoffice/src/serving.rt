@@ -71,10 +71,15 @@ fn canonical_text(alloc: Global, link: &PlainLink<'_>) -> Result<Vec<u8>, AllocE
 }
 
 // Whether the link's signature is that of its canonical request under the secret.
-fn is_signed_by(alloc: Global, link: &PlainLink<'_>, scope: &Scope<'_>, secret: &[u8]) -> Result<bool, AllocError>
+fn is_signed_by(
+    alloc: Global,
+    link: &PlainLink<'_>,
+    scope: &Scope<'_>,
+    secret: &[u8],
+) -> Result<bool, AllocError>
     ensures { IfOk result (λ signed. (date : List ℕ) → WritesMoment date link.now.start
         → (IsTrue signed ↔ (link.now.signature.now ≡ signature_of secret.now date (scope_of scope.now)
-            (plain_text link.now.path.now link.now.query.now link.now.host.now)))) }
+        (plain_text link.now.path.now link.now.query.now link.now.host.now)))) }
 {
     let text = canonical_text(alloc, link)?;
     let digits = signature(secret, scope, &link.start, &text)?;
@@ -82,7 +87,13 @@ fn is_signed_by(alloc: Global, link: &PlainLink<'_>, scope: &Scope<'_>, secret: 
 }
 
 // The least rule that fails, where the link's key stands unrevoked with this secret, and there is no box.
-fn judge(alloc: Global, link: &PlainLink<'_>, scope: &Scope<'_>, secret: &[u8], now: Moment) -> Refusal
+fn judge(
+    alloc: Global,
+    link: &PlainLink<'_>,
+    scope: &Scope<'_>,
+    secret: &[u8],
+    now: Moment,
+) -> Refusal
     requires { link.now.expires ≤ 604800 }
     ensures { (s : State) (r : Request) (p : plain.PlainLink) (k : Key) → Says link.now p → IsPlainLink r p
         → scope_of scope.now ≡ p.scope → get s.keys p.key_id ≡ Some k → k.secret ≡ secret.now → IsFalse k.revoked → HasNoBox s
@@ -194,7 +205,7 @@ impl<K: Keeper> Office<K> {
     ) -> Handled
         ensures handled { (s : State) → K.means self.old.keeper s → K.is_honest self.new.keeper → HasNoBox s → (result ≢ Handled.Unserved)
             → Handles C.now_gives clock.old clock.new (W.contents writer.old.inner) (W.contents writer.new.inner)
-                (K.means self.new.keeper) s (request_in message.now) result }
+            (K.means self.new.keeper) s (request_in message.now) result }
         ensures served { result ≡ Handled.Answered → (p : Parts) × IsServedAs (request_in message.now) p }
         ensures unserved { result ≡ Handled.Unserved → (p : Parts) → IsServedAs (request_in message.now) p → ⊥ }
         ensures untouched { result ≡ Handled.Unserved → (self.new ≡ self.old) × (writer.new ≡ writer.old) × (clock.new ≡ clock.old) }
@@ -222,7 +233,7 @@ impl<K: Keeper> Office<K> {
     ) -> Handled
         ensures handled { (s : State) → K.means self.old.keeper s → K.is_honest self.new.keeper → HasNoBox s → (result ≢ Handled.Unserved)
             → (r : Request) × IsMessage bytes.now r × Handles C.now_gives clock.old clock.new
-                (W.contents writer.old.inner) (W.contents writer.new.inner) (K.means self.new.keeper) s r result }
+            (W.contents writer.old.inner) (W.contents writer.new.inner) (K.means self.new.keeper) s r result }
         ensures served { result ≡ Handled.Answered → IsServed bytes.now }
         ensures unserved { result ≡ Handled.Unserved → IsServed bytes.now → ⊥ }
         ensures untouched { result ≡ Handled.Unserved → (self.new ≡ self.old) × (writer.new ≡ writer.old) × (clock.new ≡ clock.old) }
@@ -233,7 +244,10 @@ impl<K: Keeper> Office<K> {
         if !is_one_front(bytes) {
             return Handled::Unserved;
         }
-        let mut fields = [Field { name: &[], value: &[] }; 64];
+        let mut fields = [Field {
+            name: &[],
+            value: &[],
+        }; 64];
         let Some(head) = read_head(bytes, &mut fields) else {
             return Handled::Unserved;
         };
@@ -266,8 +280,8 @@ impl<K: Keeper> Office<K> {
     ) -> SessionEnd
         ensures serves { (s : State) → K.means self.old.keeper s → K.is_honest self.new.keeper → HasNoBox s → (result ≢ SessionEnd.Unserved)
             → (after : State) × K.means self.new.keeper after × Serves C.now_gives
-                (R.remaining reader.old.inner) (R.remaining reader.new.inner)
-                (W.contents writer.old.inner) (W.contents writer.new.inner) clock.old clock.new s after result }
+            (R.remaining reader.old.inner) (R.remaining reader.new.inner)
+            (W.contents writer.old.inner) (W.contents writer.new.inner) clock.old clock.new s after result }
         ensures unserved { result ≡ SessionEnd.Unserved → (stream : List ℕ) → R.remaining reader.old.inner ≡ Some stream → IsServed stream → ⊥ }
         ensures untouched { result ≡ SessionEnd.Unserved → (self.new ≡ self.old) × (writer.new ≡ writer.old) × (clock.new ≡ clock.old) }
         ensures only { result ≡ SessionEnd.Ended → (stream : List ℕ) → R.remaining reader.old.inner ≡ Some stream → IsServed stream }
