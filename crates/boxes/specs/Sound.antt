@@ -16,9 +16,12 @@ use Rattle.boxes.specs.Steps.{HasReceipt}
 abbrev pub IsMoment : ℕ → Type 0
 IsMoment moment = moment ≤ 253402300799
 
+abbrev pub is_secret_byte : ℕ → Bool
+is_secret_byte b = nat_le 0x21 b && nat_le b 0x7E
+
 -- 1 to 128 bytes 0x21 to 0x7E
 abbrev pub IsSecret : List ℕ → Type 0
-IsSecret secret = IsWord (λ b. nat_le 0x21 b && nat_le b 0x7E) 128 secret
+IsSecret secret = IsWord is_secret_byte 128 secret
 
 -- a-z 0-9 - .
 abbrev pub is_box_byte : ℕ → Bool

@@ -13,3 +13,4 @@ pub mod Offices
 pub mod Handling
 pub mod Sent
 pub mod Streams
+pub mod Tasks

@@ -1,6 +1,6 @@
 -- Which streams are served so far. Later stages widen this test and leave the theorem as it is; in the
 -- end it goes.
-use Rattle.std.specs.Prelude.{◌≡◌, ℕ, Bool, false, IsTrue, List, [], ◌∷◌, ◌++◌, map, codes, None}
+use Rattle.std.specs.Prelude.{◌≡◌, ℕ, false, IsTrue, List, [], ◌∷◌, ◌++◌, map, codes, Option, Some, None, ⊤}
 use Rattle.std.specs.List.{list_all, join_with_byte}
 use Rattle.std.specs.FinMap.{get}
 use Rattle.sigtext.specs.declared.encode.Slash.TheVariants.{Kept}
@@ -9,6 +9,7 @@ use Rattle.sigtext.specs.CanonicalQuery.{param_text}
 use Rattle.sigtext.specs.Request.{Request}
 use Rattle.links.specs.WellFormed.{Parts, signing_names, IsWellFormed}
 use Rattle.boxes.specs.State.{State}
+use Rattle.wire.specs.declared.counted.Counted.{Counted}
 use Rattle.wire.specs.Framing.{Next, Message}
 
 -- a path of unreserved bytes and `/`, then the six parameters in the order of the published example,
@@ -37,3 +38,9 @@ pub record IsServed (stream : List ℕ) : Type 0 where
 -- a state without boxes
 abbrev pub HasNoBox : State → Type 0
 HasNoBox s = (name : List ℕ) → get s.boxes name ≡ None
+
+-- of each connection the bytes that its reader has left are known, and are one such message
+abbrev pub AreAllServed : {R W : Type 0} → (R → Option (List ℕ)) → List (Counted R × Counted W) → Type 0
+AreAllServed remaining [] = ⊤
+AreAllServed remaining (c ∷ cs) =
+    ((stream : List ℕ) × (remaining c.0.inner ≡ Some stream) × IsServed stream) × AreAllServed remaining cs

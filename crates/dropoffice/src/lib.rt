@@ -10,14 +10,18 @@ mod forms;
 mod handling;
 pub mod one_key;
 mod plain_link;
+mod program;
 mod raw_link;
 pub mod serving;
 pub mod session;
+pub mod task;
 
 pub use clocks::{Clock, FixedClock, ListedClock};
 pub use one_key::OneKey;
+pub use program::perform;
 pub use serving::Office;
 pub use session::SessionEnd;
+pub use task::{Replay, Task};
 pub use wire::{Answer, Counted, Message};
 
 #[cfg(test)]

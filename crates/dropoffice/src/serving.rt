@@ -11,6 +11,7 @@ ghost use Rattle.sigv4.specs.Signature.{signature_of};
 ghost use Rattle.boxes.specs.State.{Key, State};
 ghost use Rattle.wire.specs.Framing.{IsFront};
 ghost use Rattle.wire.specs.Heads.{IsHeadEnd, HasNoHeadEnd};
+ghost use Rattle.dropoffice.specs.Connections.{is_fault};
 ghost use Rattle.dropoffice.specs.Deciding.{plain_text};
 ghost use Rattle.dropoffice.specs.PlainLinks.{IsPlainLink};
 ghost use Rattle.dropoffice.specs.PlainLinks as plain;
@@ -129,8 +130,8 @@ impl<K: Keeper> Office<K> {
     ghost use Rattle.dropoffice.specs.Offices.{try_again, IsAnswered};
     ghost use Rattle.dropoffice.specs.Handling.{Handles};
     ghost use Rattle.dropoffice.specs.Streams.{IsMessage};
-    ghost use Rattle.dropoffice.specs.Connections.{Serves};
-    ghost use Rattle.dropoffice.specs.Served.{IsServed, IsServedAs, HasNoBox};
+    ghost use Rattle.dropoffice.specs.Connections.{Serves, Runs};
+    ghost use Rattle.dropoffice.specs.Served.{IsServed, IsServedAs, HasNoBox, AreAllServed};
     ghost use Rattle.dropoffice.specs.Views.{Says, IsRead};
 
     /// An office over this keeper, which it holds as it is.
@@ -314,6 +315,34 @@ impl<K: Keeper> Office<K> {
             Handled::Broken => SessionEnd::WriteFault,
         }
     }
+
+    /// Serves the connections one after another, each by a session, and answers how many sessions ended
+    /// by a read or a write that failed.
+    pub fn run<R: Read, W: Write, C: Clock>(
+        &mut self,
+        connections: &mut [(Counted<R>, Counted<W>)],
+        clock: &mut C,
+    ) -> u64
+        ensures runs { (s : State) → K.means self.old.keeper s → K.is_honest self.new.keeper → HasNoBox s → AreAllServed R.remaining connections.old
+            → (after : State) × K.means self.new.keeper after × Runs C.now_gives R.remaining W.contents clock.old clock.new connections.old connections.new s after result }
+        ensures honest { K.is_honest self.new.keeper → K.is_honest self.old.keeper }
+    {
+        let mut faulty = 0;
+        'connections: for connection in connections.iter_mut() {
+            let end = self.session(&mut connection.0, &mut connection.1, clock);
+            if is_fault(end) {
+                faulty += 1;
+            }
+        }
+        faulty
+    }
+}
+
+// Whether a session ended by a read or a write that failed.
+fn is_fault(end: SessionEnd) -> bool
+    ensures { result ≡ is_fault end }
+{
+    matches!(end, SessionEnd::ReadFault | SessionEnd::WriteFault)
 }
 
 fn is_full(stop: Stop) -> bool

@@ -26,7 +26,8 @@ fn are_key_bytes(text: &[u8]) -> bool
     text.iter().all(|byte| byte.is_ascii_alphanumeric() || matches!(byte, b'-' | b'_'))
 }
 
-fn is_key_id(text: &[u8]) -> bool
+/// Whether the text has the form of a key id: 1 to 64 bytes of `A-Z a-z 0-9 - _`.
+pub fn is_key_id(text: &[u8]) -> bool
     ensures { IsTrue result ↔ IsKeyId text.now }
 {
     !text.is_empty() && text.len() <= 64 && are_key_bytes(text)

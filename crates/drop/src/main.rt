@@ -1,0 +1,12 @@
+//! `drop`: the program's words and streams are handed to the office.
+use dropoffice::perform;
+use std::env;
+use std::io;
+use std::process::ExitCode;
+
+fn main(rt: HostRuntime) -> io::Result<ExitCode> {
+    let words: Vec<String> = env::args(&rt)?.collect(rt.alloc())?;
+    let words: Vec<&str> = words.iter().map(|word| word.as_str()).collect(rt.alloc())?;
+    let status = perform(&rt, &words, rt.stdin(), rt.stdout(), rt.stderr());
+    Ok(ExitCode::from(status))
+}

@@ -1,0 +1,20 @@
+use Rattle.std.proofs.Common.{◌∙◌, ap, ap₂, true}
+use Rattle.std.proofs.lemmas.Result.{IfOk-weaker}
+use Rattle.clap.specs.Simple.{app_of_fields, on_top}
+use Rattle.clap.specs.Words.{App, with_subcommand}
+use Rattle.dropoffice.specs.Tasks.{drop_app}
+use Rattle.dropoffice.proofs.task.command_line.Goals as goal
+
+needing_a_command : App → App
+needing_a_command a = on_top (λ s. record s { subcommand_required = true }) a
+
+helping : App → App
+helping a = on_top (λ s. record s { arg_required_else_help = true }) a
+
+pub returns : goal.returns
+unfolding drop_app needing_a_command helping
+returns c =
+    let required = ap app_of_fields c.subcommand_required.ensures ∙ ap needing_a_command (ap app_of_fields c.about.ensures ∙ c.new.ensures.app) in
+    let start = ap app_of_fields c.arg_required_else_help.ensures ∙ ap helping required in
+    IfOk-weaker c.subcommand.result _ _ (λ r added. added.shape c.in_ok-replay_command.ensures.local
+    ∙ ap₂ with_subcommand start (ap (λ (a : App). a.top) c.in_ok-replay_command.ensures.app)) c.subcommand.ensures
