@@ -56,3 +56,39 @@ impl Read for Source<'_> {
         Ok(count)
     }
 }
+
+/// Room for one answer, which takes no memory.
+#[derive(Drop)]
+pub struct Page {
+    pub text: [u8; 512],
+    pub len: usize,
+}
+
+impl Page {
+    pub fn new() -> Page {
+        Page {
+            text: [0; 512],
+            len: 0,
+        }
+    }
+
+    pub fn written(&self) -> &[u8] {
+        self.text.get(..self.len).unwrap_or_default()
+    }
+}
+
+impl Write for Page {
+    fn write(&mut self, buf: &[u8]) -> io::Result<usize> {
+        let Some(room) = self.text.get_mut(self.len..) else {
+            return Ok(0);
+        };
+        let count = buf.len().min(room.len());
+        room[..count].copy_from_slice(&buf[..count]);
+        self.len += count;
+        Ok(count)
+    }
+
+    fn flush(&mut self) -> io::Result<()> {
+        Ok(())
+    }
+}

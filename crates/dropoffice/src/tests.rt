@@ -310,3 +310,6 @@ fn takes_one_moment(rt: HostRuntime) -> Result<(), Fail> {
     }
     Ok(())
 }
+
+mod calls;
+mod memory;
