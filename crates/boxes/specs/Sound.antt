@@ -1,6 +1,6 @@
 -- Which states an office may be in.
-use Rattle.std.specs.Prelude.{◌≡◌, ℕ, ◌+◌, ◌<◌, ◌≤◌, ◌^◌, ◌&&◌, ◌||◌, ◌==◌, nat_le, Bool, ℤ, pos, neg_ℤ, ◌≤ℤ◌, IsTrue, IsFalse, IsSomeAnd, List, length, Some, ⊤, IsUtf8}
-use Rattle.std.specs.List.{list_all, AllByRecursion}
+use Rattle.std.specs.Prelude.{◌≡◌, ℕ, ◌<◌, ◌≤◌, ◌&&◌, ◌||◌, ◌==◌, nat_le, Bool, pos, neg_ℤ, ◌≤ℤ◌, IsFalse, IsSomeAnd, List, length, Some, ⊤, IsUtf8}
+use Rattle.std.specs.List.{AllByRecursion}
 use Rattle.std.specs.Char.{is_ascii_digit, is_ascii_lowercase}
 use Rattle.std.specs.FinMap.{get}
 use Rattle.sigv4.specs.Hmac.{sha256}

@@ -1,8 +1,9 @@
 //! `drop`: the program's words and streams are handed to the office.
+#![tactic(auto)]
+
 use dropoffice::perform;
-use std::env;
-use std::io;
 use std::process::ExitCode;
+use std::{env, io};
 
 fn main(rt: HostRuntime) -> io::Result<ExitCode> {
     let words: Vec<String> = env::args(&rt)?.collect(rt.alloc())?;

@@ -1,5 +1,5 @@
 -- What a refusal of a plain link is answered with.
-use Rattle.std.proofs.Common.{◌≡◌, ◌≢◌, ℕ, false, List, codes, refl, ap, ◌∙◌, sym}
+use Rattle.std.proofs.Common.{◌≡◌, ◌≢◌, ℕ, false, List, codes, ap, ◌∙◌, sym}
 use Rattle.sigtext.specs.declared.refusal.Refusal.{Refusal}
 use Rattle.sigtext.specs.declared.refusal.Refusal.TheVariants as rule
 use Rattle.sigtext.specs.Bytes.{same_bytes}

@@ -1,13 +1,13 @@
 -- Which rule of a request in the served form is the least that fails.
-use Rattle.std.proofs.Common.{◌≡◌, ◌≢◌, ℕ, ◌+◌, ◌<◌, ◌≤◌, Bool, true, false, List, [], ◌∷◌, codes, Option, Some, None, refl, sym, ap, subst, ◌∙◌, inl, inr, ⊎_elim, arith}
-use Rattle.std.specs.Prelude.{IsTrue, IsFalse, IsSome, IfSome, option_map}
+use Rattle.std.proofs.Common.{◌≡◌, ℕ, ◌+◌, ◌<◌, ◌≤◌, Bool, true, List, [], ◌∷◌, codes, Option, Some, None, refl, sym, ap, subst, ◌∙◌, inl, arith}
+use Rattle.std.specs.Prelude.{IsFalse, IsSome, IfSome, option_map}
 use Rattle.std.specs.FinMap.{get}
 use Rattle.sigtext.specs.declared.refusal.Refusal.{Refusal}
 use Rattle.sigtext.specs.declared.refusal.Refusal.TheVariants as rule
 use Rattle.sigtext.specs.Refusals.{number_of}
 use Rattle.sigtext.specs.Request.{Request}
 use Rattle.sigtext.specs.Rules.{HoldBefore, IsFirstToFail}
-use Rattle.links.specs.WellFormed.{Parts, HeadRule}
+use Rattle.links.specs.WellFormed.{Parts}
 use Rattle.links.specs.Admits.{KnownKey, IsSignedBy, LinkRule}
 use Rattle.links.proofs.Parts.{parts_before}
 use Rattle.boxes.specs.State.{Key, Place, State}

@@ -1,6 +1,6 @@
 -- Searching the fields of a request one after another.
-use Rattle.std.proofs.Common.{◌≡◌, ◌≢◌, ℕ, ◌+◌, ◌<◌, Bool, true, false, cond, not, eqb, List, [], ◌∷◌, ◌++◌, length, map, take, drop, get_or, refl, sym, ap, subst, Option, Some, None, ◌∙◌, arith, append_assoc}
-use Rattle.std.specs.Prelude.{IsTrue, filter, codes, ◌&&◌, is_some}
+use Rattle.std.proofs.Common.{◌≡◌, ℕ, ◌+◌, ◌<◌, Bool, true, false, cond, not, eqb, List, [], ◌∷◌, ◌++◌, length, map, take, drop, get_or, refl, sym, ap, subst, Option, Some, None, ◌∙◌}
+use Rattle.std.specs.Prelude.{IsTrue, codes, ◌&&◌, is_some}
 use Rattle.std.specs.List.{list_all}
 use Rattle.std.specs.Borrow.{Bor}
 use Rattle.dropoffice.specs.Lists.{IsFoundIn}

@@ -1,14 +1,12 @@
 -- The one head that some bytes are, and the message that it makes.
-use Rattle.std.proofs.Common.{◌≡◌, ◌≢◌, ℕ, ◌+◌, ◌<◌, ◌≤◌, Bool, true, false, List, [], ◌∷◌, ◌++◌, length, take, drop, codes, map, refl, sym, ap, subst, ◌∙◌, arith, length-drop, take-append-drop}
-use Rattle.std.specs.Prelude.{IsTrue, IsFalse, ◌↔◌}
+use Rattle.std.proofs.Common.{◌≡◌, ℕ, ◌<◌, ◌≤◌, Bool, false, List, [], ◌∷◌, ◌++◌, length, take, drop, codes, refl, sym, ap, subst, ◌∙◌, arith, length-drop, take-append-drop}
 use Rattle.std.proofs.lemmas.List.{append-nil, take_all}
-use Rattle.httparse.specs.Grammar.{RequestHead, ReadsRequest}
+use Rattle.httparse.specs.Grammar.{RequestHead}
 use Rattle.httparse.proofs.GrammarLemmas.{request_unique}
 use Rattle.sigtext.specs.SignedHeaders.{Header, named}
 use Rattle.sigtext.specs.Request.{Request}
 use Rattle.links.specs.WellFormed.{Parts}
-use Rattle.wire.specs.Framing.{EndsHead, IsFront, IsHead, headers_of, Announces, nothing, given, HasHead, request_of, Step, Message, Next, whole}
-use Rattle.wire.specs.Framing as frame
+use Rattle.wire.specs.Framing.{EndsHead, IsFront, IsHead, headers_of, Announces, nothing, given, HasHead, request_of, Message, Next, whole}
 use Rattle.wire.specs.Heads.{IsHeadEnd, HasNoHeadEnd}
 use Rattle.dropoffice.specs.Served.{IsServedAs, IsServed}
 use Rattle.dropoffice.specs.Streams.{IsMessage}

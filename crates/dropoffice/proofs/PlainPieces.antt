@@ -1,10 +1,10 @@
 -- The pieces of a plain link, found one after another.
-use Rattle.std.proofs.Common.{◌≡◌, ◌+◌, ℕ, List, ◌∷◌, ◌++◌, codes, refl, sym, ap, subst, ◌∙◌, length-append}
+use Rattle.std.proofs.Common.{◌≡◌, ◌+◌, ℕ, List, ◌++◌, codes, sym, ap, subst, ◌∙◌, length-append}
 use Rattle.std.proofs.lemmas.List.{append_cancel_left}
 use Rattle.sigtext.specs.declared.encode.Slash.TheVariants.{Encoded}
 use Rattle.sigtext.specs.UriEncode.{uri_encoded}
 use Rattle.sigtext.specs.Request.{Request}
-use Rattle.dropoffice.specs.PlainLinks.{Lacks, RawLink, IsRawQuery, IsRawLink, PlainLink, IsPlainLink}
+use Rattle.dropoffice.specs.PlainLinks.{RawLink, IsRawQuery, IsRawLink, PlainLink, IsPlainLink}
 use Rattle.dropoffice.proofs.Texts.{cut_once, value_once, split_last}
 use Rattle.dropoffice.proofs.RawLinks.{credential_word, date_word, expires_word, host_word, after_date, after_credential}
 

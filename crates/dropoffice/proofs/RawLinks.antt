@@ -1,8 +1,7 @@
 -- A target has one reading as a raw link at most.
-use Rattle.std.proofs.Common.{◌≡◌, ℕ, ◌+◌, ◌-◌, ◌<◌, ◌≤◌, List, [], ◌∷◌, ◌++◌, length, take, drop, codes, refl, sym, ap, subst, ◌∙◌, arith, length-append}
-use Rattle.std.proofs.lemmas.List.{append_cancel_left}
+use Rattle.std.proofs.Common.{◌≡◌, ℕ, ◌+◌, ◌-◌, ◌<◌, List, ◌∷◌, ◌++◌, length, take, drop, codes, sym, ap, ◌∙◌, arith, length-append}
 use Rattle.dropoffice.specs.PlainLinks.{Lacks, RawLink, IsRawQuery, IsRawLink}
-use Rattle.dropoffice.proofs.Texts.{holds_not, cut_once, value_once, last_once}
+use Rattle.dropoffice.proofs.Texts.{cut_once, value_once, last_once}
 
 abbrev pub credential_word : List ℕ
 credential_word = codes "X-Amz-Algorithm=AWS4-HMAC-SHA256&X-Amz-Credential="

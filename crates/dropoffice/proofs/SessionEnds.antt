@@ -1,5 +1,5 @@
 -- A session of one message, by how it ended.
-use Rattle.std.proofs.Common.{◌≡◌, ◌≢◌, ℕ, ◌+◌, ◌<◌, ◌≤◌, List, [], ◌∷◌, ◌++◌, length, take, drop, Option, Some, None, refl, sym, ap, subst, ◌∙◌, arith, length-append, append_assoc, take-append-drop}
+use Rattle.std.proofs.Common.{◌≡◌, ℕ, ◌+◌, ◌<◌, List, [], ◌∷◌, ◌++◌, length, take, drop, Option, Some, None, refl, sym, ap, subst, ◌∙◌, arith, length-append, append_assoc, take-append-drop}
 use Rattle.std.specs.Io.KnownBytes.{Appends, Consumes, IsAtEnd}
 use Rattle.std.proofs.KnownBytes.{Appends-nil}
 use Rattle.std.proofs.lemmas.List.{append-nil}
@@ -11,7 +11,6 @@ use Rattle.wire.specs.Framing as frame
 use Rattle.wire.specs.Heads.{IsHeadEnd, HasNoHeadEnd}
 use Rattle.dropoffice.specs.declared.handling.Handled.TheVariants as handled
 use Rattle.dropoffice.specs.declared.session.SessionEnd.TheVariants.{Ended, Refused, ReadFault, WriteFault}
-use Rattle.dropoffice.specs.Answering.{Answers}
 use Rattle.dropoffice.specs.Connections.{IsKnown, Serves}
 use Rattle.dropoffice.specs.Handling.{Handles, answered, gave_up, gave_up_at, broke, broke_giving_up, broke_giving_up_at}
 use Rattle.dropoffice.specs.Sessions.{Session, closing}

@@ -1,5 +1,5 @@
 -- What an office's answer is.
-use Rattle.std.specs.Prelude.{◌≡◌, ◌≢◌, ℕ, false}
+use Rattle.std.specs.Prelude.{◌≢◌, ℕ, false}
 use Rattle.sigtext.specs.declared.refusal.Refusal.TheVariants as rule
 use Rattle.sigtext.specs.Request.{Request}
 use Rattle.boxes.specs.State.{State}

@@ -1,5 +1,4 @@
-use Rattle.std.proofs.Common.{◌≡◌, ◌∙◌, map, sym, ap}
-use Rattle.sigtext.specs.Fields.{header_of}
+use Rattle.std.proofs.Common.{◌∙◌, sym}
 use Rattle.dropoffice.proofs.FieldLists.{has_amz_at}
 use Rattle.dropoffice.proofs.fields.has_amz_field.Goals as goal
 

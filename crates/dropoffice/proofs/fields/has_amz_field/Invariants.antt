@@ -1,4 +1,4 @@
-use Rattle.std.proofs.Common.{◌≡◌, [], take, map}
+use Rattle.std.proofs.Common.{take, map}
 use Rattle.sigtext.specs.Fields.{header_of}
 use Rattle.dropoffice.specs.PlainLinks.{HasNoAmzHeader}
 use Rattle.dropoffice.proofs.fields.has_amz_field.Given as goal

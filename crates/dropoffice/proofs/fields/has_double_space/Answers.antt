@@ -1,4 +1,4 @@
-use Rattle.std.proofs.Common.{◌≡◌, ◌+◌, ◌-◌, ◌<◌, ◌≤◌, ℕ, length, arith, refl}
+use Rattle.std.proofs.Common.{arith, refl}
 use Rattle.dropoffice.proofs.Spaces.{doubled, not_doubled}
 use Rattle.dropoffice.proofs.fields.has_double_space.Goals as goal
 

@@ -1,6 +1,6 @@
-use Rattle.std.proofs.Common.{◌≡◌, ℕ, List, [], ◌∷◌, take, map, Option, Some, None}
+use Rattle.std.proofs.Common.{take, map}
 use Rattle.sigtext.specs.Fields.{header_of}
-use Rattle.sigtext.specs.SignedHeaders.{Header, named}
+use Rattle.sigtext.specs.SignedHeaders.{named}
 use Rattle.dropoffice.specs.Lists.{IsFoundIn}
 use Rattle.dropoffice.proofs.fields.only_value.Given as goal
 

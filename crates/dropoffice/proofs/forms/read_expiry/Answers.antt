@@ -1,6 +1,4 @@
-use Rattle.std.proofs.Common.{◌≡◌, ◌∙◌, ◌<◌, ◌≤◌, ◌^◌, ℕ, List, length, sym, ap, subst, arith, true}
-use Rattle.std.specs.List.{list_all}
-use Rattle.std.specs.Char.{is_ascii_digit}
+use Rattle.std.proofs.Common.{◌<◌, ℕ, List, sym, subst, arith}
 use Rattle.std.specs.Str.Parse.{IsNumeral, digits_value, without_leading_plus}
 use Rattle.dropoffice.proofs.Digits.{digits_utf8, plus_stays, numeral}
 use Rattle.dropoffice.proofs.forms.read_expiry.Goals as goal

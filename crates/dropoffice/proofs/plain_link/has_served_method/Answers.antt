@@ -1,4 +1,4 @@
-use Rattle.std.proofs.Common.{◌≡◌, ◌∙◌, sym, ap, refl, List, ℕ, length, []}
+use Rattle.std.proofs.Common.{◌∙◌, sym, ap, List, ℕ, length}
 use Rattle.std.specs.Prelude.{nat_eq}
 use Rattle.dropoffice.proofs.Texts.{texts_equal, not_false, empty_is}
 use Rattle.dropoffice.proofs.plain_link.has_served_method.Goals as goal

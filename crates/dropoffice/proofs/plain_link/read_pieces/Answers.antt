@@ -1,5 +1,4 @@
-use Rattle.std.proofs.Common.{◌≡◌, ◌∙◌, List, ℕ, subst, sym, ap, true, false}
-use Rattle.std.specs.Prelude.{IsTrue}
+use Rattle.std.proofs.Common.{◌∙◌, List, ℕ, subst, sym, ap}
 use Rattle.std.specs.List.{list_all}
 use Rattle.sigtext.specs.declared.encode.Slash.TheVariants.{Kept}
 use Rattle.sigtext.specs.UriEncode.{stays}

@@ -1,5 +1,5 @@
-use Rattle.std.proofs.Common.{◌≡◌, ◌∙◌, ◌∷◌, ◌++◌, sym, ap, refl}
-use Rattle.dropoffice.proofs.RawLinks.{credential_word, date_word, expires_word, host_word, after_date, after_credential, credential_once, date_once, expires_once}
+use Rattle.std.proofs.Common.{◌∙◌, sym}
+use Rattle.dropoffice.proofs.RawLinks.{host_word, after_date, after_credential, credential_once, date_once, expires_once}
 use Rattle.dropoffice.proofs.Texts.{texts_differ, not_true}
 use Rattle.dropoffice.proofs.raw_link.read_query.Goals as goal
 

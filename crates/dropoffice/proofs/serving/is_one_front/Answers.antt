@@ -1,4 +1,4 @@
-use Rattle.std.proofs.Common.{◌≡◌, ◌≤◌, ℕ, length, refl, sym, ◌∙◌, eq-eqb, eqb-true, arith}
+use Rattle.std.proofs.Common.{length, eq-eqb, eqb-true}
 use Rattle.dropoffice.proofs.Fronts.{front_of, front_long, front_none, front_short}
 use Rattle.dropoffice.proofs.serving.is_one_front.Goals as goal
 

@@ -1,4 +1,4 @@
-use Rattle.std.proofs.Common.{◌≡◌, ◌∙◌, ◌+◌, ◌<◌, ◌≤◌, List, ℕ, Bool, true, false, sym, subst, arith}
+use Rattle.std.proofs.Common.{Bool, subst, arith}
 use Rattle.sigv4.specs.Scopes.{scope_of}
 use Rattle.dropoffice.specs.Deciding.{plain_text}
 use Rattle.dropoffice.proofs.Judging.{Tells, tells_of, refuses_signature, refuses_early, refuses_late, refuses_box}

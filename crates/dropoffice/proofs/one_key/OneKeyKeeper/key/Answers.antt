@@ -1,9 +1,7 @@
-use Rattle.std.proofs.Common.{◌≡◌, sym, ap, refl, subst, ◌∙◌, List, ℕ, Some, None, false, Option}
-use Rattle.std.specs.Prelude.{option_map}
+use Rattle.std.proofs.Common.{sym, ap, ◌∙◌, List, ℕ, Some, false, Option}
 use Rattle.std.specs.FinMap.{get}
 use Rattle.boxes.specs.declared.rows.Role.TheVariants.{Clerk}
 use Rattle.boxes.specs.State.{Key, State}
-use Rattle.boxes.specs.Rows.{key_of}
 use Rattle.dropoffice.specs.OneKey.{state_of}
 use Rattle.dropoffice.proofs.Lookups.{get_same, get_other}
 use Rattle.dropoffice.proofs.Texts.{texts_differ, texts_equal, not_true, not_false}

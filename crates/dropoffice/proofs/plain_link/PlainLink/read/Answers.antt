@@ -1,12 +1,9 @@
-use Rattle.std.proofs.Common.{◌≡◌, ◌∙◌, List, ℕ, subst, sym, ap, refl, true, false}
-use Rattle.percent_encoding.specs.Percent.{percent_decode}
-use Rattle.sigtext.specs.declared.encode.Slash.TheVariants.{Encoded}
-use Rattle.sigtext.specs.UriEncode.{uri_encoded}
+use Rattle.std.proofs.Common.{◌∙◌, List, ℕ, subst, sym, refl}
 use Rattle.sigv4.specs.Credential.{IsCredential}
 use Rattle.wire.specs.Messages.{request_in}
 use Rattle.dropoffice.specs.PlainLinks.{PlainLink, IsRawLink}
 use Rattle.dropoffice.specs.Views.{raw_of}
-use Rattle.dropoffice.proofs.PlainPieces.{raw_pieces, pieces_of}
+use Rattle.dropoffice.proofs.PlainPieces.{pieces_of}
 use Rattle.dropoffice.proofs.Credentials.{credential_bytes, decoded_once, at_none, at_some}
 use Rattle.dropoffice.proofs.Texts.{clash}
 use Rattle.dropoffice.proofs.plain_link.PlainLink.read.Goals as goal

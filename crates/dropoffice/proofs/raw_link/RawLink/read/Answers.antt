@@ -1,4 +1,4 @@
-use Rattle.std.proofs.Common.{◌≡◌, ◌∙◌, ◌∷◌, ◌++◌, sym, ap, subst, refl, codes, List, ℕ, ◌+◌, ◌-◌, length, drop, arith, length-append, take-append-drop}
+use Rattle.std.proofs.Common.{◌≡◌, ◌∙◌, ◌∷◌, ◌++◌, sym, ap, subst, codes, List, ℕ, ◌+◌, ◌-◌, length, drop, arith, length-append, take-append-drop}
 use Rattle.dropoffice.specs.PlainLinks.{IsRawQuery}
 use Rattle.dropoffice.proofs.RawLinks.{too_short, split_once}
 use Rattle.dropoffice.proofs.Texts.{holds_not}

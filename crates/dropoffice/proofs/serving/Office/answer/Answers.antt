@@ -1,4 +1,3 @@
-use Rattle.dropoffice.specs.Views.{Says}
 use Rattle.wire.specs.Messages.{request_in}
 use Rattle.dropoffice.proofs.PlainForms.{parts_of, plain_served}
 use Rattle.dropoffice.proofs.ServedForms.{served_plain}

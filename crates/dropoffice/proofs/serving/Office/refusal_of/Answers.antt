@@ -1,4 +1,4 @@
-use Rattle.std.proofs.Common.{◌≡◌, ◌∙◌, List, ℕ, sym, ap, refl}
+use Rattle.std.proofs.Common.{◌∙◌, sym}
 use Rattle.sigv4.specs.Scopes.{scope_of}
 use Rattle.boxes.specs.Rows.{key_of}
 use Rattle.dropoffice.proofs.Judging.{same_credential, asked_none, asked_some, refuses_unknown, refuses_revoked}

@@ -1,8 +1,5 @@
-use Rattle.std.proofs.Common.{◌≡◌, ◌∙◌, List, ℕ, [], false, map, take, sym, ap, subst, refl}
-use Rattle.sigtext.specs.Request.{Request}
+use Rattle.std.proofs.Common.{map, take, sym}
 use Rattle.sigtext.specs.Fields.{header_of}
-use Rattle.wire.specs.Framing.{headers_of, request_of}
-use Rattle.dropoffice.specs.Streams.{IsMessage}
 use Rattle.dropoffice.proofs.Texts.{clash}
 use Rattle.dropoffice.proofs.Fronts.{coded_bytes, measured_bytes, same_request, read_request, read_message, unserved_bytes, served_bytes}
 use Rattle.dropoffice.proofs.serving.Office.serve_bytes.Goals as goal

@@ -1,8 +1,5 @@
-use Rattle.std.proofs.Common.{◌≡◌, ◌≢◌, ◌∙◌, ◌<◌, List, ℕ, length, take, sym, ap, subst, arith, refl, true, false}
+use Rattle.std.proofs.Common.{◌≡◌, length, take, sym, ap, subst, arith, refl}
 use Rattle.std.proofs.lemmas.List.{length-take-le}
-use Rattle.dropoffice.specs.declared.handling.Handled.TheVariants as handled
-use Rattle.dropoffice.specs.Handling.{Handles}
-use Rattle.dropoffice.specs.Streams.{IsMessage}
 use Rattle.dropoffice.proofs.SessionEnds.{ends, ends_by_fault, fails_untouched, gives_up, breaks, too_long, unserved_failed, unserved_ended}
 use Rattle.dropoffice.proofs.serving.Office.session.Goals as goal
 use Rattle.dropoffice.proofs.serving.Office.session.Goals.{else-failed-via-then-failed+else-not-holds_head, else-failed-via-else-failed}
