@@ -1,13 +1,27 @@
-//! `drop`: the program's words and streams are handed to the office.
-#![tactic(auto)]
-
+//! `drop`: hands the program's words and streams to the office.
 use dropoffice::perform;
+use std::env;
+use std::io;
+use std::io::ErrorKind;
 use std::process::ExitCode;
-use std::{env, io};
 
-fn main(rt: HostRuntime) -> io::Result<ExitCode> {
-    let words: Vec<String> = env::args(&rt)?.collect(rt.alloc())?;
+fn perform_words(rt: &HostRuntime) -> io::Result<u8> {
+    let words: Vec<String> = env::args(rt)?.collect(rt.alloc())?;
     let words: Vec<&str> = words.iter().map(|word| word.as_str()).collect(rt.alloc())?;
-    let status = perform(&rt, &words, rt.stdin(), rt.stdout(), rt.stderr());
-    Ok(ExitCode::from(status))
+    Ok(perform(rt, &words, rt.stdin(), rt.stdout(), rt.stderr()))
+}
+
+fn main(rt: HostRuntime) -> ExitCode {
+    match perform_words(&rt) {
+        Ok(status) => ExitCode::from(status),
+        Err(error) => {
+            let fault = match error.kind() {
+                ErrorKind::OutOfMemory => "out of memory",
+                _ => "the words are not text",
+            };
+            // Where standard error fails too, the status alone tells.
+            let _ = eprintln!(rt; "drop: {fault}");
+            ExitCode::FAILURE
+        }
+    }
 }

@@ -9,7 +9,7 @@ use Rattle.boxes.specs.State.{State}
 use Rattle.wire.specs.declared.counted.Counted.{Counted}
 use Rattle.dropoffice.specs.declared.session.SessionEnd.{SessionEnd}
 use Rattle.dropoffice.specs.declared.session.SessionEnd.TheVariants.{Unserved}
-use Rattle.dropoffice.specs.Connections.{Told, IsStream, Serves, AreServed, is_fault, Runs}
+use Rattle.dropoffice.specs.Connections.{Told, IsStream, Serves, HasRisen, AreServed, is_fault, Runs}
 use Rattle.dropoffice.specs.Served.{IsServed, HasNoBox, AreAllServed}
 use Rattle.dropoffice.specs.Sessions.{Session, Connection, Run, most_messages}
 use Rattle.dropoffice.proofs.Kept.{session_keeps}
@@ -21,14 +21,14 @@ told_more gives c d e [] more t u = subst (λ x. Told gives x more e) (sym t) u
 told_more gives c d e (m ∷ moments) more t u = (t.0, t.1, told_more gives t.0 d e moments more t.2 u)
 
 served_more : {R W : Type 0} (remaining : R → Option (List ℕ)) (contents : W → Option (List ℕ)) (old new : Counted R × Counted W) (c : Connection) (olds news : List (Counted R × Counted W)) (cs : List Connection)
-    → AreServed remaining contents olds news cs → IsStream c.end (remaining old.0.inner) (remaining new.0.inner) c.stream → Appends (contents old.1.inner) (contents new.1.inner) c.answers
+    → AreServed remaining contents olds news cs → IsStream c.end (remaining old.0.inner) (remaining new.0.inner) c.stream → Appends (contents old.1.inner) (contents new.1.inner) c.answers → HasRisen c.end old new
     → AreServed remaining contents (olds ++ old ∷ []) (news ++ new ∷ []) (cs ++ c ∷ [])
-served_more remaining contents old new c [] [] [] h read written = (read, written, tt)
-served_more remaining contents old new c [] [] (d ∷ cs) h read written = absurd h
-served_more remaining contents old new c [] (y ∷ news) cs h read written = absurd h
-served_more remaining contents old new c (x ∷ olds) [] cs h read written = absurd h
-served_more remaining contents old new c (x ∷ olds) (y ∷ news) [] h read written = absurd h
-served_more remaining contents old new c (x ∷ olds) (y ∷ news) (d ∷ cs) h read written = (h.0, h.1, served_more remaining contents old new c olds news cs h.2 read written)
+served_more remaining contents old new c [] [] [] h read written risen = (read, written, risen, tt)
+served_more remaining contents old new c [] [] (d ∷ cs) h read written risen = absurd h
+served_more remaining contents old new c [] (y ∷ news) cs h read written risen = absurd h
+served_more remaining contents old new c (x ∷ olds) [] cs h read written risen = absurd h
+served_more remaining contents old new c (x ∷ olds) (y ∷ news) [] h read written risen = absurd h
+served_more remaining contents old new c (x ∷ olds) (y ∷ news) (d ∷ cs) h read written risen = (h.0, h.1, h.2, served_more remaining contents old new c olds news cs h.3 read written risen)
 
 run_more : (s mid after : State) (c : Connection) (cs : List Connection) (moments more : List ℕ) → Run s cs moments mid → Session most_messages c.stream mid more c.answers c.end after
     → Run s (cs ++ c ∷ []) (moments ++ more) after
@@ -44,15 +44,15 @@ count_more cs c =
 
 runs_more : {C R W : Type 0} (gives : C → ℕ → C → Type 0) (remaining : R → Option (List ℕ)) (contents : W → Option (List ℕ)) (first clock clock' : C) (olds news : List (Counted R × Counted W)) (old new : Counted R × Counted W)
     (s mid after : State) (faults faults' : ℕ) (e : SessionEnd) → Runs gives remaining contents first clock olds news s mid faults
-    → Serves gives (remaining old.0.inner) (remaining new.0.inner) (contents old.1.inner) (contents new.1.inner) clock clock' mid after e → faults' ≡ faults + cond (is_fault e) 1 0
+    → Serves gives (remaining old.0.inner) (remaining new.0.inner) (contents old.1.inner) (contents new.1.inner) clock clock' mid after e → HasRisen e old new → faults' ≡ faults + cond (is_fault e) 1 0
     → Runs gives remaining contents first clock' (olds ++ old ∷ []) (news ++ new ∷ []) s after faults'
-runs_more gives remaining contents first clock clock' olds news old new s mid after faults faults' e r served counted =
+runs_more gives remaining contents first clock clock' olds news old new s mid after faults faults' e r served risen counted =
     let c : Connection = record { stream = served.stream; answers = served.answers; end = e } in
     record {
       connections = r.connections ++ c ∷ [];
       moments = r.moments ++ served.moments;
       told = told_more gives first clock clock' r.moments served.moments r.told served.told;
-      served = served_more remaining contents old new c olds news r.connections r.served served.read served.written;
+      served = served_more remaining contents old new c olds news r.connections r.served served.read served.written risen;
       run = run_more s mid after c r.connections r.moments served.moments r.run served.session;
       faulty = counted ∙ ap (λ n. n + cond (is_fault e) 1 0) r.faulty ∙ sym (count_more r.connections c);
     }
@@ -115,16 +115,16 @@ pub goes_on : {C R W : Type 0} (means means' : State → Type 0) (gives : C → 
     → ((mid : State) → means mid → HasNoBox mid → (e ≢ Unserved)
     → (after : State) × means' after × Serves gives (remaining (get_or now i d).0.inner) (remaining new.0.inner) (contents (get_or now i d).1.inner) (contents new.1.inner) clock clock' mid after e)
     → (e ≡ Unserved → (stream : List ℕ) → remaining (get_or now i d).0.inner ≡ Some stream → IsServed stream → ⊥)
-    → faults' ≡ faults + cond (is_fault e) 1 0
+    → HasRisen e (get_or now i d) new → faults' ≡ faults + cond (is_fault e) 1 0
     → SoFar means gives remaining contents first clock old now i s faults → SoFar means' gives remaining contents first clock' old (set now i new) (i + 1) s faults'
-goes_on means means' gives remaining contents first clock clock' old now i s faults faults' d new e lt lt' rest all serves unserved counted f =
+goes_on means means' gives remaining contents first clock clock' old now i s faults faults' d new e lt lt' rest all serves unserved risen counted f =
     let item = get_or now i d in
     let first_is : item ≡ get_or old i d = (as_at_first old now i d lt lt' rest).0 in
     let stream = stream_at remaining old i d lt all in
     let known : remaining item.0.inner ≡ Some stream.0 = ap (λ c. remaining c.0.inner) first_is ∙ stream.1 in
     let h = serves f.state f.same f.none (λ no. unserved no stream.0 known stream.2) in
     let kept = session_keeps most_messages h.2.stream f.state h.2.moments h.2.answers e h.0 f.none h.2.session in
-    let more = runs_more gives remaining contents first clock clock' (take i old) (take i now) item new s f.state h.0 faults faults' e f.runs h.2 counted in
+    let more = runs_more gives remaining contents first clock clock' (take i old) (take i now) item new s f.state h.0 faults faults' e f.runs h.2 risen counted in
     let before : take (i + 1) old ≡ take i old ++ item ∷ [] = take_one_more old i d lt ∙ ap (λ c. take i old ++ c ∷ []) (sym first_is) in
     record {
       state = h.0;

@@ -1,6 +1,7 @@
 -- What a session says of its reader, its writer and its clock.
 use Rattle.std.specs.Prelude.{◌≡◌, ℕ, List, [], ◌∷◌, Bool, true, false, count_by, Option, Some, None, ⊤}
 use Rattle.std.specs.Io.KnownBytes.{Appends, Consumes}
+use Rattle.sigtext.specs.Counts.{Rose}
 use Rattle.boxes.specs.State.{State}
 use Rattle.wire.specs.declared.counted.Counted.{Counted}
 use Rattle.dropoffice.specs.declared.session.SessionEnd.{SessionEnd}
@@ -38,12 +39,17 @@ pub record Serves {C : Type 0} (gives : C → ℕ → C → Type 0) (input input
   pub written : Appends output output' answers
   pub session : Session most_messages stream s moments answers e after
 
--- each connection of the list as it was served: what its reader gave, and what its writer was given
+-- an end by a fault comes only where the count of that reader or writer rose
+abbrev pub HasRisen : {R W : Type 0} → SessionEnd → Counted R × Counted W → Counted R × Counted W → Type 0
+HasRisen e old new = (e ≡ ReadFault → Rose old.0.faults new.0.faults) × (e ≡ WriteFault → Rose old.1.faults new.1.faults)
+
+-- each connection of the list as it was served: what its reader gave, what its writer was given, and that an
+-- end by a fault was one
 abbrev pub AreServed : {R W : Type 0} → (R → Option (List ℕ)) → (W → Option (List ℕ)) → List (Counted R × Counted W) → List (Counted R × Counted W) → List Connection → Type 0
 AreServed remaining contents [] [] [] = ⊤
 AreServed remaining contents (old ∷ olds) (new ∷ news) (c ∷ cs) =
     IsStream c.end (remaining old.0.inner) (remaining new.0.inner) c.stream × Appends (contents old.1.inner) (contents new.1.inner) c.answers
-    × AreServed remaining contents olds news cs
+    × HasRisen c.end old new × AreServed remaining contents olds news cs
 AreServed remaining contents olds news cs = ⊥
 
 -- the connection ended by a read or a write that failed

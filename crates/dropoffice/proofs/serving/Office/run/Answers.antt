@@ -28,7 +28,7 @@ connections-preserved g c =
       λ s means honest none all.
           goes_on (g.K.Keeper.means c.connections.self.keeper) (g.K.Keeper.means c.session-end.new.self.keeper) g.C.Clock.now_gives g.R.Read.remaining g.W.Write.contents c.args.clock.now c.connections.clock c.session-end.new.clock
           old now i s c.connections.faulty c.if-is_fault.faulty c.connection-item.result (c.session-end.new.reader, c.session-end.new.writer) c.session-end.result
-          lt lt' c.connections.invariant.2 all (λ mid same no_box. c.session-end.ensures.serves mid same honest no_box) c.session-end.ensures.unserved counted
+          lt lt' c.connections.invariant.2 all (λ mid same no_box. c.session-end.ensures.serves mid same honest no_box) c.session-end.ensures.unserved (c.session-end.ensures.read_fault, c.session-end.ensures.write_fault) counted
           (c.connections.invariant.0 s means (c.session-end.ensures.honest honest) none all),
       λ honest. c.connections.invariant.1 (c.session-end.ensures.honest honest),
       others_stay old now i c.connection-item.result (c.session-end.new.reader, c.session-end.new.writer) lt lt' c.connections.invariant.2,
