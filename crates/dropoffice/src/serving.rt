@@ -117,7 +117,7 @@ fn judge(
 }
 
 impl<K: Keeper> Office<K> {
-    ghost use Rattle.std.specs.Prelude.{◌≡◌, ◌≢◌, ◌⊎◌, ℕ, List, Some, None, IfSome, IfNone, IfOk};
+    ghost use Rattle.std.specs.Prelude.{◌≡◌, ◌≢◌, ◌⊎◌, ◌≤◌, ℕ, List, Some, None, IfSome, IfNone, IfOk};
     ghost use Rattle.sigtext.specs.Counts.{Rose};
     ghost use Rattle.sigtext.specs.Request.{Request};
     ghost use Rattle.sigtext.specs.Rules.{IsFirstToFail};
@@ -149,6 +149,7 @@ impl<K: Keeper> Office<K> {
         ensures same { (s : State) → K.means self.old.keeper s → K.means self.new.keeper s }
         ensures honest { K.is_honest self.new.keeper → K.is_honest self.old.keeper }
         ensures counted { (result ≢ Refusal.TryAgain) → K.faults self.new.keeper ≡ K.faults self.old.keeper }
+        ensures never_less { K.faults self.old.keeper ≤ K.faults self.new.keeper }
     {
         let Ok(scope) = Scope::read(link.credential.as_slice(), link.date) else {
             unreachable!()
@@ -173,6 +174,7 @@ impl<K: Keeper> Office<K> {
         ensures same { (s : State) → K.means self.old.keeper s → K.means self.new.keeper s }
         ensures honest { K.is_honest self.new.keeper → K.is_honest self.old.keeper }
         ensures counted { (result ≢ try_again) → K.faults self.new.keeper ≡ K.faults self.old.keeper }
+        ensures never_less { K.faults self.old.keeper ≤ K.faults self.new.keeper }
     {
         refused(self.refusal_of(link, now))
     }
@@ -185,6 +187,7 @@ impl<K: Keeper> Office<K> {
             → IsAnswered (K.means self.new.keeper) s (request_in message.now) now a) }
         ensures again { (result ≡ Some try_again) → (s : State) → K.means self.old.keeper s → K.means self.new.keeper s }
         ensures counted { (result ≢ Some try_again) → K.faults self.new.keeper ≡ K.faults self.old.keeper }
+        ensures never_less { K.faults self.old.keeper ≤ K.faults self.new.keeper }
         ensures served { IfSome result (λ a. (a ≢ try_again) → (p : Parts) × IsServedAs (request_in message.now) p) }
         ensures unserved { IfNone result ((p : Parts) → IsServedAs (request_in message.now) p → ⊥) }
         ensures untouched { IfNone result (self.new ≡ self.old) }
@@ -213,6 +216,7 @@ impl<K: Keeper> Office<K> {
         ensures honest { K.is_honest self.new.keeper → K.is_honest self.old.keeper }
         ensures fault { result ≡ Handled.Broken → Rose writer.old.faults writer.new.faults }
         ensures counted { (result ≢ Handled.GaveUp) → (result ≢ Handled.Broken) → K.faults self.new.keeper ≡ K.faults self.old.keeper }
+        ensures never_less { K.faults self.old.keeper ≤ K.faults self.new.keeper }
     {
         match PlainLink::read(self.alloc, message) {
             Ok(Some(link)) => {
@@ -241,6 +245,7 @@ impl<K: Keeper> Office<K> {
         ensures honest { K.is_honest self.new.keeper → K.is_honest self.old.keeper }
         ensures fault { result ≡ Handled.Broken → Rose writer.old.faults writer.new.faults }
         ensures counted { (result ≢ Handled.GaveUp) → (result ≢ Handled.Broken) → K.faults self.new.keeper ≡ K.faults self.old.keeper }
+        ensures never_less { K.faults self.old.keeper ≤ K.faults self.new.keeper }
     {
         if !is_one_front(bytes) {
             return Handled::Unserved;
@@ -290,6 +295,7 @@ impl<K: Keeper> Office<K> {
         ensures read_fault { result ≡ SessionEnd.ReadFault → Rose reader.old.faults reader.new.faults }
         ensures write_fault { result ≡ SessionEnd.WriteFault → Rose writer.old.faults writer.new.faults }
         ensures counted { (result ≢ SessionEnd.Refused 40) → (result ≢ SessionEnd.WriteFault) → K.faults self.new.keeper ≡ K.faults self.old.keeper }
+        ensures never_less { K.faults self.old.keeper ≤ K.faults self.new.keeper }
     {
         let mut buffer = [0; BUFFER];
         let filled = fill(reader, &mut buffer);

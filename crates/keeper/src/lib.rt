@@ -1,7 +1,7 @@
 //! What keeps an office: the trait that every keeper meets.
 #![tactic(auto)]
 
-ghost use Rattle.std.specs.Prelude.{◌≡◌, ℕ, IfOk, option_map};
+ghost use Rattle.std.specs.Prelude.{◌≡◌, ◌≢◌, ℕ, IfOk, IfErr, option_map};
 ghost use Rattle.std.specs.FinMap.{get};
 ghost use Rattle.sigtext.specs.Counts.{CountsErrors};
 ghost use Rattle.boxes.specs.State.{State};
@@ -35,11 +35,12 @@ pub trait Keeper {
     /// How many calls failed.
     ghost faults: { Self → ℕ };
 
-    /// The key of this id, if there is one.
+    /// The key of this id, if there is one. The office is never too full to say.
     fn key(&mut self, id: &[u8]) -> Result<Option<KeyRow>, KeepFault>
         ensures value { (s : State) → means self.old s → is_honest self.new
             → IfOk result (λ k. option_map key_of k ≡ get s.keys id.now) }
         ensures same { (s : State) → means self.old s → means self.new s }
         ensures honest { is_honest self.new → is_honest self.old }
-        ensures count { CountsErrors (faults self.old) (faults self.new) result };
+        ensures count { CountsErrors (faults self.old) (faults self.new) result }
+        ensures fault { IfErr result (λ f. f ≢ KeepFault.Full) };
 }
