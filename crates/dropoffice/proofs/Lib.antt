@@ -22,3 +22,4 @@ pub mod FullRows
 pub mod TaskExamples
 pub mod TaskNames
 pub mod TaskValues
+mod Admission
