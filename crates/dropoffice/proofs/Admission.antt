@@ -1,14 +1,14 @@
 -- A link is admitted exactly where some parts hold every rule up to number 23.
-use Rattle.std.proofs.Common.{◌≡◌, ℕ, ◌≤◌, Option, Some, None, inl, inr, refl, sym, subst, arith}
-use Rattle.std.specs.Prelude.{⊤, ◌⊎◌, IsFalse, IsSome, IfSome}
+use Rattle.std.proofs.Common.{◌≡◌, ℕ, ◌≤◌, Option, Some, None, inr, refl, sym, subst, arith}
+use Rattle.std.specs.Prelude.{⊤, IsFalse, IsSome, IfSome}
 use Rattle.sigtext.specs.declared.refusal.Refusal.{Refusal}
 use Rattle.sigtext.specs.declared.refusal.Refusal.TheVariants as rule
 use Rattle.sigtext.specs.Refusals.{number_of}
 use Rattle.sigtext.specs.Request.{Request}
 use Rattle.links.specs.WellFormed.{Parts, HeadRule}
-use Rattle.links.specs.Admits.{KnownKey, LinkRule, IsSignedBy, Admits}
+use Rattle.links.specs.Admits.{LinkRule, IsSignedBy, Admits}
 use Rattle.boxes.specs.State.{State}
-use Rattle.boxes.specs.Rules.{Stands, UploadRule, FetchRule}
+use Rattle.boxes.specs.Rules.{UploadRule, FetchRule}
 use Rattle.dropoffice.specs.Rules.{IsPut, IsPost, IsFetch, place_of, known, upload_of, FormRule, DeskRule, Rule}
 
 any : {X : Type 0} (o : Option X) → IfSome o (λ x. ⊤)
@@ -102,9 +102,12 @@ link_rule s r now a rule.CommandNotPossible = tt
 link_rule s r now a rule.TryAgain = tt
 
 pub admitted_hold : (s : State) (r : Request) (now : ℕ) → Admits (known s) r now → (p : Parts) × ((q : Refusal) → number_of q ≤ 23 → Rule s r now q p)
-admitted_hold s r now a = (a.parts, λ q le.
-    let rest = later s r now a.parts q le in
-    record { head = a.well_formed q; link = link_rule s r now a q; form = rest.form; put = rest.put; fetch = rest.fetch; post = rest.post })
+admitted_hold s r now a = (
+  a.parts,
+  λ q le.
+      let rest = later s r now a.parts q le in
+      record { head = a.well_formed q; link = link_rule s r now a q; form = rest.form; put = rest.put; fetch = rest.fetch; post = rest.post },
+)
 
 head_rule : (s : State) (r : Request) (now : ℕ) (p : Parts) → ((q : Refusal) → number_of q ≤ 23 → Rule s r now q p) → (q : Refusal) → HeadRule q r p
 head_rule s r now p hold rule.HeadMalformed = tt

@@ -23,3 +23,4 @@ pub mod TaskExamples
 pub mod TaskNames
 pub mod TaskValues
 mod Admission
+mod SoundOffice
