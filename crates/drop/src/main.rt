@@ -1,9 +1,10 @@
 //! `drop`: hands the program's words and streams to the office.
+#![tactic(auto)]
+
 use dropoffice::perform;
-use std::env;
-use std::io;
 use std::io::ErrorKind;
 use std::process::ExitCode;
+use std::{env, io};
 
 fn perform_words(rt: &HostRuntime) -> io::Result<u8> {
     let words: Vec<String> = env::args(rt)?.collect(rt.alloc())?;

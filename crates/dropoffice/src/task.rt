@@ -74,7 +74,7 @@ fn command_line<'a>(alloc: Global) -> Result<Command<'a>, AllocError>
     ensures { IfOk result (λ c. app_of c ≡ drop_app) }
 {
     Command::new(alloc, "drop")
-        .about("A file drop that offices trust")
+        .about("Takes and hands out an office's files by signed links")
         .subcommand_required(true)
         .arg_required_else_help(true)
         .subcommand(replay_command(alloc)?)
@@ -86,7 +86,7 @@ fn replay_command<'a>(alloc: Global) -> Result<Command<'a>, AllocError>
     ensures local { IfOk result (λ c. (out-Command c).has_globals ≡ false) }
 {
     Command::new(alloc, "replay")
-        .about("Answers one recorded connection and writes the answers to standard output")
+        .about("Answers one recorded request and prints the answer")
         .arg(file_argument(alloc))?
         .arg(stream_argument(alloc))?
         .arg(at_option(alloc))
@@ -99,9 +99,7 @@ fn file_argument<'a>(alloc: Global) -> Arg<'a>
     Arg::new(alloc, "file")
         .value_name("FILE")
         .required(true)
-        .help(
-            "The office. memory:ID/SECRET is a fresh office in memory: it has no boxes, and one clerk, with this key",
-        )
+        .help("The office. memory:ID/SECRET makes an empty one for this run, with one clerk's key")
 }
 
 fn stream_argument<'a>(alloc: Global) -> Arg<'a>
@@ -111,7 +109,7 @@ fn stream_argument<'a>(alloc: Global) -> Arg<'a>
     Arg::new(alloc, "stream")
         .value_name("STREAM")
         .required(true)
-        .help("The file that holds the bytes of the connection, as they came in")
+        .help("The file with the bytes that the caller sent")
 }
 
 fn at_option<'a>(alloc: Global) -> Arg<'a>
@@ -122,7 +120,7 @@ fn at_option<'a>(alloc: Global) -> Arg<'a>
         .long("at")
         .value_name("MOMENT")
         .required(true)
-        .help("The moment at which the requests are answered, in UTC, as 20130524T000000Z")
+        .help("The time to answer at, in UTC: 20130524T000000Z is 24 May 2013, 00:00:00")
 }
 
 #[cfg(test)]

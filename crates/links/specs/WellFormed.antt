@@ -53,7 +53,7 @@ pub record IsFitValue (value : List ℕ) : Type 0 where
   pub plain : IsTrue (list_all (λ b. nat_le 0x20 b && nat_le b 0x7E) value)
   pub single : (a b : List ℕ) → value ≢ a ++ 32 ∷ 32 ∷ b
 
--- a field whose lower-case name begins with `x-amz-` is signed
+-- fields with the `x-amz-` prefix, in any case, are signed
 abbrev pub is_covered : List Header → Header → Bool
 is_covered signed h =
     not (begins_with (lower_case h.name) (codes "x-amz-")) || list_any (λ s. same_bytes s.name (lower_case h.name)) signed

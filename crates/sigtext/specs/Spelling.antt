@@ -15,7 +15,7 @@ pub data SpellsByte (barred : List ℕ) : List ℕ → ℕ → Type 0 where
   escaped : (high low : ℕ) → IsTrue (is_digit high 16) → IsTrue (is_digit low 16)
       → SpellsByte barred (37 ∷ high ∷ low ∷ []) (16 * digit_value high + digit_value low)
 
--- the text joins one spelling for each byte, in order
+-- the bytes' spellings, one after another, are the text
 abbrev pub Spells : List ℕ → List ℕ → List ℕ → Type 0
 Spells barred text [] = text ≡ []
 Spells barred text (b ∷ bytes) =

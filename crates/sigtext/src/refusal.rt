@@ -3,9 +3,9 @@
 /// Why a message is refused. Each variant is the rule that failed.
 #[derive(Clone, Copy, Debug, PartialEq, Eq)]
 pub enum Refusal {
-    /// The bytes through the first CR LF CR LF are not, as a whole, one request head with at most 64 fields.
+    /// The head, cut at its first CR LF CR LF, has another form, or more than 64 fields.
     HeadMalformed,
-    /// No CR LF CR LF ends within the first 8192 bytes of the message.
+    /// The head does not end in 8192 bytes.
     HeadTooLong,
     /// A Transfer-Encoding field is there.
     TransferCoding,
@@ -49,11 +49,11 @@ pub enum Refusal {
     NotYetValid,
     /// The moment is at or past the link's end.
     Expired,
-    /// A POST with a key whose role is not `clerk`.
+    /// A POST by a key that is no clerk's.
     RoleNotAllowed,
     /// A PUT without Content-Length.
     LengthMissing,
-    /// A GET, HEAD or POST with a body of one byte or more.
+    /// Bytes follow a head whose method is not PUT.
     BodyNotTaken,
     /// The box is not there.
     NoSuchBox,

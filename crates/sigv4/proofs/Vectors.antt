@@ -1,4 +1,4 @@
--- The definitions at published values: FIPS 180-4's examples, RFC 4231's test cases, and the example of the Amazon S3 API
+-- The definitions at published values: NIST's example values for SHA-256, RFC 4231's test cases, and the example of the Amazon S3 API
 -- Reference, "Authenticating Requests: Using Query Parameters". A wrong digit anywhere does not check.
 use Rattle.std.proofs.Common.{◌≡◌, ℕ, List, [], codes, replicate, refl, lit≤, lit<, arith}
 use Rattle.std.proofs.lemmas.Int.{ints}
@@ -14,7 +14,7 @@ pub nothing : encode_lower (sha256 []) ≡ codes "e3b0c44298fc1c149afbf4c8996fb9
 unfolding first_words schedule rounds compress hash_after digest_bytes sha256 encode_with
 nothing = refl
 
--- FIPS 180-4's one-block example
+-- NIST's one-block example
 pub abc : encode_lower (sha256 (codes "abc")) ≡ codes "ba7816bf8f01cfea414140de5dae2223b00361a396177a9cb410ff61f20015ad"
 unfolding first_words schedule rounds compress hash_after digest_bytes sha256 encode_with
 abc = refl

@@ -141,7 +141,11 @@ fn help_goes_to_standard_output(rt: HostRuntime) -> Result<(), Fail> {
     let mut err = Sink::new(rt.alloc(), 7, 4096);
     let status = perform(&rt, &["drop", "--help"], io::empty(), &mut out, &mut err);
     assert!(rt; status == 0 && err.text.is_empty());
-    assert!(rt; out.text.starts_with(b"A file drop that offices trust\n\nUsage: drop <COMMAND>\n"));
+    assert!(rt;
+        out.text.starts_with(
+            b"Takes and hands out an office's files by signed links\n\nUsage: drop <COMMAND>\n"
+        )
+    );
     assert!(rt;
         gives(
             &rt,
