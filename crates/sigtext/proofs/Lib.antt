@@ -8,3 +8,5 @@ pub mod Ascending
 pub mod Uniqueness
 pub mod PlainTexts
 pub mod Decoding
+pub mod Pieces
+pub mod Targets

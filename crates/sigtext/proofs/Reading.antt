@@ -1,5 +1,5 @@
 -- Decoding a target byte by byte, as a function: it inverts the relations of `Spelling` and `Target`.
-use Rattle.std.specs.Prelude.{ℕ, ◌+◌, ◌*◌, ◌==◌, ◌&&◌, nat_le, Bool, slice_index, List, [], ◌∷◌, length, Option, Some, None, option_map, unwrap_or, if◌then◌else◌}
+use Rattle.std.specs.Prelude.{ℕ, ◌+◌, ◌*◌, ◌==◌, List, [], ◌∷◌, Option, Some, None, option_map, unwrap_or, if◌then◌else◌}
 use Rattle.std.specs.List.{slice_split}
 use Rattle.std.specs.Char.{digit_value}
 use Rattle.percent_encoding.specs.Percent.{is_escape}
@@ -29,11 +29,6 @@ spelled barred (b ∷ high ∷ low ∷ rest) =
 unfoldable pub cut : ℕ → List ℕ → Option (List ℕ × List ℕ)
 cut c [] = None
 cut c (x ∷ xs) = if x == c then Some ([], xs) else option_map (λ p. (x ∷ p.0, p.1)) (cut c xs)
-
--- whether the text begins with `%` and two hexadecimal digits
-abbrev pub begins_escape : List ℕ → Bool
-begins_escape text =
-    nat_le 3 (length text) && is_escape (slice_index text 0) (slice_index text 1) (slice_index text 2)
 
 -- the raw name and value of a piece of the query
 unfoldable pub raw_param : List ℕ → List ℕ × List ℕ

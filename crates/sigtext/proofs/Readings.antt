@@ -48,10 +48,10 @@ path_question = record { raw_other = λ x h. grind (arith, nat_tests); percent_o
 some_is : (x y : List ℕ) → Some x ≡ Some y → x ≡ y
 some_is x y e = cc
 
-some_list : (x y : List Param) → Some x ≡ Some y → x ≡ y
+pub some_list : (x y : List Param) → Some x ≡ Some y → x ≡ y
 some_list x y e = cc
 
-bound : {A B : Type 0} (o : Option A) (f : A → Option B) (y : B) → (o >>= f) ≡ Some y → (x : A) × (o ≡ Some x) × (f x ≡ Some y)
+pub bound : {A B : Type 0} (o : Option A) (f : A → Option B) (y : B) → (o >>= f) ≡ Some y → (x : A) × (o ≡ Some x) × (f x ≡ Some y)
 bound None f y e = absurd cc
 bound (Some x) f y e = (x, refl, e)
 
@@ -68,7 +68,7 @@ named_from p h = by p.name p.value h
     by [] value h = absurd (omega arith)
     by (b ∷ name) value h = refl
 
-parts_of : (r : List ℕ × List ℕ) (p : Param) → spelled_param r ≡ Some p → (0 < length p.name) × Spells (38 ∷ 61 ∷ []) r.0 p.name × Spells (38 ∷ []) r.1 p.value
+pub parts_of : (r : List ℕ × List ℕ) (p : Param) → spelled_param r ≡ Some p → (0 < length p.name) × Spells (38 ∷ 61 ∷ []) r.0 p.name × Spells (38 ∷ []) r.1 p.value
 parts_of r p e =
     let n = bound (spelled (38 ∷ 61 ∷ []) r.0) (λ name. spelled (38 ∷ []) r.1 >>= λ value. named_param name value) p e in
     let v = bound (spelled (38 ∷ []) r.1) (λ value. named_param n.0 value) p n.2 in

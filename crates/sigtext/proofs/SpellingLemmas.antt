@@ -6,10 +6,11 @@ use Rattle.std.proofs.lemmas.Bool.{cond-true, cond-false, le-leb}
 use Rattle.std.proofs.lemmas.Bool.Decides.{nat_tests}
 use Rattle.percent_encoding.specs.Percent.{is_escape}
 use Rattle.sigtext.specs.Spelling.{may_stand, SpellsByte, raw, escaped, Spells}
-use Rattle.sigtext.proofs.Reading.{stand, spelled, begins_escape}
+use Rattle.sigtext.specs.Targets.{begins_with_escape}
+use Rattle.sigtext.proofs.Reading.{stand, spelled}
 
 -- a byte that may stand is no `%`
-no_escape : (barred : List ℕ) (b high low : ℕ) → may_stand barred b ≡ true → is_escape b high low ≡ false
+pub no_escape : (barred : List ℕ) (b high low : ℕ) → may_stand barred b ≡ true → is_escape b high low ≡ false
 no_escape barred b high low h = grind (arith, nat_tests)
 
 pub spelled_raw : (barred : List ℕ) (b : ℕ) (rest : List ℕ) → may_stand barred b ≡ true → spelled barred (b ∷ rest) ≡ option_map (λ bytes. b ∷ bytes) (spelled barred rest)
@@ -85,12 +86,12 @@ mapped_is_some : {A B : Type 0} (f : A → B) (o : Option A) → is_some (option
 mapped_is_some f None = refl
 mapped_is_some f (Some x) = refl
 
-begins_at : (b high low : ℕ) (rest : List ℕ) → begins_escape (b ∷ high ∷ low ∷ rest) ≡ is_escape b high low
+begins_at : (b high low : ℕ) (rest : List ℕ) → begins_with_escape (b ∷ high ∷ low ∷ rest) ≡ is_escape b high low
 begins_at b high low rest =
     let long : leb 3 (length (b ∷ high ∷ low ∷ rest)) ≡ true = le-leb 3 (length (b ∷ high ∷ low ∷ rest)) (omega arith) in
     ap (λ t. t && is_escape b high low) long
 
-pub spelled_at_escape : (barred text : List ℕ) → begins_escape text ≡ true → is_some (spelled barred (drop 3 text)) ≡ is_some (spelled barred text)
+pub spelled_at_escape : (barred text : List ℕ) → begins_with_escape text ≡ true → is_some (spelled barred (drop 3 text)) ≡ is_some (spelled barred text)
 unfolding spelled
 spelled_at_escape barred [] e = absurd cc
 spelled_at_escape barred (b ∷ []) e = absurd cc
@@ -98,7 +99,7 @@ spelled_at_escape barred (b ∷ c ∷ []) e = absurd cc
 spelled_at_escape barred (b ∷ high ∷ low ∷ rest) e =
     sym (ap (λ (o : Option (List ℕ)). is_some o) (cond-true _ _ _ (sym (begins_at b high low rest) ∙ e)) ∙ mapped_is_some _ (spelled barred rest))
 
-pub spelled_at_stand : (barred text : List ℕ) → 0 < length text → begins_escape text ≡ false → spelled barred text ≡ stand barred (get_or text 0 0) (spelled barred (drop 1 text))
+pub spelled_at_stand : (barred text : List ℕ) → 0 < length text → begins_with_escape text ≡ false → spelled barred text ≡ stand barred (get_or text 0 0) (spelled barred (drop 1 text))
 unfolding spelled
 spelled_at_stand barred [] long e = absurd (omega arith)
 spelled_at_stand barred (b ∷ []) long e = refl

@@ -10,3 +10,4 @@ pub mod Refusals
 pub mod Rules
 pub mod Counts
 pub mod Fields
+pub mod Targets

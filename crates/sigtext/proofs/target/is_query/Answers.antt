@@ -1,0 +1,9 @@
+use Rattle.std.proofs.Common.{refl}
+use Rattle.sigtext.proofs.Pieces.{goes_on}
+use Rattle.sigtext.proofs.target.is_query.Goals as goal
+
+pub loop-raw-preserved : goal.loop-raw-preserved
+loop-raw-preserved c =
+    let one = goes_on _ _ c.in-Some.raw c.in-Some.ensures.steps (c.if-not-is_param.ensures.0 refl) in
+    let sofar = c.loop-raw.invariant.same in
+    record { can = tt; finite = tt; same = (λ s. sofar.0 (one.0 s), λ s. one.1 (sofar.1 s)) }
