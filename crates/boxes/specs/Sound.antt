@@ -4,7 +4,8 @@ use Rattle.std.specs.List.{AllByRecursion}
 use Rattle.std.specs.Char.{is_ascii_digit, is_ascii_lowercase}
 use Rattle.std.specs.FinMap.{get}
 use Rattle.sigv4.specs.Hmac.{sha256}
-use Rattle.sigv4.specs.Credential.{IsWord, IsKeyId}
+use Rattle.sigtext.specs.Bytes.{IsWord}
+use Rattle.sigv4.specs.Credential.{IsKeyId}
 use Rattle.boxes.specs.declared.rows.Role.TheVariants.{Clerk}
 use Rattle.boxes.specs.State.{Key, NameRule, AnyName, Ends, Begins, Settings, Place, File, Receipt, State}
 use Rattle.boxes.specs.Totals.{used, count}

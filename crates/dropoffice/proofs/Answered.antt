@@ -1,5 +1,5 @@
--- What a refusal of a plain link is answered with.
-use Rattle.std.proofs.Common.{◌≡◌, ◌≢◌, ℕ, false, List, codes, ap, ◌∙◌, sym}
+-- What a refusal is answered with.
+use Rattle.std.proofs.Common.{◌≡◌, ◌≢◌, ℕ, List, codes, ap, ◌∙◌, sym}
 use Rattle.sigtext.specs.declared.refusal.Refusal.{Refusal}
 use Rattle.sigtext.specs.declared.refusal.Refusal.TheVariants as rule
 use Rattle.sigtext.specs.Bytes.{same_bytes}
@@ -14,18 +14,17 @@ use Rattle.dropoffice.specs.Answering.{Answers, refuses, is_head}
 use Rattle.dropoffice.specs.Offices.{try_again}
 use Rattle.dropoffice.specs.Rules.{Rule}
 
-abbrev pub answer_of : Refusal → Answer
-answer_of q = record { reply = reply.Refused q; is_head = false }
+-- the answer of a refusal to a request of this method
+abbrev pub answer_of : Refusal → List ℕ → Answer
+answer_of q method = record { reply = reply.Refused q; is_head = same_bytes method (codes "HEAD") }
 
-pub not_again : (a : Answer) (q : Refusal) → a ≡ answer_of q → (a ≢ try_again) → q ≢ rule.TryAgain
-not_again a q is other again = other (is ∙ ap answer_of again)
+-- where the answer is not refusal 40, nor is the refusal
+pub not_again : (a : Answer) (q : Refusal) → (q ≡ rule.TryAgain → a ≡ try_again) → (a ≢ try_again) → q ≢ rule.TryAgain
+not_again a q again other is = other (again is)
 
-get_is_no_head : (r : Request) → r.method ≡ codes "GET" → is_head r ≡ false
-get_is_no_head r get = ap (λ (m : List ℕ). same_bytes m (codes "HEAD")) get
-
-pub refused_text : (s : State) (r : Request) (now : ℕ) (a : Answer) (q : Refusal) → r.method ≡ codes "GET" → a ≡ answer_of q → IsFirstToFail (Rule s r now) q → Answers s r now (text_of a) s
-refused_text s r now a q get is fails = record {
+pub refused_text : (s : State) (r : Request) (now : ℕ) (a : Answer) (q : Refusal) → a ≡ answer_of q r.method → IsFirstToFail (Rule s r now) q → Answers s r now (text_of a) s
+refused_text s r now a q is fails = record {
   reply = said.Refused q;
   replies = refuses q fails;
-  is = ap text_of is ∙ ap (λ b. said.answer_text b (said.Refused q)) (sym (get_is_no_head r get));
+  is = ap text_of is;
 }

@@ -1,34 +1,60 @@
--- Which rule of a request in the served form is the least that fails.
-use Rattle.std.proofs.Common.{◌≡◌, ℕ, ◌+◌, ◌<◌, ◌≤◌, Bool, true, List, [], ◌∷◌, codes, Option, Some, None, refl, sym, ap, subst, ◌∙◌, inl, arith}
-use Rattle.std.specs.Prelude.{IsFalse, IsSome, IfSome, option_map}
+-- Which rule past number 18 is the least that fails, for a well-formed request without a body.
+use Rattle.std.proofs.Common.{◌≡◌, ◌≢◌, ℕ, ◌+◌, ◌<◌, ◌≤◌, Bool, true, false, List, [], ◌∷◌, codes, Option, Some, None, refl, sym, ap, subst, ◌∙◌, inl, inr, ⊎_elim, arith}
+use Rattle.std.specs.Prelude.{◌⊎◌, IsTrue, IsFalse, IsSome, IfSome, option_map}
+use Rattle.std.proofs.lemmas.Bool.{cases_lt}
 use Rattle.std.specs.FinMap.{get}
 use Rattle.sigtext.specs.declared.refusal.Refusal.{Refusal}
 use Rattle.sigtext.specs.declared.refusal.Refusal.TheVariants as rule
 use Rattle.sigtext.specs.Refusals.{number_of}
 use Rattle.sigtext.specs.Request.{Request}
 use Rattle.sigtext.specs.Rules.{HoldBefore, IsFirstToFail}
-use Rattle.links.specs.WellFormed.{Parts}
+use Rattle.links.specs.WellFormed.{Parts, HeadRule, IsWellFormed}
 use Rattle.links.specs.Admits.{KnownKey, IsSignedBy, LinkRule}
 use Rattle.links.proofs.Parts.{parts_before}
-use Rattle.boxes.specs.State.{Key, Place, State}
-use Rattle.boxes.specs.Rules.{FetchRule}
-use Rattle.dropoffice.specs.Rules.{IsPut, IsPost, known, place_of, FormRule, Rule}
-use Rattle.dropoffice.specs.Served.{IsServedAs, HasNoBox}
+use Rattle.boxes.specs.declared.rows.Role.{Role}
+use Rattle.boxes.specs.declared.rows.Role.TheVariants.{Clerk}
+use Rattle.boxes.specs.State.{Key, State}
+use Rattle.boxes.specs.Rules.{UploadRule, Upload, FetchRule}
+use Rattle.boxes.specs.State.{Place}
+use Rattle.dropoffice.specs.Remaining.{Remains, no_clerk, no_command, no_length, no_box}
+use Rattle.dropoffice.specs.Rules.{IsPut, IsPost, IsFetch, known, place_of, upload_of, FormRule, DeskRule, Rule}
+use Rattle.dropoffice.specs.Served.{IsServedRequest, HasNoBox}
+use Rattle.dropoffice.proofs.Texts.{clash}
+
+-- ---- methods
 
 head_is : (x y : ℕ) (xs ys : List ℕ) → x ∷ xs ≡ y ∷ ys → x ≡ y
 head_is x y xs ys e = cc
 
-no_put : (r : Request) → r.method ≡ codes "GET" → IsPut r → ⊥
-no_put r get put = let e = head_is 71 80 (69 ∷ 84 ∷ []) (85 ∷ 84 ∷ []) (sym get ∙ put) in omega (arith, e)
+second_is : (x y u v : ℕ) (xs ys : List ℕ) → x ∷ u ∷ xs ≡ y ∷ v ∷ ys → u ≡ v
+second_is x y u v xs ys e = cc
 
-no_post : (r : Request) → r.method ≡ codes "GET" → IsPost r → ⊥
-no_post r get post = let e = head_is 71 80 (69 ∷ 84 ∷ []) (79 ∷ 83 ∷ 84 ∷ []) (sym get ∙ post) in omega (arith, e)
+put_no_post : (r : Request) → IsPut r → IsPost r → ⊥
+put_no_post r put post = let e = second_is 80 80 85 79 (84 ∷ []) (83 ∷ 84 ∷ []) (sym put ∙ post) in omega (arith, e)
 
-form_rule : (s : State) (r : Request) (p : Parts) → IsServedAs r p → (q : Refusal) → FormRule q s r p
-form_rule s r p served rule.RoleNotAllowed = λ post. absurd (no_post r served.get post)
-form_rule s r p served rule.LengthMissing = λ put. absurd (no_put r served.get put)
-form_rule s r p served rule.BodyNotTaken = λ other. served.no_body
-form_rule s r p served _ = tt
+fetch_no_put : (r : Request) → IsFetch r → IsPut r → ⊥
+fetch_no_put r (inl get) put = let e = head_is 71 80 (69 ∷ 84 ∷ []) (85 ∷ 84 ∷ []) (sym get ∙ put) in omega (arith, e)
+fetch_no_put r (inr head) put = let e = head_is 72 80 (69 ∷ 65 ∷ 68 ∷ []) (85 ∷ 84 ∷ []) (sym head ∙ put) in omega (arith, e)
+
+fetch_no_post : (r : Request) → IsFetch r → IsPost r → ⊥
+fetch_no_post r (inl get) post = let e = head_is 71 80 (69 ∷ 84 ∷ []) (79 ∷ 83 ∷ 84 ∷ []) (sym get ∙ post) in omega (arith, e)
+fetch_no_post r (inr head) post = let e = head_is 72 80 (69 ∷ 65 ∷ 68 ∷ []) (79 ∷ 83 ∷ 84 ∷ []) (sym head ∙ post) in omega (arith, e)
+
+-- ---- rules of small numbers
+
+upload_rule : (s : State) (u : Upload) (q : Refusal) → number_of q < 27 → UploadRule q s u
+upload_rule s u rule.NoSuchBox lt = absurd (omega arith)
+upload_rule s u rule.NameTooLong lt = absurd (omega arith)
+upload_rule s u rule.NameNotAllowed lt = absurd (omega arith)
+upload_rule s u rule.BoxClosed lt = absurd (omega arith)
+upload_rule s u rule.OtherBytesKept lt = absurd (omega arith)
+upload_rule s u rule.TooManyFiles lt = absurd (omega arith)
+upload_rule s u rule.QuotaPassed lt = absurd (omega arith)
+upload_rule s u _ lt = (tt, inr (any _))
+  where
+    any : {X : Type 0} (o : Option X) → IfSome o (λ x. Unit {0})
+    any None = tt
+    any (Some x) = tt
 
 fetch_rule : (s : State) (place : Place) (q : Refusal) → number_of q < 27 → FetchRule q s place
 fetch_rule s place rule.NoSuchBox lt = absurd (omega arith)
@@ -37,16 +63,12 @@ fetch_rule s place rule.NameNotAllowed lt = absurd (omega arith)
 fetch_rule s place rule.NoSuchFile lt = absurd (omega arith)
 fetch_rule s place _ lt = tt
 
-rules_before : (s : State) (r : Request) (now : ℕ) (p : Parts) (n : Refusal) → number_of n ≤ 27 → IsServedAs r p
-    → ((q : Refusal) → number_of q < number_of n → LinkRule q (known s p.key_id) r now p) → HoldBefore (Rule s r now) n p
-rules_before s r now p n most served link q lt = record {
-  head = served.well_formed q;
-  link = link q lt;
-  form = form_rule s r p served q;
-  put = λ put. absurd (no_put r served.get put);
-  fetch = λ fetch. fetch_rule s (place_of p.path) q (omega arith);
-  post = λ post. absurd (no_post r served.get post);
-}
+desk_rule : (s : State) (p : Parts) (q : Refusal) → number_of q < 35 → DeskRule q s p
+desk_rule s p rule.CommandMalformed lt = absurd (omega arith)
+desk_rule s p rule.CommandNotPossible lt = absurd (omega arith)
+desk_rule s p _ lt = tt
+
+-- ---- the rules before a number
 
 -- the rules of the link before this number
 link_before : (key : Option KnownKey) (r : Request) (now : ℕ) (p : Parts) (n : ℕ) → (19 < n → IsSome key) → (20 < n → IfSome key (λ k. IsFalse k.revoked)) → (21 < n → IfSome key (λ k. IsSignedBy k.secret r p))
@@ -58,13 +80,69 @@ link_before key r now p n there unrevoked signed begun over rule.NotYetValid lt 
 link_before key r now p n there unrevoked signed begun over rule.Expired lt = over lt
 link_before key r now p n there unrevoked signed begun over _ lt = tt
 
+-- the rules of the form before this number
+form_before : (s : State) (r : Request) (p : Parts) (n : ℕ) → IsServedRequest r → (24 < n → IsPost r → IfSome (get s.keys p.key_id) (λ k. k.role ≡ Clerk)) → (25 < n → IsPut r → ⊥)
+    → (q : Refusal) → number_of q < n → FormRule q s r p
+form_before s r p n served clerk no_put rule.RoleNotAllowed lt = clerk lt
+form_before s r p n served clerk no_put rule.LengthMissing lt = λ put. absurd (no_put lt put)
+form_before s r p n served clerk no_put rule.BodyNotTaken lt = λ other. served.no_body
+form_before s r p n served clerk no_put _ lt = tt
+
+rules_before : (s : State) (r : Request) (now : ℕ) (p : Parts) (n : Refusal) → number_of n ≤ 35 → ((q : Refusal) → number_of q < number_of n → HeadRule q r p)
+    → ((q : Refusal) → number_of q < number_of n → LinkRule q (known s p.key_id) r now p) → ((q : Refusal) → number_of q < number_of n → FormRule q s r p)
+    → (27 < number_of n → IsPost r) → HoldBefore (Rule s r now) n p
+rules_before s r now p n most formed link form post q lt = record {
+  head = formed q lt;
+  link = link q lt;
+  form = form q lt;
+  put = λ put. ⊎_elim (λ (small : number_of q < 27). upload_rule s (upload_of r now p) q small) (λ (large : 27 ≤ number_of q). absurd (put_no_post r put (post (omega arith)))) (cases_lt (number_of q) 27);
+  fetch = λ fetch. ⊎_elim (λ (small : number_of q < 27). fetch_rule s (place_of p.path) q small) (λ (large : 27 ≤ number_of q). absurd (fetch_no_post r fetch (post (omega arith)))) (cases_lt (number_of q) 27);
+  post = λ _. desk_rule s p q (omega arith);
+}
+
+-- the same up to number 24, where no rule of the form is asked
+link_rules : (s : State) (r : Request) (now : ℕ) (p : Parts) (n : Refusal) → number_of n ≤ 24 → IsServedRequest r → IsWellFormed r p
+    → ((q : Refusal) → number_of q < number_of n → LinkRule q (known s p.key_id) r now p) → HoldBefore (Rule s r now) n p
+link_rules s r now p n most served formed link =
+    rules_before s r now p n (omega arith) (λ q lt. formed q) link (form_before s r p (number_of n) served (λ lt. absurd (omega arith)) (λ lt. absurd (omega arith))) (λ lt. absurd (omega arith))
+
+-- ---- the rules 7 to 18
+
+head_number : (r : Request) (q : Refusal) → IsFirstToFail (λ x p. HeadRule x r p) q → number_of q ≤ 18
+head_number r rule.Method f = omega arith
+head_number r rule.Target f = omega arith
+head_number r rule.NotSigned f = omega arith
+head_number r rule.Parameters f = omega arith
+head_number r rule.Algorithm f = omega arith
+head_number r rule.Credential f = omega arith
+head_number r rule.Date f = omega arith
+head_number r rule.Expiry f = omega arith
+head_number r rule.SignedHeaders f = omega arith
+head_number r rule.SignatureText f = omega arith
+head_number r rule.SignedValues f = omega arith
+head_number r rule.HeaderNotSigned f = omega arith
+head_number r _ f = absurd (f.fails f.parts f.before tt)
+
+pub head_first : (s : State) (r : Request) (now : ℕ) (q : Refusal) → IsServedRequest r → IsFirstToFail (λ x p. HeadRule x r p) q → IsFirstToFail (Rule s r now) q
+head_first s r now q served f =
+    let most = head_number r q f in
+    record {
+      parts = f.parts;
+      before = rules_before s r now f.parts q (omega arith) f.before
+          (link_before (known s f.parts.key_id) r now f.parts (number_of q) (λ lt. absurd (omega arith)) (λ lt. absurd (omega arith)) (λ lt. absurd (omega arith)) (λ lt. absurd (omega arith)) (λ lt. absurd (omega arith)))
+          (form_before s r f.parts (number_of q) served (λ lt. absurd (omega arith)) (λ lt. absurd (omega arith))) (λ lt. absurd (omega arith));
+      fails = λ other hold bad. f.fails other (λ x lt. (hold x lt).head) bad.head;
+    }
+
 -- parts that hold the rules before the key's are the parts
-same_parts : (s : State) (r : Request) (now : ℕ) (p other : Parts) (n : Refusal) → 19 ≤ number_of n → IsServedAs r p → HoldBefore (Rule s r now) n other → other ≡ p
-same_parts s r now p other n least served hold = parts_before r p other served.well_formed (λ q lt. (hold q (omega arith)).head)
+same_parts : (s : State) (r : Request) (now : ℕ) (p other : Parts) (n : Refusal) → 19 ≤ number_of n → IsWellFormed r p → HoldBefore (Rule s r now) n other → other ≡ p
+same_parts s r now p other n least formed hold = parts_before r p other formed (λ q lt. (hold q (omega arith)).head)
+
+-- ---- the key
 
 none_some : {A : Type 0} (o : Option A) → o ≡ None → IsSome o → ⊥
 none_some None e h = cc
-none_some (Some x) e h = cc
+none_some (Some x) e h = absurd cc
 
 known_none : (s : State) (id : List ℕ) → get s.keys id ≡ None → known s id ≡ None
 known_none s id e = ap (λ (o : Option Key). option_map (λ k. record { secret = k.secret; revoked = k.revoked }) o) e
@@ -72,13 +150,13 @@ known_none s id e = ap (λ (o : Option Key). option_map (λ k. record { secret =
 known_some : (s : State) (id : List ℕ) (k : Key) → get s.keys id ≡ Some k → known s id ≡ Some (record { secret = k.secret; revoked = k.revoked })
 known_some s id k e = ap (λ (o : Option Key). option_map (λ k. record { secret = k.secret; revoked = k.revoked }) o) e
 
-pub key_unknown : (s : State) (r : Request) (now : ℕ) (p : Parts) → IsServedAs r p → get s.keys p.key_id ≡ None → IsFirstToFail (Rule s r now) rule.KeyUnknown
-key_unknown s r now p served none = record {
+pub key_unknown : (s : State) (r : Request) (now : ℕ) (p : Parts) → IsServedRequest r → IsWellFormed r p → get s.keys p.key_id ≡ None → IsFirstToFail (Rule s r now) rule.KeyUnknown
+key_unknown s r now p served formed none = record {
   parts = p;
-  before = rules_before s r now p rule.KeyUnknown (omega arith) served
+  before = link_rules s r now p rule.KeyUnknown (omega arith) served formed
       (link_before (known s p.key_id) r now p 19 (λ lt. absurd (omega arith)) (λ lt. absurd (omega arith)) (λ lt. absurd (omega arith)) (λ lt. absurd (omega arith)) (λ lt. absurd (omega arith)));
   fails = λ other hold bad.
-      let same = same_parts s r now p other rule.KeyUnknown (omega arith) served hold in
+      let same = same_parts s r now p other rule.KeyUnknown (omega arith) formed hold in
       none_some (known s p.key_id) (known_none s p.key_id none) (subst (λ (q : Parts). IsSome (known s q.key_id)) same bad.link);
 }
 
@@ -92,60 +170,105 @@ of_key s p k P there h = subst (λ (o : Option KnownKey). IfSome o P) (known_som
 some_key : (s : State) (p : Parts) (k : Key) → get s.keys p.key_id ≡ Some k → IsSome (known s p.key_id)
 some_key s p k there = subst (λ (o : Option KnownKey). IsSome o) (sym (known_some s p.key_id k there)) refl
 
-pub key_revoked : (s : State) (r : Request) (now : ℕ) (p : Parts) (k : Key) → IsServedAs r p → get s.keys p.key_id ≡ Some k → k.revoked ≡ true → IsFirstToFail (Rule s r now) rule.KeyRevoked
-key_revoked s r now p k served there revoked = record {
+pub key_revoked : (s : State) (r : Request) (now : ℕ) (p : Parts) (k : Key) → IsServedRequest r → IsWellFormed r p → get s.keys p.key_id ≡ Some k → k.revoked ≡ true → IsFirstToFail (Rule s r now) rule.KeyRevoked
+key_revoked s r now p k served formed there revoked = record {
   parts = p;
-  before = rules_before s r now p rule.KeyRevoked (omega arith) served
+  before = link_rules s r now p rule.KeyRevoked (omega arith) served formed
       (link_before (known s p.key_id) r now p 20 (λ lt. some_key s p k there) (λ lt. absurd (omega arith)) (λ lt. absurd (omega arith)) (λ lt. absurd (omega arith)) (λ lt. absurd (omega arith)));
   fails = λ other hold bad.
-      let same = same_parts s r now p other rule.KeyRevoked (omega arith) served hold in
+      let same = same_parts s r now p other rule.KeyRevoked (omega arith) formed hold in
       let unrevoked = of_key s p k (λ x. IsFalse x.revoked) there (subst (λ (q : Parts). IfSome (known s q.key_id) (λ x. IsFalse x.revoked)) same bad.link) in
-      clash k.revoked revoked unrevoked;
+      clash k.revoked unrevoked revoked;
 }
-  where
-    clash : (b : Bool) → b ≡ true → IsFalse b → ⊥
-    clash b t f = cc
 
-pub signature_mismatch : (s : State) (r : Request) (now : ℕ) (p : Parts) (k : Key) → IsServedAs r p → get s.keys p.key_id ≡ Some k → IsFalse k.revoked
+-- a key that stands unrevoked
+pub record HasKey (s : State) (p : Parts) (k : Key) : Type 0 where
+  pub there : get s.keys p.key_id ≡ Some k
+  pub unrevoked : IsFalse k.revoked
+
+pub signature_mismatch : (s : State) (r : Request) (now : ℕ) (p : Parts) (k : Key) → IsServedRequest r → IsWellFormed r p → HasKey s p k
     → (IsSignedBy k.secret r p → ⊥) → IsFirstToFail (Rule s r now) rule.SignatureMismatch
-signature_mismatch s r now p k served there unrevoked mismatch = record {
+signature_mismatch s r now p k served formed key mismatch = record {
   parts = p;
-  before = rules_before s r now p rule.SignatureMismatch (omega arith) served
-      (link_before (known s p.key_id) r now p 21 (λ lt. some_key s p k there) (λ lt. at_key s p k (λ x. IsFalse x.revoked) there unrevoked) (λ lt. absurd (omega arith)) (λ lt. absurd (omega arith)) (λ lt. absurd (omega arith)));
+  before = link_rules s r now p rule.SignatureMismatch (omega arith) served formed
+      (link_before (known s p.key_id) r now p 21 (λ lt. some_key s p k key.there) (λ lt. at_key s p k (λ x. IsFalse x.revoked) key.there key.unrevoked) (λ lt. absurd (omega arith)) (λ lt. absurd (omega arith)) (λ lt. absurd (omega arith)));
   fails = λ other hold bad.
-      let same = same_parts s r now p other rule.SignatureMismatch (omega arith) served hold in
-      mismatch (of_key s p k (λ x. IsSignedBy x.secret r p) there (subst (λ (q : Parts). IfSome (known s q.key_id) (λ x. IsSignedBy x.secret r q)) same bad.link));
+      let same = same_parts s r now p other rule.SignatureMismatch (omega arith) formed hold in
+      mismatch (of_key s p k (λ x. IsSignedBy x.secret r p) key.there (subst (λ (q : Parts). IfSome (known s q.key_id) (λ x. IsSignedBy x.secret r q)) same bad.link));
 }
 
-pub not_yet_valid : (s : State) (r : Request) (now : ℕ) (p : Parts) (k : Key) → IsServedAs r p → get s.keys p.key_id ≡ Some k → IsFalse k.revoked
+pub not_yet_valid : (s : State) (r : Request) (now : ℕ) (p : Parts) (k : Key) → IsServedRequest r → IsWellFormed r p → HasKey s p k
     → IsSignedBy k.secret r p → now < p.start → IsFirstToFail (Rule s r now) rule.NotYetValid
-not_yet_valid s r now p k served there unrevoked signed early = record {
+not_yet_valid s r now p k served formed key signed early = record {
   parts = p;
-  before = rules_before s r now p rule.NotYetValid (omega arith) served
-      (link_before (known s p.key_id) r now p 22 (λ lt. some_key s p k there) (λ lt. at_key s p k (λ x. IsFalse x.revoked) there unrevoked) (λ lt. at_key s p k (λ x. IsSignedBy x.secret r p) there signed) (λ lt. absurd (omega arith)) (λ lt. absurd (omega arith)));
+  before = link_rules s r now p rule.NotYetValid (omega arith) served formed
+      (link_before (known s p.key_id) r now p 22 (λ lt. some_key s p k key.there) (λ lt. at_key s p k (λ x. IsFalse x.revoked) key.there key.unrevoked) (λ lt. at_key s p k (λ x. IsSignedBy x.secret r p) key.there signed) (λ lt. absurd (omega arith)) (λ lt. absurd (omega arith)));
   fails = λ other hold bad.
-      let same = same_parts s r now p other rule.NotYetValid (omega arith) served hold in
+      let same = same_parts s r now p other rule.NotYetValid (omega arith) formed hold in
       let begun : p.start ≤ now = subst (λ (q : Parts). q.start ≤ now) same bad.link in
       omega arith;
 }
 
-pub expired : (s : State) (r : Request) (now : ℕ) (p : Parts) (k : Key) → IsServedAs r p → get s.keys p.key_id ≡ Some k → IsFalse k.revoked
+pub expired : (s : State) (r : Request) (now : ℕ) (p : Parts) (k : Key) → IsServedRequest r → IsWellFormed r p → HasKey s p k
     → IsSignedBy k.secret r p → p.start ≤ now → p.start + p.expires ≤ now → IsFirstToFail (Rule s r now) rule.Expired
-expired s r now p k served there unrevoked signed begun late = record {
+expired s r now p k served formed key signed begun late = record {
   parts = p;
-  before = rules_before s r now p rule.Expired (omega arith) served
-      (link_before (known s p.key_id) r now p 23 (λ lt. some_key s p k there) (λ lt. at_key s p k (λ x. IsFalse x.revoked) there unrevoked) (λ lt. at_key s p k (λ x. IsSignedBy x.secret r p) there signed) (λ lt. begun) (λ lt. absurd (omega arith)));
+  before = link_rules s r now p rule.Expired (omega arith) served formed
+      (link_before (known s p.key_id) r now p 23 (λ lt. some_key s p k key.there) (λ lt. at_key s p k (λ x. IsFalse x.revoked) key.there key.unrevoked) (λ lt. at_key s p k (λ x. IsSignedBy x.secret r p) key.there signed) (λ lt. begun) (λ lt. absurd (omega arith)));
   fails = λ other hold bad.
-      let same = same_parts s r now p other rule.Expired (omega arith) served hold in
+      let same = same_parts s r now p other rule.Expired (omega arith) formed hold in
       let not_over : now < p.start + p.expires = subst (λ (q : Parts). now < q.start + q.expires) same bad.link in
       omega arith;
 }
 
-pub no_such_box : (s : State) (r : Request) (now : ℕ) (p : Parts) (k : Key) → IsServedAs r p → get s.keys p.key_id ≡ Some k → IsFalse k.revoked
-    → IsSignedBy k.secret r p → p.start ≤ now → now < p.start + p.expires → HasNoBox s → IsFirstToFail (Rule s r now) rule.NoSuchBox
-no_such_box s r now p k served there unrevoked signed begun not_over none = record {
+-- ---- past the link
+
+-- the link is admitted, under this key
+pub record IsAdmitted (s : State) (r : Request) (now : ℕ) (p : Parts) (k : Key) : Type 0 where
+  pub key : HasKey s p k
+  pub signed : IsSignedBy k.secret r p
+  pub begun : p.start ≤ now
+  pub not_over : now < p.start + p.expires
+
+link_holds : (s : State) (r : Request) (now : ℕ) (p : Parts) (k : Key) (n : ℕ) → IsAdmitted s r now p k → (q : Refusal) → number_of q < n → LinkRule q (known s p.key_id) r now p
+link_holds s r now p k n a =
+    link_before (known s p.key_id) r now p n (λ lt. some_key s p k a.key.there) (λ lt. at_key s p k (λ x. IsFalse x.revoked) a.key.there a.key.unrevoked)
+    (λ lt. at_key s p k (λ x. IsSignedBy x.secret r p) a.key.there a.signed) (λ lt. a.begun) (λ lt. a.not_over)
+
+-- the role of the key that stands
+its_role : (o : Option Key) (k : Key) (P : Role → Type 0) → o ≡ Some k → IfSome o (λ x. P x.role) → P k.role
+its_role None k P e h = absurd cc
+its_role (Some x) k P e h = let is : x ≡ k = cc in subst (λ (y : Key). P y.role) is h
+
+some_role : (o : Option Key) (k : Key) (P : Role → Type 0) → o ≡ Some k → P k.role → IfSome o (λ x. P x.role)
+some_role None k P e h = absurd cc
+some_role (Some x) k P e h = let is : k ≡ x = cc in subst (λ (y : Key). P y.role) is h
+
+pub remains : (s : State) (r : Request) (now : ℕ) (p : Parts) (k : Key) (q : Refusal) → IsServedRequest r → IsWellFormed r p → HasNoBox s → IsAdmitted s r now p k
+    → Remains r.method k.role q → IsFirstToFail (Rule s r now) q
+remains s r now p k _ served formed none a (no_clerk post other) = record {
   parts = p;
-  before = rules_before s r now p rule.NoSuchBox (omega arith) served
-      (link_before (known s p.key_id) r now p 27 (λ lt. some_key s p k there) (λ lt. at_key s p k (λ x. IsFalse x.revoked) there unrevoked) (λ lt. at_key s p k (λ x. IsSignedBy x.secret r p) there signed) (λ lt. begun) (λ lt. not_over));
-  fails = λ other hold bad. none_some (get s.boxes (place_of other.path).box) (none (place_of other.path).box) (bad.fetch (inl served.get));
+  before = link_rules s r now p rule.RoleNotAllowed (omega arith) served formed (link_holds s r now p k 24 a);
+  fails = λ o hold bad.
+      let same = same_parts s r now p o rule.RoleNotAllowed (omega arith) formed hold in
+      let role = subst (λ (q : Parts). IfSome (get s.keys q.key_id) (λ x. x.role ≡ Clerk)) same (bad.form post) in
+      other (its_role (get s.keys p.key_id) k (λ x. x ≡ Clerk) a.key.there role);
+}
+remains s r now p k _ served formed none a (no_command post clerk) = record {
+  parts = p;
+  before = rules_before s r now p rule.CommandMalformed (omega arith) (λ q lt. formed q) (link_holds s r now p k 35 a)
+      (form_before s r p 35 served (λ lt is. some_role (get s.keys p.key_id) k (λ x. x ≡ Clerk) a.key.there clerk) (λ lt put. put_no_post r put post)) (λ lt. post);
+  fails = λ o hold bad. (bad.post post).1.is_command;
+}
+remains s r now p k _ served formed none a (no_length put) = record {
+  parts = p;
+  before = rules_before s r now p rule.LengthMissing (omega arith) (λ q lt. formed q) (link_holds s r now p k 25 a)
+      (form_before s r p 25 served (λ lt post. absurd (put_no_post r put post)) (λ lt. absurd (omega arith))) (λ lt. absurd (omega arith));
+  fails = λ o hold bad. clash r.has_length served.no_length (bad.form put);
+}
+remains s r now p k _ served formed none a (no_box fetch) = record {
+  parts = p;
+  before = rules_before s r now p rule.NoSuchBox (omega arith) (λ q lt. formed q) (link_holds s r now p k 27 a)
+      (form_before s r p 27 served (λ lt post. absurd (fetch_no_post r fetch post)) (λ lt put. fetch_no_put r fetch put)) (λ lt. absurd (omega arith));
+  fails = λ o hold bad. none_some (get s.boxes (place_of o.path).box) (none (place_of o.path).box) (bad.fetch fetch);
 }

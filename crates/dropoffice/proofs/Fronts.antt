@@ -5,10 +5,9 @@ use Rattle.httparse.specs.Grammar.{RequestHead}
 use Rattle.httparse.proofs.GrammarLemmas.{request_unique}
 use Rattle.sigtext.specs.SignedHeaders.{Header, named}
 use Rattle.sigtext.specs.Request.{Request}
-use Rattle.links.specs.WellFormed.{Parts}
 use Rattle.wire.specs.Framing.{EndsHead, IsFront, IsHead, headers_of, Announces, nothing, given, HasHead, request_of, Message, Next, whole}
 use Rattle.wire.specs.Heads.{IsHeadEnd, HasNoHeadEnd}
-use Rattle.dropoffice.specs.Served.{IsServedAs, IsServed}
+use Rattle.dropoffice.specs.Served.{IsServedRequest, IsServed}
 use Rattle.dropoffice.specs.Streams.{IsMessage}
 
 -- the first n bytes end the head, and there are no more
@@ -102,16 +101,9 @@ alone bytes s =
 pub head_once : (bytes : List ℕ) (h k : RequestHead) → IsHead bytes h → IsHead bytes k → h ≡ k
 head_once bytes h k a b = (request_unique bytes h k [] [] a.reads b.reads).0
 
--- a message that is not served makes its bytes not served
-pub unserved_bytes : (bytes : List ℕ) (head : RequestHead) (r : Request) → IsHead bytes head → r ≡ request_of head false [] → ((p : Parts) → IsServedAs r p → ⊥) → IsServed bytes → ⊥
-unserved_bytes bytes head r h is none s =
-    let a = alone bytes s in
-    let same : s.request ≡ r = a.is ∙ ap (λ k. request_of k false []) (head_once bytes a.head head a.is_head h) ∙ sym is in
-    none s.parts (subst (λ (q : Request). IsServedAs q s.parts) same s.served)
-
--- and one that is served makes them served
-pub served_bytes : (bytes : List ℕ) (r : Request) (p : Parts) → IsMessage bytes r → IsServedAs r p → IsServed bytes
-served_bytes bytes r p m served = record { request = r; parts = p; next = message_alone bytes r m; served = served }
+-- a message without a body, and nothing more
+pub served_bytes : (bytes : List ℕ) (r : Request) → IsMessage bytes r → IsServedRequest r → IsServed bytes
+served_bytes bytes r m served = record { request = r; next = message_alone bytes r m; served = served }
 
 -- where a field of framing is there, the bytes are not served
 pub coded_bytes : (bytes : List ℕ) (head : RequestHead) (headers : List Header) → IsHead bytes head → headers ≡ headers_of head → (named (codes "transfer-encoding") headers ≡ [] → ⊥) → IsServed bytes → ⊥

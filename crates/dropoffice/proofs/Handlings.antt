@@ -5,7 +5,7 @@ use Rattle.sigtext.specs.declared.refusal.Refusal.TheVariants as rule
 use Rattle.sigtext.specs.Request.{Request}
 use Rattle.boxes.specs.State.{State}
 use Rattle.wire.specs.declared.answer.Answer.{Answer}
-use Rattle.wire.specs.Sending.{IsBeginning}
+use Rattle.sigtext.specs.Bytes.{IsBeginning}
 use Rattle.wire.specs.Shown.{text_of}
 use Rattle.dropoffice.specs.declared.handling.Handled.{Handled}
 use Rattle.dropoffice.specs.declared.handling.Handled.TheVariants.{Unserved, Answered, GaveUp, Broken}

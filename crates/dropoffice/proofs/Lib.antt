@@ -1,16 +1,8 @@
-pub mod FieldLists
 pub mod Texts
-pub mod RawLinks
-pub mod Spaces
+pub mod FieldLists
 pub mod Digits
 pub mod Lookups
 pub mod Deciding
-pub mod PlainPieces
-pub mod Credentials
-pub mod Judging
-pub mod PlainBytes
-pub mod PlainForms
-pub mod ServedForms
 pub mod Answered
 pub mod Handlings
 pub mod Fronts
@@ -24,3 +16,11 @@ pub mod TaskNames
 pub mod TaskValues
 mod Admission
 mod SoundOffice
+pub mod PairLoops
+pub mod SixLemmas
+pub mod LinkSigning
+pub mod Methods
+pub mod SixForms
+pub mod LinkRules
+pub mod Judged
+pub mod Inspected

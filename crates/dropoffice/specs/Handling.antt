@@ -4,7 +4,7 @@ use Rattle.std.specs.Io.KnownBytes.{Appends}
 use Rattle.sigtext.specs.declared.refusal.Refusal.TheVariants as rule
 use Rattle.sigtext.specs.Request.{Request}
 use Rattle.boxes.specs.State.{State}
-use Rattle.wire.specs.Sending.{IsBeginning}
+use Rattle.sigtext.specs.Bytes.{IsBeginning}
 use Rattle.dropoffice.specs.declared.handling.Handled.{Handled}
 use Rattle.dropoffice.specs.declared.handling.Handled.TheVariants.{Answered, GaveUp, Broken}
 use Rattle.dropoffice.specs.Answering.{Answers}

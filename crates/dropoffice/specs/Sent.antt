@@ -2,7 +2,7 @@
 use Rattle.std.specs.Prelude.{◌≡◌, ◌≢◌, ◌⊎◌, ℕ, List, Option}
 use Rattle.std.specs.Io.KnownBytes.{Appends}
 use Rattle.wire.specs.declared.answer.Answer.{Answer}
-use Rattle.wire.specs.Sending.{IsBeginning}
+use Rattle.sigtext.specs.Bytes.{IsBeginning}
 use Rattle.wire.specs.Shown.{text_of}
 use Rattle.dropoffice.specs.declared.handling.Handled.{Handled}
 use Rattle.dropoffice.specs.declared.handling.Handled.TheVariants.{Unserved, Answered, GaveUp, Broken}

@@ -9,7 +9,7 @@ use Rattle.wire.specs.Answers.{answer_text}
 use Rattle.wire.specs.Answers as answer
 use Rattle.wire.specs.Framing.{Next}
 use Rattle.wire.specs.Framing as frame
-use Rattle.wire.specs.Sending.{IsBeginning}
+use Rattle.sigtext.specs.Bytes.{IsBeginning}
 use Rattle.dropoffice.specs.declared.session.SessionEnd.{SessionEnd}
 use Rattle.dropoffice.specs.declared.session.SessionEnd.TheVariants.{Ended, Truncated, Refused, Limit, ReadFault, WriteFault}
 use Rattle.dropoffice.specs.Answering.{Answers}

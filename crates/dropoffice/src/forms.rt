@@ -2,22 +2,7 @@
 ghost use Rattle.std.specs.Prelude.{◌≡◌, ◌↔◌, ℕ, List, IsTrue, IfSome, IfNone};
 ghost use Rattle.std.specs.List.{list_all};
 ghost use Rattle.std.specs.Char.{is_ascii_digit};
-ghost use Rattle.sigtext.specs.declared.encode.Slash.TheVariants.{Kept};
-ghost use Rattle.sigtext.specs.UriEncode.{stays};
 ghost use Rattle.links.specs.Forms.{IsExpiry, IsSignatureText, is_signature_digit};
-
-fn is_path_byte(byte: u8) -> bool
-    ensures { result ≡ stays Kept byte }
-{
-    byte.is_ascii_alphanumeric() || matches!(byte, b'-' | b'.' | b'_' | b'~' | b'/')
-}
-
-/// Whether each byte of the path is unreserved or `/`.
-pub(crate) fn is_plain_path(path: &[u8]) -> bool
-    ensures { result ≡ list_all (stays Kept) path.now }
-{
-    path.iter().all(|byte| is_path_byte(*byte))
-}
 
 fn are_digits(text: &[u8]) -> bool
     ensures { result ≡ list_all is_ascii_digit text.now }

@@ -1,5 +1,6 @@
 //! What becomes of one message, and the writing of its answer.
-ghost use Rattle.std.specs.Prelude.{◌≡◌, false};
+ghost use Rattle.std.specs.Prelude.{◌≡◌, ◌≢◌, false, codes};
+ghost use Rattle.sigtext.specs.Bytes.{same_bytes};
 ghost use Rattle.sigtext.specs.Counts.{Rose};
 ghost use Rattle.dropoffice.specs.Offices.{try_again};
 ghost use Rattle.dropoffice.specs.Sent.{IsSent};
@@ -21,13 +22,25 @@ pub(crate) enum Handled {
     Broken,
 }
 
-/// The answer of a refusal to a GET.
-pub(crate) fn refused(refusal: Refusal) -> Answer
+// The answer of a refusal, with its body.
+fn refused(refusal: Refusal) -> Answer
     ensures { result ≡ record { reply = Reply.Refused refusal; is_head = false } }
 {
     Answer {
         reply: Reply::Refused(refusal),
         is_head: false,
+    }
+}
+
+/// The answer of a refusal to a request of this method. Refusal 40 is one constant for all.
+pub(crate) fn refused_to(refusal: Refusal, method: &[u8]) -> Answer
+    ensures again { refusal ≡ Refusal.TryAgain → result ≡ try_again }
+    ensures other { (refusal ≢ Refusal.TryAgain) → result ≡ record { reply = Reply.Refused refusal; is_head = same_bytes method.now (codes "HEAD") } }
+{
+    let is_head = refusal != Refusal::TryAgain && method == b"HEAD".as_slice();
+    Answer {
+        reply: Reply::Refused(refusal),
+        is_head,
     }
 }
 

@@ -2,18 +2,18 @@
 #![tactic(auto)]
 
 pub mod clocks;
-mod decode;
 #[cfg(test)]
 mod fakes;
 mod fields;
 mod forms;
 mod handling;
+mod judging;
+mod link;
 pub mod one_key;
-mod plain_link;
 mod program;
-mod raw_link;
 pub mod serving;
 pub mod session;
+mod six;
 pub mod task;
 
 pub use clocks::{Clock, FixedClock, ListedClock};

@@ -1,35 +1,28 @@
 //! The office: one message, one connection, a list of connections.
-ghost use Rattle.std.specs.Prelude.{false, ◌≡◌, ◌≢◌, ◌⊎◌, ◌++◌, ◌↔◌, ◌≤◌, ℕ, List, [], Some, None, IsTrue, IsFalse, IfOk, IfSome, IfNone, OnOk};
-ghost use Rattle.std.specs.List.{flat_map};
-ghost use Rattle.std.specs.FinMap.{get};
-ghost use Rattle.sigtext.specs.Counts.{Rose};
-ghost use Rattle.sigtext.specs.Request.{Request};
-ghost use Rattle.sigtext.specs.Rules.{IsFirstToFail};
-ghost use Rattle.sigv4.specs.Dates.{WritesMoment};
-ghost use Rattle.sigv4.specs.Scopes.{scope_of};
-ghost use Rattle.sigv4.specs.Signature.{signature_of};
-ghost use Rattle.boxes.specs.State.{Key, State};
+ghost use Rattle.std.specs.Prelude.{◌≡◌, ◌≢◌, ◌↔◌, ℕ, [], IsTrue, IsFalse};
+ghost use Rattle.std.specs.List.{list_any};
+ghost use Rattle.sigtext.specs.Bytes.{same_bytes};
+ghost use Rattle.links.specs.WellFormed.{methods};
 ghost use Rattle.wire.specs.Framing.{IsFront};
 ghost use Rattle.wire.specs.Heads.{IsHeadEnd, HasNoHeadEnd};
+ghost use Rattle.wire.specs.Messages.{request_in};
 ghost use Rattle.dropoffice.specs.Connections.{is_fault};
-ghost use Rattle.dropoffice.specs.Deciding.{plain_text};
-ghost use Rattle.dropoffice.specs.PlainLinks.{IsPlainLink};
-ghost use Rattle.dropoffice.specs.PlainLinks as plain;
-ghost use Rattle.dropoffice.specs.Rules.{Rule};
-ghost use Rattle.dropoffice.specs.Served.{HasNoBox};
-ghost use Rattle.dropoffice.specs.Views.{Says, IsRead};
+ghost use Rattle.dropoffice.specs.Remaining.{Remains};
+ghost use Rattle.dropoffice.specs.Served.{IsServedRequest};
 
 use crate::clocks::Clock;
 use crate::fields::has_field;
-use crate::handling::{Handled, refused, send_answer};
-use crate::plain_link::PlainLink;
+use crate::handling::{Handled, refused_to, send_answer};
+use crate::judging::judge;
+use crate::link::{LinkParts, read_link};
 use crate::session::SessionEnd;
+use boxes::rows::Role;
 use keeper::Keeper;
 use sigtext::{Field, Refusal};
-use sigv4::{Moment, Scope, signature};
-use std::alloc::{AllocError, Global};
+use sigv4::{Moment, Scope};
+use std::alloc::Global;
 use std::io::{Read, Write};
-use wire::{Answer, Counted, Message, Reply, Stop, fill, head_end, put_answer, read_head};
+use wire::{Answer, Counted, Message, Stop, fill, head_end, read_head};
 
 /// The greatest length of a head, CR LF CR LF included.
 const MOST_HEAD: usize = 8192;
@@ -44,86 +37,36 @@ pub struct Office<K> {
     pub alloc: Global,
 }
 
-fn append_all(pieces: &[&[u8]], text: &mut Vec<u8>) -> Result<(), AllocError>
-    ensures { OnOk result (text.new.items ≡ text.old.items ++ flat_map (λ p. p.now) pieces.now) }
+// The refusal of a request whose link is admitted, where there is no box, no body and no desk.
+fn refusal_past_link(method: &[u8], role: Role) -> Refusal
+    requires { IsTrue (list_any (same_bytes method.now) methods) }
+    ensures { Remains method.now role result }
 {
-    'pieces: for piece in pieces {
-        text.extend_from_slice(piece)?;
+    if method == b"POST".as_slice() {
+        return match role {
+            Role::Clerk => Refusal::CommandMalformed,
+            Role::Link => Refusal::RoleNotAllowed,
+        };
     }
-    Ok(())
-}
-
-// The canonical request of a plain link.
-fn canonical_text(alloc: Global, link: &PlainLink<'_>) -> Result<Vec<u8>, AllocError>
-    ensures { IfOk result (λ t. t.items ≡ plain_text link.now.path.now link.now.query.now link.now.host.now) }
-{
-    let mut text = Vec::new(alloc);
-    let pieces = [
-        b"GET\n".as_slice(),
-        link.path,
-        b"\n",
-        link.query,
-        b"\nhost:",
-        link.host,
-        b"\n\nhost\nUNSIGNED-PAYLOAD",
-    ];
-    append_all(&pieces, &mut text)?;
-    Ok(text)
-}
-
-// Whether the link's signature is that of its canonical request under the secret.
-fn is_signed_by(
-    alloc: Global,
-    link: &PlainLink<'_>,
-    scope: &Scope<'_>,
-    secret: &[u8],
-) -> Result<bool, AllocError>
-    ensures { IfOk result (λ signed. (date : List ℕ) → WritesMoment date link.now.start
-        → (IsTrue signed ↔ (link.now.signature.now ≡ signature_of secret.now date (scope_of scope.now)
-        (plain_text link.now.path.now link.now.query.now link.now.host.now)))) }
-{
-    let text = canonical_text(alloc, link)?;
-    let digits = signature(secret, scope, &link.start, &text)?;
-    Ok(digits.as_slice() == link.signature)
-}
-
-// The least rule that fails, where the link's key stands unrevoked with this secret, and there is no box.
-fn judge(
-    alloc: Global,
-    link: &PlainLink<'_>,
-    scope: &Scope<'_>,
-    secret: &[u8],
-    now: Moment,
-) -> Refusal
-    requires { link.now.expires ≤ 604800 }
-    ensures { (s : State) (r : Request) (p : plain.PlainLink) (k : Key) → Says link.now p → IsPlainLink r p
-        → scope_of scope.now ≡ p.scope → get s.keys p.key_id ≡ Some k → k.secret ≡ secret.now → IsFalse k.revoked → HasNoBox s
-        → (result ≢ Refusal.TryAgain) → IsFirstToFail (Rule s r now) result }
-{
-    match is_signed_by(alloc, link, scope, secret) {
-        Ok(true) => {}
-        Ok(false) => return Refusal::SignatureMismatch,
-        Err(_) => return Refusal::TryAgain,
-    }
-    let moment = now.seconds();
-    let start = link.start.seconds();
-    if moment < start {
-        return Refusal::NotYetValid;
-    }
-    if moment >= start + link.expires {
-        return Refusal::Expired;
+    if method == b"PUT".as_slice() {
+        return Refusal::LengthMissing;
     }
     Refusal::NoSuchBox
 }
 
+// Whether a message without a body is one whose kind is served so far.
+fn is_served(message: &Message<'_>) -> bool
+    ensures { IsTrue result ↔ IsServedRequest (request_in message.now) }
+{
+    !message.has_length && message.body.is_empty()
+}
+
 impl<K: Keeper> Office<K> {
-    ghost use Rattle.std.specs.Prelude.{◌≡◌, ◌≢◌, ◌⊎◌, ◌≤◌, ℕ, List, Some, None, IfSome, IfNone, IfOk};
+    ghost use Rattle.std.specs.Prelude.{◌≡◌, ◌≢◌, ◌≤◌, ℕ, List, Some, IfSome, IfNone};
     ghost use Rattle.sigtext.specs.Counts.{Rose};
     ghost use Rattle.sigtext.specs.Request.{Request};
     ghost use Rattle.sigtext.specs.Rules.{IsFirstToFail};
     ghost use Rattle.boxes.specs.State.{State};
-    ghost use Rattle.dropoffice.specs.PlainLinks.{IsPlainLink};
-    ghost use Rattle.dropoffice.specs.PlainLinks as plain;
     ghost use Rattle.dropoffice.specs.Rules.{Rule};
     ghost use Rattle.links.specs.WellFormed.{Parts};
     ghost use Rattle.wire.specs.Messages.{request_in};
@@ -131,8 +74,8 @@ impl<K: Keeper> Office<K> {
     ghost use Rattle.dropoffice.specs.Handling.{Handles};
     ghost use Rattle.dropoffice.specs.Streams.{IsMessage};
     ghost use Rattle.dropoffice.specs.Connections.{Serves, Runs};
-    ghost use Rattle.dropoffice.specs.Served.{IsServed, IsServedAs, HasNoBox, AreAllServed};
-    ghost use Rattle.dropoffice.specs.Views.{Says, IsRead};
+    ghost use Rattle.dropoffice.specs.Served.{IsServed, IsServedRequest, HasNoBox, AreAllServed};
+    ghost use Rattle.dropoffice.specs.LinkParts.{IsLinkOf, IsInspected};
 
     /// An office over this keeper, which it holds as it is.
     pub fn new(alloc: Global, keeper: K) -> Office<K>
@@ -141,17 +84,17 @@ impl<K: Keeper> Office<K> {
         Office { keeper, alloc }
     }
 
-    // The least rule that fails for a link of the served form.
-    fn refusal_of(&mut self, link: &PlainLink<'_>, now: Moment) -> Refusal
-        requires { IsRead link.now }
-        ensures fails { (s : State) (r : Request) (p : plain.PlainLink) → K.means self.old.keeper s → K.is_honest self.new.keeper
-            → HasNoBox s → Says link.now p → IsPlainLink r p → (result ≢ Refusal.TryAgain) → IsFirstToFail (Rule s r now) result }
+    // The least rule past number 18 that fails for a link that was read, where there is no box.
+    fn refusal_of(&mut self, link: &LinkParts<'_>, now: Moment) -> Refusal
+        requires { IsInspected link.now }
+        ensures fails { (s : State) (r : Request) (p : Parts) → K.means self.old.keeper s → K.is_honest self.new.keeper
+            → HasNoBox s → IsServedRequest r → IsLinkOf link.now r p → (result ≢ Refusal.TryAgain) → IsFirstToFail (Rule s r now) result }
         ensures same { (s : State) → K.means self.old.keeper s → K.means self.new.keeper s }
         ensures honest { K.is_honest self.new.keeper → K.is_honest self.old.keeper }
         ensures counted { (result ≢ Refusal.TryAgain) → K.faults self.new.keeper ≡ K.faults self.old.keeper }
         ensures never_less { K.faults self.old.keeper ≤ K.faults self.new.keeper }
     {
-        let Ok(scope) = Scope::read(link.credential.as_slice(), link.date) else {
+        let Ok(scope) = Scope::read(&link.credential, &link.date) else {
             unreachable!()
         };
         match self.keeper.key(scope.key_id) {
@@ -160,73 +103,74 @@ impl<K: Keeper> Office<K> {
                 if key.revoked {
                     return Refusal::KeyRevoked;
                 }
-                judge(self.alloc, link, &scope, &key.secret, now)
+                match judge(self.alloc, link, &key.secret, now) {
+                    Ok(()) => refusal_past_link(link.parts.method, key.role),
+                    Err(refusal) => refusal,
+                }
             }
             Err(_) => Refusal::TryAgain,
         }
     }
 
-    // What a link of the served form is answered.
-    fn answer_link(&mut self, link: &PlainLink<'_>, now: Moment) -> Answer
-        requires { IsRead link.now }
-        ensures answers { (s : State) (r : Request) (p : plain.PlainLink) → K.means self.old.keeper s → K.is_honest self.new.keeper
-            → HasNoBox s → Says link.now p → IsPlainLink r p → IsAnswered (K.means self.new.keeper) s r now result }
+    // What a message without a body is answered.
+    fn decide(&mut self, message: &Message<'_>, now: Moment) -> Answer
+        ensures answers { (s : State) → K.means self.old.keeper s → K.is_honest self.new.keeper → HasNoBox s
+            → IsServedRequest (request_in message.now) → IsAnswered (K.means self.new.keeper) s (request_in message.now) now result }
         ensures same { (s : State) → K.means self.old.keeper s → K.means self.new.keeper s }
         ensures honest { K.is_honest self.new.keeper → K.is_honest self.old.keeper }
         ensures counted { (result ≢ try_again) → K.faults self.new.keeper ≡ K.faults self.old.keeper }
         ensures never_less { K.faults self.old.keeper ≤ K.faults self.new.keeper }
     {
-        refused(self.refusal_of(link, now))
+        match read_link(self.alloc, message) {
+            Ok(link) => {
+                let refusal = self.refusal_of(&link, now);
+                refused_to(refusal, message.method)
+            }
+            Err(refusal) => refused_to(refusal, message.method),
+        }
     }
 
-    /// Answers one message at a moment. `None` where it is not of the kind that is served so far: then
-    /// nothing is changed. Otherwise the answer is that of the rules; or it is refusal 40, where memory
-    /// was refused or the keeper counted a fault, and then the state is as it was.
+    /// Answers one message at a moment. `None` where it is not of the kind that is served so far, which
+    /// has neither a Content-Length nor a body: then nothing is changed. Otherwise the answer is that of
+    /// the rules; or it is refusal 40, where memory was refused or the keeper counted a fault, and then
+    /// the state is as it was.
     pub fn answer(&mut self, message: &Message<'_>, now: Moment) -> Option<Answer>
         ensures answers { IfSome result (λ a. (s : State) → K.means self.old.keeper s → K.is_honest self.new.keeper → HasNoBox s
             → IsAnswered (K.means self.new.keeper) s (request_in message.now) now a) }
         ensures again { (result ≡ Some try_again) → (s : State) → K.means self.old.keeper s → K.means self.new.keeper s }
         ensures counted { (result ≢ Some try_again) → K.faults self.new.keeper ≡ K.faults self.old.keeper }
         ensures never_less { K.faults self.old.keeper ≤ K.faults self.new.keeper }
-        ensures served { IfSome result (λ a. (a ≢ try_again) → (p : Parts) × IsServedAs (request_in message.now) p) }
-        ensures unserved { IfNone result ((p : Parts) → IsServedAs (request_in message.now) p → ⊥) }
+        ensures served { IfSome result (λ a. IsServedRequest (request_in message.now)) }
+        ensures unserved { IfNone result (IsServedRequest (request_in message.now) → ⊥) }
         ensures untouched { IfNone result (self.new ≡ self.old) }
         ensures honest { K.is_honest self.new.keeper → K.is_honest self.old.keeper }
     {
-        match PlainLink::read(self.alloc, message) {
-            Ok(Some(link)) => Some(self.answer_link(&link, now)),
-            Ok(None) => None,
-            Err(_) => Some(refused(Refusal::TryAgain)),
+        if !is_served(message) {
+            return None;
         }
+        Some(self.decide(message, now))
     }
 
-    // Handles one message: takes its moment, and writes its answer.
+    // Handles one message without a body: takes its moment, and writes its answer.
     fn serve_message<W: Write, C: Clock>(
         &mut self,
         message: &Message<'_>,
         writer: &mut Counted<W>,
         clock: &mut C,
     ) -> Handled
-        ensures handled { (s : State) → K.means self.old.keeper s → K.is_honest self.new.keeper → HasNoBox s → (result ≢ Handled.Unserved)
+        ensures handled { (s : State) → K.means self.old.keeper s → K.is_honest self.new.keeper → HasNoBox s
+            → IsServedRequest (request_in message.now)
             → Handles C.now_gives clock.old clock.new (W.contents writer.old.inner) (W.contents writer.new.inner)
             (K.means self.new.keeper) s (request_in message.now) result }
-        ensures served { result ≡ Handled.Answered → (p : Parts) × IsServedAs (request_in message.now) p }
-        ensures unserved { result ≡ Handled.Unserved → (p : Parts) → IsServedAs (request_in message.now) p → ⊥ }
-        ensures untouched { result ≡ Handled.Unserved → (self.new ≡ self.old) × (writer.new ≡ writer.old) × (clock.new ≡ clock.old) }
+        ensures served { result ≢ Handled.Unserved }
         ensures honest { K.is_honest self.new.keeper → K.is_honest self.old.keeper }
         ensures fault { result ≡ Handled.Broken → Rose writer.old.faults writer.new.faults }
         ensures counted { (result ≢ Handled.GaveUp) → (result ≢ Handled.Broken) → K.faults self.new.keeper ≡ K.faults self.old.keeper }
         ensures never_less { K.faults self.old.keeper ≤ K.faults self.new.keeper }
     {
-        match PlainLink::read(self.alloc, message) {
-            Ok(Some(link)) => {
-                let now = clock.now();
-                let answer = self.answer_link(&link, now);
-                send_answer(&answer, writer)
-            }
-            Ok(None) => Handled::Unserved,
-            Err(_) => send_answer(&refused(Refusal::TryAgain), writer),
-        }
+        let now = clock.now();
+        let answer = self.decide(message, now);
+        send_answer(&answer, writer)
     }
 
     // Handles the one message that the bytes are, where they are one.
@@ -239,7 +183,7 @@ impl<K: Keeper> Office<K> {
         ensures handled { (s : State) → K.means self.old.keeper s → K.is_honest self.new.keeper → HasNoBox s → (result ≢ Handled.Unserved)
             → (r : Request) × IsMessage bytes.now r × Handles C.now_gives clock.old clock.new
             (W.contents writer.old.inner) (W.contents writer.new.inner) (K.means self.new.keeper) s r result }
-        ensures served { result ≡ Handled.Answered → IsServed bytes.now }
+        ensures served { (result ≢ Handled.Unserved) → IsServed bytes.now }
         ensures unserved { result ≡ Handled.Unserved → IsServed bytes.now → ⊥ }
         ensures untouched { result ≡ Handled.Unserved → (self.new ≡ self.old) × (writer.new ≡ writer.old) × (clock.new ≡ clock.old) }
         ensures honest { K.is_honest self.new.keeper → K.is_honest self.old.keeper }

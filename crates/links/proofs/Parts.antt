@@ -6,14 +6,16 @@ use Rattle.sigtext.specs.declared.refusal.Refusal.TheVariants as rule
 use Rattle.sigtext.specs.Refusals.{number_of}
 use Rattle.sigtext.specs.Request.{Request}
 use Rattle.sigtext.specs.SignedHeaders.{AreSignedValues}
+use Rattle.sigtext.specs.SignedNames.{AreSignedNames}
+use Rattle.sigtext.proofs.NamesOnce.{names_once}
 use Rattle.sigtext.proofs.Uniqueness.{target_once, values_once}
 use Rattle.sigv4.specs.Credential.{IsCredential}
 use Rattle.sigv4.specs.Dates.{WritesMoment}
 use Rattle.sigv4.proofs.Credentials.{credential_once}
 use Rattle.sigv4.proofs.Moments.{moment_once}
-use Rattle.links.specs.Forms.{IsExpiry, AreSignedNames}
+use Rattle.links.specs.Forms.{IsExpiry}
 use Rattle.links.specs.WellFormed.{Parts, HeadRule, IsWellFormed}
-use Rattle.links.proofs.Values.{value_same, expiry_once, names_once}
+use Rattle.links.proofs.Values.{value_same, expiry_once}
 
 -- the rules of numbers below 19 hold of the parts
 abbrev pub HoldBeforeKey : Request → Parts → Type 0

@@ -1,10 +1,9 @@
--- The forms of a link's parameters; the credential's and the date's are in `sigv4`.
-use Rattle.std.specs.Prelude.{◌≡◌, ◌≢◌, ℕ, ◌≤◌, Bool, ◌||◌, ◌&&◌, ◌==◌, nat_le, IsTrue, List, ◌∷◌, length, codes, Contains}
-use Rattle.std.specs.List.{list_all, join_with_byte, AllByRecursion}
-use Rattle.std.specs.Char.{is_ascii_digit, is_ascii_lowercase}
+-- The forms of a link's parameters; the credential's and the date's are in `sigv4`, the signed names' in `sigtext`.
+use Rattle.std.specs.Prelude.{◌≡◌, ◌≢◌, ℕ, ◌≤◌, Bool, ◌||◌, ◌&&◌, nat_le, IsTrue, List, ◌∷◌, length}
+use Rattle.std.specs.List.{list_all}
+use Rattle.std.specs.Char.{is_ascii_digit}
 use Rattle.std.specs.Str.Parse.{digits_value}
-use Rattle.sigtext.specs.CanonicalQuery.{ascends}
-use Rattle.sigv4.specs.Credential.{IsWord}
+use Rattle.sigtext.specs.Bytes.{IsWord}
 
 -- a whole number of seconds, 1 to 604800, of 1 to 6 digits without a leading zero
 pub record IsExpiry (text : List ℕ) (n : ℕ) : Type 0 where
@@ -13,20 +12,6 @@ pub record IsExpiry (text : List ℕ) (n : ℕ) : Type 0 where
   pub value : n ≡ digits_value 10 text
   pub least : 1 ≤ n
   pub most : n ≤ 604800
-
--- a-z 0-9 - _ .
-abbrev pub is_header_name_byte : ℕ → Bool
-is_header_name_byte b = is_ascii_lowercase b || is_ascii_digit b || (b == 45 || b == 95 || b == 46)
-
-abbrev pub IsHeaderName : List ℕ → Type 0
-IsHeaderName text = IsWord is_header_name_byte 64 text
-
--- names in strictly ascending byte order, joined by `;`, with `host` among them
-pub record AreSignedNames (text : List ℕ) (names : List (List ℕ)) : Type 0 where
-  pub joined : text ≡ join_with_byte 59 names
-  pub forms : AllByRecursion IsHeaderName names
-  pub ascend : IsTrue (ascends names)
-  pub host : Contains names (codes "host")
 
 -- 0-9 a-f
 abbrev pub is_signature_digit : ℕ → Bool

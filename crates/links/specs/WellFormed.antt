@@ -1,17 +1,20 @@
 -- What a request's method, target and fields must hold, whatever the office keeps (Amazon S3 API
 -- Reference, "Authenticating Requests: Using Query Parameters").
-use Rattle.std.specs.Prelude.{◌≡◌, ◌≢◌, ℕ, Bool, ◌&&◌, ◌||◌, not, nat_le, IsTrue, List, [], ◌∷◌, ◌++◌, length, map, filter, codes, ⊤}
+use Rattle.std.specs.Prelude.{◌≡◌, ◌≢◌, ℕ, Bool, ◌&&◌, not, IsTrue, IsFalse, List, [], ◌∷◌, ◌++◌, length, map, filter, codes, ⊤}
 use Rattle.std.specs.List.{list_all, list_any, AllByRecursion}
 use Rattle.sigtext.specs.declared.refusal.Refusal.{Refusal}
 use Rattle.sigtext.specs.declared.refusal.Refusal.TheVariants as rule
 use Rattle.sigtext.specs.Bytes.{same_bytes, begins_with}
 use Rattle.sigtext.specs.Request.{Request}
 use Rattle.sigtext.specs.Target.{Param, IsTargetOf}
-use Rattle.sigtext.specs.SignedHeaders.{Header, lower_case, AreSignedValues}
+use Rattle.sigtext.specs.Params.{params_named, StandOnce}
+use Rattle.sigtext.specs.SignedHeaders.{Header, AreSignedValues}
+use Rattle.sigtext.specs.SignedNames.{AreSignedNames}
+use Rattle.sigtext.specs.SignedValues.{IsFitValue, is_covered}
 use Rattle.sigv4.specs.Signature.{CredentialScope}
 use Rattle.sigv4.specs.Credential.{IsCredential}
 use Rattle.sigv4.specs.Dates.{WritesMoment}
-use Rattle.links.specs.Forms.{IsExpiry, AreSignedNames, IsSignatureText}
+use Rattle.links.specs.Forms.{IsExpiry, IsSignatureText}
 
 -- what the rules find in a request
 pub record Parts : Type 0 where
@@ -34,29 +37,23 @@ signing_names =
 abbrev pub is_signing_name : List ℕ → Bool
 is_signing_name name = list_any (same_bytes name) signing_names
 
--- the parameters of this name
-abbrev pub params_named : List ℕ → List Param → List Param
-params_named name params = filter (λ p. same_bytes p.name name) params
+-- a name that begins with `X-Amz-` and is none of the six
+abbrev pub is_other_amz_name : List ℕ → Bool
+is_other_amz_name name = begins_with name (codes "X-Amz-") && not (is_signing_name name)
 
 -- one parameter alone has this name, and its value is this one
 abbrev pub HasValue : List Param → List ℕ → List ℕ → Type 0
 HasValue params name value = params_named name params ≡ record { name = name; value = value } ∷ []
 
+-- each of the six is there
+abbrev pub AreThere : List Param → Type 0
+AreThere params = AllByRecursion (λ name. length (params_named name params) ≡ 1) signing_names
+
 -- each name stands once, the six are there, and no other name begins with `X-Amz-`
 pub record AreTheSix (params : List Param) : Type 0 where
-  pub once : AllByRecursion (λ p. length (params_named p.name params) ≡ 1) params
-  pub there : AllByRecursion (λ name. length (params_named name params) ≡ 1) signing_names
-  pub no_other : AllByRecursion (λ p. IsTrue (is_signing_name p.name || not (begins_with p.name (codes "X-Amz-")))) params
-
--- bytes 0x20 to 0x7E, and no two spaces side by side
-pub record IsFitValue (value : List ℕ) : Type 0 where
-  pub plain : IsTrue (list_all (λ b. nat_le 0x20 b && nat_le b 0x7E) value)
-  pub single : (a b : List ℕ) → value ≢ a ++ 32 ∷ 32 ∷ b
-
--- fields with the `x-amz-` prefix, in any case, are signed
-abbrev pub is_covered : List Header → Header → Bool
-is_covered signed h =
-    not (begins_with (lower_case h.name) (codes "x-amz-")) || list_any (λ s. same_bytes s.name (lower_case h.name)) signed
+  pub once : StandOnce params
+  pub there : AreThere params
+  pub no_other : IsFalse (list_any (λ p. is_other_amz_name p.name) params)
 
 -- the methods that are served
 abbrev pub methods : List (List ℕ)

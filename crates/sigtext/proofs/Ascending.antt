@@ -21,7 +21,7 @@ less Greater h = absurd cc
 trans : (x y z : List ℕ) → bytes_cmp x y ≡ Less → bytes_cmp y z ≡ Less → bytes_cmp x z ≡ Less
 trans x y z = nat_list_cmp_total.trans x y z
 
-never_below_itself : (x : List ℕ) → bytes_cmp x x ≡ Less → ⊥
+pub never_below_itself : (x : List ℕ) → bytes_cmp x x ≡ Less → ⊥
 never_below_itself x h = let e = sym h ∙ tied_itself nat_list_cmp_total x in cc
 
 -- ---- what is above a text
@@ -48,7 +48,7 @@ ascends-tail key x (y ∷ ys) h = (and_parts (is_lt (bytes_cmp (key x) (key y)))
 -- ---- the same elements
 
 -- an element of a list is its first one, or one of the others
-first_or_later : {X : Type 0} (x : X) (xs : List X) (q : X) → Contains (x ∷ xs) q → (x ≡ q) ⊎ Contains xs q
+pub first_or_later : {X : Type 0} (x : X) (xs : List X) (q : X) → Contains (x ∷ xs) q → (x ≡ q) ⊎ Contains xs q
 first_or_later x xs q (zero, within, is) = inl is
 first_or_later x xs q (suc k, within, is) = inr (k, omega arith, is)
 

@@ -10,3 +10,16 @@ pub mod PlainTexts
 pub mod Decoding
 pub mod Pieces
 pub mod Targets
+pub mod NamesOnce
+pub mod EncodedOrder
+pub mod OrderedParams
+pub mod NamedParams
+pub mod NamePieces
+pub mod Spaces
+pub mod NamedFields
+pub mod ValuesNamed
+pub mod Sent
+pub mod Compared
+pub mod JoinedTexts
+pub mod Filtered
+pub mod CanonicalTexts

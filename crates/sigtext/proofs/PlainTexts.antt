@@ -37,6 +37,10 @@ pub encoded_append : (slash : Slash) (a b : List ℕ) → uri_encoded slash (a +
 unfolding uri_encoded
 encoded_append slash a b = flat_map-append (encoded_byte slash) a b
 
+pub encoded_nothing : (slash : Slash) → uri_encoded slash [] ≡ []
+unfolding uri_encoded
+encoded_nothing slash = refl
+
 pub encoded_slash : uri_encoded Encoded (codes "/") ≡ codes "%2F"
 unfolding uri_encoded
 encoded_slash = refl

@@ -1,6 +1,6 @@
 -- Texts as lists of bytes.
-use Rattle.std.specs.Prelude.{ℕ, ◌<◌, List, Bool, nat_eq}
-use Rattle.std.specs.List.{AllByRecursion, starts_with}
+use Rattle.std.specs.Prelude.{◌≡◌, ℕ, ◌<◌, ◌≤◌, List, ◌++◌, length, Bool, IsTrue, nat_eq}
+use Rattle.std.specs.List.{AllByRecursion, list_all, starts_with}
 use Rattle.std.specs.Ordering.{nat_cmp}
 use Rattle.std.specs.declared.cmp.Ordering.{Ordering}
 use Rattle.std.specs.Cmp.Lexicographic.{slice_cmp, pointwise}
@@ -8,6 +8,17 @@ use Rattle.std.specs.Cmp.Lexicographic.{slice_cmp, pointwise}
 -- each number is a byte
 abbrev pub AreBytes : List ℕ → Type 0
 AreBytes bytes = AllByRecursion (λ b. b < 256) bytes
+
+-- 1 to n bytes, each of which passes the test
+pub record IsWord (test : ℕ → Bool) (n : ℕ) (text : List ℕ) : Type 0 where
+  pub some : 0 < length text
+  pub short : length text ≤ n
+  pub each : IsTrue (list_all test text)
+
+-- a beginning of the text
+pub record IsBeginning (front text : List ℕ) : Type 0 where
+  pub rest : List ℕ
+  pub joined : text ≡ front ++ rest
 
 -- the two texts are equal, byte for byte
 abbrev pub same_bytes : List ℕ → List ℕ → Bool

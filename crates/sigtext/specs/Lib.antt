@@ -11,3 +11,9 @@ pub mod Rules
 pub mod Counts
 pub mod Fields
 pub mod Targets
+pub mod Params
+pub mod SignedNames
+pub mod SignedValues
+pub mod Sinks
+pub mod Signing
+pub mod Decoded

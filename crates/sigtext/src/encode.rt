@@ -27,7 +27,7 @@ const ESCAPED: AsciiSet = ascii_set!(
 const ESCAPED_BUT_SLASH: AsciiSet = ascii_set!(ESCAPED.remove(b'/'));
 
 // The bytes past ASCII are escaped always.
-fn escaped(slash: Slash) -> AsciiSet
+pub(crate) fn escaped(slash: Slash) -> AsciiSet
     ensures { EscapesTheRest slash result }
 {
     match slash {

@@ -1,15 +1,29 @@
-//! The texts of a presigned request: refusals, escapes and targets.
+//! The texts of a presigned request: refusals, escapes, targets, and what is signed.
 #![tactic(auto)]
 
+pub mod canonical;
 pub mod encode;
+pub mod escapes;
 pub mod field;
+mod fields;
+pub mod names;
+pub mod params;
 pub mod refusal;
+mod sending;
+pub mod sink;
 pub mod target;
+pub mod values;
 
+pub use canonical::{Parts, canonical_into};
 pub use encode::{Slash, uri_encode};
+pub use escapes::decodes_to;
 pub use field::Field;
+pub use names::SignedNames;
+pub use params::Params;
 pub use refusal::Refusal;
+pub use sink::ByteSink;
 pub use target::{Pairs, RawParam, Target, TextFault};
+pub use values::{Values, signed_values};
 
 #[cfg(test)]
 mod tests;

@@ -27,7 +27,7 @@ impl TextFault {
 /// The path and the query of a target, raw, as slices of the text that was read.
 #[derive(Clone, Copy, Debug)]
 pub struct Target<'a> {
-    path: &'a [u8],
+    pub(crate) path: &'a [u8],
     query: Option<&'a [u8]>,
 }
 

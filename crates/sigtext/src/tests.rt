@@ -2,6 +2,10 @@
 use crate::{Refusal, Slash, uri_encode};
 use std::test::Fail;
 
+mod canonical;
+mod headers;
+mod params;
+
 // A refusal; its number, status and word, with a space between; and its text.
 const LINES: [(Refusal, &str, &str); 37] = [
     (

@@ -1,15 +1,9 @@
 -- The credential of a link: key id, day, region, service and the fixed last word.
-use Rattle.std.specs.Prelude.{◌≡◌, ℕ, ◌<◌, ◌≤◌, Bool, ◌||◌, ◌==◌, IsTrue, List, ◌∷◌, ◌++◌, length}
+use Rattle.std.specs.Prelude.{◌≡◌, ℕ, Bool, ◌||◌, ◌==◌, IsTrue, List, ◌∷◌, ◌++◌, length}
 use Rattle.std.specs.List.{list_all}
 use Rattle.std.specs.Char.{is_ascii_alphanumeric, is_ascii_digit, is_ascii_lowercase}
-use Rattle.sigtext.specs.Bytes.{begins_with}
+use Rattle.sigtext.specs.Bytes.{IsWord, begins_with}
 use Rattle.sigv4.specs.Signature.{CredentialScope, scope_text}
-
--- 1 to n bytes, each of which passes the test
-pub record IsWord (test : ℕ → Bool) (n : ℕ) (text : List ℕ) : Type 0 where
-  pub some : 0 < length text
-  pub short : length text ≤ n
-  pub each : IsTrue (list_all test text)
 
 -- A-Z a-z 0-9 - _
 abbrev pub is_key_byte : ℕ → Bool

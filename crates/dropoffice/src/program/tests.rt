@@ -63,7 +63,11 @@ fn replays_the_published_request(rt: HostRuntime) -> Result<(), Fail> {
 #[test]
 fn another_request_is_not_served_yet(rt: HostRuntime) -> Result<(), Fail> {
     let stream = "another_request_is_not_served_yet.http";
-    fs::write(&rt, stream, b"GET / HTTP/1.1\r\nHost: a\r\n\r\n".as_slice())?;
+    fs::write(
+        &rt,
+        stream,
+        b"GET / HTTP/1.1\r\nContent-Length: 0\r\n\r\n".as_slice(),
+    )?;
     let words = ["drop", "replay", OFFICE, stream, "--at", MOMENT];
     let refused = gives(&rt, &words, Fails::None, 1, b"", b"drop: not served yet\n");
     let silent = gives(&rt, &words, Fails::Err, 1, b"", b"");

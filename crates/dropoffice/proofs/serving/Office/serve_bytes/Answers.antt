@@ -1,7 +1,7 @@
-use Rattle.std.proofs.Common.{map, take, sym}
+use Rattle.std.proofs.Common.{map, take, refl}
 use Rattle.sigtext.specs.Fields.{header_of}
 use Rattle.dropoffice.proofs.Texts.{clash}
-use Rattle.dropoffice.proofs.Fronts.{coded_bytes, measured_bytes, same_request, read_request, read_message, unserved_bytes, served_bytes}
+use Rattle.dropoffice.proofs.Fronts.{coded_bytes, measured_bytes, read_request, read_message, served_bytes}
 use Rattle.dropoffice.proofs.serving.Office.serve_bytes.Goals as goal
 
 pub returns-then-has_field-clause-unserved : goal.returns-then-has_field-clause-unserved
@@ -22,7 +22,7 @@ returns-clause-handled g c s means honest none other =
     let headers = map header_of (take c.in-Some.head.count c.read_head.new.fields) in
     let front = c.is_one_front.ensures.0 c.if-not-is_one_front.false in
     let message = read_message c.args.bytes.now found.0 c.in-Some.head.method.now c.in-Some.head.target.now headers front found.1 found.2 found.3 found.5 (c.has_field.ensures.0 c.if-has_field.false) (c.has_field-2.ensures.0 c.if-has_field-2.false) in
-    (read_request c.in-Some.head.method.now c.in-Some.head.target.now headers, message, c.serve_message.ensures.handled s means honest none other)
+    (read_request c.in-Some.head.method.now c.in-Some.head.target.now headers, message, c.serve_message.ensures.handled s means honest none (record { no_length = refl; no_body = refl }))
 
 pub returns-clause-served : goal.returns-clause-served
 returns-clause-served g c answered =
@@ -30,12 +30,7 @@ returns-clause-served g c answered =
     let headers = map header_of (take c.in-Some.head.count c.read_head.new.fields) in
     let front = c.is_one_front.ensures.0 c.if-not-is_one_front.false in
     let message = read_message c.args.bytes.now found.0 c.in-Some.head.method.now c.in-Some.head.target.now headers front found.1 found.2 found.3 found.5 (c.has_field.ensures.0 c.if-has_field.false) (c.has_field-2.ensures.0 c.if-has_field-2.false) in
-    let served = c.serve_message.ensures.served answered in
-    served_bytes c.args.bytes.now (read_request c.in-Some.head.method.now c.in-Some.head.target.now headers) served.0 message served.1
+    served_bytes c.args.bytes.now (read_request c.in-Some.head.method.now c.in-Some.head.target.now headers) message (record { no_length = refl; no_body = refl })
 
 pub returns-clause-unserved : goal.returns-clause-unserved
-returns-clause-unserved g c same served =
-    let found = c.in-Some.ensures.found in
-    let headers = map header_of (take c.in-Some.head.count c.read_head.new.fields) in
-    unserved_bytes c.args.bytes.now found.0 (read_request c.in-Some.head.method.now c.in-Some.head.target.now headers) found.1
-    (sym (same_request found.0 c.in-Some.head.method.now c.in-Some.head.target.now headers found.2 found.3 found.5)) (c.serve_message.ensures.unserved same) served
+returns-clause-unserved g c same served = absurd (c.serve_message.ensures.served same)

@@ -1,5 +1,0 @@
-use Rattle.std.proofs.Common.{◌≡◌, ℕ, ◌+◌, ◌<◌, get_or}
-use Rattle.dropoffice.proofs.fields.has_double_space.Given as goal
-
-abbrev pub invariant-bytes : goal.invariant-bytes
-invariant-bytes l = (k : ℕ) → k + 1 < l.i → get_or l.value k 0 ≡ 32 → get_or l.value (k + 1) 0 ≡ 32 → ⊥

@@ -1,0 +1,33 @@
+use Rattle.std.proofs.Common.{refl}
+use Rattle.std.proofs.lemmas.Result.{on_ok_weaker, on_err_weaker}
+use Rattle.sigtext.proofs.Sent.{sent_nothing, sent_more, sent_last, sent_part, sent_last_part, sent_none, at_error}
+use Rattle.sigtext.proofs.canonical.send_param.Goals as goal
+
+pub returns-in_err-send_recoded-clause-err : goal.returns-in_err-send_recoded-clause-err
+returns-in_err-send_recoded-clause-err g c =
+    let joins = g.met.S.ByteSink.joins in
+    let start = sent_nothing refl (g.met.S.ByteSink.nothing c.args.sink.now) in
+    at_error c.from_residual.result (sent_part _ joins start refl c.in_err-send_recoded.ensures.err)
+
+pub returns-in_err-take-clause-err : goal.returns-in_err-take-clause-err
+returns-in_err-take-clause-err g c =
+    let joins = g.met.S.ByteSink.joins in
+    let start = sent_nothing refl (g.met.S.ByteSink.nothing c.args.sink.now) in
+    let name = sent_more joins start refl c.in_ok-send_recoded.ensures.ok in
+    at_error c.from_residual-in_err-take.result (sent_none joins name c.in_err-take.ensures.err)
+
+pub returns-clause-err : goal.returns-clause-err
+returns-clause-err g c =
+    let joins = g.met.S.ByteSink.joins in
+    let start = sent_nothing refl (g.met.S.ByteSink.nothing c.args.sink.now) in
+    let name = sent_more joins start refl c.in_ok-send_recoded.ensures.ok in
+    let equals = sent_more joins name refl c.in_ok-take.ensures.ok in
+    on_err_weaker c.send_recoded-2.result (λ h. sent_last_part joins equals h) c.send_recoded-2.ensures.err
+
+pub returns-clause-ok : goal.returns-clause-ok
+returns-clause-ok g c =
+    let joins = g.met.S.ByteSink.joins in
+    let start = sent_nothing refl (g.met.S.ByteSink.nothing c.args.sink.now) in
+    let name = sent_more joins start refl c.in_ok-send_recoded.ensures.ok in
+    let equals = sent_more joins name refl c.in_ok-take.ensures.ok in
+    on_ok_weaker c.send_recoded-2.result (λ h. sent_last joins equals h) c.send_recoded-2.ensures.ok

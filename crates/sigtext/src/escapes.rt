@@ -1,0 +1,12 @@
+//! Texts whose escapes are decoded as they are read.
+ghost use Rattle.std.specs.Prelude.{◌≡◌, ◌↔◌, IsTrue};
+ghost use Rattle.percent_encoding.specs.Percent as percent;
+
+use percent_encoding::percent_decode;
+
+/// Whether the text, with its escapes decoded, is these bytes.
+pub fn decodes_to(text: &[u8], bytes: &[u8]) -> bool
+    ensures { IsTrue result ↔ (percent.percent_decode text.now ≡ bytes.now) }
+{
+    percent_decode(text).eq(bytes.iter().copied())
+}

@@ -1,0 +1,98 @@
+//! Searches and tests of a request's fields: names in any case, and values that may be signed.
+ghost use Rattle.std.specs.Prelude.{◌≡◌, ◌≢◌, ◌↔◌, ◌++◌, ◌∷◌, [], List, ℕ, map, reverse, codes, IsTrue, IsFalse, IfSome, IfNone, nat_le, ◌&&◌};
+ghost use Rattle.std.specs.List.{list_all};
+ghost use Rattle.sigtext.specs.Bytes.{same_bytes, begins_with};
+ghost use Rattle.sigtext.specs.Fields.{header_of};
+ghost use Rattle.sigtext.specs.SignedHeaders.{Header, is_blank, without_leading_blanks, trimmed, lower_case, named};
+ghost use Rattle.sigtext.specs.SignedValues.{IsFitValue};
+
+use crate::field::Field;
+
+/// Whether the two names are one, ASCII case aside.
+pub(crate) fn is_same_name(a: &[u8], b: &[u8]) -> bool
+    ensures { result ≡ same_bytes (lower_case a.now) (lower_case b.now) }
+{
+    a.eq_ignore_ascii_case(b)
+}
+
+/// Whether the name begins with `x-amz-`, ASCII case aside.
+pub(crate) fn is_amz_name(name: &[u8]) -> bool
+    ensures { result ≡ begins_with (lower_case name.now) (codes "x-amz-") }
+{
+    name.len() >= 6 && name[..6].eq_ignore_ascii_case(b"x-amz-")
+}
+
+/// The one field of this name, ASCII case aside; `None` where there is none, or two.
+pub(crate) fn only_field<'a>(fields: &[Field<'a>], name: &[u8]) -> Option<Field<'a>>
+    ensures some { IfSome result (λ f. named (lower_case name.now) (map header_of fields.now) ≡ header_of f ∷ []) }
+    ensures none { IfNone result ((h : Header) → named (lower_case name.now) (map header_of fields.now) ≡ h ∷ [] → ⊥) }
+{
+    let mut found: Option<Field<'a>> = None;
+    for field in fields {
+        if is_same_name(field.name, name) {
+            if found.is_some() {
+                return None;
+            }
+            found = Some(*field);
+        }
+    }
+    found
+}
+
+fn is_blank(byte: u8) -> bool
+    ensures { result ≡ is_blank byte }
+{
+    matches!(byte, b' ' | b'\t')
+}
+
+fn without_blanks_in_front(value: &[u8]) -> &[u8]
+    ensures { result.now ≡ without_leading_blanks value.now }
+{
+    for (i, byte) in value.iter().enumerate() {
+        if !is_blank(*byte) {
+            return &value[i..];
+        }
+    }
+    &[]
+}
+
+fn without_blanks_behind(value: &[u8]) -> &[u8]
+    ensures { result.now ≡ reverse (without_leading_blanks (reverse value.now)) }
+{
+    let mut end = value.len();
+    while end > 0 && is_blank(value[end - 1]) {
+        end -= 1;
+    }
+    &value[..end]
+}
+
+/// The value without the spaces and tabs at both ends.
+pub(crate) fn trim_blanks(value: &[u8]) -> &[u8]
+    ensures { result.now ≡ trimmed value.now }
+{
+    without_blanks_behind(without_blanks_in_front(value))
+}
+
+fn has_double_space(value: &[u8]) -> bool
+    ensures { IsFalse result ↔ ((a b : List ℕ) → value.now ≢ a ++ 32 ∷ 32 ∷ b) }
+{
+    for i in 1..value.len() {
+        if value[i - 1] == b' ' && value[i] == b' ' {
+            return true;
+        }
+    }
+    false
+}
+
+fn is_plain(value: &[u8]) -> bool
+    ensures { result ≡ list_all (λ b. nat_le 0x20 b && nat_le b 0x7E) value.now }
+{
+    value.iter().all(|byte| (0x20..=0x7E).contains(byte))
+}
+
+/// Whether the value may be signed: bytes 0x20 to 0x7E, and no two spaces side by side.
+pub(crate) fn is_fit_value(value: &[u8]) -> bool
+    ensures { IsTrue result ↔ IsFitValue value.now }
+{
+    is_plain(value) && !has_double_space(value)
+}

@@ -1,0 +1,80 @@
+//! The names of the signed headers.
+ghost use Rattle.std.specs.Prelude.{◌≡◌, ◌↔◌, ◌==◌, ◌∷◌, [], ℕ, List, IsTrue, IfOk, IfErr, codes, Contains};
+ghost use Rattle.std.specs.List.{AllByRecursion, slice_split};
+ghost use Rattle.sigtext.specs.SignedNames.{is_header_name_byte, IsHeaderName, AreSignedNames};
+ghost use Rattle.sigtext.specs.CanonicalQuery.{ascends};
+
+use crate::refusal::Refusal;
+
+/// The names of the signed headers: lower-case, strictly ascending, with `host` among them.
+#[derive(Clone, Copy, Debug)]
+pub struct SignedNames<'a> {
+    text: &'a [u8],
+}
+
+impl<'a> SignedNames<'a> {
+    /// Reads the names, which are joined by `;`. Each is 1 to 64 bytes of `a-z 0-9 - _ .`. Any other text
+    /// is refused with number 15. Nothing is copied, and the time is linear.
+    pub fn read(text: &'a [u8]) -> Result<SignedNames<'a>, Refusal>
+        ensures ok { IfOk result (λ n. (n.text.now ≡ text.now) × ((names : List (List ℕ)) × AreSignedNames text.now names)) }
+        ensures err { IfErr result (λ q. (q ≡ Refusal.SignedHeaders) × ((names : List (List ℕ)) → AreSignedNames text.now names → ⊥)) }
+    {
+        if has_form(text) && are_ascending(text) && has_host(text) {
+            Ok(SignedNames { text })
+        } else {
+            Err(Refusal::SignedHeaders)
+        }
+    }
+
+    /// The text of the names: joined by `;`.
+    pub fn text(&self) -> &'a [u8]
+        ensures { result.now ≡ self.now.text.now }
+    {
+        self.text
+    }
+}
+
+fn is_name_byte(byte: u8) -> bool
+    ensures { result ≡ is_header_name_byte byte }
+{
+    byte.is_ascii_lowercase() || byte.is_ascii_digit() || matches!(byte, b'-' | b'_' | b'.')
+}
+
+// Whether the text is a header name of 1 to 64 bytes.
+fn is_header_name(text: &[u8]) -> bool
+    ensures { IsTrue result ↔ IsHeaderName text.now }
+{
+    if text.is_empty() || text.len() > 64 {
+        return false;
+    }
+    text.iter().all(|byte| is_name_byte(*byte))
+}
+
+// Whether each piece of the text at `;` is a header name.
+fn has_form(text: &[u8]) -> bool
+    ensures { IsTrue result ↔ AllByRecursion IsHeaderName (slice_split (λ b. b == 59) text.now) }
+{
+    text.split(|byte| *byte == b';').all(is_header_name)
+}
+
+// Whether each piece of the text at `;` is below the next one, and the first one is not empty.
+fn are_ascending(text: &[u8]) -> bool
+    ensures { result ≡ ascends ([] ∷ slice_split (λ b. b == 59) text.now) }
+{
+    let mut before: &[u8] = &[];
+    for name in text.split(|byte| *byte == b';') {
+        if before >= name {
+            return false;
+        }
+        before = name;
+    }
+    true
+}
+
+// Whether `host` is a piece of the text at `;`.
+fn has_host(text: &[u8]) -> bool
+    ensures { IsTrue result ↔ Contains (slice_split (λ b. b == 59) text.now) (codes "host") }
+{
+    text.split(|byte| *byte == b';')
+        .any(|name| name == b"host".as_slice())
+}

@@ -1,0 +1,43 @@
+//! What takes bytes, piece after piece.
+ghost use Rattle.std.specs.Prelude.{◌≡◌, ℕ, Bool, true, List, [], ◌++◌, IsOk, OnOk, OnErr};
+
+use std::alloc::AllocError;
+
+/// What takes the bytes of a text, piece after piece.
+pub trait ByteSink {
+    /// From this sink, by taking these bytes, to that sink.
+    ghost takes: { Self → List ℕ → Self → Type 0 };
+
+    /// No call of `take` fails.
+    ghost never_fails: { Bool };
+
+    /// Takes the bytes, after those that it took before. An error, which is want of memory alone, takes
+    /// none.
+    fn take(&mut self, bytes: &[u8]) -> Result<(), AllocError>
+        ensures ok { OnOk result (takes self.old bytes.now self.new) }
+        ensures err { OnErr result (takes self.old [] self.new) }
+        ensures sure { never_fails ≡ true → IsOk result };
+
+    /// A sink that takes nothing may stay as it is.
+    ghost nothing: { (s : Self) → takes s [] s };
+
+    /// One text and then another are the joined text.
+    ghost joins: { (s t u : Self) (a b : List ℕ) → takes s a t → takes t b u → takes s (a ++ b) u };
+}
+
+impl ByteSink for Vec<u8> {
+    ghost use Rattle.std.specs.Prelude.{◌≡◌, ◌++◌, false};
+    ghost use Rattle.sigtext.specs.Sinks.{appends_nothing, appends_both};
+
+    ghost takes = { λ v bytes w. w.items ≡ v.items ++ bytes };
+
+    ghost never_fails = { false };
+
+    fn take(&mut self, bytes: &[u8]) -> Result<(), AllocError> {
+        self.extend_from_slice(bytes)
+    }
+
+    ghost nothing = { λ v. appends_nothing v.items };
+
+    ghost joins = { λ v w x a b p q. appends_both v.items w.items x.items a b p q };
+}

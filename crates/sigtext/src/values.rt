@@ -1,0 +1,102 @@
+//! The values of the signed headers.
+ghost use Rattle.std.specs.Prelude.{◌≡◌, ◌≢◌, ◌==◌, ℕ, List, map, IfOk, IfErr, IfSome, IfNone};
+ghost use Rattle.std.specs.List.{list_all, slice_split};
+ghost use Rattle.sigtext.specs.Fields.{header_of};
+ghost use Rattle.sigtext.specs.Rules.{IsFirstToFail, AllHold};
+ghost use Rattle.sigtext.specs.SignedHeaders.{Header, lower_case, IsSignedValue};
+ghost use Rattle.sigtext.specs.SignedNames.{AreSignedNames};
+ghost use Rattle.sigtext.specs.SignedValues.{IsFitValue, is_covered, ValueRule};
+ghost use Rattle.sigtext.specs.Signing.{signed_header, values_of};
+
+use crate::field::Field;
+use crate::fields::{is_amz_name, is_fit_value, is_same_name, only_field, trim_blanks};
+use crate::names::SignedNames;
+use crate::refusal::Refusal;
+use std::alloc::Global;
+
+/// The signed headers of a request, one for each signed name and in the order of the names. They borrow
+/// from the request's fields alone.
+#[derive(Drop)]
+pub struct Values<'a> {
+    // The name is the field's, in its case; the value is without the blanks at both ends.
+    pub(crate) fields: Vec<Field<'a>>,
+}
+
+/// The signed values of these names in a request's fields. Each name must be that of exactly one field,
+/// ASCII case aside, whose value without spaces and tabs at both ends holds bytes 0x20 to 0x7E alone and
+/// no two adjacent spaces: else refusal 17. Each field whose name begins with `x-amz-` must be signed:
+/// else refusal 18. Where memory is refused, refusal 40.
+pub fn signed_values<'a>(
+    alloc: Global,
+    fields: &'a [Field<'a>],
+    names: &SignedNames<'_>,
+) -> Result<Values<'a>, Refusal>
+    ensures ok { IfOk result (λ v. (ns : List (List ℕ)) → AreSignedNames names.now.text.now ns
+        → AllHold (ValueRule (map header_of fields.now) ns) (values_of v)) }
+    ensures err { IfErr result (λ q. (ns : List (List ℕ)) → AreSignedNames names.now.text.now ns → (q ≢ Refusal.TryAgain)
+        → IsFirstToFail (ValueRule (map header_of fields.now) ns) q) }
+{
+    let values = values_named(alloc, fields, names.text())?;
+    if !covers_all(&values.fields, fields) {
+        return Err(Refusal::HeaderNotSigned);
+    }
+    Ok(values)
+}
+
+// The values of the names, which are the pieces of the text at `;`.
+fn values_named<'a>(
+    alloc: Global,
+    fields: &'a [Field<'a>],
+    names: &[u8],
+) -> Result<Values<'a>, Refusal>
+    ensures ok { IfOk result (λ v. ValueRule (map header_of fields.now) (map lower_case (slice_split (λ b. b == 59) names.now)) Refusal.SignedValues (values_of v)) }
+    ensures err { IfErr result (λ q. (q ≢ Refusal.TryAgain) → (q ≡ Refusal.SignedValues)
+        × ((signed : List Header) → ValueRule (map header_of fields.now) (map lower_case (slice_split (λ b. b == 59) names.now)) Refusal.SignedValues signed → ⊥)) }
+{
+    let mut values = Vec::new(alloc);
+    for name in names.split(|byte| *byte == b';') {
+        let Some(field) = signed_field(fields, name) else {
+            return Err(Refusal::SignedValues);
+        };
+        if values.push(field).is_err() {
+            return Err(Refusal::TryAgain);
+        }
+    }
+    Ok(Values { fields: values })
+}
+
+// The one field of this name, with its value trimmed, which is fit.
+fn signed_field<'a>(fields: &[Field<'a>], name: &[u8]) -> Option<Field<'a>>
+    ensures some { IfSome result (λ f. (lower_case f.name.now ≡ lower_case name.now)
+        × IsSignedValue (map header_of fields.now) (lower_case name.now) f.value.now × IsFitValue f.value.now) }
+    ensures none { IfNone result ((value : List ℕ) → IsSignedValue (map header_of fields.now) (lower_case name.now) value → IsFitValue value → ⊥) }
+{
+    let field = only_field(fields, name)?;
+    let value = trim_blanks(field.value);
+    if !is_fit_value(value) {
+        return None;
+    }
+    Some(Field {
+        name: field.name,
+        value,
+    })
+}
+
+// Whether the field is one of the signed ones, or its name does not begin with `x-amz-`.
+fn covers(signed: &[Field<'_>], field: &Field<'_>) -> bool
+    ensures { result ≡ is_covered (map signed_header signed.now) (header_of field.now) }
+{
+    if !is_amz_name(field.name) {
+        return true;
+    }
+    signed
+        .iter()
+        .any(|value| is_same_name(value.name, field.name))
+}
+
+// Whether each field whose name begins with `x-amz-` is one of the signed ones.
+fn covers_all(signed: &[Field<'_>], fields: &[Field<'_>]) -> bool
+    ensures { result ≡ list_all (is_covered (map signed_header signed.now)) (map header_of fields.now) }
+{
+    fields.iter().all(|field| covers(signed, field))
+}
