@@ -9,7 +9,7 @@ use Rattle.sigtext.specs.Bytes.{IsBeginning}
 use Rattle.wire.specs.Shown.{text_of}
 use Rattle.dropoffice.specs.declared.handling.Handled.{Handled}
 use Rattle.dropoffice.specs.declared.handling.Handled.TheVariants.{Unserved, Answered, GaveUp, Broken}
-use Rattle.dropoffice.specs.Handling.{Handles, answered, gave_up, gave_up_at, broke, broke_giving_up, broke_giving_up_at}
+use Rattle.dropoffice.specs.Handling.{Handles, answered, gave_up_at, broke, broke_giving_up_at}
 use Rattle.dropoffice.specs.Offices.{try_again, IsAnswered}
 use Rattle.dropoffice.specs.Sent.{IsSent}
 use Rattle.dropoffice.specs.Sessions.{closing}
@@ -33,11 +33,3 @@ handled_at gives clock clock' old new means s r now a Broken told same answers s
     (λ again. broke_giving_up_at now sent.1 told sent.2 (subst (IsBeginning sent.1) (again_written a again) sent.3) same)
     (λ other. let x = answers other in broke now (text_of a) sent.1 x.0 told sent.2 sent.3 x.1 x.2)
     sent.0
-
--- a message that was given up before
-pub handled_before : {C : Type 0} (gives : C → ℕ → C → Type 0) (clock : C) (old new : Option (List ℕ)) (means : State → Type 0) (s : State) (r : Request) (a : Answer) (h : Handled)
-    → a ≡ try_again → means s → IsSent old new a h → Handles gives clock clock old new means s r h
-handled_before gives clock old new means s r a Unserved is same sent = absurd sent
-handled_before gives clock old new means s r a Answered is same sent = absurd (sent.0 is)
-handled_before gives clock old new means s r a GaveUp is same sent = gave_up refl (subst (Appends old new) (again_written a is) sent.1) same
-handled_before gives clock old new means s r a Broken is same sent = broke_giving_up sent.1 refl sent.2 (subst (IsBeginning sent.1) (again_written a is) sent.3) same

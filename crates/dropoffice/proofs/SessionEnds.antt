@@ -12,7 +12,7 @@ use Rattle.wire.specs.Heads.{IsHeadEnd, HasNoHeadEnd}
 use Rattle.dropoffice.specs.declared.handling.Handled.TheVariants as handled
 use Rattle.dropoffice.specs.declared.session.SessionEnd.TheVariants.{Ended, Refused, ReadFault, WriteFault}
 use Rattle.dropoffice.specs.Connections.{IsKnown, Serves}
-use Rattle.dropoffice.specs.Handling.{Handles, answered, gave_up, gave_up_at, broke, broke_giving_up, broke_giving_up_at}
+use Rattle.dropoffice.specs.Handling.{Handles, answered, gave_up_at, broke, broke_giving_up_at}
 use Rattle.dropoffice.specs.Sessions.{Session, closing}
 use Rattle.dropoffice.specs.Sessions as session
 use Rattle.dropoffice.specs.Streams.{IsMessage}
@@ -98,20 +98,6 @@ fails_before gives clock input input' output means s bytes read none same = (
 pub gives_up : {C : Type 0} (gives : C → ℕ → C → Type 0) (clock clock' : C) (input input' output output' : Option (List ℕ)) (means : State → Type 0) (s : State) (r : Request) (bytes : List ℕ)
     → Consumes input input' bytes → IsMessage bytes r → Handles gives clock clock' output output' means s r handled.GaveUp
     → (after : State) × means after × Serves gives input input' output output' clock clock' s after (Refused 40)
-gives_up gives clock clock' input input' output output' means s r bytes read message (gave_up told written same) =
-    let whole = known_whole input input' bytes read in (
-      s,
-      same,
-      record {
-        stream = bytes ++ whole.0;
-        moments = [];
-        answers = closing rule.TryAgain;
-        read = whole.1;
-        told = told;
-        written = written;
-        session = session.gave_up 999 (bytes ++ whole.0) s;
-      },
-    )
 gives_up gives clock clock' input input' output output' means s r bytes read message (gave_up_at now told written same) =
     let whole = known_whole input input' bytes read in (
       s,
@@ -142,20 +128,6 @@ breaks gives clock clock' input input' output output' means s r bytes read messa
         told = (clock', told, refl);
         written = written;
         session = session.write_failed 999 (bytes ++ whole.0) whole.0 s after r now text front (message whole.0) answers beginning;
-      },
-    )
-breaks gives clock clock' input input' output output' means s r bytes read message (broke_giving_up front told written beginning same) =
-    let whole = known_whole input input' bytes read in (
-      s,
-      same,
-      record {
-        stream = bytes ++ whole.0;
-        moments = [];
-        answers = front;
-        read = whole.1;
-        told = told;
-        written = written;
-        session = session.write_failed_giving_up 999 (bytes ++ whole.0) s front beginning;
       },
     )
 breaks gives clock clock' input input' output output' means s r bytes read message (broke_giving_up_at now front told written beginning same) =

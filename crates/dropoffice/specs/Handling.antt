@@ -10,16 +10,13 @@ use Rattle.dropoffice.specs.declared.handling.Handled.TheVariants.{Answered, Gav
 use Rattle.dropoffice.specs.Answering.{Answers}
 use Rattle.dropoffice.specs.Sessions.{closing}
 
--- a message that is the request r was handled: it was answered, given up before or after its moment
--- was taken, or the answer's writing broke off
+-- a message that is the request r was handled at a moment: it was answered or given up, or the answer's
+-- writing broke off
 pub data Handles {C : Type 0} (gives : C → ℕ → C → Type 0) (clock clock' : C) (output output' : Option (List ℕ)) (means : State → Type 0) (s : State) (r : Request) : Handled → Type 0 where
   answered : (now : ℕ) (text : List ℕ) (after : State) → gives clock now clock' → Appends output output' text → means after → Answers s r now text after
       → Handles gives clock clock' output output' means s r Answered
-  gave_up : clock ≡ clock' → Appends output output' (closing rule.TryAgain) → means s → Handles gives clock clock' output output' means s r GaveUp
   gave_up_at : (now : ℕ) → gives clock now clock' → Appends output output' (closing rule.TryAgain) → means s → Handles gives clock clock' output output' means s r GaveUp
   broke : (now : ℕ) (text front : List ℕ) (after : State) → gives clock now clock' → Appends output output' front → IsBeginning front text → means after → Answers s r now text after
-      → Handles gives clock clock' output output' means s r Broken
-  broke_giving_up : (front : List ℕ) → clock ≡ clock' → Appends output output' front → IsBeginning front (closing rule.TryAgain) → means s
       → Handles gives clock clock' output output' means s r Broken
   broke_giving_up_at : (now : ℕ) (front : List ℕ) → gives clock now clock' → Appends output output' front → IsBeginning front (closing rule.TryAgain) → means s
       → Handles gives clock clock' output output' means s r Broken

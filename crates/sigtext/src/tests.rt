@@ -5,6 +5,7 @@ use std::test::Fail;
 mod canonical;
 mod headers;
 mod params;
+mod whole;
 
 // A refusal; its number, status and word, with a space between; and its text.
 const LINES: [(Refusal, &str, &str); 37] = [
