@@ -1,6 +1,6 @@
 #!/usr/bin/env bash
-# Passes all tests: `rt ci` from nothing, and then the published request while memory is refused. The last
-# line is `N passed, M failed`, the sum of both.
+# Passes all tests: `rt ci` from nothing, requests with links that boto3 makes, and the published request while
+# memory is refused. The last line is `N passed, M failed`, the sum of all.
 set -u
 cd "$(dirname "$0")/.." || exit 2
 log=$(mktemp)
@@ -26,6 +26,7 @@ count() {
 }
 
 count rt ci
+count bash ci/interop.sh
 count bash ci/refuse_memory.sh
 echo "$passed passed, $failed failed"
 [ "$failed" -eq 0 ]

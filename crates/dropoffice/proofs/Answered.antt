@@ -1,5 +1,5 @@
 -- What a refusal is answered with.
-use Rattle.std.proofs.Common.{◌≡◌, ◌≢◌, ℕ, List, codes, ap, ◌∙◌, sym}
+use Rattle.std.proofs.Common.{◌≡◌, ◌≢◌, ℕ, List, codes, ap}
 use Rattle.sigtext.specs.declared.refusal.Refusal.{Refusal}
 use Rattle.sigtext.specs.declared.refusal.Refusal.TheVariants as rule
 use Rattle.sigtext.specs.Bytes.{same_bytes}
@@ -10,7 +10,7 @@ use Rattle.wire.specs.declared.answer.Answer.{Answer}
 use Rattle.wire.specs.declared.answer.Reply.TheVariants as reply
 use Rattle.wire.specs.Shown.{text_of}
 use Rattle.wire.specs.Answers as said
-use Rattle.dropoffice.specs.Answering.{Answers, refuses, is_head}
+use Rattle.dropoffice.specs.Answering.{Answers, refuses}
 use Rattle.dropoffice.specs.Offices.{try_again}
 use Rattle.dropoffice.specs.Rules.{Rule}
 

@@ -1,6 +1,6 @@
 -- Which rule past number 18 is the least that fails, for a well-formed request without a body.
-use Rattle.std.proofs.Common.{◌≡◌, ◌≢◌, ℕ, ◌+◌, ◌<◌, ◌≤◌, Bool, true, false, List, [], ◌∷◌, codes, Option, Some, None, refl, sym, ap, subst, ◌∙◌, inl, inr, ⊎_elim, arith}
-use Rattle.std.specs.Prelude.{◌⊎◌, IsTrue, IsFalse, IsSome, IfSome, option_map}
+use Rattle.std.proofs.Common.{◌≡◌, ℕ, ◌+◌, ◌<◌, ◌≤◌, true, List, [], ◌∷◌, Option, Some, None, refl, sym, ap, subst, ◌∙◌, inl, inr, ⊎_elim, arith}
+use Rattle.std.specs.Prelude.{IsFalse, IsSome, IfSome, option_map}
 use Rattle.std.proofs.lemmas.Bool.{cases_lt}
 use Rattle.std.specs.FinMap.{get}
 use Rattle.sigtext.specs.declared.refusal.Refusal.{Refusal}
@@ -19,7 +19,7 @@ use Rattle.boxes.specs.State.{Place}
 use Rattle.dropoffice.specs.Remaining.{Remains, no_clerk, no_command, no_length, no_box}
 use Rattle.dropoffice.specs.Rules.{IsPut, IsPost, IsFetch, known, place_of, upload_of, FormRule, DeskRule, Rule}
 use Rattle.dropoffice.specs.Served.{IsServedRequest, HasNoBox}
-use Rattle.dropoffice.proofs.Texts.{clash}
+use Rattle.links.proofs.Texts.{clash}
 
 -- ---- methods
 

@@ -1,22 +1,18 @@
 -- What is refused of a link whose key was looked up.
-use Rattle.std.proofs.Common.{◌≡◌, ◌≢◌, ℕ, List, Option, Some, None, refl, sym, ap, subst, ◌∙◌}
-use Rattle.std.specs.Prelude.{IsTrue, option_map}
-use Rattle.std.specs.List.{list_any}
+use Rattle.std.proofs.Common.{◌≡◌, ◌≢◌, ℕ, List, Option, Some, None, refl, sym, ap, ◌∙◌}
+use Rattle.std.specs.Prelude.{option_map}
 use Rattle.std.specs.FinMap.{get}
 use Rattle.sigtext.specs.declared.refusal.Refusal.{Refusal}
 use Rattle.sigtext.specs.declared.refusal.Refusal.TheVariants as rule
-use Rattle.sigtext.specs.Bytes.{same_bytes}
 use Rattle.sigtext.specs.Request.{Request}
 use Rattle.sigtext.specs.Rules.{IsFirstToFail}
-use Rattle.links.specs.WellFormed.{Parts, IsWellFormed, methods}
+use Rattle.links.specs.WellFormed.{Parts, IsWellFormed}
 use Rattle.boxes.specs.State.{Key, State}
 use Rattle.boxes.specs.Rows.{key_of}
 use Rattle.boxes.specs.declared.rows.KeyRow.{KeyRow}
-use Rattle.dropoffice.specs.Judging.{FailsAt}
+use Rattle.links.specs.Judging.{FailsAt}
 use Rattle.dropoffice.specs.Rules.{Rule}
 use Rattle.dropoffice.specs.Served.{IsServedRequest}
-use Rattle.dropoffice.specs.LinkParts.{IsLinkOf}
-use Rattle.dropoffice.specs.declared.link.LinkParts.{LinkParts}
 use Rattle.dropoffice.proofs.Deciding.{HasKey, signature_mismatch, not_yet_valid, expired}
 
 -- what the keeper answered of the key
@@ -25,10 +21,6 @@ asked_none s asked id o value none same = ap (get s.keys) (sym same) ∙ sym val
 
 pub asked_some : (s : State) (asked id : List ℕ) (o : Option KeyRow) (row : KeyRow) → option_map key_of o ≡ get s.keys asked → o ≡ Some row → asked ≡ id → get s.keys id ≡ Some (key_of row)
 asked_some s asked id o row value some same = ap (get s.keys) (sym same) ∙ sym value ∙ ap (λ (x : Option KeyRow). option_map key_of x) some
-
--- the method of a link that was read is served
-pub served_method : (l : LinkParts) (r : Request) (p : Parts) → IsLinkOf l r p → IsTrue (list_any (same_bytes l.parts.method.now) methods)
-served_method l r p is = subst (λ (m : List ℕ). IsTrue (list_any (same_bytes m) methods)) is.signed.method (is.well_formed rule.Method)
 
 -- the signature or the window is refused
 pub judged : (s : State) (r : Request) (now : ℕ) (p : Parts) (k : Key) (q : Refusal) → IsServedRequest r → IsWellFormed r p → HasKey s p k

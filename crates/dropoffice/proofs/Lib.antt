@@ -1,6 +1,4 @@
-pub mod Texts
 pub mod FieldLists
-pub mod Digits
 pub mod Lookups
 pub mod Deciding
 pub mod Answered
@@ -16,11 +14,5 @@ pub mod TaskNames
 pub mod TaskValues
 mod Admission
 mod SoundOffice
-pub mod PairLoops
-pub mod SixLemmas
-pub mod LinkSigning
 pub mod Methods
-pub mod SixForms
-pub mod LinkRules
 pub mod Judged
-pub mod Inspected

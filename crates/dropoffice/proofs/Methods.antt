@@ -1,11 +1,11 @@
 -- The methods that are served.
-use Rattle.std.proofs.Common.{◌≡◌, ◌≢◌, ℕ, true, List, codes, sym, ◌∙◌, inl, inr, ⊎_elim, refl}
+use Rattle.std.proofs.Common.{◌≡◌, ◌≢◌, ℕ, List, codes, inl, inr, ⊎_elim}
 use Rattle.std.specs.Prelude.{◌⊎◌, IsTrue}
 use Rattle.std.specs.List.{list_any}
 use Rattle.std.proofs.lemmas.Bool.{or_cases}
 use Rattle.sigtext.specs.Bytes.{same_bytes}
 use Rattle.links.specs.WellFormed.{methods}
-use Rattle.dropoffice.proofs.Texts.{texts_equal}
+use Rattle.links.proofs.Texts.{texts_equal}
 
 -- a served method that is neither PUT nor POST
 pub fetch_left : (method : List ℕ) → IsTrue (list_any (same_bytes method) methods) → (method ≢ codes "PUT") → (method ≢ codes "POST") → (method ≡ codes "GET") ⊎ (method ≡ codes "HEAD")

@@ -10,7 +10,4 @@ pub mod Handling
 pub mod Sent
 pub mod Streams
 pub mod Tasks
-pub mod SixValues
-pub mod LinkParts
-pub mod Judging
 pub mod Remaining

@@ -5,15 +5,12 @@ pub mod clocks;
 #[cfg(test)]
 mod fakes;
 mod fields;
-mod forms;
 mod handling;
-mod judging;
-mod link;
 pub mod one_key;
 mod program;
+mod reading;
 pub mod serving;
 pub mod session;
-mod six;
 pub mod task;
 
 pub use clocks::{Clock, FixedClock, ListedClock};

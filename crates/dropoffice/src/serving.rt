@@ -13,13 +13,13 @@ ghost use Rattle.dropoffice.specs.Served.{IsServedRequest};
 use crate::clocks::Clock;
 use crate::fields::has_field;
 use crate::handling::{Handled, refused_to, send_answer};
-use crate::judging::judge;
-use crate::link::{LinkParts, read_link};
+use crate::reading::read_link;
 use crate::session::SessionEnd;
 use boxes::rows::Role;
 use keeper::Keeper;
+use links::{LinkParts, judge};
 use sigtext::{Field, Refusal};
-use sigv4::{Moment, Scope};
+use sigv4::Moment;
 use std::alloc::Global;
 use std::io::{Read, Write};
 use wire::{Answer, Counted, Message, Stop, fill, head_end, read_head};
@@ -75,7 +75,7 @@ impl<K: Keeper> Office<K> {
     ghost use Rattle.dropoffice.specs.Streams.{IsMessage};
     ghost use Rattle.dropoffice.specs.Connections.{Serves, Runs};
     ghost use Rattle.dropoffice.specs.Served.{IsServed, IsServedRequest, HasNoBox, AreAllServed};
-    ghost use Rattle.dropoffice.specs.LinkParts.{IsLinkOf, IsInspected};
+    ghost use Rattle.links.specs.LinkReadings.{IsLinkOf};
 
     /// An office over this keeper, which it holds as it is.
     pub fn new(alloc: Global, keeper: K) -> Office<K>
@@ -85,26 +85,24 @@ impl<K: Keeper> Office<K> {
     }
 
     // The least rule past number 18 that fails for a link that was read, where there is no box.
-    fn refusal_of(&mut self, link: &LinkParts<'_>, now: Moment) -> Refusal
-        requires { IsInspected link.now }
+    fn refusal_of(&mut self, link: &LinkParts<'_>, method: &[u8], now: Moment) -> Refusal
+        requires { IsTrue (list_any (same_bytes method.now) methods) }
         ensures fails { (s : State) (r : Request) (p : Parts) → K.means self.old.keeper s → K.is_honest self.new.keeper
-            → HasNoBox s → IsServedRequest r → IsLinkOf link.now r p → (result ≢ Refusal.TryAgain) → IsFirstToFail (Rule s r now) result }
+            → HasNoBox s → IsServedRequest r → r.method ≡ method.now → IsLinkOf link.now r p → (result ≢ Refusal.TryAgain)
+            → IsFirstToFail (Rule s r now) result }
         ensures same { (s : State) → K.means self.old.keeper s → K.means self.new.keeper s }
         ensures honest { K.is_honest self.new.keeper → K.is_honest self.old.keeper }
         ensures counted { (result ≢ Refusal.TryAgain) → K.faults self.new.keeper ≡ K.faults self.old.keeper }
         ensures never_less { K.faults self.old.keeper ≤ K.faults self.new.keeper }
     {
-        let Ok(scope) = Scope::read(&link.credential, &link.date) else {
-            unreachable!()
-        };
-        match self.keeper.key(scope.key_id) {
+        match self.keeper.key(link.key_id()) {
             Ok(None) => Refusal::KeyUnknown,
             Ok(Some(key)) => {
                 if key.revoked {
                     return Refusal::KeyRevoked;
                 }
                 match judge(self.alloc, link, &key.secret, now) {
-                    Ok(()) => refusal_past_link(link.parts.method, key.role),
+                    Ok(()) => refusal_past_link(method, key.role),
                     Err(refusal) => refusal,
                 }
             }
@@ -123,7 +121,7 @@ impl<K: Keeper> Office<K> {
     {
         match read_link(self.alloc, message) {
             Ok(link) => {
-                let refusal = self.refusal_of(&link, now);
+                let refusal = self.refusal_of(&link, message.method, now);
                 refused_to(refusal, message.method)
             }
             Err(refusal) => refused_to(refusal, message.method),

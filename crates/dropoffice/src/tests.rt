@@ -212,7 +212,7 @@ fn breaks_off(alloc: Global, at_once: usize, room: usize) -> Result<bool, AllocE
     let got = writer.inner.text.as_slice();
     Ok(
         end == SessionEnd::WriteFault
-            && writer.faults == 1
+            && writer.faults() == 1
             && NO_BOX.starts_with(got)
             && got.len() < NO_BOX.len(),
     )

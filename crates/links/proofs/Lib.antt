@@ -1,3 +1,11 @@
 pub mod Values
 pub mod Parts
 pub mod Signing
+pub mod SixLemmas
+pub mod SixForms
+pub mod PairLoops
+pub mod LinkRules
+pub mod Inspected
+pub mod LinkSigning
+pub mod Digits
+pub mod Texts

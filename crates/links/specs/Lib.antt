@@ -1,3 +1,6 @@
 pub mod Forms
 pub mod WellFormed
 pub mod Admits
+pub mod SixValues
+pub mod LinkReadings
+pub mod Judging

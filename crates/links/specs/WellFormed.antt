@@ -1,6 +1,6 @@
 -- What a request's method, target and fields must hold, whatever the office keeps (Amazon S3 API
 -- Reference, "Authenticating Requests: Using Query Parameters").
-use Rattle.std.specs.Prelude.{◌≡◌, ◌≢◌, ℕ, Bool, ◌&&◌, not, IsTrue, IsFalse, List, [], ◌∷◌, ◌++◌, length, map, filter, codes, ⊤}
+use Rattle.std.specs.Prelude.{◌≡◌, ℕ, Bool, ◌&&◌, not, IsTrue, IsFalse, List, [], ◌∷◌, length, map, codes, ⊤}
 use Rattle.std.specs.List.{list_all, list_any, AllByRecursion}
 use Rattle.sigtext.specs.declared.refusal.Refusal.{Refusal}
 use Rattle.sigtext.specs.declared.refusal.Refusal.TheVariants as rule

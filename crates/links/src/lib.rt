@@ -1,2 +1,13 @@
-//! Presigned links: the definitions of well-formed links and of those that are admitted.
+//! Presigned links: which are well formed, and which are admitted.
 #![tactic(auto)]
+
+mod forms;
+pub mod judging;
+pub mod link;
+mod six;
+
+pub use judging::judge;
+pub use link::{LinkParts, inspect};
+
+#[cfg(test)]
+mod tests;

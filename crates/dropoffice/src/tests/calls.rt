@@ -105,9 +105,9 @@ fn runs_a_list_of_connections(rt: HostRuntime) -> Result<(), Fail> {
     assert_eq!(rt; connections[0].1.inner.text.as_slice(), NO_BOX);
     assert_eq!(rt; connections[1].1.inner.text.as_slice(), EXPIRED);
     assert_eq!(rt; connections[2].1.inner.text.as_slice(), &EXPIRED[..8]);
-    assert_eq!(rt; connections[0].0.faults, 0);
-    assert_eq!(rt; connections[0].1.faults, 0);
-    assert_eq!(rt; connections[1].0.faults, 1);
-    assert_eq!(rt; connections[2].1.faults, 1);
+    assert_eq!(rt; connections[0].0.faults(), 0);
+    assert_eq!(rt; connections[0].1.faults(), 0);
+    assert_eq!(rt; connections[1].0.faults(), 1);
+    assert_eq!(rt; connections[2].1.faults(), 1);
     Ok(())
 }

@@ -1,9 +1,9 @@
-use Rattle.std.proofs.Common.{◌≡◌, ◌≢◌, ℕ, List, codes, sym, ◌∙◌}
+use Rattle.std.proofs.Common.{◌≡◌, ◌≢◌, sym, ◌∙◌}
 use Rattle.boxes.specs.declared.rows.Role.{Role}
 use Rattle.boxes.specs.declared.rows.Role.TheVariants.{Clerk, Link}
 use Rattle.dropoffice.specs.Remaining.{no_clerk, no_command, no_length, no_box}
 use Rattle.dropoffice.proofs.Methods.{fetch_left}
-use Rattle.dropoffice.proofs.Texts.{texts_equal, texts_differ}
+use Rattle.links.proofs.Texts.{texts_equal, texts_differ}
 use Rattle.dropoffice.proofs.serving.refusal_past_link.Goals as goal
 
 apart : (role : Role) → role ≡ Link → role ≢ Clerk

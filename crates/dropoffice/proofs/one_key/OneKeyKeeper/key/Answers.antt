@@ -4,7 +4,7 @@ use Rattle.boxes.specs.declared.rows.Role.TheVariants.{Clerk}
 use Rattle.boxes.specs.State.{Key, State}
 use Rattle.dropoffice.specs.OneKey.{state_of}
 use Rattle.dropoffice.proofs.Lookups.{get_same, get_other}
-use Rattle.dropoffice.proofs.Texts.{texts_differ, texts_equal, not_true, not_false}
+use Rattle.links.proofs.Texts.{texts_differ, texts_equal, not_true, not_false}
 use Rattle.dropoffice.proofs.one_key.OneKeyKeeper.key.Goals as goal
 
 pub returns-then-ne-clause-value : goal.returns-then-ne-clause-value

@@ -1,8 +1,12 @@
-use Rattle.std.proofs.Common.{◌≢◌, ◌≡◌, refl, sym, subst, ◌∙◌}
+use Rattle.std.proofs.Common.{refl}
+use Rattle.sigtext.specs.declared.refusal.Refusal.TheVariants as rule
 use Rattle.wire.specs.Messages.{request_in}
 use Rattle.dropoffice.proofs.Answered.{not_again, refused_text}
 use Rattle.dropoffice.proofs.Deciding.{head_first}
 use Rattle.dropoffice.proofs.serving.Office.decide.Goals as goal
+
+pub refusal_of-refusal-requires : goal.refusal_of-refusal-requires
+refusal_of-refusal-requires g c = c.in-Ok.ensures.ok.1.well_formed rule.Method
 
 pub returns-in-Ok-clause-answers : goal.returns-in-Ok-clause-answers
 returns-in-Ok-clause-answers g c s means honest none served other =
@@ -10,7 +14,7 @@ returns-in-Ok-clause-answers g c s means honest none served other =
     let is = c.in-Ok.ensures.ok in
     let q = c.refusal_of-refusal.result in
     let kept = not_again c.refused_to.result q c.refused_to.ensures.again other in
-    let fails = c.refusal_of-refusal.ensures.fails s r is.0 means honest none served is.1 kept in
+    let fails = c.refusal_of-refusal.ensures.fails s r is.0 means honest none served refl is.1 kept in
     (s, c.refusal_of-refusal.ensures.same s means, refused_text s r c.args.now c.refused_to.result q (c.refused_to.ensures.other kept) fails)
 
 pub returns-in-Err-clause-answers : goal.returns-in-Err-clause-answers

@@ -1,6 +1,6 @@
 use Rattle.std.proofs.Common.{map, take, refl}
 use Rattle.sigtext.specs.Fields.{header_of}
-use Rattle.dropoffice.proofs.Texts.{clash}
+use Rattle.links.proofs.Texts.{clash}
 use Rattle.dropoffice.proofs.Fronts.{coded_bytes, measured_bytes, read_request, read_message, served_bytes}
 use Rattle.dropoffice.proofs.serving.Office.serve_bytes.Goals as goal
 

@@ -1,0 +1,50 @@
+-- Searching the names of a target's parameters, one pair after another.
+use Rattle.std.proofs.Common.{◌≡◌, ℕ, ◌+◌, ◌<◌, Bool, true, false, List, ◌∷◌, Some, None, drop, get_or, length, refl, sym, ap, ◌∙◌}
+use Rattle.std.specs.Prelude.{◌||◌, ◌&&◌, nat_eq}
+use Rattle.std.specs.List.{list_any}
+use Rattle.std.proofs.lemmas.List.{drop_more}
+use Rattle.percent_encoding.specs.Percent.{percent_decode}
+use Rattle.sigtext.specs.Bytes.{begins_with}
+use Rattle.sigtext.specs.Target.{Param}
+use Rattle.sigtext.specs.Targets.{SpellsOptionalQuery, GivesNext}
+use Rattle.sigtext.specs.declared.target.RawParam.{RawParam}
+use Rattle.sigtext.specs.declared.target.Pairs.{Pairs}
+use Rattle.sigtext.proofs.Targets.{decoded}
+
+-- whether some parameter's name passes the test
+abbrev pub any_name : (List ℕ → Bool) → List Param → Bool
+any_name test params = list_any (λ p. test p.name) params
+
+-- the parameters that the left pairs spell pass the test exactly where those of the whole query do
+abbrev pub SameAny : (List ℕ → Bool) → List Param → Pairs → Type 0
+SameAny test params pairs = (rest : List Param) × SpellsOptionalQuery pairs.left rest × (any_name test params ≡ any_name test rest)
+
+pub any_more : (test : List ℕ → Bool) (params : List Param) (before after : Pairs) (raw : RawParam) → GivesNext before (Some raw) after → test (percent_decode raw.name.now) ≡ false → SameAny test params before → SameAny test params after
+any_more test params before after raw g fails (rest, spelled, same) =
+    let (p, others, is, spells, left) = g.param rest spelled in
+    let here = sym (ap test (decoded _ raw.name.now p.name spells.name_spelled)) ∙ fails in
+    (others, left, same ∙ ap (any_name test) is ∙ ap (λ b. b || any_name test others) here)
+
+pub any_here : (test : List ℕ → Bool) (params : List Param) (before after : Pairs) (raw : RawParam) → GivesNext before (Some raw) after → test (percent_decode raw.name.now) ≡ true → SameAny test params before → any_name test params ≡ true
+any_here test params before after raw g holds (rest, spelled, same) =
+    let (p, others, is, spells, left) = g.param rest spelled in
+    let here = sym (ap test (decoded _ raw.name.now p.name spells.name_spelled)) ∙ holds in
+    same ∙ ap (any_name test) is ∙ ap (λ b. b || any_name test others) here
+
+pub any_end : (test : List ℕ → Bool) (params : List Param) (before after : Pairs) → GivesNext before None after → SameAny test params before → any_name test params ≡ false
+any_end test params before after g (rest, spelled, same) = same ∙ ap (any_name test) (g.param rest spelled)
+
+-- ---- whether a text begins with a word, byte for byte
+
+begins_cons : (x y : ℕ) (xs ys : List ℕ) → begins_with (x ∷ xs) (y ∷ ys) ≡ (nat_eq y x && begins_with xs ys)
+begins_cons x y xs ys = refl
+
+pub begins_more : (text word : List ℕ) (i x : ℕ) (xs : List ℕ) → i < length word → text ≡ x ∷ xs → nat_eq (get_or word i 0) x ≡ true → begins_with text (drop i word) ≡ begins_with xs (drop (i + 1) word)
+begins_more text word i x xs within is same =
+    ap (λ (t : List ℕ). begins_with t (drop i word)) is ∙ ap (begins_with (x ∷ xs)) (drop_more word i 0 within)
+    ∙ begins_cons x (get_or word i 0) xs (drop (i + 1) word) ∙ ap (λ b. b && begins_with xs (drop (i + 1) word)) same
+
+pub begins_not : (text word : List ℕ) (i x : ℕ) (xs : List ℕ) → i < length word → text ≡ x ∷ xs → nat_eq (get_or word i 0) x ≡ false → begins_with text (drop i word) ≡ false
+begins_not text word i x xs within is other =
+    ap (λ (t : List ℕ). begins_with t (drop i word)) is ∙ ap (begins_with (x ∷ xs)) (drop_more word i 0 within)
+    ∙ begins_cons x (get_or word i 0) xs (drop (i + 1) word) ∙ ap (λ b. b && begins_with xs (drop (i + 1) word)) other

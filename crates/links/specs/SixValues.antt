@@ -1,0 +1,70 @@
+-- The values of the six signing parameters, and the rules on their forms.
+use Rattle.std.specs.Prelude.{◌≡◌, ℕ, List, ◌∷◌, [], codes, ⊤, IsTrue, ◌⊎◌}
+use Rattle.std.specs.List.{list_any}
+use Rattle.sigtext.specs.declared.refusal.Refusal.{Refusal}
+use Rattle.sigtext.specs.declared.refusal.Refusal.TheVariants as rule
+use Rattle.sigtext.specs.declared.params.Params.{Params}
+use Rattle.sigtext.specs.Spelling.{Spells}
+use Rattle.sigtext.specs.Target.{Param}
+use Rattle.sigtext.specs.SignedNames.{AreSignedNames}
+use Rattle.sigtext.specs.Signing.{HoldsParams}
+use Rattle.sigv4.specs.Signature.{CredentialScope}
+use Rattle.sigv4.specs.Credential.{IsCredential}
+use Rattle.sigv4.specs.Dates.{WritesMoment}
+use Rattle.links.specs.Forms.{IsExpiry, IsSignatureText}
+use Rattle.links.specs.WellFormed.{HasValue, AreTheSix, is_signing_name}
+use Rattle.links.specs.declared.six.RawSix.{RawSix}
+use Rattle.links.specs.declared.six.SixValues.{SixValues}
+
+-- the text spells a value, and that is the one value of the parameter of this name
+abbrev pub SpellsValue : List ℕ → List Param → List ℕ → Type 0
+SpellsValue text params name = (value : List ℕ) × Spells (38 ∷ []) text value × HasValue params name value
+
+-- the raw values are those of the six
+pub record AreRawSix (six : RawSix) (params : List Param) : Type 0 where
+  pub algorithm : SpellsValue six.algorithm.now params (codes "X-Amz-Algorithm")
+  pub credential : SpellsValue six.credential.now params (codes "X-Amz-Credential")
+  pub date : SpellsValue six.date.now params (codes "X-Amz-Date")
+  pub expires : SpellsValue six.expires.now params (codes "X-Amz-Expires")
+  pub names : SpellsValue six.names.now params (codes "X-Amz-SignedHeaders")
+  pub signature : SpellsValue six.signature.now params (codes "X-Amz-Signature")
+
+-- the values are those of the six
+pub record AreSixOf (six : SixValues) (params : List Param) : Type 0 where
+  pub algorithm : HasValue params (codes "X-Amz-Algorithm") six.algorithm.items
+  pub credential : HasValue params (codes "X-Amz-Credential") six.credential.items
+  pub date : HasValue params (codes "X-Amz-Date") six.date.items
+  pub expires : HasValue params (codes "X-Amz-Expires") six.expires.items
+  pub names : HasValue params (codes "X-Amz-SignedHeaders") six.names.items
+  pub signature : HasValue params (codes "X-Amz-Signature") six.signature.items
+
+-- what the values say
+pub record SixParts : Type 0 where
+  pub key_id : List ℕ
+  pub scope : CredentialScope
+  pub start : ℕ
+  pub expires : ℕ
+  pub names : List (List ℕ)
+
+-- the rules on the values' forms
+abbrev pub SixRule : SixValues → Refusal → SixParts → Type 0
+SixRule six rule.Algorithm p = six.algorithm.items ≡ codes "AWS4-HMAC-SHA256"
+SixRule six rule.Credential p = IsCredential six.credential.items six.date.items p.key_id p.scope
+SixRule six rule.Date p = WritesMoment six.date.items p.start
+SixRule six rule.Expiry p = IsExpiry six.expires.items p.expires
+SixRule six rule.SignedHeaders p = AreSignedNames six.names.items p.names
+SixRule six rule.SignatureText p = IsSignatureText six.signature.items
+SixRule six _ p = ⊤
+
+-- the sorted parameters and the values are those of parameters of the right names
+pub record AreRightParams (sorted : Params) (six : SixValues) (params : List Param) : Type 0 where
+  pub signed : IsTrue (list_any (λ p. is_signing_name p.name) params)
+  pub are_six : AreTheSix params
+  pub holds : HoldsParams sorted params
+  pub values : AreSixOf six params
+
+-- none of the names is there, or some are and they are not right
+abbrev pub AreWrongParams : Refusal → List Param → Type 0
+AreWrongParams q params =
+    ((q ≡ rule.NotSigned) × (IsTrue (list_any (λ p. is_signing_name p.name) params) → ⊥))
+    ⊎ ((q ≡ rule.Parameters) × IsTrue (list_any (λ p. is_signing_name p.name) params) × (AreTheSix params → ⊥))

@@ -1,0 +1,122 @@
+//! Reading a link: what its target and the request's fields say (Amazon S3 API Reference, "Authenticating
+//! Requests: Using Query Parameters").
+ghost use Rattle.std.specs.Prelude.{◌≡◌, ◌≢◌, ℕ, map, IfOk, IfErr, IfSome, IfNone};
+ghost use Rattle.sigtext.specs.Fields.{header_of};
+ghost use Rattle.sigtext.specs.Request.{Request};
+ghost use Rattle.sigtext.specs.Rules.{IsFirstToFail, AllHold};
+ghost use Rattle.sigv4.specs.Dates.{WritesMoment};
+ghost use Rattle.links.specs.WellFormed.{HeadRule};
+ghost use Rattle.links.specs.WellFormed as link;
+ghost use Rattle.links.specs.SixValues.{SixParts, SixRule};
+ghost use Rattle.links.specs.LinkReadings.{IsAskedBy, IsLinkOf};
+
+use crate::forms::{is_signature_text, read_expiry};
+use crate::six::{SixValues, read_six};
+use sigtext::{Field, Parts, Refusal, SignedNames, Target, signed_values};
+use sigv4::{Moment, Scope};
+use std::alloc::Global;
+
+/// What a well-formed link says. It owns the decoded values of the signing parameters and the order of
+/// the parameters, and borrows the rest from the target and the fields.
+#[derive(Drop)]
+pub struct LinkParts<'a> {
+    // What the signature covers.
+    pub(crate) parts: Parts<'a>,
+    // Decoded, and of the form that `Scope::read` takes.
+    pub(crate) credential: Vec<u8>,
+    // The date of the link, decoded.
+    pub(crate) date: Vec<u8>,
+    pub(crate) start: Moment,
+    // In seconds.
+    pub(crate) expires: u64,
+    // 64 lower-case hexadecimal digits.
+    pub(crate) signature: Vec<u8>,
+}
+
+impl LinkParts<'_> {
+    /// The key id of the link's credential: 1 to 64 bytes of `A-Z a-z 0-9 - _`.
+    pub fn key_id(&self) -> &[u8]
+        ensures { (r : Request) (p : link.Parts) → IsLinkOf self.now r p → result.now ≡ p.key_id }
+    {
+        match Scope::read(&self.credential, &self.date) {
+            Ok(scope) => scope.key_id,
+            Err(_) => &[],
+        }
+    }
+}
+
+/// When a link begins, and for how many seconds it holds.
+#[derive(Clone, Copy)]
+struct Window {
+    start: Moment,
+    expires: u64,
+}
+
+fn read_moment(date: &[u8]) -> Option<Moment>
+    ensures some { IfSome result (WritesMoment date.now) }
+    ensures none { IfNone result ((m : ℕ) → WritesMoment date.now m → ⊥) }
+{
+    let Ok(text) = <&[u8; 16]>::try_from(date) else {
+        return None;
+    };
+    Moment::read(text)
+}
+
+// The window of a link, where each of the six values has its form; else the least of the refusals 11 to 16.
+fn read_window(six: &SixValues) -> Result<Window, Refusal>
+    ensures ok { IfOk result (λ w. (p : SixParts) × (p.start ≡ w.start) × (p.expires ≡ w.expires) × AllHold (SixRule six.now) p) }
+    ensures err { IfErr result (IsFirstToFail (SixRule six.now)) }
+{
+    if six.algorithm.as_slice() != b"AWS4-HMAC-SHA256".as_slice() {
+        return Err(Refusal::Algorithm);
+    }
+    if let Err(refusal) = Scope::read(&six.credential, &six.date) {
+        return Err(refusal);
+    }
+    let Some(start) = read_moment(&six.date) else {
+        return Err(Refusal::Date);
+    };
+    let Some(expires) = read_expiry(&six.expires) else {
+        return Err(Refusal::Expiry);
+    };
+    if let Err(refusal) = SignedNames::read(&six.names) {
+        return Err(refusal);
+    }
+    if !is_signature_text(&six.signature) {
+        return Err(Refusal::SignatureText);
+    }
+    Ok(Window { start, expires })
+}
+
+/// Reads the link of a request whose method is served and whose target was read: its parts, where no rule
+/// of the numbers 9 to 18 fails, else the refusal of the least that fails; or refusal 40, where memory was
+/// refused.
+pub fn inspect<'a>(
+    alloc: Global,
+    method: &'a [u8],
+    target: &Target<'a>,
+    fields: &'a [Field<'a>],
+) -> Result<LinkParts<'a>, Refusal>
+    ensures ok { IfOk result (λ l. (r : Request) → IsAskedBy method.now target.now (map header_of fields.now) r
+        → (p : link.Parts) × IsLinkOf l r p) }
+    ensures err { IfErr result (λ q. (q ≢ Refusal.TryAgain) → (r : Request) → IsAskedBy method.now target.now (map header_of fields.now) r
+        → IsFirstToFail (λ x p. HeadRule x r p) q) }
+{
+    let (params, six) = read_six(alloc, target)?;
+    let window = read_window(&six)?;
+    let names = SignedNames::read(&six.names)?;
+    let values = signed_values(alloc, fields, &names)?;
+    Ok(LinkParts {
+        parts: Parts {
+            method,
+            target: *target,
+            params,
+            values,
+        },
+        credential: six.credential,
+        date: six.date,
+        start: window.start,
+        expires: window.expires,
+        signature: six.signature,
+    })
+}

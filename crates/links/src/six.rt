@@ -1,0 +1,172 @@
+//! The six signing parameters of a target.
+ghost use Rattle.std.specs.Prelude.{◌≡◌, ◌≢◌, ℕ, List, codes, IfOk, IfErr, IfSome, IfNone};
+ghost use Rattle.std.specs.List.{list_any, AllByRecursion};
+ghost use Rattle.percent_encoding.specs.Percent as escapes;
+ghost use Rattle.sigtext.specs.Bytes.{begins_with};
+ghost use Rattle.sigtext.specs.Params.{StandOnce};
+ghost use Rattle.sigtext.specs.Target.{Param};
+ghost use Rattle.sigtext.specs.Targets.{SpellsReading};
+ghost use Rattle.sigtext.specs.Signing.{HoldsParams};
+ghost use Rattle.links.specs.WellFormed.{is_signing_name, is_other_amz_name, AreThere};
+ghost use Rattle.links.specs.SixValues.{AreRawSix, AreSixOf, AreRightParams, AreWrongParams};
+
+use percent_encoding::percent_decode;
+use sigtext::{Params, Refusal, Target, decodes_to};
+use std::alloc::{AllocError, Global};
+
+/// The raw values of the six.
+#[derive(Clone, Copy)]
+pub(crate) struct RawSix<'a> {
+    algorithm: &'a [u8],
+    credential: &'a [u8],
+    date: &'a [u8],
+    expires: &'a [u8],
+    names: &'a [u8],
+    signature: &'a [u8],
+}
+
+/// The values of the six, decoded.
+#[derive(Drop)]
+pub(crate) struct SixValues {
+    pub algorithm: Vec<u8>,
+    pub credential: Vec<u8>,
+    pub date: Vec<u8>,
+    pub expires: Vec<u8>,
+    pub names: Vec<u8>,
+    pub signature: Vec<u8>,
+}
+
+// What the names of signing parameters begin with.
+const PREFIX: &[u8] = b"X-Amz-";
+
+// Whether the raw name is that of one of the six.
+fn is_signing(name: &[u8]) -> bool
+    ensures { result ≡ is_signing_name (escapes.percent_decode name.now) }
+{
+    decodes_to(name, b"X-Amz-Algorithm")
+        || decodes_to(name, b"X-Amz-Credential")
+        || decodes_to(name, b"X-Amz-Date")
+        || decodes_to(name, b"X-Amz-Expires")
+        || decodes_to(name, b"X-Amz-SignedHeaders")
+        || decodes_to(name, b"X-Amz-Signature")
+}
+
+// Whether the raw name, decoded, begins with `X-Amz-`.
+fn has_prefix(name: &[u8]) -> bool
+    ensures { result ≡ begins_with (escapes.percent_decode name.now) (codes "X-Amz-") }
+{
+    let mut at = 0;
+    for byte in percent_decode(name) {
+        if at == PREFIX.len() {
+            return true;
+        }
+        if PREFIX[at] != byte {
+            return false;
+        }
+        at += 1;
+    }
+    at == PREFIX.len()
+}
+
+// Whether the raw name begins with `X-Amz-` and is none of the six.
+fn is_other(name: &[u8]) -> bool
+    ensures { result ≡ is_other_amz_name (escapes.percent_decode name.now) }
+{
+    has_prefix(name) && !is_signing(name)
+}
+
+// Whether one of the six is there.
+fn has_signing_name(target: &Target<'_>) -> bool
+    ensures { (path : List ℕ) (params : List Param) → SpellsReading target.now path params
+        → result ≡ list_any (λ p. is_signing_name p.name) params }
+{
+    for raw in target.pairs() {
+        if is_signing(raw.name) {
+            return true;
+        }
+    }
+    false
+}
+
+// Whether a name begins with `X-Amz-` and is none of the six.
+fn has_other_name(target: &Target<'_>) -> bool
+    ensures { (path : List ℕ) (params : List Param) → SpellsReading target.now path params
+        → result ≡ list_any (λ p. is_other_amz_name p.name) params }
+{
+    for raw in target.pairs() {
+        if is_other(raw.name) {
+            return true;
+        }
+    }
+    false
+}
+
+// The raw values of the six, where all are there.
+fn raw_six<'a>(params: &Params<'a>) -> Option<RawSix<'a>>
+    ensures some { IfSome result (λ six. (ps : List Param) → HoldsParams params.now ps → AreRawSix six ps) }
+    ensures none { IfNone result ((ps : List Param) → HoldsParams params.now ps → AreThere ps → ⊥) }
+{
+    let algorithm = params.get(b"X-Amz-Algorithm")?;
+    let credential = params.get(b"X-Amz-Credential")?;
+    let date = params.get(b"X-Amz-Date")?;
+    let expires = params.get(b"X-Amz-Expires")?;
+    let names = params.get(b"X-Amz-SignedHeaders")?;
+    let signature = params.get(b"X-Amz-Signature")?;
+    Some(RawSix {
+        algorithm,
+        credential,
+        date,
+        expires,
+        names,
+        signature,
+    })
+}
+
+fn decoded(alloc: Global, text: &[u8]) -> Result<Vec<u8>, AllocError>
+    ensures { IfOk result (λ bytes. bytes.items ≡ escapes.percent_decode text.now) }
+{
+    let mut bytes = Vec::new(alloc);
+    percent_decode(text).append_to(&mut bytes)?;
+    Ok(bytes)
+}
+
+fn decoded_six(alloc: Global, raw: RawSix<'_>) -> Result<SixValues, AllocError>
+    ensures { IfOk result (λ six. (ps : List Param) → AreRawSix raw.entry ps → AreSixOf six ps) }
+{
+    Ok(SixValues {
+        algorithm: decoded(alloc, raw.algorithm)?,
+        credential: decoded(alloc, raw.credential)?,
+        date: decoded(alloc, raw.date)?,
+        expires: decoded(alloc, raw.expires)?,
+        names: decoded(alloc, raw.names)?,
+        signature: decoded(alloc, raw.signature)?,
+    })
+}
+
+/// The parameters of a target in order, and the values of the six among them. Refusal 9 where none of the
+/// six is there; refusal 10 where one is missing, a name stands twice, or another name begins with
+/// `X-Amz-`; refusal 40 where memory was refused.
+pub(crate) fn read_six<'a>(
+    alloc: Global,
+    target: &Target<'a>,
+) -> Result<(Params<'a>, SixValues), Refusal>
+    ensures ok { IfOk result (λ found. (path : List ℕ) (params : List Param) → SpellsReading target.now path params
+        → AreRightParams found.0 found.1 params) }
+    ensures err { IfErr result (λ q. (q ≢ Refusal.TryAgain) → (path : List ℕ) (params : List Param) → SpellsReading target.now path params
+        → AreWrongParams q params) }
+{
+    if !has_signing_name(target) {
+        return Err(Refusal::NotSigned);
+    }
+    if has_other_name(target) {
+        return Err(Refusal::Parameters);
+    }
+    let params = Params::read(alloc, target)?;
+    let Some(raw) = raw_six(&params) else {
+        return Err(Refusal::Parameters);
+    };
+    match decoded_six(alloc, raw) {
+        Ok(six) => Ok((params, six)),
+        Err(_) => Err(Refusal::TryAgain),
+    }
+}
