@@ -1,5 +1,5 @@
 -- A run as far as it has come, and one connection more.
-use Rattle.std.proofs.Common.{◌≡◌, ◌≢◌, ℕ, zero, suc, ◌+◌, ◌<◌, ◌≤◌, cond, List, [], ◌∷◌, ◌++◌, length, take, drop, set, get_or, Option, Some, refl, sym, ap, subst, ◌∙◌, append_assoc, arith}
+use Rattle.std.proofs.Common.{◌≡◌, ℕ, suc, ◌+◌, ◌<◌, ◌≤◌, cond, List, [], ◌∷◌, ◌++◌, length, take, drop, set, get_or, Option, refl, sym, ap, subst, ◌∙◌, append_assoc, arith}
 use Rattle.std.specs.List.{count_by, sum_by}
 use Rattle.std.specs.Io.KnownBytes.{Appends}
 use Rattle.std.proofs.lemmas.List.{append-nil, take_more_set, drop_more, drop-set-lt, take_all}
@@ -8,9 +8,8 @@ use Rattle.std.proofs.Math.Seq.{take-suc}
 use Rattle.boxes.specs.State.{State}
 use Rattle.wire.specs.declared.counted.Counted.{Counted}
 use Rattle.dropoffice.specs.declared.session.SessionEnd.{SessionEnd}
-use Rattle.dropoffice.specs.declared.session.SessionEnd.TheVariants.{Unserved}
 use Rattle.dropoffice.specs.Connections.{Told, IsStream, Serves, HasRisen, AreServed, is_fault, Runs}
-use Rattle.dropoffice.specs.Served.{IsServed, HasNoBox, AreAllServed}
+use Rattle.dropoffice.specs.Served.{HasNoBox}
 use Rattle.dropoffice.specs.Sessions.{Session, Connection, Run, most_messages}
 use Rattle.dropoffice.proofs.Kept.{session_keeps}
 
@@ -87,12 +86,6 @@ finishes means gives remaining contents first clock old now i s faults all all' 
       (subst (λ xs. Runs gives remaining contents first clock (take i old) xs s f.state faults) (take_all i now all') f.runs),
 )
 
-pub stream_at : {R W : Type 0} (remaining : R → Option (List ℕ)) (cs : List (Counted R × Counted W)) (i : ℕ) (d : Counted R × Counted W) → i < length cs → AreAllServed remaining cs
-    → (stream : List ℕ) × (remaining (get_or cs i d).0.inner ≡ Some stream) × IsServed stream
-stream_at remaining [] i d lt h = absurd (omega arith)
-stream_at remaining (c ∷ cs) zero d lt h = h.0
-stream_at remaining (c ∷ cs) (suc i) d lt h = stream_at remaining cs i d (omega arith) h.1
-
 -- the connection at the index is as it was at first
 pub as_at_first : {X : Type 0} (old now : List X) (i : ℕ) (d : X) → i < length old → i < length now → drop i now ≡ drop i old → (get_or now i d ≡ get_or old i d) × (drop (i + 1) now ≡ drop (i + 1) old)
 as_at_first old now i d lt lt' same =
@@ -111,18 +104,15 @@ others_stay old now i d new lt lt' same = drop-set-lt (i + 1) now i new (omega a
 
 pub goes_on : {C R W : Type 0} (means means' : State → Type 0) (gives : C → ℕ → C → Type 0) (remaining : R → Option (List ℕ)) (contents : W → Option (List ℕ)) (first clock clock' : C)
     (old now : List (Counted R × Counted W)) (i : ℕ) (s : State) (faults faults' : ℕ) (d new : Counted R × Counted W) (e : SessionEnd)
-    → i < length old → i < length now → drop i now ≡ drop i old → AreAllServed remaining old
-    → ((mid : State) → means mid → HasNoBox mid → (e ≢ Unserved)
+    → i < length old → i < length now → drop i now ≡ drop i old
+    → ((mid : State) → means mid → HasNoBox mid
     → (after : State) × means' after × Serves gives (remaining (get_or now i d).0.inner) (remaining new.0.inner) (contents (get_or now i d).1.inner) (contents new.1.inner) clock clock' mid after e)
-    → (e ≡ Unserved → (stream : List ℕ) → remaining (get_or now i d).0.inner ≡ Some stream → IsServed stream → ⊥)
     → HasRisen e (get_or now i d) new → faults' ≡ faults + cond (is_fault e) 1 0
     → SoFar means gives remaining contents first clock old now i s faults → SoFar means' gives remaining contents first clock' old (set now i new) (i + 1) s faults'
-goes_on means means' gives remaining contents first clock clock' old now i s faults faults' d new e lt lt' rest all serves unserved risen counted f =
+goes_on means means' gives remaining contents first clock clock' old now i s faults faults' d new e lt lt' rest serves risen counted f =
     let item = get_or now i d in
     let first_is : item ≡ get_or old i d = (as_at_first old now i d lt lt' rest).0 in
-    let stream = stream_at remaining old i d lt all in
-    let known : remaining item.0.inner ≡ Some stream.0 = ap (λ c. remaining c.0.inner) first_is ∙ stream.1 in
-    let h = serves f.state f.same f.none (λ no. unserved no stream.0 known stream.2) in
+    let h = serves f.state f.same f.none in
     let kept = session_keeps most_messages h.2.stream f.state h.2.moments h.2.answers e h.0 f.none h.2.session in
     let more = runs_more gives remaining contents first clock clock' (take i old) (take i now) item new s f.state h.0 faults faults' e f.runs h.2 risen counted in
     let before : take (i + 1) old ≡ take i old ++ item ∷ [] = take_one_more old i d lt ∙ ap (λ c. take i old ++ c ∷ []) (sym first_is) in

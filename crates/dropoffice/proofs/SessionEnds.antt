@@ -10,7 +10,7 @@ use Rattle.wire.specs.Framing.{Next, Message, IsFront, HasHead}
 use Rattle.wire.specs.Framing as frame
 use Rattle.wire.specs.Heads.{IsHeadEnd, HasNoHeadEnd}
 use Rattle.dropoffice.specs.declared.handling.Handled.TheVariants as handled
-use Rattle.dropoffice.specs.declared.session.SessionEnd.TheVariants.{Ended, Refused, ReadFault, WriteFault}
+use Rattle.dropoffice.specs.declared.session.SessionEnd.TheVariants.{Ended, Refused, ReadFault, WriteFault, Unserved}
 use Rattle.dropoffice.specs.Connections.{IsKnown, Serves}
 use Rattle.dropoffice.specs.Handling.{Handles, answered, gave_up_at, broke, broke_giving_up_at}
 use Rattle.dropoffice.specs.Sessions.{Session, closing}
@@ -200,3 +200,20 @@ pub fails_untouched : {C : Type 0} (gives : C → ℕ → C → Type 0) (clock c
 fails_untouched gives clock clock' input input' output output' means s bytes read none same written told =
     subst (λ o. (after : State) × means after × Serves gives input input' output o clock clock' s after ReadFault) (sym written)
     (subst (λ d. (after : State) × means after × Serves gives input input' output output clock d s after ReadFault) (sym told) (fails_before gives clock input input' output means s bytes read none same))
+
+-- where the stream is not served, and nothing was changed
+pub stays_unserved : {C : Type 0} (gives : C → ℕ → C → Type 0) (clock clock' : C) (input input' output output' : Option (List ℕ)) (means : State → Type 0) (s : State)
+    → ((stream : List ℕ) → input ≡ Some stream → IsServed stream → ⊥) → means s → output' ≡ output → clock' ≡ clock → (after : State) × means after × Serves gives input input' output output' clock clock' s after Unserved
+stays_unserved gives clock clock' input input' output output' means s other same written told =
+    subst (λ o. (after : State) × means after × Serves gives input input' output o clock clock' s after Unserved) (sym written)
+    (subst (λ d. (after : State) × means after × Serves gives input input' output output clock d s after Unserved) (sym told) (s, same, still gives clock input input' output s other))
+  where
+    nothing : IsServed [] → ⊥
+    nothing served = no_message served.request [] served.next
+
+    still : {C : Type 0} (gives : C → ℕ → C → Type 0) (clock : C) (input input' output : Option (List ℕ)) (s : State)
+        → ((stream : List ℕ) → input ≡ Some stream → IsServed stream → ⊥) → Serves gives input input' output output clock clock s s Unserved
+    still gives clock None input' output s other =
+        record { stream = []; moments = []; answers = []; read = tt; told = refl; written = Appends-nil output; session = session.unserved 999 [] s nothing }
+    still gives clock (Some xs) input' output s other =
+        record { stream = xs; moments = []; answers = []; read = refl; told = refl; written = Appends-nil output; session = session.unserved 999 xs s (other xs refl) }

@@ -11,3 +11,4 @@ pub mod Sent
 pub mod Streams
 pub mod Tasks
 pub mod Remaining
+pub mod Asked

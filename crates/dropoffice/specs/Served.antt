@@ -1,10 +1,9 @@
 -- Which streams are served so far. Later stages widen this test and leave the theorem as it is; in the
 -- end it goes.
-use Rattle.std.specs.Prelude.{◌≡◌, ℕ, false, List, [], ◌∷◌, Option, Some, None, ⊤}
+use Rattle.std.specs.Prelude.{◌≡◌, ℕ, false, List, [], None}
 use Rattle.std.specs.FinMap.{get}
 use Rattle.sigtext.specs.Request.{Request}
 use Rattle.boxes.specs.State.{State}
-use Rattle.wire.specs.declared.counted.Counted.{Counted}
 use Rattle.wire.specs.Framing.{Next, Message}
 
 -- a request without Content-Length and without a body
@@ -21,9 +20,3 @@ pub record IsServed (stream : List ℕ) : Type 0 where
 -- a state without boxes
 abbrev pub HasNoBox : State → Type 0
 HasNoBox s = (name : List ℕ) → get s.boxes name ≡ None
-
--- of each connection the bytes that its reader has left are known, and are one such message
-abbrev pub AreAllServed : {R W : Type 0} → (R → Option (List ℕ)) → List (Counted R × Counted W) → Type 0
-AreAllServed remaining [] = ⊤
-AreAllServed remaining (c ∷ cs) =
-    ((stream : List ℕ) × (remaining c.0.inner ≡ Some stream) × IsServed stream) × AreAllServed remaining cs

@@ -11,8 +11,9 @@ use Rattle.wire.specs.Framing.{Next}
 use Rattle.wire.specs.Framing as frame
 use Rattle.sigtext.specs.Bytes.{IsBeginning}
 use Rattle.dropoffice.specs.declared.session.SessionEnd.{SessionEnd}
-use Rattle.dropoffice.specs.declared.session.SessionEnd.TheVariants.{Ended, Truncated, Refused, Limit, ReadFault, WriteFault}
+use Rattle.dropoffice.specs.declared.session.SessionEnd.TheVariants.{Ended, Truncated, Refused, Limit, ReadFault, WriteFault, Unserved}
 use Rattle.dropoffice.specs.Answering.{Answers}
+use Rattle.dropoffice.specs.Served.{IsServed}
 
 -- the text of a refusal that closes the connection
 abbrev pub closing : Refusal → List ℕ
@@ -33,6 +34,8 @@ pub data Session : ℕ → List ℕ → State → List ℕ → List ℕ → Sess
   gave_up : (n : ℕ) (stream : List ℕ) (s : State) → Session (suc n) stream s [] (closing rule.TryAgain) (Refused 40) s
   gave_up_at : (n : ℕ) (stream rest : List ℕ) (s : State) (r : Request) (now : ℕ) → Next stream (frame.Message r) rest
       → Session (suc n) stream s (now ∷ []) (closing rule.TryAgain) (Refused 40) s
+  -- the stream is not of the kind that is served so far
+  unserved : (n : ℕ) (stream : List ℕ) (s : State) → (IsServed stream → ⊥) → Session (suc n) stream s [] [] Unserved s
   -- a read failed, and no further message stands whole in the bytes read before it
   read_failed : (n : ℕ) (stream : List ℕ) (s : State) → ((r : Request) (rest : List ℕ) → Next stream (frame.Message r) rest → ⊥)
       → Session (suc n) stream s [] [] ReadFault s

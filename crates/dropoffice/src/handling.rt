@@ -35,6 +35,7 @@ fn refused(refusal: Refusal) -> Answer
 /// The answer of a refusal to a request of this method. Refusal 40 is one constant for all.
 pub(crate) fn refused_to(refusal: Refusal, method: &[u8]) -> Answer
     ensures again { refusal ≡ Refusal.TryAgain → result ≡ try_again }
+    ensures only { result ≡ try_again → refusal ≡ Refusal.TryAgain }
     ensures other { (refusal ≢ Refusal.TryAgain) → result ≡ record { reply = Reply.Refused refusal; is_head = same_bytes method.now (codes "HEAD") } }
 {
     let is_head = refusal != Refusal::TryAgain && method == b"HEAD".as_slice();

@@ -6,6 +6,7 @@ ghost use Rattle.sigtext.specs.Rules.{IsFirstToFail};
 ghost use Rattle.links.specs.WellFormed.{Parts, methods, HeadRule};
 ghost use Rattle.links.specs.LinkReadings.{IsLinkOf};
 ghost use Rattle.wire.specs.Messages.{request_in};
+ghost use Rattle.dropoffice.specs.Asked.{IsReadable};
 
 use links::{LinkParts, inspect};
 use sigtext::{Refusal, Target};
@@ -27,6 +28,7 @@ fn is_served_method(method: &[u8]) -> bool
 pub(crate) fn read_link<'a>(alloc: Global, message: &Message<'a>) -> Result<LinkParts<'a>, Refusal>
     ensures ok { IfOk result (λ l. (p : Parts) × IsLinkOf l (request_in message.now) p) }
     ensures err { IfErr result (λ q. (q ≢ Refusal.TryAgain) → IsFirstToFail (λ x p. HeadRule x (request_in message.now) p) q) }
+    ensures readable { IfErr result (λ q. q ≡ Refusal.TryAgain → IsReadable (request_in message.now)) }
 {
     if !is_served_method(message.method) {
         return Err(Refusal::Method);

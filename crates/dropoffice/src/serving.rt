@@ -62,7 +62,7 @@ fn is_served(message: &Message<'_>) -> bool
 }
 
 impl<K: Keeper> Office<K> {
-    ghost use Rattle.std.specs.Prelude.{◌≡◌, ◌≢◌, ◌≤◌, ℕ, List, Some, IfSome, IfNone};
+    ghost use Rattle.std.specs.Prelude.{◌≡◌, ◌≢◌, ◌⊎◌, ◌≤◌, ℕ, List, Some, IfSome, IfNone};
     ghost use Rattle.sigtext.specs.Counts.{Rose};
     ghost use Rattle.sigtext.specs.Request.{Request};
     ghost use Rattle.sigtext.specs.Rules.{IsFirstToFail};
@@ -73,8 +73,9 @@ impl<K: Keeper> Office<K> {
     ghost use Rattle.dropoffice.specs.Offices.{try_again, IsAnswered};
     ghost use Rattle.dropoffice.specs.Handling.{Handles};
     ghost use Rattle.dropoffice.specs.Streams.{IsMessage};
+    ghost use Rattle.dropoffice.specs.Asked.{IsReadable};
     ghost use Rattle.dropoffice.specs.Connections.{Serves, Runs};
-    ghost use Rattle.dropoffice.specs.Served.{IsServed, IsServedRequest, HasNoBox, AreAllServed};
+    ghost use Rattle.dropoffice.specs.Served.{IsServed, IsServedRequest, HasNoBox};
     ghost use Rattle.links.specs.LinkReadings.{IsLinkOf};
 
     /// An office over this keeper, which it holds as it is.
@@ -114,6 +115,7 @@ impl<K: Keeper> Office<K> {
     fn decide(&mut self, message: &Message<'_>, now: Moment) -> Answer
         ensures answers { (s : State) → K.means self.old.keeper s → K.is_honest self.new.keeper → HasNoBox s
             → IsServedRequest (request_in message.now) → IsAnswered (K.means self.new.keeper) s (request_in message.now) now result }
+        ensures readable { result ≡ try_again → IsReadable (request_in message.now) }
         ensures same { (s : State) → K.means self.old.keeper s → K.means self.new.keeper s }
         ensures honest { K.is_honest self.new.keeper → K.is_honest self.old.keeper }
         ensures counted { (result ≢ try_again) → K.faults self.new.keeper ≡ K.faults self.old.keeper }
@@ -131,11 +133,13 @@ impl<K: Keeper> Office<K> {
     /// Answers one message at a moment. `None` where it is not of the kind that is served so far, which
     /// has neither a Content-Length nor a body: then nothing is changed. Otherwise the answer is that of
     /// the rules; or it is refusal 40, where memory was refused or the keeper counted a fault, and then
-    /// the state is as it was.
+    /// the state is as it was. A method that is not served and a target that is malformed are refused
+    /// without memory, and never with 40.
     pub fn answer(&mut self, message: &Message<'_>, now: Moment) -> Option<Answer>
         ensures answers { IfSome result (λ a. (s : State) → K.means self.old.keeper s → K.is_honest self.new.keeper → HasNoBox s
             → IsAnswered (K.means self.new.keeper) s (request_in message.now) now a) }
         ensures again { (result ≡ Some try_again) → (s : State) → K.means self.old.keeper s → K.means self.new.keeper s }
+        ensures readable { (result ≡ Some try_again) → IsReadable (request_in message.now) }
         ensures counted { (result ≢ Some try_again) → K.faults self.new.keeper ≡ K.faults self.old.keeper }
         ensures never_less { K.faults self.old.keeper ≤ K.faults self.new.keeper }
         ensures served { IfSome result (λ a. IsServedRequest (request_in message.now)) }
@@ -226,13 +230,14 @@ impl<K: Keeper> Office<K> {
         writer: &mut Counted<W>,
         clock: &mut C,
     ) -> SessionEnd
-        ensures serves { (s : State) → K.means self.old.keeper s → K.is_honest self.new.keeper → HasNoBox s → (result ≢ SessionEnd.Unserved)
+        ensures serves { (s : State) → K.means self.old.keeper s → K.is_honest self.new.keeper → HasNoBox s
             → (after : State) × K.means self.new.keeper after × Serves C.now_gives
             (R.remaining reader.old.inner) (R.remaining reader.new.inner)
             (W.contents writer.old.inner) (W.contents writer.new.inner) clock.old clock.new s after result }
         ensures unserved { result ≡ SessionEnd.Unserved → (stream : List ℕ) → R.remaining reader.old.inner ≡ Some stream → IsServed stream → ⊥ }
         ensures untouched { result ≡ SessionEnd.Unserved → (self.new ≡ self.old) × (writer.new ≡ writer.old) × (clock.new ≡ clock.old) }
-        ensures only { result ≡ SessionEnd.Ended → (stream : List ℕ) → R.remaining reader.old.inner ≡ Some stream → IsServed stream }
+        ensures only { (result ≢ SessionEnd.Unserved) → Rose reader.old.faults reader.new.faults
+            ⊎ ((stream : List ℕ) → R.remaining reader.old.inner ≡ Some stream → IsServed stream) }
         ensures honest { K.is_honest self.new.keeper → K.is_honest self.old.keeper }
         ensures read_fault { result ≡ SessionEnd.ReadFault → Rose reader.old.faults reader.new.faults }
         ensures write_fault { result ≡ SessionEnd.WriteFault → Rose writer.old.faults writer.new.faults }
@@ -271,9 +276,10 @@ impl<K: Keeper> Office<K> {
         connections: &mut [(Counted<R>, Counted<W>)],
         clock: &mut C,
     ) -> u64
-        ensures runs { (s : State) → K.means self.old.keeper s → K.is_honest self.new.keeper → HasNoBox s → AreAllServed R.remaining connections.old
+        ensures runs { (s : State) → K.means self.old.keeper s → K.is_honest self.new.keeper → HasNoBox s
             → (after : State) × K.means self.new.keeper after × Runs C.now_gives R.remaining W.contents clock.old clock.new connections.old connections.new s after result }
         ensures honest { K.is_honest self.new.keeper → K.is_honest self.old.keeper }
+        ensures never_less { K.faults self.old.keeper ≤ K.faults self.new.keeper }
     {
         let mut faulty = 0;
         'connections: for connection in connections.iter_mut() {

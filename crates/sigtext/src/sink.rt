@@ -26,14 +26,18 @@ pub trait ByteSink {
 }
 
 impl ByteSink for Vec<u8> {
-    ghost use Rattle.std.specs.Prelude.{◌≡◌, ◌++◌, false};
+    ghost use Rattle.std.specs.Prelude.{◌≡◌, ◌++◌, ◌+◌, ◌<◌, [], false, length, OnOk, OnErr, vec_capacity, vec_len};
     ghost use Rattle.sigtext.specs.Sinks.{appends_nothing, appends_both};
 
     ghost takes = { λ v bytes w. w.items ≡ v.items ++ bytes };
 
     ghost never_fails = { false };
 
-    fn take(&mut self, bytes: &[u8]) -> Result<(), AllocError> {
+    fn take(&mut self, bytes: &[u8]) -> Result<(), AllocError>
+        ensures ok { OnOk result (self.new.items ≡ self.old.items ++ bytes.now) }
+        ensures err { OnErr result (self.new.items ≡ self.old.items ++ []) }
+        ensures full { OnErr result (vec_capacity self.old < vec_len self.old + length bytes.now) }
+    {
         self.extend_from_slice(bytes)
     }
 

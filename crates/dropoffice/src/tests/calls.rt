@@ -93,6 +93,10 @@ fn runs_a_list_of_connections(rt: HostRuntime) -> Result<(), Fail> {
             Counted::new(Sink::new(alloc, 9, 4096)),
         ),
         (
+            Counted::new(whole(b"GET / HTTP/1.1\r\nContent-Length: 0\r\n\r\n")),
+            Counted::new(Sink::new(alloc, 4096, 4096)),
+        ),
+        (
             Counted::new(broken),
             Counted::new(Sink::new(alloc, 4096, 4096)),
         ),
@@ -103,11 +107,13 @@ fn runs_a_list_of_connections(rt: HostRuntime) -> Result<(), Fail> {
     ];
     assert_eq!(rt; office.run(&mut connections, &mut clock), 2);
     assert_eq!(rt; connections[0].1.inner.text.as_slice(), NO_BOX);
-    assert_eq!(rt; connections[1].1.inner.text.as_slice(), EXPIRED);
-    assert_eq!(rt; connections[2].1.inner.text.as_slice(), &EXPIRED[..8]);
+    assert!(rt; connections[1].1.inner.text.is_empty());
+    assert_eq!(rt; connections[2].1.inner.text.as_slice(), EXPIRED);
+    assert_eq!(rt; connections[3].1.inner.text.as_slice(), &EXPIRED[..8]);
     assert_eq!(rt; connections[0].0.faults(), 0);
     assert_eq!(rt; connections[0].1.faults(), 0);
-    assert_eq!(rt; connections[1].0.faults(), 1);
-    assert_eq!(rt; connections[2].1.faults(), 1);
+    assert_eq!(rt; connections[1].0.faults(), 0);
+    assert_eq!(rt; connections[2].0.faults(), 1);
+    assert_eq!(rt; connections[3].1.faults(), 1);
     Ok(())
 }

@@ -1,5 +1,8 @@
 //! Other spellings of the published request, and odd heads that are legal: the signature stays right.
 use super::refusals::is_answered;
+use super::{PUBLISHED, changed};
+use crate::SessionEnd;
+use std::alloc::{AllocError, Global};
 use std::test::Fail;
 
 const NO_BOX: &str =
@@ -49,6 +52,55 @@ fn takes_other_spellings(rt: HostRuntime) -> Result<(), Fail> {
 fn takes_odd_heads(rt: HostRuntime) -> Result<(), Fail> {
     for (part, by) in ODD_HEADS {
         assert!(rt; is_answered(rt.alloc(), (part, by), NO_BOX)?, "{by:?}");
+    }
+    Ok(())
+}
+
+/// Whether the published request with this many such texts before its field is served.
+fn is_served(alloc: Global, text: &[u8], count: usize) -> Result<Option<bool>, AllocError> {
+    let mut by = b"\r\n".to_vec(alloc)?;
+    for _ in 0..count {
+        by.extend_from_slice(text)?;
+    }
+    by.extend_from_slice(b"\r\nHost")?;
+    let part = b"\r\nHost";
+    if changed(alloc, part, &by, NO_BOX.as_bytes(), SessionEnd::Ended)? {
+        return Ok(Some(true));
+    }
+    if changed(alloc, part, &by, b"", SessionEnd::Unserved)? {
+        return Ok(Some(false));
+    }
+    Ok(None)
+}
+
+#[test]
+fn takes_64_fields(rt: HostRuntime) -> Result<(), Fail> {
+    assert!(rt; is_served(rt.alloc(), b"\r\nA:", 0)? == Some(false));
+    for (count, served) in [(61, true), (62, true), (63, false), (64, false)] {
+        let mut fields = b"A:1".to_vec(rt.alloc())?;
+        for _ in 0..count {
+            fields.extend_from_slice(b"\r\nA:1")?;
+        }
+        assert!(rt;
+            is_served(rt.alloc(), &fields, 1)? == Some(served),
+            "{count}"
+        );
+    }
+    Ok(())
+}
+
+#[test]
+fn takes_heads_of_8192_bytes(rt: HostRuntime) -> Result<(), Fail> {
+    let room = 8192 - PUBLISHED.len() - b"\r\nA:".len();
+    for (more, served) in [(0, true), (1, false), (2, false)] {
+        let mut field = b"A:".to_vec(rt.alloc())?;
+        for _ in 0..room + more {
+            field.push(b'a')?;
+        }
+        assert!(rt;
+            is_served(rt.alloc(), &field, 1)? == Some(served),
+            "{more} more"
+        );
     }
     Ok(())
 }

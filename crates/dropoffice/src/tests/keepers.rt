@@ -1,5 +1,5 @@
 //! Keepers that say something else of the published link's key.
-use super::{PUBLISHED, SECRET, whole};
+use super::{PUBLISHED, SECRET, replaced, whole};
 use crate::fakes::Sink;
 use crate::{Counted, FixedClock, Office, SessionEnd};
 use boxes::rows::{KeyRow, Role};
@@ -110,7 +110,8 @@ fn refuses_revoked_keys(rt: HostRuntime) -> Result<(), Fail> {
 
 #[test]
 fn gives_up_where_the_keeper_fails(rt: HostRuntime) -> Result<(), Fail> {
-    for stream in [PUBLISHED, POST] {
+    let head = replaced(rt.alloc(), PUBLISHED, b"GET", b"HEAD")?;
+    for stream in [PUBLISHED, POST, head.as_slice()] {
         let keeper = stub_keeper(rt.alloc(), Role::Clerk, false, true);
         let said = says(
             rt.alloc(),

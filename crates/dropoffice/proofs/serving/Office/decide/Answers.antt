@@ -24,3 +24,8 @@ returns-in-Err-clause-answers g c s means honest none served other =
     let kept = not_again c.refused_to-in-Err.result q c.refused_to-in-Err.ensures.again other in
     let fails = head_first s r c.args.now q served (c.in-Err.ensures.err kept) in
     (s, means, refused_text s r c.args.now c.refused_to-in-Err.result q (c.refused_to-in-Err.ensures.other kept) fails)
+
+pub returns-in-Ok-clause-readable : goal.returns-in-Ok-clause-readable
+returns-in-Ok-clause-readable g c again =
+    let is = c.in-Ok.ensures.ok in
+    record { served = is.1.well_formed rule.Method; path = is.0.path; params = is.0.params; target = is.1.well_formed rule.Target }

@@ -1,0 +1,14 @@
+-- What of a message is looked at before memory is asked for.
+use Rattle.std.specs.Prelude.{ℕ, List, IsTrue}
+use Rattle.std.specs.List.{list_any}
+use Rattle.sigtext.specs.Bytes.{same_bytes}
+use Rattle.sigtext.specs.Request.{Request}
+use Rattle.sigtext.specs.Target.{Param, IsTargetOf}
+use Rattle.links.specs.WellFormed.{methods}
+
+-- the method is served, and the target has a reading
+pub record IsReadable (r : Request) : Type 0 where
+  pub served : IsTrue (list_any (same_bytes r.method) methods)
+  pub path : List ℕ
+  pub params : List Param
+  pub target : IsTargetOf r.target path params
