@@ -9,6 +9,7 @@ import datetime
 import pathlib
 import random
 import sys
+import types
 import urllib.parse
 
 import boto3
@@ -58,11 +59,7 @@ def stop_the_clock():
         def utcnow(cls):
             return MOMENT.replace(tzinfo=None)
 
-    class Module:
-        datetime = Stopped
-        timedelta = datetime.timedelta
-
-    botocore.auth.datetime = Module
+    botocore.auth.datetime = types.SimpleNamespace(datetime=Stopped, timedelta=datetime.timedelta)
 
 
 def client(region):

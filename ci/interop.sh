@@ -10,7 +10,7 @@ trap 'rm -rf "$cases" "$log"' EXIT
 python=python3
 
 if ! "$python" -c 'import boto3' 2>/dev/null; then
-    apt-get install -y python3-boto3 >"$log" 2>&1 || cat "$log"
+    (apt-get update && apt-get install -y --no-install-recommends python3-boto3) >"$log" 2>&1 || cat "$log"
     python=/usr/bin/python3
 fi
 

@@ -116,12 +116,6 @@ measured_bytes bytes head headers h is coded s =
     let a = alone bytes s in
     coded (ap (named (codes "content-length")) (is ∙ ap headers_of (head_once bytes head a.head h a.is_head)) ∙ a.none)
 
-pub headless_bytes : (bytes : List ℕ) → ((head : RequestHead) → IsHead bytes head → ⊥) → IsServed bytes → ⊥
-headless_bytes bytes none s = let a = alone bytes s in none a.head a.is_head
-
-pub frontless_bytes : (bytes : List ℕ) → (IsFront bytes bytes [] → ⊥) → IsServed bytes → ⊥
-frontless_bytes bytes none s = none (alone bytes s).is_front
-
 -- the request by its parts
 pub same_request : (head : RequestHead) (method target : List ℕ) (headers : List Header) → method ≡ head.method → target ≡ head.target → headers ≡ headers_of head
     → request_of head false [] ≡ record { method = method; target = target; headers = headers; has_length = false; body = [] }

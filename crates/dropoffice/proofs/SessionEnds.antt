@@ -190,10 +190,6 @@ pub unserved_ended : (input input' : Option (List ℕ)) (bytes stream : List ℕ
 unserved_ended input input' bytes stream read end known none served =
     none (subst IsServed (sym (subst (λ o. IsKnown o bytes) known (known_end input input' bytes read end))) served)
 
--- and one that is
-pub served_ended : (input input' : Option (List ℕ)) (bytes stream : List ℕ) → Consumes input input' bytes → IsAtEnd input' → input ≡ Some stream → IsServed bytes → IsServed stream
-served_ended input input' bytes stream read end known served = subst IsServed (subst (λ o. IsKnown o bytes) known (known_end input input' bytes read end)) served
-
 -- where nothing was changed
 pub fails_untouched : {C : Type 0} (gives : C → ℕ → C → Type 0) (clock clock' : C) (input input' output output' : Option (List ℕ)) (means : State → Type 0) (s : State) (bytes : List ℕ)
     → Consumes input input' bytes → HasNoHeadEnd bytes → means s → output' ≡ output → clock' ≡ clock → (after : State) × means after × Serves gives input input' output output' clock clock' s after ReadFault

@@ -18,8 +18,7 @@ abbrev pub IsKnown : Option (List ℕ) → List ℕ → Type 0
 IsKnown None bytes = ⊤
 IsKnown (Some known) bytes = bytes ≡ known
 
--- the stream that a session is about: where a read failed the bytes that were read before it, else all
--- that the reader had
+-- the stream that a session is about: at `ReadFault` the bytes that were read, else all that the reader had
 abbrev pub IsStream : SessionEnd → Option (List ℕ) → Option (List ℕ) → List ℕ → Type 0
 IsStream ReadFault old new stream = Consumes old new stream
 IsStream Ended old new stream = IsKnown old stream

@@ -223,7 +223,8 @@ impl<K: Keeper> Office<K> {
     /// Serves a connection: reads its stream, and answers the message that it is, where it is of the
     /// kind that is served so far. What was read, which moments were told, what was written, how it
     /// ended and the state after it are those of a session of the machine. `Unserved` is every other
-    /// stream, or one that is too long for a head: then nothing is answered, changed or told.
+    /// stream, unless a read failed before a head stood whole or behind a served message: then nothing is
+    /// answered, changed or told.
     pub fn session<R: Read, W: Write, C: Clock>(
         &mut self,
         reader: &mut Counted<R>,

@@ -1,5 +1,5 @@
 -- Searching the names of a target's parameters, one pair after another.
-use Rattle.std.proofs.Common.{◌≡◌, ℕ, ◌+◌, ◌<◌, Bool, true, false, List, ◌∷◌, Some, None, drop, get_or, length, refl, sym, ap, ◌∙◌}
+use Rattle.std.proofs.Common.{◌≡◌, ℕ, ◌+◌, ◌<◌, Bool, true, false, List, ◌∷◌, Some, drop, get_or, length, refl, sym, ap, ◌∙◌}
 use Rattle.std.specs.Prelude.{◌||◌, ◌&&◌, nat_eq}
 use Rattle.std.specs.List.{list_any}
 use Rattle.std.proofs.lemmas.List.{drop_more}
@@ -31,9 +31,6 @@ any_here test params before after raw g holds (rest, spelled, same) =
     let here = sym (ap test (decoded _ raw.name.now p.name spells.name_spelled)) ∙ holds in
     same ∙ ap (any_name test) is ∙ ap (λ b. b || any_name test others) here
 
-pub any_end : (test : List ℕ → Bool) (params : List Param) (before after : Pairs) → GivesNext before None after → SameAny test params before → any_name test params ≡ false
-any_end test params before after g (rest, spelled, same) = same ∙ ap (any_name test) (g.param rest spelled)
-
 -- ---- whether a text begins with a word, byte for byte
 
 begins_cons : (x y : ℕ) (xs ys : List ℕ) → begins_with (x ∷ xs) (y ∷ ys) ≡ (nat_eq y x && begins_with xs ys)
@@ -43,8 +40,3 @@ pub begins_more : (text word : List ℕ) (i x : ℕ) (xs : List ℕ) → i < len
 begins_more text word i x xs within is same =
     ap (λ (t : List ℕ). begins_with t (drop i word)) is ∙ ap (begins_with (x ∷ xs)) (drop_more word i 0 within)
     ∙ begins_cons x (get_or word i 0) xs (drop (i + 1) word) ∙ ap (λ b. b && begins_with xs (drop (i + 1) word)) same
-
-pub begins_not : (text word : List ℕ) (i x : ℕ) (xs : List ℕ) → i < length word → text ≡ x ∷ xs → nat_eq (get_or word i 0) x ≡ false → begins_with text (drop i word) ≡ false
-begins_not text word i x xs within is other =
-    ap (λ (t : List ℕ). begins_with t (drop i word)) is ∙ ap (begins_with (x ∷ xs)) (drop_more word i 0 within)
-    ∙ begins_cons x (get_or word i 0) xs (drop (i + 1) word) ∙ ap (λ b. b && begins_with xs (drop (i + 1) word)) other

@@ -1,5 +1,5 @@
 //! The signature of a link, and its window.
-ghost use Rattle.std.specs.Prelude.{◌≡◌, ◌↔◌, ◌≤◌, ℕ, List, IsTrue, IfOk, IfErr};
+ghost use Rattle.std.specs.Prelude.{◌≡◌, ◌↔◌, ℕ, List, IsTrue, IfOk};
 ghost use Rattle.sigtext.specs.CanonicalRequest.{Signed, IsCanonicalRequest, IsTheOnly};
 ghost use Rattle.sigtext.specs.Signing.{AreOf};
 ghost use Rattle.sigtext.specs.Request.{Request};

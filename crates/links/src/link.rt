@@ -16,8 +16,8 @@ use sigtext::{Field, Parts, Refusal, SignedNames, Target, signed_values};
 use sigv4::{Moment, Scope};
 use std::alloc::Global;
 
-/// What a well-formed link says. It owns the decoded values of the signing parameters and the order of
-/// the parameters, and borrows the rest from the target and the fields.
+/// What a well-formed link says. It owns the credential, the date and the signature, decoded, and the
+/// lists of parameters and signed headers; it borrows the rest from the method, the target and the fields.
 #[derive(Drop)]
 pub struct LinkParts<'a> {
     // What the signature covers.

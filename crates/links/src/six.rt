@@ -1,9 +1,8 @@
 //! The six signing parameters of a target.
 ghost use Rattle.std.specs.Prelude.{◌≡◌, ◌≢◌, ℕ, List, codes, IfOk, IfErr, IfSome, IfNone};
-ghost use Rattle.std.specs.List.{list_any, AllByRecursion};
+ghost use Rattle.std.specs.List.{list_any};
 ghost use Rattle.percent_encoding.specs.Percent as escapes;
 ghost use Rattle.sigtext.specs.Bytes.{begins_with};
-ghost use Rattle.sigtext.specs.Params.{StandOnce};
 ghost use Rattle.sigtext.specs.Target.{Param};
 ghost use Rattle.sigtext.specs.Targets.{SpellsReading};
 ghost use Rattle.sigtext.specs.Signing.{HoldsParams};

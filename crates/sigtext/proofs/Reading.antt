@@ -67,10 +67,3 @@ at_cut target (Some p) = (p.0, Some p.1)
 
 unfoldable pub raw_target : List ℕ → List ℕ × Option (List ℕ)
 raw_target target = at_cut target (cut 63 target)
-
--- the decoded path and parameters
-unfoldable pub spelled_target : List ℕ × Option (List ℕ) → Option (List ℕ × List Param)
-spelled_target raw = do
-  path ← spelled (63 ∷ []) raw.0
-  params ← optional_query raw.1
-  Some (path, params)

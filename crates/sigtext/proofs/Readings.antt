@@ -206,7 +206,3 @@ params_once target params others a b = some_list others params (sym b ∙ a)
 pub found : {A : Type 0} (o : Option A) → is_some o ≡ true → (x : A) × (o ≡ Some x)
 found None e = absurd cc
 found (Some x) e = (x, refl)
-
-pub not_found : {A : Type 0} (o : Option A) (x : A) → is_some o ≡ false → o ≡ Some x → ⊥
-not_found None x a e = cc
-not_found (Some y) x a e = cc

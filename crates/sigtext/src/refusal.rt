@@ -53,7 +53,7 @@ pub enum Refusal {
     RoleNotAllowed,
     /// A PUT without Content-Length.
     LengthMissing,
-    /// Bytes follow a head whose method is not PUT.
+    /// A body that is not empty, of another method than PUT.
     BodyNotTaken,
     /// The box is not there.
     NoSuchBox,

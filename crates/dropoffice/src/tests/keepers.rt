@@ -19,8 +19,6 @@ struct Stub {
 }
 
 impl Keeper for Stub {
-    ghost use Rattle.std.specs.Prelude.{◌≡◌};
-
     ghost means = { λ _ _. ⊥ };
 
     ghost is_honest = { λ _. Unit {0} };
