@@ -5,10 +5,13 @@ use Rattle.sigtext.specs.Bytes.{same_bytes}
 use Rattle.sigtext.specs.Request.{Request}
 use Rattle.sigtext.specs.Target.{Param, IsTargetOf}
 use Rattle.links.specs.WellFormed.{methods}
+use Rattle.links.specs.SixValues.{HaveNames}
 
--- the method is served, and the target has a reading
+-- the method is served, the target has a reading, one of the six signing parameters is there, and no other
+-- name begins with `X-Amz-`
 pub record IsReadable (r : Request) : Type 0 where
   pub served : IsTrue (list_any (same_bytes r.method) methods)
   pub path : List ℕ
   pub params : List Param
   pub target : IsTargetOf r.target path params
+  pub named : HaveNames params

@@ -6,11 +6,11 @@ use Rattle.sigtext.specs.declared.target.Target.{Target}
 use Rattle.sigtext.specs.declared.params.Params.{Params}
 use Rattle.sigtext.specs.Request.{Request}
 use Rattle.sigtext.specs.Rules.{IsFirstToFail, AllHold}
-use Rattle.sigtext.specs.Target.{Param}
+use Rattle.sigtext.specs.Target.{Param, IsTargetOf}
 use Rattle.sigtext.specs.Targets.{SpellsReading}
 use Rattle.sigtext.specs.SignedHeaders.{Header}
 use Rattle.sigtext.specs.SignedValues.{ValueRule}
-use Rattle.links.specs.SixValues.{SixParts, SixRule, AreRightParams, AreWrongParams}
+use Rattle.links.specs.SixValues.{SixParts, SixRule, AreRightParams, AreWrongParams, HaveNames}
 use Rattle.links.specs.LinkReadings.{IsAskedBy}
 use Rattle.links.specs.declared.six.SixValues.{SixValues}
 use Rattle.links.proofs.LinkRules.{Heads, HasTarget, HasSix, names_first, six_first, values_first}
@@ -51,3 +51,12 @@ pub wrong_headers : (method : List ℕ) (t : Target) (headers : List Header) (r 
 wrong_headers method t headers r asked sorted six sp q right all f =
     values_first r asked.read.read.path asked.read.read.params sorted six sp q (has_six method t headers r asked sorted six right) all
     (subst (λ (hs : List Header). IsFirstToFail (ValueRule hs sp.names) q) (sym asked.headers_are) f)
+
+-- what is known of the names of one reading is known of the target's
+pub names_of : (method : List ℕ) (t : Target) (headers : List Header) (r : Request) → IsAskedBy method t headers r → ((path : List ℕ) (params : List Param) → SpellsReading t path params → HaveNames params)
+    → (path : List ℕ) (params : List Param) → IsTargetOf r.target path params → HaveNames params
+names_of method t headers r asked named path params is =
+    subst HaveNames (sym (asked.read.only path params is).1) (named asked.read.read.path asked.read.read.params asked.read.read.spelled)
+
+pub right_names : (t : Target) (sorted : Params) (six : SixValues) → ReadsRight t sorted six → (path : List ℕ) (params : List Param) → SpellsReading t path params → HaveNames params
+right_names t sorted six reads path params s = let right = reads path params s in (right.signed, right.are_six.no_other)

@@ -9,3 +9,4 @@ pub mod Inspected
 pub mod LinkSigning
 pub mod Digits
 pub mod Texts
+pub mod Admitted

@@ -1,5 +1,5 @@
 -- The values of the six signing parameters, and the rules on their forms.
-use Rattle.std.specs.Prelude.{◌≡◌, ℕ, List, ◌∷◌, [], codes, ⊤, IsTrue, ◌⊎◌}
+use Rattle.std.specs.Prelude.{◌≡◌, ℕ, List, ◌∷◌, [], codes, ⊤, IsTrue, ◌⊎◌, IsFalse}
 use Rattle.std.specs.List.{list_any}
 use Rattle.sigtext.specs.declared.refusal.Refusal.{Refusal}
 use Rattle.sigtext.specs.declared.refusal.Refusal.TheVariants as rule
@@ -12,7 +12,7 @@ use Rattle.sigv4.specs.Signature.{CredentialScope}
 use Rattle.sigv4.specs.Credential.{IsCredential}
 use Rattle.sigv4.specs.Dates.{WritesMoment}
 use Rattle.links.specs.Forms.{IsExpiry, IsSignatureText}
-use Rattle.links.specs.WellFormed.{HasValue, AreTheSix, is_signing_name}
+use Rattle.links.specs.WellFormed.{HasValue, AreTheSix, is_signing_name, is_other_amz_name}
 use Rattle.links.specs.declared.six.RawSix.{RawSix}
 use Rattle.links.specs.declared.six.SixValues.{SixValues}
 
@@ -68,3 +68,7 @@ abbrev pub AreWrongParams : Refusal → List Param → Type 0
 AreWrongParams q params =
     ((q ≡ rule.NotSigned) × (IsTrue (list_any (λ p. is_signing_name p.name) params) → ⊥))
     ⊎ ((q ≡ rule.Parameters) × IsTrue (list_any (λ p. is_signing_name p.name) params) × (AreTheSix params → ⊥))
+
+-- some of the six is there, and no other name begins with `X-Amz-`: what is asked before memory is
+abbrev pub HaveNames : List Param → Type 0
+HaveNames params = IsTrue (list_any (λ p. is_signing_name p.name) params) × IsFalse (list_any (λ p. is_other_amz_name p.name) params)

@@ -1,13 +1,14 @@
 //! Reading a link: what its target and the request's fields say (Amazon S3 API Reference, "Authenticating
 //! Requests: Using Query Parameters").
-ghost use Rattle.std.specs.Prelude.{◌≡◌, ◌≢◌, ℕ, map, IfOk, IfErr, IfSome, IfNone};
+ghost use Rattle.std.specs.Prelude.{◌≡◌, ◌≢◌, ℕ, List, map, IfOk, IfErr, IfSome, IfNone};
 ghost use Rattle.sigtext.specs.Fields.{header_of};
 ghost use Rattle.sigtext.specs.Request.{Request};
 ghost use Rattle.sigtext.specs.Rules.{IsFirstToFail, AllHold};
 ghost use Rattle.sigv4.specs.Dates.{WritesMoment};
 ghost use Rattle.links.specs.WellFormed.{HeadRule};
 ghost use Rattle.links.specs.WellFormed as link;
-ghost use Rattle.links.specs.SixValues.{SixParts, SixRule};
+ghost use Rattle.links.specs.SixValues.{SixParts, SixRule, HaveNames};
+ghost use Rattle.sigtext.specs.Target.{Param, IsTargetOf};
 ghost use Rattle.links.specs.LinkReadings.{IsAskedBy, IsLinkOf};
 
 use crate::forms::{is_signature_text, read_expiry};
@@ -90,7 +91,7 @@ fn read_window(six: &SixValues) -> Result<Window, Refusal>
 
 /// Reads the link of a request whose method is served and whose target was read: its parts, where no rule
 /// of the numbers 9 to 18 fails, else the refusal of the least that fails; or refusal 40, where memory was
-/// refused.
+/// refused. Whether one of the six is there, and no other `X-Amz-` name, is told without memory.
 pub fn inspect<'a>(
     alloc: Global,
     method: &'a [u8],
@@ -101,6 +102,8 @@ pub fn inspect<'a>(
         → (p : link.Parts) × IsLinkOf l r p) }
     ensures err { IfErr result (λ q. (q ≢ Refusal.TryAgain) → (r : Request) → IsAskedBy method.now target.now (map header_of fields.now) r
         → IsFirstToFail (λ x p. HeadRule x r p) q) }
+    ensures named { IfErr result (λ q. q ≡ Refusal.TryAgain → (r : Request) → IsAskedBy method.now target.now (map header_of fields.now) r
+        → (path : List ℕ) (params : List Param) → IsTargetOf r.target path params → HaveNames params) }
 {
     let (params, six) = read_six(alloc, target)?;
     let window = read_window(&six)?;

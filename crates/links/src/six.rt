@@ -7,7 +7,7 @@ ghost use Rattle.sigtext.specs.Target.{Param};
 ghost use Rattle.sigtext.specs.Targets.{SpellsReading};
 ghost use Rattle.sigtext.specs.Signing.{HoldsParams};
 ghost use Rattle.links.specs.WellFormed.{is_signing_name, is_other_amz_name, AreThere};
-ghost use Rattle.links.specs.SixValues.{AreRawSix, AreSixOf, AreRightParams, AreWrongParams};
+ghost use Rattle.links.specs.SixValues.{AreRawSix, AreSixOf, AreRightParams, AreWrongParams, HaveNames};
 
 use percent_encoding::percent_decode;
 use sigtext::{Params, Refusal, Target, decodes_to};
@@ -153,6 +153,8 @@ pub(crate) fn read_six<'a>(
         → AreRightParams found.0 found.1 params) }
     ensures err { IfErr result (λ q. (q ≢ Refusal.TryAgain) → (path : List ℕ) (params : List Param) → SpellsReading target.now path params
         → AreWrongParams q params) }
+    ensures named { IfErr result (λ q. q ≡ Refusal.TryAgain → (path : List ℕ) (params : List Param) → SpellsReading target.now path params
+        → HaveNames params) }
 {
     if !has_signing_name(target) {
         return Err(Refusal::NotSigned);

@@ -1,4 +1,4 @@
-use Rattle.std.proofs.Common.{◌≢◌, ℕ, List, map, refl, sym, subst, ◌∙◌}
+use Rattle.std.proofs.Common.{◌≡◌, ◌≢◌, ℕ, List, map, refl, sym, subst, ◌∙◌}
 use Rattle.sigtext.specs.declared.refusal.Refusal.TheVariants.{TryAgain}
 use Rattle.sigtext.specs.declared.refusal.Refusal.TheVariants as rule
 use Rattle.sigtext.specs.Fields.{header_of}
@@ -9,8 +9,10 @@ use Rattle.sigtext.specs.SignedNames.{AreSignedNames}
 use Rattle.sigtext.specs.SignedValues.{ValueRule}
 use Rattle.sigtext.specs.Signing.{values_of}
 use Rattle.links.specs.LinkReadings.{IsAskedBy}
+use Rattle.sigtext.specs.Target.{Param, IsTargetOf}
+use Rattle.links.specs.SixValues.{HaveNames}
 use Rattle.links.proofs.LinkRules.{Heads, parts_of, well_formed}
-use Rattle.links.proofs.Inspected.{carried, has_six, wrong_names, wrong_values, wrong_headers}
+use Rattle.links.proofs.Inspected.{carried, has_six, names_of, right_names, wrong_names, wrong_values, wrong_headers}
 use Rattle.links.proofs.link.inspect.Goals as goal
 
 pub returns-in_err-params-clause-err : goal.returns-in_err-params-clause-err
@@ -62,3 +64,21 @@ returns-clause-ok c r asked =
         well_formed = well_formed r asked.read.read.path asked.read.read.params c.in_ok-params.params six sp signed k all values;
       },
     )
+
+pub returns-in_err-params-clause-named : goal.returns-in_err-params-clause-named
+returns-in_err-params-clause-named c =
+    carried (λ q. q ≡ TryAgain → (r : Request) → IsAskedBy c.args.method.now c.args.target.now (map header_of c.args.fields.now) r → (path : List ℕ) (params : List Param) → IsTargetOf r.target path params → HaveNames params)
+    c.from_residual.result c.in_err-params.field-0.0 c.from_residual.ensures.1
+    (λ is r asked. names_of _ _ _ r asked (c.in_err-params.ensures.named is))
+
+pub returns-in_err-window-clause-named : goal.returns-in_err-window-clause-named
+returns-in_err-window-clause-named c =
+    carried (λ q. q ≡ TryAgain → (r : Request) → IsAskedBy c.args.method.now c.args.target.now (map header_of c.args.fields.now) r → (path : List ℕ) (params : List Param) → IsTargetOf r.target path params → HaveNames params)
+    c.from_residual-in_err-window.result c.in_err-window.field-0.0 c.from_residual-in_err-window.ensures.1
+    (λ is r asked. names_of _ _ _ r asked (right_names c.args.target.now c.in_ok-params.params c.in_ok-params.six c.in_ok-params.ensures.ok))
+
+pub returns-in_err-values-clause-named : goal.returns-in_err-values-clause-named
+returns-in_err-values-clause-named c =
+    carried (λ q. q ≡ TryAgain → (r : Request) → IsAskedBy c.args.method.now c.args.target.now (map header_of c.args.fields.now) r → (path : List ℕ) (params : List Param) → IsTargetOf r.target path params → HaveNames params)
+    c.from_residual-in_err-values.result c.in_err-values.field-0.0 c.from_residual-in_err-values.ensures.1
+    (λ is r asked. names_of _ _ _ r asked (right_names c.args.target.now c.in_ok-params.params c.in_ok-params.six c.in_ok-params.ensures.ok))

@@ -28,4 +28,4 @@ returns-in-Err-clause-answers g c s means honest none served other =
 pub returns-in-Ok-clause-readable : goal.returns-in-Ok-clause-readable
 returns-in-Ok-clause-readable g c again =
     let is = c.in-Ok.ensures.ok in
-    record { served = is.1.well_formed rule.Method; path = is.0.path; params = is.0.params; target = is.1.well_formed rule.Target }
+    record { served = is.1.well_formed rule.Method; path = is.0.path; params = is.0.params; target = is.1.well_formed rule.Target; named = (is.1.well_formed rule.NotSigned, (is.1.well_formed rule.Parameters).no_other) }
