@@ -1,5 +1,6 @@
 //! The table of refusals and the two forms of UriEncode, by values from outside.
 use crate::{Refusal, Slash, uri_encode};
+use std::alloc::{AllocError, Global};
 use std::test::Fail;
 
 mod canonical;
@@ -195,25 +196,24 @@ fn each_refusal_has_its_line(rt: HostRuntime) -> Result<(), Fail> {
     Ok(())
 }
 
-// The 256 bytes in order, as `urllib.parse.quote` of Python 3 writes them with `-._~` as safe characters.
-const EVERY_BYTE: &str = "\
+// The bytes up to 0x7F in order, as `urllib.parse.quote` of Python 3 writes them with `-._~` as safe characters.
+const ASCII: &str = "\
     %00%01%02%03%04%05%06%07%08%09%0A%0B%0C%0D%0E%0F%10%11%12%13%14%15%16%17%18%19%1A%1B%1C%1D%1E%1F\
     %20%21%22%23%24%25%26%27%28%29%2A%2B%2C-.%2F0123456789%3A%3B%3C%3D%3E%3F%40ABCDEFGHIJKLMNOPQRSTU\
-    VWXYZ%5B%5C%5D%5E_%60abcdefghijklmnopqrstuvwxyz%7B%7C%7D~%7F%80%81%82%83%84%85%86%87%88%89%8A%8B\
-    %8C%8D%8E%8F%90%91%92%93%94%95%96%97%98%99%9A%9B%9C%9D%9E%9F%A0%A1%A2%A3%A4%A5%A6%A7%A8%A9%AA%AB\
-    %AC%AD%AE%AF%B0%B1%B2%B3%B4%B5%B6%B7%B8%B9%BA%BB%BC%BD%BE%BF%C0%C1%C2%C3%C4%C5%C6%C7%C8%C9%CA%CB\
-    %CC%CD%CE%CF%D0%D1%D2%D3%D4%D5%D6%D7%D8%D9%DA%DB%DC%DD%DE%DF%E0%E1%E2%E3%E4%E5%E6%E7%E8%E9%EA%EB\
-    %EC%ED%EE%EF%F0%F1%F2%F3%F4%F5%F6%F7%F8%F9%FA%FB%FC%FD%FE%FF";
+    VWXYZ%5B%5C%5D%5E_%60abcdefghijklmnopqrstuvwxyz%7B%7C%7D~%7F";
 
 // The same with `/` among the safe characters.
-const EVERY_BYTE_BUT_SLASH: &str = "\
+const ASCII_BUT_SLASH: &str = "\
     %00%01%02%03%04%05%06%07%08%09%0A%0B%0C%0D%0E%0F%10%11%12%13%14%15%16%17%18%19%1A%1B%1C%1D%1E%1F\
     %20%21%22%23%24%25%26%27%28%29%2A%2B%2C-./0123456789%3A%3B%3C%3D%3E%3F%40ABCDEFGHIJKLMNOPQRSTUVW\
-    XYZ%5B%5C%5D%5E_%60abcdefghijklmnopqrstuvwxyz%7B%7C%7D~%7F%80%81%82%83%84%85%86%87%88%89%8A%8B\
-    %8C%8D%8E%8F%90%91%92%93%94%95%96%97%98%99%9A%9B%9C%9D%9E%9F%A0%A1%A2%A3%A4%A5%A6%A7%A8%A9%AA%AB\
-    %AC%AD%AE%AF%B0%B1%B2%B3%B4%B5%B6%B7%B8%B9%BA%BB%BC%BD%BE%BF%C0%C1%C2%C3%C4%C5%C6%C7%C8%C9%CA%CB\
-    %CC%CD%CE%CF%D0%D1%D2%D3%D4%D5%D6%D7%D8%D9%DA%DB%DC%DD%DE%DF%E0%E1%E2%E3%E4%E5%E6%E7%E8%E9%EA%EB\
-    %EC%ED%EE%EF%F0%F1%F2%F3%F4%F5%F6%F7%F8%F9%FA%FB%FC%FD%FE%FF";
+    XYZ%5B%5C%5D%5E_%60abcdefghijklmnopqrstuvwxyz%7B%7C%7D~%7F";
+
+// The two digits of each byte from 0x80 on, in order, as Python's `bytes.hex` gives them in upper case.
+// Each of these bytes is escaped, whatever the safe characters.
+const PAST_ASCII: &str = "\
+    808182838485868788898A8B8C8D8E8F909192939495969798999A9B9C9D9E9FA0A1A2A3A4A5A6A7A8A9AAAB\
+    ACADAEAFB0B1B2B3B4B5B6B7B8B9BABBBCBDBEBFC0C1C2C3C4C5C6C7C8C9CACBCCCDCECFD0D1D2D3D4D5D6D7\
+    D8D9DADBDCDDDEDFE0E1E2E3E4E5E6E7E8E9EAEBECEDEEEFF0F1F2F3F4F5F6F7F8F9FAFBFCFDFEFF";
 
 // Bytes, their text where `/` is encoded, and their text where it is kept.
 const TEXTS: [(&[u8], &str, &str); 8] = [
@@ -244,6 +244,16 @@ fn encodes_each_text(rt: HostRuntime) -> Result<(), Fail> {
     Ok(())
 }
 
+/// The text, and an escape for each byte past ASCII.
+fn with_escapes_past_ascii(alloc: Global, text: &str) -> Result<Vec<u8>, AllocError> {
+    let mut all = text.as_bytes().to_vec(alloc)?;
+    for digits in PAST_ASCII.as_bytes().chunks(2) {
+        all.push(b'%')?;
+        all.extend_from_slice(digits)?;
+    }
+    Ok(all)
+}
+
 #[test]
 fn encodes_every_byte(rt: HostRuntime) -> Result<(), Fail> {
     let mut bytes = [0; 256];
@@ -252,10 +262,10 @@ fn encodes_every_byte(rt: HostRuntime) -> Result<(), Fail> {
     }
     let mut out = Vec::new(rt.alloc());
     uri_encode(&bytes, Slash::Encoded, &mut out)?;
-    assert_eq!(rt; out.as_slice(), EVERY_BYTE.as_bytes());
+    assert_eq!(rt; out, with_escapes_past_ascii(rt.alloc(), ASCII)?);
     out.clear();
     uri_encode(&bytes, Slash::Kept, &mut out)?;
-    assert_eq!(rt; out.as_slice(), EVERY_BYTE_BUT_SLASH.as_bytes());
+    assert_eq!(rt; out, with_escapes_past_ascii(rt.alloc(), ASCII_BUT_SLASH)?);
     Ok(())
 }
 
