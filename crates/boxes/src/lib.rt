@@ -1,11 +1,6 @@
-//! The rules of boxes: the definitions, the rows that they are about, and the forms of words.
+//! The rules of boxes: the definitions, and the rows that they are about.
 #![tactic(auto)]
 
-pub mod forms;
 pub mod rows;
 
-pub use forms::is_secret;
 pub use rows::{KeyRow, Mode, Role};
-
-#[cfg(test)]
-mod tests;

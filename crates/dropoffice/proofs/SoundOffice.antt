@@ -2,10 +2,10 @@
 use Rattle.std.proofs.Common.{◌≡◌, false, Some, None, refl, sym, subst, ◌∙◌, arith}
 use Rattle.std.specs.FinMap.{get-empty}
 use Rattle.sigtext.specs.Bytes.{bytes_cmp}
-use Rattle.sigv4.specs.Credential.{IsKeyId}
+use Rattle.sigv4.specs.Credential.{IsKeyId, IsSecret}
 use Rattle.boxes.specs.declared.rows.Role.TheVariants.{Clerk}
 use Rattle.boxes.specs.State.{place_cmp}
-use Rattle.boxes.specs.Sound.{IsSecret, IsSound}
+use Rattle.boxes.specs.Sound.{IsSound}
 use Rattle.dropoffice.specs.declared.one_key.OneKey.{OneKey}
 use Rattle.dropoffice.specs.OneKey.{state_of}
 use Rattle.dropoffice.proofs.Lookups.{get_same, got}

@@ -1,27 +1,15 @@
 //! Reading the link of a message.
 ghost use Rattle.std.specs.Prelude.{◌≡◌, ◌≢◌, IfOk, IfErr};
-ghost use Rattle.std.specs.List.{list_any};
-ghost use Rattle.sigtext.specs.Bytes.{same_bytes};
 ghost use Rattle.sigtext.specs.Rules.{IsFirstToFail};
-ghost use Rattle.links.specs.WellFormed.{Parts, methods, HeadRule};
+ghost use Rattle.links.specs.WellFormed.{Parts, HeadRule};
 ghost use Rattle.links.specs.LinkReadings.{IsLinkOf};
 ghost use Rattle.wire.specs.Messages.{request_in};
 ghost use Rattle.dropoffice.specs.Asked.{IsReadable};
 
-use links::{LinkParts, inspect};
+use links::{LinkParts, inspect, is_served_method};
 use sigtext::{Refusal, Target};
 use std::alloc::Global;
 use wire::Message;
-
-// Whether the method is PUT, GET, HEAD or POST.
-fn is_served_method(method: &[u8]) -> bool
-    ensures { result ≡ list_any (same_bytes method.now) methods }
-{
-    method == b"PUT".as_slice()
-        || method == b"GET".as_slice()
-        || method == b"HEAD".as_slice()
-        || method == b"POST".as_slice()
-}
 
 /// Reads the link of a message: its parts, or the refusal of the least rule of the numbers 7 to 18 that
 /// fails; or refusal 40, where memory was refused.

@@ -10,3 +10,13 @@ pub mod LinkSigning
 pub mod Digits
 pub mod Texts
 pub mod Admitted
+pub mod OwnTerms
+pub mod ReadAgain
+pub mod OwnParams
+pub mod SixWritten
+pub mod WrittenBytes
+pub mod Expiries
+pub mod SignatureTexts
+pub mod OwnHeaders
+pub mod OrderedHeaders
+pub mod WrittenLinks

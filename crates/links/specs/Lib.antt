@@ -4,3 +4,5 @@ pub mod Admits
 pub mod SixValues
 pub mod LinkReadings
 pub mod Judging
+pub mod Orders
+pub mod Drafts

@@ -4,6 +4,8 @@ ghost use Rattle.std.specs.List.{list_all};
 ghost use Rattle.std.specs.Char.{is_ascii_digit};
 ghost use Rattle.links.specs.Forms.{IsExpiry, IsSignatureText, is_signature_digit};
 
+use crate::orders::MOST_SECONDS;
+
 fn are_digits(text: &[u8]) -> bool
     ensures { result ≡ list_all is_ascii_digit text.now }
 {
@@ -32,9 +34,6 @@ pub(crate) fn read_expiry(text: &[u8]) -> Option<u64>
     }
     Some(seconds)
 }
-
-/// The greatest expiry: seven days.
-const MOST_SECONDS: u64 = 604_800;
 
 fn is_signature_digit(byte: u8) -> bool
     ensures { result ≡ is_signature_digit byte }

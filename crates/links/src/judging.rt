@@ -24,6 +24,22 @@ fn canonical_text(alloc: Global, parts: &sigtext::Parts<'_>) -> Result<Vec<u8>, 
     Ok(text)
 }
 
+// The signature of the canonical request of the parts: 64 lower-case hexadecimal digits.
+pub(crate) fn signature_of_parts(
+    alloc: Global,
+    parts: &sigtext::Parts<'_>,
+    scope: &Scope<'_>,
+    start: &Moment,
+    secret: &[u8],
+) -> Result<[u8; 64], AllocError>
+    ensures { IfOk result (λ digits. (signed : Signed) → AreOf parts.now signed
+        → (text : List ℕ) × IsTheOnly (IsCanonicalRequest signed) text × ((date : List ℕ) → WritesMoment date start.now
+        → digits ≡ signature_of secret.now date (scope_of scope.now) text)) }
+{
+    let text = canonical_text(alloc, parts)?;
+    signature(secret, scope, start, &text)
+}
+
 // Whether the link's signature is that of its canonical request under the secret.
 fn is_signed_by(
     alloc: Global,
@@ -35,8 +51,7 @@ fn is_signed_by(
         → (text : List ℕ) × IsTheOnly (IsCanonicalRequest signed) text × ((date : List ℕ) → WritesMoment date link.now.start
         → (IsTrue right ↔ (link.now.signature.items ≡ signature_of secret.now date (scope_of scope.now) text)))) }
 {
-    let text = canonical_text(alloc, &link.parts)?;
-    let digits = signature(secret, scope, &link.start, &text)?;
+    let digits = signature_of_parts(alloc, &link.parts, scope, &link.start, secret)?;
     Ok(link.signature.as_slice() == digits.as_slice())
 }
 

@@ -13,6 +13,7 @@ pub mod Targets
 pub mod NamesOnce
 pub mod EncodedOrder
 pub mod OrderedParams
+pub mod Filters
 pub mod NamedParams
 pub mod NamePieces
 pub mod Spaces
@@ -23,3 +24,5 @@ pub mod Compared
 pub mod JoinedTexts
 pub mod Filtered
 pub mod CanonicalTexts
+pub mod EncodedSpells
+pub mod Keyed

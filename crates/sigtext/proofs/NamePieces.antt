@@ -64,7 +64,7 @@ has_risen all n before past = at_drop_all (λ xs. ascends (before ∷ xs)) all n
 -- ---- each piece, and one of them
 
 -- what `all` answered by a test that decides P
-pub each_piece : (P : List ℕ → Type 0) (r : Bool) (all : List (List ℕ))
+pub each_piece : {X : Type 0} (P : X → Type 0) (r : Bool) (all : List X)
     → MatchBool r (AllWithin P all 0 (length all)) ((k : ℕ) × (k < length all) × HoldsAt (λ x. P x → ⊥) all k)
     → IsTrue r ↔ AllByRecursion P all
 each_piece P r all cases = (

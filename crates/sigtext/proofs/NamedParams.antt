@@ -1,15 +1,12 @@
 -- The parameters of one name, where the encoded names are in order.
 use Rattle.std.proofs.Common.{◌≡◌, ℕ, zero, suc, ◌<◌, Bool, true, false, cond, List, [], ◌∷◌, length, get_or, refl, sym, ap, subst, ◌∙◌, ⊎_elim, arith, All, map}
-use Rattle.std.specs.Prelude.{IsPermutation, Contains, filter, ◌&&◌}
-use Rattle.std.specs.Ordering.{is_lt, ordering_reverse}
-use Rattle.std.specs.declared.cmp.Ordering.{Ordering}
-use Rattle.std.specs.declared.cmp.Ordering.TheVariants.{Less, Equal, Greater}
+use Rattle.std.specs.Prelude.{IsPermutation, Contains, ◌&&◌}
+use Rattle.std.specs.Ordering.{is_lt}
+use Rattle.std.specs.declared.cmp.Ordering.TheVariants.{Less}
 use Rattle.std.proofs.lemmas.Bool.{cond-true, cond-false, cases_Bool, false_from_ne_true}
-use Rattle.std.proofs.lemmas.Cmp.{nat_list_cmp_total}
 use Rattle.std.proofs.lemmas.List.{get_or-map, length-map}
-use Rattle.std.proofs.lemmas.List.Elements.{All-head, All-tail, All-weaker, All-contains, All-contains_itself, All-from_recursion, All-filter, filter_passes, All-map, recursion_from_All}
-use Rattle.std.proofs.lemmas.List.Sorted.{IsPermutation-sym, Contains-permutation, sum_by-IsPermutation}
-use Rattle.std.proofs.lemmas.List.Sums.{length-filter}
+use Rattle.std.proofs.lemmas.List.Elements.{All-head, All-tail, All-weaker, All-contains, All-contains_itself, All-from_recursion, All-map, recursion_from_All}
+use Rattle.std.proofs.lemmas.List.Sorted.{IsPermutation-sym, Contains-permutation}
 use Rattle.std.proofs.lemmas.Slice.Eq.{bytes_eq-Decides}
 use Rattle.percent_encoding.specs.Percent.{percent_decode}
 use Rattle.sigtext.specs.declared.encode.Slash.TheVariants.{Encoded}
@@ -24,55 +21,10 @@ use Rattle.sigtext.specs.Params.{params_named, StandOnce}
 use Rattle.sigtext.specs.Signing.{SpellRawParams, HoldsParams}
 use Rattle.sigtext.proofs.Ascending.{ascends-head, ascends-tail, first_or_later, never_below_itself}
 use Rattle.sigtext.proofs.EncodedOrder.{same_bytes_from, spelled_small}
+use Rattle.sigtext.proofs.Filters.{later, counted, none_pass, moved_one, moved_none}
+use Rattle.sigtext.proofs.Keyed.{equal_texts}
 use Rattle.sigtext.specs.Decoded.{decoded_param}
 use Rattle.sigtext.proofs.OrderedParams.{encoded_name, SpellsItsDecoding, NeverFall, are_decoded, each_spells, moved_spellings, rearranged}
-
--- ---- filters
-
-later : {X : Type 0} (x : X) (xs : List X) (q : X) → Contains xs q → Contains (x ∷ xs) q
-later x xs q (k, within, is) = (suc k, omega arith, is)
-
--- a permutation keeps how many pass a test
-counted : {X : Type 0} (t : X → Bool) (xs ys : List X) → IsPermutation xs ys → length (filter t ys) ≡ length (filter t xs)
-counted t xs ys moved = length-filter t ys ∙ sum_by-IsPermutation (λ x. cond (t x) 1 0) xs ys moved ∙ sym (length-filter t xs)
-
-none_pass : {X : Type 0} (t : X → Bool) (xs : List X) → All (λ x. t x ≡ false) xs → filter t xs ≡ []
-none_pass t [] h = refl
-none_pass t (x ∷ xs) h = cond-false _ _ _ (All-head (λ y. t y ≡ false) x xs h) ∙ none_pass t xs (All-tail (λ y. t y ≡ false) x xs h)
-
--- what passes is among what the filter keeps
-kept : {X : Type 0} (t : X → Bool) (xs : List X) (q : X) → t q ≡ true → Contains xs q → Contains (filter t xs) q
-kept t [] q passes c = absurd (omega (arith, c.1))
-kept t (x ∷ xs) q passes c =
-    ⊎_elim
-    (λ here. subst (λ ys. Contains ys q) (sym (cond-true _ _ _ (ap t here ∙ passes))) (zero, omega arith, here))
-    (λ more. ⊎_elim
-    (λ yes. subst (λ ys. Contains ys q) (sym (cond-true _ _ _ yes)) (later x (filter t xs) q (kept t xs q passes more)))
-    (λ no. subst (λ ys. Contains ys q) (sym (cond-false _ _ _ no)) (kept t xs q passes more))
-    (cases_Bool (t x)))
-    (first_or_later x xs q c)
-
-alone : {X : Type 0} (xs : List X) (p : X) → length xs ≡ 1 → All (λ q. q ≡ p) xs → xs ≡ p ∷ []
-alone [] p long h = absurd (omega (arith, long))
-alone (q ∷ []) p long h = ap (λ x. x ∷ []) (All-head (λ q. q ≡ p) q [] h)
-alone (q ∷ r ∷ xs) p long h = absurd (omega (arith, long))
-
-in_one : {X : Type 0} (p q : X) → Contains (p ∷ []) q → q ≡ p
-in_one p q c = ⊎_elim (λ here. sym here) (λ more. absurd (omega (arith, more.1))) (first_or_later p [] q c)
-
--- where one element passes, it alone passes in each permutation
-moved_one : {X : Type 0} (t : X → Bool) (xs ys : List X) (p : X) → IsPermutation xs ys → filter t ys ≡ p ∷ [] → filter t xs ≡ p ∷ []
-moved_one {X} t xs ys p moved one = alone (filter t xs) p (sym (counted t xs ys moved) ∙ ap (λ (zs : List X). length zs) one) (λ k d within. is (get_or (filter t xs) k d) (filter_passes t xs k d within) (All-filter t (Contains xs) xs (All-contains_itself xs) k d within))
-  where
-    is : (q : X) → t q ≡ true → Contains xs q → q ≡ p
-    is q passes there = in_one p q (subst (λ zs. Contains zs q) one (kept t ys q passes (Contains-permutation xs ys q moved there)))
-
-moved_none : {X : Type 0} (t : X → Bool) (xs ys : List X) → IsPermutation xs ys → filter t ys ≡ [] → filter t xs ≡ []
-moved_none {X} t xs ys moved none = empty (filter t xs) (sym (counted t xs ys moved) ∙ ap (λ (zs : List X). length zs) none)
-  where
-    empty : (zs : List X) → length zs ≡ 0 → zs ≡ []
-    empty [] e = refl
-    empty (z ∷ zs) e = absurd (omega (arith, e))
 
 -- ---- names
 
@@ -136,16 +88,10 @@ record IsDoubled (raws : List RawParam) (one : RawParam) : Type 0 where
   there : Contains raws one
   twice : 1 < length (params_named (percent_decode one.name.now) (map decoded_param raws))
 
-tied : (o : Ordering) → is_lt o ≡ false → is_lt (ordering_reverse o) ≡ false → o ≡ Equal
-tied Less h k = absurd cc
-tied Equal h k = refl
-tied Greater h k = absurd cc
-
 same_name : (x y : RawParam) → SpellsItsDecoding x → SpellsItsDecoding y → is_lt (bytes_cmp (encoded_name x) (encoded_name y)) ≡ false → is_lt (bytes_cmp (encoded_name y) (encoded_name x)) ≡ false
     → percent_decode x.name.now ≡ percent_decode y.name.now
 same_name x y s t h k =
-    let back = nat_list_cmp_total.antisymm (encoded_name y) (encoded_name x) in
-    let equal = tied (bytes_cmp (encoded_name x) (encoded_name y)) h (ap is_lt (sym back) ∙ k) in
+    let equal = equal_texts (encoded_name x) (encoded_name y) h k in
     same_bytes_from _ _ (spelled_small (38 ∷ 61 ∷ []) x.name.now _ s.name_spelled) (spelled_small (38 ∷ 61 ∷ []) y.name.now _ t.name_spelled) equal
 
 doubled_here : (x y : RawParam) (raws : List RawParam) → percent_decode x.name.now ≡ percent_decode y.name.now → IsDoubled (x ∷ y ∷ raws) x

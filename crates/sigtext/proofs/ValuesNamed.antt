@@ -24,7 +24,7 @@ use Rattle.sigtext.proofs.Uniqueness.{values_once}
 lower_byte : (b : ℕ) → IsTrue (is_header_name_byte b) → to_ascii_lowercase b ≡ b
 lower_byte b h = grind (arith, nat_tests)
 
-lower_name : (name : List ℕ) → IsTrue (list_all is_header_name_byte name) → lower_case name ≡ name
+pub lower_name : (name : List ℕ) → IsTrue (list_all is_header_name_byte name) → lower_case name ≡ name
 lower_name [] h = refl
 lower_name (b ∷ name) h =
     let parts = and_parts (is_header_name_byte b) (list_all is_header_name_byte name) h in

@@ -3,11 +3,12 @@ ghost use Rattle.std.specs.Prelude.{◌≡◌, true, ℕ, List, [], ◌∷◌, �
 ghost use Rattle.std.specs.List.{join_with_byte};
 ghost use Rattle.percent_encoding.specs.Percent as percent;
 ghost use Rattle.sigtext.specs.Bytes.{same_bytes};
-ghost use Rattle.sigtext.specs.CanonicalQuery.{signed_params, param_text};
+ghost use Rattle.sigtext.specs.CanonicalQuery.{signed_params, param_text, IsCanonicalQuery};
 ghost use Rattle.sigtext.specs.CanonicalRequest.{Signed, IsCanonicalRequest, IsTheOnly};
 ghost use Rattle.sigtext.specs.Decoded.{decoded_param};
 ghost use Rattle.sigtext.specs.SignedHeaders.{lower_case, canonical_headers, signed_headers};
-ghost use Rattle.sigtext.specs.Signing.{AreOf, signed_header};
+ghost use Rattle.sigtext.specs.Signing.{AreOf, HoldsParams, signed_header};
+ghost use Rattle.sigtext.specs.Target.{Param};
 ghost use Rattle.sigtext.specs.Sinks.{TakesBeginning};
 ghost use Rattle.sigtext.specs.UriEncode.{uri_encoded};
 
@@ -53,6 +54,20 @@ pub fn canonical_into<S: ByteSink>(parts: &Parts<'_>, sink: &mut S) -> Result<()
     sink.take(b"\n")?;
     send_names(fields, sink)?;
     sink.take(b"\nUNSIGNED-PAYLOAD")
+}
+
+impl Params<'_> {
+    /// Sends the canonical query: the encoded name, `=` and the encoded value of each parameter but the
+    /// signature, joined by `&`. An error is the sink's, and leaves a beginning of the text in it.
+    pub fn query_into<S: ByteSink>(&self, sink: &mut S) -> Result<(), AllocError>
+        ensures ok { OnOk result ((params : List Param) → HoldsParams self.now params
+            → (query : List ℕ) × IsTheOnly (IsCanonicalQuery params) query × S.takes sink.old query sink.new) }
+        ensures err { OnErr result ((params : List Param) → HoldsParams self.now params
+            → (query : List ℕ) × IsTheOnly (IsCanonicalQuery params) query × TakesBeginning S.takes sink.old query sink.new) }
+        ensures sure { S.never_fails ≡ true → IsOk result }
+    {
+        send_query(self.items.as_slice(), sink)
+    }
 }
 
 // Sends the text and a line feed.

@@ -23,7 +23,7 @@ pub(crate) fn is_amz_name(name: &[u8]) -> bool
 }
 
 /// The one field of this name, ASCII case aside; `None` where there is none, or two.
-pub(crate) fn only_field<'a>(fields: &[Field<'a>], name: &[u8]) -> Option<Field<'a>>
+pub fn only_field<'a>(fields: &[Field<'a>], name: &[u8]) -> Option<Field<'a>>
     ensures some { IfSome result (λ f. named (lower_case name.now) (map header_of fields.now) ≡ header_of f ∷ []) }
     ensures none { IfNone result ((h : Header) → named (lower_case name.now) (map header_of fields.now) ≡ h ∷ [] → ⊥) }
 {
@@ -67,7 +67,7 @@ fn without_blanks_behind(value: &[u8]) -> &[u8]
 }
 
 /// The value without the spaces and tabs at both ends.
-pub(crate) fn trim_blanks(value: &[u8]) -> &[u8]
+pub fn trim_blanks(value: &[u8]) -> &[u8]
     ensures { result.now ≡ trimmed value.now }
 {
     without_blanks_behind(without_blanks_in_front(value))
@@ -91,7 +91,7 @@ fn is_plain(value: &[u8]) -> bool
 }
 
 /// Whether the value may be signed: bytes 0x20 to 0x7E, and no two spaces side by side.
-pub(crate) fn is_fit_value(value: &[u8]) -> bool
+pub fn is_fit_value(value: &[u8]) -> bool
     ensures { IsTrue result ↔ IsFitValue value.now }
 {
     is_plain(value) && !has_double_space(value)

@@ -40,8 +40,8 @@ fn is_name_byte(byte: u8) -> bool
     byte.is_ascii_lowercase() || byte.is_ascii_digit() || matches!(byte, b'-' | b'_' | b'.')
 }
 
-// Whether the text is a header name of 1 to 64 bytes.
-fn is_header_name(text: &[u8]) -> bool
+/// Whether the text has the form of a signed header's name: 1 to 64 bytes of `a-z 0-9 - _ .`.
+pub fn is_header_name(text: &[u8]) -> bool
     ensures { IsTrue result ↔ IsHeaderName text.now }
 {
     if text.is_empty() || text.len() > 64 {

@@ -1,3 +1,5 @@
 pub mod Credentials
 pub mod Moments
 pub mod Vectors
+pub mod Days
+pub mod Digests

@@ -4,7 +4,7 @@ ghost use Rattle.std.specs.List.{All, list_all};
 ghost use Rattle.std.specs.Char.{is_ascii_digit};
 ghost use Rattle.sigtext.specs.Bytes.{begins_with};
 ghost use Rattle.sigv4.specs.Signature.{CredentialScope, scope_text};
-ghost use Rattle.sigv4.specs.Credential.{is_key_byte, is_region_byte, IsKeyId, IsRegion, IsCredential};
+ghost use Rattle.sigv4.specs.Credential.{is_key_byte, is_region_byte, is_secret_byte, IsKeyId, IsRegion, IsSecret, IsCredential};
 ghost use Rattle.sigv4.specs.Scopes.{scope_of};
 
 use sigtext::Refusal;
@@ -33,13 +33,27 @@ pub fn is_key_id(text: &[u8]) -> bool
     !text.is_empty() && text.len() <= 64 && are_key_bytes(text)
 }
 
+fn are_secret_bytes(text: &[u8]) -> bool
+    ensures { result ≡ list_all is_secret_byte text.now }
+{
+    text.iter().all(|byte| matches!(byte, 0x21..=0x7E))
+}
+
+/// Whether the text has the form of a key's secret: 1 to 128 bytes 0x21 to 0x7E.
+pub fn is_secret(text: &[u8]) -> bool
+    ensures { IsTrue result ↔ IsSecret text.now }
+{
+    !text.is_empty() && text.len() <= 128 && are_secret_bytes(text)
+}
+
 fn are_region_bytes(text: &[u8]) -> bool
     ensures { result ≡ list_all is_region_byte text.now }
 {
     text.iter().all(|byte| byte.is_ascii_lowercase() || byte.is_ascii_digit() || *byte == b'-')
 }
 
-fn is_region(text: &[u8]) -> bool
+/// Whether the text has the form of a region: 1 to 32 bytes of `a-z 0-9 -`.
+pub fn is_region(text: &[u8]) -> bool
     ensures { IsTrue result ↔ IsRegion text.now }
 {
     !text.is_empty() && text.len() <= 32 && are_region_bytes(text)

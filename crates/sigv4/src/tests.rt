@@ -1,5 +1,5 @@
 //! Published vectors, and values of Python's hashlib, hmac and calendar.
-use crate::{Hmac, Moment, Scope, Sha, derive, signature};
+use crate::{Hmac, Moment, Scope, Sha, derive, is_region, is_secret, signature};
 use hex::encode_to_slice;
 use sigtext::Refusal;
 use std::test::Fail;
@@ -203,4 +203,26 @@ fn signs_the_published_example(rt: HostRuntime) -> Result<(), Fail> {
         b"aeeed9bbccd4d02ee5c0109b86d86835f995330da4c265957d157751f604d404".as_slice()
     );
     Ok(())
+}
+
+#[test]
+fn secrets(rt: HostRuntime) {
+    assert!(rt; is_secret(b"wJalrXUtnFEMI/K7MDENG/bPxRfiCYEXAMPLEKEY"));
+    assert!(rt; is_secret(b"!"));
+    assert!(rt; is_secret(b"~"));
+    assert!(rt; !is_secret(b""));
+    assert!(rt; !is_secret(b"two words"));
+    assert!(rt; !is_secret(b"\x7F"));
+    assert!(rt; is_secret(&[b'a'; 128]));
+    assert!(rt; !is_secret(&[b'a'; 129]));
+}
+
+#[test]
+fn regions(rt: HostRuntime) {
+    assert!(rt; is_region(b"us-east-1"));
+    assert!(rt; is_region(&[b'a'; 32]));
+    assert!(rt; !is_region(&[b'a'; 33]));
+    assert!(rt; !is_region(b""));
+    assert!(rt; !is_region(b"US"));
+    assert!(rt; !is_region(b"a/b"));
 }

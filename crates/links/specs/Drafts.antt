@@ -1,0 +1,37 @@
+-- The texts that a link is made of.
+use Rattle.std.specs.Prelude.{ℕ, List, ◌∷◌, ◌++◌, map, codes}
+use Rattle.std.specs.List.{join_with_byte}
+use Rattle.sigtext.specs.Bytes.{AreBytes}
+use Rattle.sigtext.specs.CanonicalQuery.{param_text}
+use Rattle.sigtext.specs.Target.{Param}
+use Rattle.sigtext.specs.UriEncode.{uri_encoded}
+use Rattle.sigtext.specs.declared.encode.Slash.TheVariants.{Kept}
+use Rattle.links.specs.declared.writing.Five.{Five}
+
+abbrev pub param : List ℕ → List ℕ → Param
+param name value = record { name = name; value = value }
+
+-- the values of the signing parameters, but for the signature
+pub record FiveValues : Type 0 where
+  pub credential : List ℕ
+  pub date : List ℕ
+  pub expires : List ℕ
+  pub names : List ℕ
+
+abbrev pub five_values : Five → FiveValues
+five_values five = record { credential = five.credential.now; date = five.date.now; expires = five.expires.now; names = five.names.now }
+
+-- the signing parameters, but for the signature, and the others
+abbrev pub draft_params : FiveValues → List Param → List Param
+draft_params five others =
+    param (codes "X-Amz-Algorithm") (codes "AWS4-HMAC-SHA256") ∷ param (codes "X-Amz-Credential") five.credential
+    ∷ param (codes "X-Amz-Date") five.date ∷ param (codes "X-Amz-Expires") five.expires
+    ∷ param (codes "X-Amz-SignedHeaders") five.names ∷ others
+
+-- the name and the value are bytes
+abbrev pub HasBytes : Param → Type 0
+HasBytes p = AreBytes p.name × AreBytes p.value
+
+-- the path and the parameters as UriEncode writes them
+abbrev pub target_text : List ℕ → List Param → List ℕ
+target_text path params = uri_encoded Kept path ++ 63 ∷ join_with_byte 38 (map param_text params)

@@ -1,0 +1,214 @@
+//! Orders of links: what a link is to say, and which orders can be met.
+ghost use Rattle.std.specs.Prelude.{◌≡◌, ◌≢◌, ◌↔◌, IsTrue, OnOk, IfErr, map, length, codes};
+ghost use Rattle.std.specs.List.{list_all, list_any, AllByRecursion};
+ghost use Rattle.sigtext.specs.Bytes.{IsWord, same_bytes};
+ghost use Rattle.sigtext.specs.Fields.{header_of};
+ghost use Rattle.sigtext.specs.Params.{params_named};
+ghost use Rattle.sigtext.specs.SignedHeaders.{trimmed, lower_case, named};
+ghost use Rattle.sigtext.specs.SignedNames.{IsHeaderName};
+ghost use Rattle.sigtext.specs.SignedValues.{IsFitValue};
+ghost use Rattle.sigtext.specs.Target.{BeginsWithSlash};
+ghost use Rattle.sigv4.specs.Credential.{IsKeyId, IsSecret};
+ghost use Rattle.links.specs.WellFormed.{methods};
+ghost use Rattle.links.specs.Orders.{param_of, terms_of, is_visible, IsOwnParam, IsOwnHeader, AreSound, IsFirstFault};
+
+use sigtext::{Field, is_fit_value, is_header_name, only_field, trim_blanks};
+use sigv4::{Moment, is_key_id, is_region, is_secret};
+use thiserror::Error;
+
+/// A parameter of an order, decoded.
+#[derive(Clone, Copy, Debug)]
+pub struct OrderParam<'a> {
+    /// One byte or more, which do not begin with `X-Amz-`.
+    pub name: &'a [u8],
+    /// Any bytes.
+    pub value: &'a [u8],
+}
+
+/// What a link is to say, whoever signs it.
+#[derive(Clone, Copy, Debug)]
+pub struct LinkOrder<'a> {
+    /// `PUT`, `GET`, `HEAD` or `POST`.
+    pub method: &'a [u8],
+    /// The path, decoded. It begins with `/`.
+    pub path: &'a [u8],
+    /// The parameters beside the signing ones, each name once.
+    pub params: &'a [OrderParam<'a>],
+    /// The headers that are signed beside `host`, each name once: 1 to 64 bytes of `a-z 0-9 - _ .`. The
+    /// values hold bytes 0x20 to 0x7E, with no two spaces side by side and none at an end.
+    pub headers: &'a [Field<'a>],
+    /// The first moment at which the link is admitted.
+    pub start: Moment,
+    /// For how many seconds it is admitted: 1 to 604800, which is seven days.
+    pub expires: u64,
+}
+
+/// The key that signs a link.
+#[derive(Clone, Copy, Debug)]
+pub struct LinkKey<'a> {
+    /// 1 to 64 bytes of `A-Z a-z 0-9 - _`.
+    pub id: &'a [u8],
+    /// 1 to 128 bytes 0x21 to 0x7E.
+    pub secret: &'a [u8],
+}
+
+/// Why no link was written. Where several faults are there, it is the first of them.
+#[derive(Clone, Copy, Debug, PartialEq, Eq, Error)]
+pub enum LinkFault {
+    /// The method is not PUT, GET, HEAD or POST.
+    #[error("the method is not served")]
+    Method,
+    /// The path does not begin with `/`.
+    #[error("the path does not begin with a slash")]
+    Path,
+    /// A parameter's name is empty, is there twice, or begins with `X-Amz-`.
+    #[error("a parameter's name is empty, doubled or one of the signature's")]
+    Params,
+    /// A header's name is not of the form, is there twice or is `host`, or its value may not be signed or has
+    /// a space or a tab at an end.
+    #[error("a header is malformed, doubled or the host")]
+    Headers,
+    /// The host is not 1 to 255 bytes 0x21 to 0x7E.
+    #[error("the host is malformed")]
+    Host,
+    /// The region is not 1 to 32 bytes of `a-z 0-9 -`.
+    #[error("the region is malformed")]
+    Region,
+    /// The key's id or its secret is not of the form.
+    #[error("the key is malformed")]
+    Key,
+    /// The expiry is not 1 to 604800 seconds.
+    #[error("the expiry is not 1 to 604800 seconds")]
+    Expires,
+    /// Memory was refused.
+    #[error("out of memory")]
+    Memory,
+}
+
+/// The greatest expiry: seven days.
+pub(crate) const MOST_SECONDS: u64 = 604_800;
+
+/// Whether the method is PUT, GET, HEAD or POST.
+pub fn is_served_method(method: &[u8]) -> bool
+    ensures { result ≡ list_any (same_bytes method.now) methods }
+{
+    method == b"PUT".as_slice()
+        || method == b"GET".as_slice()
+        || method == b"HEAD".as_slice()
+        || method == b"POST".as_slice()
+}
+
+fn begins_with_slash(path: &[u8]) -> bool
+    ensures { IsTrue result ↔ BeginsWithSlash path.now }
+{
+    !path.is_empty() && path[0] == b'/'
+}
+
+// Whether one parameter alone has this name.
+fn stands_once(params: &[OrderParam<'_>], name: &[u8]) -> bool
+    ensures { IsTrue result ↔ (length (params_named name.now (map param_of params.now)) ≡ 1) }
+{
+    params.iter().filter(|param| param.name == name).count() == 1
+}
+
+fn is_own_param(params: &[OrderParam<'_>], param: &OrderParam<'_>) -> bool
+    ensures { IsTrue result ↔ IsOwnParam (map param_of params.now) (param_of param.now) }
+{
+    !param.name.is_empty() && !param.name.starts_with(b"X-Amz-") && stands_once(params, param.name)
+}
+
+fn are_own_params(params: &[OrderParam<'_>]) -> bool
+    ensures { IsTrue result ↔ AllByRecursion (IsOwnParam (map param_of params.now)) (map param_of params.now) }
+{
+    params.iter().all(|param| is_own_param(params, param))
+}
+
+fn is_own_name(name: &[u8]) -> bool
+    ensures { IsTrue result ↔ (IsHeaderName name.now × (name.now ≢ codes "host")) }
+{
+    is_header_name(name) && name != b"host".as_slice()
+}
+
+fn is_bare_value(value: &[u8]) -> bool
+    ensures { IsTrue result ↔ (IsFitValue value.now × (trimmed value.now ≡ value.now)) }
+{
+    is_fit_value(value) && trim_blanks(value) == value
+}
+
+// Whether one header alone has this lower-case name.
+fn is_alone(headers: &[Field<'_>], name: &[u8]) -> bool
+    ensures { IsTrue result ↔ (length (named (lower_case name.now) (map header_of headers.now)) ≡ 1) }
+{
+    only_field(headers, name).is_some()
+}
+
+fn is_own_header(headers: &[Field<'_>], header: &Field<'_>) -> bool
+    ensures { IsTrue result ↔ IsOwnHeader (map header_of headers.now) (header_of header.now) }
+{
+    if !is_own_name(header.name) {
+        return false;
+    }
+    is_bare_value(header.value) && is_alone(headers, header.name)
+}
+
+fn are_own_headers(headers: &[Field<'_>]) -> bool
+    ensures { IsTrue result ↔ AllByRecursion (IsOwnHeader (map header_of headers.now)) (map header_of headers.now) }
+{
+    headers.iter().all(|header| is_own_header(headers, header))
+}
+
+fn are_visible(text: &[u8]) -> bool
+    ensures { result ≡ list_all is_visible text.now }
+{
+    text.iter().all(|byte| matches!(byte, 0x21..=0x7E))
+}
+
+fn is_host(host: &[u8]) -> bool
+    ensures { IsTrue result ↔ IsWord is_visible 255 host.now }
+{
+    !host.is_empty() && host.len() <= 255 && are_visible(host)
+}
+
+fn is_key(key: &LinkKey<'_>) -> bool
+    ensures { IsTrue result ↔ (IsKeyId key.now.id.now × IsSecret key.now.secret.now) }
+{
+    is_key_id(key.id) && is_secret(key.secret)
+}
+
+/// The first fault of an order, if it has one. It takes no memory; two names are compared for each pair of
+/// parameters and of headers.
+pub(crate) fn check_order(
+    order: &LinkOrder<'_>,
+    key: &LinkKey<'_>,
+    host: &[u8],
+    region: &[u8],
+) -> Result<(), LinkFault>
+    ensures ok { OnOk result (AreSound (terms_of order.now key.now host.now region.now)) }
+    ensures err { IfErr result (λ f. (f ≢ LinkFault.Memory) × IsFirstFault (terms_of order.now key.now host.now region.now) f) }
+{
+    if !is_served_method(order.method) {
+        return Err(LinkFault::Method);
+    }
+    if !begins_with_slash(order.path) {
+        return Err(LinkFault::Path);
+    }
+    if !are_own_params(order.params) {
+        return Err(LinkFault::Params);
+    }
+    if !are_own_headers(order.headers) {
+        return Err(LinkFault::Headers);
+    }
+    if !is_host(host) {
+        return Err(LinkFault::Host);
+    }
+    if !is_region(region) {
+        return Err(LinkFault::Region);
+    }
+    if !is_key(key) {
+        return Err(LinkFault::Key);
+    }
+    if order.expires == 0 || order.expires > MOST_SECONDS {
+        return Err(LinkFault::Expires);
+    }
+    Ok(())
+}
