@@ -1,5 +1,5 @@
 #!/usr/bin/env bash
-# Passes all tests: `rt ci` from nothing, requests with links that boto3 makes, and the published request while
+# Passes all tests: `rt ci` from nothing, the comparisons with boto3 and botocore, and a request and a link while
 # memory is refused. The last line is `N passed, M failed`, the sum of all.
 set -u
 cd "$(dirname "$0")/.." || exit 2

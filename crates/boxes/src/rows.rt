@@ -19,7 +19,7 @@ pub enum Mode {
 }
 
 /// A key, without its id.
-#[derive(Debug, Drop)]
+#[derive(Drop)]
 pub struct KeyRow {
     /// What it may do.
     pub role: Role,

@@ -259,3 +259,4 @@ mod keepers;
 mod memory;
 mod refusals;
 mod signed;
+mod written;

@@ -13,7 +13,7 @@ use Rattle.std.proofs.lemmas.List.Folds.{list_any_at, list_all-append}
 use Rattle.std.proofs.lemmas.List.Sorted.{IsPermutation-reverse, IsPermutation-sym, All-permutation, Contains-permutation, list_any-IsPermutation}
 use Rattle.std.proofs.lemmas.Slice.Eq.{bytes_eq-Decides}
 use Rattle.sigtext.specs.declared.field.Field.{Field}
-use Rattle.sigtext.specs.Bytes.{same_bytes, begins_with, bytes_cmp}
+use Rattle.sigtext.specs.Bytes.{is_visible, same_bytes, begins_with, bytes_cmp}
 use Rattle.sigtext.specs.Fields.{header_of}
 use Rattle.sigtext.specs.SignedHeaders.{Header, is_blank, without_leading_blanks, trimmed, lower_case, named, IsSignedValue, AreSignedValues, signed_headers}
 use Rattle.sigtext.specs.SignedNames.{IsHeaderName, AreSignedNames}
@@ -21,7 +21,7 @@ use Rattle.sigtext.specs.SignedValues.{IsFitValue, is_covered}
 use Rattle.sigtext.proofs.Filters.{counted, none_pass, kept}
 use Rattle.sigtext.proofs.Keyed.{EachOnce, times, sorted_ascends}
 use Rattle.sigtext.proofs.ValuesNamed.{lower_name}
-use Rattle.links.specs.Orders.{Terms, is_visible, IsOwnHeader, AreSound, wanted}
+use Rattle.links.specs.Orders.{Terms, IsOwnHeader, AreSound, wanted}
 use Rattle.links.specs.declared.orders.LinkFault.TheVariants as fault
 
 -- ---- texts of visible bytes

@@ -1,8 +1,8 @@
 -- Orders of links: what a link is to say, what is asked of an order, and the link that meets it (Amazon S3 API
 -- Reference, "Authenticating Requests: Using Query Parameters").
-use Rattle.std.specs.Prelude.{◌≡◌, ◌≢◌, ◌↔◌, ℕ, ◌+◌, ◌<◌, ◌≤◌, ◌&&◌, nat_le, Bool, not, false, IsTrue, IsFalse, List, ◌∷◌, ◌++◌, length, map, filter, codes, IsPermutation, Option, Some, ⊤}
+use Rattle.std.specs.Prelude.{◌≡◌, ◌≢◌, ◌↔◌, ℕ, ◌+◌, ◌<◌, ◌≤◌, not, false, IsTrue, IsFalse, List, ◌∷◌, ◌++◌, length, map, filter, codes, IsPermutation, Option, Some, ⊤}
 use Rattle.std.specs.List.{list_all, list_any, AllByRecursion}
-use Rattle.sigtext.specs.Bytes.{IsWord, same_bytes, begins_with}
+use Rattle.sigtext.specs.Bytes.{IsWord, is_visible, same_bytes, begins_with}
 use Rattle.sigtext.specs.CanonicalQuery.{IsCanonicalQuery}
 use Rattle.sigtext.specs.Fields.{header_of}
 use Rattle.sigtext.specs.Params.{params_named}
@@ -70,10 +70,6 @@ pub record IsOwnHeader (headers : List Header) (h : Header) : Type 0 where
   pub other : h.name ≢ codes "host"
   pub fit : IsFitValue h.value
   pub bare : trimmed h.value ≡ h.value
-
--- 0x21 to 0x7E
-abbrev pub is_visible : ℕ → Bool
-is_visible b = nat_le 0x21 b && nat_le b 0x7E
 
 -- what is asked, by the fault that tells where it fails
 abbrev pub TermRule : LinkFault → Terms → Type 0
@@ -143,7 +139,8 @@ abbrev pub Knows : (List ℕ → Option KnownKey) → Terms → Type 0
 Knows look_up t = look_up t.key_id ≡ Some (record { secret = t.secret; revoked = false })
 
 -- the target is a link that meets the order: there are requests for it, each of them is well formed with the
--- ordered parts and rightly signed, and it is admitted exactly from the start up to the expiry
+-- ordered parts and rightly signed, and it is admitted exactly from the start on for as many seconds as the
+-- expiry says: at their end no longer
 pub record IsLinkFor (t : Terms) (target : List ℕ) : Type 0 where
   pub sound : AreSound t
   pub sent : (r : Request) × IsRequestFor t target r

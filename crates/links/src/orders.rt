@@ -1,7 +1,7 @@
 //! Orders of links: what a link is to say, and which orders can be met.
 ghost use Rattle.std.specs.Prelude.{◌≡◌, ◌≢◌, ◌↔◌, IsTrue, OnOk, IfErr, map, length, codes};
 ghost use Rattle.std.specs.List.{list_all, list_any, AllByRecursion};
-ghost use Rattle.sigtext.specs.Bytes.{IsWord, same_bytes};
+ghost use Rattle.sigtext.specs.Bytes.{IsWord, is_visible, same_bytes};
 ghost use Rattle.sigtext.specs.Fields.{header_of};
 ghost use Rattle.sigtext.specs.Params.{params_named};
 ghost use Rattle.sigtext.specs.SignedHeaders.{trimmed, lower_case, named};
@@ -10,7 +10,7 @@ ghost use Rattle.sigtext.specs.SignedValues.{IsFitValue};
 ghost use Rattle.sigtext.specs.Target.{BeginsWithSlash};
 ghost use Rattle.sigv4.specs.Credential.{IsKeyId, IsSecret};
 ghost use Rattle.links.specs.WellFormed.{methods};
-ghost use Rattle.links.specs.Orders.{param_of, terms_of, is_visible, IsOwnParam, IsOwnHeader, AreSound, IsFirstFault};
+ghost use Rattle.links.specs.Orders.{param_of, terms_of, IsOwnParam, IsOwnHeader, AreSound, IsFirstFault};
 
 use sigtext::{Field, is_fit_value, is_header_name, only_field, trim_blanks};
 use sigv4::{Moment, is_key_id, is_region, is_secret};
@@ -43,8 +43,8 @@ pub struct LinkOrder<'a> {
     pub expires: u64,
 }
 
-/// The key that signs a link.
-#[derive(Clone, Copy, Debug)]
+/// The key that signs a link. It has no `Debug`, so that no secret gets into a log by it.
+#[derive(Clone, Copy)]
 pub struct LinkKey<'a> {
     /// 1 to 64 bytes of `A-Z a-z 0-9 - _`.
     pub id: &'a [u8],

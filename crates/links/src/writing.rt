@@ -1,5 +1,5 @@
 //! Writing a link (Amazon S3 API Reference, "Authenticating Requests: Using Query Parameters").
-ghost use Rattle.std.specs.Prelude.{◌≡◌, ◌≢◌, ◌<◌, ℕ, List, [], ◌∷◌, ◌++◌, length, map, codes, IsPermutation, IsTrue, OnOk, OnErr, IfOk, IfErr};
+ghost use Rattle.std.specs.Prelude.{◌≡◌, ◌≢◌, ◌<◌, ℕ, List, ◌∷◌, ◌++◌, length, map, codes, IsPermutation, OnOk, OnErr, IfOk, IfErr};
 ghost use Rattle.std.specs.List.{AllByRecursion};
 ghost use Rattle.std.specs.List.Sorted.{IsSortedBy};
 ghost use Rattle.std.specs.Ordering.{is_lt};
@@ -255,8 +255,8 @@ fn link_text(
 
 /// Appends a link to `out`: `path?query&X-Amz-Signature=signature`, path and query in canonical form. Sent to
 /// the host with the order's method, with the order's headers once each and no other `x-amz-` header, it is
-/// admitted exactly from the order's start until its expiry has passed, wherever the key stands unrevoked
-/// with this secret.
+/// admitted exactly from the order's start on, for as many seconds as the expiry says and no longer, wherever
+/// the key stands unrevoked with this secret.
 ///
 /// # Errors
 ///

@@ -1,5 +1,5 @@
 -- Texts as lists of bytes.
-use Rattle.std.specs.Prelude.{◌≡◌, ℕ, ◌<◌, ◌≤◌, List, ◌++◌, length, Bool, IsTrue, nat_eq}
+use Rattle.std.specs.Prelude.{◌≡◌, ℕ, ◌<◌, ◌≤◌, List, ◌++◌, length, Bool, ◌&&◌, IsTrue, nat_eq, nat_le}
 use Rattle.std.specs.List.{AllByRecursion, list_all, starts_with}
 use Rattle.std.specs.Ordering.{nat_cmp}
 use Rattle.std.specs.declared.cmp.Ordering.{Ordering}
@@ -14,6 +14,10 @@ pub record IsWord (test : ℕ → Bool) (n : ℕ) (text : List ℕ) : Type 0 whe
   pub some : 0 < length text
   pub short : length text ≤ n
   pub each : IsTrue (list_all test text)
+
+-- 0x21 to 0x7E
+abbrev pub is_visible : ℕ → Bool
+is_visible b = nat_le 0x21 b && nat_le b 0x7E
 
 -- a beginning of the text
 pub record IsBeginning (front text : List ℕ) : Type 0 where

@@ -1,8 +1,8 @@
 -- The credential of a link: key id, day, region, service and the fixed last word.
-use Rattle.std.specs.Prelude.{◌≡◌, ℕ, Bool, ◌||◌, ◌&&◌, ◌==◌, nat_le, IsTrue, List, ◌∷◌, ◌++◌, length}
+use Rattle.std.specs.Prelude.{◌≡◌, ℕ, Bool, ◌||◌, ◌==◌, IsTrue, List, ◌∷◌, ◌++◌, length}
 use Rattle.std.specs.List.{list_all}
 use Rattle.std.specs.Char.{is_ascii_alphanumeric, is_ascii_digit, is_ascii_lowercase}
-use Rattle.sigtext.specs.Bytes.{IsWord, begins_with}
+use Rattle.sigtext.specs.Bytes.{IsWord, is_visible, begins_with}
 use Rattle.sigv4.specs.Signature.{CredentialScope, scope_text}
 
 -- A-Z a-z 0-9 - _
@@ -12,12 +12,9 @@ is_key_byte b = is_ascii_alphanumeric b || (b == 45 || b == 95)
 abbrev pub IsKeyId : List ℕ → Type 0
 IsKeyId text = IsWord is_key_byte 64 text
 
-abbrev pub is_secret_byte : ℕ → Bool
-is_secret_byte b = nat_le 0x21 b && nat_le b 0x7E
-
 -- of a key's secret: 1 to 128 bytes 0x21 to 0x7E
 abbrev pub IsSecret : List ℕ → Type 0
-IsSecret secret = IsWord is_secret_byte 128 secret
+IsSecret secret = IsWord is_visible 128 secret
 
 -- a-z 0-9 -
 abbrev pub is_region_byte : ℕ → Bool

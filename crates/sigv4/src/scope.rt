@@ -2,9 +2,9 @@
 ghost use Rattle.std.specs.Prelude.{◌≡◌, ◌≢◌, ◌↔◌, ℕ, List, ◌∷◌, ◌++◌, length, IsTrue, IfSome, IfNone, IfOk, IfErr};
 ghost use Rattle.std.specs.List.{All, list_all};
 ghost use Rattle.std.specs.Char.{is_ascii_digit};
-ghost use Rattle.sigtext.specs.Bytes.{begins_with};
+ghost use Rattle.sigtext.specs.Bytes.{begins_with, is_visible};
 ghost use Rattle.sigv4.specs.Signature.{CredentialScope, scope_text};
-ghost use Rattle.sigv4.specs.Credential.{is_key_byte, is_region_byte, is_secret_byte, IsKeyId, IsRegion, IsSecret, IsCredential};
+ghost use Rattle.sigv4.specs.Credential.{is_key_byte, is_region_byte, IsKeyId, IsRegion, IsSecret, IsCredential};
 ghost use Rattle.sigv4.specs.Scopes.{scope_of};
 
 use sigtext::Refusal;
@@ -33,8 +33,8 @@ pub fn is_key_id(text: &[u8]) -> bool
     !text.is_empty() && text.len() <= 64 && are_key_bytes(text)
 }
 
-fn are_secret_bytes(text: &[u8]) -> bool
-    ensures { result ≡ list_all is_secret_byte text.now }
+fn are_visible(text: &[u8]) -> bool
+    ensures { result ≡ list_all is_visible text.now }
 {
     text.iter().all(|byte| matches!(byte, 0x21..=0x7E))
 }
@@ -43,7 +43,7 @@ fn are_secret_bytes(text: &[u8]) -> bool
 pub fn is_secret(text: &[u8]) -> bool
     ensures { IsTrue result ↔ IsSecret text.now }
 {
-    !text.is_empty() && text.len() <= 128 && are_secret_bytes(text)
+    !text.is_empty() && text.len() <= 128 && are_visible(text)
 }
 
 fn are_region_bytes(text: &[u8]) -> bool

@@ -1,0 +1,176 @@
+"""Writes orders of links, each with the link that botocore's own signer makes of the same request.
+
+For each case there is a file NAME.order, the lines that ci/writer reads, and NAME.order.stdout, the link: the path
+and the query that botocore signed, its parameters in canonical order with the signature last. The moments and the
+random texts are fixed, so each run makes the same cases. The arguments: the folder to write to, and nothing else.
+It prints the number of cases.
+
+Three things botocore does otherwise than S3, and no order asks for them: it leaves some headers unsigned, as
+`user-agent`; it signs the value of `x-amz-content-sha256` in the place of UNSIGNED-PAYLOAD; and it takes the form's
+`content-type` out of the request.
+"""
+
+import dataclasses
+import datetime
+import pathlib
+import random
+import sys
+import urllib.parse
+
+from botocore.auth import S3SigV4QueryAuth
+from botocore.awsrequest import AWSRequest
+from botocore.credentials import Credentials
+
+from samples import HOST, KEY_ID, MOMENT, NAMES, REGIONS, SECRET, random_text, stop_the_clock
+
+METHODS = ["GET", "PUT", "HEAD", "POST"]
+HOSTS = [HOST, f"{HOST}:8080", "Files.Example", "[2001:db8::1]:80", "h" * 255]
+MOMENTS = [MOMENT] + [
+    datetime.datetime.strptime(text, "%Y%m%dT%H%M%S%z")
+    for text in ["19700101T000000Z", "20000229T235959Z", "20380119T031408Z", "99991231T235959Z"]
+]
+KEYS = [
+    (KEY_ID, SECRET),
+    ("k", "!"),
+    ("Desk_key-2", "".join(map(chr, range(0x21, 0x7F)))),
+    ("-_" * 32, "%2F+/" * 25 + "=&?"),
+]
+SHOWN = {"response-content-type": "text/plain; charset=utf-8", "response-cache-control": "no-cache"}
+# Names that sort before and behind X-Amz-.., and names whose order changes once they are encoded.
+SORTED = {"!": "1", "A": "", "X-Amz": "2", "X-Amz.": "3", "X-B": "/", "a": " ", "x-amz-date": "4", "~": "~"}
+ENCODED = {"a/": "2", "a-": "1", "a": "0", "a b": "c/d", "a=": "&", "a+": "+", "ä": "\0", "é": "%41", b"\xff": b"\x80\n"}
+RANGE = {"x-amz-note": "n", "range": "bytes=0-1"}
+# One header of each letter that a name may have, and values of each letter that they may have.
+LETTERED = {
+    "content-type": "text/plain; charset=utf-8",
+    "abcdefghijklmnopqrstuvwxyz-0123456789_.": "".join(map(chr, range(0x21, 0x7F))),
+    "x-amz-meta-long": "a b " * 100 + "c",
+    "x-amz-content-sha256": "UNSIGNED-PAYLOAD",
+    "if-match": "",
+    "-": ":",
+}
+
+
+@dataclasses.dataclass
+class Order:
+    method: str
+    path: str | bytes
+    params: dict = dataclasses.field(default_factory=dict)
+    headers: dict = dataclasses.field(default_factory=dict)
+    host: str = HOST
+    region: str = REGIONS[0]
+    key: tuple = KEYS[0]
+    start: datetime.datetime = MOMENT
+    expires: int = 86400
+
+    def lines(self):
+        """The order's file."""
+        def line(word, *values):
+            return " ".join([word, *(urllib.parse.quote(value, safe="") for value in values)])
+
+        yield line("method", self.method)
+        yield line("path", self.path)
+        yield from (line("param", name, value) for name, value in self.params.items())
+        yield from (line("header", name, value) for name, value in self.headers.items())
+        yield line("host", self.host)
+        yield line("region", self.region)
+        yield line("key_id", self.key[0])
+        yield line("secret", self.key[1])
+        yield line("start", self.start.strftime("%Y%m%dT%H%M%SZ"))
+        yield line("expires", str(self.expires))
+
+    def link(self):
+        """The link by botocore."""
+        stop_the_clock(self.start)
+        url = f"http://{self.host}{urllib.parse.quote(self.path, safe='/')}"
+        request = AWSRequest(self.method, url, {"Host": self.host, **self.headers}, params=dict(self.params))
+        S3SigV4QueryAuth(Credentials(*self.key), "s3", self.region, self.expires).add_auth(request)
+        return in_canonical_order(request.url.removeprefix(f"http://{self.host}"))
+
+
+def in_canonical_order(target):
+    path, _, query = target.partition("?")
+
+    def place(param):
+        name = param.partition("=")[0]
+        return name == "X-Amz-Signature", name
+
+    return f"{path}?{'&'.join(sorted(query.split('&'), key=place))}"
+
+
+def random_bytes(source):
+    return source.randbytes(source.randint(0, 12))
+
+
+def random_params(source):
+    names = {random_text(source, 12).encode() for _ in range(source.randint(0, 8))}
+    params = {name: random_bytes(source) for name in sorted(names)}
+    return dict(source.sample(list(params.items()), len(params)))
+
+
+def random_headers(source):
+    letters = "abcdefghijklmnopqrstuvwxyz0123456789-_."
+    names = {"x-" + "".join(source.choices(letters, k=source.randint(1, 62))) for _ in range(source.randint(0, 5))}
+    names -= {"x-amz-content-sha256", "x-amzn-trace-id"}
+
+    def value():
+        return " ".join("".join(map(chr, source.choices(range(0x20, 0x7F), k=source.randint(0, 40)))).split())
+
+    headers = {name: value() for name in sorted(names)}
+    return dict(source.sample(list(headers.items()), len(headers)))
+
+
+def orders(source):
+    """The orders."""
+    number = 0
+    for name in NAMES + [random_text(source) for _ in range(20)]:
+        for params, headers in [({}, {}), (SHOWN, {}), ({}, {"x-amz-meta-note": f"number {number}"})]:
+            number += 1
+            yield Order(
+                METHODS[number % 4],
+                f"/in/{name}",
+                params,
+                headers,
+                region=REGIONS[number % 3],
+                expires=source.choice([1, 60, 86400, 604800]),
+            )
+    for method in METHODS:
+        yield Order(method, "/")
+        yield Order(method, "//", {"desk": "key revoke k2"}, expires=604800)
+        yield Order(method, "/in/a/../b c", SORTED)
+        yield Order(method, bytes(range(0x2F, 0x100)) + bytes(range(0x2F)), ENCODED)
+        yield Order(method, "/in/a", headers=RANGE)
+        yield Order(method, "/in/b", ENCODED, LETTERED)
+    for host in HOSTS:
+        yield Order("GET", "/in/host", SHOWN, RANGE, host=host)
+    for region in ["a", "-" * 32, "0"]:
+        yield Order("GET", "/in/region", SHOWN, RANGE, region=region)
+    for key in KEYS:
+        yield Order("PUT", "/in/key", SHOWN, RANGE, key=key)
+    for start in MOMENTS:
+        yield Order("PUT", "/in/start", SHOWN, RANGE, start=start)
+    for _ in range(100):
+        yield Order(
+            source.choice(METHODS),
+            b"/" + random_bytes(source) + random_text(source).encode(),
+            random_params(source),
+            random_headers(source),
+            source.choice(HOSTS),
+            source.choice(REGIONS),
+            source.choice(KEYS),
+            source.choice(MOMENTS),
+            source.randint(1, 604800),
+        )
+
+
+def main(folder):
+    count = 0
+    for order in orders(random.Random(20130524)):
+        count += 1
+        case = folder / f"{count:04}.order"
+        case.write_text("".join(f"{line}\n" for line in order.lines()))
+        folder.joinpath(f"{case.name}.stdout").write_text(order.link())
+    print(count)
+
+
+main(pathlib.Path(sys.argv[1]))
