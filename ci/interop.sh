@@ -26,7 +26,7 @@ compare() {
     mkdir "$cases"
     wanted=$("$python" -B "ci/$kind.py" "$cases")
     if [ "${wanted:-0}" -lt 200 ]; then
-        echo "$kind: no cases were made"
+        echo "$kind: fewer than 200 cases were made"
         failed=$((failed + 1))
         return
     fi

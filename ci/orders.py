@@ -5,7 +5,7 @@ and the query that botocore signed, its parameters in canonical order with the s
 random texts are fixed, so each run makes the same cases. The arguments: the folder to write to, and nothing else.
 It prints the number of cases.
 
-Three things botocore does otherwise than S3, and no order asks for them: it leaves some headers unsigned, as
+Three things botocore does otherwise than S3, and no order here depends on them: it leaves some headers unsigned, as
 `user-agent`; it signs the value of `x-amz-content-sha256` in the place of UNSIGNED-PAYLOAD; and it takes the form's
 `content-type` out of the request.
 """

@@ -1,4 +1,4 @@
-"""What the generated cases share: the key, the hosts, the names, and botocore's stopped clock."""
+"""What the generated cases share: the key, the host, the moment, the regions, the names and botocore's stopped clock."""
 
 import datetime
 import types

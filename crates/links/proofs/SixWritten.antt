@@ -13,7 +13,7 @@ use Rattle.sigtext.specs.Params.{params_named, StandOnce}
 use Rattle.sigtext.specs.Target.{Param}
 use Rattle.sigtext.proofs.Filtered.{IsPermutation-filter}
 use Rattle.sigtext.proofs.Filters.{each_passes}
-use Rattle.links.specs.Drafts.{FiveValues, param, draft_params}
+use Rattle.links.specs.Drafts.{DraftValues, param, draft_params}
 use Rattle.links.specs.Orders.{IsOwnParam}
 use Rattle.links.specs.WellFormed.{HasValue, AreTheSix, signing_names, is_signing_name, is_other_amz_name}
 use Rattle.links.proofs.OwnParams.{Begin, names_differ, opposed, joined_once, joined_value, moved_once, moved_value}
@@ -22,7 +22,7 @@ abbrev pub sixth : List ℕ → Param
 sixth sig = param (codes "X-Amz-Signature") sig
 
 -- the six with these values, and beside them the order's own in some order
-pub record AreWritten (five : FiveValues) (sig : List ℕ) (others params : List Param) : Type 0 where
+pub record AreWritten (five : DraftValues) (sig : List ℕ) (others params : List Param) : Type 0 where
   pub six : AreTheSix params
   pub signing : IsTrue (list_any (λ q. is_signing_name q.name) params)
   pub algorithm : HasValue params (codes "X-Amz-Algorithm") (codes "AWS4-HMAC-SHA256")
@@ -38,34 +38,34 @@ pub record AreWritten (five : FiveValues) (sig : List ℕ) (others params : List
 abbrev front : List ℕ
 front = codes "X-Amz-"
 
-abbrev five_params : FiveValues → List Param
+abbrev five_params : DraftValues → List Param
 five_params five = draft_params five []
 
-abbrev six_params : FiveValues → List ℕ → List Param
+abbrev six_params : DraftValues → List ℕ → List Param
 six_params five sig = sixth sig ∷ draft_params five []
 
-five_begin : (five : FiveValues) → Begin front true (five_params five)
+five_begin : (five : DraftValues) → Begin front true (five_params five)
 five_begin five = All-from_recursion (λ p. begins_with p.name front ≡ true) (five_params five) (refl, (refl, (refl, (refl, (refl, tt)))))
 
-six_begin : (five : FiveValues) (sig : List ℕ) → Begin front true (six_params five sig)
+six_begin : (five : DraftValues) (sig : List ℕ) → Begin front true (six_params five sig)
 six_begin five sig = All-from_recursion (λ p. begins_with p.name front ≡ true) (six_params five sig) (refl, (refl, (refl, (refl, (refl, (refl, tt))))))
 
-five_once : (five : FiveValues) → StandOnce (five_params five)
+five_once : (five : DraftValues) → StandOnce (five_params five)
 five_once five = (refl, (refl, (refl, (refl, (refl, tt)))))
 
-six_once : (five : FiveValues) (sig : List ℕ) → StandOnce (six_params five sig)
+six_once : (five : DraftValues) (sig : List ℕ) → StandOnce (six_params five sig)
 six_once five sig = (refl, (refl, (refl, (refl, (refl, (refl, tt))))))
 
 names_begin : All (λ n. begins_with n front ≡ true) signing_names
 names_begin = All-from_recursion (λ n. begins_with n front ≡ true) signing_names (refl, (refl, (refl, (refl, (refl, (refl, tt))))))
 
-no_other_six : (five : FiveValues) (sig : List ℕ) → All (λ p. is_other_amz_name p.name ≡ false) (six_params five sig)
+no_other_six : (five : DraftValues) (sig : List ℕ) → All (λ p. is_other_amz_name p.name ≡ false) (six_params five sig)
 no_other_six five sig = All-from_recursion (λ p. is_other_amz_name p.name ≡ false) (six_params five sig) (refl, (refl, (refl, (refl, (refl, (refl, tt))))))
 
-six_sign : (five : FiveValues) (sig : List ℕ) → filter (λ q. not (is_signing_name q.name)) (six_params five sig) ≡ []
+six_sign : (five : DraftValues) (sig : List ℕ) → filter (λ q. not (is_signing_name q.name)) (six_params five sig) ≡ []
 six_sign five sig = refl
 
-five_signed : (five : FiveValues) → signed_params (five_params five) ≡ five_params five
+five_signed : (five : DraftValues) → signed_params (five_params five) ≡ five_params five
 five_signed five = refl
 
 -- ---- the order's own
@@ -100,32 +100,32 @@ own_signed others own =
 
 -- ---- all of them
 
-abbrev whole : FiveValues → List ℕ → List Param → List Param
+abbrev whole : DraftValues → List ℕ → List Param → List Param
 whole five sig others = six_params five sig ++ others
 
-no_other_all : (five : FiveValues) (sig : List ℕ) (others : List Param) → Own others → list_any (λ p. is_other_amz_name p.name) (whole five sig others) ≡ false
+no_other_all : (five : DraftValues) (sig : List ℕ) (others : List Param) → Own others → list_any (λ p. is_other_amz_name p.name) (whole five sig others) ≡ false
 no_other_all five sig others own =
     list_any_none (λ p. is_other_amz_name p.name) (whole five sig others)
     (All-append (λ p. is_other_amz_name p.name ≡ false) (six_params five sig) others (no_other_six five sig)
     (All-weaker (λ p. begins_with p.name front ≡ false) (λ p. is_other_amz_name p.name ≡ false) (λ p h. and_left _ _ h) others (free others own)))
 
-signing_all : (five : FiveValues) (sig : List ℕ) (others : List Param) → list_any (λ p. is_signing_name p.name) (whole five sig others) ≡ true
+signing_all : (five : DraftValues) (sig : List ℕ) (others : List Param) → list_any (λ p. is_signing_name p.name) (whole five sig others) ≡ true
 signing_all five sig others = refl
 
-kept_all : (five : FiveValues) (sig : List ℕ) (others : List Param) → Own others → filter (λ q. not (is_signing_name q.name)) (whole five sig others) ≡ others
+kept_all : (five : DraftValues) (sig : List ℕ) (others : List Param) → Own others → filter (λ q. not (is_signing_name q.name)) (whole five sig others) ≡ others
 kept_all five sig others own =
     filter-append (λ q. not (is_signing_name q.name)) (six_params five sig) others
     ∙ ap (λ (ps : List Param). ps ++ filter (λ q. not (is_signing_name q.name)) others) (six_sign five sig)
     ∙ own_kept others own
 
 -- a value among the six stays one alone
-value_all : (five : FiveValues) (sig : List ℕ) (others params : List Param) (name value : List ℕ) → Own others → IsPermutation (whole five sig others) params
+value_all : (five : DraftValues) (sig : List ℕ) (others params : List Param) (name value : List ℕ) → Own others → IsPermutation (whole five sig others) params
     → begins_with name front ≡ true → HasValue (six_params five sig) name value → HasValue params name value
 value_all five sig others params name value own moved begins has =
     moved_value (whole five sig others) params name value moved (joined_value front name value (six_params five sig) others begins (free others own) has)
 
 -- however they are rearranged
-pub written : (five : FiveValues) (sig : List ℕ) (others params : List Param) → AllByRecursion (IsOwnParam others) others → IsPermutation (sixth sig ∷ draft_params five others) params → AreWritten five sig others params
+pub written : (five : DraftValues) (sig : List ℕ) (others params : List Param) → AllByRecursion (IsOwnParam others) others → IsPermutation (sixth sig ∷ draft_params five others) params → AreWritten five sig others params
 written five sig others params own moved =
     let algorithm = value_all five sig others params (codes "X-Amz-Algorithm") (codes "AWS4-HMAC-SHA256") own moved refl refl in
     let credential = value_all five sig others params (codes "X-Amz-Credential") five.credential own moved refl refl in
@@ -151,18 +151,18 @@ written five sig others params own moved =
 
 -- ---- without the signature
 
-pub draft_once : (five : FiveValues) (others : List Param) → AllByRecursion (IsOwnParam others) others → StandOnce (draft_params five others)
+pub draft_once : (five : DraftValues) (others : List Param) → AllByRecursion (IsOwnParam others) others → StandOnce (draft_params five others)
 draft_once five others own = joined_once front (five_params five) others (five_begin five) (free others own) (five_once five) (own_once others own)
 
 -- none of a draft's parameters is the signature
-draft_signed : (five : FiveValues) (others : List Param) → Own others → signed_params (five_params five ++ others) ≡ five_params five ++ others
+draft_signed : (five : DraftValues) (others : List Param) → Own others → signed_params (five_params five ++ others) ≡ five_params five ++ others
 draft_signed five others own =
     filter-append (λ q. not (same_bytes q.name (codes "X-Amz-Signature"))) (five_params five) others
     ∙ ap (λ (ps : List Param). ps ++ signed_params others) (five_signed five)
     ∙ ap (λ (ps : List Param). five_params five ++ ps) (own_signed others own)
 
 -- the draft in the order of its query, and the signature at the end
-pub final_moved : (five : FiveValues) (sig : List ℕ) (others ordered : List Param) → AllByRecursion (IsOwnParam others) others → IsPermutation (signed_params (draft_params five others)) ordered
+pub final_moved : (five : DraftValues) (sig : List ℕ) (others ordered : List Param) → AllByRecursion (IsOwnParam others) others → IsPermutation (signed_params (draft_params five others)) ordered
     → IsPermutation (sixth sig ∷ draft_params five others) (ordered ++ sixth sig ∷ [])
 final_moved five sig others ordered own moved =
     let draft = five_params five ++ others in
@@ -178,7 +178,7 @@ end_unsigned sig ordered h =
     ∙ each_passes (λ q. not (same_bytes q.name (codes "X-Amz-Signature"))) ordered h
 
 -- so it leaves the canonical query as it is
-pub final_query : (five : FiveValues) (sig : List ℕ) (others : List Param) (query : List ℕ) → AllByRecursion (IsOwnParam others) others → (q : IsCanonicalQuery (draft_params five others) query)
+pub final_query : (five : DraftValues) (sig : List ℕ) (others : List Param) (query : List ℕ) → AllByRecursion (IsOwnParam others) others → (q : IsCanonicalQuery (draft_params five others) query)
     → IsCanonicalQuery (q.ordered ++ sixth sig ∷ []) query
 final_query five sig others query own q =
     let signs = λ (p : Param). not (same_bytes p.name (codes "X-Amz-Signature")) ≡ true in

@@ -27,7 +27,7 @@ use Rattle.sigv4.specs.Signature.{CredentialScope, scope_text, signature_of}
 use Rattle.sigv4.proofs.Days.{day_of}
 use Rattle.links.specs.declared.orders.LinkFault.TheVariants as fault
 use Rattle.links.specs.Admits.{KnownKey, IsSignedBy, Admits}
-use Rattle.links.specs.Drafts.{FiveValues, draft_params, HasBytes, target_text}
+use Rattle.links.specs.Drafts.{DraftValues, draft_params, HasBytes, target_text}
 use Rattle.links.specs.Forms.{IsExpiry, IsSignatureText}
 use Rattle.links.specs.Orders.{Terms, AreSound, IsOwnParam, wanted, IsRequestFor, Knows, IsLinkFor}
 use Rattle.links.specs.WellFormed.{Parts, IsWellFormed, methods}
@@ -39,7 +39,7 @@ use Rattle.links.proofs.SixWritten.{sixth, AreWritten, written, final_moved, fin
 use Rattle.links.proofs.OrderedHeaders.{each_moved}
 
 -- the values of the signing parameters, by what they say
-pub record AreTexts (t : Terms) (five : FiveValues) (scope : CredentialScope) (hs : List Header) : Type 0 where
+pub record AreTexts (t : Terms) (five : DraftValues) (scope : CredentialScope) (hs : List Header) : Type 0 where
   pub credential : five.credential ≡ t.key_id ++ 47 ∷ scope_text scope
   pub day : scope.date ≡ take 8 five.date
   pub region : scope.region ≡ t.region
@@ -49,16 +49,16 @@ pub record AreTexts (t : Terms) (five : FiveValues) (scope : CredentialScope) (h
   pub headers : IsPermutation (wanted t) hs
 
 -- what is signed is the draft
-abbrev pub drafted : Terms → FiveValues → List Header → Signed
+abbrev pub drafted : Terms → DraftValues → List Header → Signed
 drafted t five hs = record { method = t.method; path = t.path; params = draft_params five t.params; headers = hs }
 
-pub record IsDraftSigned (t : Terms) (five : FiveValues) (scope : CredentialScope) (hs : List Header) (sig : List ℕ) : Type 0 where
+pub record IsDraftSigned (t : Terms) (five : DraftValues) (scope : CredentialScope) (hs : List Header) (sig : List ℕ) : Type 0 where
   pub text : List ℕ
   pub is : IsCanonicalRequest (drafted t five hs) text
   pub same : sig ≡ signature_of t.secret five.date scope text
 
 -- what was written, piece by piece
-pub record AreTold (t : Terms) (five : FiveValues) (scope : CredentialScope) (hs : List Header) (sig query target : List ℕ) : Type 0 where
+pub record AreTold (t : Terms) (five : DraftValues) (scope : CredentialScope) (hs : List Header) (sig query target : List ℕ) : Type 0 where
   pub sound : AreSound t
   pub texts : AreTexts t five scope hs
   pub path_bytes : AreBytes t.path
@@ -110,7 +110,7 @@ others_writable all (p ∷ others) own bytes = ((own.0.some, bytes.0.0, bytes.0.
 abbrev Named : List ℕ → Type 0
 Named name = 0 < length name
 
-draft_writable : (five : FiveValues) (others : List Param) → AllByRecursion (IsOwnParam others) others → AllByRecursion HasBytes (draft_params five others) → AllByRecursion IsWritable (draft_params five others)
+draft_writable : (five : DraftValues) (others : List Param) → AllByRecursion (IsOwnParam others) others → AllByRecursion HasBytes (draft_params five others) → AllByRecursion IsWritable (draft_params five others)
 draft_writable five others own bytes =
     let algorithm : Named (codes "X-Amz-Algorithm") = omega arith in
     let credential : Named (codes "X-Amz-Credential") = omega arith in
@@ -120,13 +120,13 @@ draft_writable five others own bytes =
     ((algorithm, bytes.0.0, bytes.0.1), ((credential, bytes.1.0.0, bytes.1.0.1), ((date, bytes.1.1.0.0, bytes.1.1.0.1), ((expires, bytes.1.1.1.0.0, bytes.1.1.1.0.1), ((names, bytes.1.1.1.1.0.0, bytes.1.1.1.1.0.1), others_writable others others own bytes.1.1.1.1.1)))))
 
 -- the draft is a target with these parameters
-pub draft_is : (t : Terms) (five : FiveValues) → AreSound t → AreBytes t.path → AllByRecursion HasBytes (draft_params five t.params)
+pub draft_is : (t : Terms) (five : DraftValues) → AreSound t → AreBytes t.path → AllByRecursion HasBytes (draft_params five t.params)
     → (text : List ℕ) → text ≡ target_text t.path (draft_params five t.params) → IsTargetOf text t.path (draft_params five t.params)
 draft_is t five sound path_bytes param_bytes text is =
     let ps = draft_params five t.params in
     subst (λ (x : List ℕ). IsTargetOf x t.path ps) (sym is) (target_spelled t.path ps (sound fault.Path) path_bytes (omega arith) (draft_writable five t.params (sound fault.Params) param_bytes))
 
-module _ {t : Terms} {five : FiveValues} {scope : CredentialScope} {hs : List Header} {sig query target : List ℕ} (told : AreTold t five scope hs sig query target) where
+module _ {t : Terms} {five : DraftValues} {scope : CredentialScope} {hs : List Header} {sig query target : List ℕ} (told : AreTold t five scope hs sig query target) where
   own : AllByRecursion (IsOwnParam t.params) t.params
   own = told.sound fault.Params
 
@@ -262,7 +262,7 @@ module _ {t : Terms} {five : FiveValues} {scope : CredentialScope} {hs : List He
   }
 
 -- the same, from what each step of the writing says
-pub link_from : (t : Terms) (five : FiveValues) (scope : CredentialScope) (hs : List Header) (sig target text query : List ℕ) → AreSound t → AreTexts t five scope hs
+pub link_from : (t : Terms) (five : DraftValues) (scope : CredentialScope) (hs : List Header) (sig target text query : List ℕ) → AreSound t → AreTexts t five scope hs
     → AreBytes t.path → AllByRecursion HasBytes (draft_params five t.params) → IsTheOnly (IsCanonicalRequest (drafted t five hs)) text
     → ((date : List ℕ) → WritesMoment date t.start → sig ≡ signature_of t.secret date scope text)
     → IsTheOnly (IsCanonicalQuery (draft_params five t.params)) query → target ≡ uri_encoded Kept t.path ++ 63 ∷ query ++ codes "&X-Amz-Signature=" ++ sig

@@ -6,23 +6,23 @@ use Rattle.sigtext.specs.CanonicalQuery.{param_text}
 use Rattle.sigtext.specs.Target.{Param}
 use Rattle.sigtext.specs.UriEncode.{uri_encoded}
 use Rattle.sigtext.specs.declared.encode.Slash.TheVariants.{Kept}
-use Rattle.links.specs.declared.writing.Five.{Five}
+use Rattle.links.specs.declared.writing.DraftTexts.{DraftTexts}
 
 abbrev pub param : List ℕ → List ℕ → Param
 param name value = record { name = name; value = value }
 
--- the values of the signing parameters, but for the signature
-pub record FiveValues : Type 0 where
+-- the values of the signing parameters, but for the algorithm, which is fixed, and the signature
+pub record DraftValues : Type 0 where
   pub credential : List ℕ
   pub date : List ℕ
   pub expires : List ℕ
   pub names : List ℕ
 
-abbrev pub five_values : Five → FiveValues
-five_values five = record { credential = five.credential.now; date = five.date.now; expires = five.expires.now; names = five.names.now }
+abbrev pub draft_values : DraftTexts → DraftValues
+draft_values five = record { credential = five.credential.now; date = five.date.now; expires = five.expires.now; names = five.names.now }
 
 -- the signing parameters, but for the signature, and the others
-abbrev pub draft_params : FiveValues → List Param → List Param
+abbrev pub draft_params : DraftValues → List Param → List Param
 draft_params five others =
     param (codes "X-Amz-Algorithm") (codes "AWS4-HMAC-SHA256") ∷ param (codes "X-Amz-Credential") five.credential
     ∷ param (codes "X-Amz-Date") five.date ∷ param (codes "X-Amz-Expires") five.expires

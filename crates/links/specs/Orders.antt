@@ -1,5 +1,6 @@
--- Orders of links: what a link is to say, what is asked of an order, and the link that meets it (Amazon S3 API
--- Reference, "Authenticating Requests: Using Query Parameters").
+-- Orders of links: what a link is to say, what is asked of an order, and the link that meets it. The link's texts are
+-- those of the Amazon S3 API Reference, "Authenticating Requests: Using Query Parameters"; what is asked of an order
+-- is the office's own.
 use Rattle.std.specs.Prelude.{◌≡◌, ◌≢◌, ◌↔◌, ℕ, ◌+◌, ◌<◌, ◌≤◌, not, false, IsTrue, IsFalse, List, ◌∷◌, ◌++◌, length, map, filter, codes, IsPermutation, Option, Some, ⊤}
 use Rattle.std.specs.List.{list_all, list_any, AllByRecursion}
 use Rattle.sigtext.specs.Bytes.{IsWord, is_visible, same_bytes, begins_with}
@@ -62,8 +63,8 @@ pub record IsOwnParam (params : List Param) (p : Param) : Type 0 where
   pub once : length (params_named p.name params) ≡ 1
   pub free : IsFalse (begins_with p.name (codes "X-Amz-"))
 
--- a lower-case name, which no other has and which is not `host`, and a value that may be signed, without
--- spaces and tabs at its ends
+-- a name of the form of a signed header's, which no other has and which is not `host`, and a value that may be
+-- signed, without spaces and tabs at its ends
 pub record IsOwnHeader (headers : List Header) (h : Header) : Type 0 where
   pub form : IsHeaderName h.name
   pub once : length (named h.name headers) ≡ 1
@@ -71,7 +72,7 @@ pub record IsOwnHeader (headers : List Header) (h : Header) : Type 0 where
   pub fit : IsFitValue h.value
   pub bare : trimmed h.value ≡ h.value
 
--- what is asked, by the fault that tells where it fails
+-- what is asked of an order, by the fault that is told where it fails; `Memory` stands for nothing that is asked
 abbrev pub TermRule : LinkFault → Terms → Type 0
 TermRule fault.Method t = IsTrue (list_any (same_bytes t.method) methods)
 TermRule fault.Path t = BeginsWithSlash t.path
@@ -110,8 +111,9 @@ pub record IsFirstFault (t : Terms) (f : LinkFault) : Type 0 where
 abbrev pub wanted : Terms → List Header
 wanted t = record { name = codes "host"; value = t.host } ∷ t.headers
 
--- a request with this method and target, with `host` and the order's headers once each, and with no other
--- field whose name begins with `x-amz-`. All else is free.
+-- a request with the order's method and this target, with one field each for `host` and the order's headers (names
+-- in any case, values but for blanks at their ends), and with no other field whose name begins with `x-amz-`, in any
+-- case. All else is free.
 pub record IsRequestFor (t : Terms) (target : List ℕ) (r : Request) : Type 0 where
   pub method_is : r.method ≡ t.method
   pub target_is : r.target ≡ target
@@ -138,9 +140,9 @@ pub record IsCanonicalTarget (p : Parts) (target : List ℕ) : Type 0 where
 abbrev pub Knows : (List ℕ → Option KnownKey) → Terms → Type 0
 Knows look_up t = look_up t.key_id ≡ Some (record { secret = t.secret; revoked = false })
 
--- the target is a link that meets the order: there are requests for it, each of them is well formed with the
--- ordered parts and rightly signed, and it is admitted exactly from the start on for as many seconds as the
--- expiry says: at their end no longer
+-- the target is a link that meets the order: there are requests for it; each of them is well formed with the
+-- ordered parts, and signed under the secret; and in each state where the key stands unrevoked with this secret it
+-- is admitted from the start on for as many seconds as the expiry says, and at no other moment
 pub record IsLinkFor (t : Terms) (target : List ℕ) : Type 0 where
   pub sound : AreSound t
   pub sent : (r : Request) × IsRequestFor t target r

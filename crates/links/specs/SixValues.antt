@@ -69,6 +69,6 @@ AreWrongParams q params =
     ((q ≡ rule.NotSigned) × (IsTrue (list_any (λ p. is_signing_name p.name) params) → ⊥))
     ⊎ ((q ≡ rule.Parameters) × IsTrue (list_any (λ p. is_signing_name p.name) params) × (AreTheSix params → ⊥))
 
--- some of the six is there, and no other name begins with `X-Amz-`: what is asked before memory is
+-- one of the six is there, and no other name begins with `X-Amz-`: what is asked before memory is
 abbrev pub HaveNames : List Param → Type 0
 HaveNames params = IsTrue (list_any (λ p. is_signing_name p.name) params) × IsFalse (list_any (λ p. is_other_amz_name p.name) params)

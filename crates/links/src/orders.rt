@@ -34,8 +34,9 @@ pub struct LinkOrder<'a> {
     pub path: &'a [u8],
     /// The parameters beside the signing ones, each name once.
     pub params: &'a [OrderParam<'a>],
-    /// The headers that are signed beside `host`, each name once: 1 to 64 bytes of `a-z 0-9 - _ .`. The
-    /// values hold bytes 0x20 to 0x7E, with no two spaces side by side and none at an end.
+    /// The headers that are signed beside `host`, and none of them `host`. Each name stands once: 1 to 64 bytes
+    /// of `a-z 0-9 - _ .`. The values hold bytes 0x20 to 0x7E, with no two spaces side by side and none at an
+    /// end.
     pub headers: &'a [Field<'a>],
     /// The first moment at which the link is admitted.
     pub start: Moment,
@@ -62,7 +63,7 @@ pub enum LinkFault {
     #[error("the path does not begin with a slash")]
     Path,
     /// A parameter's name is empty, is there twice, or begins with `X-Amz-`.
-    #[error("a parameter's name is empty, doubled or one of the signature's")]
+    #[error("a parameter's name is empty, doubled or begins with X-Amz-")]
     Params,
     /// A header's name is not of the form, is there twice or is `host`, or its value may not be signed or has
     /// a space or a tab at an end.
@@ -135,7 +136,7 @@ fn is_bare_value(value: &[u8]) -> bool
     is_fit_value(value) && trim_blanks(value) == value
 }
 
-// Whether one header alone has this lower-case name.
+// Whether one header alone has this name, ASCII case aside.
 fn is_alone(headers: &[Field<'_>], name: &[u8]) -> bool
     ensures { IsTrue result ↔ (length (named (lower_case name.now) (map header_of headers.now)) ≡ 1) }
 {

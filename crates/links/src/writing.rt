@@ -18,7 +18,7 @@ ghost use Rattle.sigtext.specs.UriEncode.{uri_encoded};
 ghost use Rattle.sigtext.specs.declared.encode.Slash.TheVariants as slash;
 ghost use Rattle.sigv4.specs.Scopes.{scope_of};
 ghost use Rattle.sigv4.specs.Signature.{scope_text};
-ghost use Rattle.links.specs.Drafts.{param, five_values, draft_params, target_text, HasBytes};
+ghost use Rattle.links.specs.Drafts.{param, draft_values, draft_params, target_text, HasBytes};
 ghost use Rattle.links.specs.Orders.{param_of, terms_of, AreSound, IsFirstFault, IsLinkFor};
 
 use crate::judging::signature_of_parts;
@@ -83,9 +83,9 @@ fn credential_text(alloc: Global, scope: &Scope<'_>) -> Result<Vec<u8>, AllocErr
     Ok(text)
 }
 
-// The values of the signing parameters, but for the signature.
+// The values of the signing parameters, but for the algorithm, which is fixed, and the signature.
 #[derive(Clone, Copy)]
-struct Five<'a> {
+struct DraftTexts<'a> {
     credential: &'a [u8],
     date: &'a [u8],
     expires: &'a [u8],
@@ -95,10 +95,10 @@ struct Five<'a> {
 // The signing parameters, but for the signature, and the others.
 fn all_params<'a>(
     alloc: Global,
-    five: &Five<'a>,
+    five: &DraftTexts<'a>,
     others: &[OrderParam<'a>],
 ) -> Result<Vec<OrderParam<'a>>, AllocError>
-    ensures { IfOk result (λ v. map param_of v.items ≡ draft_params (five_values five.now) (map param_of others.now)) }
+    ensures { IfOk result (λ v. map param_of v.items ≡ draft_params (draft_values five.now) (map param_of others.now)) }
 {
     let mut params = Vec::from_slice(
         alloc,
@@ -129,8 +129,8 @@ fn all_params<'a>(
     Ok(params)
 }
 
-// Appends the encoded name, `=` and the encoded value. These are bytes, as their types say: the callers are
-// told so, since they read what was written.
+// Appends the encoded name, `=` and the encoded value. Clause `bytes`: these are bytes, as their types say. That
+// the text can be read again rests on it.
 fn append_param(name: &[u8], value: &[u8], text: &mut Vec<u8>) -> Result<(), AllocError>
     ensures written { OnOk result (text.new.items ≡ text.old.items ++ param_text (param name.now value.now)) }
     ensures bytes { HasBytes (param name.now value.now) }
@@ -164,7 +164,8 @@ fn want_of_memory(_refusal: Refusal) -> AllocError
     AllocError
 }
 
-// The parts of a draft, which is a target with the fields' names signed.
+// What the signature of a draft covers: its method, path and parameters, and these fields, whose names the text
+// lists.
 fn read_parts<'a>(
     alloc: Global,
     method: &'a [u8],
@@ -240,7 +241,7 @@ fn link_text(
     };
     let credential = credential_text(alloc, &scope)?;
     let mut digits = Buffer::new();
-    let five = Five {
+    let five = DraftTexts {
         credential: &credential,
         date: &date,
         expires: digits.format(order.expires).as_bytes(),

@@ -1,6 +1,6 @@
 //! Fields of a request's head.
 
-/// A field of a request's head (RFC 9110, section 5), as slices.
+/// A field of a request's head (RFC 9110, section 5), or a header that is to be signed, as slices.
 #[derive(Clone, Copy, Debug)]
 pub struct Field<'a> {
     /// The name, in any case.

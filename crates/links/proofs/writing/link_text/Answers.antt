@@ -11,7 +11,7 @@ use Rattle.sigtext.specs.Signing.{AreOf}
 use Rattle.sigv4.specs.Signature.{CredentialScope}
 use Rattle.sigtext.specs.Target.{Param}
 use Rattle.sigtext.specs.declared.field.Field.{Field}
-use Rattle.links.specs.Drafts.{FiveValues, draft_params, HasBytes, target_text}
+use Rattle.links.specs.Drafts.{DraftValues, draft_params, HasBytes, target_text}
 use Rattle.links.specs.Orders.{Terms, terms_of, param_of}
 use Rattle.links.specs.declared.orders.LinkFault.TheVariants as fault
 use Rattle.links.specs.declared.orders.OrderParam.{OrderParam}
@@ -24,7 +24,7 @@ use Rattle.links.proofs.writing.link_text.Goals as goal
 pub read_parts-requires-clause-target : goal.read_parts-requires-clause-target
 read_parts-requires-clause-target c =
     let t : Terms = terms_of c.args.order.now c.args.key.now c.args.host.now c.args.region.now in
-    let five : FiveValues = record { credential = c.deref-2.result.now; date = c.text-date.result; expires = c.as_bytes.result.now; names = c.deref-3.result.now } in
+    let five : DraftValues = record { credential = c.deref-2.result.now; date = c.text-date.result; expires = c.as_bytes.result.now; names = c.deref-3.result.now } in
     let params : map param_of c.deref-4.result.now ≡ draft_params five t.params = ap (λ (ps : List OrderParam). map param_of ps) c.deref-4.ensures.value ∙ c.in_ok-params.ensures in
     let bytes : AllByRecursion HasBytes (draft_params five t.params) = subst (λ (ps : List Param). AllByRecursion HasBytes ps) params c.in_ok-draft.ensures.bytes.1 in
     let text : c.deref-5.result.now ≡ target_text t.path (draft_params five t.params) = c.deref-5.ensures.value ∙ c.in_ok-draft.ensures.written ∙ ap (target_text t.path) params in
@@ -51,7 +51,7 @@ read_parts-requires-clause-values c =
 pub returns : goal.returns
 returns c =
     let t : Terms = terms_of c.args.order.now c.args.key.now c.args.host.now c.args.region.now in
-    let five : FiveValues = record { credential = c.deref-2.result.now; date = c.text-date.result; expires = c.as_bytes.result.now; names = c.deref-3.result.now } in
+    let five : DraftValues = record { credential = c.deref-2.result.now; date = c.text-date.result; expires = c.as_bytes.result.now; names = c.deref-3.result.now } in
     let scope : CredentialScope = record { date = take 8 c.text-date.result; region = c.args.region.now } in
     let fields = c.in_ok-fields.fields.items in
     let hs = map header_of fields in
