@@ -37,9 +37,11 @@ class Run:
     err: bytes
 
 
-def run(words, given=b"", **how):
-    ended = subprocess.run(words, input=given, capture_output=True, timeout=SECONDS, check=False, **how)
-    return Run(ended.returncode, ended.stdout, ended.stderr)
+def run(words, given=b"", out=subprocess.PIPE, **how):
+    """Runs the words on these bytes. Where `out` is a file of its own, what was written there is not told."""
+    how |= {"stdout": out, "stderr": subprocess.PIPE, "timeout": SECONDS, "check": False}
+    ended = subprocess.run(words, input=given, **how)
+    return Run(ended.returncode, ended.stdout or b"", ended.stderr)
 
 
 def side_by_side(call, items):
