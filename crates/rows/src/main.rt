@@ -2,6 +2,8 @@
 //! the name of a call and its words (`row`). Lines that begin with `#`, and empty ones, are printed as they are.
 #![tactic(auto)]
 
+mod messages;
+mod orders;
 mod row;
 mod signatures;
 mod texts;
@@ -14,10 +16,15 @@ use std::io;
 fn answer(alloc: Global, text: &str) -> Result<Line, RowFault> {
     let row = Row::read(alloc, text)?;
     let mut line = Line::new(alloc);
-    if !texts::answer(alloc, &row, &mut line)? && !signatures::answer(alloc, &row, &mut line)? {
-        return Err(RowFault::Malformed);
+    let is_answered = texts::answer(alloc, &row, &mut line)?
+        || signatures::answer(alloc, &row, &mut line)?
+        || orders::answer(alloc, &row, &mut line)?
+        || messages::answer(alloc, &row, &mut line)?;
+    if is_answered {
+        Ok(line)
+    } else {
+        Err(RowFault::Malformed)
     }
-    Ok(line)
 }
 
 fn main(rt: HostRuntime) -> io::Result<()> {

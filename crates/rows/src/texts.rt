@@ -9,7 +9,7 @@ use std::alloc::Global;
 /// Whether the row is one of these calls; then it is answered.
 pub fn answer(alloc: Global, row: &Row<'_>, line: &mut Line) -> Result<bool, RowFault> {
     match row.call {
-        "refusal" => refusal(alloc, row, line)?,
+        "refusal" => columns(alloc, row, line)?,
         "uri_encode" => encode(alloc, row, line)?,
         "decodes_to" => line.put_bool(decodes_to(row.word(0)?, row.word(1)?))?,
         "target" => target(alloc, row, line)?,
@@ -27,60 +27,64 @@ pub fn answer(alloc: Global, row: &Row<'_>, line: &mut Line) -> Result<bool, Row
     Ok(true)
 }
 
-const REFUSALS: [Refusal; 37] = [
-    Refusal::HeadMalformed,
-    Refusal::HeadTooLong,
-    Refusal::TransferCoding,
-    Refusal::LengthMalformed,
-    Refusal::BodyTooLarge,
-    Refusal::BodyIncomplete,
-    Refusal::Method,
-    Refusal::Target,
-    Refusal::NotSigned,
-    Refusal::Parameters,
-    Refusal::Algorithm,
-    Refusal::Credential,
-    Refusal::Date,
-    Refusal::Expiry,
-    Refusal::SignedHeaders,
-    Refusal::SignatureText,
-    Refusal::SignedValues,
-    Refusal::HeaderNotSigned,
-    Refusal::KeyUnknown,
-    Refusal::KeyRevoked,
-    Refusal::SignatureMismatch,
-    Refusal::NotYetValid,
-    Refusal::Expired,
-    Refusal::RoleNotAllowed,
-    Refusal::LengthMissing,
-    Refusal::BodyNotTaken,
-    Refusal::NoSuchBox,
-    Refusal::NameTooLong,
-    Refusal::NameNotAllowed,
-    Refusal::BoxClosed,
-    Refusal::OtherBytesKept,
-    Refusal::TooManyFiles,
-    Refusal::QuotaPassed,
-    Refusal::NoSuchFile,
-    Refusal::CommandMalformed,
-    Refusal::CommandNotPossible,
-    Refusal::TryAgain,
+// Each refusal, by the name of its variant.
+const REFUSALS: [(&str, Refusal); 37] = [
+    ("HeadMalformed", Refusal::HeadMalformed),
+    ("HeadTooLong", Refusal::HeadTooLong),
+    ("TransferCoding", Refusal::TransferCoding),
+    ("LengthMalformed", Refusal::LengthMalformed),
+    ("BodyTooLarge", Refusal::BodyTooLarge),
+    ("BodyIncomplete", Refusal::BodyIncomplete),
+    ("Method", Refusal::Method),
+    ("Target", Refusal::Target),
+    ("NotSigned", Refusal::NotSigned),
+    ("Parameters", Refusal::Parameters),
+    ("Algorithm", Refusal::Algorithm),
+    ("Credential", Refusal::Credential),
+    ("Date", Refusal::Date),
+    ("Expiry", Refusal::Expiry),
+    ("SignedHeaders", Refusal::SignedHeaders),
+    ("SignatureText", Refusal::SignatureText),
+    ("SignedValues", Refusal::SignedValues),
+    ("HeaderNotSigned", Refusal::HeaderNotSigned),
+    ("KeyUnknown", Refusal::KeyUnknown),
+    ("KeyRevoked", Refusal::KeyRevoked),
+    ("SignatureMismatch", Refusal::SignatureMismatch),
+    ("NotYetValid", Refusal::NotYetValid),
+    ("Expired", Refusal::Expired),
+    ("RoleNotAllowed", Refusal::RoleNotAllowed),
+    ("LengthMissing", Refusal::LengthMissing),
+    ("BodyNotTaken", Refusal::BodyNotTaken),
+    ("NoSuchBox", Refusal::NoSuchBox),
+    ("NameTooLong", Refusal::NameTooLong),
+    ("NameNotAllowed", Refusal::NameNotAllowed),
+    ("BoxClosed", Refusal::BoxClosed),
+    ("OtherBytesKept", Refusal::OtherBytesKept),
+    ("TooManyFiles", Refusal::TooManyFiles),
+    ("QuotaPassed", Refusal::QuotaPassed),
+    ("NoSuchFile", Refusal::NoSuchFile),
+    ("CommandMalformed", Refusal::CommandMalformed),
+    ("CommandNotPossible", Refusal::CommandNotPossible),
+    ("TryAgain", Refusal::TryAgain),
 ];
 
-/// `NAME`: the number, the word, the status and the text of the refusal of this name.
-fn refusal(alloc: Global, row: &Row<'_>, line: &mut Line) -> Result<(), RowFault> {
-    let name = row.word(0)?;
-    for refusal in REFUSALS {
-        let found = format!(in alloc; "{refusal:?}")?;
+/// The refusal whose variant has this name.
+pub fn refusal_named(name: &[u8]) -> Result<Refusal, RowFault> {
+    for (found, refusal) in REFUSALS {
         if found.as_bytes() == name {
-            line.put_number(alloc, u64::from(refusal.number()))?;
-            line.put(refusal.word().as_bytes())?;
-            line.put_number(alloc, u64::from(refusal.status()))?;
-            line.put(refusal.text().as_bytes())?;
-            return Ok(());
+            return Ok(refusal);
         }
     }
     Err(RowFault::Malformed)
+}
+
+/// `NAME`: the number, the word, the status and the text of the refusal of this name.
+fn columns(alloc: Global, row: &Row<'_>, line: &mut Line) -> Result<(), RowFault> {
+    let refusal = refusal_named(row.word(0)?)?;
+    line.put_number(alloc, u64::from(refusal.number()))?;
+    line.put(refusal.word().as_bytes())?;
+    line.put_number(alloc, u64::from(refusal.status()))?;
+    Ok(line.put(refusal.text().as_bytes())?)
 }
 
 /// `kept TEXT` or `encoded TEXT`, by what is done with `/`, and perhaps what stands in front: what stands there then.
