@@ -14,6 +14,3 @@ pub use laws::law_of_parts;
 pub use link::{LinkParts, inspect};
 pub use orders::{LinkFault, LinkKey, LinkOrder, OrderParam, is_served_method};
 pub use writing::write_link;
-
-#[cfg(test)]
-mod tests;

@@ -1,7 +1,7 @@
-//! Rows of `links`: links that are written.
+//! Rows of `links`: links that are written, and links that are judged.
 use crate::row::{Line, Row, RowFault};
-use links::{LinkFault, LinkKey, LinkOrder, OrderParam, write_link};
-use sigtext::Field;
+use links::{LinkFault, LinkKey, LinkOrder, OrderParam, inspect, judge, write_link};
+use sigtext::{Field, Target};
 use sigv4::Moment;
 use std::alloc::{AllocError, Global};
 
@@ -9,6 +9,7 @@ use std::alloc::{AllocError, Global};
 pub fn answer(alloc: Global, row: &Row<'_>, line: &mut Line) -> Result<bool, RowFault> {
     match row.call {
         "write_link" => write(alloc, row, line)?,
+        "judge" => judge_link(alloc, row, line)?,
         _ => return Ok(false),
     }
     Ok(true)
@@ -72,4 +73,26 @@ fn write_to(
         secret: row.word(7)?,
     };
     Ok(write_link(alloc, &order, &key, row.word(4)?, row.word(5)?, out))
+}
+
+/// `METHOD TARGET SECRET MOMENT` and fields: the key id of a link that is admitted.
+fn judge_link(alloc: Global, row: &Row<'_>, line: &mut Line) -> Result<(), RowFault> {
+    let fields = row.fields(alloc, 4)?;
+    judge_fields(alloc, row, &fields, line)
+}
+
+fn judge_fields<'a>(
+    alloc: Global,
+    row: &'a Row<'_>,
+    fields: &'a [Field<'a>],
+    line: &mut Line,
+) -> Result<(), RowFault> {
+    let Ok(now) = row.word(3)?.try_into() else {
+        return Err(RowFault::Malformed);
+    };
+    let now = Moment::read(now).ok_or(RowFault::Malformed)?;
+    let target = Target::read(row.word(1)?)?;
+    let link = inspect(alloc, row.word(0)?, &target, fields)?;
+    judge(alloc, &link, row.word(2)?, now)?;
+    Ok(line.put(link.key_id())?)
 }

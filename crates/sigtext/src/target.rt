@@ -216,6 +216,3 @@ fn is_query(text: &[u8]) -> bool
     }
     true
 }
-
-#[cfg(test)]
-mod tests;

@@ -10,6 +10,3 @@ pub use hash::{Hmac, Sha};
 pub use moment::Moment;
 pub use scope::{Scope, is_key_id, is_region, is_secret};
 pub use signing::{derive, signature};
-
-#[cfg(test)]
-mod tests;
