@@ -5,3 +5,4 @@ pub mod Rules
 pub mod Steps
 pub mod Sound
 pub mod Rows
+pub mod FirstState

@@ -7,11 +7,12 @@ use Rattle.wire.specs.declared.answer.Answer.{Answer}
 use Rattle.wire.specs.declared.answer.Reply.TheVariants as reply
 use Rattle.wire.specs.Shown.{text_of}
 use Rattle.dropoffice.specs.Answering.{Answers}
+use Rattle.dropoffice.specs.Kept.{IsLeft}
 
 -- refusal 40
 abbrev pub try_again : Answer
 try_again = record { reply = reply.Refused rule.TryAgain; is_head = false }
 
--- unless it is refusal 40: the text is the machine's, and the keeper means the state after it
+-- unless it is refusal 40: the text is the machine's, and the keeper means the state after it, which is sound
 abbrev pub IsAnswered : (State → Type 0) → State → Request → ℕ → Answer → Type 0
-IsAnswered means s r now a = (a ≢ try_again) → (after : State) × means after × Answers s r now (text_of a) after
+IsAnswered means s r now a = (a ≢ try_again) → (after : State) × IsLeft means after × Answers s r now (text_of a) after

@@ -49,6 +49,7 @@ pub(crate) fn refused_to(refusal: Refusal, method: &[u8]) -> Answer
 pub(crate) fn send_answer<W: Write>(answer: &Answer, writer: &mut Counted<W>) -> Handled
     ensures sent { IsSent (W.contents writer.old.inner) (W.contents writer.new.inner) answer.now result }
     ensures fault { result ≡ Handled.Broken → Rose writer.old.faults writer.new.faults }
+    ensures clean { (result ≢ Handled.Broken) → writer.new.faults ≡ writer.old.faults }
 {
     let gives_up = *answer == refused(Refusal::TryAgain);
     if put_answer(answer, writer).is_err() {

@@ -6,6 +6,7 @@ ghost use Rattle.std.specs.FinMap.{get};
 ghost use Rattle.sigtext.specs.Counts.{CountsErrors};
 ghost use Rattle.boxes.specs.State.{State};
 ghost use Rattle.boxes.specs.Rows.{key_of};
+ghost use Rattle.boxes.specs.Sound.{IsSound};
 
 use boxes::rows::KeyRow;
 use thiserror::Error;
@@ -32,15 +33,21 @@ pub trait Keeper {
     /// What the store gave back so far is what was written. Memory is always honest.
     ghost is_honest: { Self → Type 0 };
 
+    /// What is kept can be seen. A store shuts itself at a fault; memory is always open.
+    ghost is_open: { Self → Type 0 };
+
     /// How many calls failed.
     ghost faults: { Self → ℕ };
 
     /// The key of this id, if there is one. The office is never too full to say.
     fn key(&mut self, id: &[u8]) -> Result<Option<KeyRow>, KeepFault>
-        ensures value { (s : State) → means self.old s → is_honest self.new
+        ensures value { (s : State) → means self.old s → is_honest self.new → IsSound s
             → IfOk result (λ k. option_map key_of k ≡ get s.keys id.now) }
         ensures same { (s : State) → means self.old s → means self.new s }
         ensures honest { is_honest self.new → is_honest self.old }
         ensures count { CountsErrors (faults self.old) (faults self.new) result }
         ensures fault { IfErr result (λ f. f ≢ KeepFault.Full) };
+
+    /// An honest keeper that is open means one state.
+    ghost one: { (k : Self) (s t : State) → is_honest k → is_open k → means k s → means k t → s ≡ t };
 }

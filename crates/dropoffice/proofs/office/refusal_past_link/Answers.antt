@@ -4,7 +4,7 @@ use Rattle.boxes.specs.declared.rows.Role.TheVariants.{Clerk, Link}
 use Rattle.dropoffice.specs.Remaining.{no_clerk, no_command, no_length, no_box}
 use Rattle.dropoffice.proofs.Methods.{fetch_left}
 use Rattle.links.proofs.Texts.{texts_equal, texts_differ}
-use Rattle.dropoffice.proofs.serving.refusal_past_link.Goals as goal
+use Rattle.dropoffice.proofs.office.refusal_past_link.Goals as goal
 
 apart : (role : Role) → role ≡ Link → role ≢ Clerk
 apart role link clerk = other (sym link ∙ clerk)

@@ -1,6 +1,6 @@
 use Rattle.std.proofs.Common.{length, eq-eqb, eqb-true}
 use Rattle.dropoffice.proofs.Fronts.{front_of, front_long, front_none, front_short}
-use Rattle.dropoffice.proofs.serving.is_one_front.Goals as goal
+use Rattle.dropoffice.proofs.session.is_one_front.Goals as goal
 
 pub returns-in_default : goal.returns-in_default
 returns-in_default c = (λ e. absurd cc, λ f. absurd (front_none c.args.bytes.now c.in_default.ensures.none f))
