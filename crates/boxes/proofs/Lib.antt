@@ -1,1 +1,3 @@
-mod Weekdays
+pub mod Weekdays
+pub mod Lookups
+pub mod SoundFirstState
