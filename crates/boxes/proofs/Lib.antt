@@ -1,3 +1,6 @@
 pub mod Weekdays
 pub mod Lookups
 pub mod SoundFirstState
+pub mod HourEdges
+pub mod NameEdges
+pub mod UploadEdges

@@ -1,6 +1,6 @@
 -- Looking up in finite maps by bytes and by places.
 use Rattle.std.proofs.Common.{◌≡◌, ◌≢◌, ℕ, Bool, true, false, cond, List, [], ◌∷◌, Option, Some, None, refl, sym, ap, subst, ◌∙◌, arith, length}
-use Rattle.std.specs.FinMap.{FinMap, empty, insert, remove, get, entries, len, len-entries, len-empty, get-insert, get-empty, IsAntisymmetric, slice_cmp-IsAntisymmetric, nat_cmp-IsAntisymmetric}
+use Rattle.std.specs.FinMap.{FinMap, empty, insert, get, entries, find, put, entries-insert, get-entries, len, len-entries, len-empty, get-insert, get-empty, IsAntisymmetric, slice_cmp-IsAntisymmetric, nat_cmp-IsAntisymmetric}
 use Rattle.std.specs.Ordering.{is_eq, eq_by_cmp}
 use Rattle.std.specs.Cmp.{IsTotalOrder, tied_itself}
 use Rattle.std.specs.Cmp.Lexicographic.{nat_list_cmp_total}
@@ -46,3 +46,11 @@ got m k q v x C e here other =
       | true ↦ λ t is. let same : v ≡ x = cc in here (bytes_same q k (equal_is (bytes_cmp q k) t)) same
       | false ↦ λ t is. other is
     ] refl (sym (get-insert bytes_total m k v q) ∙ e)
+
+-- the entries after one was put, and what a map of these entries has
+pub entries_put : {K X : Type 0} (R : K → K → Ordering) (m : FinMap R X) (k : K) (v : X) (es : List (K × X)) → IsTotalOrder R → entries m ≡ es
+    → entries (insert m k v) ≡ put R k v es
+entries_put R m k v es total is = entries-insert total m k v ∙ ap (put R k v) is
+
+pub get_of : {K X : Type 0} (R : K → K → Ordering) (m : FinMap R X) (es : List (K × X)) (q : K) → entries m ≡ es → get m q ≡ find R q es
+get_of R m es q is = get-entries m q ∙ ap (find R q) is
