@@ -4,3 +4,5 @@ pub mod SoundFirstState
 pub mod HourEdges
 pub mod NameEdges
 pub mod UploadEdges
+pub mod StepEdges
+pub mod CommandSteps
