@@ -1,5 +1,5 @@
 -- The edges of framing: the lengths of heads, streams and bodies, and the forms of Content-Length.
-use Rattle.std.proofs.Common.{◌≡◌, ◌<◌, ◌≤◌, ℕ, Bool, true, List, [], ◌∷◌, ◌++◌, length, codes, lit<, lit≤, arith, refl, sym, ◌∙◌}
+use Rattle.std.proofs.Common.{◌≡◌, ◌<◌, ◌≤◌, ℕ, Bool, true, List, [], ◌∷◌, ◌++◌, length, codes, lit<, lit≤, arith, refl, sym, ap, ◌∙◌}
 use Rattle.std.specs.Prelude.{IsTrue}
 use Rattle.std.specs.List.{list_all}
 use Rattle.std.specs.Char.{is_ascii_digit}
@@ -9,7 +9,7 @@ use Rattle.sigtext.specs.declared.refusal.Refusal.TheVariants as rule
 use Rattle.sigtext.specs.Request.{Request}
 use Rattle.sigtext.specs.SignedHeaders.{Header, named}
 use Rattle.wire.specs.Framing.{EndsHead, IsFront, HasNoFront, IsHead, IsLength, Announces, nothing, given, HasHead, request_of, Message, Refused, Truncated, Next, truncated, too_long, too_large, incomplete, whole}
-use Rattle.wire.proofs.Fronts.{same_length}
+use Rattle.wire.proofs.Fronts.{same_length, same_rest}
 
 -- a head of 8192 bytes may be a front
 pub front_of_8192 : (head rest : List ℕ) → length head ≡ 8192 → EndsHead head
@@ -97,6 +97,19 @@ large_is_no_message stream rest more r x y =
     let large = a.holds in
     let fits = b.holds in
     omega arith
+
+-- a body that is there as a whole is not incomplete
+pub incomplete_lacks : (stream rest : List ℕ) → Next stream (Refused rule.BodyIncomplete) rest
+    → (head : RequestHead) × (n : ℕ) × (more : List ℕ) × HasHead stream head true n more × (length more < n)
+incomplete_lacks stream _ (incomplete head n more has fits short) = (head, n, more, has, short)
+
+pub whole_is_not_incomplete : (stream rest more : List ℕ) (head : RequestHead) (n : ℕ) → HasHead stream head true n rest → length rest ≡ n
+    → Next stream (Refused rule.BodyIncomplete) more → ⊥
+whole_is_not_incomplete stream rest more head n has long next =
+    let (other, m, left, too, short) = incomplete_lacks stream more next in
+    let same = same_length stream head other true true n m rest left has too in
+    let rests = same_rest stream has.front rest too.front left has.is_front too.is_front in
+    omega (arith, ap length rests)
 
 -- Content-Length: ten digits are a length, eleven are not
 pub ten_digits : (text : List ℕ) → length text ≡ 10 → IsTrue (list_all is_ascii_digit text) → IsLength text (digits_value 10 text)

@@ -2,7 +2,7 @@
 use Rattle.std.proofs.Common.{◌≡◌, ◌≤◌, ℕ, Bool, List, [], ◌∷◌, ◌++◌, length, take, drop, refl, sym, ap, subst, ◌∙◌, arith, take-append-drop, ⊎_elim}
 use Rattle.std.proofs.Math.Seq.{take-append_seam}
 use Rattle.std.proofs.lemmas.Bool.{cases_lt}
-use Rattle.std.proofs.lemmas.List.{take-append-le, append-nil}
+use Rattle.std.proofs.lemmas.List.{drop_at, take-append-le, append-nil}
 use Rattle.std.specs.Str.Parse.{digits_value}
 use Rattle.httparse.specs.Grammar.{RequestHead, ReadsRequest}
 use Rattle.httparse.proofs.GrammarLemmas.{request_unique}
@@ -21,6 +21,11 @@ shorter_front stream a r b q f g within =
 pub same_front : (stream a r b q : List ℕ) → IsFront stream a r → IsFront stream b q → a ≡ b
 same_front stream a r b q f g =
     ⊎_elim (λ less. shorter_front stream a r b q f g (omega arith)) (λ within. sym (shorter_front stream b q a r g f within)) (cases_lt (length a) (length b))
+
+pub same_rest : (stream a r b q : List ℕ) → IsFront stream a r → IsFront stream b q → r ≡ q
+same_rest stream a r b q f g =
+    let fronts = same_front stream a r b q f g in
+    sym (drop_at a r (length a) refl) ∙ ap (drop (length a)) (sym f.whole ∙ g.whole) ∙ drop_at b q (length a) (ap length (sym fronts))
 
 lengths_alike : (headers : List Header) (b c : Bool) (n m : ℕ) → Announces headers b n → Announces headers c m → n ≡ m
 lengths_alike headers _ _ _ _ (nothing none) (nothing again) = refl
