@@ -1,3 +1,4 @@
+pub mod ServedMethods
 pub mod Values
 pub mod Parts
 pub mod Signing

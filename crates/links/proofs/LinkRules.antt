@@ -17,18 +17,18 @@ use Rattle.sigtext.proofs.NamesOnce.{names_once}
 use Rattle.sigv4.specs.Credential.{IsCredential}
 use Rattle.sigv4.specs.Dates.{WritesMoment}
 use Rattle.links.specs.Forms.{IsExpiry, IsSignatureText}
-use Rattle.links.specs.WellFormed.{Parts, HasValue, methods, is_signing_name, AreTheSix, HeadRule, IsWellFormed}
+use Rattle.links.specs.WellFormed.{LinkValues, HasValue, methods, is_signing_name, AreTheSix, HeadRule, IsWellFormed}
 use Rattle.links.proofs.Values.{value_same}
 use Rattle.links.specs.SixValues.{SixParts, SixRule, AreSixOf, AreRightParams, AreWrongParams}
 use Rattle.links.specs.declared.six.SixValues.{SixValues}
 
 -- the rules 7 to 18 of a request
-abbrev pub Heads : Request → Refusal → Parts → Type 0
+abbrev pub Heads : Request → Refusal → LinkValues → Type 0
 Heads r x p = HeadRule x r p
 
 -- ---- the parts so far
 
-abbrev pub parts_of : List ℕ → List Param → SixValues → SixParts → List Header → Parts
+abbrev pub parts_of : List ℕ → List Param → SixValues → SixParts → List Header → LinkValues
 parts_of path params six sp signed = record {
   path = path;
   params = params;
@@ -41,7 +41,7 @@ parts_of path params six sp signed = record {
   signature = six.signature.items;
 }
 
-abbrev early : List ℕ → List Param → Parts
+abbrev early : List ℕ → List Param → LinkValues
 early path params = record {
   path = path;
   params = params;
@@ -63,7 +63,7 @@ blank_names [] = refl
 blank_names (name ∷ names) = ap (λ (ns : List (List ℕ)). name ∷ ns) (blank_names names)
 
 -- what the values say, as a request's parts say it
-abbrev six_of : Parts → SixParts
+abbrev six_of : LinkValues → SixParts
 six_of p = record { key_id = p.key_id; scope = p.scope; start = p.start; expires = p.expires; names = map (λ s. s.name) p.signed }
 
 -- ---- the method, the target and the six names
@@ -87,7 +87,7 @@ method_first r other = record { parts = early [] []; before = λ x lt. nothing r
     nothing r _ lt = tt
 
 -- the rules 7 to 10 before a number
-early_before : (r : Request) (p : Parts) (n : ℕ) → n ≤ 10 → (7 < n → HeadRule rule.Method r p) → (8 < n → HeadRule rule.Target r p) → (9 < n → HeadRule rule.NotSigned r p)
+early_before : (r : Request) (p : LinkValues) (n : ℕ) → n ≤ 10 → (7 < n → HeadRule rule.Method r p) → (8 < n → HeadRule rule.Target r p) → (9 < n → HeadRule rule.NotSigned r p)
     → (x : Refusal) → number_of x < n → HeadRule x r p
 early_before r p n most method target signed rule.Method lt = method lt
 early_before r p n most method target signed rule.Target lt = target lt
@@ -155,7 +155,7 @@ head_with r path params sorted six sp signed k same rule.SignedValues le h = abs
 head_with r path params sorted six sp signed k same rule.HeaderNotSigned le h = absurd (omega arith)
 head_with r path params sorted six sp signed k same _ le h = tt
 
-six_from : (r : Request) (params : List Param) (six : SixValues) (p : Parts) → p.params ≡ params → AreSixOf six params → (x : Refusal) → HeadRule x r p → SixRule six x (six_of p)
+six_from : (r : Request) (params : List Param) (six : SixValues) (p : LinkValues) → p.params ≡ params → AreSixOf six params → (x : Refusal) → HeadRule x r p → SixRule six x (six_of p)
 six_from r params six p same v rule.Algorithm h = sym (value_same params p.params (codes "X-Amz-Algorithm") six.algorithm.items _ same v.algorithm h)
 six_from r params six p same v rule.Credential (text, date, has, has_date, is) =
     let one = value_same params p.params (codes "X-Amz-Credential") six.credential.items text same v.credential has in
@@ -212,7 +212,7 @@ before_cover r path params sorted six sp signed k all v rule.HeaderNotSigned lt 
 before_cover r path params sorted six sp signed k all v x lt = head_with r path params sorted six sp signed k (value_names r.headers sp.names signed v.0) x (omega arith) (all x)
 
 -- the names that other parts give are these
-same_names : (r : Request) (params : List Param) (six : SixValues) (sp : SixParts) (p : Parts) → p.params ≡ params → AreSixOf six params → AreSignedNames six.names.items sp.names
+same_names : (r : Request) (params : List Param) (six : SixValues) (sp : SixParts) (p : LinkValues) → p.params ≡ params → AreSixOf six params → AreSignedNames six.names.items sp.names
     → HeadRule rule.SignedHeaders r p → map (λ s. s.name) p.signed ≡ sp.names
 same_names r params six sp p same v are h = names_once six.names.items sp.names (map (λ s. s.name) p.signed) are (six_from r params six p same v rule.SignedHeaders h)
 
@@ -236,7 +236,7 @@ values_first r path params sorted six sp rule.HeaderNotSigned k all f = record {
       f.fails p.signed (λ x lt. up_to r sp p names v x lt) bad;
 }
   where
-    up_to : (r : Request) (sp : SixParts) (p : Parts) → map (λ s. s.name) p.signed ≡ sp.names → HeadRule rule.SignedValues r p → (x : Refusal) → number_of x < 18 → ValueRule r.headers sp.names x p.signed
+    up_to : (r : Request) (sp : SixParts) (p : LinkValues) → map (λ s. s.name) p.signed ≡ sp.names → HeadRule rule.SignedValues r p → (x : Refusal) → number_of x < 18 → ValueRule r.headers sp.names x p.signed
     up_to r sp p names v rule.SignedValues lt = (subst (λ (ns : List (List ℕ)). AreSignedValues r.headers ns p.signed) names v.0, v.1)
     up_to r sp p names v rule.HeaderNotSigned lt = absurd (omega arith)
     up_to r sp p names v _ lt = tt

@@ -1,5 +1,5 @@
 //! The published link of the Amazon S3 API Reference, read and judged, and orders of links.
-use crate::{LinkFault, LinkKey, LinkOrder, OrderParam, inspect, judge, write_link};
+use crate::{LinkFault, LinkKey, LinkOrder, Method, OrderParam, inspect, judge, write_link};
 use sigtext::{Field, Refusal, Target};
 use sigv4::Moment;
 use std::alloc::Global;
@@ -94,7 +94,7 @@ fn refusal_at(alloc: Global, secret: &[u8], moment: &[u8; 16]) -> Option<Refusal
     let Ok(target) = Target::read(TARGET) else {
         return Some(Refusal::Target);
     };
-    let link = match inspect(alloc, b"GET", &target, &FIELDS) {
+    let link = match inspect(alloc, Method::Get, &target, &FIELDS) {
         Ok(link) => link,
         Err(refusal) => return Some(refusal),
     };
@@ -104,7 +104,7 @@ fn refusal_at(alloc: Global, secret: &[u8], moment: &[u8; 16]) -> Option<Refusal
     let Some(now) = Moment::read(moment) else {
         return Some(Refusal::Date);
     };
-    judge(alloc, &link, secret, now).err()
+    judge(&link, secret, now).err()
 }
 
 #[test]
@@ -147,11 +147,11 @@ fn refuses_what_is_no_link(rt: HostRuntime) -> Result<(), Fail> {
         (b"/?X-Amz-Date=1", Refusal::Parameters),
     ] {
         let target = Target::read(text).ok().ok_or("no target")?;
-        let found = inspect(rt.alloc(), b"GET", &target, &FIELDS);
+        let found = inspect(rt.alloc(), Method::Get, &target, &FIELDS);
         assert!(rt; found.err() == Some(refusal), "{text:?}");
     }
     let target = Target::read(TARGET).ok().ok_or("no target")?;
-    let found = inspect(rt.alloc(), b"GET", &target, &[]);
+    let found = inspect(rt.alloc(), Method::Get, &target, &[]);
     assert!(rt; found.err() == Some(Refusal::SignedValues));
     Ok(())
 }

@@ -1,6 +1,6 @@
 //! Links that were written, read again and judged.
 use super::{Asked, SECRET, START, field, published};
-use crate::{inspect, judge};
+use crate::{Method, inspect, judge};
 use sigtext::{Field, Refusal, Target};
 use sigv4::Moment;
 use std::alloc::Global;
@@ -37,14 +37,14 @@ fn refusal_of<'a>(
     let Ok(target) = Target::read(target) else {
         return Some(Refusal::Target);
     };
-    let link = match inspect(alloc, b"GET", &target, fields) {
+    let link = match inspect(alloc, Method::Get, &target, fields) {
         Ok(link) => link,
         Err(refusal) => return Some(refusal),
     };
     let Some(now) = Moment::read(moment) else {
         return Some(Refusal::Date);
     };
-    judge(alloc, &link, secret, now).err()
+    judge(&link, secret, now).err()
 }
 
 #[test]

@@ -1,7 +1,7 @@
 use Rattle.std.proofs.Common.{◌≡◌, List, ℕ, subst, rules}
 use Rattle.std.specs.Prelude.{IfNone}
 use Rattle.sigv4.specs.Dates.{WritesMoment}
-use Rattle.links.proofs.link.read_moment.Goals as goal
+use Rattle.links.proofs.inspecting.read_moment.Goals as goal
 
 pub returns-clause-none : goal.returns-clause-none
 returns-clause-none c =

@@ -5,46 +5,19 @@ ghost use Rattle.sigtext.specs.Fields.{header_of};
 ghost use Rattle.sigtext.specs.Request.{Request};
 ghost use Rattle.sigtext.specs.Rules.{IsFirstToFail, AllHold};
 ghost use Rattle.sigv4.specs.Dates.{WritesMoment};
-ghost use Rattle.links.specs.WellFormed.{HeadRule};
-ghost use Rattle.links.specs.WellFormed as link;
+ghost use Rattle.links.specs.Methods.{method_text};
+ghost use Rattle.links.specs.WellFormed.{LinkValues, HeadRule};
 ghost use Rattle.links.specs.SixValues.{SixParts, SixRule, HaveNames};
 ghost use Rattle.sigtext.specs.Target.{Param, IsTargetOf};
 ghost use Rattle.links.specs.LinkReadings.{IsAskedBy, IsLinkOf};
 
 use crate::forms::{is_signature_text, read_expiry};
+use crate::link_parts::LinkParts;
+use crate::methods::Method;
 use crate::six::{SixValues, read_six};
 use sigtext::{Field, Parts, Refusal, SignedNames, Target, signed_values};
 use sigv4::{Moment, Scope};
 use std::alloc::Global;
-
-/// What a well-formed link says. It owns the credential, the date and the signature, decoded, and the
-/// lists of parameters and signed headers; it borrows the rest from the method, the target and the fields.
-#[derive(Drop)]
-pub struct LinkParts<'a> {
-    // What the signature covers.
-    pub(crate) parts: Parts<'a>,
-    // Decoded, and of the form that `Scope::read` takes.
-    pub(crate) credential: Vec<u8>,
-    // The date of the link, decoded.
-    pub(crate) date: Vec<u8>,
-    pub(crate) start: Moment,
-    // In seconds.
-    pub(crate) expires: u64,
-    // 64 lower-case hexadecimal digits.
-    pub(crate) signature: Vec<u8>,
-}
-
-impl LinkParts<'_> {
-    /// The key id of the link's credential: 1 to 64 bytes of `A-Z a-z 0-9 - _`.
-    pub fn key_id(&self) -> &[u8]
-        ensures { (r : Request) (p : link.Parts) → IsLinkOf self.now r p → result.now ≡ p.key_id }
-    {
-        match Scope::read(&self.credential, &self.date) {
-            Ok(scope) => scope.key_id,
-            Err(_) => &[],
-        }
-    }
-}
 
 /// When a link begins, and for how many seconds it holds.
 #[derive(Clone, Copy)]
@@ -89,20 +62,19 @@ fn read_window(six: &SixValues) -> Result<Window, Refusal>
     Ok(Window { start, expires })
 }
 
-/// Reads the link of a request whose method is served and whose target was read: its parts, where no rule
-/// of the numbers 9 to 18 fails, else the refusal of the least that fails; or refusal 40, where memory was
-/// refused. Whether one of the six is there, and no other `X-Amz-` name, is told without memory.
+/// Reads the link of a request whose target was read: its parts, where no rule of the numbers 9 to 18
+/// fails, else the refusal of the least that fails; or refusal 40, where memory was refused. Whether one of the six is there, and no other `X-Amz-` name, is told without memory.
 pub fn inspect<'a>(
     alloc: Global,
-    method: &'a [u8],
+    method: Method,
     target: &Target<'a>,
     fields: &'a [Field<'a>],
 ) -> Result<LinkParts<'a>, Refusal>
-    ensures ok { IfOk result (λ l. (r : Request) → IsAskedBy method.now target.now (map header_of fields.now) r
-        → (p : link.Parts) × IsLinkOf l r p) }
-    ensures err { IfErr result (λ q. (q ≢ Refusal.TryAgain) → (r : Request) → IsAskedBy method.now target.now (map header_of fields.now) r
+    ensures ok { IfOk result (λ l. (r : Request) → IsAskedBy method target.now (map header_of fields.now) r
+        → (p : LinkValues) × IsLinkOf l r p) }
+    ensures err { IfErr result (λ q. (q ≢ Refusal.TryAgain) → (r : Request) → IsAskedBy method target.now (map header_of fields.now) r
         → IsFirstToFail (λ x p. HeadRule x r p) q) }
-    ensures named { IfErr result (λ q. q ≡ Refusal.TryAgain → (r : Request) → IsAskedBy method.now target.now (map header_of fields.now) r
+    ensures named { IfErr result (λ q. q ≡ Refusal.TryAgain → (r : Request) → IsAskedBy method target.now (map header_of fields.now) r
         → (path : List ℕ) (params : List Param) → IsTargetOf r.target path params → HaveNames params) }
 {
     let (params, six) = read_six(alloc, target)?;
@@ -111,7 +83,7 @@ pub fn inspect<'a>(
     let values = signed_values(alloc, fields, &names)?;
     Ok(LinkParts {
         parts: Parts {
-            method,
+            method: method.text(),
             target: *target,
             params,
             values,

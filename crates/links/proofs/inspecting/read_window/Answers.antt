@@ -9,7 +9,7 @@ use Rattle.links.specs.Forms.{IsExpiry, IsSignatureText}
 use Rattle.links.specs.SixValues.{SixRule}
 use Rattle.links.proofs.Texts.{texts_equal, texts_differ, not_true, not_false, clash}
 use Rattle.links.proofs.SixForms.{algorithm_fails, credential_fails, date_fails, expiry_fails, names_fail, signature_fails, all_hold}
-use Rattle.links.proofs.link.read_window.Goals as goal
+use Rattle.links.proofs.inspecting.read_window.Goals as goal
 
 moved : (a b c d id : List ℕ) (s : CredentialScope) → a ≡ c → b ≡ d → IsCredential a b id s → IsCredential c d id s
 moved a b c d id s p q h = subst (λ (y : List ℕ). IsCredential c y id s) q (subst (λ (x : List ℕ). IsCredential x b id s) p h)
