@@ -10,19 +10,19 @@ use Rattle.dropoffice.specs.declared.session.SessionEnd.{SessionEnd}
 use Rattle.dropoffice.specs.Answering.{Accepts, put, fetch, post, Answers, Replies, refuses, accepts}
 use Rattle.dropoffice.specs.Served.{HasNoBox}
 use Rattle.dropoffice.specs.Sessions.{Session, limit, ended, truncated, unframed, served, gave_up, gave_up_at, unserved, read_failed, write_failed, write_failed_unframed, write_failed_giving_up, write_failed_giving_up_at}
-use Rattle.wire.specs.Answers.{Reply}
+use Rattle.wire.specs.Answers.{Said}
 
 not_there : {X : Type 0} (o : Option X) → o ≡ None → IsSome o → ⊥
 not_there None e there = cc
 not_there (Some x) e there = cc
 
 -- nothing is accepted: there is no such box, and there is no desk
-no_accept : (s : State) (r : Request) (now : ℕ) (reply : step.Reply) (after : State) → HasNoBox s → Accepts s r now reply after → ⊥
+no_accept : (s : State) (r : Request) (now : ℕ) (reply : step.StepReply) (after : State) → HasNoBox s → Accepts s r now reply after → ⊥
 no_accept s r now reply after none (put p _ _ holds is_put _) = not_there (get s.boxes _) (none _) ((holds rule.NoSuchBox).put is_put).0
 no_accept s r now reply after none (fetch p _ _ holds is_fetch _) = not_there (get s.boxes _) (none _) ((holds rule.NoSuchBox).fetch is_fetch)
 no_accept s r now _ after none (post p order _ holds is_post asks _) = asks.is_command
 
-reply_keeps : (s : State) (r : Request) (now : ℕ) (reply : Reply) (after : State) → HasNoBox s → Replies s r now reply after → after ≡ s
+reply_keeps : (s : State) (r : Request) (now : ℕ) (reply : Said) (after : State) → HasNoBox s → Replies s r now reply after → after ≡ s
 reply_keeps s r now _ _ none (refuses q fails) = refl
 reply_keeps s r now _ after none (accepts reply _ accepted) = absurd (no_accept s r now reply after none accepted)
 

@@ -16,5 +16,5 @@ pub mod TaskNames
 pub mod TaskValues
 mod Admission
 pub mod SoundOffice
-pub mod Methods
 pub mod Judged
+pub mod StopLemmas

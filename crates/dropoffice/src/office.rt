@@ -1,17 +1,13 @@
 //! The office, and what it answers to one message.
-ghost use Rattle.std.specs.Prelude.{◌≡◌, ◌≢◌, ◌↔◌, ℕ, [], IsTrue};
-ghost use Rattle.std.specs.List.{list_any};
-ghost use Rattle.sigtext.specs.Bytes.{same_bytes};
-ghost use Rattle.links.specs.WellFormed.{methods};
+ghost use Rattle.std.specs.Prelude.{◌≡◌, ◌↔◌, IsTrue};
 ghost use Rattle.wire.specs.Messages.{request_in};
-ghost use Rattle.dropoffice.specs.Remaining.{Remains};
+ghost use Rattle.dropoffice.specs.Remaining.{remaining};
 ghost use Rattle.dropoffice.specs.Served.{IsServedRequest};
 
-use crate::handling::refused_to;
 use crate::reading::read_link;
 use boxes::rows::Role;
 use keeper::Keeper;
-use links::{LinkParts, judge};
+use links::{LinkParts, Method, judge};
 use sigtext::Refusal;
 use sigv4::Moment;
 use std::alloc::Global;
@@ -25,20 +21,18 @@ pub struct Office<K> {
 }
 
 // The refusal of a request whose link is admitted, where there is no box, no body and no desk.
-fn refusal_past_link(method: &[u8], role: Role) -> Refusal
-    requires { IsTrue (list_any (same_bytes method.now) methods) }
-    ensures { Remains method.now role result }
+fn refusal_past_link(method: Method, role: Role) -> Refusal
+    ensures { result ≡ remaining method role }
 {
-    if method == b"POST".as_slice() {
-        return match role {
+    match method {
+        Method::Post => match role {
             Role::Clerk => Refusal::CommandMalformed,
             Role::Link => Refusal::RoleNotAllowed,
-        };
+        },
+        Method::Put => Refusal::LengthMissing,
+        Method::Get => Refusal::NoSuchBox,
+        Method::Head => Refusal::NoSuchBox,
     }
-    if method == b"PUT".as_slice() {
-        return Refusal::LengthMissing;
-    }
-    Refusal::NoSuchBox
 }
 
 // Whether a message without a body is one whose kind is served so far.
@@ -49,15 +43,16 @@ fn is_served(message: &Message<'_>) -> bool
 }
 
 impl<K: Keeper> Office<K> {
-    ghost use Rattle.std.specs.Prelude.{◌≡◌, ◌≢◌, ◌≤◌, ℕ, List, Some, IfSome, IfNone};
+    ghost use Rattle.std.specs.Prelude.{◌≡◌, ◌≢◌, ◌≤◌, IfSome, IfNone};
     ghost use Rattle.sigtext.specs.Counts.{Rose};
     ghost use Rattle.sigtext.specs.Request.{Request};
     ghost use Rattle.sigtext.specs.Rules.{IsFirstToFail};
     ghost use Rattle.boxes.specs.State.{State};
     ghost use Rattle.dropoffice.specs.Rules.{Rule};
-    ghost use Rattle.links.specs.WellFormed.{Parts};
+    ghost use Rattle.links.specs.Methods.{method_text};
+    ghost use Rattle.links.specs.WellFormed.{LinkValues};
     ghost use Rattle.wire.specs.Messages.{request_in};
-    ghost use Rattle.dropoffice.specs.Offices.{try_again, IsAnswered};
+    ghost use Rattle.dropoffice.specs.Offices.{IsTryAgain, IsAnswered};
     ghost use Rattle.dropoffice.specs.Asked.{IsReadable};
     ghost use Rattle.dropoffice.specs.Kept.{IsKept};
     ghost use Rattle.dropoffice.specs.Served.{IsServedRequest};
@@ -70,12 +65,14 @@ impl<K: Keeper> Office<K> {
         Office { keeper, alloc }
     }
 
-    // The least rule past number 18 that fails for a link that was read, where there is no box.
-    fn refusal_of(&mut self, link: &LinkParts<'_>, method: &[u8], now: Moment) -> Refusal
-        requires { IsTrue (list_any (same_bytes method.now) methods) }
-        ensures fails { (s : State) (r : Request) (p : Parts) → IsKept (K.means self.old.keeper) (K.is_honest self.new.keeper) s
-            → IsServedRequest r → r.method ≡ method.now → IsLinkOf link.now r p → (result ≢ Refusal.TryAgain)
+    // The least rule past number 18 that fails for a link that was read, where there is no box. Once the key was
+    // found, nothing takes memory: refusal 40 is a fault that the keeper counted.
+    fn refusal_of(&mut self, link: &LinkParts<'_>, method: Method, now: Moment) -> Refusal
+        ensures fails { (s : State) (r : Request) (p : LinkValues) → IsKept (K.means self.old.keeper) (K.is_honest self.new.keeper) s
+            → IsServedRequest r → r.method ≡ method_text method → IsLinkOf link.now r p → (result ≢ Refusal.TryAgain)
             → IsFirstToFail (Rule s r now) result }
+        ensures again { result ≡ Refusal.TryAgain → (p : LinkValues) (r : Request) → IsLinkOf link.now r p
+            → Rose (K.faults self.old.keeper) (K.faults self.new.keeper) }
         ensures same { (s : State) → K.means self.old.keeper s → K.means self.new.keeper s }
         ensures honest { K.is_honest self.new.keeper → K.is_honest self.old.keeper }
         ensures counted { (result ≢ Refusal.TryAgain) → K.faults self.new.keeper ≡ K.faults self.old.keeper }
@@ -87,7 +84,7 @@ impl<K: Keeper> Office<K> {
                 if key.revoked {
                     return Refusal::KeyRevoked;
                 }
-                match judge(self.alloc, link, &key.secret, now) {
+                match judge(link, &key.secret, now) {
                     Ok(()) => refusal_past_link(method, key.role),
                     Err(refusal) => refusal,
                 }
@@ -96,23 +93,37 @@ impl<K: Keeper> Office<K> {
         }
     }
 
+    // What a message without a body is refused with.
+    fn refusal_to(&mut self, message: &Message<'_>, now: Moment) -> Refusal
+        ensures fails { (s : State) → IsKept (K.means self.old.keeper) (K.is_honest self.new.keeper) s
+            → IsServedRequest (request_in message.now) → (result ≢ Refusal.TryAgain) → IsFirstToFail (Rule s (request_in message.now) now) result }
+        ensures readable { result ≡ Refusal.TryAgain → IsReadable (request_in message.now) }
+        ensures same { (s : State) → K.means self.old.keeper s → K.means self.new.keeper s }
+        ensures honest { K.is_honest self.new.keeper → K.is_honest self.old.keeper }
+        ensures counted { (result ≢ Refusal.TryAgain) → K.faults self.new.keeper ≡ K.faults self.old.keeper }
+        ensures never_less { K.faults self.old.keeper ≤ K.faults self.new.keeper }
+    {
+        let Some(method) = Method::read(message.method) else {
+            return Refusal::Method;
+        };
+        match read_link(self.alloc, method, message) {
+            Ok(link) => self.refusal_of(&link, method, now),
+            Err(refusal) => refusal,
+        }
+    }
+
     // What a message without a body is answered.
     pub(crate) fn decide(&mut self, message: &Message<'_>, now: Moment) -> Answer
         ensures answers { (s : State) → IsKept (K.means self.old.keeper) (K.is_honest self.new.keeper) s
             → IsServedRequest (request_in message.now) → IsAnswered (K.means self.new.keeper) s (request_in message.now) now result }
-        ensures readable { result ≡ try_again → IsReadable (request_in message.now) }
+        ensures readable { IsTryAgain result → IsReadable (request_in message.now) }
         ensures same { (s : State) → K.means self.old.keeper s → K.means self.new.keeper s }
         ensures honest { K.is_honest self.new.keeper → K.is_honest self.old.keeper }
-        ensures counted { (result ≢ try_again) → K.faults self.new.keeper ≡ K.faults self.old.keeper }
+        ensures counted { (IsTryAgain result → ⊥) → K.faults self.new.keeper ≡ K.faults self.old.keeper }
         ensures never_less { K.faults self.old.keeper ≤ K.faults self.new.keeper }
     {
-        match read_link(self.alloc, message) {
-            Ok(link) => {
-                let refusal = self.refusal_of(&link, message.method, now);
-                refused_to(refusal, message.method)
-            }
-            Err(refusal) => refused_to(refusal, message.method),
-        }
+        let refusal = self.refusal_to(message, now);
+        Answer::refused(refusal, message.method == Method::Head.text())
     }
 
     /// Answers one message at a moment. `None` where it is not of the kind that is served so far, which
@@ -123,9 +134,9 @@ impl<K: Keeper> Office<K> {
     pub fn answer(&mut self, message: &Message<'_>, now: Moment) -> Option<Answer>
         ensures answers { IfSome result (λ a. (s : State) → IsKept (K.means self.old.keeper) (K.is_honest self.new.keeper) s
             → IsAnswered (K.means self.new.keeper) s (request_in message.now) now a) }
-        ensures again { (result ≡ Some try_again) → (s : State) → K.means self.old.keeper s → K.means self.new.keeper s }
-        ensures readable { (result ≡ Some try_again) → IsReadable (request_in message.now) }
-        ensures counted { (result ≢ Some try_again) → K.faults self.new.keeper ≡ K.faults self.old.keeper }
+        ensures again { IfSome result (λ a. IsTryAgain a → (s : State) → K.means self.old.keeper s → K.means self.new.keeper s) }
+        ensures readable { IfSome result (λ a. IsTryAgain a → IsReadable (request_in message.now)) }
+        ensures counted { IfSome result (λ a. (IsTryAgain a → ⊥) → K.faults self.new.keeper ≡ K.faults self.old.keeper) }
         ensures never_less { K.faults self.old.keeper ≤ K.faults self.new.keeper }
         ensures served { IfSome result (λ a. IsServedRequest (request_in message.now)) }
         ensures unserved { IfNone result (IsServedRequest (request_in message.now) → ⊥) }

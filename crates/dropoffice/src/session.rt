@@ -10,7 +10,7 @@ use crate::office::Office;
 use keeper::Keeper;
 use sigtext::Field;
 use std::io::{Read, Write};
-use wire::{Counted, Message, Stop, fill, head_end, read_head};
+use wire::{Counted, Message, fill, head_end, read_head};
 
 /// The greatest length of a head, CR LF CR LF included.
 const MOST_HEAD: usize = 8192;
@@ -157,10 +157,10 @@ impl<K: Keeper> Office<K> {
     {
         let mut buffer = [0; BUFFER];
         let filled = fill(reader, &mut buffer);
-        if is_full(filled.stop) {
+        if filled.is_full() {
             return SessionEnd::Unserved;
         }
-        let failed = has_failed(filled.stop);
+        let failed = filled.has_failed();
         let bytes = &buffer[..filled.len];
         match self.serve_bytes(bytes, writer, clock) {
             Handled::Unserved => {
@@ -178,28 +178,6 @@ impl<K: Keeper> Office<K> {
             Handled::GaveUp => SessionEnd::Refused(40),
             Handled::Broken => SessionEnd::WriteFault,
         }
-    }
-}
-
-fn is_full(stop: Stop) -> bool
-    ensures full { IsTrue result → stop ≡ Stop.Full }
-    ensures other { IsFalse result → stop ≢ Stop.Full }
-{
-    match stop {
-        Stop::Full => true,
-        Stop::End => false,
-        Stop::Fault => false,
-    }
-}
-
-fn has_failed(stop: Stop) -> bool
-    ensures failed { IsTrue result → stop ≡ Stop.Fault }
-    ensures ended { IsFalse result → (stop ≢ Stop.Full) → stop ≡ Stop.End }
-{
-    match stop {
-        Stop::Full => false,
-        Stop::End => false,
-        Stop::Fault => true,
     }
 }
 

@@ -1,6 +1,8 @@
 use Rattle.std.proofs.Common.{◌≡◌, ℕ, List, Some, length, take, sym, ap, subst, arith, refl}
 use Rattle.std.proofs.lemmas.List.{length-take-le}
+use Rattle.links.proofs.Texts.{clash}
 use Rattle.dropoffice.specs.Served.{IsServed}
+use Rattle.dropoffice.proofs.StopLemmas.{ended_stop}
 use Rattle.dropoffice.proofs.SessionEnds.{ends, ends_by_fault, fails_untouched, gives_up, breaks, too_long, unserved_failed, unserved_ended, stays_unserved}
 use Rattle.dropoffice.proofs.office.Office.session.Goals as goal
 use Rattle.dropoffice.proofs.office.Office.session.Goals.{else-failed-via-then-failed+else-not-holds_head, else-failed-via-else-failed}
@@ -8,7 +10,7 @@ use Rattle.dropoffice.proofs.office.Office.session.Goals.{else-failed-via-then-f
 pub returns-then-is_full-clause-unserved : goal.returns-then-is_full-clause-unserved
 returns-then-is_full-clause-unserved g c same stream known served =
     let bytes = take c.fill-filled.result.len c.fill-filled.new.buffer in
-    let whole = c.fill-filled.ensures.full (c.is_full.ensures.full c.if-is_full.true) in
+    let whole = c.fill-filled.ensures.full (c.is_full.ensures.0 c.if-is_full.true) in
     let buffer : length c.fill-filled.new.buffer ≡ 8193 = c.fill-filled.auto.buffer in
     let size : length bytes ≡ c.fill-filled.result.len = length-take-le c.fill-filled.result.len c.fill-filled.new.buffer (omega arith) in
     too_long (g.R.Read.remaining c.args.reader.now.inner) (g.R.Read.remaining c.fill-filled.new.reader.inner) bytes stream c.fill-filled.ensures.bytes known (omega arith) served
@@ -39,7 +41,7 @@ returns-else-failed-clause-unserved g c same stream known served =
           unserved_failed (g.R.Read.remaining c.args.reader.now.inner) (g.R.Read.remaining c.fill-filled.new.reader.inner) bytes stream end.0 c.fill-filled.ensures.bytes known end.1 none served
       | else-failed-via-else-failed w ↦
           unserved_ended (g.R.Read.remaining c.args.reader.now.inner) (g.R.Read.remaining c.fill-filled.new.reader.inner) bytes stream c.fill-filled.ensures.bytes
-          (c.fill-filled.ensures.end (c.has_failed-failed.ensures.ended w.if-failed.false (c.is_full.ensures.other c.if-is_full.false))) known none served
+          (c.fill-filled.ensures.end (ended_stop c.fill-filled.result.stop (λ full. clash _ c.if-is_full.false (c.is_full.ensures.1 full)) (λ failed. clash _ w.if-failed.false (c.has_failed-failed.ensures.1 failed)))) known none served
     ]
 
 pub returns-else-failed-2-clause-serves : goal.returns-else-failed-2-clause-serves
@@ -48,7 +50,7 @@ returns-else-failed-2-clause-serves g c s kept =
     let h = c.in-Answered.ensures.handled s kept (λ e. cc) in
     ends g.C.Clock.now_gives c.args.clock.now c.serve_bytes.new.clock (g.R.Read.remaining c.args.reader.now.inner) (g.R.Read.remaining c.fill-filled.new.reader.inner) (g.W.Write.contents c.args.writer.now.inner) (g.W.Write.contents c.serve_bytes.new.writer.inner)
     (g.K.Keeper.faults c.args.self.now.keeper) (g.K.Keeper.faults c.serve_bytes.new.self.keeper) (g.K.Keeper.means c.serve_bytes.new.self.keeper) s h.0 bytes c.fill-filled.ensures.bytes
-    (c.fill-filled.ensures.end (c.has_failed-failed.ensures.ended c.if-failed-2.false (c.is_full.ensures.other c.if-is_full.false))) h.1 h.2
+    (c.fill-filled.ensures.end (ended_stop c.fill-filled.result.stop (λ full. clash _ c.if-is_full.false (c.is_full.ensures.1 full)) (λ failed. clash _ c.if-failed-2.false (c.has_failed-failed.ensures.1 failed)))) h.1 h.2
 
 pub returns-in-GaveUp-clause-serves : goal.returns-in-GaveUp-clause-serves
 returns-in-GaveUp-clause-serves g c s kept =
@@ -67,7 +69,7 @@ returns-in-Broken-clause-serves g c s kept =
 pub returns-then-is_full-clause-serves : goal.returns-then-is_full-clause-serves
 returns-then-is_full-clause-serves g c s kept =
     let bytes = take c.fill-filled.result.len c.fill-filled.new.buffer in
-    let whole = c.fill-filled.ensures.full (c.is_full.ensures.full c.if-is_full.true) in
+    let whole = c.fill-filled.ensures.full (c.is_full.ensures.0 c.if-is_full.true) in
     let buffer : length c.fill-filled.new.buffer ≡ 8193 = c.fill-filled.auto.buffer in
     let size : length bytes ≡ c.fill-filled.result.len = length-take-le c.fill-filled.result.len c.fill-filled.new.buffer (omega arith) in
     stays_unserved g.C.Clock.now_gives c.args.clock.now c.args.clock.now (g.R.Read.remaining c.args.reader.now.inner) (g.R.Read.remaining c.fill-filled.new.reader.inner) (g.W.Write.contents c.args.writer.now.inner) (g.W.Write.contents c.args.writer.now.inner)
@@ -88,7 +90,7 @@ returns-else-failed-clause-serves g c s kept =
           unserved_failed (g.R.Read.remaining c.args.reader.now.inner) (g.R.Read.remaining c.fill-filled.new.reader.inner) bytes stream end.0 c.fill-filled.ensures.bytes known end.1 not_served served
       | else-failed-via-else-failed w ↦
           unserved_ended (g.R.Read.remaining c.args.reader.now.inner) (g.R.Read.remaining c.fill-filled.new.reader.inner) bytes stream c.fill-filled.ensures.bytes
-          (c.fill-filled.ensures.end (c.has_failed-failed.ensures.ended w.if-failed.false (c.is_full.ensures.other c.if-is_full.false))) known not_served served
+          (c.fill-filled.ensures.end (ended_stop c.fill-filled.result.stop (λ full. clash _ c.if-is_full.false (c.is_full.ensures.1 full)) (λ failed. clash _ w.if-failed.false (c.has_failed-failed.ensures.1 failed)))) known not_served served
     ] in
     stays_unserved g.C.Clock.now_gives c.args.clock.now c.serve_bytes.new.clock (g.R.Read.remaining c.args.reader.now.inner) (g.R.Read.remaining c.fill-filled.new.reader.inner) (g.W.Write.contents c.args.writer.now.inner) (g.W.Write.contents c.serve_bytes.new.writer.inner)
     (g.K.Keeper.faults c.args.self.now.keeper) (g.K.Keeper.faults c.serve_bytes.new.self.keeper) (g.K.Keeper.means c.serve_bytes.new.self.keeper) s other
