@@ -57,17 +57,10 @@ fn is_signing(name: &[u8]) -> bool
 fn has_prefix(name: &[u8]) -> bool
     ensures { result ≡ begins_with (escapes.percent_decode name.now) (codes "X-Amz-") }
 {
-    let mut at = 0;
-    for byte in percent_decode(name) {
-        if at == PREFIX.len() {
-            return true;
-        }
-        if PREFIX[at] != byte {
-            return false;
-        }
-        at += 1;
-    }
-    at == PREFIX.len()
+    PREFIX
+        .iter()
+        .copied()
+        .eq(percent_decode(name).take(PREFIX.len()))
 }
 
 // Whether the raw name begins with `X-Amz-` and is none of the six.
