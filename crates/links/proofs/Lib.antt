@@ -4,6 +4,7 @@ pub mod Parts
 pub mod Signing
 pub mod SixLemmas
 pub mod SixForms
+pub mod SixPieces
 pub mod PairLoops
 pub mod LinkRules
 pub mod Inspected

@@ -13,6 +13,7 @@ use Rattle.sigv4.proofs.Credentials.{credential_once}
 use Rattle.sigv4.specs.Signature.{CredentialScope, signature_of}
 use Rattle.links.specs.WellFormed.{LinkValues}
 use Rattle.links.specs.Admits.{IsSignedBy, signed_of}
+use Rattle.links.specs.SixValues.{texts_of}
 use Rattle.links.specs.LinkReadings.{IsLinkOf}
 use Rattle.links.specs.declared.link_parts.LinkParts.{LinkParts}
 
@@ -21,7 +22,7 @@ abbrev pub Tells : Bool → LinkParts → List ℕ → CredentialScope → Type 
 Tells right l secret scope =
     (signed : Signed) → AreOf l.parts signed
     → (text : List ℕ) × IsTheOnly (IsCanonicalRequest signed) text × ((date : List ℕ) → WritesMoment date l.start
-    → (IsTrue right ↔ (l.signature.items ≡ signature_of secret date scope text)))
+    → (IsTrue right ↔ ((texts_of l.six).signature ≡ signature_of secret date scope text)))
 
 date_of : (l : LinkParts) (r : Request) (p : LinkValues) → IsLinkOf l r p → WritesMoment p.date l.start
 date_of l r p is = subst (WritesMoment p.date) is.start (is.well_formed rule.Date).1
@@ -48,14 +49,14 @@ not_signed l r p secret scope right is same fails tells signed =
     differs e = cc
 
 -- the credential that was read again is the link's
-pub same_scope : (l : LinkParts) (r : Request) (p : LinkValues) (text date : List ℕ) (scope : Scope) → IsLinkOf l r p → text ≡ l.credential.items → date ≡ l.date.items
+pub same_scope : (l : LinkParts) (r : Request) (p : LinkValues) (text date : List ℕ) (scope : Scope) → IsLinkOf l r p → text ≡ (texts_of l.six).credential → date ≡ (texts_of l.six).date
     → IsCredential text date scope.key_id.now (scope_of scope) → scope_of scope ≡ p.scope
 same_scope l r p text date scope is a b read =
-    (credential_once l.credential.items l.date.items p.key_id scope.key_id.now p.scope (scope_of scope) is.credential
-    (subst (λ (d : List ℕ). IsCredential l.credential.items d scope.key_id.now (scope_of scope)) b (subst (λ (t : List ℕ). IsCredential t date scope.key_id.now (scope_of scope)) a read))).1
+    (credential_once (texts_of l.six).credential (texts_of l.six).date p.key_id scope.key_id.now p.scope (scope_of scope) is.credential
+    (subst (λ (d : List ℕ). IsCredential (texts_of l.six).credential d scope.key_id.now (scope_of scope)) b (subst (λ (t : List ℕ). IsCredential t date scope.key_id.now (scope_of scope)) a read))).1
 
-pub same_key_id : (l : LinkParts) (r : Request) (p : LinkValues) (text date : List ℕ) (scope : Scope) → IsLinkOf l r p → text ≡ l.credential.items → date ≡ l.date.items
+pub same_key_id : (l : LinkParts) (r : Request) (p : LinkValues) (text date : List ℕ) (scope : Scope) → IsLinkOf l r p → text ≡ (texts_of l.six).credential → date ≡ (texts_of l.six).date
     → IsCredential text date scope.key_id.now (scope_of scope) → scope.key_id.now ≡ p.key_id
 same_key_id l r p text date scope is a b read =
-    (credential_once l.credential.items l.date.items p.key_id scope.key_id.now p.scope (scope_of scope) is.credential
-    (subst (λ (d : List ℕ). IsCredential l.credential.items d scope.key_id.now (scope_of scope)) b (subst (λ (t : List ℕ). IsCredential t date scope.key_id.now (scope_of scope)) a read))).0
+    (credential_once (texts_of l.six).credential (texts_of l.six).date p.key_id scope.key_id.now p.scope (scope_of scope) is.credential
+    (subst (λ (d : List ℕ). IsCredential (texts_of l.six).credential d scope.key_id.now (scope_of scope)) b (subst (λ (t : List ℕ). IsCredential t date scope.key_id.now (scope_of scope)) a read))).0

@@ -8,6 +8,7 @@ use Rattle.sigtext.specs.declared.target.Target.{Target}
 use Rattle.sigv4.specs.Credential.{IsCredential}
 use Rattle.links.specs.WellFormed.{LinkValues, IsWellFormed}
 use Rattle.links.specs.Methods.{method_text}
+use Rattle.links.specs.SixValues.{texts_of}
 use Rattle.links.specs.Admits.{signed_of}
 use Rattle.links.specs.declared.link_parts.LinkParts.{LinkParts}
 use Rattle.links.specs.declared.methods.Method.{Method}
@@ -21,9 +22,9 @@ pub record IsAskedBy (method : Method) (target : Target) (headers : List Header)
 -- the link's parts are these parts of the request
 pub record IsLinkOf (l : LinkParts) (r : Request) (p : LinkValues) : Type 0 where
   pub signed : AreOf l.parts (signed_of r p)
-  pub credential : IsCredential l.credential.items l.date.items p.key_id p.scope
-  pub date : p.date ≡ l.date.items
+  pub credential : IsCredential (texts_of l.six).credential (texts_of l.six).date p.key_id p.scope
+  pub date : p.date ≡ (texts_of l.six).date
   pub start : p.start ≡ l.start
   pub expires : p.expires ≡ l.expires
-  pub signature : p.signature ≡ l.signature.items
+  pub signature : p.signature ≡ (texts_of l.six).signature
   pub well_formed : IsWellFormed r p

@@ -7,14 +7,15 @@ ghost use Rattle.sigtext.specs.Rules.{IsFirstToFail, AllHold};
 ghost use Rattle.sigv4.specs.Dates.{WritesMoment};
 ghost use Rattle.links.specs.Methods.{method_text};
 ghost use Rattle.links.specs.WellFormed.{LinkValues, HeadRule};
-ghost use Rattle.links.specs.SixValues.{SixParts, SixRule, HaveNames};
+ghost use Rattle.links.specs.SixValues.{SixParts, SixRule, HaveNames, texts_of};
 ghost use Rattle.sigtext.specs.Target.{Param, IsTargetOf};
 ghost use Rattle.links.specs.LinkReadings.{IsAskedBy, IsLinkOf};
 
 use crate::forms::{is_signature_text, read_expiry};
 use crate::link_parts::LinkParts;
 use crate::methods::Method;
-use crate::six::{SixValues, read_six};
+use crate::six::read_six;
+use crate::six_values::SixValues;
 use sigtext::{Field, Parts, Refusal, SignedNames, Target, signed_values};
 use sigv4::{Moment, Scope};
 use std::alloc::Global;
@@ -38,25 +39,25 @@ fn read_moment(date: &[u8]) -> Option<Moment>
 
 // The window of a link, where each of the six values has its form; else the least of the refusals 11 to 16.
 fn read_window(six: &SixValues) -> Result<Window, Refusal>
-    ensures ok { IfOk result (λ w. (p : SixParts) × (p.start ≡ w.start) × (p.expires ≡ w.expires) × AllHold (SixRule six.now) p) }
-    ensures err { IfErr result (IsFirstToFail (SixRule six.now)) }
+    ensures ok { IfOk result (λ w. (p : SixParts) × (p.start ≡ w.start) × (p.expires ≡ w.expires) × AllHold (SixRule (texts_of six.now)) p) }
+    ensures err { IfErr result (IsFirstToFail (SixRule (texts_of six.now))) }
 {
-    if six.algorithm.as_slice() != b"AWS4-HMAC-SHA256".as_slice() {
+    if six.algorithm() != b"AWS4-HMAC-SHA256".as_slice() {
         return Err(Refusal::Algorithm);
     }
-    if let Err(refusal) = Scope::read(&six.credential, &six.date) {
+    if let Err(refusal) = Scope::read(six.credential(), six.date()) {
         return Err(refusal);
     }
-    let Some(start) = read_moment(&six.date) else {
+    let Some(start) = read_moment(six.date()) else {
         return Err(Refusal::Date);
     };
-    let Some(expires) = read_expiry(&six.expires) else {
+    let Some(expires) = read_expiry(six.expires()) else {
         return Err(Refusal::Expiry);
     };
-    if let Err(refusal) = SignedNames::read(&six.names) {
+    if let Err(refusal) = SignedNames::read(six.names()) {
         return Err(refusal);
     }
-    if !is_signature_text(&six.signature) {
+    if !is_signature_text(six.signature()) {
         return Err(Refusal::SignatureText);
     }
     Ok(Window { start, expires })
@@ -79,7 +80,7 @@ pub fn inspect<'a>(
 {
     let (params, six) = read_six(alloc, target)?;
     let window = read_window(&six)?;
-    let names = SignedNames::read(&six.names)?;
+    let names = SignedNames::read(six.names())?;
     let values = signed_values(alloc, fields, &names)?;
     Ok(LinkParts {
         parts: Parts {
@@ -88,10 +89,8 @@ pub fn inspect<'a>(
             params,
             values,
         },
-        credential: six.credential,
-        date: six.date,
+        six,
         start: window.start,
         expires: window.expires,
-        signature: six.signature,
     })
 }

@@ -7,6 +7,7 @@ ghost use Rattle.sigv4.specs.Dates.{WritesMoment};
 ghost use Rattle.sigv4.specs.Scopes.{scope_of};
 ghost use Rattle.sigv4.specs.Signature.{signature_of};
 ghost use Rattle.links.specs.WellFormed.{LinkValues};
+ghost use Rattle.links.specs.SixValues.{texts_of};
 ghost use Rattle.links.specs.LinkReadings.{IsLinkOf};
 ghost use Rattle.links.specs.Judging.{Judges};
 ghost use Rattle.links.specs.Moments.{at};
@@ -20,10 +21,10 @@ fn is_signed_by(link: &LinkParts<'_>, scope: &Scope<'_>, secret: &[u8]) -> bool
     ensures { (signed : Signed) → AreOf link.now.parts signed
         → (text : List ℕ) × IsTheOnly (IsCanonicalRequest signed) text
         × ((date : List ℕ) → WritesMoment date link.now.start
-        → (IsTrue result ↔ (link.now.signature.items ≡ signature_of secret.now date (scope_of scope.now) text))) }
+        → (IsTrue result ↔ ((texts_of link.now.six).signature ≡ signature_of secret.now date (scope_of scope.now) text))) }
 {
     let digits = signature(secret, scope, &link.start, &link.parts);
-    link.signature.as_slice() == digits.as_slice()
+    link.six.signature() == digits.as_slice()
 }
 
 /// Judges a link that was read, under its key's secret and at a moment: refusal 21 where the signature is
@@ -31,7 +32,7 @@ fn is_signed_by(link: &LinkParts<'_>, scope: &Scope<'_>, secret: &[u8]) -> bool
 pub fn judge(link: &LinkParts<'_>, secret: &[u8], now: Moment) -> Result<(), Refusal>
     ensures { (r : Request) (p : LinkValues) → IsLinkOf link.now r p → Judges secret.now r (at now) p result }
 {
-    let scope = match Scope::read(&link.credential, &link.date) {
+    let scope = match Scope::read(link.six.credential(), link.six.date()) {
         Ok(scope) => scope,
         Err(refusal) => return Err(refusal),
     };

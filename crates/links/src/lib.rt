@@ -9,6 +9,7 @@ pub mod link_parts;
 pub mod methods;
 pub mod orders;
 mod six;
+mod six_values;
 pub mod writing;
 
 pub use inspecting::inspect;

@@ -4,24 +4,21 @@ ghost use Rattle.sigtext.specs.Request.{Request};
 ghost use Rattle.links.specs.WellFormed.{LinkValues};
 ghost use Rattle.links.specs.LinkReadings.{IsLinkOf};
 
+use crate::six_values::SixValues;
 use sigtext::Parts;
 use sigv4::{Moment, Scope};
 
-/// What a well-formed link says. It owns the credential, the date and the signature, decoded, and the
-/// lists of parameters and signed headers; it borrows the rest from the method, the target and the fields.
+/// What a well-formed link says. It owns the values of the six, decoded, and the lists of parameters and
+/// signed headers; it borrows the rest from the target and the fields.
 #[derive(Drop)]
 pub struct LinkParts<'a> {
     // What the signature covers.
     pub(crate) parts: Parts<'a>,
-    // Decoded, and of the form that `Scope::read` takes.
-    pub(crate) credential: Vec<u8>,
-    // The date of the link, decoded.
-    pub(crate) date: Vec<u8>,
+    // Each of its form.
+    pub(crate) six: SixValues,
     pub(crate) start: Moment,
     // In seconds.
     pub(crate) expires: u64,
-    // 64 lower-case hexadecimal digits.
-    pub(crate) signature: Vec<u8>,
 }
 
 impl LinkParts<'_> {
@@ -29,7 +26,7 @@ impl LinkParts<'_> {
     pub fn key_id(&self) -> &[u8]
         ensures { (r : Request) (p : LinkValues) → IsLinkOf self.now r p → result.now ≡ p.key_id }
     {
-        match Scope::read(&self.credential, &self.date) {
+        match Scope::read(self.six.credential(), self.six.date()) {
             Ok(scope) => scope.key_id,
             Err(_) => &[],
         }

@@ -10,7 +10,7 @@ use Rattle.sigtext.specs.SignedValues.{ValueRule}
 use Rattle.sigtext.specs.Signing.{values_of}
 use Rattle.links.specs.LinkReadings.{IsAskedBy}
 use Rattle.sigtext.specs.Target.{Param, IsTargetOf}
-use Rattle.links.specs.SixValues.{HaveNames}
+use Rattle.links.specs.SixValues.{HaveNames, texts_of}
 use Rattle.links.proofs.LinkRules.{Heads, parts_of, well_formed}
 use Rattle.links.proofs.Inspected.{carried, has_six, names_of, right_names, wrong_names, wrong_values, wrong_headers}
 use Rattle.links.proofs.inspecting.inspect.Goals as goal
@@ -25,26 +25,26 @@ pub returns-in_err-window-clause-err : goal.returns-in_err-window-clause-err
 returns-in_err-window-clause-err c =
     carried (λ q. (q ≢ TryAgain) → (r : Request) → IsAskedBy c.args.method c.args.target.now (map header_of c.args.fields.now) r → IsFirstToFail (Heads r) q)
     c.from_residual-in_err-window.result c.in_err-window.field-0.0 c.from_residual-in_err-window.ensures.1
-    (λ other r asked. wrong_values _ _ _ r asked c.in_ok-params.params c.in_ok-params.six c.in_err-window.field-0.0 c.in_ok-params.ensures.ok c.in_err-window.ensures.err)
+    (λ other r asked. wrong_values _ _ _ r asked c.in_ok-params.params (texts_of c.in_ok-params.six) c.in_err-window.field-0.0 c.in_ok-params.ensures.ok c.in_err-window.ensures.err)
 
 pub returns-in_err-names-clause-err : goal.returns-in_err-names-clause-err
 returns-in_err-names-clause-err c =
     let (sp, start, expires, all) = c.in_ok-window.ensures.ok in
-    absurd (c.in_err-names.ensures.err.1 sp.names (subst (λ (t : List ℕ). AreSignedNames t sp.names) (sym c.deref.ensures.value) (all rule.SignedHeaders)))
+    absurd (c.in_err-names.ensures.err.1 sp.names (subst (λ (t : List ℕ). AreSignedNames t sp.names) (sym c.names.ensures) (all rule.SignedHeaders)))
 
 pub returns-in_err-values-clause-err : goal.returns-in_err-values-clause-err
 returns-in_err-values-clause-err c =
     let (sp, start, expires, all) = c.in_ok-window.ensures.ok in
-    let are = subst (λ (t : List ℕ). AreSignedNames t sp.names) (sym (c.in_ok-names.ensures.ok.0 ∙ c.deref.ensures.value)) (all rule.SignedHeaders) in
+    let are = subst (λ (t : List ℕ). AreSignedNames t sp.names) (sym (c.in_ok-names.ensures.ok.0 ∙ c.names.ensures)) (all rule.SignedHeaders) in
     carried (λ q. (q ≢ TryAgain) → (r : Request) → IsAskedBy c.args.method c.args.target.now (map header_of c.args.fields.now) r → IsFirstToFail (Heads r) q)
     c.from_residual-in_err-values.result c.in_err-values.field-0.0 c.from_residual-in_err-values.ensures.1
-    (λ other r asked. wrong_headers _ _ _ r asked c.in_ok-params.params c.in_ok-params.six sp c.in_err-values.field-0.0 c.in_ok-params.ensures.ok all (c.in_err-values.ensures.err sp.names are other))
+    (λ other r asked. wrong_headers _ _ _ r asked c.in_ok-params.params (texts_of c.in_ok-params.six) sp c.in_err-values.field-0.0 c.in_ok-params.ensures.ok all (c.in_err-values.ensures.err sp.names are other))
 
 pub returns-clause-ok : goal.returns-clause-ok
 returns-clause-ok c r asked =
     let (sp, start, expires, all) = c.in_ok-window.ensures.ok in
-    let are = subst (λ (t : List ℕ). AreSignedNames t sp.names) (sym (c.in_ok-names.ensures.ok.0 ∙ c.deref.ensures.value)) (all rule.SignedHeaders) in
-    let six = c.in_ok-params.six in
+    let are = subst (λ (t : List ℕ). AreSignedNames t sp.names) (sym (c.in_ok-names.ensures.ok.0 ∙ c.names.ensures)) (all rule.SignedHeaders) in
+    let six = texts_of c.in_ok-params.six in
     let k = has_six _ _ _ r asked c.in_ok-params.params six c.in_ok-params.ensures.ok in
     let signed = values_of c.in_ok-values.values in
     let values = subst (λ (hs : List Header). AllHold (ValueRule hs sp.names) signed) (sym asked.headers_are) (c.in_ok-values.ensures.ok sp.names are) in (
@@ -75,10 +75,10 @@ pub returns-in_err-window-clause-named : goal.returns-in_err-window-clause-named
 returns-in_err-window-clause-named c =
     carried (λ q. q ≡ TryAgain → (r : Request) → IsAskedBy c.args.method c.args.target.now (map header_of c.args.fields.now) r → (path : List ℕ) (params : List Param) → IsTargetOf r.target path params → HaveNames params)
     c.from_residual-in_err-window.result c.in_err-window.field-0.0 c.from_residual-in_err-window.ensures.1
-    (λ is r asked. names_of _ _ _ r asked (right_names c.args.target.now c.in_ok-params.params c.in_ok-params.six c.in_ok-params.ensures.ok))
+    (λ is r asked. names_of _ _ _ r asked (right_names c.args.target.now c.in_ok-params.params (texts_of c.in_ok-params.six) c.in_ok-params.ensures.ok))
 
 pub returns-in_err-values-clause-named : goal.returns-in_err-values-clause-named
 returns-in_err-values-clause-named c =
     carried (λ q. q ≡ TryAgain → (r : Request) → IsAskedBy c.args.method c.args.target.now (map header_of c.args.fields.now) r → (path : List ℕ) (params : List Param) → IsTargetOf r.target path params → HaveNames params)
     c.from_residual-in_err-values.result c.in_err-values.field-0.0 c.from_residual-in_err-values.ensures.1
-    (λ is r asked. names_of _ _ _ r asked (right_names c.args.target.now c.in_ok-params.params c.in_ok-params.six c.in_ok-params.ensures.ok))
+    (λ is r asked. names_of _ _ _ r asked (right_names c.args.target.now c.in_ok-params.params (texts_of c.in_ok-params.six) c.in_ok-params.ensures.ok))

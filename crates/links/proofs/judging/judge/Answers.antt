@@ -6,13 +6,13 @@ use Rattle.links.proofs.judging.judge.Goals as goal
 pub returns-then-not-is_signed_by : goal.returns-then-not-is_signed_by
 returns-then-not-is_signed_by c r p is =
     let link = c.args.link.now in
-    let same = same_scope link r p c.deref.result.now c.deref-2.result.now c.in-Ok.scope is c.deref.ensures.value c.deref-2.ensures.value c.in-Ok.ensures.ok in
+    let same = same_scope link r p c.credential.result.now c.date.result.now c.in-Ok.scope is c.credential.ensures c.date.ensures c.in-Ok.ensures.ok in
     not_signed link r p c.args.secret.now (scope_of c.in-Ok.scope) c.is_signed_by.result is same c.if-not-is_signed_by.true c.is_signed_by.ensures
 
 pub returns-then-moment-start : goal.returns-then-moment-start
 returns-then-moment-start c r p is =
     let link = c.args.link.now in
-    let same = same_scope link r p c.deref.result.now c.deref-2.result.now c.in-Ok.scope is c.deref.ensures.value c.deref-2.ensures.value c.in-Ok.ensures.ok in (
+    let same = same_scope link r p c.credential.result.now c.date.result.now c.in-Ok.scope is c.credential.ensures c.date.ensures c.in-Ok.ensures.ok in (
       is_signed link r p c.args.secret.now (scope_of c.in-Ok.scope) c.is_signed_by.result is same c.if-not-is_signed_by.false c.is_signed_by.ensures,
       omega (arith, c.seconds-moment.ensures.value, c.seconds-start.ensures.value, is.start, c.if-moment-start.true),
     )
@@ -20,7 +20,7 @@ returns-then-moment-start c r p is =
 pub returns-then-moment-saturating_add : goal.returns-then-moment-saturating_add
 returns-then-moment-saturating_add c r p is =
     let link = c.args.link.now in
-    let same = same_scope link r p c.deref.result.now c.deref-2.result.now c.in-Ok.scope is c.deref.ensures.value c.deref-2.ensures.value c.in-Ok.ensures.ok in (
+    let same = same_scope link r p c.credential.result.now c.date.result.now c.in-Ok.scope is c.credential.ensures c.date.ensures c.in-Ok.ensures.ok in (
       is_signed link r p c.args.secret.now (scope_of c.in-Ok.scope) c.is_signed_by.result is same c.if-not-is_signed_by.false c.is_signed_by.ensures,
       omega (arith, c.seconds-moment.ensures.value, c.seconds-start.ensures.value, is.start, c.if-moment-start.false),
       omega (arith, c.seconds-moment.ensures.value, c.seconds-start.ensures.value, is.start, is.expires, c.if-moment-saturating_add.true),
@@ -29,7 +29,7 @@ returns-then-moment-saturating_add c r p is =
 pub returns : goal.returns
 returns c r p is =
     let link = c.args.link.now in
-    let same = same_scope link r p c.deref.result.now c.deref-2.result.now c.in-Ok.scope is c.deref.ensures.value c.deref-2.ensures.value c.in-Ok.ensures.ok in (
+    let same = same_scope link r p c.credential.result.now c.date.result.now c.in-Ok.scope is c.credential.ensures c.date.ensures c.in-Ok.ensures.ok in (
       is_signed link r p c.args.secret.now (scope_of c.in-Ok.scope) c.is_signed_by.result is same c.if-not-is_signed_by.false c.is_signed_by.ensures,
       omega (arith, c.seconds-moment.ensures.value, c.seconds-start.ensures.value, is.start, c.if-moment-start.false),
       omega (arith, c.seconds-moment.ensures.value, c.seconds-start.ensures.value, is.start, is.expires, c.if-moment-saturating_add.false),
