@@ -6,3 +6,4 @@ pub mod NameEdges
 pub mod UploadEdges
 pub mod StepEdges
 pub mod CommandSteps
+pub mod SoundEdges
