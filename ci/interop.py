@@ -1,23 +1,28 @@
-"""Writes presigned requests that boto3 makes, each with the answer that an office without boxes owes it.
+"""Compares the proved programs with boto3 and its botocore.
 
-For each case there is a file NAME.http, the request as bytes, and NAME.http.stdout, the answer. The time and
-the random names are fixed, so each run makes the same cases. The arguments: the folder to write to, and
-nothing else. It prints the number of cases.
+`drop` answers presigned requests that boto3 makes: right ones of many names, regions, windows, further parameters and
+signed headers, and wrong ones. Then the rows of crates/rows write links to many orders (ci/orders.py), and each must
+be botocore's own for the same request at the same moment. The times and the random names are fixed, so each run makes
+the same cases. The last line is `N passed, M failed`.
 """
 
 import pathlib
 import random
-import sys
+import tempfile
 import urllib.parse
 
 import boto3
 import botocore.config
 
+import kit
+import orders
+from expected import answer
 from samples import HOST, KEY_ID, NAMES, REGIONS, SECRET, random_text, stop_the_clock
 
-FOUND_NO_BOX = ("404 Not Found", "NoSuchBucket 27 no such box\n")
-NEEDS_LENGTH = ("411 Length Required", "MissingContentLength 25 Content-Length is missing\n")
-WRONG_SIGNATURE = ("403 Forbidden", "SignatureDoesNotMatch 21 the signature does not match\n")
+# The refusals that are owed where there are no boxes.
+FOUND_NO_BOX = 27
+NEEDS_LENGTH = 25
+WRONG_SIGNATURE = 21
 
 
 def client(region):
@@ -47,11 +52,6 @@ def request(method, target, fields):
     return "\r\n".join(lines + ["", ""]).encode()
 
 
-def answer(method, status, body):
-    head = f"HTTP/1.1 {status}\r\nContent-Type: text/plain\r\nContent-Length: {len(body)}\r\n\r\n"
-    return (head if method == "HEAD" else head + body).encode()
-
-
 def with_another_digit(target):
     last = "0" if target[-1] != "0" else "1"
     return target[:-1] + last
@@ -79,15 +79,44 @@ def links(source):
         yield "GET", with_another_digit(link("get_object")), {}, WRONG_SIGNATURE
 
 
-def main(folder):
+def answer_links(count, folder):
+    """Has the program answer each link."""
+    cases = list(links(random.Random(20130524)))
+
+    def answered(case):
+        number, (method, target, fields, _) = case
+        stream = folder / str(number)
+        stream.write_bytes(request(method, target, fields))
+        return kit.run([kit.built("drop"), "replay", f"memory:{KEY_ID}/{SECRET}", stream, "--at", "20130524T000000Z"])
+
+    for (method, target, _, number), found in zip(cases, kit.side_by_side(answered, enumerate(cases))):
+        owed = kit.Run(0, answer(number, method), b"")
+        count.add(f"{method} {target}", None if found == owed else f"{found} and not {owed}")
+    print(f"{len(cases)} links of boto3 {boto3.__version__} answered")
+
+
+def write_links(count):
+    """Has the rows write a link for each order."""
+    cases = list(orders.orders(random.Random(20130524)))
+    found = kit.run([kit.built("rows")], "".join(f"{it.row()}\n" for it in cases).encode())
+    lines = found.out.decode().splitlines()
+    if found.status or len(lines) != len(cases):
+        count.add("the orders", f"{len(lines)} lines for {len(cases)} orders, {found.status}, {found.err}")
+        return
+    for case, line in zip(cases, lines):
+        owed = case.answer()
+        count.add(case.row(), None if line == owed else f"{line} and not {owed}")
+    print(f"{len(cases)} links as those of botocore {botocore.__version__}")
+
+
+def main():
     stop_the_clock()
-    count = 0
-    for method, target, fields, (status, body) in links(random.Random(20130524)):
-        count += 1
-        case = folder / f"{count:04}.http"
-        case.write_bytes(request(method, target, fields))
-        folder.joinpath(f"{case.name}.stdout").write_bytes(answer(method, status, body))
-    print(count)
+    count = kit.Count()
+    with tempfile.TemporaryDirectory(prefix="drop-interop-") as room:
+        answer_links(count, pathlib.Path(room))
+    write_links(count)
+    count.end()
 
 
-main(pathlib.Path(sys.argv[1]))
+if __name__ == "__main__":
+    main()

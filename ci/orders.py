@@ -1,9 +1,6 @@
-"""Writes orders of links, each with the link that botocore's own signer makes of the same request.
-
-For each case there is a file NAME.order, the lines that ci/writer reads, and NAME.order.stdout, the link: the path
-and the query that botocore signed, its parameters in canonical order with the signature last. The moments and the
-random texts are fixed, so each run makes the same cases. The arguments: the folder to write to, and nothing else.
-It prints the number of cases.
+"""Orders of links, each with the link that botocore's own signer makes of the same request: the path and the query
+that botocore signed, its parameters in canonical order with the signature last. The moments and the random texts are
+fixed, so each run makes the same orders.
 
 Three things botocore does otherwise than S3, and no order here depends on them: it leaves some headers unsigned, as
 `user-agent`; it signs the value of `x-amz-content-sha256` in the place of UNSIGNED-PAYLOAD; and it takes the form's
@@ -12,15 +9,13 @@ Three things botocore does otherwise than S3, and no order here depends on them:
 
 import dataclasses
 import datetime
-import pathlib
-import random
-import sys
 import urllib.parse
 
 from botocore.auth import S3SigV4QueryAuth
 from botocore.awsrequest import AWSRequest
 from botocore.credentials import Credentials
 
+from rows import in_turn, written
 from samples import HOST, KEY_ID, MOMENT, NAMES, REGIONS, SECRET, random_text, stop_the_clock
 
 METHODS = ["GET", "PUT", "HEAD", "POST"]
@@ -63,21 +58,15 @@ class Order:
     start: datetime.datetime = MOMENT
     expires: int = 86400
 
-    def lines(self):
-        """The order's file."""
-        def line(word, *values):
-            return " ".join([word, *(urllib.parse.quote(value, safe="") for value in values)])
+    def row(self):
+        """The order as a row of crates/rows."""
+        start = self.start.strftime("%Y%m%dT%H%M%SZ")
+        words = [self.method, self.path, start, str(self.expires), self.host, self.region, *self.key, str(len(self.params))]
+        return written("write_link", *words, *in_turn(self.params.items()), *in_turn(self.headers.items()))
 
-        yield line("method", self.method)
-        yield line("path", self.path)
-        yield from (line("param", name, value) for name, value in self.params.items())
-        yield from (line("header", name, value) for name, value in self.headers.items())
-        yield line("host", self.host)
-        yield line("region", self.region)
-        yield line("key_id", self.key[0])
-        yield line("secret", self.key[1])
-        yield line("start", self.start.strftime("%Y%m%dT%H%M%SZ"))
-        yield line("expires", str(self.expires))
+    def answer(self):
+        """What is owed for the row."""
+        return written(f"GET {self.link()}")
 
     def link(self):
         """The link by botocore."""
@@ -161,16 +150,3 @@ def orders(source):
             source.choice(MOMENTS),
             source.randint(1, 604800),
         )
-
-
-def main(folder):
-    count = 0
-    for order in orders(random.Random(20130524)):
-        count += 1
-        case = folder / f"{count:04}.order"
-        case.write_text("".join(f"{line}\n" for line in order.lines()))
-        folder.joinpath(f"{case.name}.stdout").write_text(order.link())
-    print(count)
-
-
-main(pathlib.Path(sys.argv[1]))

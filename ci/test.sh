@@ -1,32 +1,68 @@
 #!/usr/bin/env bash
-# Passes all tests: `rt ci` from nothing, the comparisons with boto3 and botocore, and a request and a link while
-# memory is refused. The last line is `N passed, M failed`, the sum of all.
+# Passes all tests: `rt ci` from nothing, and then what the proved programs that it leaves write, against what is owed
+# from outside. Each part ends with `N passed, M failed`, and its time is told; a part that does not end so, or cannot
+# be run, has failed. The last line is `N passed, M failed`, the sum of all.
 set -u
 cd "$(dirname "$0")/.." || exit 2
-log=$(mktemp)
-trap 'rm -f "$log"' EXIT
+work=$(mktemp -d)
+trap 'rm -rf "$work"' EXIT
 passed=0
 failed=0
+TIMEFORMAT='%R %U %S'
 
-# Runs a command, and adds what its last line of counts says; a command without one has failed.
+# Runs a part, and adds what its last line of counts says; a part without one has failed.
 count() {
-    "$@" 2>&1 | tee "$log"
-    local status=${PIPESTATUS[0]}
-    local line
-    line=$(grep -E '^[0-9]+ passed, [0-9]+ failed$' "$log" | tail -1)
+    local name=$1 status line
+    shift
+    { time "$@" >"$work/log" 2>&1; } 2>"$work/time"
+    status=$?
+    cat "$work/log"
+    line=$(grep -E '^[0-9]+ passed, [0-9]+ failed$' "$work/log" | tail -1)
     if [[ $line =~ ^([0-9]+)\ passed,\ ([0-9]+)\ failed$ ]]; then
         passed=$((passed + BASH_REMATCH[1]))
         failed=$((failed + BASH_REMATCH[2]))
-        if [ "$status" -ne 0 ] && [ "${BASH_REMATCH[2]}" -eq 0 ]; then
-            failed=$((failed + 1))
-        fi
     else
-        failed=$((failed + 1))
+        line="no counts"
     fi
+    if [ "$status" -ne 0 ] && [[ ! $line =~ \ [1-9][0-9]*\ failed$ ]]; then
+        failed=$((failed + 1))
+        line="$line, status $status"
+    fi
+    awk -v name="$name" -v line="$line" \
+        '{ printf "%-28s %7.1f s %8.1f s of processors   %s\n", name, $1, $2 + $3, line }' "$work/time" >>"$work/times"
 }
 
-count rt ci
-count bash ci/interop.sh
-count bash ci/refuse_memory.sh
+# A Python that has boto3: this one, the system's, or one that is made for this run.
+with_boto3() {
+    local python
+    for python in python3 /usr/bin/python3; do
+        if "$python" -c 'import boto3' 2>/dev/null; then
+            echo "$python"
+            return
+        fi
+    done
+    if [ "$(id -u)" -eq 0 ] && command -v apt-get >/dev/null; then
+        (apt-get update && apt-get install -y --no-install-recommends python3-boto3) >&2
+        python=/usr/bin/python3
+    else
+        (python3 -m venv "$work/python" && "$work/python/bin/pip" install boto3) >&2
+        python=$work/python/bin/python
+    fi
+    "$python" -c 'import boto3' && echo "$python"
+}
+
+interop() {
+    local python
+    python=$(with_boto3) || return 1
+    "$python" -B ci/interop.py
+}
+
+count "rt ci" rt ci
+count "ci/rows.py --check" python3 -B ci/rows.py --check
+count "ci/replays.py" python3 -B ci/replays.py
+count "ci/memory.py" python3 -B ci/memory.py
+count "ci/interop.py" interop
+echo
+cat "$work/times"
 echo "$passed passed, $failed failed"
 [ "$failed" -eq 0 ]

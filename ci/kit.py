@@ -1,0 +1,70 @@
+"""What the tests of built programs share: the toolchain, programs run side by side, and the count at the end."""
+
+import concurrent.futures
+import dataclasses
+import os
+import pathlib
+import shutil
+import subprocess
+import sys
+
+ROOT = pathlib.Path(__file__).resolve().parent.parent
+SECONDS = 60
+
+
+def toolchain():
+    """The toolchain's folder, which is above that of its command `rt`."""
+    command = shutil.which("rt")
+    if not command:
+        sys.exit("there is no command rt")
+    return pathlib.Path(command).resolve().parent.parent
+
+
+def built(crate, ending=""):
+    """What `rt ci`, or `rt run` in its folder, left of a program."""
+    file = ROOT / "crates" / crate / "out" / f"{crate}{ending}"
+    if not file.is_file():
+        sys.exit(f"there is no {file.relative_to(ROOT)}: `rt ci` builds it")
+    return file
+
+
+@dataclasses.dataclass(frozen=True)
+class Run:
+    """What a program wrote, and its status; a signal's number is below 0."""
+
+    status: int
+    out: bytes
+    err: bytes
+
+
+def run(words, given=b"", out=subprocess.PIPE, **how):
+    """Runs the words on these bytes. Where `out` is a file of its own, what was written there is not told."""
+    how |= {"stdout": out, "stderr": subprocess.PIPE, "timeout": SECONDS, "check": False}
+    ended = subprocess.run(words, input=given, **how)
+    return Run(ended.returncode, ended.stdout or b"", ended.stderr)
+
+
+def side_by_side(call, items):
+    """What the call gives for each item, in order; as many at once as there are processors."""
+    with concurrent.futures.ThreadPoolExecutor(len(os.sched_getaffinity(0))) as pool:
+        return list(pool.map(call, items))
+
+
+class Count:
+    """How many tests passed and failed."""
+
+    def __init__(self):
+        self.passed = 0
+        self.failed = 0
+
+    def add(self, name, fault):
+        """A test passed if there is no fault to tell."""
+        if fault:
+            self.failed += 1
+            print(f"{name}: {fault}")
+        else:
+            self.passed += 1
+
+    def end(self):
+        print(f"{self.passed} passed, {self.failed} failed")
+        sys.exit(self.failed > 0 or self.passed == 0)

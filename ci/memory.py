@@ -1,0 +1,152 @@
+"""Runs the proved programs with each allocation refused in turn.
+
+The objects that `rt ci` leaves of crates/drop and crates/rows are linked again, with ci/heap.c in the place of the
+heap of the kit's C library. Then each number from 1 on is refused, up to the first at which there is no allocation
+left to refuse. The program must give its whole right answer, or say that memory was refused, in the way that is owed
+there; and never anything else. One number is tried by `rt try --fail-alloc` too. The last line is
+`N passed, M failed`: each words of `drop` are a test, and each row is one.
+"""
+
+import itertools
+import os
+import pathlib
+import subprocess
+import tempfile
+
+import kit
+from expected import answer
+from replays import MOMENT, OFFICE, answered, fault
+
+STREAM = "data/row1.http"
+DROP = kit.ROOT / "crates" / "drop"
+TRY_AGAIN = kit.Run(0, answer(40), b"")
+OUT_OF_MEMORY = fault("out of memory")
+# What a program says whose table cannot be read; nothing was answered then.
+UNREAD = kit.Run(1, b"", b"Error: Kind(OutOfMemory)\n")
+
+
+def linked(crate, folder):
+    """The crate's proved program over the heap that refuses."""
+    chain = kit.toolchain()
+    heap, program = folder / "heap.o", folder / crate
+    clang = [chain / "toolchain/bin/clang", "-O1", "-fPIC", "-Wall", "-Wextra", "-Werror", "-c", "ci/heap.c"]
+    link = [chain / "bin/rattle-link", "--target", "x86_64-unknown-linux-gnu", "--toolchain", chain / "toolchain"]
+    link += ["-o", program, kit.built(crate, ".o"), chain / "c/libos_c.a", heap]
+    for words in [[*clang, "-o", heap], link]:
+        subprocess.run(words, cwd=kit.ROOT, check=True, stdout=subprocess.DEVNULL)
+    return program
+
+
+def refusing(number, words, given=b""):
+    """The run with this allocation refused, and whether there was such an allocation."""
+    heard, told = os.pipe()
+    env = {"REFUSED_ALLOCATION": str(number), "REFUSAL_TOLD_TO": str(told), "PATH": "/usr/bin:/bin"}
+    try:
+        run = kit.run(words, given, cwd=DROP, env=env, pass_fds=[told])
+    finally:
+        os.close(told)
+        is_refused = os.read(heard, 1) == b"!"
+        os.close(heard)
+    return run, is_refused
+
+
+class Wrong(Exception):
+    """A run gave something else than what is owed."""
+
+
+def each_refusal(words, given, right, others):
+    """The numbers at which each of the runs came that may be: the right one, or another."""
+    came = {it: [] for it in [right, *others]}
+    for number in itertools.count(1):
+        run, is_refused = refusing(number, words, given)
+        if run not in came:
+            raise Wrong(f"with allocation {number} refused: {run}")
+        if not is_refused:
+            break
+        came[run].append(number)
+    if run != right:
+        raise Wrong(f"without a refused allocation: {run}")
+    if not any(came[it] for it in others):
+        raise Wrong("no allocation that was refused had an effect")
+    return came
+
+
+def help_of(name):
+    return (kit.ROOT / "ci" / f"{name}.help").read_bytes()
+
+
+def test_drop(program, count):
+    """Words of the program: a right request, one at a wrong moment, and words for which nothing is replayed."""
+    replay = ["replay", OFFICE, STREAM, "--at"]
+    numbers = []
+    for words, right in [
+        ([*replay, MOMENT], answered(27)),
+        ([*replay, "20130525T000000Z"], answered(23)),
+        ([*replay, "now"], fault("malformed value: at")),
+        (["--help"], kit.Run(0, help_of("drop"), b"")),
+        (["replay", "--help"], kit.Run(0, help_of("replay"), b"")),
+        (["replay"], kit.run([program, "replay"])),
+    ]:
+        name = f"drop {' '.join(words)}"
+        others = [OUT_OF_MEMORY] + [TRY_AGAIN] * right.out.startswith(b"HTTP/1.1 ")
+        try:
+            came = each_refusal([program, *words], b"", right, others)
+        except Wrong as wrong:
+            count.add(name, str(wrong))
+            continue
+        count.add(name, None)
+        again = came.get(TRY_AGAIN, [])
+        numbers = numbers or again
+        print(f"{name}: {len(came[OUT_OF_MEMORY])} times out of memory, {len(again)} refusal 40, {len(came[right])} its answer")
+    return numbers
+
+
+def test_sample(numbers, count):
+    """The toolchain's own way to refuse an allocation, at the first number at which refusal 40 came."""
+    if not numbers:
+        count.add("rt try --fail-alloc", "refusal 40 never came")
+        return
+    words = ["rt", "try", "--fail-alloc", str(numbers[0]), "--", "replay", OFFICE, "--at", MOMENT, STREAM]
+    ran = subprocess.run(words, cwd=DROP, stdin=subprocess.DEVNULL, capture_output=True, check=False)
+    is_right = ran.returncode == 0 and answer(40) in ran.stdout
+    count.add(f"rt try --fail-alloc {numbers[0]}", None if is_right else f"{ran.returncode}: {ran.stdout + ran.stderr}")
+
+
+def rows():
+    """Each row with what is owed for it."""
+    folder = kit.ROOT / "crates" / "rows"
+    pairs = zip((folder / "stdin").read_bytes().splitlines(True), (folder / "stdout").read_bytes().splitlines(True))
+    return [(row, owed) for row, owed in pairs if not row.startswith(b"#") and row.strip()]
+
+
+def test_rows(program, count):
+    """Each row by itself."""
+    def each(pair):
+        row, owed = pair
+        others = [kit.Run(0, b"memory\n", b""), kit.Run(0, b"refusal 40\n", b""), UNREAD]
+        try:
+            return each_refusal([program], row, kit.Run(0, owed, b""), others)
+        except Wrong as wrong:
+            return wrong
+
+    refused = 0
+    pairs = rows()
+    for (row, _), came in zip(pairs, kit.side_by_side(each, pairs)):
+        is_wrong = isinstance(came, Wrong)
+        count.add(row.decode().strip()[:80], str(came) if is_wrong else None)
+        refused += 0 if is_wrong else sum(map(len, came.values()))
+    print(f"rows: {len(pairs)} with {refused} allocations refused in all")
+
+
+def main():
+    count = kit.Count()
+    with tempfile.TemporaryDirectory(prefix="drop-memory-") as room:
+        folder = pathlib.Path(room)
+        numbers = test_drop(linked("drop", folder), count)
+        test_rows(linked("rows", folder), count)
+        test_sample(numbers, count)
+    count.end()
+
+
+if __name__ == "__main__":
+    main()

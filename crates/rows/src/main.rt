@@ -1,0 +1,43 @@
+//! Answers a table of calls, for tests: for each line of standard input one line of standard output. A line is
+//! the name of a call and its words (`row`). Lines that begin with `#`, and empty ones, are printed as they are.
+#![tactic(auto)]
+
+mod messages;
+mod orders;
+mod row;
+mod signatures;
+mod texts;
+
+use row::{Line, Row, RowFault};
+use std::alloc::Global;
+use std::io;
+
+/// What the row's call says.
+fn answer(alloc: Global, text: &str) -> Result<Line, RowFault> {
+    let row = Row::read(alloc, text)?;
+    let mut line = Line::new(alloc);
+    let is_answered = texts::answer(alloc, &row, &mut line)?
+        || signatures::answer(alloc, &row, &mut line)?
+        || orders::answer(alloc, &row, &mut line)?
+        || messages::answer(alloc, &row, &mut line)?;
+    if is_answered {
+        Ok(line)
+    } else {
+        Err(RowFault::Malformed)
+    }
+}
+
+fn main(rt: HostRuntime) -> io::Result<()> {
+    for read in rt.lines(rt.alloc()) {
+        let text = read?;
+        if text.is_empty() || text.starts_with("#") {
+            println!(rt; "{text}")?;
+            continue;
+        }
+        match answer(rt.alloc(), &text) {
+            Ok(line) => println!(rt; "{line}")?,
+            Err(fault) => println!(rt; "{fault}")?,
+        }
+    }
+    Ok(())
+}

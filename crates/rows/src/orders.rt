@@ -1,0 +1,75 @@
+//! Rows of `links`: links that are written.
+use crate::row::{Line, Row, RowFault};
+use links::{LinkFault, LinkKey, LinkOrder, OrderParam, write_link};
+use sigtext::Field;
+use sigv4::Moment;
+use std::alloc::{AllocError, Global};
+
+/// Whether the row is one of these calls; then it is answered.
+pub fn answer(alloc: Global, row: &Row<'_>, line: &mut Line) -> Result<bool, RowFault> {
+    match row.call {
+        "write_link" => write(alloc, row, line)?,
+        _ => return Ok(false),
+    }
+    Ok(true)
+}
+
+// The words of an order before its parameters and headers.
+const FIRST_PAIR: usize = 9;
+
+/// `METHOD PATH START EXPIRES HOST REGION ID SECRET COUNT`, so many parameters, and headers, a name and a value each:
+/// what stands behind `GET ` then. A fault is told before it.
+fn write(alloc: Global, row: &Row<'_>, line: &mut Line) -> Result<(), RowFault> {
+    let mut out = Vec::from_slice(alloc, b"GET ")?;
+    let count = usize::try_from(row.number(8)?).unwrap_or(usize::MAX);
+    let pairs = row.fields(alloc, FIRST_PAIR)?;
+    let Some((params, headers)) = pairs.split_at_checked(count) else {
+        return Err(RowFault::Malformed);
+    };
+    let params = order_params(alloc, params)?;
+    if let Err(fault) = write_to(alloc, row, &params, headers, &mut out)? {
+        if fault == LinkFault::Memory {
+            return Err(RowFault::Memory);
+        }
+        let name = format!(in alloc; "{fault:?}")?;
+        line.put(b"fault")?;
+        line.put(name.as_bytes())?;
+    }
+    Ok(line.put(&out)?)
+}
+
+fn order_params<'a>(alloc: Global, pairs: &[Field<'a>]) -> Result<Vec<OrderParam<'a>>, AllocError> {
+    let mut params = Vec::with_capacity(alloc, pairs.len())?;
+    for pair in pairs {
+        params.push(OrderParam {
+            name: pair.name,
+            value: pair.value,
+        })?;
+    }
+    Ok(params)
+}
+
+fn write_to(
+    alloc: Global,
+    row: &Row<'_>,
+    params: &[OrderParam<'_>],
+    headers: &[Field<'_>],
+    out: &mut Vec<u8>,
+) -> Result<Result<(), LinkFault>, RowFault> {
+    let Ok(start) = row.word(2)?.try_into() else {
+        return Err(RowFault::Malformed);
+    };
+    let order = LinkOrder {
+        method: row.word(0)?,
+        path: row.word(1)?,
+        params,
+        headers,
+        start: Moment::read(start).ok_or(RowFault::Malformed)?,
+        expires: row.number(3)?,
+    };
+    let key = LinkKey {
+        id: row.word(6)?,
+        secret: row.word(7)?,
+    };
+    Ok(write_link(alloc, &order, &key, row.word(4)?, row.word(5)?, out))
+}

@@ -1,0 +1,159 @@
+//! One line of the table, and the line that answers it.
+use percent_encoding::{AsciiSet, CONTROLS, ascii_set, percent_decode, percent_encode};
+use sigtext::{Field, Refusal, TextFault};
+use std::alloc::{AllocError, Global};
+use std::fmt;
+
+// The bytes that are written as `%` and two digits, beside those past ASCII.
+const ESCAPED: AsciiSet = ascii_set!(CONTROLS.add(b' ').add(b'"').add(b'%'));
+
+// How a text without bytes is written.
+const EMPTY: &str = "\"\"";
+
+/// Why a row has no other answer.
+#[derive(Clone, Copy, Debug, PartialEq, Eq)]
+pub enum RowFault {
+    /// The row names no call, or lacks words.
+    Malformed,
+    /// Memory was refused.
+    Memory,
+    /// The call answered with this refusal.
+    Refused(Refusal),
+}
+
+impl fmt::Display for RowFault {
+    fn fmt<W: fmt::Write>(&self, f: &mut fmt::Formatter<W>) -> fmt::Result {
+        match self {
+            RowFault::Malformed => write!(f, "malformed row"),
+            RowFault::Memory => write!(f, "memory"),
+            RowFault::Refused(refusal) => {
+                let number = refusal.number();
+                write!(f, "refusal {number}")
+            }
+        }
+    }
+}
+
+impl From<AllocError> for RowFault {
+    fn from(_fault: AllocError) -> RowFault {
+        RowFault::Memory
+    }
+}
+
+impl From<Refusal> for RowFault {
+    fn from(refusal: Refusal) -> RowFault {
+        RowFault::Refused(refusal)
+    }
+}
+
+impl From<TextFault> for RowFault {
+    fn from(fault: TextFault) -> RowFault {
+        RowFault::Refused(fault.refusal())
+    }
+}
+
+/// The name of a call and its words, without their escapes. In the table one space stands before each word; a
+/// byte may be written as `%` and two hexadecimal digits, and a word without bytes as `""`.
+#[derive(Drop)]
+pub struct Row<'a> {
+    pub call: &'a str,
+    words: Vec<Vec<u8>>,
+}
+
+impl<'a> Row<'a> {
+    pub fn read(alloc: Global, text: &'a str) -> Result<Row<'a>, AllocError> {
+        let (call, rest) = text.split_once(' ').unwrap_or((text, ""));
+        let mut words = Vec::new(alloc);
+        if !rest.is_empty() {
+            for piece in rest.split(' ') {
+                words.push(unescaped(alloc, piece)?)?;
+            }
+        }
+        Ok(Row { call, words })
+    }
+
+    /// The words.
+    pub fn words(&self) -> &[Vec<u8>] {
+        &self.words
+    }
+
+    /// The word at this place, counted from 0.
+    pub fn word(&self, at: usize) -> Result<&[u8], RowFault> {
+        match self.words.get(at) {
+            Some(word) => Ok(word),
+            None => Err(RowFault::Malformed),
+        }
+    }
+
+    /// The number that the word at this place writes.
+    pub fn number(&self, at: usize) -> Result<u64, RowFault> {
+        let Ok(text) = str::from_utf8(self.word(at)?) else {
+            return Err(RowFault::Malformed);
+        };
+        text.parse::<u64>().map_err(|_| RowFault::Malformed)
+    }
+
+    /// The fields that the words from this place on name: a name and a value in turn.
+    pub fn fields(&self, alloc: Global, from: usize) -> Result<Vec<Field<'_>>, RowFault> {
+        let mut fields = Vec::new(alloc);
+        for pair in self.words.get(from..).unwrap_or_default().chunks(2) {
+            let [name, value] = pair else {
+                return Err(RowFault::Malformed);
+            };
+            fields
+                .push(Field { name, value })
+                .map_err(AllocError::from)?;
+        }
+        Ok(fields)
+    }
+}
+
+fn unescaped(alloc: Global, piece: &str) -> Result<Vec<u8>, AllocError> {
+    let mut word = Vec::new(alloc);
+    if piece != EMPTY {
+        percent_decode(piece.as_bytes()).append_to(&mut word)?;
+    }
+    Ok(word)
+}
+
+/// An answer: words, escaped as those of a row.
+#[derive(Debug, Drop)]
+pub struct Line {
+    text: String,
+}
+
+impl Line {
+    pub fn new(alloc: Global) -> Line {
+        Line {
+            text: String::new(alloc),
+        }
+    }
+
+    /// Puts a word at the end.
+    pub fn put(&mut self, word: &[u8]) -> Result<(), AllocError> {
+        if !self.text.is_empty() {
+            self.text.push(' ')?;
+        }
+        if word.is_empty() {
+            return self.text.push_str(EMPTY);
+        }
+        percent_encode(word, ESCAPED).append_to(&mut self.text)
+    }
+
+    /// Puts `true` or `false`.
+    pub fn put_bool(&mut self, value: bool) -> Result<(), AllocError> {
+        self.put(if value { b"true" } else { b"false" })
+    }
+
+    /// Puts a number in decimal digits.
+    pub fn put_number(&mut self, alloc: Global, number: u64) -> Result<(), AllocError> {
+        let digits = format!(in alloc; "{number}")?;
+        self.put(digits.as_bytes())
+    }
+}
+
+impl fmt::Display for Line {
+    fn fmt<W: fmt::Write>(&self, f: &mut fmt::Formatter<W>) -> fmt::Result {
+        f.write_str(&self.text)
+    }
+}

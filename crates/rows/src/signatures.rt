@@ -1,0 +1,128 @@
+//! Rows of `sigv4`: hashes, moments, credentials, signing keys and signatures.
+use crate::row::{Line, Row, RowFault};
+use hex::encode_to_slice;
+use sigv4::{Hmac, Moment, Scope, Sha, derive, is_key_id, is_region, is_secret, signature};
+use std::alloc::{AllocError, Global};
+
+/// Whether the row is one of these calls; then it is answered.
+pub fn answer(alloc: Global, row: &Row<'_>, line: &mut Line) -> Result<bool, RowFault> {
+    match row.call {
+        "sha" => sha(row, line)?,
+        "sha_cut" => sha_cut(row.word(0)?, line)?,
+        "hmac" => hmac(row, line)?,
+        "hmac_cut" => hmac_cut(row.word(0)?, row.word(1)?, line)?,
+        "moment" => moment(alloc, row, line)?,
+        "moment_at" => moment_at(alloc, row, line)?,
+        "scope" => scope(row, line)?,
+        "is_key_id" => line.put_bool(is_key_id(row.word(0)?))?,
+        "is_secret" => line.put_bool(is_secret(row.word(0)?))?,
+        "is_region" => line.put_bool(is_region(row.word(0)?))?,
+        "derive" => signing_key(row, line)?,
+        "signature" => sign(row, line)?,
+        _ => return Ok(false),
+    }
+    Ok(true)
+}
+
+fn digits(digest: [u8; 32]) -> [u8; 64] {
+    let mut digits = [0; 64];
+    let _ = encode_to_slice(digest, &mut digits);
+    digits
+}
+
+/// Pieces of a message: its digest.
+fn sha(row: &Row<'_>, line: &mut Line) -> Result<(), RowFault> {
+    let mut sha = Sha::new();
+    for piece in row.words() {
+        sha.update(piece);
+    }
+    Ok(line.put(&digits(sha.finish()))?)
+}
+
+/// The digests of the message cut at each place, each that differs from the one before.
+fn sha_cut(message: &[u8], line: &mut Line) -> Result<(), AllocError> {
+    let mut before = [0; 64];
+    for cut in 0..=message.len() {
+        let mut sha = Sha::new();
+        sha.update(&message[..cut]);
+        sha.update(&message[cut..]);
+        let found = digits(sha.finish());
+        if found != before {
+            line.put(&found)?;
+            before = found;
+        }
+    }
+    Ok(())
+}
+
+/// A key and pieces of a message: its code.
+fn hmac(row: &Row<'_>, line: &mut Line) -> Result<(), RowFault> {
+    let mut hmac = Hmac::new(row.word(0)?);
+    for piece in row.words().get(1..).unwrap_or_default() {
+        hmac.update(piece);
+    }
+    Ok(line.put(&digits(hmac.finish()))?)
+}
+
+/// The codes of the message cut at each place, each that differs from the one before.
+fn hmac_cut(key: &[u8], message: &[u8], line: &mut Line) -> Result<(), AllocError> {
+    let mut before = [0; 64];
+    for cut in 0..=message.len() {
+        let mut hmac = Hmac::new(key);
+        hmac.update(&message[..cut]);
+        hmac.update(&message[cut..]);
+        let found = digits(hmac.finish());
+        if found != before {
+            line.put(&found)?;
+            before = found;
+        }
+    }
+    Ok(())
+}
+
+fn put_moment(alloc: Global, found: Option<Moment>, line: &mut Line) -> Result<(), AllocError> {
+    let Some(moment) = found else {
+        return line.put(b"none");
+    };
+    line.put_number(alloc, moment.seconds())?;
+    line.put(&moment.text())
+}
+
+/// A text of 16 bytes: the seconds of the moment that it writes, and its text; or `none`.
+fn moment(alloc: Global, row: &Row<'_>, line: &mut Line) -> Result<(), RowFault> {
+    let Ok(text) = row.word(0)?.try_into() else {
+        return Err(RowFault::Malformed);
+    };
+    Ok(put_moment(alloc, Moment::read(text), line)?)
+}
+
+/// A number of seconds: the seconds of the moment, and its text; or `none`.
+fn moment_at(alloc: Global, row: &Row<'_>, line: &mut Line) -> Result<(), RowFault> {
+    Ok(put_moment(alloc, Moment::new(row.number(0)?), line)?)
+}
+
+/// `CREDENTIAL DATE`: the key id, the day and the region.
+fn scope(row: &Row<'_>, line: &mut Line) -> Result<(), RowFault> {
+    let scope = Scope::read(row.word(0)?, row.word(1)?)?;
+    line.put(scope.key_id)?;
+    line.put(scope.date)?;
+    Ok(line.put(scope.region)?)
+}
+
+/// `SECRET CREDENTIAL DATE`: the signing key.
+fn signing_key(row: &Row<'_>, line: &mut Line) -> Result<(), RowFault> {
+    let scope = Scope::read(row.word(1)?, row.word(2)?)?;
+    Ok(line.put(&digits(derive(row.word(0)?, &scope)))?)
+}
+
+/// `SECRET CREDENTIAL DATE TEXT`: the signature of the canonical request that the text is.
+fn sign(row: &Row<'_>, line: &mut Line) -> Result<(), RowFault> {
+    let date = row.word(2)?;
+    let scope = Scope::read(row.word(1)?, date)?;
+    let Ok(text) = date.try_into() else {
+        return Err(RowFault::Malformed);
+    };
+    let moment = Moment::read(text).ok_or(RowFault::Malformed)?;
+    let signed = signature(row.word(0)?, &scope, &moment, row.word(3)?)?;
+    Ok(line.put(&signed)?)
+}

@@ -1,0 +1,182 @@
+//! Rows of `sigtext`: refusals, escapes, targets, parameters, and what is signed.
+use crate::row::{Line, Row, RowFault};
+use sigtext::{
+    Field, Params, Parts, Refusal, SignedNames, Slash, Target, canonical_into, decodes_to,
+    is_fit_value, is_header_name, only_field, signed_values, trim_blanks, uri_encode,
+};
+use std::alloc::Global;
+
+/// Whether the row is one of these calls; then it is answered.
+pub fn answer(alloc: Global, row: &Row<'_>, line: &mut Line) -> Result<bool, RowFault> {
+    match row.call {
+        "refusal" => columns(alloc, row, line)?,
+        "uri_encode" => encode(alloc, row, line)?,
+        "decodes_to" => line.put_bool(decodes_to(row.word(0)?, row.word(1)?))?,
+        "target" => target(alloc, row, line)?,
+        "path_into" => path_into(alloc, row, line)?,
+        "param" => param(alloc, row, line)?,
+        "query" => query(alloc, row, line)?,
+        "signed_names" => line.put(SignedNames::read(row.word(0)?)?.text())?,
+        "is_header_name" => line.put_bool(is_header_name(row.word(0)?))?,
+        "is_fit_value" => line.put_bool(is_fit_value(row.word(0)?))?,
+        "trim_blanks" => line.put(trim_blanks(row.word(0)?))?,
+        "only_field" => one_field(alloc, row, line)?,
+        "canonical" => canonical(alloc, row, line)?,
+        _ => return Ok(false),
+    }
+    Ok(true)
+}
+
+// Each refusal, by the name of its variant.
+const REFUSALS: [(&str, Refusal); 37] = [
+    ("HeadMalformed", Refusal::HeadMalformed),
+    ("HeadTooLong", Refusal::HeadTooLong),
+    ("TransferCoding", Refusal::TransferCoding),
+    ("LengthMalformed", Refusal::LengthMalformed),
+    ("BodyTooLarge", Refusal::BodyTooLarge),
+    ("BodyIncomplete", Refusal::BodyIncomplete),
+    ("Method", Refusal::Method),
+    ("Target", Refusal::Target),
+    ("NotSigned", Refusal::NotSigned),
+    ("Parameters", Refusal::Parameters),
+    ("Algorithm", Refusal::Algorithm),
+    ("Credential", Refusal::Credential),
+    ("Date", Refusal::Date),
+    ("Expiry", Refusal::Expiry),
+    ("SignedHeaders", Refusal::SignedHeaders),
+    ("SignatureText", Refusal::SignatureText),
+    ("SignedValues", Refusal::SignedValues),
+    ("HeaderNotSigned", Refusal::HeaderNotSigned),
+    ("KeyUnknown", Refusal::KeyUnknown),
+    ("KeyRevoked", Refusal::KeyRevoked),
+    ("SignatureMismatch", Refusal::SignatureMismatch),
+    ("NotYetValid", Refusal::NotYetValid),
+    ("Expired", Refusal::Expired),
+    ("RoleNotAllowed", Refusal::RoleNotAllowed),
+    ("LengthMissing", Refusal::LengthMissing),
+    ("BodyNotTaken", Refusal::BodyNotTaken),
+    ("NoSuchBox", Refusal::NoSuchBox),
+    ("NameTooLong", Refusal::NameTooLong),
+    ("NameNotAllowed", Refusal::NameNotAllowed),
+    ("BoxClosed", Refusal::BoxClosed),
+    ("OtherBytesKept", Refusal::OtherBytesKept),
+    ("TooManyFiles", Refusal::TooManyFiles),
+    ("QuotaPassed", Refusal::QuotaPassed),
+    ("NoSuchFile", Refusal::NoSuchFile),
+    ("CommandMalformed", Refusal::CommandMalformed),
+    ("CommandNotPossible", Refusal::CommandNotPossible),
+    ("TryAgain", Refusal::TryAgain),
+];
+
+/// The refusal whose variant has this name.
+pub fn refusal_named(name: &[u8]) -> Result<Refusal, RowFault> {
+    for (found, refusal) in REFUSALS {
+        if found.as_bytes() == name {
+            return Ok(refusal);
+        }
+    }
+    Err(RowFault::Malformed)
+}
+
+/// `NAME`: the number, the word, the status and the text of the refusal of this name.
+fn columns(alloc: Global, row: &Row<'_>, line: &mut Line) -> Result<(), RowFault> {
+    let refusal = refusal_named(row.word(0)?)?;
+    line.put_number(alloc, u64::from(refusal.number()))?;
+    line.put(refusal.word().as_bytes())?;
+    line.put_number(alloc, u64::from(refusal.status()))?;
+    Ok(line.put(refusal.text().as_bytes())?)
+}
+
+/// `kept TEXT` or `encoded TEXT`, by what is done with `/`, and perhaps what stands in front: what stands there then.
+fn encode(alloc: Global, row: &Row<'_>, line: &mut Line) -> Result<(), RowFault> {
+    let slash = match row.word(0)? {
+        b"kept" => Slash::Kept,
+        b"encoded" => Slash::Encoded,
+        _ => return Err(RowFault::Malformed),
+    };
+    let mut out = Vec::from_slice(alloc, row.word(2).unwrap_or_default())?;
+    uri_encode(row.word(1)?, slash, &mut out)?;
+    Ok(line.put(&out)?)
+}
+
+/// `TEXT`: the decoded path, and the raw names and values in order.
+fn target(alloc: Global, row: &Row<'_>, line: &mut Line) -> Result<(), RowFault> {
+    let target = Target::read(row.word(0)?)?;
+    let mut path = Vec::new(alloc);
+    target.path_into(&mut path)?;
+    line.put(&path)?;
+    for raw in target.pairs() {
+        line.put(raw.name)?;
+        line.put(raw.value)?;
+    }
+    Ok(())
+}
+
+/// `TARGET TEXT`: the text with the decoded path behind it.
+fn path_into(alloc: Global, row: &Row<'_>, line: &mut Line) -> Result<(), RowFault> {
+    let mut out = Vec::from_slice(alloc, row.word(1)?)?;
+    Target::read(row.word(0)?)?.path_into(&mut out)?;
+    Ok(line.put(&out)?)
+}
+
+/// `TARGET NAME`: `some` and the raw value of the parameter of this name, or `none`.
+fn param(alloc: Global, row: &Row<'_>, line: &mut Line) -> Result<(), RowFault> {
+    let target = Target::read(row.word(0)?)?;
+    match Params::read(alloc, &target)?.get(row.word(1)?) {
+        Some(value) => {
+            line.put(b"some")?;
+            line.put(value)?;
+        }
+        None => line.put(b"none")?,
+    }
+    Ok(())
+}
+
+/// `TARGET`: the canonical query.
+fn query(alloc: Global, row: &Row<'_>, line: &mut Line) -> Result<(), RowFault> {
+    let target = Target::read(row.word(0)?)?;
+    let mut text = Vec::new(alloc);
+    Params::read(alloc, &target)?.query_into(&mut text)?;
+    Ok(line.put(&text)?)
+}
+
+/// `NAME` and fields: `some` and the name and value of the only field of this name, or `none`.
+fn one_field(alloc: Global, row: &Row<'_>, line: &mut Line) -> Result<(), RowFault> {
+    let fields = row.fields(alloc, 1)?;
+    match only_field(&fields, row.word(0)?) {
+        Some(field) => {
+            line.put(b"some")?;
+            line.put(field.name)?;
+            line.put(field.value)?;
+        }
+        None => line.put(b"none")?,
+    }
+    Ok(())
+}
+
+/// `METHOD TARGET NAMES` and fields: the canonical request of these signed names.
+fn canonical(alloc: Global, row: &Row<'_>, line: &mut Line) -> Result<(), RowFault> {
+    let fields = row.fields(alloc, 3)?;
+    let text = canonical_request(alloc, row, &fields)?;
+    Ok(line.put(&text)?)
+}
+
+fn canonical_request<'a>(
+    alloc: Global,
+    row: &'a Row<'_>,
+    fields: &'a [Field<'a>],
+) -> Result<Vec<u8>, RowFault> {
+    let target = Target::read(row.word(1)?)?;
+    let params = Params::read(alloc, &target)?;
+    let names = SignedNames::read(row.word(2)?)?;
+    let values = signed_values(alloc, fields, &names)?;
+    let parts = Parts {
+        method: row.word(0)?,
+        target,
+        params,
+        values,
+    };
+    let mut text = Vec::new(alloc);
+    canonical_into(&parts, &mut text)?;
+    Ok(text)
+}
