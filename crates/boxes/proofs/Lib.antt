@@ -1,1 +1,9 @@
-mod Weekdays
+pub mod Weekdays
+pub mod Lookups
+pub mod SoundFirstState
+pub mod HourEdges
+pub mod NameEdges
+pub mod UploadEdges
+pub mod StepEdges
+pub mod CommandSteps
+pub mod SoundEdges

@@ -5,3 +5,5 @@ pub mod Rules
 pub mod Steps
 pub mod Sound
 pub mod Rows
+pub mod Commands
+pub mod FirstState

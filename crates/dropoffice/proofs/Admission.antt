@@ -5,8 +5,9 @@ use Rattle.sigtext.specs.declared.refusal.Refusal.{Refusal}
 use Rattle.sigtext.specs.declared.refusal.Refusal.TheVariants as rule
 use Rattle.sigtext.specs.Refusals.{number_of}
 use Rattle.sigtext.specs.Request.{Request}
-use Rattle.links.specs.WellFormed.{Parts, HeadRule}
+use Rattle.links.specs.WellFormed.{LinkValues, HeadRule}
 use Rattle.links.specs.Admits.{LinkRule, IsSignedBy, Admits}
+use Rattle.links.specs.Moments.{at}
 use Rattle.boxes.specs.State.{State}
 use Rattle.boxes.specs.Rules.{UploadRule, FetchRule}
 use Rattle.dropoffice.specs.Rules.{IsPut, IsPost, IsFetch, place_of, known, upload_of, FormRule, DeskRule, Rule}
@@ -16,14 +17,14 @@ any None = tt
 any (Some x) = tt
 
 -- what the rules from number 24 on say of one refusal
-record Later (s : State) (r : Request) (now : ℕ) (q : Refusal) (p : Parts) : Type 0 where
+record Later (s : State) (r : Request) (now : ℕ) (q : Refusal) (p : LinkValues) : Type 0 where
   pub form : FormRule q s r p
   pub put : IsPut r → UploadRule q s (upload_of r now p)
   pub fetch : IsFetch r → FetchRule q s (place_of p.path)
   pub post : IsPost r → DeskRule q s p
 
 -- nothing, up to number 23
-later : (s : State) (r : Request) (now : ℕ) (p : Parts) (q : Refusal) → number_of q ≤ 23 → Later s r now q p
+later : (s : State) (r : Request) (now : ℕ) (p : LinkValues) (q : Refusal) → number_of q ≤ 23 → Later s r now q p
 later s r now p rule.HeadMalformed le = record { form = tt; put = λ _. (tt, inr (any _)); fetch = λ _. tt; post = λ _. tt }
 later s r now p rule.HeadTooLong le = record { form = tt; put = λ _. (tt, inr (any _)); fetch = λ _. tt; post = λ _. tt }
 later s r now p rule.TransferCoding le = record { form = tt; put = λ _. (tt, inr (any _)); fetch = λ _. tt; post = λ _. tt }
@@ -62,7 +63,7 @@ later s r now p rule.CommandMalformed le = absurd (omega arith)
 later s r now p rule.CommandNotPossible le = absurd (omega arith)
 later s r now p rule.TryAgain le = absurd (omega arith)
 
-link_rule : (s : State) (r : Request) (now : ℕ) (a : Admits (known s) r now) (q : Refusal) → LinkRule q (known s a.parts.key_id) r now a.parts
+link_rule : (s : State) (r : Request) (now : ℕ) (a : Admits (known s) r (at now)) (q : Refusal) → LinkRule q (known s a.parts.key_id) r (at now) a.parts
 link_rule s r now a rule.HeadMalformed = tt
 link_rule s r now a rule.HeadTooLong = tt
 link_rule s r now a rule.TransferCoding = tt
@@ -101,7 +102,7 @@ link_rule s r now a rule.CommandMalformed = tt
 link_rule s r now a rule.CommandNotPossible = tt
 link_rule s r now a rule.TryAgain = tt
 
-pub admitted_hold : (s : State) (r : Request) (now : ℕ) → Admits (known s) r now → (p : Parts) × ((q : Refusal) → number_of q ≤ 23 → Rule s r now q p)
+pub admitted_hold : (s : State) (r : Request) (now : ℕ) → Admits (known s) r (at now) → (p : LinkValues) × ((q : Refusal) → number_of q ≤ 23 → Rule s r now q p)
 admitted_hold s r now a = (
   a.parts,
   λ q le.
@@ -109,7 +110,7 @@ admitted_hold s r now a = (
       record { head = a.well_formed q; link = link_rule s r now a q; form = rest.form; put = rest.put; fetch = rest.fetch; post = rest.post },
 )
 
-head_rule : (s : State) (r : Request) (now : ℕ) (p : Parts) → ((q : Refusal) → number_of q ≤ 23 → Rule s r now q p) → (q : Refusal) → HeadRule q r p
+head_rule : (s : State) (r : Request) (now : ℕ) (p : LinkValues) → ((q : Refusal) → number_of q ≤ 23 → Rule s r now q p) → (q : Refusal) → HeadRule q r p
 head_rule s r now p hold rule.HeadMalformed = tt
 head_rule s r now p hold rule.HeadTooLong = tt
 head_rule s r now p hold rule.TransferCoding = tt
@@ -152,7 +153,7 @@ there_is : {X : Type 0} (o : Option X) → IsSome o → (x : X) × (o ≡ Some x
 there_is None there = cc
 there_is (Some x) there = (x, refl)
 
-pub hold_admitted : (s : State) (r : Request) (now : ℕ) (p : Parts) → ((q : Refusal) → number_of q ≤ 23 → Rule s r now q p) → Admits (known s) r now
+pub hold_admitted : (s : State) (r : Request) (now : ℕ) (p : LinkValues) → ((q : Refusal) → number_of q ≤ 23 → Rule s r now q p) → Admits (known s) r (at now)
 hold_admitted s r now p hold =
     let key = there_is (known s p.key_id) (hold rule.KeyUnknown (omega arith)).link in
     record {

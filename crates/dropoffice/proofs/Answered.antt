@@ -1,30 +1,29 @@
 -- What a refusal is answered with.
-use Rattle.std.proofs.Common.{◌≡◌, ◌≢◌, ℕ, List, codes, ap}
+use Rattle.std.proofs.Common.{◌≡◌, ℕ, sym, ap, ◌∙◌}
 use Rattle.sigtext.specs.declared.refusal.Refusal.{Refusal}
 use Rattle.sigtext.specs.declared.refusal.Refusal.TheVariants as rule
-use Rattle.sigtext.specs.Bytes.{same_bytes}
 use Rattle.sigtext.specs.Request.{Request}
 use Rattle.sigtext.specs.Rules.{IsFirstToFail}
 use Rattle.boxes.specs.State.{State}
 use Rattle.wire.specs.declared.answer.Answer.{Answer}
 use Rattle.wire.specs.declared.answer.Reply.TheVariants as reply
-use Rattle.wire.specs.Shown.{text_of}
+use Rattle.wire.specs.Shown.{whole_text}
+use Rattle.wire.specs.Answers.{answer_text}
 use Rattle.wire.specs.Answers as said
-use Rattle.dropoffice.specs.Answering.{Answers, refuses}
-use Rattle.dropoffice.specs.Offices.{try_again}
+use Rattle.dropoffice.specs.Answering.{Answers, is_head, refuses}
+use Rattle.dropoffice.specs.Offices.{IsTryAgain}
 use Rattle.dropoffice.specs.Rules.{Rule}
 
--- the answer of a refusal to a request of this method
-abbrev pub answer_of : Refusal → List ℕ → Answer
-answer_of q method = record { reply = reply.Refused q; is_head = same_bytes method (codes "HEAD") }
+-- the answer of a refusal, which is not a HEAD's where the connection closes
+pub refused_text : (s : State) (r : Request) (now : ℕ) (a : Answer) (q : Refusal) → whole_text a ≡ answer_text (is_head r) (said.Refused q) → IsFirstToFail (Rule s r now) q → Answers s r now (whole_text a) s
+refused_text s r now a q is fails = record { reply = said.Refused q; replies = refuses q fails; is = is }
 
--- where the answer is not refusal 40, nor is the refusal
-pub not_again : (a : Answer) (q : Refusal) → (q ≡ rule.TryAgain → a ≡ try_again) → (a ≢ try_again) → q ≢ rule.TryAgain
-not_again a q again other is = other (again is)
+refused_is : (p q : Refusal) → reply.Refused p ≡ reply.Refused q → p ≡ q
+refused_is p q e = cc
 
-pub refused_text : (s : State) (r : Request) (now : ℕ) (a : Answer) (q : Refusal) → a ≡ answer_of q r.method → IsFirstToFail (Rule s r now) q → Answers s r now (text_of a) s
-refused_text s r now a q is fails = record {
-  reply = said.Refused q;
-  replies = refuses q fails;
-  is = ap text_of is;
-}
+-- the answer is refusal 40 exactly where the refusal is
+pub again_is : (a : Answer) (q : Refusal) → a.reply ≡ reply.Refused q → IsTryAgain a → q ≡ rule.TryAgain
+again_is a q is again = refused_is q rule.TryAgain (sym is ∙ again)
+
+pub is_again : (a : Answer) (q : Refusal) → a.reply ≡ reply.Refused q → q ≡ rule.TryAgain → IsTryAgain a
+is_again a q is again = is ∙ ap reply.Refused again

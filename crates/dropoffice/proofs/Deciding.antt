@@ -8,15 +8,19 @@ use Rattle.sigtext.specs.declared.refusal.Refusal.TheVariants as rule
 use Rattle.sigtext.specs.Refusals.{number_of}
 use Rattle.sigtext.specs.Request.{Request}
 use Rattle.sigtext.specs.Rules.{HoldBefore, IsFirstToFail}
-use Rattle.links.specs.WellFormed.{Parts, HeadRule, IsWellFormed}
+use Rattle.links.specs.WellFormed.{LinkValues, HeadRule, IsWellFormed}
 use Rattle.links.specs.Admits.{KnownKey, IsSignedBy, LinkRule}
+use Rattle.links.specs.Methods.{method_text}
+use Rattle.links.specs.Moments.{at, HasBegun, IsNotOver}
+use Rattle.links.specs.declared.methods.Method.{Method}
+use Rattle.links.specs.declared.methods.Method.TheVariants as method
 use Rattle.links.proofs.Parts.{parts_before}
 use Rattle.boxes.specs.declared.rows.Role.{Role}
-use Rattle.boxes.specs.declared.rows.Role.TheVariants.{Clerk}
+use Rattle.boxes.specs.declared.rows.Role.TheVariants.{Clerk, Link}
 use Rattle.boxes.specs.State.{Key, State}
 use Rattle.boxes.specs.Rules.{UploadRule, Upload, FetchRule}
 use Rattle.boxes.specs.State.{Place}
-use Rattle.dropoffice.specs.Remaining.{Remains, no_clerk, no_command, no_length, no_box}
+use Rattle.dropoffice.specs.Remaining.{remaining}
 use Rattle.dropoffice.specs.Rules.{IsPut, IsPost, IsFetch, known, place_of, upload_of, FormRule, DeskRule, Rule}
 use Rattle.dropoffice.specs.Served.{IsServedRequest, HasNoBox}
 use Rattle.links.proofs.Texts.{clash}
@@ -63,7 +67,7 @@ fetch_rule s place rule.NameNotAllowed lt = absurd (omega arith)
 fetch_rule s place rule.NoSuchFile lt = absurd (omega arith)
 fetch_rule s place _ lt = tt
 
-desk_rule : (s : State) (p : Parts) (q : Refusal) → number_of q < 35 → DeskRule q s p
+desk_rule : (s : State) (p : LinkValues) (q : Refusal) → number_of q < 35 → DeskRule q s p
 desk_rule s p rule.CommandMalformed lt = absurd (omega arith)
 desk_rule s p rule.CommandNotPossible lt = absurd (omega arith)
 desk_rule s p _ lt = tt
@@ -71,8 +75,8 @@ desk_rule s p _ lt = tt
 -- ---- the rules before a number
 
 -- the rules of the link before this number
-link_before : (key : Option KnownKey) (r : Request) (now : ℕ) (p : Parts) (n : ℕ) → (19 < n → IsSome key) → (20 < n → IfSome key (λ k. IsFalse k.revoked)) → (21 < n → IfSome key (λ k. IsSignedBy k.secret r p))
-    → (22 < n → p.start ≤ now) → (23 < n → now < p.start + p.expires) → (q : Refusal) → number_of q < n → LinkRule q key r now p
+link_before : (key : Option KnownKey) (r : Request) (now : ℕ) (p : LinkValues) (n : ℕ) → (19 < n → IsSome key) → (20 < n → IfSome key (λ k. IsFalse k.revoked)) → (21 < n → IfSome key (λ k. IsSignedBy k.secret r p))
+    → (22 < n → HasBegun (at now) p.start) → (23 < n → IsNotOver (at now) p.start p.expires) → (q : Refusal) → number_of q < n → LinkRule q key r (at now) p
 link_before key r now p n there unrevoked signed begun over rule.KeyUnknown lt = there lt
 link_before key r now p n there unrevoked signed begun over rule.KeyRevoked lt = unrevoked lt
 link_before key r now p n there unrevoked signed begun over rule.SignatureMismatch lt = signed lt
@@ -81,15 +85,15 @@ link_before key r now p n there unrevoked signed begun over rule.Expired lt = ov
 link_before key r now p n there unrevoked signed begun over _ lt = tt
 
 -- the rules of the form before this number
-form_before : (s : State) (r : Request) (p : Parts) (n : ℕ) → IsServedRequest r → (24 < n → IsPost r → IfSome (get s.keys p.key_id) (λ k. k.role ≡ Clerk)) → (25 < n → IsPut r → ⊥)
+form_before : (s : State) (r : Request) (p : LinkValues) (n : ℕ) → IsServedRequest r → (24 < n → IsPost r → IfSome (get s.keys p.key_id) (λ k. k.role ≡ Clerk)) → (25 < n → IsPut r → ⊥)
     → (q : Refusal) → number_of q < n → FormRule q s r p
 form_before s r p n served clerk no_put rule.RoleNotAllowed lt = clerk lt
 form_before s r p n served clerk no_put rule.LengthMissing lt = λ put. absurd (no_put lt put)
 form_before s r p n served clerk no_put rule.BodyNotTaken lt = λ other. served.no_body
 form_before s r p n served clerk no_put _ lt = tt
 
-rules_before : (s : State) (r : Request) (now : ℕ) (p : Parts) (n : Refusal) → number_of n ≤ 35 → ((q : Refusal) → number_of q < number_of n → HeadRule q r p)
-    → ((q : Refusal) → number_of q < number_of n → LinkRule q (known s p.key_id) r now p) → ((q : Refusal) → number_of q < number_of n → FormRule q s r p)
+rules_before : (s : State) (r : Request) (now : ℕ) (p : LinkValues) (n : Refusal) → number_of n ≤ 35 → ((q : Refusal) → number_of q < number_of n → HeadRule q r p)
+    → ((q : Refusal) → number_of q < number_of n → LinkRule q (known s p.key_id) r (at now) p) → ((q : Refusal) → number_of q < number_of n → FormRule q s r p)
     → (27 < number_of n → IsPost r) → HoldBefore (Rule s r now) n p
 rules_before s r now p n most formed link form post q lt = record {
   head = formed q lt;
@@ -101,8 +105,8 @@ rules_before s r now p n most formed link form post q lt = record {
 }
 
 -- the same up to number 24, where no rule of the form is asked
-link_rules : (s : State) (r : Request) (now : ℕ) (p : Parts) (n : Refusal) → number_of n ≤ 24 → IsServedRequest r → IsWellFormed r p
-    → ((q : Refusal) → number_of q < number_of n → LinkRule q (known s p.key_id) r now p) → HoldBefore (Rule s r now) n p
+link_rules : (s : State) (r : Request) (now : ℕ) (p : LinkValues) (n : Refusal) → number_of n ≤ 24 → IsServedRequest r → IsWellFormed r p
+    → ((q : Refusal) → number_of q < number_of n → LinkRule q (known s p.key_id) r (at now) p) → HoldBefore (Rule s r now) n p
 link_rules s r now p n most served formed link =
     rules_before s r now p n (omega arith) (λ q lt. formed q) link (form_before s r p (number_of n) served (λ lt. absurd (omega arith)) (λ lt. absurd (omega arith))) (λ lt. absurd (omega arith))
 
@@ -135,7 +139,7 @@ head_first s r now q served f =
     }
 
 -- parts that hold the rules before the key's are the parts
-same_parts : (s : State) (r : Request) (now : ℕ) (p other : Parts) (n : Refusal) → 19 ≤ number_of n → IsWellFormed r p → HoldBefore (Rule s r now) n other → other ≡ p
+same_parts : (s : State) (r : Request) (now : ℕ) (p other : LinkValues) (n : Refusal) → 19 ≤ number_of n → IsWellFormed r p → HoldBefore (Rule s r now) n other → other ≡ p
 same_parts s r now p other n least formed hold = parts_before r p other formed (λ q lt. (hold q (omega arith)).head)
 
 -- ---- the key
@@ -150,43 +154,43 @@ known_none s id e = ap (λ (o : Option Key). option_map (λ k. record { secret =
 known_some : (s : State) (id : List ℕ) (k : Key) → get s.keys id ≡ Some k → known s id ≡ Some (record { secret = k.secret; revoked = k.revoked })
 known_some s id k e = ap (λ (o : Option Key). option_map (λ k. record { secret = k.secret; revoked = k.revoked }) o) e
 
-pub key_unknown : (s : State) (r : Request) (now : ℕ) (p : Parts) → IsServedRequest r → IsWellFormed r p → get s.keys p.key_id ≡ None → IsFirstToFail (Rule s r now) rule.KeyUnknown
+pub key_unknown : (s : State) (r : Request) (now : ℕ) (p : LinkValues) → IsServedRequest r → IsWellFormed r p → get s.keys p.key_id ≡ None → IsFirstToFail (Rule s r now) rule.KeyUnknown
 key_unknown s r now p served formed none = record {
   parts = p;
   before = link_rules s r now p rule.KeyUnknown (omega arith) served formed
       (link_before (known s p.key_id) r now p 19 (λ lt. absurd (omega arith)) (λ lt. absurd (omega arith)) (λ lt. absurd (omega arith)) (λ lt. absurd (omega arith)) (λ lt. absurd (omega arith)));
   fails = λ other hold bad.
       let same = same_parts s r now p other rule.KeyUnknown (omega arith) formed hold in
-      none_some (known s p.key_id) (known_none s p.key_id none) (subst (λ (q : Parts). IsSome (known s q.key_id)) same bad.link);
+      none_some (known s p.key_id) (known_none s p.key_id none) (subst (λ (q : LinkValues). IsSome (known s q.key_id)) same bad.link);
 }
 
 -- the key stands: what a rule says of it
-at_key : (s : State) (p : Parts) (k : Key) (P : KnownKey → Type 0) → get s.keys p.key_id ≡ Some k → P (record { secret = k.secret; revoked = k.revoked }) → IfSome (known s p.key_id) P
+at_key : (s : State) (p : LinkValues) (k : Key) (P : KnownKey → Type 0) → get s.keys p.key_id ≡ Some k → P (record { secret = k.secret; revoked = k.revoked }) → IfSome (known s p.key_id) P
 at_key s p k P there h = subst (λ (o : Option KnownKey). IfSome o P) (sym (known_some s p.key_id k there)) h
 
-of_key : (s : State) (p : Parts) (k : Key) (P : KnownKey → Type 0) → get s.keys p.key_id ≡ Some k → IfSome (known s p.key_id) P → P (record { secret = k.secret; revoked = k.revoked })
+of_key : (s : State) (p : LinkValues) (k : Key) (P : KnownKey → Type 0) → get s.keys p.key_id ≡ Some k → IfSome (known s p.key_id) P → P (record { secret = k.secret; revoked = k.revoked })
 of_key s p k P there h = subst (λ (o : Option KnownKey). IfSome o P) (known_some s p.key_id k there) h
 
-some_key : (s : State) (p : Parts) (k : Key) → get s.keys p.key_id ≡ Some k → IsSome (known s p.key_id)
+some_key : (s : State) (p : LinkValues) (k : Key) → get s.keys p.key_id ≡ Some k → IsSome (known s p.key_id)
 some_key s p k there = subst (λ (o : Option KnownKey). IsSome o) (sym (known_some s p.key_id k there)) refl
 
-pub key_revoked : (s : State) (r : Request) (now : ℕ) (p : Parts) (k : Key) → IsServedRequest r → IsWellFormed r p → get s.keys p.key_id ≡ Some k → k.revoked ≡ true → IsFirstToFail (Rule s r now) rule.KeyRevoked
+pub key_revoked : (s : State) (r : Request) (now : ℕ) (p : LinkValues) (k : Key) → IsServedRequest r → IsWellFormed r p → get s.keys p.key_id ≡ Some k → k.revoked ≡ true → IsFirstToFail (Rule s r now) rule.KeyRevoked
 key_revoked s r now p k served formed there revoked = record {
   parts = p;
   before = link_rules s r now p rule.KeyRevoked (omega arith) served formed
       (link_before (known s p.key_id) r now p 20 (λ lt. some_key s p k there) (λ lt. absurd (omega arith)) (λ lt. absurd (omega arith)) (λ lt. absurd (omega arith)) (λ lt. absurd (omega arith)));
   fails = λ other hold bad.
       let same = same_parts s r now p other rule.KeyRevoked (omega arith) formed hold in
-      let unrevoked = of_key s p k (λ x. IsFalse x.revoked) there (subst (λ (q : Parts). IfSome (known s q.key_id) (λ x. IsFalse x.revoked)) same bad.link) in
+      let unrevoked = of_key s p k (λ x. IsFalse x.revoked) there (subst (λ (q : LinkValues). IfSome (known s q.key_id) (λ x. IsFalse x.revoked)) same bad.link) in
       clash k.revoked unrevoked revoked;
 }
 
 -- a key that stands unrevoked
-pub record HasKey (s : State) (p : Parts) (k : Key) : Type 0 where
+pub record HasKey (s : State) (p : LinkValues) (k : Key) : Type 0 where
   pub there : get s.keys p.key_id ≡ Some k
   pub unrevoked : IsFalse k.revoked
 
-pub signature_mismatch : (s : State) (r : Request) (now : ℕ) (p : Parts) (k : Key) → IsServedRequest r → IsWellFormed r p → HasKey s p k
+pub signature_mismatch : (s : State) (r : Request) (now : ℕ) (p : LinkValues) (k : Key) → IsServedRequest r → IsWellFormed r p → HasKey s p k
     → (IsSignedBy k.secret r p → ⊥) → IsFirstToFail (Rule s r now) rule.SignatureMismatch
 signature_mismatch s r now p k served formed key mismatch = record {
   parts = p;
@@ -194,43 +198,43 @@ signature_mismatch s r now p k served formed key mismatch = record {
       (link_before (known s p.key_id) r now p 21 (λ lt. some_key s p k key.there) (λ lt. at_key s p k (λ x. IsFalse x.revoked) key.there key.unrevoked) (λ lt. absurd (omega arith)) (λ lt. absurd (omega arith)) (λ lt. absurd (omega arith)));
   fails = λ other hold bad.
       let same = same_parts s r now p other rule.SignatureMismatch (omega arith) formed hold in
-      mismatch (of_key s p k (λ x. IsSignedBy x.secret r p) key.there (subst (λ (q : Parts). IfSome (known s q.key_id) (λ x. IsSignedBy x.secret r q)) same bad.link));
+      mismatch (of_key s p k (λ x. IsSignedBy x.secret r p) key.there (subst (λ (q : LinkValues). IfSome (known s q.key_id) (λ x. IsSignedBy x.secret r q)) same bad.link));
 }
 
-pub not_yet_valid : (s : State) (r : Request) (now : ℕ) (p : Parts) (k : Key) → IsServedRequest r → IsWellFormed r p → HasKey s p k
-    → IsSignedBy k.secret r p → now < p.start → IsFirstToFail (Rule s r now) rule.NotYetValid
+pub not_yet_valid : (s : State) (r : Request) (now : ℕ) (p : LinkValues) (k : Key) → IsServedRequest r → IsWellFormed r p → HasKey s p k
+    → IsSignedBy k.secret r p → now + 0 < p.start → IsFirstToFail (Rule s r now) rule.NotYetValid
 not_yet_valid s r now p k served formed key signed early = record {
   parts = p;
   before = link_rules s r now p rule.NotYetValid (omega arith) served formed
       (link_before (known s p.key_id) r now p 22 (λ lt. some_key s p k key.there) (λ lt. at_key s p k (λ x. IsFalse x.revoked) key.there key.unrevoked) (λ lt. at_key s p k (λ x. IsSignedBy x.secret r p) key.there signed) (λ lt. absurd (omega arith)) (λ lt. absurd (omega arith)));
   fails = λ other hold bad.
       let same = same_parts s r now p other rule.NotYetValid (omega arith) formed hold in
-      let begun : p.start ≤ now = subst (λ (q : Parts). q.start ≤ now) same bad.link in
+      let begun : HasBegun (at now) p.start = subst (λ (q : LinkValues). HasBegun (at now) q.start) same bad.link in
       omega arith;
 }
 
-pub expired : (s : State) (r : Request) (now : ℕ) (p : Parts) (k : Key) → IsServedRequest r → IsWellFormed r p → HasKey s p k
-    → IsSignedBy k.secret r p → p.start ≤ now → p.start + p.expires ≤ now → IsFirstToFail (Rule s r now) rule.Expired
+pub expired : (s : State) (r : Request) (now : ℕ) (p : LinkValues) (k : Key) → IsServedRequest r → IsWellFormed r p → HasKey s p k
+    → IsSignedBy k.secret r p → HasBegun (at now) p.start → p.start + p.expires ≤ now → IsFirstToFail (Rule s r now) rule.Expired
 expired s r now p k served formed key signed begun late = record {
   parts = p;
   before = link_rules s r now p rule.Expired (omega arith) served formed
       (link_before (known s p.key_id) r now p 23 (λ lt. some_key s p k key.there) (λ lt. at_key s p k (λ x. IsFalse x.revoked) key.there key.unrevoked) (λ lt. at_key s p k (λ x. IsSignedBy x.secret r p) key.there signed) (λ lt. begun) (λ lt. absurd (omega arith)));
   fails = λ other hold bad.
       let same = same_parts s r now p other rule.Expired (omega arith) formed hold in
-      let not_over : now < p.start + p.expires = subst (λ (q : Parts). now < q.start + q.expires) same bad.link in
+      let not_over : IsNotOver (at now) p.start p.expires = subst (λ (q : LinkValues). IsNotOver (at now) q.start q.expires) same bad.link in
       omega arith;
 }
 
 -- ---- past the link
 
 -- the link is admitted, under this key
-pub record IsAdmitted (s : State) (r : Request) (now : ℕ) (p : Parts) (k : Key) : Type 0 where
+pub record IsAdmitted (s : State) (r : Request) (now : ℕ) (p : LinkValues) (k : Key) : Type 0 where
   pub key : HasKey s p k
   pub signed : IsSignedBy k.secret r p
-  pub begun : p.start ≤ now
-  pub not_over : now < p.start + p.expires
+  pub begun : HasBegun (at now) p.start
+  pub not_over : IsNotOver (at now) p.start p.expires
 
-link_holds : (s : State) (r : Request) (now : ℕ) (p : Parts) (k : Key) (n : ℕ) → IsAdmitted s r now p k → (q : Refusal) → number_of q < n → LinkRule q (known s p.key_id) r now p
+link_holds : (s : State) (r : Request) (now : ℕ) (p : LinkValues) (k : Key) (n : ℕ) → IsAdmitted s r now p k → (q : Refusal) → number_of q < n → LinkRule q (known s p.key_id) r (at now) p
 link_holds s r now p k n a =
     link_before (known s p.key_id) r now p n (λ lt. some_key s p k a.key.there) (λ lt. at_key s p k (λ x. IsFalse x.revoked) a.key.there a.key.unrevoked)
     (λ lt. at_key s p k (λ x. IsSignedBy x.secret r p) a.key.there a.signed) (λ lt. a.begun) (λ lt. a.not_over)
@@ -244,31 +248,39 @@ some_role : (o : Option Key) (k : Key) (P : Role → Type 0) → o ≡ Some k �
 some_role None k P e h = absurd cc
 some_role (Some x) k P e h = let is : k ≡ x = cc in subst (λ (y : Key). P y.role) is h
 
-pub remains : (s : State) (r : Request) (now : ℕ) (p : Parts) (k : Key) (q : Refusal) → IsServedRequest r → IsWellFormed r p → HasNoBox s → IsAdmitted s r now p k
-    → Remains r.method k.role q → IsFirstToFail (Rule s r now) q
-remains s r now p k _ served formed none a (no_clerk post other) = record {
-  parts = p;
-  before = link_rules s r now p rule.RoleNotAllowed (omega arith) served formed (link_holds s r now p k 24 a);
-  fails = λ o hold bad.
-      let same = same_parts s r now p o rule.RoleNotAllowed (omega arith) formed hold in
-      let role = subst (λ (q : Parts). IfSome (get s.keys q.key_id) (λ x. x.role ≡ Clerk)) same (bad.form post) in
-      other (its_role (get s.keys p.key_id) k (λ x. x ≡ Clerk) a.key.there role);
-}
-remains s r now p k _ served formed none a (no_command post clerk) = record {
-  parts = p;
-  before = rules_before s r now p rule.CommandMalformed (omega arith) (λ q lt. formed q) (link_holds s r now p k 35 a)
-      (form_before s r p 35 served (λ lt is. some_role (get s.keys p.key_id) k (λ x. x ≡ Clerk) a.key.there clerk) (λ lt put. put_no_post r put post)) (λ lt. post);
-  fails = λ o hold bad. (bad.post post).1.is_command;
-}
-remains s r now p k _ served formed none a (no_length put) = record {
-  parts = p;
-  before = rules_before s r now p rule.LengthMissing (omega arith) (λ q lt. formed q) (link_holds s r now p k 25 a)
-      (form_before s r p 25 served (λ lt post. absurd (put_no_post r put post)) (λ lt. absurd (omega arith))) (λ lt. absurd (omega arith));
-  fails = λ o hold bad. clash r.has_length served.no_length (bad.form put);
-}
-remains s r now p k _ served formed none a (no_box fetch) = record {
+-- the rule on boxes fails
+without_box : (s : State) (r : Request) (now : ℕ) (p : LinkValues) (k : Key) → IsServedRequest r → IsWellFormed r p → HasNoBox s → IsAdmitted s r now p k → IsFetch r → IsFirstToFail (Rule s r now) rule.NoSuchBox
+without_box s r now p k served formed none a fetch = record {
   parts = p;
   before = rules_before s r now p rule.NoSuchBox (omega arith) (λ q lt. formed q) (link_holds s r now p k 27 a)
       (form_before s r p 27 served (λ lt post. absurd (fetch_no_post r fetch post)) (λ lt put. fetch_no_put r fetch put)) (λ lt. absurd (omega arith));
   fails = λ o hold bad. none_some (get s.boxes (place_of o.path).box) (none (place_of o.path).box) (bad.fetch fetch);
 }
+
+pub remains : (s : State) (r : Request) (now : ℕ) (p : LinkValues) (k : Key) (m : Method) (role : Role) → r.method ≡ method_text m → k.role ≡ role → IsServedRequest r → IsWellFormed r p → HasNoBox s
+    → IsAdmitted s r now p k → IsFirstToFail (Rule s r now) (remaining m role)
+remains s r now p k method.Post Link post link served formed none a = record {
+  parts = p;
+  before = link_rules s r now p rule.RoleNotAllowed (omega arith) served formed (link_holds s r now p k 24 a);
+  fails = λ o hold bad.
+      let same = same_parts s r now p o rule.RoleNotAllowed (omega arith) formed hold in
+      let role = subst (λ (q : LinkValues). IfSome (get s.keys q.key_id) (λ x. x.role ≡ Clerk)) same (bad.form post) in
+      no_link (sym link ∙ its_role (get s.keys p.key_id) k (λ x. x ≡ Clerk) a.key.there role);
+}
+  where
+    no_link : Link ≡ Clerk → ⊥
+    no_link e = cc
+remains s r now p k method.Post Clerk post clerk served formed none a = record {
+  parts = p;
+  before = rules_before s r now p rule.CommandMalformed (omega arith) (λ q lt. formed q) (link_holds s r now p k 35 a)
+      (form_before s r p 35 served (λ lt is. some_role (get s.keys p.key_id) k (λ x. x ≡ Clerk) a.key.there clerk) (λ lt put. put_no_post r put post)) (λ lt. post);
+  fails = λ o hold bad. (bad.post post).1.is_command;
+}
+remains s r now p k method.Put role put is served formed none a = record {
+  parts = p;
+  before = rules_before s r now p rule.LengthMissing (omega arith) (λ q lt. formed q) (link_holds s r now p k 25 a)
+      (form_before s r p 25 served (λ lt post. absurd (put_no_post r put post)) (λ lt. absurd (omega arith))) (λ lt. absurd (omega arith));
+  fails = λ o hold bad. clash r.has_length served.no_length (bad.form put);
+}
+remains s r now p k method.Get role get is served formed none a = without_box s r now p k served formed none a (inl get)
+remains s r now p k method.Head role head is served formed none a = without_box s r now p k served formed none a (inr head)

@@ -3,6 +3,8 @@ pub mod Lookups
 pub mod Deciding
 pub mod Answered
 pub mod Handlings
+pub mod ToldMoments
+pub mod ReplayLemmas
 pub mod Fronts
 pub mod SessionEnds
 pub mod Kept
@@ -13,6 +15,6 @@ pub mod TaskExamples
 pub mod TaskNames
 pub mod TaskValues
 mod Admission
-mod SoundOffice
-pub mod Methods
+pub mod SoundOffice
 pub mod Judged
+pub mod StopLemmas

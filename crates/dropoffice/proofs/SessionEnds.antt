@@ -1,5 +1,5 @@
 -- A session of one message, by how it ended.
-use Rattle.std.proofs.Common.{◌≡◌, ℕ, ◌+◌, ◌<◌, List, [], ◌∷◌, ◌++◌, length, take, drop, Option, Some, None, refl, sym, ap, subst, ◌∙◌, arith, length-append, append_assoc, take-append-drop}
+use Rattle.std.proofs.Common.{◌≡◌, ℕ, ◌+◌, ◌<◌, true, false, List, [], ◌∷◌, ◌++◌, length, take, drop, Option, Some, None, refl, sym, ap, subst, ◌∙◌, arith, length-append, append_assoc, take-append-drop}
 use Rattle.std.specs.Io.KnownBytes.{Appends, Consumes, IsAtEnd}
 use Rattle.std.proofs.KnownBytes.{Appends-nil}
 use Rattle.std.proofs.lemmas.List.{append-nil}
@@ -13,6 +13,7 @@ use Rattle.dropoffice.specs.declared.handling.Handled.TheVariants as handled
 use Rattle.dropoffice.specs.declared.session.SessionEnd.TheVariants.{Ended, Refused, ReadFault, WriteFault, Unserved}
 use Rattle.dropoffice.specs.Connections.{IsKnown, Serves}
 use Rattle.dropoffice.specs.Handling.{Handles, answered, gave_up_at, broke, broke_giving_up_at}
+use Rattle.dropoffice.specs.Kept.{IsLeft}
 use Rattle.dropoffice.specs.Sessions.{Session, closing}
 use Rattle.dropoffice.specs.Sessions as session
 use Rattle.dropoffice.specs.Streams.{IsMessage}
@@ -45,78 +46,67 @@ headless bytes none r rest next = let m = made bytes r rest next in none m.has.f
 
 -- ---- the ends
 
-pub ends : {C : Type 0} (gives : C → ℕ → C → Type 0) (clock clock' : C) (input input' output output' : Option (List ℕ)) (means : State → Type 0) (s : State) (r : Request) (bytes : List ℕ)
-    → Consumes input input' bytes → IsAtEnd input' → IsMessage bytes r → Handles gives clock clock' output output' means s r handled.Answered
-    → (after : State) × means after × Serves gives input input' output output' clock clock' s after Ended
-ends gives clock clock' input input' output output' means s r bytes read end message (answered now text after told written same answers) = (
+pub ends : {C : Type 0} (gives : C → ℕ → C → Type 0) (clock clock' : C) (input input' output output' : Option (List ℕ)) (count count' : ℕ) (means : State → Type 0) (s : State) (r : Request) (bytes : List ℕ)
+    → Consumes input input' bytes → IsAtEnd input' → IsMessage bytes r → Handles gives clock clock' output output' count count' means s r handled.Answered
+    → (after : State) × IsLeft means after × Serves gives input input' output output' clock clock' count count' s after Ended
+ends gives clock clock' input input' output output' count count' means s r bytes read end message (answered now text after told written counted same answers) = (
   after,
   same,
   record {
     stream = bytes;
     moments = now ∷ [];
     answers = text ++ [];
-    read = known_end input input' bytes read end;
+    gave_up = false;
+    read = (known_end input input' bytes read end, end);
     told = (clock', told, refl);
     written = subst (Appends output output') (sym (append-nil text)) written;
-    session = session.served 999 bytes [] s after after r now [] text [] Ended (message_alone bytes r message) answers (session.ended 998 [] after (frame.ended refl));
+    counted = counted;
+    session = session.served 999 bytes [] s after after r now [] text [] Ended false (message_alone bytes r message) answers (session.ended 998 [] after (frame.ended refl));
   },
 )
 
-pub ends_by_fault : {C : Type 0} (gives : C → ℕ → C → Type 0) (clock clock' : C) (input input' output output' : Option (List ℕ)) (means : State → Type 0) (s : State) (r : Request) (bytes : List ℕ)
-    → Consumes input input' bytes → IsMessage bytes r → Handles gives clock clock' output output' means s r handled.Answered
-    → (after : State) × means after × Serves gives input input' output output' clock clock' s after ReadFault
-ends_by_fault gives clock clock' input input' output output' means s r bytes read message (answered now text after told written same answers) = (
+pub ends_by_fault : {C : Type 0} (gives : C → ℕ → C → Type 0) (clock clock' : C) (input input' output output' : Option (List ℕ)) (count count' : ℕ) (means : State → Type 0) (s : State) (r : Request) (bytes : List ℕ)
+    → Consumes input input' bytes → IsMessage bytes r → Handles gives clock clock' output output' count count' means s r handled.Answered
+    → (after : State) × IsLeft means after × Serves gives input input' output output' clock clock' count count' s after ReadFault
+ends_by_fault gives clock clock' input input' output output' count count' means s r bytes read message (answered now text after told written counted same answers) = (
   after,
   same,
   record {
     stream = bytes;
     moments = now ∷ [];
     answers = text ++ [];
+    gave_up = false;
     read = read;
     told = (clock', told, refl);
     written = subst (Appends output output') (sym (append-nil text)) written;
-    session = session.served 999 bytes [] s after after r now [] text [] ReadFault (message_alone bytes r message) answers (session.read_failed 998 [] after no_message);
+    counted = counted;
+    session = session.served 999 bytes [] s after after r now [] text [] ReadFault false (message_alone bytes r message) answers (session.read_failed 998 [] after no_message);
   },
 )
 
-pub fails_before : {C : Type 0} (gives : C → ℕ → C → Type 0) (clock : C) (input input' output : Option (List ℕ)) (means : State → Type 0) (s : State) (bytes : List ℕ)
-    → Consumes input input' bytes → HasNoHeadEnd bytes → means s → (after : State) × means after × Serves gives input input' output output clock clock s after ReadFault
-fails_before gives clock input input' output means s bytes read none same = (
+pub gives_up : {C : Type 0} (gives : C → ℕ → C → Type 0) (clock clock' : C) (input input' output output' : Option (List ℕ)) (count count' : ℕ) (means : State → Type 0) (s : State) (r : Request) (bytes : List ℕ)
+    → Consumes input input' bytes → IsMessage bytes r → Handles gives clock clock' output output' count count' means s r handled.GaveUp
+    → (after : State) × IsLeft means after × Serves gives input input' output output' clock clock' count count' s after (Refused 40)
+gives_up gives clock clock' input input' output output' count count' means s r bytes read message (gave_up_at now told written less readable same) = (
   s,
   same,
   record {
     stream = bytes;
-    moments = [];
-    answers = [];
+    moments = now ∷ [];
+    answers = closing rule.TryAgain;
+    gave_up = true;
     read = read;
-    told = refl;
-    written = Appends-nil output;
-    session = session.read_failed 999 bytes s (headless bytes none);
+    told = (clock', told, refl);
+    written = written;
+    counted = less;
+    session = session.gave_up_at 999 bytes [] s r now (message_alone bytes r message) readable;
   },
 )
 
-pub gives_up : {C : Type 0} (gives : C → ℕ → C → Type 0) (clock clock' : C) (input input' output output' : Option (List ℕ)) (means : State → Type 0) (s : State) (r : Request) (bytes : List ℕ)
-    → Consumes input input' bytes → IsMessage bytes r → Handles gives clock clock' output output' means s r handled.GaveUp
-    → (after : State) × means after × Serves gives input input' output output' clock clock' s after (Refused 40)
-gives_up gives clock clock' input input' output output' means s r bytes read message (gave_up_at now told written same) =
-    let whole = known_whole input input' bytes read in (
-      s,
-      same,
-      record {
-        stream = bytes ++ whole.0;
-        moments = now ∷ [];
-        answers = closing rule.TryAgain;
-        read = whole.1;
-        told = (clock', told, refl);
-        written = written;
-        session = session.gave_up_at 999 (bytes ++ whole.0) whole.0 s r now (message whole.0);
-      },
-    )
-
-pub breaks : {C : Type 0} (gives : C → ℕ → C → Type 0) (clock clock' : C) (input input' output output' : Option (List ℕ)) (means : State → Type 0) (s : State) (r : Request) (bytes : List ℕ)
-    → Consumes input input' bytes → IsMessage bytes r → Handles gives clock clock' output output' means s r handled.Broken
-    → (after : State) × means after × Serves gives input input' output output' clock clock' s after WriteFault
-breaks gives clock clock' input input' output output' means s r bytes read message (broke now text front after told written beginning same answers) =
+pub breaks : {C : Type 0} (gives : C → ℕ → C → Type 0) (clock clock' : C) (input input' output output' : Option (List ℕ)) (count count' : ℕ) (means : State → Type 0) (s : State) (r : Request) (bytes : List ℕ)
+    → Consumes input input' bytes → IsMessage bytes r → Handles gives clock clock' output output' count count' means s r handled.Broken
+    → (after : State) × IsLeft means after × Serves gives input input' output output' clock clock' count count' s after WriteFault
+breaks gives clock clock' input input' output output' count count' means s r bytes read message (broke now text front after told written beginning counted same answers) =
     let whole = known_whole input input' bytes read in (
       after,
       same,
@@ -124,26 +114,29 @@ breaks gives clock clock' input input' output output' means s r bytes read messa
         stream = bytes ++ whole.0;
         moments = now ∷ [];
         answers = front;
+        gave_up = false;
         read = whole.1;
         told = (clock', told, refl);
         written = written;
+        counted = counted;
         session = session.write_failed 999 (bytes ++ whole.0) whole.0 s after r now text front (message whole.0) answers beginning;
       },
     )
-breaks gives clock clock' input input' output output' means s r bytes read message (broke_giving_up_at now front told written beginning same) =
-    let whole = known_whole input input' bytes read in (
-      s,
-      same,
-      record {
-        stream = bytes ++ whole.0;
-        moments = now ∷ [];
-        answers = front;
-        read = whole.1;
-        told = (clock', told, refl);
-        written = written;
-        session = session.write_failed_giving_up_at 999 (bytes ++ whole.0) whole.0 s r now front (message whole.0) beginning;
-      },
-    )
+breaks gives clock clock' input input' output output' count count' means s r bytes read message (broke_giving_up_at now front told written beginning less readable same) = (
+  s,
+  same,
+  record {
+    stream = bytes;
+    moments = now ∷ [];
+    answers = front;
+    gave_up = true;
+    read = read;
+    told = (clock', told, refl);
+    written = written;
+    counted = less;
+    session = session.write_failed_giving_up_at 999 bytes [] s r now front (message_alone bytes r message) readable beginning;
+  },
+)
 
 -- ---- streams that are not served
 
@@ -190,26 +183,61 @@ pub unserved_ended : (input input' : Option (List ℕ)) (bytes stream : List ℕ
 unserved_ended input input' bytes stream read end known none served =
     none (subst IsServed (sym (subst (λ o. IsKnown o bytes) known (known_end input input' bytes read end))) served)
 
--- where nothing was changed
-pub fails_untouched : {C : Type 0} (gives : C → ℕ → C → Type 0) (clock clock' : C) (input input' output output' : Option (List ℕ)) (means : State → Type 0) (s : State) (bytes : List ℕ)
-    → Consumes input input' bytes → HasNoHeadEnd bytes → means s → output' ≡ output → clock' ≡ clock → (after : State) × means after × Serves gives input input' output output' clock clock' s after ReadFault
-fails_untouched gives clock clock' input input' output output' means s bytes read none same written told =
-    subst (λ o. (after : State) × means after × Serves gives input input' output o clock clock' s after ReadFault) (sym written)
-    (subst (λ d. (after : State) × means after × Serves gives input input' output output clock d s after ReadFault) (sym told) (fails_before gives clock input input' output means s bytes read none same))
+-- ---- where nothing was changed
 
--- where the stream is not served, and nothing was changed
-pub stays_unserved : {C : Type 0} (gives : C → ℕ → C → Type 0) (clock clock' : C) (input input' output output' : Option (List ℕ)) (means : State → Type 0) (s : State)
-    → ((stream : List ℕ) → input ≡ Some stream → IsServed stream → ⊥) → means s → output' ≡ output → clock' ≡ clock → (after : State) × means after × Serves gives input input' output output' clock clock' s after Unserved
-stays_unserved gives clock clock' input input' output output' means s other same written told =
-    subst (λ o. (after : State) × means after × Serves gives input input' output o clock clock' s after Unserved) (sym written)
-    (subst (λ d. (after : State) × means after × Serves gives input input' output output clock d s after Unserved) (sym told) (s, same, still gives clock input input' output s other))
-  where
-    nothing : IsServed [] → ⊥
-    nothing served = no_message served.request [] served.next
+nothing_written : (output output' : Option (List ℕ)) → output' ≡ output → Appends output output' []
+nothing_written output output' e = subst (λ (o : Option (List ℕ)). Appends output o []) (sym e) (Appends-nil output)
 
-    still : {C : Type 0} (gives : C → ℕ → C → Type 0) (clock : C) (input input' output : Option (List ℕ)) (s : State)
-        → ((stream : List ℕ) → input ≡ Some stream → IsServed stream → ⊥) → Serves gives input input' output output clock clock s s Unserved
-    still gives clock None input' output s other =
-        record { stream = []; moments = []; answers = []; read = tt; told = refl; written = Appends-nil output; session = session.unserved 999 [] s nothing }
-    still gives clock (Some xs) input' output s other =
-        record { stream = xs; moments = []; answers = []; read = refl; told = refl; written = Appends-nil output; session = session.unserved 999 xs s (other xs refl) }
+pub fails_untouched : {C : Type 0} (gives : C → ℕ → C → Type 0) (clock clock' : C) (input input' output output' : Option (List ℕ)) (count count' : ℕ) (means : State → Type 0) (s : State) (bytes : List ℕ)
+    → Consumes input input' bytes → HasNoHeadEnd bytes → IsLeft means s → output' ≡ output → clock' ≡ clock → count' ≡ count
+    → (after : State) × IsLeft means after × Serves gives input input' output output' clock clock' count count' s after ReadFault
+fails_untouched gives clock clock' input input' output output' count count' means s bytes read none same written told counted = (
+  s,
+  same,
+  record {
+    stream = bytes;
+    moments = [];
+    answers = [];
+    gave_up = false;
+    read = read;
+    told = sym told;
+    written = nothing_written output output' written;
+    counted = counted;
+    session = session.read_failed 999 bytes s (headless bytes none);
+  },
+)
+
+-- where the stream is not served
+pub stays_unserved : {C : Type 0} (gives : C → ℕ → C → Type 0) (clock clock' : C) (input input' output output' : Option (List ℕ)) (count count' : ℕ) (means : State → Type 0) (s : State)
+    → ((stream : List ℕ) → input ≡ Some stream → IsServed stream → ⊥) → IsLeft means s → output' ≡ output → clock' ≡ clock → count' ≡ count
+    → (after : State) × IsLeft means after × Serves gives input input' output output' clock clock' count count' s after Unserved
+stays_unserved gives clock clock' None input' output output' count count' means s other same written told counted = (
+  s,
+  same,
+  record {
+    stream = [];
+    moments = [];
+    answers = [];
+    gave_up = false;
+    read = tt;
+    told = sym told;
+    written = nothing_written output output' written;
+    counted = counted;
+    session = session.unserved 999 [] s (λ served. no_message served.request [] served.next);
+  },
+)
+stays_unserved gives clock clock' (Some xs) input' output output' count count' means s other same written told counted = (
+  s,
+  same,
+  record {
+    stream = xs;
+    moments = [];
+    answers = [];
+    gave_up = false;
+    read = refl;
+    told = sym told;
+    written = nothing_written output output' written;
+    counted = counted;
+    session = session.unserved 999 xs s (other xs refl);
+  },
+)

@@ -5,37 +5,37 @@ use Rattle.sigtext.specs.Bytes.{same_bytes}
 use Rattle.sigtext.specs.Request.{Request}
 use Rattle.sigtext.specs.Rules.{IsFirstToFail, AllHold}
 use Rattle.hex.specs.Hex.{encode_lower}
-use Rattle.links.specs.WellFormed.{Parts}
+use Rattle.links.specs.WellFormed.{LinkValues}
 use Rattle.boxes.specs.State.{State}
 use Rattle.boxes.specs.Steps as step
-use Rattle.wire.specs.Answers.{Reply, Refused, Kept, Found, Done, answer_text}
+use Rattle.wire.specs.Answers.{Said, Refused, Kept, Found, Done, answer_text}
 use Rattle.dropoffice.specs.Rules.{IsPut, IsFetch, IsPost, place_of, upload_of, Asks, Rule}
 
 -- a step's reply, as it is written
-abbrev pub shown : step.Reply → Reply
+abbrev pub shown : step.StepReply → Said
 shown (step.Kept number receipt) = Kept number receipt.size (encode_lower receipt.digest)
 shown (step.Found number receipt bytes) = Found number (encode_lower receipt.digest) bytes
 shown step.Done = Done
 
 -- a request that holds every rule is done by its method
-pub data Accepts (s : State) (r : Request) (now : ℕ) : step.Reply → State → Type 0 where
-  put : (p : Parts) (reply : step.Reply) (after : State) → AllHold (Rule s r now) p → IsPut r
+pub data Accepts (s : State) (r : Request) (now : ℕ) : step.StepReply → State → Type 0 where
+  put : (p : LinkValues) (reply : step.StepReply) (after : State) → AllHold (Rule s r now) p → IsPut r
       → step.UploadStep s (upload_of r now p) reply after → Accepts s r now reply after
-  fetch : (p : Parts) (reply : step.Reply) (after : State) → AllHold (Rule s r now) p → IsFetch r
+  fetch : (p : LinkValues) (reply : step.StepReply) (after : State) → AllHold (Rule s r now) p → IsFetch r
       → step.FetchStep s (place_of p.path) reply after → Accepts s r now reply after
-  post : (p : Parts) (order : step.Order) (after : State) → AllHold (Rule s r now) p → IsPost r
-      → Asks p order → step.OrderStep s order after → Accepts s r now step.Done after
+  post : (p : LinkValues) (command : step.Command) (after : State) → AllHold (Rule s r now) p → IsPost r
+      → Asks p command → step.CommandStep s command after → Accepts s r now step.Done after
 
 -- the least rule that fails refuses the request, and nothing changes; else it is accepted
-pub data Replies (s : State) (r : Request) (now : ℕ) : Reply → State → Type 0 where
+pub data Replies (s : State) (r : Request) (now : ℕ) : Said → State → Type 0 where
   refuses : (q : Refusal) → IsFirstToFail (Rule s r now) q → Replies s r now (Refused q) s
-  accepts : (reply : step.Reply) (after : State) → Accepts s r now reply after → Replies s r now (shown reply) after
+  accepts : (reply : step.StepReply) (after : State) → Accepts s r now reply after → Replies s r now (shown reply) after
 
 abbrev pub is_head : Request → Bool
 is_head r = same_bytes r.method (codes "HEAD")
 
 -- the text of the answer, and the state after it
 pub record Answers (s : State) (r : Request) (now : ℕ) (text : List ℕ) (after : State) : Type 0 where
-  pub reply : Reply
+  pub reply : Said
   pub replies : Replies s r now reply after
   pub is : text ≡ answer_text (is_head r) reply

@@ -1,5 +1,5 @@
 -- What a listed clock tells.
-use Rattle.std.specs.Prelude.{◌≡◌, ℕ, List, [], ◌∷◌}
+use Rattle.std.specs.Prelude.{◌≡◌, ℕ, zero, suc, List, [], ◌∷◌}
 use Rattle.dropoffice.specs.declared.clocks.ListedClock.{ListedClock}
 
 -- the moment after one, and those after that
@@ -10,3 +10,9 @@ NextOf first (m ∷ ms) next rest = (next ≡ m) × (rest ≡ ms)
 -- the first moment is told, and the next is the first of the others; the last one stays
 abbrev pub TellsNext : ListedClock → ℕ → ListedClock → Type 0
 TellsNext c m d = (m ≡ c.first) × NextOf c.first c.others.now d.first d.others.now
+
+-- n moments of a list, whose last is repeated
+abbrev pub listed : ℕ → ℕ → List ℕ → List ℕ
+listed zero first others = []
+listed (suc n) first [] = first ∷ listed n first []
+listed (suc n) first (m ∷ ms) = first ∷ listed n m ms

@@ -12,3 +12,5 @@ pub mod Streams
 pub mod Tasks
 pub mod Remaining
 pub mod Asked
+pub mod Kept
+pub mod Replays

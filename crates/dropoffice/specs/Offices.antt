@@ -1,17 +1,18 @@
 -- What an office's answer is.
-use Rattle.std.specs.Prelude.{◌≢◌, ℕ, false}
+use Rattle.std.specs.Prelude.{◌≡◌, ℕ}
 use Rattle.sigtext.specs.declared.refusal.Refusal.TheVariants as rule
 use Rattle.sigtext.specs.Request.{Request}
 use Rattle.boxes.specs.State.{State}
 use Rattle.wire.specs.declared.answer.Answer.{Answer}
 use Rattle.wire.specs.declared.answer.Reply.TheVariants as reply
-use Rattle.wire.specs.Shown.{text_of}
+use Rattle.wire.specs.Shown.{whole_text}
 use Rattle.dropoffice.specs.Answering.{Answers}
+use Rattle.dropoffice.specs.Kept.{IsLeft}
 
--- refusal 40
-abbrev pub try_again : Answer
-try_again = record { reply = reply.Refused rule.TryAgain; is_head = false }
+-- it is refusal 40
+abbrev pub IsTryAgain : Answer → Type 0
+IsTryAgain a = a.reply ≡ reply.Refused rule.TryAgain
 
--- unless it is refusal 40: the text is the machine's, and the keeper means the state after it
+-- unless it is refusal 40: the text is the machine's, and the keeper means the state after it, which is sound
 abbrev pub IsAnswered : (State → Type 0) → State → Request → ℕ → Answer → Type 0
-IsAnswered means s r now a = (a ≢ try_again) → (after : State) × means after × Answers s r now (text_of a) after
+IsAnswered means s r now a = (IsTryAgain a → ⊥) → (after : State) × IsLeft means after × Answers s r now (whole_text a) after

@@ -1,13 +1,15 @@
--- The rule that fails where a link is admitted: there is no box, no body and no desk.
-use Rattle.std.specs.Prelude.{◌≡◌, ◌≢◌, ◌⊎◌, ℕ, List, codes}
-use Rattle.boxes.specs.declared.rows.Role.{Role}
-use Rattle.boxes.specs.declared.rows.Role.TheVariants.{Clerk}
+-- What is refused where a link is admitted, and there is no box, no body and no desk.
 use Rattle.sigtext.specs.declared.refusal.Refusal.{Refusal}
 use Rattle.sigtext.specs.declared.refusal.Refusal.TheVariants as rule
+use Rattle.links.specs.declared.methods.Method.{Method}
+use Rattle.links.specs.declared.methods.Method.TheVariants as method
+use Rattle.boxes.specs.declared.rows.Role.{Role}
+use Rattle.boxes.specs.declared.rows.Role.TheVariants.{Clerk, Link}
 
--- what is refused to each method, and for POST to each role
-pub data Remains (method : List ℕ) (role : Role) : Refusal → Type 0 where
-  no_clerk : method ≡ codes "POST" → (role ≢ Clerk) → Remains method role rule.RoleNotAllowed
-  no_command : method ≡ codes "POST" → role ≡ Clerk → Remains method role rule.CommandMalformed
-  no_length : method ≡ codes "PUT" → Remains method role rule.LengthMissing
-  no_box : (method ≡ codes "GET") ⊎ (method ≡ codes "HEAD") → Remains method role rule.NoSuchBox
+-- to each method, and for POST to each role
+abbrev pub remaining : Method → Role → Refusal
+remaining method.Post Clerk = rule.CommandMalformed
+remaining method.Post Link = rule.RoleNotAllowed
+remaining method.Put role = rule.LengthMissing
+remaining method.Get role = rule.NoSuchBox
+remaining method.Head role = rule.NoSuchBox

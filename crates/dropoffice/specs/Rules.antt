@@ -5,12 +5,14 @@ use Rattle.std.specs.FinMap.{get}
 use Rattle.sigtext.specs.declared.refusal.Refusal.{Refusal}
 use Rattle.sigtext.specs.declared.refusal.Refusal.TheVariants as rule
 use Rattle.sigtext.specs.Request.{Request}
-use Rattle.links.specs.WellFormed.{Parts, HeadRule, HasValue}
+use Rattle.links.specs.WellFormed.{LinkValues, HeadRule, HasValue}
 use Rattle.links.specs.Admits.{KnownKey, LinkRule}
+use Rattle.links.specs.Moments.{at}
 use Rattle.boxes.specs.declared.rows.Role.TheVariants.{Clerk}
 use Rattle.boxes.specs.State.{Place, State}
 use Rattle.boxes.specs.Rules.{Upload, UploadRule, FetchRule}
-use Rattle.boxes.specs.Steps.{Order, IsPossible}
+use Rattle.boxes.specs.Commands.{HasForm}
+use Rattle.boxes.specs.Steps.{Command, IsPossible}
 
 abbrev pub IsPut : Request → Type 0
 IsPut r = r.method ≡ codes "PUT"
@@ -31,37 +33,38 @@ abbrev pub known : State → List ℕ → Option KnownKey
 known s id = option_map (λ k. record { secret = k.secret; revoked = k.revoked }) (get s.keys id)
 
 -- the upload that a request is
-abbrev pub upload_of : Request → ℕ → Parts → Upload
+abbrev pub upload_of : Request → ℕ → LinkValues → Upload
 upload_of r now p = record { place = place_of p.path; bytes = r.body; now = now; key = p.key_id }
 
 -- 24 to 26: the role of the key, and whether a body belongs to the method
-abbrev pub FormRule : Refusal → State → Request → Parts → Type 0
+abbrev pub FormRule : Refusal → State → Request → LinkValues → Type 0
 FormRule rule.RoleNotAllowed s r p = IsPost r → IfSome (get s.keys p.key_id) (λ k. k.role ≡ Clerk)
 FormRule rule.LengthMissing s r p = IsPut r → IsTrue r.has_length
 FormRule rule.BodyNotTaken s r p = (r.method ≢ codes "PUT") → r.body ≡ []
 FormRule _ s r p = ⊤
 
 -- the text is a desk command. No command has a form until the desk is served.
-abbrev pub IsCommand : List ℕ → Order → Type 0
-IsCommand text order = ⊥
+abbrev pub IsCommand : List ℕ → Command → Type 0
+IsCommand text command = ⊥
 
--- the path is `/`, and the parameter `desk` holds this command
-pub record Asks (p : Parts) (order : Order) : Type 0 where
+-- the path is `/`, and the parameter `desk` holds this command, which has its form
+pub record Asks (p : LinkValues) (command : Command) : Type 0 where
   pub at_desk : p.path ≡ 47 ∷ []
   pub text : List ℕ
   pub given : HasValue p.params (codes "desk") text
-  pub is_command : IsCommand text order
+  pub is_command : IsCommand text command
+  pub form : HasForm command
 
 -- 35 and 36
-abbrev pub DeskRule : Refusal → State → Parts → Type 0
-DeskRule rule.CommandMalformed s p = (order : Order) × Asks p order
-DeskRule rule.CommandNotPossible s p = (order : Order) × Asks p order × IsPossible s order
+abbrev pub DeskRule : Refusal → State → LinkValues → Type 0
+DeskRule rule.CommandMalformed s p = (command : Command) × Asks p command
+DeskRule rule.CommandNotPossible s p = (command : Command) × Asks p command × IsPossible s command
 DeskRule _ s p = ⊤
 
 -- the rule that this refusal reports. A refusal of framing, and that of want of memory, have none.
-pub record Rule (s : State) (r : Request) (now : ℕ) (q : Refusal) (p : Parts) : Type 0 where
+pub record Rule (s : State) (r : Request) (now : ℕ) (q : Refusal) (p : LinkValues) : Type 0 where
   pub head : HeadRule q r p
-  pub link : LinkRule q (known s p.key_id) r now p
+  pub link : LinkRule q (known s p.key_id) r (at now) p
   pub form : FormRule q s r p
   pub put : IsPut r → UploadRule q s (upload_of r now p)
   pub fetch : IsFetch r → FetchRule q s (place_of p.path)

@@ -1,5 +1,5 @@
 -- A connection, and a list of connections.
-use Rattle.std.specs.Prelude.{◌≡◌, ℕ, zero, suc, false, List, [], ◌∷◌, ◌++◌}
+use Rattle.std.specs.Prelude.{◌≡◌, ℕ, zero, suc, Bool, true, false, List, [], ◌∷◌, ◌++◌}
 use Rattle.sigtext.specs.declared.refusal.Refusal.{Refusal}
 use Rattle.sigtext.specs.declared.refusal.Refusal.TheVariants as rule
 use Rattle.sigtext.specs.Refusals.{number_of}
@@ -13,42 +13,47 @@ use Rattle.sigtext.specs.Bytes.{IsBeginning}
 use Rattle.dropoffice.specs.declared.session.SessionEnd.{SessionEnd}
 use Rattle.dropoffice.specs.declared.session.SessionEnd.TheVariants.{Ended, Truncated, Refused, Limit, ReadFault, WriteFault, Unserved}
 use Rattle.dropoffice.specs.Answering.{Answers}
+use Rattle.dropoffice.specs.Asked.{IsReadable}
 use Rattle.dropoffice.specs.Served.{IsServed}
 
 -- the text of a refusal that closes the connection
 abbrev pub closing : Refusal → List ℕ
 closing q = answer_text false (answer.Refused q)
 
+-- no message stands whole at the front of the stream
+abbrev pub HasNoMessage : List ℕ → Type 0
+HasNoMessage stream = (r : Request) (rest : List ℕ) → Next stream (frame.Message r) rest → ⊥
+
 -- Up to n further messages of a stream are served from a state. This takes the moments, one for each
--- message that was read whole, writes the bytes, ends so, and leaves the last state.
-pub data Session : ℕ → List ℕ → State → List ℕ → List ℕ → SessionEnd → State → Type 0 where
-  limit : (stream : List ℕ) (s : State) → Session zero stream s [] [] Limit s
-  ended : (n : ℕ) (stream : List ℕ) (s : State) → Next stream frame.Ended [] → Session (suc n) stream s [] [] Ended s
-  truncated : (n : ℕ) (stream : List ℕ) (s : State) → Next stream frame.Truncated [] → Session (suc n) stream s [] [] Truncated s
+-- message that was read whole, writes the bytes, ends so, and leaves the last state. The mark says
+-- whether the session gave up: whether refusal 40 is its last answer, written or begun.
+pub data Session : ℕ → List ℕ → State → List ℕ → List ℕ → SessionEnd → Bool → State → Type 0 where
+  limit : (stream : List ℕ) (s : State) → Session zero stream s [] [] Limit false s
+  ended : (n : ℕ) (stream : List ℕ) (s : State) → Next stream frame.Ended [] → Session (suc n) stream s [] [] Ended false s
+  truncated : (n : ℕ) (stream : List ℕ) (s : State) → Next stream frame.Truncated [] → Session (suc n) stream s [] [] Truncated false s
   unframed : (n : ℕ) (stream : List ℕ) (s : State) (q : Refusal) → Next stream (frame.Refused q) []
-      → Session (suc n) stream s [] (closing q) (Refused (number_of q)) s
-  served : (n : ℕ) (stream rest : List ℕ) (s mid after : State) (r : Request) (now : ℕ) (moments text out : List ℕ) (e : SessionEnd)
-      → Next stream (frame.Message r) rest → Answers s r now text mid → Session n rest mid moments out e after
-      → Session (suc n) stream s (now ∷ moments) (text ++ out) e after
-  -- memory was refused, or the keeper counted a fault: before a message, or at one
-  gave_up : (n : ℕ) (stream : List ℕ) (s : State) → Session (suc n) stream s [] (closing rule.TryAgain) (Refused 40) s
-  gave_up_at : (n : ℕ) (stream rest : List ℕ) (s : State) (r : Request) (now : ℕ) → Next stream (frame.Message r) rest
-      → Session (suc n) stream s (now ∷ []) (closing rule.TryAgain) (Refused 40) s
+      → Session (suc n) stream s [] (closing q) (Refused (number_of q)) false s
+  served : (n : ℕ) (stream rest : List ℕ) (s mid after : State) (r : Request) (now : ℕ) (moments text out : List ℕ) (e : SessionEnd) (gave_up : Bool)
+      → Next stream (frame.Message r) rest → Answers s r now text mid → Session n rest mid moments out e gave_up after
+      → Session (suc n) stream s (now ∷ moments) (text ++ out) e gave_up after
+  -- memory was refused, or the keeper counted a fault: where no message stands whole yet, or at one
+  gave_up : (n : ℕ) (stream : List ℕ) (s : State) → HasNoMessage stream → Session (suc n) stream s [] (closing rule.TryAgain) (Refused 40) true s
+  gave_up_at : (n : ℕ) (stream rest : List ℕ) (s : State) (r : Request) (now : ℕ) → Next stream (frame.Message r) rest → IsReadable r
+      → Session (suc n) stream s (now ∷ []) (closing rule.TryAgain) (Refused 40) true s
   -- the stream is not of the kind that is served so far
-  unserved : (n : ℕ) (stream : List ℕ) (s : State) → (IsServed stream → ⊥) → Session (suc n) stream s [] [] Unserved s
+  unserved : (n : ℕ) (stream : List ℕ) (s : State) → (IsServed stream → ⊥) → Session (suc n) stream s [] [] Unserved false s
   -- a read failed, and no further message stands whole in the bytes read before it
-  read_failed : (n : ℕ) (stream : List ℕ) (s : State) → ((r : Request) (rest : List ℕ) → Next stream (frame.Message r) rest → ⊥)
-      → Session (suc n) stream s [] [] ReadFault s
+  read_failed : (n : ℕ) (stream : List ℕ) (s : State) → HasNoMessage stream → Session (suc n) stream s [] [] ReadFault false s
   -- a write failed, and a beginning of the answer was written; the request has taken effect, or was refused
   write_failed : (n : ℕ) (stream rest : List ℕ) (s after : State) (r : Request) (now : ℕ) (text front : List ℕ)
       → Next stream (frame.Message r) rest → Answers s r now text after → IsBeginning front text
-      → Session (suc n) stream s (now ∷ []) front WriteFault after
+      → Session (suc n) stream s (now ∷ []) front WriteFault false after
   write_failed_unframed : (n : ℕ) (stream : List ℕ) (s : State) (q : Refusal) (front : List ℕ) → Next stream (frame.Refused q) []
-      → IsBeginning front (closing q) → Session (suc n) stream s [] front WriteFault s
-  write_failed_giving_up : (n : ℕ) (stream : List ℕ) (s : State) (front : List ℕ)
-      → IsBeginning front (closing rule.TryAgain) → Session (suc n) stream s [] front WriteFault s
+      → IsBeginning front (closing q) → Session (suc n) stream s [] front WriteFault false s
+  write_failed_giving_up : (n : ℕ) (stream : List ℕ) (s : State) (front : List ℕ) → HasNoMessage stream
+      → IsBeginning front (closing rule.TryAgain) → Session (suc n) stream s [] front WriteFault true s
   write_failed_giving_up_at : (n : ℕ) (stream rest : List ℕ) (s : State) (r : Request) (now : ℕ) (front : List ℕ) → Next stream (frame.Message r) rest
-      → IsBeginning front (closing rule.TryAgain) → Session (suc n) stream s (now ∷ []) front WriteFault s
+      → IsReadable r → IsBeginning front (closing rule.TryAgain) → Session (suc n) stream s (now ∷ []) front WriteFault true s
 
 -- how many messages a connection is served
 abbrev pub most_messages : ℕ
@@ -59,10 +64,11 @@ pub record Connection : Type 0 where
   pub stream : List ℕ
   pub answers : List ℕ
   pub end : SessionEnd
+  pub gave_up : Bool
 
 -- the connections one after another
 abbrev pub Run : State → List Connection → List ℕ → State → Type 0
 Run s [] moments after = (moments ≡ []) × (after ≡ s)
 Run s (c ∷ cs) moments after =
     (first others : List ℕ) × (mid : State) × (moments ≡ first ++ others)
-    × Session most_messages c.stream s first c.answers c.end mid × Run mid cs others after
+    × Session most_messages c.stream s first c.answers c.end c.gave_up mid × Run mid cs others after

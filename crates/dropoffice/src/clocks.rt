@@ -5,8 +5,8 @@ use sigv4::Moment;
 
 /// A clock that tells moments.
 pub trait Clock {
-    /// What one call may tell, and the clock after it. Where a clock does not say: any moment.
-    ghost now_gives: { Self → ℕ → Self → Type 0 } = { λ _ _ _. Unit {0} };
+    /// What one call may tell, and the clock after it.
+    ghost now_gives: { Self → ℕ → Self → Type 0 };
 
     /// The moment now.
     fn now(&mut self) -> Moment
@@ -16,7 +16,20 @@ pub trait Clock {
 /// A clock that stands still.
 #[derive(Clone, Copy, Debug)]
 pub struct FixedClock {
-    pub moment: Moment,
+    moment: Moment,
+}
+
+impl FixedClock {
+    ghost use Rattle.std.specs.Prelude.{◌≡◌, ℕ, List, length, replicate};
+    ghost use Rattle.dropoffice.specs.Connections.{Told};
+
+    /// A clock that tells this moment, however often it is asked.
+    pub fn new(moment: Moment) -> FixedClock
+        ensures { (moments : List ℕ) (later : FixedClock) → Told ⟦<FixedClock as Clock>⟧.now_gives result moments later
+            → moments ≡ replicate (length moments) moment }
+    {
+        FixedClock { moment }
+    }
 }
 
 impl Clock for FixedClock {
@@ -32,10 +45,24 @@ impl Clock for FixedClock {
 /// A clock that tells the moments of a list one after another, and repeats the last.
 #[derive(Clone, Copy, Debug)]
 pub struct ListedClock<'a> {
-    /// The moment that is told next.
-    pub first: Moment,
-    /// Those after it.
-    pub others: &'a [Moment],
+    // The moment that is told next.
+    first: Moment,
+    // Those after it.
+    others: &'a [Moment],
+}
+
+impl<'a> ListedClock<'a> {
+    ghost use Rattle.std.specs.Prelude.{◌≡◌, ℕ, List, length};
+    ghost use Rattle.dropoffice.specs.Clocks.{listed};
+    ghost use Rattle.dropoffice.specs.Connections.{Told};
+
+    /// A clock that tells the first moment, then the others in their order, and then the last of them for ever.
+    pub fn new(first: Moment, others: &'a [Moment]) -> ListedClock<'a>
+        ensures { (moments : List ℕ) (later : ListedClock) → Told ⟦<ListedClock<'a> as Clock>⟧.now_gives result moments later
+            → moments ≡ listed (length moments) first others.entry.now }
+    {
+        ListedClock { first, others }
+    }
 }
 
 impl Clock for ListedClock<'_> {

@@ -8,20 +8,26 @@ use std::alloc::{AllocError, Global};
 /// An office in memory with offset 0, one unrevoked clerk's key and no boxes.
 #[derive(Drop)]
 pub struct OneKey {
-    pub id: Vec<u8>,
-    pub secret: Vec<u8>,
-    pub faults: u64,
-    pub alloc: Global,
+    id: Vec<u8>,
+    secret: Vec<u8>,
+    faults: u64,
+    alloc: Global,
 }
 
 impl OneKey {
-    ghost use Rattle.std.specs.Prelude.{◌≡◌, IfOk};
+    ghost use Rattle.std.specs.Prelude.{◌≡◌, pos, IfOk};
+    ghost use Rattle.sigv4.specs.Credential.{IsKeyId, IsSecret};
+    ghost use Rattle.boxes.specs.FirstState.{first_state};
+    ghost use Rattle.boxes.specs.Sound.{IsSound};
 
-    /// Keeps copies of the id and the secret. No form is asked of them.
+    /// Keeps copies of the id and the secret. The state is sound where these have their forms; no form is
+    /// asked of them here.
     pub fn new(alloc: Global, id: &[u8], secret: &[u8]) -> Result<OneKey, AllocError>
-        ensures id { IfOk result (λ k. k.id.items ≡ id.now) }
-        ensures secret { IfOk result (λ k. k.secret.items ≡ secret.now) }
-        ensures none { IfOk result (λ k. k.faults ≡ 0) }
+        ensures means { IfOk result (λ k. ⟦<OneKey as Keeper>⟧.means k (first_state (pos 0) id.now secret.now)) }
+        ensures honest { IfOk result (λ k. ⟦<OneKey as Keeper>⟧.is_honest k) }
+        ensures opened { IfOk result (λ k. ⟦<OneKey as Keeper>⟧.is_open k) }
+        ensures none { IfOk result (λ k. ⟦<OneKey as Keeper>⟧.faults k ≡ 0) }
+        ensures sound { IsKeyId id.now → IsSecret secret.now → IsSound (first_state (pos 0) id.now secret.now) }
     {
         Ok(OneKey {
             id: Vec::from_slice(alloc, id)?,
@@ -34,11 +40,13 @@ impl OneKey {
 
 impl Keeper for OneKey {
     ghost use Rattle.std.specs.Prelude.{◌≡◌};
-    ghost use Rattle.dropoffice.specs.OneKey.{state_of};
+    ghost use Rattle.dropoffice.specs.OneKey.{state_of, one_state};
 
     ghost means = { λ k s. s ≡ state_of k };
 
     ghost is_honest = { λ _. Unit {0} };
+
+    ghost is_open = { λ _. Unit {0} };
 
     ghost faults = { λ k. k.faults };
 
@@ -58,4 +66,6 @@ impl Keeper for OneKey {
             }
         }
     }
+
+    ghost one = { λ k s t honest opened a b. one_state k s t a b };
 }

@@ -1,7 +1,8 @@
 //! The program: what its words ask for is done on the streams that it is handed.
-use crate::clocks::FixedClock;
-use crate::one_key::OneKey;
-use crate::serving::Office;
+ghost use Rattle.std.specs.Prelude.{IfSome};
+ghost use Rattle.sigv4.specs.Credential.{IsKeyId, IsSecret};
+
+use crate::replay::replay;
 use crate::session::SessionEnd;
 use crate::task::{Replay, Task};
 use clap::Error as WordsError;
@@ -65,7 +66,7 @@ pub fn perform<R: Files + AllocGlobal>(
     mut err: impl Write + Drop,
 ) -> u8 {
     match Task::read(rt.alloc(), words) {
-        Ok(Task::Replay(replay)) => status_of(do_replay(rt, &replay, out), &mut err),
+        Ok(Task::Replay(words)) => status_of(do_replay(rt, &words, out), &mut err),
         Err(error) => explain(&error, &mut out, &mut err),
     }
 }
@@ -96,19 +97,17 @@ fn explain(error: &WordsError, out: &mut impl Write, err: &mut impl Write) -> u8
 // Answers the one connection that the stream's file holds.
 fn do_replay<'a, R: Files + AllocGlobal>(
     rt: &R,
-    replay: &Replay<'a>,
+    words: &Replay<'a>,
     out: impl Write + Drop,
 ) -> Result<(), Fault<'a>> {
-    let (id, secret) = read_key(replay.file).ok_or(Fault::MalformedValue("file"))?;
-    let moment = read_moment(replay.at).ok_or(Fault::MalformedValue("at"))?;
-    let stream = fs::open(rt, replay.stream).map_err(|_| Fault::CannotRead(replay.stream))?;
-    let mut office = Office::new(rt.alloc(), OneKey::new(rt.alloc(), id, secret)?);
+    let Some((id, secret)) = read_key(words.file) else {
+        return Err(Fault::MalformedValue("file"));
+    };
+    let moment = read_moment(words.at).ok_or(Fault::MalformedValue("at"))?;
+    let stream = fs::open(rt, words.stream).map_err(|_| Fault::CannotRead(words.stream))?;
+    let mut reader = Counted::new(stream);
     let mut writer = Counted::new(out);
-    let end = office.session(
-        &mut Counted::new(stream),
-        &mut writer,
-        &mut FixedClock { moment },
-    );
+    let end = replay(rt.alloc(), id, secret, moment, &mut reader, &mut writer)?;
     writer.flush().map_err(|_| Fault::ConnectionFailed)?;
     match end {
         SessionEnd::ReadFault | SessionEnd::WriteFault => Err(Fault::ConnectionFailed),
@@ -120,7 +119,9 @@ fn do_replay<'a, R: Files + AllocGlobal>(
 }
 
 // The clerk's key of an office in memory, `memory:ID/SECRET`.
-fn read_key(file: &str) -> Option<(&[u8], &[u8])> {
+fn read_key(file: &str) -> Option<(&[u8], &[u8])>
+    ensures { IfSome result (λ key. IsKeyId key.0.now × IsSecret key.1.now) }
+{
     let (id, secret) = file.strip_prefix("memory:")?.split_once('/')?;
     if is_key_id(id.as_bytes()) && is_secret(secret.as_bytes()) {
         Some((id.as_bytes(), secret.as_bytes()))

@@ -1,8 +1,10 @@
+pub mod ServedMethods
 pub mod Values
 pub mod Parts
 pub mod Signing
 pub mod SixLemmas
 pub mod SixForms
+pub mod SixPieces
 pub mod PairLoops
 pub mod LinkRules
 pub mod Inspected

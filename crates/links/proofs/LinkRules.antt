@@ -17,31 +17,30 @@ use Rattle.sigtext.proofs.NamesOnce.{names_once}
 use Rattle.sigv4.specs.Credential.{IsCredential}
 use Rattle.sigv4.specs.Dates.{WritesMoment}
 use Rattle.links.specs.Forms.{IsExpiry, IsSignatureText}
-use Rattle.links.specs.WellFormed.{Parts, HasValue, methods, is_signing_name, AreTheSix, HeadRule, IsWellFormed}
+use Rattle.links.specs.WellFormed.{LinkValues, HasValue, methods, is_signing_name, AreTheSix, HeadRule, IsWellFormed}
 use Rattle.links.proofs.Values.{value_same}
-use Rattle.links.specs.SixValues.{SixParts, SixRule, AreSixOf, AreRightParams, AreWrongParams}
-use Rattle.links.specs.declared.six.SixValues.{SixValues}
+use Rattle.links.specs.SixValues.{SixTexts, SixParts, SixRule, AreSixOf, AreRightParams, AreWrongParams}
 
 -- the rules 7 to 18 of a request
-abbrev pub Heads : Request → Refusal → Parts → Type 0
+abbrev pub Heads : Request → Refusal → LinkValues → Type 0
 Heads r x p = HeadRule x r p
 
 -- ---- the parts so far
 
-abbrev pub parts_of : List ℕ → List Param → SixValues → SixParts → List Header → Parts
+abbrev pub parts_of : List ℕ → List Param → SixTexts → SixParts → List Header → LinkValues
 parts_of path params six sp signed = record {
   path = path;
   params = params;
   key_id = sp.key_id;
   scope = sp.scope;
-  date = six.date.items;
+  date = six.date;
   start = sp.start;
   expires = sp.expires;
   signed = signed;
-  signature = six.signature.items;
+  signature = six.signature;
 }
 
-abbrev early : List ℕ → List Param → Parts
+abbrev early : List ℕ → List Param → LinkValues
 early path params = record {
   path = path;
   params = params;
@@ -63,7 +62,7 @@ blank_names [] = refl
 blank_names (name ∷ names) = ap (λ (ns : List (List ℕ)). name ∷ ns) (blank_names names)
 
 -- what the values say, as a request's parts say it
-abbrev six_of : Parts → SixParts
+abbrev six_of : LinkValues → SixParts
 six_of p = record { key_id = p.key_id; scope = p.scope; start = p.start; expires = p.expires; names = map (λ s. s.name) p.signed }
 
 -- ---- the method, the target and the six names
@@ -87,7 +86,7 @@ method_first r other = record { parts = early [] []; before = λ x lt. nothing r
     nothing r _ lt = tt
 
 -- the rules 7 to 10 before a number
-early_before : (r : Request) (p : Parts) (n : ℕ) → n ≤ 10 → (7 < n → HeadRule rule.Method r p) → (8 < n → HeadRule rule.Target r p) → (9 < n → HeadRule rule.NotSigned r p)
+early_before : (r : Request) (p : LinkValues) (n : ℕ) → n ≤ 10 → (7 < n → HeadRule rule.Method r p) → (8 < n → HeadRule rule.Target r p) → (9 < n → HeadRule rule.NotSigned r p)
     → (x : Refusal) → number_of x < n → HeadRule x r p
 early_before r p n most method target signed rule.Method lt = method lt
 early_before r p n most method target signed rule.Target lt = target lt
@@ -135,41 +134,41 @@ names_first r path params q has wrong =
 -- ---- the six values
 
 -- and its parameters are right, with these values
-pub record HasSix (r : Request) (path : List ℕ) (params : List Param) (sorted : Params) (six : SixValues) : Type 0 where
+pub record HasSix (r : Request) (path : List ℕ) (params : List Param) (sorted : Params) (six : SixTexts) : Type 0 where
   pub has : HasTarget r path params
   pub right : AreRightParams sorted six params
 
-head_with : (r : Request) (path : List ℕ) (params : List Param) (sorted : Params) (six : SixValues) (sp : SixParts) (signed : List Header) → HasSix r path params sorted six
+head_with : (r : Request) (path : List ℕ) (params : List Param) (sorted : Params) (six : SixTexts) (sp : SixParts) (signed : List Header) → HasSix r path params sorted six
     → map (λ s. s.name) signed ≡ sp.names → (x : Refusal) → number_of x ≤ 16 → SixRule six x sp → HeadRule x r (parts_of path params six sp signed)
 head_with r path params sorted six sp signed k same rule.Method le h = k.has.served
 head_with r path params sorted six sp signed k same rule.Target le h = k.has.target
 head_with r path params sorted six sp signed k same rule.NotSigned le h = k.right.signed
 head_with r path params sorted six sp signed k same rule.Parameters le h = k.right.are_six
 head_with r path params sorted six sp signed k same rule.Algorithm le h = subst (HasValue params (codes "X-Amz-Algorithm")) h k.right.values.algorithm
-head_with r path params sorted six sp signed k same rule.Credential le h = (six.credential.items, six.date.items, k.right.values.credential, k.right.values.date, h)
+head_with r path params sorted six sp signed k same rule.Credential le h = (six.credential, six.date, k.right.values.credential, k.right.values.date, h)
 head_with r path params sorted six sp signed k same rule.Date le h = (k.right.values.date, h)
-head_with r path params sorted six sp signed k same rule.Expiry le h = (six.expires.items, k.right.values.expires, h)
-head_with r path params sorted six sp signed k same rule.SignedHeaders le h = (six.names.items, k.right.values.names, subst (AreSignedNames six.names.items) (sym same) h)
+head_with r path params sorted six sp signed k same rule.Expiry le h = (six.expires, k.right.values.expires, h)
+head_with r path params sorted six sp signed k same rule.SignedHeaders le h = (six.names, k.right.values.names, subst (AreSignedNames six.names) (sym same) h)
 head_with r path params sorted six sp signed k same rule.SignatureText le h = (k.right.values.signature, h)
 head_with r path params sorted six sp signed k same rule.SignedValues le h = absurd (omega arith)
 head_with r path params sorted six sp signed k same rule.HeaderNotSigned le h = absurd (omega arith)
 head_with r path params sorted six sp signed k same _ le h = tt
 
-six_from : (r : Request) (params : List Param) (six : SixValues) (p : Parts) → p.params ≡ params → AreSixOf six params → (x : Refusal) → HeadRule x r p → SixRule six x (six_of p)
-six_from r params six p same v rule.Algorithm h = sym (value_same params p.params (codes "X-Amz-Algorithm") six.algorithm.items _ same v.algorithm h)
+six_from : (r : Request) (params : List Param) (six : SixTexts) (p : LinkValues) → p.params ≡ params → AreSixOf six params → (x : Refusal) → HeadRule x r p → SixRule six x (six_of p)
+six_from r params six p same v rule.Algorithm h = sym (value_same params p.params (codes "X-Amz-Algorithm") six.algorithm _ same v.algorithm h)
 six_from r params six p same v rule.Credential (text, date, has, has_date, is) =
-    let one = value_same params p.params (codes "X-Amz-Credential") six.credential.items text same v.credential has in
-    let day = value_same params p.params (codes "X-Amz-Date") six.date.items date same v.date has_date in
-    subst (λ (d : List ℕ). IsCredential six.credential.items d p.key_id p.scope) day (subst (λ (t : List ℕ). IsCredential t date p.key_id p.scope) one is)
-six_from r params six p same v rule.Date (has, is) = subst (λ (d : List ℕ). WritesMoment d p.start) (value_same params p.params (codes "X-Amz-Date") six.date.items p.date same v.date has) is
-six_from r params six p same v rule.Expiry (text, has, is) = subst (λ (t : List ℕ). IsExpiry t p.expires) (value_same params p.params (codes "X-Amz-Expires") six.expires.items text same v.expires has) is
+    let one = value_same params p.params (codes "X-Amz-Credential") six.credential text same v.credential has in
+    let day = value_same params p.params (codes "X-Amz-Date") six.date date same v.date has_date in
+    subst (λ (d : List ℕ). IsCredential six.credential d p.key_id p.scope) day (subst (λ (t : List ℕ). IsCredential t date p.key_id p.scope) one is)
+six_from r params six p same v rule.Date (has, is) = subst (λ (d : List ℕ). WritesMoment d p.start) (value_same params p.params (codes "X-Amz-Date") six.date p.date same v.date has) is
+six_from r params six p same v rule.Expiry (text, has, is) = subst (λ (t : List ℕ). IsExpiry t p.expires) (value_same params p.params (codes "X-Amz-Expires") six.expires text same v.expires has) is
 six_from r params six p same v rule.SignedHeaders (text, has, are) =
-    subst (λ (t : List ℕ). AreSignedNames t (map (λ s. s.name) p.signed)) (value_same params p.params (codes "X-Amz-SignedHeaders") six.names.items text same v.names has) are
-six_from r params six p same v rule.SignatureText (has, is) = subst IsSignatureText (value_same params p.params (codes "X-Amz-Signature") six.signature.items p.signature same v.signature has) is
+    subst (λ (t : List ℕ). AreSignedNames t (map (λ s. s.name) p.signed)) (value_same params p.params (codes "X-Amz-SignedHeaders") six.names text same v.names has) are
+six_from r params six p same v rule.SignatureText (has, is) = subst IsSignatureText (value_same params p.params (codes "X-Amz-Signature") six.signature p.signature same v.signature has) is
 six_from r params six p same v _ h = tt
 
 -- a rule of the values' forms that fails has one of these numbers
-six_number : (six : SixValues) (q : Refusal) → IsFirstToFail (SixRule six) q → (11 ≤ number_of q) × (number_of q ≤ 16)
+six_number : (six : SixTexts) (q : Refusal) → IsFirstToFail (SixRule six) q → (11 ≤ number_of q) × (number_of q ≤ 16)
 six_number six rule.Algorithm f = (omega arith, omega arith)
 six_number six rule.Credential f = (omega arith, omega arith)
 six_number six rule.Date f = (omega arith, omega arith)
@@ -178,7 +177,7 @@ six_number six rule.SignedHeaders f = (omega arith, omega arith)
 six_number six rule.SignatureText f = (omega arith, omega arith)
 six_number six _ f = absurd (f.fails f.parts f.before tt)
 
-pub six_first : (r : Request) (path : List ℕ) (params : List Param) (sorted : Params) (six : SixValues) (q : Refusal) → HasSix r path params sorted six
+pub six_first : (r : Request) (path : List ℕ) (params : List Param) (sorted : Params) (six : SixTexts) (q : Refusal) → HasSix r path params sorted six
     → IsFirstToFail (SixRule six) q → IsFirstToFail (Heads r) q
 six_first r path params sorted six q k f =
     let number = six_number six q f in
@@ -204,7 +203,7 @@ no_values headers names signed rule.HeaderNotSigned lt = absurd (omega arith)
 no_values headers names signed _ lt = tt
 
 -- the rules before 18, where the values are there
-before_cover : (r : Request) (path : List ℕ) (params : List Param) (sorted : Params) (six : SixValues) (sp : SixParts) (signed : List Header) → HasSix r path params sorted six → AllHold (SixRule six) sp
+before_cover : (r : Request) (path : List ℕ) (params : List Param) (sorted : Params) (six : SixTexts) (sp : SixParts) (signed : List Header) → HasSix r path params sorted six → AllHold (SixRule six) sp
     → ValueRule r.headers sp.names rule.SignedValues signed → (x : Refusal) → number_of x < 18 → HeadRule x r (parts_of path params six sp signed)
 before_cover r path params sorted six sp signed k all v rule.SignedValues lt =
     (subst (λ (ns : List (List ℕ)). AreSignedValues r.headers ns signed) (sym (value_names r.headers sp.names signed v.0)) v.0, v.1)
@@ -212,11 +211,11 @@ before_cover r path params sorted six sp signed k all v rule.HeaderNotSigned lt 
 before_cover r path params sorted six sp signed k all v x lt = head_with r path params sorted six sp signed k (value_names r.headers sp.names signed v.0) x (omega arith) (all x)
 
 -- the names that other parts give are these
-same_names : (r : Request) (params : List Param) (six : SixValues) (sp : SixParts) (p : Parts) → p.params ≡ params → AreSixOf six params → AreSignedNames six.names.items sp.names
+same_names : (r : Request) (params : List Param) (six : SixTexts) (sp : SixParts) (p : LinkValues) → p.params ≡ params → AreSixOf six params → AreSignedNames six.names sp.names
     → HeadRule rule.SignedHeaders r p → map (λ s. s.name) p.signed ≡ sp.names
-same_names r params six sp p same v are h = names_once six.names.items sp.names (map (λ s. s.name) p.signed) are (six_from r params six p same v rule.SignedHeaders h)
+same_names r params six sp p same v are h = names_once six.names sp.names (map (λ s. s.name) p.signed) are (six_from r params six p same v rule.SignedHeaders h)
 
-pub values_first : (r : Request) (path : List ℕ) (params : List Param) (sorted : Params) (six : SixValues) (sp : SixParts) (q : Refusal) → HasSix r path params sorted six → AllHold (SixRule six) sp
+pub values_first : (r : Request) (path : List ℕ) (params : List Param) (sorted : Params) (six : SixTexts) (sp : SixParts) (q : Refusal) → HasSix r path params sorted six → AllHold (SixRule six) sp
     → IsFirstToFail (ValueRule r.headers sp.names) q → IsFirstToFail (Heads r) q
 values_first r path params sorted six sp rule.SignedValues k all f = record {
   parts = parts_of path params six sp (blank sp.names);
@@ -236,7 +235,7 @@ values_first r path params sorted six sp rule.HeaderNotSigned k all f = record {
       f.fails p.signed (λ x lt. up_to r sp p names v x lt) bad;
 }
   where
-    up_to : (r : Request) (sp : SixParts) (p : Parts) → map (λ s. s.name) p.signed ≡ sp.names → HeadRule rule.SignedValues r p → (x : Refusal) → number_of x < 18 → ValueRule r.headers sp.names x p.signed
+    up_to : (r : Request) (sp : SixParts) (p : LinkValues) → map (λ s. s.name) p.signed ≡ sp.names → HeadRule rule.SignedValues r p → (x : Refusal) → number_of x < 18 → ValueRule r.headers sp.names x p.signed
     up_to r sp p names v rule.SignedValues lt = (subst (λ (ns : List (List ℕ)). AreSignedValues r.headers ns p.signed) names v.0, v.1)
     up_to r sp p names v rule.HeaderNotSigned lt = absurd (omega arith)
     up_to r sp p names v _ lt = tt
@@ -244,7 +243,7 @@ values_first r path params sorted six sp _ k all f = absurd (f.fails f.parts f.b
 
 -- ---- all of them
 
-pub well_formed : (r : Request) (path : List ℕ) (params : List Param) (sorted : Params) (six : SixValues) (sp : SixParts) (signed : List Header) → HasSix r path params sorted six → AllHold (SixRule six) sp
+pub well_formed : (r : Request) (path : List ℕ) (params : List Param) (sorted : Params) (six : SixTexts) (sp : SixParts) (signed : List Header) → HasSix r path params sorted six → AllHold (SixRule six) sp
     → AllHold (ValueRule r.headers sp.names) signed → IsWellFormed r (parts_of path params six sp signed)
 well_formed r path params sorted six sp signed k all v rule.SignedValues = before_cover r path params sorted six sp signed k all (v rule.SignedValues) rule.SignedValues (omega arith)
 well_formed r path params sorted six sp signed k all v rule.HeaderNotSigned = v rule.HeaderNotSigned

@@ -11,22 +11,23 @@ use Rattle.sigv4.specs.Scopes.{scope_of}
 use Rattle.sigv4.specs.declared.scope.Scope.{Scope}
 use Rattle.sigv4.proofs.Credentials.{credential_once}
 use Rattle.sigv4.specs.Signature.{CredentialScope, signature_of}
-use Rattle.links.specs.WellFormed.{Parts}
+use Rattle.links.specs.WellFormed.{LinkValues}
 use Rattle.links.specs.Admits.{IsSignedBy, signed_of}
+use Rattle.links.specs.SixValues.{texts_of}
 use Rattle.links.specs.LinkReadings.{IsLinkOf}
-use Rattle.links.specs.declared.link.LinkParts.{LinkParts}
+use Rattle.links.specs.declared.link_parts.LinkParts.{LinkParts}
 
 -- the test is that of the signature of the one canonical request
 abbrev pub Tells : Bool → LinkParts → List ℕ → CredentialScope → Type 0
 Tells right l secret scope =
     (signed : Signed) → AreOf l.parts signed
     → (text : List ℕ) × IsTheOnly (IsCanonicalRequest signed) text × ((date : List ℕ) → WritesMoment date l.start
-    → (IsTrue right ↔ (l.signature.items ≡ signature_of secret date scope text)))
+    → (IsTrue right ↔ ((texts_of l.six).signature ≡ signature_of secret date scope text)))
 
-date_of : (l : LinkParts) (r : Request) (p : Parts) → IsLinkOf l r p → WritesMoment p.date l.start
+date_of : (l : LinkParts) (r : Request) (p : LinkValues) → IsLinkOf l r p → WritesMoment p.date l.start
 date_of l r p is = subst (WritesMoment p.date) is.start (is.well_formed rule.Date).1
 
-pub is_signed : (l : LinkParts) (r : Request) (p : Parts) (secret : List ℕ) (scope : CredentialScope) (right : Bool) → IsLinkOf l r p → scope ≡ p.scope
+pub is_signed : (l : LinkParts) (r : Request) (p : LinkValues) (secret : List ℕ) (scope : CredentialScope) (right : Bool) → IsLinkOf l r p → scope ≡ p.scope
     → right ≡ true → Tells right l secret scope → IsSignedBy secret r p
 is_signed l r p secret scope right is same holds tells =
     let (text, only, means) = tells (signed_of r p) is.signed in
@@ -36,7 +37,7 @@ is_signed l r p secret scope right is same holds tells =
       same = is.signature ∙ (means p.date (date_of l r p is)).0 holds ∙ ap (λ (s : CredentialScope). signature_of secret p.date s text) same;
     }
 
-pub not_signed : (l : LinkParts) (r : Request) (p : Parts) (secret : List ℕ) (scope : CredentialScope) (right : Bool) → IsLinkOf l r p → scope ≡ p.scope
+pub not_signed : (l : LinkParts) (r : Request) (p : LinkValues) (secret : List ℕ) (scope : CredentialScope) (right : Bool) → IsLinkOf l r p → scope ≡ p.scope
     → right ≡ false → Tells right l secret scope → IsSignedBy secret r p → ⊥
 not_signed l r p secret scope right is same fails tells signed =
     let (text, only, means) = tells (signed_of r p) is.signed in
@@ -48,14 +49,14 @@ not_signed l r p secret scope right is same fails tells signed =
     differs e = cc
 
 -- the credential that was read again is the link's
-pub same_scope : (l : LinkParts) (r : Request) (p : Parts) (text date : List ℕ) (scope : Scope) → IsLinkOf l r p → text ≡ l.credential.items → date ≡ l.date.items
+pub same_scope : (l : LinkParts) (r : Request) (p : LinkValues) (text date : List ℕ) (scope : Scope) → IsLinkOf l r p → text ≡ (texts_of l.six).credential → date ≡ (texts_of l.six).date
     → IsCredential text date scope.key_id.now (scope_of scope) → scope_of scope ≡ p.scope
 same_scope l r p text date scope is a b read =
-    (credential_once l.credential.items l.date.items p.key_id scope.key_id.now p.scope (scope_of scope) is.credential
-    (subst (λ (d : List ℕ). IsCredential l.credential.items d scope.key_id.now (scope_of scope)) b (subst (λ (t : List ℕ). IsCredential t date scope.key_id.now (scope_of scope)) a read))).1
+    (credential_once (texts_of l.six).credential (texts_of l.six).date p.key_id scope.key_id.now p.scope (scope_of scope) is.credential
+    (subst (λ (d : List ℕ). IsCredential (texts_of l.six).credential d scope.key_id.now (scope_of scope)) b (subst (λ (t : List ℕ). IsCredential t date scope.key_id.now (scope_of scope)) a read))).1
 
-pub same_key_id : (l : LinkParts) (r : Request) (p : Parts) (text date : List ℕ) (scope : Scope) → IsLinkOf l r p → text ≡ l.credential.items → date ≡ l.date.items
+pub same_key_id : (l : LinkParts) (r : Request) (p : LinkValues) (text date : List ℕ) (scope : Scope) → IsLinkOf l r p → text ≡ (texts_of l.six).credential → date ≡ (texts_of l.six).date
     → IsCredential text date scope.key_id.now (scope_of scope) → scope.key_id.now ≡ p.key_id
 same_key_id l r p text date scope is a b read =
-    (credential_once l.credential.items l.date.items p.key_id scope.key_id.now p.scope (scope_of scope) is.credential
-    (subst (λ (d : List ℕ). IsCredential l.credential.items d scope.key_id.now (scope_of scope)) b (subst (λ (t : List ℕ). IsCredential t date scope.key_id.now (scope_of scope)) a read))).0
+    (credential_once (texts_of l.six).credential (texts_of l.six).date p.key_id scope.key_id.now p.scope (scope_of scope) is.credential
+    (subst (λ (d : List ℕ). IsCredential (texts_of l.six).credential d scope.key_id.now (scope_of scope)) b (subst (λ (t : List ℕ). IsCredential t date scope.key_id.now (scope_of scope)) a read))).0

@@ -1,10 +1,8 @@
 -- Searching the names of a target's parameters, one pair after another.
-use Rattle.std.proofs.Common.{◌≡◌, ℕ, ◌+◌, ◌<◌, Bool, true, false, List, ◌∷◌, Some, drop, get_or, length, refl, sym, ap, ◌∙◌}
-use Rattle.std.specs.Prelude.{◌||◌, ◌&&◌, nat_eq}
+use Rattle.std.proofs.Common.{◌≡◌, ℕ, Bool, true, false, List, Some, sym, ap, ◌∙◌}
+use Rattle.std.specs.Prelude.{◌||◌}
 use Rattle.std.specs.List.{list_any}
-use Rattle.std.proofs.lemmas.List.{drop_more}
 use Rattle.percent_encoding.specs.Percent.{percent_decode}
-use Rattle.sigtext.specs.Bytes.{begins_with}
 use Rattle.sigtext.specs.Target.{Param}
 use Rattle.sigtext.specs.Targets.{SpellsOptionalQuery, GivesNext}
 use Rattle.sigtext.specs.declared.target.RawParam.{RawParam}
@@ -30,13 +28,3 @@ any_here test params before after raw g holds (rest, spelled, same) =
     let (p, others, is, spells, left) = g.param rest spelled in
     let here = sym (ap test (decoded _ raw.name.now p.name spells.name_spelled)) ∙ holds in
     same ∙ ap (any_name test) is ∙ ap (λ b. b || any_name test others) here
-
--- ---- whether a text begins with a word, byte for byte
-
-begins_cons : (x y : ℕ) (xs ys : List ℕ) → begins_with (x ∷ xs) (y ∷ ys) ≡ (nat_eq y x && begins_with xs ys)
-begins_cons x y xs ys = refl
-
-pub begins_more : (text word : List ℕ) (i x : ℕ) (xs : List ℕ) → i < length word → text ≡ x ∷ xs → nat_eq (get_or word i 0) x ≡ true → begins_with text (drop i word) ≡ begins_with xs (drop (i + 1) word)
-begins_more text word i x xs within is same =
-    ap (λ (t : List ℕ). begins_with t (drop i word)) is ∙ ap (begins_with (x ∷ xs)) (drop_more word i 0 within)
-    ∙ begins_cons x (get_or word i 0) xs (drop (i + 1) word) ∙ ap (λ b. b && begins_with xs (drop (i + 1) word)) same

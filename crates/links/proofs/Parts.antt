@@ -14,15 +14,15 @@ use Rattle.sigv4.specs.Dates.{WritesMoment}
 use Rattle.sigv4.proofs.Credentials.{credential_once}
 use Rattle.sigv4.proofs.Moments.{moment_once}
 use Rattle.links.specs.Forms.{IsExpiry}
-use Rattle.links.specs.WellFormed.{Parts, HeadRule, IsWellFormed}
+use Rattle.links.specs.WellFormed.{LinkValues, HeadRule, IsWellFormed}
 use Rattle.links.proofs.Values.{value_same, expiry_once}
 
 -- the rules of numbers below 19 hold of the parts
-abbrev pub HoldBeforeKey : Request → Parts → Type 0
+abbrev pub HoldBeforeKey : Request → LinkValues → Type 0
 HoldBeforeKey r p = (x : Refusal) → number_of x < 19 → HeadRule x r p
 
 -- the others say nothing of them
-pub well_formed_before : (r : Request) (p : Parts) → HoldBeforeKey r p → IsWellFormed r p
+pub well_formed_before : (r : Request) (p : LinkValues) → HoldBeforeKey r p → IsWellFormed r p
 well_formed_before r p h rule.Method = h rule.Method (omega arith)
 well_formed_before r p h rule.Target = h rule.Target (omega arith)
 well_formed_before r p h rule.NotSigned = h rule.NotSigned (omega arith)
@@ -37,7 +37,7 @@ well_formed_before r p h rule.SignedValues = h rule.SignedValues (omega arith)
 well_formed_before r p h rule.HeaderNotSigned = h rule.HeaderNotSigned (omega arith)
 well_formed_before r p h _ = tt
 
-same_parts : (p q : Parts) → q.path ≡ p.path → q.params ≡ p.params → q.key_id ≡ p.key_id → q.scope ≡ p.scope → q.date ≡ p.date → q.start ≡ p.start
+same_parts : (p q : LinkValues) → q.path ≡ p.path → q.params ≡ p.params → q.key_id ≡ p.key_id → q.scope ≡ p.scope → q.date ≡ p.date → q.start ≡ p.start
     → q.expires ≡ p.expires → q.signed ≡ p.signed → q.signature ≡ p.signature → q ≡ p
 same_parts p q path params key scope date start expires signed signature =
     let whole : record {
@@ -55,7 +55,7 @@ same_parts p q path params key scope date start expires signed signature =
 
 -- ---- each part
 
-key_once : (r : Request) (p q : Parts) → q.params ≡ p.params → IsWellFormed r p → IsWellFormed r q → (q.key_id ≡ p.key_id) × (q.scope ≡ p.scope)
+key_once : (r : Request) (p q : LinkValues) → q.params ≡ p.params → IsWellFormed r p → IsWellFormed r q → (q.key_id ≡ p.key_id) × (q.scope ≡ p.scope)
 key_once r p q same h k =
     let (text, date, has, has_date, is) = h rule.Credential in
     let (text', date', has', has_date', is') = k rule.Credential in
@@ -64,23 +64,23 @@ key_once r p q same h k =
     credential_once text date p.key_id q.key_id p.scope q.scope is
     (subst (λ (t : List ℕ). IsCredential t date q.key_id q.scope) one (subst (λ (d : List ℕ). IsCredential text' d q.key_id q.scope) day is'))
 
-date_once : (r : Request) (p q : Parts) → q.params ≡ p.params → IsWellFormed r p → IsWellFormed r q → q.date ≡ p.date
+date_once : (r : Request) (p q : LinkValues) → q.params ≡ p.params → IsWellFormed r p → IsWellFormed r q → q.date ≡ p.date
 date_once r p q same h k = value_same p.params q.params (codes "X-Amz-Date") p.date q.date same (h rule.Date).0 (k rule.Date).0
 
-start_once : (r : Request) (p q : Parts) → q.date ≡ p.date → IsWellFormed r p → IsWellFormed r q → q.start ≡ p.start
+start_once : (r : Request) (p q : LinkValues) → q.date ≡ p.date → IsWellFormed r p → IsWellFormed r q → q.start ≡ p.start
 start_once r p q date h k = moment_once p.date p.start q.start (h rule.Date).1 (subst (λ (d : List ℕ). WritesMoment d q.start) date (k rule.Date).1)
 
-expires_once : (r : Request) (p q : Parts) → q.params ≡ p.params → IsWellFormed r p → IsWellFormed r q → q.expires ≡ p.expires
+expires_once : (r : Request) (p q : LinkValues) → q.params ≡ p.params → IsWellFormed r p → IsWellFormed r q → q.expires ≡ p.expires
 expires_once r p q same h k =
     let (text, has, is) = h rule.Expiry in
     let (text', has', is') = k rule.Expiry in
     let one = value_same p.params q.params (codes "X-Amz-Expires") text text' same has has' in
     expiry_once text p.expires q.expires is (subst (λ (t : List ℕ). IsExpiry t q.expires) one is')
 
-signed_names : Parts → List (List ℕ)
+signed_names : LinkValues → List (List ℕ)
 signed_names p = map (λ s. s.name) p.signed
 
-headers_once : (r : Request) (p q : Parts) → q.params ≡ p.params → IsWellFormed r p → IsWellFormed r q → q.signed ≡ p.signed
+headers_once : (r : Request) (p q : LinkValues) → q.params ≡ p.params → IsWellFormed r p → IsWellFormed r q → q.signed ≡ p.signed
 unfolding signed_names
 headers_once r p q same h k =
     let (text, has, are) = h rule.SignedHeaders in
@@ -90,12 +90,12 @@ headers_once r p q same h k =
     values_once r.headers (signed_names p) p.signed q.signed (h rule.SignedValues).0
     (subst (λ (ns : List (List ℕ)). AreSignedValues r.headers ns q.signed) names (k rule.SignedValues).0)
 
-signature_once : (r : Request) (p q : Parts) → q.params ≡ p.params → IsWellFormed r p → IsWellFormed r q → q.signature ≡ p.signature
+signature_once : (r : Request) (p q : LinkValues) → q.params ≡ p.params → IsWellFormed r p → IsWellFormed r q → q.signature ≡ p.signature
 signature_once r p q same h k = value_same p.params q.params (codes "X-Amz-Signature") p.signature q.signature same (h rule.SignatureText).0 (k rule.SignatureText).0
 
 -- ---- all of them
 
-pub parts_once : (r : Request) (p q : Parts) → IsWellFormed r p → IsWellFormed r q → q ≡ p
+pub parts_once : (r : Request) (p q : LinkValues) → IsWellFormed r p → IsWellFormed r q → q ≡ p
 parts_once r p q h k =
     let (path, params) = target_once r.target p.path q.path p.params q.params (h rule.Target) (k rule.Target) in
     let (key, scope) = key_once r p q params h k in
@@ -107,5 +107,5 @@ parts_once r p q h k =
     same_parts p q path params key scope date start expires signed signature
 
 -- parts that hold the rules before the key's are the well-formed request's
-pub parts_before : (r : Request) (p q : Parts) → IsWellFormed r p → HoldBeforeKey r q → q ≡ p
+pub parts_before : (r : Request) (p q : LinkValues) → IsWellFormed r p → HoldBeforeKey r q → q ≡ p
 parts_before r p q h before = parts_once r p q h (well_formed_before r q before)

@@ -9,11 +9,10 @@ use Rattle.sigv4.specs.Signature.{CredentialScope}
 use Rattle.sigv4.specs.Credential.{IsCredential}
 use Rattle.sigv4.specs.Dates.{WritesMoment}
 use Rattle.links.specs.Forms.{IsExpiry, IsSignatureText}
-use Rattle.links.specs.SixValues.{SixParts, SixRule}
-use Rattle.links.specs.declared.six.SixValues.{SixValues}
+use Rattle.links.specs.SixValues.{SixTexts, SixParts, SixRule}
 
 -- the rules before a number
-before : (six : SixValues) (p : SixParts) (n : ℕ) → (11 < n → SixRule six rule.Algorithm p) → (12 < n → SixRule six rule.Credential p) → (13 < n → SixRule six rule.Date p)
+before : (six : SixTexts) (p : SixParts) (n : ℕ) → (11 < n → SixRule six rule.Algorithm p) → (12 < n → SixRule six rule.Credential p) → (13 < n → SixRule six rule.Date p)
     → (14 < n → SixRule six rule.Expiry p) → (15 < n → SixRule six rule.SignedHeaders p) → (16 < n → SixRule six rule.SignatureText p) → (q : Refusal) → number_of q < n → SixRule six q p
 before six p n a c d e h s rule.Algorithm lt = a lt
 before six p n a c d e h s rule.Credential lt = c lt
@@ -29,14 +28,14 @@ parts key_id scope start expires names = record { key_id = key_id; scope = scope
 abbrev no_scope : CredentialScope
 no_scope = record { date = []; region = [] }
 
-pub algorithm_fails : (six : SixValues) → (six.algorithm.items ≢ codes "AWS4-HMAC-SHA256") → IsFirstToFail (SixRule six) rule.Algorithm
+pub algorithm_fails : (six : SixTexts) → (six.algorithm ≢ codes "AWS4-HMAC-SHA256") → IsFirstToFail (SixRule six) rule.Algorithm
 algorithm_fails six other = record {
   parts = parts [] no_scope 0 0 [];
   before = before six _ 11 (λ lt. absurd (omega arith)) (λ lt. absurd (omega arith)) (λ lt. absurd (omega arith)) (λ lt. absurd (omega arith)) (λ lt. absurd (omega arith)) (λ lt. absurd (omega arith));
   fails = λ p hold bad. other bad;
 }
 
-pub credential_fails : (six : SixValues) → six.algorithm.items ≡ codes "AWS4-HMAC-SHA256" → ((key_id : List ℕ) (scope : CredentialScope) → IsCredential six.credential.items six.date.items key_id scope → ⊥)
+pub credential_fails : (six : SixTexts) → six.algorithm ≡ codes "AWS4-HMAC-SHA256" → ((key_id : List ℕ) (scope : CredentialScope) → IsCredential six.credential six.date key_id scope → ⊥)
     → IsFirstToFail (SixRule six) rule.Credential
 credential_fails six a none = record {
   parts = parts [] no_scope 0 0 [];
@@ -44,40 +43,40 @@ credential_fails six a none = record {
   fails = λ p hold bad. none p.key_id p.scope bad;
 }
 
-pub date_fails : (six : SixValues) (key_id : List ℕ) (scope : CredentialScope) → six.algorithm.items ≡ codes "AWS4-HMAC-SHA256" → IsCredential six.credential.items six.date.items key_id scope
-    → ((m : ℕ) → WritesMoment six.date.items m → ⊥) → IsFirstToFail (SixRule six) rule.Date
+pub date_fails : (six : SixTexts) (key_id : List ℕ) (scope : CredentialScope) → six.algorithm ≡ codes "AWS4-HMAC-SHA256" → IsCredential six.credential six.date key_id scope
+    → ((m : ℕ) → WritesMoment six.date m → ⊥) → IsFirstToFail (SixRule six) rule.Date
 date_fails six key_id scope a c none = record {
   parts = parts key_id scope 0 0 [];
   before = before six _ 13 (λ lt. a) (λ lt. c) (λ lt. absurd (omega arith)) (λ lt. absurd (omega arith)) (λ lt. absurd (omega arith)) (λ lt. absurd (omega arith));
   fails = λ p hold bad. none p.start bad;
 }
 
-pub expiry_fails : (six : SixValues) (key_id : List ℕ) (scope : CredentialScope) (start : ℕ) → six.algorithm.items ≡ codes "AWS4-HMAC-SHA256" → IsCredential six.credential.items six.date.items key_id scope
-    → WritesMoment six.date.items start → ((n : ℕ) → IsExpiry six.expires.items n → ⊥) → IsFirstToFail (SixRule six) rule.Expiry
+pub expiry_fails : (six : SixTexts) (key_id : List ℕ) (scope : CredentialScope) (start : ℕ) → six.algorithm ≡ codes "AWS4-HMAC-SHA256" → IsCredential six.credential six.date key_id scope
+    → WritesMoment six.date start → ((n : ℕ) → IsExpiry six.expires n → ⊥) → IsFirstToFail (SixRule six) rule.Expiry
 expiry_fails six key_id scope start a c d none = record {
   parts = parts key_id scope start 0 [];
   before = before six _ 14 (λ lt. a) (λ lt. c) (λ lt. d) (λ lt. absurd (omega arith)) (λ lt. absurd (omega arith)) (λ lt. absurd (omega arith));
   fails = λ p hold bad. none p.expires bad;
 }
 
-pub names_fail : (six : SixValues) (key_id : List ℕ) (scope : CredentialScope) (start expires : ℕ) → six.algorithm.items ≡ codes "AWS4-HMAC-SHA256" → IsCredential six.credential.items six.date.items key_id scope
-    → WritesMoment six.date.items start → IsExpiry six.expires.items expires → ((names : List (List ℕ)) → AreSignedNames six.names.items names → ⊥) → IsFirstToFail (SixRule six) rule.SignedHeaders
+pub names_fail : (six : SixTexts) (key_id : List ℕ) (scope : CredentialScope) (start expires : ℕ) → six.algorithm ≡ codes "AWS4-HMAC-SHA256" → IsCredential six.credential six.date key_id scope
+    → WritesMoment six.date start → IsExpiry six.expires expires → ((names : List (List ℕ)) → AreSignedNames six.names names → ⊥) → IsFirstToFail (SixRule six) rule.SignedHeaders
 names_fail six key_id scope start expires a c d e none = record {
   parts = parts key_id scope start expires [];
   before = before six _ 15 (λ lt. a) (λ lt. c) (λ lt. d) (λ lt. e) (λ lt. absurd (omega arith)) (λ lt. absurd (omega arith));
   fails = λ p hold bad. none p.names bad;
 }
 
-pub signature_fails : (six : SixValues) (key_id : List ℕ) (scope : CredentialScope) (start expires : ℕ) (names : List (List ℕ)) → six.algorithm.items ≡ codes "AWS4-HMAC-SHA256"
-    → IsCredential six.credential.items six.date.items key_id scope → WritesMoment six.date.items start → IsExpiry six.expires.items expires → AreSignedNames six.names.items names
-    → (IsSignatureText six.signature.items → ⊥) → IsFirstToFail (SixRule six) rule.SignatureText
+pub signature_fails : (six : SixTexts) (key_id : List ℕ) (scope : CredentialScope) (start expires : ℕ) (names : List (List ℕ)) → six.algorithm ≡ codes "AWS4-HMAC-SHA256"
+    → IsCredential six.credential six.date key_id scope → WritesMoment six.date start → IsExpiry six.expires expires → AreSignedNames six.names names
+    → (IsSignatureText six.signature → ⊥) → IsFirstToFail (SixRule six) rule.SignatureText
 signature_fails six key_id scope start expires names a c d e h none = record {
   parts = parts key_id scope start expires names;
   before = before six _ 16 (λ lt. a) (λ lt. c) (λ lt. d) (λ lt. e) (λ lt. h) (λ lt. absurd (omega arith));
   fails = λ p hold bad. none bad;
 }
 
-pub all_hold : (six : SixValues) (p : SixParts) → SixRule six rule.Algorithm p → SixRule six rule.Credential p → SixRule six rule.Date p
+pub all_hold : (six : SixTexts) (p : SixParts) → SixRule six rule.Algorithm p → SixRule six rule.Credential p → SixRule six rule.Date p
     → SixRule six rule.Expiry p → SixRule six rule.SignedHeaders p → SixRule six rule.SignatureText p → AllHold (SixRule six) p
 all_hold six p a c d e h s rule.Algorithm = a
 all_hold six p a c d e h s rule.Credential = c

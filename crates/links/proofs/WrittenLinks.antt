@@ -1,5 +1,5 @@
 -- The text of a link is a link for its terms.
-use Rattle.std.proofs.Common.{◌≡◌, ℕ, ◌+◌, ◌<◌, ◌≤◌, false, List, [], ◌∷◌, ◌++◌, length, map, codes, refl, sym, ap, subst, ◌∙◌, append_assoc, arith, length-append, Option}
+use Rattle.std.proofs.Common.{◌≡◌, ℕ, ◌<◌, false, List, [], ◌∷◌, ◌++◌, length, map, codes, refl, sym, ap, subst, ◌∙◌, append_assoc, arith, length-append, Option}
 use Rattle.std.specs.Prelude.{IsPermutation, IsTrue, ◌↔◌, decimal, take, nat_lt}
 use Rattle.std.specs.Char.{is_ascii_digit}
 use Rattle.std.specs.List.{list_all, list_any, AllByRecursion, join_with_byte}
@@ -26,11 +26,12 @@ use Rattle.sigv4.specs.Dates.{WritesMoment}
 use Rattle.sigv4.specs.Signature.{CredentialScope, scope_text, signature_of}
 use Rattle.sigv4.proofs.Days.{day_of}
 use Rattle.links.specs.declared.orders.LinkFault.TheVariants as fault
+use Rattle.links.specs.Moments.{Now, HasBegun, IsNotOver}
 use Rattle.links.specs.Admits.{KnownKey, IsSignedBy, Admits}
 use Rattle.links.specs.Drafts.{DraftValues, draft_params, HasBytes, target_text}
 use Rattle.links.specs.Forms.{IsExpiry, IsSignatureText}
 use Rattle.links.specs.Orders.{Terms, AreSound, IsOwnParam, wanted, IsRequestFor, Knows, IsLinkFor}
-use Rattle.links.specs.WellFormed.{Parts, IsWellFormed, methods}
+use Rattle.links.specs.WellFormed.{LinkValues, IsWellFormed, methods}
 use Rattle.links.proofs.Admitted.{admitted}
 use Rattle.links.proofs.Expiries.{written_expiry}
 use Rattle.links.proofs.OwnHeaders.{own_given, own_covered, wanted_fit, values_given, cover_moved}
@@ -164,7 +165,7 @@ module _ {t : Terms} {five : DraftValues} {scope : CredentialScope} {hs : List H
 
   -- ---- the parts
 
-  abbrev found : Parts
+  abbrev found : LinkValues
   found = record {
     path = t.path;
     params = told.query_is.holds.ordered ++ sixth sig ∷ [];
@@ -232,10 +233,10 @@ module _ {t : Terms} {five : DraftValues} {scope : CredentialScope} {hs : List H
     same = told.signed.same;
   }
 
-  in_window : (look_up : List ℕ → Option KnownKey) (r : Request) (now : ℕ) → Knows look_up t → IsRequestFor t target r → Admits look_up r now ↔ ((t.start ≤ now) × (now < t.start + t.expires))
-  in_window look_up r now knows is =
+  in_window : (look_up : List ℕ → Option KnownKey) (r : Request) (n : Now) → Knows look_up t → IsRequestFor t target r → Admits look_up r n ↔ (HasBegun n t.start × IsNotOver n t.start t.expires)
+  in_window look_up r n knows is =
       let key : KnownKey = record { secret = t.secret; revoked = false } in
-      let both = admitted look_up r now found key (formed r is) knows refl in
+      let both = admitted look_up r n found key (formed r is) knows refl in
       (λ a. let held = both.0 a in (held.1, held.2), λ window. both.1 (signs r is, window.0, window.1))
 
   pub link_for : IsLinkFor t target

@@ -1,18 +1,19 @@
 -- Which links are admitted.
-use Rattle.std.specs.Prelude.{◌≡◌, ℕ, ◌+◌, ◌<◌, ◌≤◌, Bool, IsFalse, List, ⊤, Option, Some, IsSome, IfSome}
+use Rattle.std.specs.Prelude.{◌≡◌, ℕ, Bool, IsFalse, List, ⊤, Option, Some, IsSome, IfSome}
 use Rattle.sigtext.specs.declared.refusal.Refusal.{Refusal}
 use Rattle.sigtext.specs.declared.refusal.Refusal.TheVariants as rule
 use Rattle.sigtext.specs.Request.{Request}
 use Rattle.sigtext.specs.CanonicalRequest.{Signed, IsCanonicalRequest}
 use Rattle.sigv4.specs.Signature.{signature_of}
-use Rattle.links.specs.WellFormed.{Parts, IsWellFormed}
+use Rattle.links.specs.WellFormed.{LinkValues, IsWellFormed}
+use Rattle.links.specs.Moments.{Now, HasBegun, IsNotOver}
 
 -- what of the request the signature covers
-abbrev pub signed_of : Request → Parts → Signed
+abbrev pub signed_of : Request → LinkValues → Signed
 signed_of r p = record { method = r.method; path = p.path; params = p.params; headers = p.signed }
 
 -- the signature text is that of the canonical request under this secret
-pub record IsSignedBy (secret : List ℕ) (r : Request) (p : Parts) : Type 0 where
+pub record IsSignedBy (secret : List ℕ) (r : Request) (p : LinkValues) : Type 0 where
   pub text : List ℕ
   pub is_canonical : IsCanonicalRequest (signed_of r p) text
   pub same : p.signature ≡ signature_of secret p.date p.scope text
@@ -23,22 +24,22 @@ pub record KnownKey : Type 0 where
   pub revoked : Bool
 
 -- the rules of numbers 19 to 23, by what the state says of the link's key id
-abbrev pub LinkRule : Refusal → Option KnownKey → Request → ℕ → Parts → Type 0
-LinkRule rule.KeyUnknown key r now p = IsSome key
-LinkRule rule.KeyRevoked key r now p = IfSome key (λ k. IsFalse k.revoked)
-LinkRule rule.SignatureMismatch key r now p = IfSome key (λ k. IsSignedBy k.secret r p)
-LinkRule rule.NotYetValid key r now p = p.start ≤ now
-LinkRule rule.Expired key r now p = now < p.start + p.expires
-LinkRule _ key r now p = ⊤
+abbrev pub LinkRule : Refusal → Option KnownKey → Request → Now → LinkValues → Type 0
+LinkRule rule.KeyUnknown key r n p = IsSome key
+LinkRule rule.KeyRevoked key r n p = IfSome key (λ k. IsFalse k.revoked)
+LinkRule rule.SignatureMismatch key r n p = IfSome key (λ k. IsSignedBy k.secret r p)
+LinkRule rule.NotYetValid key r n p = HasBegun n p.start
+LinkRule rule.Expired key r n p = IsNotOver n p.start p.expires
+LinkRule _ key r n p = ⊤
 
 -- the link is well formed, its key is there and unrevoked, its signature is the standard's, and the
 -- moment lies in its window. look_up: what the state says of a key id
-pub record Admits (look_up : List ℕ → Option KnownKey) (r : Request) (now : ℕ) : Type 0 where
-  pub parts : Parts
+pub record Admits (look_up : List ℕ → Option KnownKey) (r : Request) (n : Now) : Type 0 where
+  pub parts : LinkValues
   pub well_formed : IsWellFormed r parts
   pub key : KnownKey
   pub there : look_up parts.key_id ≡ Some key
   pub unrevoked : IsFalse key.revoked
   pub signed : IsSignedBy key.secret r parts
-  pub begun : parts.start ≤ now
-  pub not_over : now < parts.start + parts.expires
+  pub begun : HasBegun n parts.start
+  pub not_over : IsNotOver n parts.start parts.expires

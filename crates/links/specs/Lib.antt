@@ -1,5 +1,7 @@
 pub mod Forms
 pub mod WellFormed
+pub mod Methods
+pub mod Moments
 pub mod Admits
 pub mod SixValues
 pub mod LinkReadings

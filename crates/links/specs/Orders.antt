@@ -1,7 +1,7 @@
 -- Orders of links: what a link is to say, what is asked of an order, and the link that meets it. The link's texts are
 -- those of the Amazon S3 API Reference, "Authenticating Requests: Using Query Parameters"; what is asked of an order
 -- is the office's own.
-use Rattle.std.specs.Prelude.{◌≡◌, ◌≢◌, ◌↔◌, ℕ, ◌+◌, ◌<◌, ◌≤◌, not, false, IsTrue, IsFalse, List, ◌∷◌, ◌++◌, length, map, filter, codes, IsPermutation, Option, Some, ⊤}
+use Rattle.std.specs.Prelude.{◌≡◌, ◌≢◌, ◌↔◌, ℕ, ◌<◌, ◌≤◌, not, false, IsTrue, IsFalse, List, ◌∷◌, ◌++◌, length, map, filter, codes, IsPermutation, Option, Some, ⊤}
 use Rattle.std.specs.List.{list_all, list_any, AllByRecursion}
 use Rattle.sigtext.specs.Bytes.{IsWord, is_visible, same_bytes, begins_with}
 use Rattle.sigtext.specs.CanonicalQuery.{IsCanonicalQuery}
@@ -15,7 +15,8 @@ use Rattle.sigtext.specs.Target.{Param, BeginsWithSlash}
 use Rattle.sigtext.specs.UriEncode.{uri_encoded}
 use Rattle.sigtext.specs.declared.encode.Slash.TheVariants.{Kept}
 use Rattle.sigv4.specs.Credential.{IsKeyId, IsRegion, IsSecret}
-use Rattle.links.specs.WellFormed.{Parts, methods, is_signing_name, IsWellFormed}
+use Rattle.links.specs.WellFormed.{LinkValues, methods, is_signing_name, IsWellFormed}
+use Rattle.links.specs.Moments.{Now, HasBegun, IsNotOver}
 use Rattle.links.specs.Admits.{KnownKey, IsSignedBy, Admits}
 use Rattle.links.specs.declared.orders.LinkFault.{LinkFault}
 use Rattle.links.specs.declared.orders.LinkFault.TheVariants as fault
@@ -121,7 +122,7 @@ pub record IsRequestFor (t : Terms) (target : List ℕ) (r : Request) : Type 0 w
   pub covered : IsTrue (list_all (is_covered (wanted t)) r.headers)
 
 -- the parts say what was ordered, and nothing more
-pub record Says (t : Terms) (p : Parts) : Type 0 where
+pub record Says (t : Terms) (p : LinkValues) : Type 0 where
   pub path : p.path ≡ t.path
   pub params : IsPermutation t.params (filter (λ q. not (is_signing_name q.name)) p.params)
   pub start : p.start ≡ t.start
@@ -131,7 +132,7 @@ pub record Says (t : Terms) (p : Parts) : Type 0 where
   pub signed : IsPermutation (wanted t) p.signed
 
 -- the encoded path, `?`, the canonical query, and the signature as its last parameter
-pub record IsCanonicalTarget (p : Parts) (target : List ℕ) : Type 0 where
+pub record IsCanonicalTarget (p : LinkValues) (target : List ℕ) : Type 0 where
   pub query : List ℕ
   pub is_query : IsCanonicalQuery p.params query
   pub is : target ≡ uri_encoded Kept p.path ++ 63 ∷ query ++ codes "&X-Amz-Signature=" ++ p.signature
@@ -146,10 +147,10 @@ Knows look_up t = look_up t.key_id ≡ Some (record { secret = t.secret; revoked
 pub record IsLinkFor (t : Terms) (target : List ℕ) : Type 0 where
   pub sound : AreSound t
   pub sent : (r : Request) × IsRequestFor t target r
-  pub parts : Parts
+  pub parts : LinkValues
   pub says : Says t parts
   pub canonical : IsCanonicalTarget parts target
   pub formed : (r : Request) → IsRequestFor t target r → IsWellFormed r parts
   pub signed : (r : Request) → IsRequestFor t target r → IsSignedBy t.secret r parts
-  pub admitted : (look_up : List ℕ → Option KnownKey) (r : Request) (now : ℕ) → Knows look_up t → IsRequestFor t target r
-      → Admits look_up r now ↔ ((t.start ≤ now) × (now < t.start + t.expires))
+  pub admitted : (look_up : List ℕ → Option KnownKey) (r : Request) (n : Now) → Knows look_up t → IsRequestFor t target r
+      → Admits look_up r n ↔ (HasBegun n t.start × IsNotOver n t.start t.expires)

@@ -1,5 +1,5 @@
 -- The values of the six signing parameters, and the rules on their forms.
-use Rattle.std.specs.Prelude.{◌≡◌, ℕ, List, ◌∷◌, [], codes, ⊤, IsTrue, ◌⊎◌, IsFalse}
+use Rattle.std.specs.Prelude.{◌≡◌, ℕ, ◌-◌, List, take, drop, ◌∷◌, [], codes, ⊤, IsTrue, ◌⊎◌, IsFalse}
 use Rattle.std.specs.List.{list_any}
 use Rattle.sigtext.specs.declared.refusal.Refusal.{Refusal}
 use Rattle.sigtext.specs.declared.refusal.Refusal.TheVariants as rule
@@ -14,7 +14,7 @@ use Rattle.sigv4.specs.Dates.{WritesMoment}
 use Rattle.links.specs.Forms.{IsExpiry, IsSignatureText}
 use Rattle.links.specs.WellFormed.{HasValue, AreTheSix, is_signing_name, is_other_amz_name}
 use Rattle.links.specs.declared.six.RawSix.{RawSix}
-use Rattle.links.specs.declared.six.SixValues.{SixValues}
+use Rattle.links.specs.declared.six_values.SixValues.{SixValues}
 
 -- the text spells a value, and that is the one value of the parameter of this name
 abbrev pub SpellsValue : List ℕ → List Param → List ℕ → Type 0
@@ -29,14 +29,38 @@ pub record AreRawSix (six : RawSix) (params : List Param) : Type 0 where
   pub names : SpellsValue six.names.now params (codes "X-Amz-SignedHeaders")
   pub signature : SpellsValue six.signature.now params (codes "X-Amz-Signature")
 
+-- the values of the six
+pub record SixTexts : Type 0 where
+  pub algorithm : List ℕ
+  pub credential : List ℕ
+  pub date : List ℕ
+  pub expires : List ℕ
+  pub names : List ℕ
+  pub signature : List ℕ
+
+-- what of a text lies from one place up to another
+abbrev pub between : ℕ → ℕ → List ℕ → List ℕ
+between start end text = take (end - start) (drop start text)
+
+-- the pieces of the buffer
+abbrev pub texts_of : SixValues → SixTexts
+texts_of six = record {
+  algorithm = take six.algorithm_end six.bytes.items;
+  credential = between six.algorithm_end six.credential_end six.bytes.items;
+  date = between six.credential_end six.date_end six.bytes.items;
+  expires = between six.date_end six.expires_end six.bytes.items;
+  names = between six.expires_end six.names_end six.bytes.items;
+  signature = drop six.names_end six.bytes.items;
+}
+
 -- the values are those of the six
-pub record AreSixOf (six : SixValues) (params : List Param) : Type 0 where
-  pub algorithm : HasValue params (codes "X-Amz-Algorithm") six.algorithm.items
-  pub credential : HasValue params (codes "X-Amz-Credential") six.credential.items
-  pub date : HasValue params (codes "X-Amz-Date") six.date.items
-  pub expires : HasValue params (codes "X-Amz-Expires") six.expires.items
-  pub names : HasValue params (codes "X-Amz-SignedHeaders") six.names.items
-  pub signature : HasValue params (codes "X-Amz-Signature") six.signature.items
+pub record AreSixOf (six : SixTexts) (params : List Param) : Type 0 where
+  pub algorithm : HasValue params (codes "X-Amz-Algorithm") six.algorithm
+  pub credential : HasValue params (codes "X-Amz-Credential") six.credential
+  pub date : HasValue params (codes "X-Amz-Date") six.date
+  pub expires : HasValue params (codes "X-Amz-Expires") six.expires
+  pub names : HasValue params (codes "X-Amz-SignedHeaders") six.names
+  pub signature : HasValue params (codes "X-Amz-Signature") six.signature
 
 -- what the values say
 pub record SixParts : Type 0 where
@@ -47,17 +71,17 @@ pub record SixParts : Type 0 where
   pub names : List (List ℕ)
 
 -- the rules on the values' forms
-abbrev pub SixRule : SixValues → Refusal → SixParts → Type 0
-SixRule six rule.Algorithm p = six.algorithm.items ≡ codes "AWS4-HMAC-SHA256"
-SixRule six rule.Credential p = IsCredential six.credential.items six.date.items p.key_id p.scope
-SixRule six rule.Date p = WritesMoment six.date.items p.start
-SixRule six rule.Expiry p = IsExpiry six.expires.items p.expires
-SixRule six rule.SignedHeaders p = AreSignedNames six.names.items p.names
-SixRule six rule.SignatureText p = IsSignatureText six.signature.items
+abbrev pub SixRule : SixTexts → Refusal → SixParts → Type 0
+SixRule six rule.Algorithm p = six.algorithm ≡ codes "AWS4-HMAC-SHA256"
+SixRule six rule.Credential p = IsCredential six.credential six.date p.key_id p.scope
+SixRule six rule.Date p = WritesMoment six.date p.start
+SixRule six rule.Expiry p = IsExpiry six.expires p.expires
+SixRule six rule.SignedHeaders p = AreSignedNames six.names p.names
+SixRule six rule.SignatureText p = IsSignatureText six.signature
 SixRule six _ p = ⊤
 
 -- the sorted parameters and the values are those of parameters of the right names
-pub record AreRightParams (sorted : Params) (six : SixValues) (params : List Param) : Type 0 where
+pub record AreRightParams (sorted : Params) (six : SixTexts) (params : List Param) : Type 0 where
   pub signed : IsTrue (list_any (λ p. is_signing_name p.name) params)
   pub are_six : AreTheSix params
   pub holds : HoldsParams sorted params

@@ -17,7 +17,7 @@ use Rattle.sigv4.specs.Dates.{WritesMoment}
 use Rattle.links.specs.Forms.{IsExpiry, IsSignatureText}
 
 -- what the rules find in a request
-pub record Parts : Type 0 where
+pub record LinkValues : Type 0 where
   pub path : List ℕ  -- decoded
   pub params : List Param
   pub key_id : List ℕ
@@ -60,7 +60,7 @@ abbrev pub methods : List (List ℕ)
 methods = codes "PUT" ∷ codes "GET" ∷ codes "HEAD" ∷ codes "POST" ∷ []
 
 -- the rules of numbers 7 to 18; a refusal of another number has none here
-abbrev pub HeadRule : Refusal → Request → Parts → Type 0
+abbrev pub HeadRule : Refusal → Request → LinkValues → Type 0
 HeadRule rule.Method r p = IsTrue (list_any (same_bytes r.method) methods)
 HeadRule rule.Target r p = IsTargetOf r.target p.path p.params
 HeadRule rule.NotSigned r p = IsTrue (list_any (λ q. is_signing_name q.name) p.params)
@@ -80,5 +80,5 @@ HeadRule rule.HeaderNotSigned r p = IsTrue (list_all (is_covered p.signed) r.hea
 HeadRule _ r p = ⊤
 
 -- the request is well formed, and these are its parts
-abbrev pub IsWellFormed : Request → Parts → Type 0
+abbrev pub IsWellFormed : Request → LinkValues → Type 0
 IsWellFormed r p = (q : Refusal) → HeadRule q r p

@@ -2,14 +2,23 @@
 ghost use Rattle.std.specs.Prelude.{◌≡◌, ◌↔◌, ℕ, IsTrue, IfSome, IfNone};
 ghost use Rattle.std.specs.List.{list_all};
 ghost use Rattle.std.specs.Char.{is_ascii_digit};
+ghost use Rattle.sigtext.specs.Bytes.{IsWord};
 ghost use Rattle.links.specs.Forms.{IsExpiry, IsSignatureText, is_signature_digit};
 
 use crate::orders::MOST_SECONDS;
+use sigtext::is_word;
 
-fn are_digits(text: &[u8]) -> bool
-    ensures { result ≡ list_all is_ascii_digit text.now }
+fn is_digit(byte: u8) -> bool
+    ensures { result ≡ is_ascii_digit byte }
 {
-    text.iter().all(|byte| byte.is_ascii_digit())
+    byte.is_ascii_digit()
+}
+
+// Whether the text is 1 to 6 digits.
+fn is_short_number(text: &[u8]) -> bool
+    ensures { IsTrue result ↔ IsWord is_ascii_digit 6 text.now }
+{
+    is_word(text, 6, is_digit)
 }
 
 /// The seconds of an expiry: 1 to 604800, in 1 to 6 digits without a leading zero.
@@ -17,10 +26,10 @@ pub(crate) fn read_expiry(text: &[u8]) -> Option<u64>
     ensures some { IfSome result (IsExpiry text.now) }
     ensures none { IfNone result ((n : ℕ) → IsExpiry text.now n → ⊥) }
 {
-    if text.is_empty() || text.len() > 6 || text[0] == b'0' {
+    if !is_short_number(text) {
         return None;
     }
-    if !are_digits(text) {
+    if text[0] == b'0' {
         return None;
     }
     let Ok(digits) = str::from_utf8(text) else {

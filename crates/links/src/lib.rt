@@ -2,15 +2,20 @@
 #![tactic(auto)]
 
 mod forms;
+pub mod inspecting;
 pub mod judging;
 pub mod laws;
-pub mod link;
+pub mod link_parts;
+pub mod methods;
 pub mod orders;
 mod six;
+mod six_values;
 pub mod writing;
 
+pub use inspecting::inspect;
 pub use judging::judge;
 pub use laws::law_of_parts;
-pub use link::{LinkParts, inspect};
-pub use orders::{LinkFault, LinkKey, LinkOrder, OrderParam, is_served_method};
+pub use link_parts::LinkParts;
+pub use methods::Method;
+pub use orders::{LinkFault, LinkKey, LinkOrder, OrderParam};
 pub use writing::write_link;

@@ -1,7 +1,7 @@
 //! Orders of links: what a link is to say, and which orders can be met.
 ghost use Rattle.std.specs.Prelude.{◌≡◌, ◌≢◌, ◌↔◌, IsTrue, OnOk, IfErr, map, length, codes};
-ghost use Rattle.std.specs.List.{list_all, list_any, AllByRecursion};
-ghost use Rattle.sigtext.specs.Bytes.{IsWord, is_visible, same_bytes};
+ghost use Rattle.std.specs.List.{AllByRecursion};
+ghost use Rattle.sigtext.specs.Bytes.{IsWord, is_visible};
 ghost use Rattle.sigtext.specs.Fields.{header_of};
 ghost use Rattle.sigtext.specs.Params.{params_named};
 ghost use Rattle.sigtext.specs.SignedHeaders.{trimmed, lower_case, named};
@@ -9,10 +9,10 @@ ghost use Rattle.sigtext.specs.SignedNames.{IsHeaderName};
 ghost use Rattle.sigtext.specs.SignedValues.{IsFitValue};
 ghost use Rattle.sigtext.specs.Target.{BeginsWithSlash};
 ghost use Rattle.sigv4.specs.Credential.{IsKeyId, IsSecret};
-ghost use Rattle.links.specs.WellFormed.{methods};
 ghost use Rattle.links.specs.Orders.{param_of, terms_of, IsOwnParam, IsOwnHeader, AreSound, IsFirstFault};
 
-use sigtext::{Field, is_fit_value, is_header_name, only_field, trim_blanks};
+use crate::methods::Method;
+use sigtext::{Field, is_fit_value, is_header_name, is_visible, is_word, only_field, trim_blanks};
 use sigv4::{Moment, is_key_id, is_region, is_secret};
 use thiserror::Error;
 
@@ -89,16 +89,6 @@ pub enum LinkFault {
 /// The greatest expiry: seven days.
 pub(crate) const MOST_SECONDS: u64 = 604_800;
 
-/// Whether the method is PUT, GET, HEAD or POST.
-pub fn is_served_method(method: &[u8]) -> bool
-    ensures { result ≡ list_any (same_bytes method.now) methods }
-{
-    method == b"PUT".as_slice()
-        || method == b"GET".as_slice()
-        || method == b"HEAD".as_slice()
-        || method == b"POST".as_slice()
-}
-
 fn begins_with_slash(path: &[u8]) -> bool
     ensures { IsTrue result ↔ BeginsWithSlash path.now }
 {
@@ -158,16 +148,10 @@ fn are_own_headers(headers: &[Field<'_>]) -> bool
     headers.iter().all(|header| is_own_header(headers, header))
 }
 
-fn are_visible(text: &[u8]) -> bool
-    ensures { result ≡ list_all is_visible text.now }
-{
-    text.iter().all(|byte| matches!(byte, 0x21..=0x7E))
-}
-
 fn is_host(host: &[u8]) -> bool
     ensures { IsTrue result ↔ IsWord is_visible 255 host.now }
 {
-    !host.is_empty() && host.len() <= 255 && are_visible(host)
+    is_word(host, 255, is_visible)
 }
 
 fn is_key(key: &LinkKey<'_>) -> bool
@@ -187,7 +171,7 @@ pub(crate) fn check_order(
     ensures ok { OnOk result (AreSound (terms_of order.now key.now host.now region.now)) }
     ensures err { IfErr result (λ f. (f ≢ LinkFault.Memory) × IsFirstFault (terms_of order.now key.now host.now region.now) f) }
 {
-    if !is_served_method(order.method) {
+    if Method::read(order.method).is_none() {
         return Err(LinkFault::Method);
     }
     if !begins_with_slash(order.path) {

@@ -7,32 +7,35 @@ ghost use Rattle.sigtext.specs.Target.{Param};
 ghost use Rattle.sigtext.specs.Targets.{SpellsReading};
 ghost use Rattle.sigtext.specs.Signing.{HoldsParams};
 ghost use Rattle.links.specs.WellFormed.{is_signing_name, is_other_amz_name, AreThere};
-ghost use Rattle.links.specs.SixValues.{AreRawSix, AreSixOf, AreRightParams, AreWrongParams, HaveNames};
+ghost use Rattle.links.specs.SixValues.{AreRawSix, AreRightParams, AreWrongParams, HaveNames, texts_of};
 
+use crate::six_values::SixValues;
 use percent_encoding::percent_decode;
 use sigtext::{Params, Refusal, Target, decodes_to};
-use std::alloc::{AllocError, Global};
+use std::alloc::Global;
 
 /// The raw values of the six.
 #[derive(Clone, Copy)]
 pub(crate) struct RawSix<'a> {
-    algorithm: &'a [u8],
-    credential: &'a [u8],
-    date: &'a [u8],
-    expires: &'a [u8],
-    names: &'a [u8],
-    signature: &'a [u8],
+    pub(crate) algorithm: &'a [u8],
+    pub(crate) credential: &'a [u8],
+    pub(crate) date: &'a [u8],
+    pub(crate) expires: &'a [u8],
+    pub(crate) names: &'a [u8],
+    pub(crate) signature: &'a [u8],
 }
 
-/// The values of the six, decoded.
-#[derive(Drop)]
-pub(crate) struct SixValues {
-    pub algorithm: Vec<u8>,
-    pub credential: Vec<u8>,
-    pub date: Vec<u8>,
-    pub expires: Vec<u8>,
-    pub names: Vec<u8>,
-    pub signature: Vec<u8>,
+impl RawSix<'_> {
+    /// The length of all six, or the greatest number where that is greater.
+    pub(crate) fn len(&self) -> usize {
+        self.algorithm
+            .len()
+            .saturating_add(self.credential.len())
+            .saturating_add(self.date.len())
+            .saturating_add(self.expires.len())
+            .saturating_add(self.names.len())
+            .saturating_add(self.signature.len())
+    }
 }
 
 // What the names of signing parameters begin with.
@@ -54,17 +57,10 @@ fn is_signing(name: &[u8]) -> bool
 fn has_prefix(name: &[u8]) -> bool
     ensures { result ≡ begins_with (escapes.percent_decode name.now) (codes "X-Amz-") }
 {
-    let mut at = 0;
-    for byte in percent_decode(name) {
-        if at == PREFIX.len() {
-            return true;
-        }
-        if PREFIX[at] != byte {
-            return false;
-        }
-        at += 1;
-    }
-    at == PREFIX.len()
+    PREFIX
+        .iter()
+        .copied()
+        .eq(percent_decode(name).take(PREFIX.len()))
 }
 
 // Whether the raw name begins with `X-Amz-` and is none of the six.
@@ -121,27 +117,6 @@ fn raw_six<'a>(params: &Params<'a>) -> Option<RawSix<'a>>
     })
 }
 
-fn decoded(alloc: Global, text: &[u8]) -> Result<Vec<u8>, AllocError>
-    ensures { IfOk result (λ bytes. bytes.items ≡ escapes.percent_decode text.now) }
-{
-    let mut bytes = Vec::new(alloc);
-    percent_decode(text).append_to(&mut bytes)?;
-    Ok(bytes)
-}
-
-fn decoded_six(alloc: Global, raw: RawSix<'_>) -> Result<SixValues, AllocError>
-    ensures { IfOk result (λ six. (ps : List Param) → AreRawSix raw.entry ps → AreSixOf six ps) }
-{
-    Ok(SixValues {
-        algorithm: decoded(alloc, raw.algorithm)?,
-        credential: decoded(alloc, raw.credential)?,
-        date: decoded(alloc, raw.date)?,
-        expires: decoded(alloc, raw.expires)?,
-        names: decoded(alloc, raw.names)?,
-        signature: decoded(alloc, raw.signature)?,
-    })
-}
-
 /// The parameters of a target in order, and the values of the six among them. Refusal 9 where none of the
 /// six is there; refusal 10 where one is missing, a name stands twice, or another name begins with
 /// `X-Amz-`; refusal 40 where memory was refused.
@@ -150,7 +125,7 @@ pub(crate) fn read_six<'a>(
     target: &Target<'a>,
 ) -> Result<(Params<'a>, SixValues), Refusal>
     ensures ok { IfOk result (λ found. (path : List ℕ) (params : List Param) → SpellsReading target.now path params
-        → AreRightParams found.0 found.1 params) }
+        → AreRightParams found.0 (texts_of found.1) params) }
     ensures err { IfErr result (λ q. (q ≢ Refusal.TryAgain) → (path : List ℕ) (params : List Param) → SpellsReading target.now path params
         → AreWrongParams q params) }
     ensures named { IfErr result (λ q. q ≡ Refusal.TryAgain → (path : List ℕ) (params : List Param) → SpellsReading target.now path params
@@ -166,7 +141,7 @@ pub(crate) fn read_six<'a>(
     let Some(raw) = raw_six(&params) else {
         return Err(Refusal::Parameters);
     };
-    match decoded_six(alloc, raw) {
+    match SixValues::decode(alloc, raw) {
         Ok(six) => Ok((params, six)),
         Err(_) => Err(Refusal::TryAgain),
     }

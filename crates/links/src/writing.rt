@@ -21,13 +21,12 @@ ghost use Rattle.sigv4.specs.Signature.{scope_text};
 ghost use Rattle.links.specs.Drafts.{param, draft_values, draft_params, target_text, HasBytes};
 ghost use Rattle.links.specs.Orders.{param_of, terms_of, AreSound, IsFirstFault, IsLinkFor};
 
-use crate::judging::signature_of_parts;
 use crate::orders::{LinkFault, LinkKey, LinkOrder, OrderParam, check_order};
 use itoa::Buffer;
 use sigtext::{
     Field, Params, Parts, Refusal, SignedNames, Slash, Target, signed_values, uri_encode,
 };
-use sigv4::Scope;
+use sigv4::{Scope, signature};
 use std::alloc::{AllocError, Global};
 use std::cmp::Ordering;
 
@@ -240,18 +239,18 @@ fn link_text(
         region,
     };
     let credential = credential_text(alloc, &scope)?;
-    let mut digits = Buffer::new();
+    let mut number = Buffer::new();
     let five = DraftTexts {
         credential: &credential,
         date: &date,
-        expires: digits.format(order.expires).as_bytes(),
+        expires: number.format(order.expires).as_bytes(),
         names: &names,
     };
     let params = all_params(alloc, &five, order.params)?;
     let draft = draft_text(alloc, order.path, &params)?;
     let parts = read_parts(alloc, order.method, &draft, &fields, &names)?;
-    let signature = signature_of_parts(alloc, &parts, &scope, &order.start, key.secret)?;
-    final_text(alloc, order.path, &parts.params, &signature)
+    let digits = signature(key.secret, &scope, &order.start, &parts);
+    final_text(alloc, order.path, &parts.params, &digits)
 }
 
 /// Appends a link to `out`: `path?query&X-Amz-Signature=signature`, path and query in canonical form. Sent to

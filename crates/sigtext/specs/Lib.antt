@@ -9,6 +9,7 @@ pub mod Request
 pub mod Refusals
 pub mod Rules
 pub mod Counts
+pub mod Limits
 pub mod Fields
 pub mod Targets
 pub mod Params

@@ -13,6 +13,7 @@ mod sending;
 pub mod sink;
 pub mod target;
 pub mod values;
+pub mod words;
 
 pub use canonical::{Parts, canonical_into};
 pub use encode::{Slash, uri_encode};
@@ -25,6 +26,7 @@ pub use refusal::Refusal;
 pub use sink::ByteSink;
 pub use target::{Pairs, RawParam, Target, TextFault};
 pub use values::{Values, signed_values};
+pub use words::{is_visible, is_word};
 
 #[cfg(test)]
 mod tests;

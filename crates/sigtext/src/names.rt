@@ -5,6 +5,7 @@ ghost use Rattle.sigtext.specs.SignedNames.{is_header_name_byte, IsHeaderName, A
 ghost use Rattle.sigtext.specs.CanonicalQuery.{ascends};
 
 use crate::refusal::Refusal;
+use crate::words::is_word;
 
 /// The names of the signed headers: lower-case, strictly ascending, with `host` among them.
 #[derive(Clone, Copy, Debug)]
@@ -44,10 +45,7 @@ fn is_name_byte(byte: u8) -> bool
 pub fn is_header_name(text: &[u8]) -> bool
     ensures { IsTrue result ↔ IsHeaderName text.now }
 {
-    if text.is_empty() || text.len() > 64 {
-        return false;
-    }
-    text.iter().all(|byte| is_name_byte(*byte))
+    is_word(text, 64, is_name_byte)
 }
 
 // Whether each piece of the text at `;` is a header name.

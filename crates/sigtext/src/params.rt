@@ -64,7 +64,7 @@ fn collect<'a>(alloc: Global, target: &Target<'a>) -> Result<Vec<RawParam<'a>>, 
     ensures { IfOk result (λ items. (path : List ℕ) (params : List Param) → SpellsReading target.now path params
         → SpellRawParams items.items params) }
 {
-    let mut items = Vec::new(alloc);
+    let mut items = Vec::with_capacity(alloc, target.pairs().count())?;
     for raw in target.pairs() {
         items.push(raw)?;
     }

@@ -53,7 +53,10 @@ fn values_named<'a>(
     ensures err { IfErr result (λ q. (q ≢ Refusal.TryAgain) → (q ≡ Refusal.SignedValues)
         × ((signed : List Header) → ValueRule (map header_of fields.now) (map lower_case (slice_split (λ b. b == 59) names.now)) Refusal.SignedValues signed → ⊥)) }
 {
-    let mut values = Vec::new(alloc);
+    let most = names.split(|byte| *byte == b';').count().min(fields.len());
+    let Ok(mut values) = Vec::with_capacity(alloc, most) else {
+        return Err(Refusal::TryAgain);
+    };
     for name in names.split(|byte| *byte == b';') {
         let Some(field) = signed_field(fields, name) else {
             return Err(Refusal::SignedValues);

@@ -7,7 +7,7 @@ use Rattle.std.proofs.lemmas.Bool.{and_from}
 use Rattle.std.proofs.lemmas.Bool.Decides.{nat_tests}
 use Rattle.std.proofs.lemmas.List.{take-append-drop}
 use Rattle.sigtext.specs.Bytes.{begins_with}
-use Rattle.sigv4.specs.Dates.{Stamp, stamp_text, WritesMoment}
+use Rattle.sigv4.specs.Dates.{CivilTime, civil_time_text, WritesMoment}
 
 digit : (n : ℕ) → is_ascii_digit (48 + n % 10) ≡ true
 digit n = grind (arith, nat_tests)
@@ -25,8 +25,8 @@ begins_with_itself : (front rest : List ℕ) → IsTrue (begins_with (front ++ r
 begins_with_itself [] rest = refl
 begins_with_itself (b ∷ front) rest = and_from _ _ (same_byte b) (begins_with_itself front rest)
 
-day_of_stamp : (s : Stamp) → (length (take 8 (stamp_text s)) ≡ 8) × IsTrue (list_all is_ascii_digit (take 8 (stamp_text s)))
-day_of_stamp s = (refl, eight (s.year / 100 / 10) (s.year / 100) (s.year % 100 / 10) (s.year % 100) (s.month / 10) s.month (s.day / 10) s.day)
+day_of_time : (s : CivilTime) → (length (take 8 (civil_time_text s)) ≡ 8) × IsTrue (list_all is_ascii_digit (take 8 (civil_time_text s)))
+day_of_time s = (refl, eight (s.year / 100 / 10) (s.year / 100) (s.year % 100 / 10) (s.year % 100) (s.month / 10) s.month (s.day / 10) s.day)
 
 begins_with_front : (n : ℕ) (text : List ℕ) → IsTrue (begins_with text (take n text))
 begins_with_front n text = subst (λ (whole : List ℕ). IsTrue (begins_with whole (take n text))) (take-append-drop n text) (begins_with_itself (take n text) (drop n text))
@@ -34,7 +34,7 @@ begins_with_front n text = subst (λ (whole : List ℕ). IsTrue (begins_with who
 -- the first eight bytes are eight digits, with which the text begins
 pub day_of : (text : List ℕ) (moment : ℕ) → WritesMoment text moment → (length (take 8 text) ≡ 8) × IsTrue (list_all is_ascii_digit (take 8 text)) × IsTrue (begins_with text (take 8 text))
 day_of text moment w =
-    let day = day_of_stamp w.stamp in (
+    let day = day_of_time w.time in (
       subst (λ (t : List ℕ). length (take 8 t) ≡ 8) (sym w.written) day.0,
       subst (λ (t : List ℕ). IsTrue (list_all is_ascii_digit (take 8 t))) (sym w.written) day.1,
       begins_with_front 8 text,

@@ -55,8 +55,8 @@ signature = refl
 pub first : WritesMoment (codes "19700101T000000Z") 0
 unfolding jiff_on_literals
 first = record {
-  stamp = record { year = 1970; month = 1; day = 1; hour = 0; minute = 0; second = 0 };
-  is_stamp = record {
+  time = record { year = 1970; month = 1; day = 1; hour = 0; minute = 0; second = 0 };
+  is_civil_time = record {
     from = lit≤ tt;
     civil = ((omega (arith, ints), omega (arith, ints)), (omega (arith, ints), omega (arith, ints)), (omega (arith, ints), omega (arith, ints)));
     hour = lit< tt;
@@ -71,8 +71,8 @@ first = record {
 pub may_24 : WritesMoment (codes "20130524T000000Z") 1369353600
 unfolding jiff_on_literals
 may_24 = record {
-  stamp = record { year = 2013; month = 5; day = 24; hour = 0; minute = 0; second = 0 };
-  is_stamp = record {
+  time = record { year = 2013; month = 5; day = 24; hour = 0; minute = 0; second = 0 };
+  is_civil_time = record {
     from = lit≤ tt;
     civil = ((omega (arith, ints), omega (arith, ints)), (omega (arith, ints), omega (arith, ints)), (omega (arith, ints), omega (arith, ints)));
     hour = lit< tt;
@@ -87,8 +87,8 @@ may_24 = record {
 pub last : WritesMoment (codes "99991231T235959Z") 253402300799
 unfolding jiff_on_literals
 last = record {
-  stamp = record { year = 9999; month = 12; day = 31; hour = 23; minute = 59; second = 59 };
-  is_stamp = record {
+  time = record { year = 9999; month = 12; day = 31; hour = 23; minute = 59; second = 59 };
+  is_civil_time = record {
     from = lit≤ tt;
     civil = ((omega (arith, ints), omega (arith, ints)), (omega (arith, ints), omega (arith, ints)), (omega (arith, ints), omega (arith, ints)));
     hour = lit< tt;

@@ -5,3 +5,4 @@ pub mod Signature
 pub mod Credential
 pub mod Scopes
 pub mod Stamps
+pub mod Feeding

@@ -70,7 +70,7 @@ impl Stamp {
     // The date and the time of a moment.
     fn at(seconds: u64) -> Stamp
         requires { seconds ≤ 253402300799 }
-        ensures on_the_calendar { dates.IsStamp (stamp_of result) }
+        ensures on_the_calendar { dates.IsCivilTime (stamp_of result) }
         ensures same { dates.IsSeconds (stamp_of result) seconds }
     {
         let date = date_of((seconds / SECONDS_PER_DAY) as u32);
@@ -87,8 +87,8 @@ impl Stamp {
 
     // The moment, where the calendar has the date and the clock the time, from 1970 on.
     fn seconds(&self) -> Option<u64>
-        ensures found { IfSome result (λ n. dates.IsStamp (stamp_of self.now) × dates.IsSeconds (stamp_of self.now) n) }
-        ensures absent { IfNone result (dates.IsStamp (stamp_of self.now) → ⊥) }
+        ensures found { IfSome result (λ n. dates.IsCivilTime (stamp_of self.now) × dates.IsSeconds (stamp_of self.now) n) }
+        ensures absent { IfNone result (dates.IsCivilTime (stamp_of self.now) → ⊥) }
     {
         if self.year < 1970 || self.hour > 23 || self.minute > 59 || self.second > 59 {
             return None;
@@ -103,8 +103,8 @@ impl Stamp {
 
     // What the bytes write.
     fn read(text: &[u8; 16]) -> Option<Stamp>
-        ensures found { IfSome result (λ s. text.now ≡ dates.stamp_text (stamp_of s)) }
-        ensures absent { IfNone result ((s : dates.Stamp) → text.now ≡ dates.stamp_text s → ⊥) }
+        ensures found { IfSome result (λ s. text.now ≡ dates.civil_time_text (stamp_of s)) }
+        ensures absent { IfNone result ((s : dates.CivilTime) → text.now ≡ dates.civil_time_text s → ⊥) }
     {
         if text[8] != b'T' || text[15] != b'Z' {
             return None;
@@ -128,7 +128,7 @@ impl Stamp {
 
     // yyyyMMddTHHmmssZ
     fn text(&self) -> [u8; 16]
-        ensures { result ≡ dates.stamp_text (stamp_of self.now) }
+        ensures { result ≡ dates.civil_time_text (stamp_of self.now) }
     {
         let month = u16::from(self.month);
         let day = u16::from(self.day);

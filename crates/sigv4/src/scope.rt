@@ -2,12 +2,12 @@
 ghost use Rattle.std.specs.Prelude.{◌≡◌, ◌≢◌, ◌↔◌, ℕ, List, ◌∷◌, ◌++◌, length, IsTrue, IfSome, IfNone, IfOk, IfErr};
 ghost use Rattle.std.specs.List.{All, list_all};
 ghost use Rattle.std.specs.Char.{is_ascii_digit};
-ghost use Rattle.sigtext.specs.Bytes.{begins_with, is_visible};
+ghost use Rattle.sigtext.specs.Bytes.{begins_with};
 ghost use Rattle.sigv4.specs.Signature.{CredentialScope, scope_text};
 ghost use Rattle.sigv4.specs.Credential.{is_key_byte, is_region_byte, IsKeyId, IsRegion, IsSecret, IsCredential};
 ghost use Rattle.sigv4.specs.Scopes.{scope_of};
 
-use sigtext::Refusal;
+use sigtext::{Refusal, is_visible, is_word};
 
 /// A credential: the key id, and what of its scope is not fixed.
 #[derive(Clone, Copy, Debug)]
@@ -20,43 +20,37 @@ pub struct Scope<'a> {
     pub region: &'a [u8],
 }
 
-fn are_key_bytes(text: &[u8]) -> bool
-    ensures { result ≡ list_all is_key_byte text.now }
+fn is_key_byte(byte: u8) -> bool
+    ensures { result ≡ is_key_byte byte }
 {
-    text.iter().all(|byte| byte.is_ascii_alphanumeric() || matches!(byte, b'-' | b'_'))
+    byte.is_ascii_alphanumeric() || matches!(byte, b'-' | b'_')
 }
 
 /// Whether the text has the form of a key id: 1 to 64 bytes of `A-Z a-z 0-9 - _`.
 pub fn is_key_id(text: &[u8]) -> bool
     ensures { IsTrue result ↔ IsKeyId text.now }
 {
-    !text.is_empty() && text.len() <= 64 && are_key_bytes(text)
-}
-
-fn are_visible(text: &[u8]) -> bool
-    ensures { result ≡ list_all is_visible text.now }
-{
-    text.iter().all(|byte| matches!(byte, 0x21..=0x7E))
+    is_word(text, 64, is_key_byte)
 }
 
 /// Whether the text has the form of a key's secret: 1 to 128 bytes 0x21 to 0x7E.
 pub fn is_secret(text: &[u8]) -> bool
     ensures { IsTrue result ↔ IsSecret text.now }
 {
-    !text.is_empty() && text.len() <= 128 && are_visible(text)
+    is_word(text, 128, is_visible)
 }
 
-fn are_region_bytes(text: &[u8]) -> bool
-    ensures { result ≡ list_all is_region_byte text.now }
+fn is_region_byte(byte: u8) -> bool
+    ensures { result ≡ is_region_byte byte }
 {
-    text.iter().all(|byte| byte.is_ascii_lowercase() || byte.is_ascii_digit() || *byte == b'-')
+    byte.is_ascii_lowercase() || byte.is_ascii_digit() || byte == b'-'
 }
 
 /// Whether the text has the form of a region: 1 to 32 bytes of `a-z 0-9 -`.
 pub fn is_region(text: &[u8]) -> bool
     ensures { IsTrue result ↔ IsRegion text.now }
 {
-    !text.is_empty() && text.len() <= 32 && are_region_bytes(text)
+    is_word(text, 32, is_region_byte)
 }
 
 fn are_digits(text: &[u8]) -> bool

@@ -1,8 +1,10 @@
 //! The signing key and the signature (Amazon S3 API Reference, "Authenticating Requests: Using Query
 //! Parameters", tasks 2 and 3 of the calculation).
-ghost use Rattle.std.specs.Prelude.{◌≡◌, ℕ, List, IsOk, Ok};
+ghost use Rattle.std.specs.Prelude.{◌≡◌, ℕ, List};
 ghost use Rattle.sha2.specs.Sha256.{sha256};
 ghost use Rattle.hex.specs.Hex.{encode_lower};
+ghost use Rattle.sigtext.specs.CanonicalRequest.{Signed, IsCanonicalRequest, IsTheOnly};
+ghost use Rattle.sigtext.specs.Signing.{AreOf};
 ghost use Rattle.sigv4.specs.Hmac.{hmac};
 ghost use Rattle.sigv4.specs.Signature.{signing_key, signature_of};
 ghost use Rattle.sigv4.specs.Dates.{WritesMoment};
@@ -12,7 +14,7 @@ use crate::hash::{Hmac, Sha};
 use crate::moment::Moment;
 use crate::scope::Scope;
 use hex::encode_to_slice;
-use std::alloc::AllocError;
+use sigtext::{Parts, canonical_into};
 
 fn keyed(key: &[u8], text: &[u8]) -> [u8; 32]
     ensures { result ≡ hmac key.now text.now }
@@ -22,12 +24,16 @@ fn keyed(key: &[u8], text: &[u8]) -> [u8; 32]
     hmac.finish()
 }
 
-fn digest_of(text: &[u8]) -> [u8; 32]
-    ensures { result ≡ sha256 text.now }
+// The SHA-256 of the canonical request, which no hasher refuses.
+fn canonical_digest(parts: &Parts<'_>) -> [u8; 32]
+    ensures { (signed : Signed) → AreOf parts.now signed
+        → (text : List ℕ) × IsTheOnly (IsCanonicalRequest signed) text × (result ≡ sha256 text) }
 {
     let mut sha = Sha::new();
-    sha.update(text);
-    sha.finish()
+    match canonical_into(parts, &mut sha) {
+        Ok(()) => sha.finish(),
+        Err(_) => unreachable!(),
+    }
 }
 
 // In lower case.
@@ -51,18 +57,15 @@ pub fn derive(secret: &[u8], scope: &Scope<'_>) -> [u8; 32]
     keyed(&of_service, b"aws4_request")
 }
 
-/// The signature of a canonical request: 64 hexadecimal digits in lower case. Takes no memory, so it
-/// is always `Ok`.
-pub fn signature(
-    secret: &[u8],
-    scope: &Scope<'_>,
-    moment: &Moment,
-    canonical: &[u8],
-) -> Result<[u8; 64], AllocError>
-    ensures value { (text : List ℕ) → WritesMoment text moment.now → result ≡ Ok (signature_of secret.now text (scope_of scope.now) canonical.now) }
-    ensures ok { IsOk result }
+/// The signature of the canonical request of the parts: 64 hexadecimal digits in lower case. The request
+/// and the string to sign are sent to the hashers piece after piece, so it takes no memory.
+pub fn signature(secret: &[u8], scope: &Scope<'_>, moment: &Moment, parts: &Parts<'_>) -> [u8; 64]
+    ensures { (signed : Signed) → AreOf parts.now signed
+        → (text : List ℕ) × IsTheOnly (IsCanonicalRequest signed) text
+        × ((date : List ℕ) → WritesMoment date moment.now
+        → result ≡ signature_of secret.now date (scope_of scope.now) text) }
 {
-    let digest = hex_digits(digest_of(canonical));
+    let digest = hex_digits(canonical_digest(parts));
     let mut signed = Hmac::new(&derive(secret, scope));
     signed.update(b"AWS4-HMAC-SHA256\n");
     signed.update(&moment.text());
@@ -72,5 +75,5 @@ pub fn signature(
     signed.update(scope.region);
     signed.update(b"/s3/aws4_request\n");
     signed.update(&digest);
-    Ok(hex_digits(signed.finish()))
+    hex_digits(signed.finish())
 }

@@ -6,6 +6,7 @@ use Rattle.std.specs.Str.Parse.{digits_value}
 use Rattle.httparse.specs.Grammar.{RequestHead, Field, field_value, ReadsRequest}
 use Rattle.sigtext.specs.declared.refusal.Refusal.{Refusal}
 use Rattle.sigtext.specs.declared.refusal.Refusal.TheVariants as rule
+use Rattle.sigtext.specs.Limits.{most_body, most_fields, most_head}
 use Rattle.sigtext.specs.Request.{Request}
 use Rattle.sigtext.specs.SignedHeaders.{Header, named}
 
@@ -17,7 +18,7 @@ EndsHead bytes = (front : List ℕ) × (bytes ≡ front ++ 13 ∷ 10 ∷ 13 ∷ 
 pub record IsFront (stream head rest : List ℕ) : Type 0 where
   pub whole : stream ≡ head ++ rest
   pub ends : EndsHead head
-  pub short : length head ≤ 8192
+  pub short : length head ≤ most_head
   pub shortest : (front more : List ℕ) → head ≡ front ++ more → EndsHead front → more ≡ []
 
 abbrev pub HasNoFront : List ℕ → Type 0
@@ -26,14 +27,14 @@ HasNoFront stream = (head rest : List ℕ) → IsFront stream head rest → ⊥
 -- the bytes are, as a whole, one request head with at most 64 fields
 pub record IsHead (bytes : List ℕ) (head : RequestHead) : Type 0 where
   pub reads : ReadsRequest bytes head []
-  pub few : length head.fields ≤ 64
+  pub few : length head.fields ≤ most_fields
 
 -- a field, its value without the white space around it
-abbrev pub header_of : Field → Header
-header_of f = record { name = f.name; value = field_value f }
+abbrev pub framed_header : Field → Header
+framed_header f = record { name = f.name; value = field_value f }
 
 abbrev pub headers_of : RequestHead → List Header
-headers_of head = map header_of head.fields
+headers_of head = map framed_header head.fields
 
 -- 1 to 10 digits, and their number
 pub record IsLength (text : List ℕ) (n : ℕ) : Type 0 where
@@ -80,8 +81,8 @@ pub data Step : Type 0 where
 -- stand here: the length of the head before its form, and the body's last.
 pub data Next (stream : List ℕ) : Step → List ℕ → Type 0 where
   ended : stream ≡ [] → Next stream Ended []
-  truncated : 0 < length stream → length stream < 8192 → HasNoFront stream → Next stream Truncated []
-  too_long : 8192 ≤ length stream → HasNoFront stream → Next stream (Refused rule.HeadTooLong) []
+  truncated : 0 < length stream → length stream < most_head → HasNoFront stream → Next stream Truncated []
+  too_long : most_head ≤ length stream → HasNoFront stream → Next stream (Refused rule.HeadTooLong) []
   malformed : (front rest : List ℕ) → IsFront stream front rest → ((head : RequestHead) → IsHead front head → ⊥)
       → Next stream (Refused rule.HeadMalformed) []
   coded : (front rest : List ℕ) (head : RequestHead) → IsFront stream front rest → IsHead front head → IsCoded (headers_of head)
@@ -89,15 +90,9 @@ pub data Next (stream : List ℕ) : Step → List ℕ → Type 0 where
   no_length : (front rest : List ℕ) (head : RequestHead) → IsFront stream front rest → IsHead front head
       → named (codes "transfer-encoding") (headers_of head) ≡ []
       → ((has_length : Bool) (n : ℕ) → Announces (headers_of head) has_length n → ⊥) → Next stream (Refused rule.LengthMalformed) []
-  too_large : (head : RequestHead) (n : ℕ) (rest : List ℕ) → HasHead stream head true n rest → 1048576 < n
+  too_large : (head : RequestHead) (n : ℕ) (rest : List ℕ) → HasHead stream head true n rest → most_body < n
       → Next stream (Refused rule.BodyTooLarge) []
-  incomplete : (head : RequestHead) (n : ℕ) (rest : List ℕ) → HasHead stream head true n rest → n ≤ 1048576 → length rest < n
+  incomplete : (head : RequestHead) (n : ℕ) (rest : List ℕ) → HasHead stream head true n rest → n ≤ most_body → length rest < n
       → Next stream (Refused rule.BodyIncomplete) []
   whole : (head : RequestHead) (has_length : Bool) (n : ℕ) (body rest : List ℕ) → HasHead stream head has_length n (body ++ rest)
-      → n ≤ 1048576 → length body ≡ n → Next stream (Message (request_of head has_length body)) rest
-
--- the messages of a stream, and the step that ends them
-pub data Messages : List ℕ → List Request → Step → Type 0 where
-  stops : (stream : List ℕ) (step : Step) → Next stream step [] → ((r : Request) → step ≢ Message r) → Messages stream [] step
-  goes_on : (stream rest : List ℕ) (r : Request) (rs : List Request) (step : Step)
-      → Next stream (Message r) rest → Messages rest rs step → Messages stream (r ∷ rs) step
+      → n ≤ most_body → length body ≡ n → Next stream (Message (request_of head has_length body)) rest

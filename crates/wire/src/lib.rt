@@ -5,8 +5,14 @@ pub mod answer;
 pub mod counted;
 #[cfg(test)]
 mod fakes;
+pub mod fault;
+pub mod filling;
 pub mod head;
+pub mod sending;
 
 pub use answer::{Answer, Reply, put_answer};
-pub use counted::{Counted, Filled, Stop, WireFault, fill, send};
+pub use counted::Counted;
+pub use fault::WireFault;
+pub use filling::{Filled, Stop, fill};
 pub use head::{Head, Message, head_end, read_head};
+pub use sending::send;

@@ -3,6 +3,9 @@ use Rattle.std.specs.Str.Parse.{IsNumeral, digits_value, without_leading_plus}
 use Rattle.links.proofs.Digits.{digits_utf8, plus_stays, numeral}
 use Rattle.links.proofs.forms.read_expiry.Goals as goal
 
+pub bounds-text-0 : goal.bounds-text-0
+bounds-text-0 c = (c.is_short_number.ensures.0 c.if-not-is_short_number.false).some
+
 pub returns-in_default-clause-none : goal.returns-in_default-clause-none
 returns-in_default-clause-none c n x = c.in_default.ensures.cases.0 (digits_utf8 c.args.text.now x.digits.each)
 

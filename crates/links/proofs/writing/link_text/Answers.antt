@@ -71,7 +71,7 @@ returns c =
       names = subst (λ (ns : List (List ℕ)). AreSignedNames c.deref-3.result.now ns) (sym (map-map (λ (h : Header). h.name) header_of fields)) (subst (λ (x : List ℕ). AreSignedNames x (map (λ f. f.name.now) fields)) (sym names) signed);
       headers = c.in_ok-fields.ensures.moved;
     } in
-    let (request, only, same) = c.in_ok-signature.ensures (drafted t five hs) are in
+    let (request, only, same) = c.signature-digits.ensures (drafted t five hs) are in
     IfOk-weaker c.final_text.result _ _ (λ out wrote.
     let (query, query_is, is) = wrote (draft_params five t.params) are.params in
-    link_from t five scope hs c.in_ok-signature.signature out.items request query c.requires texts c.in_ok-draft.ensures.bytes.0 bytes only same query_is is) c.final_text.ensures
+    link_from t five scope hs c.signature-digits.result out.items request query c.requires texts c.in_ok-draft.ensures.bytes.0 bytes only same query_is is) c.final_text.ensures

@@ -8,10 +8,10 @@ use Rattle.sigtext.specs.Fields.{header_of}
 use Rattle.sigtext.proofs.ValuesNamed.{goes_on, stops, all_came}
 use Rattle.sigtext.proofs.values.values_named.Goals as goal
 
-pub returns-in_default-clause-err : goal.returns-in_default-clause-err
-returns-in_default-clause-err c =
+pub returns-in_default-signed_field-clause-err : goal.returns-in_default-signed_field-clause-err
+returns-in_default-signed_field-clause-err c =
     let turn = YieldsList-turn (YieldsList-from_slice_split _ (λ b. eqb b 59) c.args.names.now (search rules) (search rules) (search rules) (λ x r q k. search (rules, tests))) c.loop-name.yielded _ c.loop-name.yielded_by _ c.next.new.self c.in-Some.name c.in-Some.is c.next.ensures.steps in
-    λ _. (refl, stops (map header_of c.args.fields.now) _ _ c.in-Some.name.now turn c.in_default.ensures.none)
+    λ _. (refl, stops (map header_of c.args.fields.now) _ _ c.in-Some.name.now turn c.in_default-signed_field.ensures.none)
 
 pub loop-name-preserved : goal.loop-name-preserved
 loop-name-preserved c =

@@ -1,4 +1,4 @@
-use Rattle.std.proofs.Common.{◌≡◌, ℕ, List, ◌∷◌, [], ◌++◌, Ok, codes, append_assoc, ap, ◌∙◌}
+use Rattle.std.proofs.Common.{◌≡◌, ℕ, List, ◌∷◌, [], ◌++◌, codes, append_assoc, ap, ◌∙◌}
 use Rattle.sha2.specs.Sha256.{sha256}
 use Rattle.hex.specs.Hex.{encode_lower}
 use Rattle.sigv4.specs.Hmac.{hmac}
@@ -17,15 +17,18 @@ unfolding string_to_sign
 joined text s digest canonical e =
     rw e (regroup (codes "AWS4-HMAC-SHA256") (10 ∷ []) text s.date (47 ∷ []) s.region (codes "/s3/aws4_request") (encode_lower (sha256 canonical)))
 
-pub returns-clause-value : goal.returns-clause-value
+pub returns : goal.returns
 unfolding signature_of
-returns-clause-value c text writes =
+returns c signed are =
+    let (canonical, only, digest_is) = c.canonical_digest.ensures signed are in
     let scope = scope_of c.args.scope.now in
-    let canonical = c.args.canonical.now in
     let fed = c.update-8.ensures _ _ (c.update-7.ensures _ _ (c.update-6.ensures _ _ (c.update-5.ensures _ _ (c.update-4.ensures _ _ (c.update-3.ensures _ _ (c.update-2.ensures _ _ (c.update.ensures _ _ c.new-signed.ensures))))))) in
-    let digest = c.hex_digits-digest.ensures ∙ ap encode_lower c.digest_of.ensures in
-    let same = text_once c.text.result text c.args.moment.now c.text.ensures writes in
-    let signed = joined c.text.result scope c.hex_digits-digest.result canonical digest ∙ ap (λ (t : List ℕ). string_to_sign t scope canonical) same in
-    let keyed = ap (λ (key : List ℕ). hmac key (string_to_sign text scope canonical)) c.derive.ensures in
-    let digits = c.hex_digits.ensures ∙ ap encode_lower (c.finish.ensures _ _ fed ∙ ap (hmac c.derive.result) signed ∙ keyed) in
-    ap (λ (d : List ℕ). Ok d) digits
+    let digest = c.hex_digits-digest.ensures ∙ ap encode_lower digest_is in (
+      canonical,
+      only,
+      λ text writes.
+          let same = text_once c.text.result text c.args.moment.now c.text.ensures writes in
+          let sent = joined c.text.result scope c.hex_digits-digest.result canonical digest ∙ ap (λ (t : List ℕ). string_to_sign t scope canonical) same in
+          let keyed = ap (λ (key : List ℕ). hmac key (string_to_sign text scope canonical)) c.derive.ensures in
+          c.hex_digits.ensures ∙ ap encode_lower (c.finish.ensures _ _ fed ∙ ap (hmac c.derive.result) sent ∙ keyed),
+    )

@@ -3,7 +3,7 @@ use Rattle.std.proofs.lemmas.Int.{to_z_pos}
 use Rattle.std.proofs.lemmas.Result.{IfOk-at_ok}
 use Rattle.jiff_core.specs.Date.{epoch_day}
 use Rattle.jiff_core.proofs.SignedLemmas.{signed_arith}
-use Rattle.sigv4.proofs.Moments.{day_is, IsStamp-of_date, IsSeconds-of_date}
+use Rattle.sigv4.proofs.Moments.{day_is, IsCivilTime-of_date, IsSeconds-of_date}
 use Rattle.sigv4.proofs.moment.Stamp.seconds.Goals as goal
 
 pub returns-clause-found : goal.returns-clause-found
@@ -19,6 +19,6 @@ returns-clause-found c =
     let taken : c.unsigned_abs-day.result ≡ unsigned_abs (to_z w32 (of_z w32 (epoch_day date))) =
     c.unsigned_abs-day.ensures.value ∙ ap (λ (z : ℤ). unsigned_abs (to_z w32 (of_z w32 z))) (c.to_unix_epoch_day.ensures.value ∙ ap epoch_day c.to_plain.ensures) in
     let number : epoch_day date ≡ pos c.unsigned_abs-day.result = day_is date c.unsigned_abs-day.result from taken in (
-      IsStamp-of_date date _ (omega (arith, signed_arith, number)) year month day (omega arith) (omega arith) (omega arith),
+      IsCivilTime-of_date date _ (omega (arith, signed_arith, number)) year month day (omega arith) (omega arith) (omega arith),
       IsSeconds-of_date date _ c.unsigned_abs-day.result _ number year month day (omega arith),
     )

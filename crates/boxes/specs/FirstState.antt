@@ -1,0 +1,15 @@
+-- The state of an office that begins.
+use Rattle.std.specs.Prelude.{ℕ, ℤ, List, [], false}
+use Rattle.std.specs.FinMap.{empty, insert}
+use Rattle.boxes.specs.declared.rows.Role.TheVariants.{Clerk}
+use Rattle.boxes.specs.State.{State}
+
+-- an offset, one unrevoked clerk's key, and nothing else
+unfoldable pub first_state : ℤ → List ℕ → List ℕ → State
+first_state offset id secret = record {
+  offset = offset;
+  keys = insert empty id (record { role = Clerk; secret = secret; revoked = false });
+  boxes = empty;
+  files = empty;
+  receipts = [];
+}

@@ -1,0 +1,84 @@
+use Rattle.std.proofs.Common.{◌≡◌, ◌≢◌, ℕ, List, map, refl, sym, subst, ◌∙◌}
+use Rattle.sigtext.specs.declared.refusal.Refusal.TheVariants.{TryAgain}
+use Rattle.sigtext.specs.declared.refusal.Refusal.TheVariants as rule
+use Rattle.sigtext.specs.Fields.{header_of}
+use Rattle.sigtext.specs.Request.{Request}
+use Rattle.sigtext.specs.Rules.{IsFirstToFail, AllHold}
+use Rattle.sigtext.specs.SignedHeaders.{Header}
+use Rattle.sigtext.specs.SignedNames.{AreSignedNames}
+use Rattle.sigtext.specs.SignedValues.{ValueRule}
+use Rattle.sigtext.specs.Signing.{values_of}
+use Rattle.links.specs.LinkReadings.{IsAskedBy}
+use Rattle.sigtext.specs.Target.{Param, IsTargetOf}
+use Rattle.links.specs.SixValues.{HaveNames, texts_of}
+use Rattle.links.proofs.LinkRules.{Heads, parts_of, well_formed}
+use Rattle.links.proofs.Inspected.{carried, has_six, names_of, right_names, wrong_names, wrong_values, wrong_headers}
+use Rattle.links.proofs.inspecting.inspect.Goals as goal
+
+pub returns-in_err-params-clause-err : goal.returns-in_err-params-clause-err
+returns-in_err-params-clause-err c =
+    carried (λ q. (q ≢ TryAgain) → (r : Request) → IsAskedBy c.args.method c.args.target.now (map header_of c.args.fields.now) r → IsFirstToFail (Heads r) q)
+    c.from_residual.result c.in_err-params.field-0.0 c.from_residual.ensures.1
+    (λ other r asked. wrong_names _ _ _ r asked c.in_err-params.field-0.0 (c.in_err-params.ensures.err other))
+
+pub returns-in_err-window-clause-err : goal.returns-in_err-window-clause-err
+returns-in_err-window-clause-err c =
+    carried (λ q. (q ≢ TryAgain) → (r : Request) → IsAskedBy c.args.method c.args.target.now (map header_of c.args.fields.now) r → IsFirstToFail (Heads r) q)
+    c.from_residual-in_err-window.result c.in_err-window.field-0.0 c.from_residual-in_err-window.ensures.1
+    (λ other r asked. wrong_values _ _ _ r asked c.in_ok-params.params (texts_of c.in_ok-params.six) c.in_err-window.field-0.0 c.in_ok-params.ensures.ok c.in_err-window.ensures.err)
+
+pub returns-in_err-names-clause-err : goal.returns-in_err-names-clause-err
+returns-in_err-names-clause-err c =
+    let (sp, start, expires, all) = c.in_ok-window.ensures.ok in
+    absurd (c.in_err-names.ensures.err.1 sp.names (subst (λ (t : List ℕ). AreSignedNames t sp.names) (sym c.names.ensures) (all rule.SignedHeaders)))
+
+pub returns-in_err-values-clause-err : goal.returns-in_err-values-clause-err
+returns-in_err-values-clause-err c =
+    let (sp, start, expires, all) = c.in_ok-window.ensures.ok in
+    let are = subst (λ (t : List ℕ). AreSignedNames t sp.names) (sym (c.in_ok-names.ensures.ok.0 ∙ c.names.ensures)) (all rule.SignedHeaders) in
+    carried (λ q. (q ≢ TryAgain) → (r : Request) → IsAskedBy c.args.method c.args.target.now (map header_of c.args.fields.now) r → IsFirstToFail (Heads r) q)
+    c.from_residual-in_err-values.result c.in_err-values.field-0.0 c.from_residual-in_err-values.ensures.1
+    (λ other r asked. wrong_headers _ _ _ r asked c.in_ok-params.params (texts_of c.in_ok-params.six) sp c.in_err-values.field-0.0 c.in_ok-params.ensures.ok all (c.in_err-values.ensures.err sp.names are other))
+
+pub returns-clause-ok : goal.returns-clause-ok
+returns-clause-ok c r asked =
+    let (sp, start, expires, all) = c.in_ok-window.ensures.ok in
+    let are = subst (λ (t : List ℕ). AreSignedNames t sp.names) (sym (c.in_ok-names.ensures.ok.0 ∙ c.names.ensures)) (all rule.SignedHeaders) in
+    let six = texts_of c.in_ok-params.six in
+    let k = has_six _ _ _ r asked c.in_ok-params.params six c.in_ok-params.ensures.ok in
+    let signed = values_of c.in_ok-values.values in
+    let values = subst (λ (hs : List Header). AllHold (ValueRule hs sp.names) signed) (sym asked.headers_are) (c.in_ok-values.ensures.ok sp.names are) in (
+      parts_of asked.read.read.path asked.read.read.params six sp signed,
+      record {
+        signed = record {
+          method = asked.method_is ∙ sym c.text.ensures;
+          path = asked.read.read.spelled.path_spelled;
+          params = k.right.holds;
+          headers = refl;
+        };
+        credential = all rule.Credential;
+        date = refl;
+        start = start;
+        expires = expires;
+        signature = refl;
+        well_formed = well_formed r asked.read.read.path asked.read.read.params c.in_ok-params.params six sp signed k all values;
+      },
+    )
+
+pub returns-in_err-params-clause-named : goal.returns-in_err-params-clause-named
+returns-in_err-params-clause-named c =
+    carried (λ q. q ≡ TryAgain → (r : Request) → IsAskedBy c.args.method c.args.target.now (map header_of c.args.fields.now) r → (path : List ℕ) (params : List Param) → IsTargetOf r.target path params → HaveNames params)
+    c.from_residual.result c.in_err-params.field-0.0 c.from_residual.ensures.1
+    (λ is r asked. names_of _ _ _ r asked (c.in_err-params.ensures.named is))
+
+pub returns-in_err-window-clause-named : goal.returns-in_err-window-clause-named
+returns-in_err-window-clause-named c =
+    carried (λ q. q ≡ TryAgain → (r : Request) → IsAskedBy c.args.method c.args.target.now (map header_of c.args.fields.now) r → (path : List ℕ) (params : List Param) → IsTargetOf r.target path params → HaveNames params)
+    c.from_residual-in_err-window.result c.in_err-window.field-0.0 c.from_residual-in_err-window.ensures.1
+    (λ is r asked. names_of _ _ _ r asked (right_names c.args.target.now c.in_ok-params.params (texts_of c.in_ok-params.six) c.in_ok-params.ensures.ok))
+
+pub returns-in_err-values-clause-named : goal.returns-in_err-values-clause-named
+returns-in_err-values-clause-named c =
+    carried (λ q. q ≡ TryAgain → (r : Request) → IsAskedBy c.args.method c.args.target.now (map header_of c.args.fields.now) r → (path : List ℕ) (params : List Param) → IsTargetOf r.target path params → HaveNames params)
+    c.from_residual-in_err-values.result c.in_err-values.field-0.0 c.from_residual-in_err-values.ensures.1
+    (λ is r asked. names_of _ _ _ r asked (right_names c.args.target.now c.in_ok-params.params (texts_of c.in_ok-params.six) c.in_ok-params.ensures.ok))

@@ -1,0 +1,96 @@
+//! Reading a link: what its target and the request's fields say (Amazon S3 API Reference, "Authenticating
+//! Requests: Using Query Parameters").
+ghost use Rattle.std.specs.Prelude.{◌≡◌, ◌≢◌, ℕ, List, map, IfOk, IfErr, IfSome, IfNone};
+ghost use Rattle.sigtext.specs.Fields.{header_of};
+ghost use Rattle.sigtext.specs.Request.{Request};
+ghost use Rattle.sigtext.specs.Rules.{IsFirstToFail, AllHold};
+ghost use Rattle.sigv4.specs.Dates.{WritesMoment};
+ghost use Rattle.links.specs.Methods.{method_text};
+ghost use Rattle.links.specs.WellFormed.{LinkValues, HeadRule};
+ghost use Rattle.links.specs.SixValues.{SixParts, SixRule, HaveNames, texts_of};
+ghost use Rattle.sigtext.specs.Target.{Param, IsTargetOf};
+ghost use Rattle.links.specs.LinkReadings.{IsAskedBy, IsLinkOf};
+
+use crate::forms::{is_signature_text, read_expiry};
+use crate::link_parts::LinkParts;
+use crate::methods::Method;
+use crate::six::read_six;
+use crate::six_values::SixValues;
+use sigtext::{Field, Parts, Refusal, SignedNames, Target, signed_values};
+use sigv4::{Moment, Scope};
+use std::alloc::Global;
+
+/// When a link begins, and for how many seconds it holds.
+#[derive(Clone, Copy)]
+struct Window {
+    start: Moment,
+    expires: u64,
+}
+
+fn read_moment(date: &[u8]) -> Option<Moment>
+    ensures some { IfSome result (WritesMoment date.now) }
+    ensures none { IfNone result ((m : ℕ) → WritesMoment date.now m → ⊥) }
+{
+    let Ok(text) = <&[u8; 16]>::try_from(date) else {
+        return None;
+    };
+    Moment::read(text)
+}
+
+// The window of a link, where each of the six values has its form; else the least of the refusals 11 to 16.
+fn read_window(six: &SixValues) -> Result<Window, Refusal>
+    ensures ok { IfOk result (λ w. (p : SixParts) × (p.start ≡ w.start) × (p.expires ≡ w.expires) × AllHold (SixRule (texts_of six.now)) p) }
+    ensures err { IfErr result (IsFirstToFail (SixRule (texts_of six.now))) }
+{
+    if six.algorithm() != b"AWS4-HMAC-SHA256".as_slice() {
+        return Err(Refusal::Algorithm);
+    }
+    if let Err(refusal) = Scope::read(six.credential(), six.date()) {
+        return Err(refusal);
+    }
+    let Some(start) = read_moment(six.date()) else {
+        return Err(Refusal::Date);
+    };
+    let Some(expires) = read_expiry(six.expires()) else {
+        return Err(Refusal::Expiry);
+    };
+    if let Err(refusal) = SignedNames::read(six.names()) {
+        return Err(refusal);
+    }
+    if !is_signature_text(six.signature()) {
+        return Err(Refusal::SignatureText);
+    }
+    Ok(Window { start, expires })
+}
+
+/// Reads the link of a request whose target was read: its parts, where no rule of the numbers 9 to 18
+/// fails, else the refusal of the least that fails; or refusal 40, where memory was refused. Whether one of the six is there, and no other `X-Amz-` name, is told without memory.
+pub fn inspect<'a>(
+    alloc: Global,
+    method: Method,
+    target: &Target<'a>,
+    fields: &'a [Field<'a>],
+) -> Result<LinkParts<'a>, Refusal>
+    ensures ok { IfOk result (λ l. (r : Request) → IsAskedBy method target.now (map header_of fields.now) r
+        → (p : LinkValues) × IsLinkOf l r p) }
+    ensures err { IfErr result (λ q. (q ≢ Refusal.TryAgain) → (r : Request) → IsAskedBy method target.now (map header_of fields.now) r
+        → IsFirstToFail (λ x p. HeadRule x r p) q) }
+    ensures named { IfErr result (λ q. q ≡ Refusal.TryAgain → (r : Request) → IsAskedBy method target.now (map header_of fields.now) r
+        → (path : List ℕ) (params : List Param) → IsTargetOf r.target path params → HaveNames params) }
+{
+    let (params, six) = read_six(alloc, target)?;
+    let window = read_window(&six)?;
+    let names = SignedNames::read(six.names())?;
+    let values = signed_values(alloc, fields, &names)?;
+    Ok(LinkParts {
+        parts: Parts {
+            method: method.text(),
+            target: *target,
+            params,
+            values,
+        },
+        six,
+        start: window.start,
+        expires: window.expires,
+    })
+}

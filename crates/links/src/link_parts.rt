@@ -1,0 +1,34 @@
+//! What a well-formed link says.
+ghost use Rattle.std.specs.Prelude.{◌≡◌};
+ghost use Rattle.sigtext.specs.Request.{Request};
+ghost use Rattle.links.specs.WellFormed.{LinkValues};
+ghost use Rattle.links.specs.LinkReadings.{IsLinkOf};
+
+use crate::six_values::SixValues;
+use sigtext::Parts;
+use sigv4::{Moment, Scope};
+
+/// What a well-formed link says. It owns the values of the six, decoded, and the lists of parameters and
+/// signed headers; it borrows the rest from the target and the fields.
+#[derive(Drop)]
+pub struct LinkParts<'a> {
+    // What the signature covers.
+    pub(crate) parts: Parts<'a>,
+    // Each of its form.
+    pub(crate) six: SixValues,
+    pub(crate) start: Moment,
+    // In seconds.
+    pub(crate) expires: u64,
+}
+
+impl LinkParts<'_> {
+    /// The key id of the link's credential: 1 to 64 bytes of `A-Z a-z 0-9 - _`.
+    pub fn key_id(&self) -> &[u8]
+        ensures { (r : Request) (p : LinkValues) → IsLinkOf self.now r p → result.now ≡ p.key_id }
+    {
+        match Scope::read(self.six.credential(), self.six.date()) {
+            Ok(scope) => scope.key_id,
+            Err(_) => &[],
+        }
+    }
+}

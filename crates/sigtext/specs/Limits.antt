@@ -1,0 +1,14 @@
+-- The limits of a message, which are the office's own.
+use Rattle.std.specs.Prelude.{ℕ}
+
+-- the greatest length of a body, and so of a file, in bytes
+abbrev pub most_body : ℕ
+most_body = 1048576
+
+-- the greatest length of a front, which is a head with its empty line, in bytes
+abbrev pub most_head : ℕ
+most_head = 8192
+
+-- the greatest number of fields of a head
+abbrev pub most_fields : ℕ
+most_fields = 64

@@ -1,0 +1,16 @@
+//! What fails on a wire.
+use thiserror::Error;
+
+/// What failed on a wire.
+#[derive(Clone, Copy, Debug, PartialEq, Eq, Error)]
+pub enum WireFault {
+    /// A read failed.
+    #[error("a read failed")]
+    Read,
+    /// A write failed, or took none of some bytes.
+    #[error("a write failed")]
+    Write,
+    /// Memory was refused.
+    #[error("memory was refused")]
+    Memory,
+}

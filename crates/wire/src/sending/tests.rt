@@ -1,0 +1,41 @@
+//! Texts over writers that are slow or broken.
+use super::send;
+use crate::counted::Counted;
+use crate::fakes::Sink;
+use crate::fault::WireFault;
+use std::alloc::Global;
+
+// Whether `hello` over a writer that takes so many bytes at once, and so many in all, leaves this.
+fn leaves(
+    alloc: Global,
+    at_once: usize,
+    room: usize,
+    outcome: Result<(), WireFault>,
+    text: &[u8],
+) -> bool {
+    let mut writer = Counted::new(Sink::new(alloc, at_once, room));
+    let faults = if outcome.is_ok() { 0 } else { 1 };
+    send(b"hello", &mut writer) == outcome
+        && writer.inner.text.as_slice() == text
+        && writer.faults() == faults
+}
+
+#[test]
+fn a_text_is_sent_as_far_as_the_writer_goes(rt: HostRuntime) {
+    let broken = Err(WireFault::Write);
+    for at_once in [1, 2, 9] {
+        assert!(rt; leaves(rt.alloc(), at_once, 0, broken, b""));
+        assert!(rt; leaves(rt.alloc(), at_once, 1, broken, b"h"));
+        assert!(rt; leaves(rt.alloc(), at_once, 4, broken, b"hell"));
+        assert!(rt; leaves(rt.alloc(), at_once, 5, Ok(()), b"hello"));
+        assert!(rt; leaves(rt.alloc(), at_once, 6, Ok(()), b"hello"));
+    }
+    assert!(rt; leaves(rt.alloc(), 0, 9, broken, b""));
+}
+
+#[test]
+fn no_byte_needs_no_write(rt: HostRuntime) {
+    let mut writer = Counted::new(Sink::new(rt.alloc(), 9, 0));
+    assert!(rt; send(b"", &mut writer).is_ok());
+    assert_eq!(rt; writer.faults(), 0);
+}
