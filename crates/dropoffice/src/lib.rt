@@ -2,8 +2,6 @@
 #![tactic(auto)]
 
 pub mod clocks;
-#[cfg(test)]
-mod fakes;
 mod fields;
 mod handling;
 pub mod office;
@@ -23,6 +21,3 @@ pub use replay::{Replayed, replay_bytes};
 pub use session::SessionEnd;
 pub use task::{Replay, Task};
 pub use wire::{Answer, Counted, Message};
-
-#[cfg(test)]
-mod tests;

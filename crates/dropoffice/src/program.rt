@@ -134,6 +134,3 @@ fn read_key(file: &str) -> Option<(&[u8], &[u8])>
 fn read_moment(text: &str) -> Option<Moment> {
     Moment::read(text.as_bytes().try_into().ok()?)
 }
-
-#[cfg(test)]
-mod tests;

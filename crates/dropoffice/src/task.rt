@@ -122,6 +122,3 @@ fn at_option<'a>(alloc: Global) -> Arg<'a>
         .required(true)
         .help("The time to answer at, in UTC: 20130524T000000Z is 24 May 2013, 00:00:00")
 }
-
-#[cfg(test)]
-mod tests;

@@ -27,6 +27,3 @@ pub use sink::ByteSink;
 pub use target::{Pairs, RawParam, Target, TextFault};
 pub use values::{Values, signed_values};
 pub use words::{is_visible, is_word};
-
-#[cfg(test)]
-mod tests;

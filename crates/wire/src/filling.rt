@@ -70,6 +70,3 @@ pub fn fill<R: Read>(reader: &mut Counted<R>, buffer: &mut [u8]) -> Filled
         stop: Stop::Full,
     }
 }
-
-#[cfg(test)]
-mod tests;

@@ -3,8 +3,6 @@
 
 pub mod answer;
 pub mod counted;
-#[cfg(test)]
-mod fakes;
 pub mod fault;
 pub mod filling;
 pub mod head;

@@ -24,6 +24,3 @@ pub fn send<W: Write>(text: &[u8], writer: &mut Counted<W>) -> Result<(), WireFa
     }
     Ok(())
 }
-
-#[cfg(test)]
-mod tests;

@@ -1,7 +1,7 @@
-//! A sink that fails, which is what no row of `crates/rows` can say. All else of this crate is tested there.
+//! A sink that fails.
 ghost use Rattle.std.specs.Prelude.{◌≡◌, ◌++◌};
 
-use crate::{ByteSink, Field, Params, Parts, SignedNames, Target, canonical_into, signed_values};
+use sigtext::{ByteSink, Field, Params, Parts, SignedNames, Target, canonical_into, signed_values};
 use std::alloc::{AllocError, Global};
 use std::test::Fail;
 

@@ -1,0 +1,94 @@
+//! Texts and buffers over writers and readers that are slow or broken.
+use crate::fakes::{Sink, Source};
+use crate::published::NO_BOX;
+use sigtext::Refusal;
+use std::alloc::Global;
+use wire::{Answer, Counted, Filled, Stop, WireFault, fill, put_answer, send};
+
+// Whether `hello` over a writer that takes so many bytes at once, and so many in all, leaves this.
+fn leaves(
+    alloc: Global,
+    at_once: usize,
+    room: usize,
+    outcome: Result<(), WireFault>,
+    text: &[u8],
+) -> bool {
+    let mut writer = Counted::new(Sink::new(alloc, at_once, room));
+    let faults = if outcome.is_ok() { 0 } else { 1 };
+    send(b"hello", &mut writer) == outcome
+        && writer.inner.text.as_slice() == text
+        && writer.faults() == faults
+}
+
+#[test]
+fn a_text_is_sent_as_far_as_the_writer_goes(rt: HostRuntime) {
+    let broken = Err(WireFault::Write);
+    for at_once in [1, 2, 9] {
+        assert!(rt; leaves(rt.alloc(), at_once, 0, broken, b""));
+        assert!(rt; leaves(rt.alloc(), at_once, 1, broken, b"h"));
+        assert!(rt; leaves(rt.alloc(), at_once, 4, broken, b"hell"));
+        assert!(rt; leaves(rt.alloc(), at_once, 5, Ok(()), b"hello"));
+        assert!(rt; leaves(rt.alloc(), at_once, 6, Ok(()), b"hello"));
+    }
+    assert!(rt; leaves(rt.alloc(), 0, 9, broken, b""));
+}
+
+#[test]
+fn no_byte_needs_no_write(rt: HostRuntime) {
+    let mut writer = Counted::new(Sink::new(rt.alloc(), 9, 0));
+    assert!(rt; send(b"", &mut writer).is_ok());
+    assert_eq!(rt; writer.faults(), 0);
+}
+
+#[test]
+fn a_buffer_is_filled(rt: HostRuntime) {
+    for (at_once, fails, stop) in [
+        (1, false, Stop::End),
+        (1, true, Stop::Fault),
+        (9, false, Stop::End),
+        (9, true, Stop::Fault),
+    ] {
+        let mut buffer = [0; 4];
+        let mut reader = Counted::new(Source {
+            rest: b"hello",
+            at_once,
+            fails,
+        });
+        let full = Filled {
+            len: 4,
+            stop: Stop::Full,
+        };
+        assert_eq!(rt; fill(&mut reader, &mut buffer), full);
+        assert!(rt; full.is_full() && !full.has_failed());
+        assert_eq!(rt; buffer, *b"hell");
+        let last = Filled { len: 1, stop };
+        assert_eq!(rt; fill(&mut reader, &mut buffer), last);
+        assert!(rt; !last.is_full() && last.has_failed() == fails);
+        assert_eq!(rt; buffer, *b"oell");
+        let none = Filled {
+            len: 0,
+            stop: Stop::Full,
+        };
+        assert_eq!(rt; fill(&mut reader, &mut buffer[..0]), none);
+        assert_eq!(rt; reader.faults(), if fails { 1 } else { 0 });
+    }
+}
+
+// What a writer gets that takes so many bytes at once, and so many in all; and how many faults are counted.
+fn answered(alloc: Global, at_once: usize, room: usize) -> (Vec<u8>, u64) {
+    let answer = Answer::refused(Refusal::NoSuchBox, false);
+    let mut writer = Counted::new(Sink::new(alloc, at_once, room));
+    let _ = put_answer(&answer, &mut writer);
+    let faults = writer.faults();
+    (writer.inner.text, faults)
+}
+
+#[test]
+fn an_answer_is_sent_as_far_as_the_writer_goes(rt: HostRuntime) {
+    for at_once in [1, 7, 1000] {
+        let (text, faults) = answered(rt.alloc(), at_once, 1000);
+        assert!(rt; text.as_slice() == NO_BOX && faults == 0);
+        let (text, faults) = answered(rt.alloc(), at_once, 30);
+        assert!(rt; NO_BOX.starts_with(&text) && text.len() == 30 && faults == 1);
+    }
+}
