@@ -1,6 +1,6 @@
 -- Totals of the state after a file was put or taken out.
-use Rattle.std.proofs.Common.{◌≡◌, ◌∙◌, ℕ, ◌+◌, ◌≤◌, Bool, true, false, cond, List, length, Option, Some, None, refl, ap, arith, eqb}
-use Rattle.std.specs.Prelude.{filter, sum_by, unwrap_or, option_map}
+use Rattle.std.proofs.Common.{◌≡◌, ℕ, ◌+◌, ◌≤◌, true, false, cond, List, length, Option, Some, None, refl, ap, arith, eqb}
+use Rattle.std.specs.Prelude.{sum_by, unwrap_or, option_map}
 use Rattle.std.specs.Cmp.Lexicographic.{pointwise}
 use Rattle.std.specs.FinMap.{get, insert, remove, entries, IsAntisymmetric}
 use Rattle.std.proofs.lemmas.Bool.Decides.{Decides-eqb}

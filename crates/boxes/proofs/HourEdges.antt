@@ -1,6 +1,6 @@
 -- The edges of opening hours. The days are those of the Gregorian calendar.
 use Rattle.std.proofs.Common.{◌≡◌, ◌<◌, ◌≤◌, ℕ, Bool, true, false, List, [], ◌∷◌, lit<, lit≤, arith, refl}
-use Rattle.std.specs.Prelude.{ℤ, pos, neg_ℤ, Some}
+use Rattle.std.specs.Prelude.{pos, neg_ℤ, Some}
 use Rattle.boxes.specs.declared.rows.Mode.TheVariants.{Keep}
 use Rattle.boxes.specs.State.{AnyName, Settings}
 use Rattle.boxes.specs.Opening.{IsOpen, local_weekday, local_minute}

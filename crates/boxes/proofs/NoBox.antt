@@ -1,10 +1,10 @@
 -- A box that is not there holds nothing.
-use Rattle.std.proofs.Common.{◌≡◌, ◌∙◌, ℕ, zero, suc, List, [], ◌∷◌, Bool, true, false, length, Option, Some, None, refl, sym, ap, subst}
+use Rattle.std.proofs.Common.{◌≡◌, ◌∙◌, ℕ, zero, suc, List, [], ◌∷◌, length, Option, Some, None, ap, subst}
 use Rattle.std.specs.Prelude.{slice_get, IsSomeAnd, sum_by}
 use Rattle.std.specs.List.{AllByRecursion}
 use Rattle.std.specs.FinMap.{get}
 use Rattle.sigtext.specs.Bytes.{same_bytes}
-use Rattle.boxes.specs.State.{Place, place_cmp, File, State}
+use Rattle.boxes.specs.State.{place_cmp, State}
 use Rattle.boxes.specs.Totals.{used, count, files_of}
 use Rattle.boxes.specs.Sound.{IsSound, IsReceipt}
 use Rattle.boxes.proofs.EntrySums.{filter-none}

@@ -1,12 +1,11 @@
 -- A desk command with its form that is possible keeps soundness.
-use Rattle.std.proofs.Common.{◌≡◌, ◌∙◌, ℕ, ◌≤◌, List, [], ◌∷◌, Bool, true, false, cond, Option, Some, None, refl, sym, ap, subst, arith}
-use Rattle.std.specs.Prelude.{IsSome, IsNone, IsSomeAnd, IsFalse, ⊤}
+use Rattle.std.proofs.Common.{◌≡◌, ◌∙◌, ℕ, ◌≤◌, List, [], ◌∷◌, true, false, cond, Option, Some, None, refl, sym, ap, subst, arith}
+use Rattle.std.specs.Prelude.{IsSome, IsNone, IsSomeAnd, ⊤}
 use Rattle.std.specs.List.{AllByRecursion}
 use Rattle.std.specs.Ordering.{eq_by_cmp}
 use Rattle.std.specs.FinMap.{FinMap, get, insert, remove, get-insert, get-remove}
 use Rattle.sigtext.specs.Bytes.{bytes_cmp}
 use Rattle.sigv4.specs.Credential.{IsKeyId, IsSecret}
-use Rattle.boxes.specs.declared.rows.Role.TheVariants.{Clerk}
 use Rattle.boxes.specs.State.{Key, Place, place_cmp, File, Receipt, Settings, State}
 use Rattle.boxes.specs.Totals.{used, count}
 use Rattle.boxes.specs.Opening.{Fits}

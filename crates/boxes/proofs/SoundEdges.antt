@@ -1,12 +1,12 @@
 -- The edges of sound states, and of the forms of desk commands.
-use Rattle.std.proofs.Common.{◌≡◌, ◌<◌, ◌≤◌, ℕ, Bool, List, [], ◌∷◌, length, codes, replicate, true, lit<, lit≤, arith, refl, sym, subst}
+use Rattle.std.proofs.Common.{◌≡◌, ◌<◌, ◌≤◌, ℕ, Bool, List, [], ◌∷◌, length, codes, replicate, true, lit<, lit≤, arith, refl, subst}
 use Rattle.std.specs.Prelude.{pos, neg_ℤ, ◌≤ℤ◌, IsSomeAnd, IsTrue, IsUtf8, nat_le, ◌&&◌, ◌||◌, ⊤}
 use Rattle.std.specs.List.{list_all}
 use Rattle.std.specs.FinMap.{get}
 use Rattle.sigv4.specs.Credential.{IsKeyId, IsSecret}
 use Rattle.boxes.specs.declared.rows.Role.{Role}
 use Rattle.boxes.specs.declared.rows.Mode.TheVariants.{Keep}
-use Rattle.boxes.specs.State.{NameRule, AnyName, Ends, Begins, Settings, Place, Receipt, State}
+use Rattle.boxes.specs.State.{AnyName, Ends, Begins, Settings, Place, Receipt, State}
 use Rattle.boxes.specs.Opening.{Fits}
 use Rattle.boxes.specs.Rules.{IsName}
 use Rattle.boxes.specs.Sound.{IsMoment, IsBoxName, IsRuleText, IsNameRule, AreSettings, IsReceipt, IsSound}

@@ -1,5 +1,5 @@
 -- The state of an office that begins is sound.
-use Rattle.std.proofs.Common.{◌≡◌, ℕ, List, Some, refl, sym, subst, ◌∙◌}
+use Rattle.std.proofs.Common.{ℕ, List, refl, sym, subst, ◌∙◌}
 use Rattle.std.specs.Prelude.{ℤ, pos, neg_ℤ, ◌≤ℤ◌, false}
 use Rattle.std.specs.FinMap.{empty, get-empty}
 use Rattle.sigtext.specs.Bytes.{bytes_cmp}

@@ -1,19 +1,18 @@
 -- An upload that no rule refuses keeps soundness.
-use Rattle.std.proofs.Common.{◌≡◌, ◌∙◌, ◌⊎◌, ℕ, zero, suc, ◌+◌, ◌-◌, ◌≤◌, ◌<◌, List, [], ◌∷◌, ◌++◌, Bool, true, false, cond, length, Option, Some, None, refl, sym, ap, subst, arith, ⊎_elim, inl, inr, rules}
+use Rattle.std.proofs.Common.{◌≡◌, ◌∙◌, ◌⊎◌, ℕ, zero, suc, ◌+◌, ◌-◌, ◌≤◌, ◌<◌, List, [], ◌∷◌, ◌++◌, true, false, cond, length, Option, Some, None, refl, sym, ap, subst, arith, ⊎_elim, inl, inr, rules}
 use Rattle.std.specs.Prelude.{slice_get, IsSome, IsSomeAnd, IfSome, IsNone, ⊤}
 use Rattle.std.specs.List.{AllByRecursion}
 use Rattle.std.specs.Ordering.{eq_by_cmp}
-use Rattle.std.specs.FinMap.{get, insert, get-insert}
+use Rattle.std.specs.FinMap.{get, get-insert}
 use Rattle.sha2.proofs.Facts256.{length-sha256}
 use Rattle.sigtext.specs.Bytes.{same_bytes}
 use Rattle.sigtext.specs.Limits.{most_body}
 use Rattle.sigtext.specs.declared.refusal.Refusal.{Refusal}
 use Rattle.sigtext.specs.declared.refusal.Refusal.TheVariants as rule
-use Rattle.sigv4.specs.Hmac.{sha256}
-use Rattle.boxes.specs.State.{Key, Place, place_cmp, File, Receipt, Settings, State}
+use Rattle.boxes.specs.State.{Place, place_cmp, File, Receipt, Settings, State}
 use Rattle.boxes.specs.Totals.{used, count}
 use Rattle.boxes.specs.Opening.{Fits}
-use Rattle.boxes.specs.Rules.{Upload, UploadRule, NewBytesRule, Stands, IsName, standing_bytes}
+use Rattle.boxes.specs.Rules.{Upload, UploadRule, NewBytesRule, Stands, standing_bytes}
 use Rattle.boxes.specs.Steps.{StepReply, UploadStep, again, taken, after_upload, receipt_of, HasReceipt}
 use Rattle.boxes.specs.Sound.{IsMoment, IsSound, IsReceipt, IsFileOf}
 use Rattle.boxes.proofs.Lookups.{place_total, equal_is}
