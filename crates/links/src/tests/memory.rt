@@ -1,6 +1,8 @@
-//! An order while memory is refused: the gate runs this test with each allocation failing in turn.
-use super::{Asked, START, field, param, published};
-use crate::LinkFault;
+//! An order, and a link that is judged, while memory is refused: the gate runs the first test with each allocation
+//! failing in turn.
+use super::{Asked, FIELDS, SECRET, START, TARGET, field, param, published};
+use crate::{LinkFault, Method, inspect, judge};
+use sigtext::{Refusal, Target};
 use sigv4::Moment;
 use std::test::Fail;
 
@@ -32,5 +34,32 @@ fn writes_while_memory_is_refused(rt: HostRuntime) -> Result<(), Fail> {
             println!(rt; "order: memory")?;
         }
     }
+    Ok(())
+}
+
+// `inspect` may be refused memory, and says so. `judge` cannot: no allocator is handed to it, and `LinkParts` grows
+// nothing, nor does `sigv4::signature` take one. So what was inspected is judged as ever, whatever memory is left.
+#[test]
+fn judges_while_memory_is_refused(rt: HostRuntime) -> Result<(), Fail> {
+    let target = Target::read(TARGET).ok().ok_or("no target")?;
+    let link = match inspect(rt.alloc(), Method::Get, &target, &FIELDS) {
+        Ok(link) => link,
+        Err(refusal) => {
+            assert!(rt; refusal == Refusal::TryAgain);
+            println!(rt; "link: memory")?;
+            return Ok(());
+        }
+    };
+    for (moment, refusal) in [
+        (b"20130523T235959Z", Some(Refusal::NotYetValid)),
+        (b"20130524T000000Z", None),
+        (b"20130525T000000Z", Some(Refusal::Expired)),
+    ] {
+        let now = Moment::read(moment).ok_or("no moment")?;
+        assert!(rt; judge(&link, SECRET, now).err() == refusal, "at {moment:?}");
+        let other = judge(&link, &SECRET[1..], now).err();
+        assert!(rt; other == Some(Refusal::SignatureMismatch), "at {moment:?}");
+    }
+    println!(rt; "link: judged")?;
     Ok(())
 }
