@@ -1,6 +1,6 @@
 -- The two laws of a sink, of the hashers: one that is fed nothing may stay as it is, and one text and then
 -- another are the joined text.
-use Rattle.std.specs.Prelude.{◌≡◌, ℕ, List, [], ◌++◌}
+use Rattle.std.specs.Prelude.{ℕ, List, [], ◌++◌}
 use Rattle.std.proofs.Common.{sym, subst, append_assoc}
 use Rattle.std.proofs.lemmas.List.{append-nil}
 use Rattle.sigv4.specs.Hashers.{ShaHolds, HmacHolds}
