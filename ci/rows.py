@@ -229,7 +229,8 @@ def hashes():
         assert hashlib.sha256(message).hexdigest() == digest
         yield written("sha_cut", message), digest
     for pieces in [[], [b""], [b"a", b"", b"bc"], [b"x" * 63, b"y", b"z" * 64, b"w"], [b"\0" * 55], [b"\xff" * 56]]:
-        yield written("sha", *pieces), hashlib.sha256(b"".join(pieces)).hexdigest()
+        for call in ["sha", "sha_take"]:
+            yield written(call, *pieces), hashlib.sha256(b"".join(pieces)).hexdigest()
 
 
 def codes():
@@ -246,7 +247,8 @@ def codes():
         assert hmac.digest(key, message, "sha256").hex() == code
         yield written("hmac_cut", key, message), code
     for key, *pieces in [[b""], [b"", b"", b"a"], [b"k" * 63, b"a", b"b" * 64], [b"k" * 1000, b"c", b"d"]]:
-        yield written("hmac", key, *pieces), hmac.digest(key, b"".join(pieces), "sha256").hex()
+        for call in ["hmac", "hmac_take"]:
+            yield written(call, key, *pieces), hmac.digest(key, b"".join(pieces), "sha256").hex()
 
 
 def moments():
@@ -322,16 +324,17 @@ def signing():
     yield "# The signing key and the signature, by Python's hmac and hashlib. The first are Amazon's published ones."
     assert signing_key(SECRET, CREDENTIAL).hex() == "dbb893acc010964918f1fd433add87c70e8b0db6be30c1fbeafefa5ec6ba8378"
     assert signature(SECRET, CREDENTIAL, DATE.decode(), CANONICAL) == SIGNATURE.decode()
-    for secret, credential, date, text in [
-        (SECRET, CREDENTIAL, DATE.decode(), CANONICAL),
-        ("s3cr3t", "office_key-2/20240229/eu-west-3/s3/aws4_request", "20240229T235959Z", ""),
-        ("k" * 60, "a/19700101/0/s3/aws4_request", "19700101T000000Z", "a"),
-        ("k" * 61, "a/99991231/-/s3/aws4_request", "99991231T235959Z", "b" * 64),
-        ("!" * 128, f"{'k' * 64}/20130524/{'a' * 32}/s3/aws4_request", "20130524T235959Z", b"\0\xff\n"),
+    host = [("Host", "examplebucket.s3.amazonaws.com")]
+    for secret, credential, date, method, target, fields in [
+        (SECRET, CREDENTIAL, DATE.decode(), "GET", PUBLISHED, host),
+        ("s3cr3t", "office_key-2/20240229/eu-west-3/s3/aws4_request", "20240229T235959Z", "PUT", "/in//a/../b%20c?x", host),
+        ("k" * 60, "a/19700101/0/s3/aws4_request", "19700101T000000Z", "HEAD", "/?a-=1&a/=2", [("HOST", " h ")]),
+        ("k" * 61, "a/99991231/-/s3/aws4_request", "99991231T235959Z", "", "/", [("host", "")]),
+        ("!" * 128, f"{'k' * 64}/20130524/{'a' * 32}/s3/aws4_request", "20130524T235959Z", "POST", "/%00%ff", host),
     ]:
         yield written("derive", secret, credential, date), signing_key(secret, credential).hex()
-        owed = signature(secret, credential, date, text)
-        yield written("signature", secret, credential, date, text), owed
+        owed = signature(secret, credential, date, canonical_request(method, target, "host", fields))
+        yield written("signature", secret, credential, date, method, target, "host", *in_turn(fields)), owed
 
 
 def link_to(method, path, params=(), headers=(), *, start="20130524T000000Z", expires=86400,
@@ -425,6 +428,13 @@ def written_links():
         yield order(**how), written("fault", fault, "GET ") if fault else written(b"GET " + link_to(**how))
 
 
+def methods():
+    yield "# The methods that are served, of which the case counts."
+    for text in ["PUT", "GET", "HEAD", "POST", "DELETE", "PATCH", "get", "Put", "GETS", "GE", "", " GET"]:
+        is_served = text in ("PUT", "GET", "HEAD", "POST")
+        yield written("method", text), written("some", text) if is_served else "none"
+
+
 def judged():
     yield "# Links that are judged (docs/RULES.md, 1.10 and 3): the key id, or the refusal."
     host = [("HOST", " examplebucket.s3.amazonaws.com")]
@@ -444,6 +454,7 @@ def judged():
     for now in ["19700101T000000Z", "20130524T000000Z", "99991231T235959Z"]:
         yield row(21, PUBLISHED, host, SECRET[1:], now)
     yield row(21, PUBLISHED, host, method="HEAD")
+    yield row(7, "", host, method="DELETE")
     for target, owed in [("/test.txt", 9), ("/?x-amz-date=1", 9), ("/?X-Amz-Date=1", 10), ("", 8), (PUBLISHED + b"&a=1", 21)]:
         yield row(owed, target, host)
     yield row(17, PUBLISHED, [])
@@ -493,15 +504,15 @@ def heads():
 
 
 def answers():
-    yield "# The answer of each refusal, to a HEAD and to another method, and no fault counted."
+    yield "# The answer of each refusal, to a HEAD and to another method, whether it is refusal 40, and no fault counted."
     for name, (number, *_) in zip(REFUSALS, table_of_refusals()):
         for method in ["GET", "HEAD"]:
-            yield written("put_answer", name, method), written(answer(int(number), method), "0")
+            yield written("put_answer", name, method), written(answer(int(number), method), str(name == "TryAgain").lower(), "0")
 
 
 GROUPS = [
     refusals, encoding, decoding, targets, parameters, names, values, requests, hashes, codes, moments, scopes, forms,
-    signing, written_links, judged, heads, answers,
+    signing, methods, written_links, judged, heads, answers,
 ]
 
 

@@ -154,6 +154,30 @@ fn one_field(alloc: Global, row: &Row<'_>, line: &mut Line) -> Result<(), RowFau
     Ok(())
 }
 
+/// What the signature of a request covers: the words from this place on are its method, its target and the names of its
+/// signed headers.
+pub fn parts_of<'a>(
+    alloc: Global,
+    row: &'a Row<'_>,
+    from: usize,
+    fields: &'a [Field<'a>],
+) -> Result<Parts<'a>, RowFault> {
+    let words = row.words().get(from..).unwrap_or_default();
+    let [method, target, names, ..] = words else {
+        return Err(RowFault::Malformed);
+    };
+    let target = Target::read(target)?;
+    let params = Params::read(alloc, &target)?;
+    let names = SignedNames::read(names)?;
+    let values = signed_values(alloc, fields, &names)?;
+    Ok(Parts {
+        method,
+        target,
+        params,
+        values,
+    })
+}
+
 /// `METHOD TARGET NAMES` and fields: the canonical request of these signed names.
 fn canonical(alloc: Global, row: &Row<'_>, line: &mut Line) -> Result<(), RowFault> {
     let fields = row.fields(alloc, 3)?;
@@ -166,16 +190,7 @@ fn canonical_request<'a>(
     row: &'a Row<'_>,
     fields: &'a [Field<'a>],
 ) -> Result<Vec<u8>, RowFault> {
-    let target = Target::read(row.word(1)?)?;
-    let params = Params::read(alloc, &target)?;
-    let names = SignedNames::read(row.word(2)?)?;
-    let values = signed_values(alloc, fields, &names)?;
-    let parts = Parts {
-        method: row.word(0)?,
-        target,
-        params,
-        values,
-    };
+    let parts = parts_of(alloc, row, 0, fields)?;
     let mut text = Vec::new(alloc);
     canonical_into(&parts, &mut text)?;
     Ok(text)
