@@ -33,7 +33,8 @@ KEYS = [
 SHOWN = {"response-content-type": "text/plain; charset=utf-8", "response-cache-control": "no-cache"}
 # Names that sort before and behind X-Amz-.., and names whose order changes once they are encoded.
 SORTED = {"!": "1", "A": "", "X-Amz": "2", "X-Amz.": "3", "X-B": "/", "a": " ", "x-amz-date": "4", "~": "~"}
-ENCODED = {"a/": "2", "a-": "1", "a": "0", "a b": "c/d", "a=": "&", "a+": "+", "ä": "\0", "é": "%41", b"\xff": b"\x80\n"}
+ENCODED = {"a/": "2", "a-": "1", "a": "0", "a b": "c/d", "a=": "&", "a+": "+", "ä": "\0", "é": "%41",
+           b"\xff": b"\x80\n"}
 RANGE = {"x-amz-note": "n", "range": "bytes=0-1"}
 # One header of each letter that a name may have, and values of each letter that they may have.
 LETTERED = {
@@ -61,7 +62,8 @@ class Order:
     def row(self):
         """The order as a row of crates/rows."""
         start = self.start.strftime("%Y%m%dT%H%M%SZ")
-        words = [self.method, self.path, start, str(self.expires), self.host, self.region, *self.key, str(len(self.params))]
+        words = [self.method, self.path, start, str(self.expires), self.host, self.region, *self.key]
+        words += [str(len(self.params))]
         return written("write_link", *words, *in_turn(self.params.items()), *in_turn(self.headers.items()))
 
     def answer(self):

@@ -16,8 +16,8 @@ import time
 
 import kit
 from expected import (
-    CANONICAL, CREDENTIAL, DATE, PUBLISHED, ROOT, SECRET, SIGNATURE, answer, as_bytes, canonical_query, canonical_request,
-    decoded, quoted, signature, signing_key, table_of_refusals,
+    CANONICAL, CREDENTIAL, DATE, PUBLISHED, ROOT, SECRET, SIGNATURE, answer, as_bytes, canonical_query,
+    canonical_request, decoded, quoted, signature, signing_key, table_of_refusals,
 )
 
 CRATE = ROOT / "crates" / "rows"
@@ -191,12 +191,13 @@ GIVEN = [
     ("Accept", "a"), ("accept", "b"),
 ]
 FIELDS = [
-    ("HOST", " \texamplebucket.s3.amazonaws.com "), ("Accept", b"*/*\xff"), ("X-Amz-Note", "two words\t"), ("range", ""),
+    ("HOST", " \texamplebucket.s3.amazonaws.com "), ("Accept", b"*/*\xff"), ("X-Amz-Note", "two words\t"),
+    ("range", ""),
 ]
 
 
 def requests():
-    yield "# The published canonical request (Amazon S3 API Reference, \"Authenticating Requests: Using Query Parameters\")."
+    yield "# The published canonical request (ci/expected.py says where it stands)."
     host = [("Host", "examplebucket.s3.amazonaws.com")]
     yield written("canonical", "GET", PUBLISHED, "host", *in_turn(host)), written(CANONICAL)
     yield "# Canonical requests, put together by urllib.parse and sorted."
@@ -211,7 +212,7 @@ def requests():
     ]:
         owed = canonical_request(method, target, names, fields)
         yield written("canonical", method, target, names, *in_turn(fields)), written(owed)
-    yield "# A signed name without a field, with two, or with an unfit value comes before an x-amz- field that is not signed."
+    yield "# A name without a field, with two, or with an unfit value; only then an x-amz- field that is not signed."
     for number, names, fields in UNFIT:
         yield written("canonical", "GET", "/", names, *in_turn(fields)), refused(number)
 
@@ -280,7 +281,8 @@ def scopes():
     for why, rows in [
         ("the day is another one, or the date ends in it", [
             ("key/20130525/us-east-1/s3/aws4_request", DATE), ("key/20130524/us-east-1/s3/aws4_request", "2013052"),
-            ("key/2013052/us-east-1/s3/aws4_request", DATE), ("key/2013052T/us-east-1/s3/aws4_request", "2013052T000000Z"),
+            ("key/2013052/us-east-1/s3/aws4_request", DATE),
+            ("key/2013052T/us-east-1/s3/aws4_request", "2013052T000000Z"),
         ]),
         ("another number of parts", [
             ("key/20130524/s3/aws4_request", DATE), ("key/20130524/us-east-1/s3/aws4_request/", DATE),
@@ -327,7 +329,8 @@ def signing():
     host = [("Host", "examplebucket.s3.amazonaws.com")]
     for secret, credential, date, method, target, fields in [
         (SECRET, CREDENTIAL, DATE.decode(), "GET", PUBLISHED, host),
-        ("s3cr3t", "office_key-2/20240229/eu-west-3/s3/aws4_request", "20240229T235959Z", "PUT", "/in//a/../b%20c?x", host),
+        ("s3cr3t", "office_key-2/20240229/eu-west-3/s3/aws4_request", "20240229T235959Z",
+         "PUT", "/in//a/../b%20c?x", host),
         ("k" * 60, "a/19700101/0/s3/aws4_request", "19700101T000000Z", "HEAD", "/?a-=1&a/=2", [("HOST", " h ")]),
         ("k" * 61, "a/99991231/-/s3/aws4_request", "99991231T235959Z", "", "/", [("host", "")]),
         ("!" * 128, f"{'k' * 64}/20130524/{'a' * 32}/s3/aws4_request", "20130524T235959Z", "POST", "/%00%ff", host),
@@ -342,7 +345,8 @@ def link_to(method, path, params=(), headers=(), *, start="20130524T000000Z", ex
     """The link that meets an order: in canonical form, the signature last (docs/RULES.md, 1.11)."""
     credential = f"{key[0]}/{start[:8]}/{region}/s3/aws4_request"
     names = b";".join(sorted([b"host", *(as_bytes(name) for name, _ in headers)]))
-    six = {"Algorithm": "AWS4-HMAC-SHA256", "Credential": credential, "Date": start, "Expires": str(expires), "SignedHeaders": names}
+    six = {"Algorithm": "AWS4-HMAC-SHA256", "Credential": credential, "Date": start, "Expires": str(expires)}
+    six["SignedHeaders"] = names
     pairs = [(f"X-Amz-{name}", value) for name, value in six.items()] + list(params)
     query = b"&".join(sorted(quoted(name) + b"=" + quoted(value) for name, value in pairs))
     target = quoted(path, "/") + b"?" + query
@@ -362,8 +366,10 @@ RANGE = ("range", "bytes=0-1")
 # Orders, each with the signature of its link by botocore's S3SigV4QueryAuth where one was stored.
 ORDERS = [
     (SIGNATURE.decode(), "GET", "/test.txt", {}),
-    ("1777a2c5a9b660385989f2bfebb13754b33e47c642858eefa2dd845c627c50cc", "GET", "/test.txt", {"params": [("a b", "c/d")]}),
-    ("d42057c66eb666dbaa7ff617fc894cb9e39d677b4b842e6d3aa6e7994c183002", "GET", "/test.txt", {"params": [("a-", "1"), ("a/", "2")]}),
+    ("1777a2c5a9b660385989f2bfebb13754b33e47c642858eefa2dd845c627c50cc", "GET", "/test.txt",
+     {"params": [("a b", "c/d")]}),
+    ("d42057c66eb666dbaa7ff617fc894cb9e39d677b4b842e6d3aa6e7994c183002", "GET", "/test.txt",
+     {"params": [("a-", "1"), ("a/", "2")]}),
     ("3758dd05f38587d14ade503a9c24c4539912061cf28590b75554045e9ff0cf50", "POST", "/",
      {"params": [("desk", "key revoke k2")], "expires": 604800, "host": "h"}),
     ("2e165fdc5886d941a3ed7ea2c343d7c78d5120fecd9c6808ba4af8ce80f70bb6", "GET", "/in/a/../b c", {}),
@@ -384,7 +390,8 @@ FAULTS = [
     ("Key", {"key": ("", SECRET), "expires": 0}),
     ("Method", {"method": "PATCH", "expires": 0}),
     *((fault, {"method": it}) for it, fault in [
-        ("GET", None), ("PUT", None), ("HEAD", None), ("POST", None), ("PATCH", "Method"), ("get", "Method"), ("", "Method"),
+        ("GET", None), ("PUT", None), ("HEAD", None), ("POST", None), ("PATCH", "Method"),
+        ("get", "Method"), ("", "Method"),
     ]),
     *((fault, {"path": it}) for it, fault in [
         ("/", None), ("//", None), (bytes(range(0x2F, 0x100)) + bytes(0x2F), None), ("x", "Path"), ("", "Path"),
@@ -401,13 +408,15 @@ FAULTS = [
 ]
 # A parameter beside `a`, and a header beside `range`.
 OTHER_PARAMS = [
-    (("b", "1"), None), (("x-amz-foo", ""), None), (("X-Amz", "\0"), None), (("", "1"), "Params"), (("a", "2"), "Params"),
+    (("b", "1"), None), (("x-amz-foo", ""), None), (("X-Amz", "\0"), None), (("", "1"), "Params"),
+    (("a", "2"), "Params"),
     (("X-Amz-Foo", "1"), "Params"), (("X-Amz-Date", "1"), "Params"),
 ]
 OTHER_HEADERS = [
     (("x-amz-note", ""), None), ((LONG[:64], "~ !"), None), (("host", "h"), "Headers"), (("Host", "h"), "Headers"),
     (("", "n"), "Headers"), ((LONG[:65], "n"), "Headers"), (("range", "n"), "Headers"), (("note", "a  b"), "Headers"),
-    (("note", " a"), "Headers"), (("note", "a\t"), "Headers"), (("note", "a\x7f"), "Headers"), (("note", b"a\x80"), "Headers"),
+    (("note", " a"), "Headers"), (("note", "a\t"), "Headers"), (("note", "a\x7f"), "Headers"),
+    (("note", b"a\x80"), "Headers"),
 ]
 
 
@@ -445,17 +454,19 @@ def judged():
 
     week = link_to("GET", "/test.txt", expires=604800)
     for target, moments in [
-        (PUBLISHED, [("20130523T235959Z", 22), ("20130524T000000Z", None), ("20130524T235959Z", None), ("20130525T000000Z", 23)]),
-        (week, [("20130523T235959Z", 22), ("20130524T000000Z", None), ("20130530T235959Z", None), ("20130531T000000Z", 23)]),
+        (PUBLISHED, ["20130523T235959Z", "20130524T000000Z", "20130524T235959Z", "20130525T000000Z"]),
+        (week, ["20130523T235959Z", "20130524T000000Z", "20130530T235959Z", "20130531T000000Z"]),
     ]:
-        for now, owed in moments:
+        for now, owed in zip(moments, [22, None, None, 23]):
             yield row(owed, target, host, now=now)
             yield row(21, target, host, b"another", now)
     for now in ["19700101T000000Z", "20130524T000000Z", "99991231T235959Z"]:
         yield row(21, PUBLISHED, host, SECRET[1:], now)
     yield row(21, PUBLISHED, host, method="HEAD")
     yield row(7, "", host, method="DELETE")
-    for target, owed in [("/test.txt", 9), ("/?x-amz-date=1", 9), ("/?X-Amz-Date=1", 10), ("", 8), (PUBLISHED + b"&a=1", 21)]:
+    for target, owed in [
+        ("/test.txt", 9), ("/?x-amz-date=1", 9), ("/?X-Amz-Date=1", 10), ("", 8), (PUBLISHED + b"&a=1", 21),
+    ]:
         yield row(owed, target, host)
     yield row(17, PUBLISHED, [])
     with_headers = link_to("GET", "/test.txt", headers=[("x-amz-note", "n"), RANGE])
@@ -504,10 +515,11 @@ def heads():
 
 
 def answers():
-    yield "# The answer of each refusal, to a HEAD and to another method, whether it is refusal 40, and no fault counted."
+    yield "# The answer of each refusal, to a HEAD and to a GET; whether it is refusal 40; and no fault counted."
     for name, (number, *_) in zip(REFUSALS, table_of_refusals()):
         for method in ["GET", "HEAD"]:
-            yield written("put_answer", name, method), written(answer(int(number), method), str(name == "TryAgain").lower(), "0")
+            owed = written(answer(int(number), method), str(name == "TryAgain").lower(), "0")
+            yield written("put_answer", name, method), owed
 
 
 GROUPS = [
