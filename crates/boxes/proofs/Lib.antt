@@ -7,3 +7,8 @@ pub mod UploadEdges
 pub mod StepEdges
 pub mod CommandSteps
 pub mod SoundEdges
+pub mod EntrySums
+pub mod FileTotals
+pub mod NoBox
+pub mod SoundUploads
+pub mod SoundCommands

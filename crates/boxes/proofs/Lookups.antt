@@ -19,7 +19,7 @@ bytes_same = slice_cmp-IsAntisymmetric nat_cmp-IsAntisymmetric
 pub place_total : IsTotalOrder place_cmp
 place_total = then_total (on_total (λ p. p.box) nat_list_cmp_total) (on_total (λ p. p.name) nat_list_cmp_total)
 
-equal_is : (o : Ordering) → is_eq o ≡ true → o ≡ Equal
+pub equal_is : (o : Ordering) → is_eq o ≡ true → o ≡ Equal
 equal_is Less e = absurd cc
 equal_is Equal e = refl
 equal_is Greater e = absurd cc

@@ -1,0 +1,115 @@
+-- Totals of the state after a file was put or taken out.
+use Rattle.std.proofs.Common.{◌≡◌, ◌∙◌, ℕ, ◌+◌, ◌≤◌, Bool, true, false, cond, List, length, Option, Some, None, refl, ap, arith, eqb}
+use Rattle.std.specs.Prelude.{filter, sum_by, unwrap_or, option_map}
+use Rattle.std.specs.Cmp.Lexicographic.{pointwise}
+use Rattle.std.specs.FinMap.{get, insert, remove, entries, IsAntisymmetric}
+use Rattle.std.proofs.lemmas.Bool.Decides.{Decides-eqb}
+use Rattle.std.proofs.lemmas.List.Sums.{length-filter}
+use Rattle.std.proofs.lemmas.Map.Lookups.{exact_pairs}
+use Rattle.std.proofs.lemmas.Slice.Eq.{slice_eq-Decides}
+use Rattle.sigtext.specs.Bytes.{bytes_cmp, same_bytes}
+use Rattle.boxes.specs.State.{Place, place_cmp, File, Receipt, State}
+use Rattle.boxes.specs.Totals.{used, count}
+use Rattle.boxes.specs.Rules.{standing_bytes}
+use Rattle.boxes.proofs.Lookups.{bytes_same, place_total}
+use Rattle.boxes.proofs.EntrySums.{weight, sum-insert, sum-remove, sum-filter}
+
+-- how many there are
+abbrev pub ones : {X : Type 0} → Option X → ℕ
+ones None = 0
+ones (Some x) = 1
+
+pub place_same : IsAntisymmetric place_cmp
+place_same a b e =
+    let pairs = exact_pairs bytes_cmp bytes_cmp bytes_same bytes_same (a.box, a.name) (b.box, b.name) e in
+    ap (λ (p : List ℕ × List ℕ). record { box = p.0; name = p.1 }) pairs
+
+pub same_as_itself : (a : List ℕ) → same_bytes a a ≡ true
+same_as_itself a = (slice_eq-Decides Decides-eqb a a (pointwise eqb a a) refl).1 refl
+
+pub texts_alike : (a b : List ℕ) → same_bytes a b ≡ true → a ≡ b
+texts_alike a b e = (slice_eq-Decides Decides-eqb a b (pointwise eqb a b) refl).0 e
+
+pub texts_apart : (a b : List ℕ) → (a ≡ b → ⊥) → same_bytes a b ≡ false
+texts_apart a b n = elim (same_bytes a b) as (λ t. same_bytes a b ≡ t → t ≡ false) [ true ↦ λ e. absurd (n ((slice_eq-Decides Decides-eqb a b (pointwise eqb a b) refl).0 e)) | false ↦ λ e. refl ] refl
+
+-- what a file counts for in a box
+abbrev one_in : List ℕ → Place × File → ℕ
+one_in box e = cond (same_bytes e.0.box box) 1 0
+
+module _ (s : State) (place : Place) (f : File) (rs : List Receipt) where
+  -- the state with the file set
+  abbrev pub with_file : State
+  with_file = record s { files = insert s.files place f; receipts = rs }
+
+  pub used_here : used with_file place.box + standing_bytes s place ≡ used s place.box + length f.bytes
+  used_here =
+      let p = λ (e : Place × File). same_bytes e.0.box place.box in
+      let g = λ (e : Place × File). length e.1.bytes in
+      let w = λ (e : Place × File). cond (p e) (g e) 0 in
+      let sum = sum-insert place_cmp place_total place_same w s.files place f in
+      let new : used with_file place.box ≡ sum_by w (entries (insert s.files place f)) = sum-filter p g (entries (insert s.files place f)) in
+      let old : used s place.box ≡ sum_by w (entries s.files) = sum-filter p g (entries s.files) in
+      let mine : w (place, f) ≡ length f.bytes = ap (λ b. cond b (length f.bytes) 0) (same_as_itself place.box) in
+      let stood : weight w place (get s.files place) ≡ standing_bytes s place =
+      ap (λ b. unwrap_or (option_map (λ (x : File). cond b (length x.bytes) 0) (get s.files place)) 0) (same_as_itself place.box) in
+      omega (arith, sum, new, old, mine, stood)
+
+  pub count_here : count with_file place.box + ones (get s.files place) ≡ count s place.box + 1
+  count_here =
+      let p = λ (e : Place × File). same_bytes e.0.box place.box in
+      let w = one_in place.box in
+      let sum = sum-insert place_cmp place_total place_same w s.files place f in
+      let new : count with_file place.box ≡ sum_by w (entries (insert s.files place f)) = length-filter p (entries (insert s.files place f)) in
+      let old : count s place.box ≡ sum_by w (entries s.files) = length-filter p (entries s.files) in
+      let mine : w (place, f) ≡ 1 = ap (λ b. cond b 1 0) (same_as_itself place.box) in
+      let stood : weight w place (get s.files place) ≡ ones (get s.files place) =
+      elim (get s.files place) as (λ o. weight w place o ≡ ones o) [ None ↦ refl | Some x ↦ ap (λ b. cond b 1 0) (same_as_itself place.box) ] in
+      omega (arith, sum, new, old, mine, stood)
+
+  pub used_there : (box : List ℕ) → same_bytes place.box box ≡ false → used with_file box ≡ used s box
+  used_there box apart =
+      let p = λ (e : Place × File). same_bytes e.0.box box in
+      let g = λ (e : Place × File). length e.1.bytes in
+      let w = λ (e : Place × File). cond (p e) (g e) 0 in
+      let sum = sum-insert place_cmp place_total place_same w s.files place f in
+      let new : used with_file box ≡ sum_by w (entries (insert s.files place f)) = sum-filter p g (entries (insert s.files place f)) in
+      let old : used s box ≡ sum_by w (entries s.files) = sum-filter p g (entries s.files) in
+      let mine : w (place, f) ≡ 0 = ap (λ b. cond b (length f.bytes) 0) apart in
+      let stood : weight w place (get s.files place) ≡ 0 = elim (get s.files place) as (λ o. weight w place o ≡ 0) [ None ↦ refl | Some x ↦ ap (λ b. cond b (length x.bytes) 0) apart ] in
+      omega (arith, sum, new, old, mine, stood)
+
+  pub count_there : (box : List ℕ) → same_bytes place.box box ≡ false → count with_file box ≡ count s box
+  count_there box apart =
+      let p = λ (e : Place × File). same_bytes e.0.box box in
+      let w = one_in box in
+      let sum = sum-insert place_cmp place_total place_same w s.files place f in
+      let new : count with_file box ≡ sum_by w (entries (insert s.files place f)) = length-filter p (entries (insert s.files place f)) in
+      let old : count s box ≡ sum_by w (entries s.files) = length-filter p (entries s.files) in
+      let mine : w (place, f) ≡ 0 = ap (λ b. cond b 1 0) apart in
+      let stood : weight w place (get s.files place) ≡ 0 = elim (get s.files place) as (λ o. weight w place o ≡ 0) [ None ↦ refl | Some x ↦ ap (λ b. cond b 1 0) apart ] in
+      omega (arith, sum, new, old, mine, stood)
+
+module _ (s : State) (place : Place) (f : File) (there : get s.files place ≡ Some f) where
+  -- the state without the file
+  abbrev pub without_file : State
+  without_file = record s { files = remove s.files place }
+
+  pub used_less : (box : List ℕ) → used without_file box ≤ used s box
+  used_less box =
+      let p = λ (e : Place × File). same_bytes e.0.box box in
+      let g = λ (e : Place × File). length e.1.bytes in
+      let w = λ (e : Place × File). cond (p e) (g e) 0 in
+      let sum = sum-remove place_cmp place_total place_same w s.files place f there in
+      let new : used without_file box ≡ sum_by w (entries (remove s.files place)) = sum-filter p g (entries (remove s.files place)) in
+      let old : used s box ≡ sum_by w (entries s.files) = sum-filter p g (entries s.files) in
+      omega (arith, sum, new, old)
+
+  pub count_less : (box : List ℕ) → count without_file box ≤ count s box
+  count_less box =
+      let p = λ (e : Place × File). same_bytes e.0.box box in
+      let w = one_in box in
+      let sum = sum-remove place_cmp place_total place_same w s.files place f there in
+      let new : count without_file box ≡ sum_by w (entries (remove s.files place)) = length-filter p (entries (remove s.files place)) in
+      let old : count s box ≡ sum_by w (entries s.files) = length-filter p (entries s.files) in
+      omega (arith, sum, new, old)
