@@ -39,7 +39,8 @@ fn read_moment(date: &[u8]) -> Option<Moment>
 
 // The window of a link, where each of the six values has its form; else the least of the refusals 11 to 16.
 fn read_window(six: &SixValues) -> Result<Window, Refusal>
-    ensures ok { IfOk result (λ w. (p : SixParts) × (p.start ≡ w.start) × (p.expires ≡ w.expires) × AllHold (SixRule (texts_of six.now)) p) }
+    ensures ok { IfOk result (λ w. (p : SixParts) × (p.start ≡ w.start) × (p.expires ≡ w.expires)
+        × AllHold (SixRule (texts_of six.now)) p) }
     ensures err { IfErr result (IsFirstToFail (SixRule (texts_of six.now))) }
 {
     if six.algorithm() != b"AWS4-HMAC-SHA256".as_slice() {
@@ -64,7 +65,9 @@ fn read_window(six: &SixValues) -> Result<Window, Refusal>
 }
 
 /// Reads the link of a request whose target was read: its parts, where no rule of the numbers 9 to 18
-/// fails, else the refusal of the least that fails; or refusal 40, where memory was refused. Whether one of the six is there, and no other `X-Amz-` name, is told without memory.
+/// fails, else the refusal of the least that fails; or refusal 40, where memory was refused. Whether one
+/// of the six is there, and no other `X-Amz-` name, is told without memory. It asks for memory three times
+/// at most.
 pub fn inspect<'a>(
     alloc: Global,
     method: Method,
@@ -73,9 +76,11 @@ pub fn inspect<'a>(
 ) -> Result<LinkParts<'a>, Refusal>
     ensures ok { IfOk result (λ l. (r : Request) → IsAskedBy method target.now (map header_of fields.now) r
         → (p : LinkValues) × IsLinkOf l r p) }
-    ensures err { IfErr result (λ q. (q ≢ Refusal.TryAgain) → (r : Request) → IsAskedBy method target.now (map header_of fields.now) r
+    ensures err { IfErr result (λ q. (q ≢ Refusal.TryAgain)
+        → (r : Request) → IsAskedBy method target.now (map header_of fields.now) r
         → IsFirstToFail (λ x p. HeadRule x r p) q) }
-    ensures named { IfErr result (λ q. q ≡ Refusal.TryAgain → (r : Request) → IsAskedBy method target.now (map header_of fields.now) r
+    ensures named { IfErr result (λ q. q ≡ Refusal.TryAgain
+        → (r : Request) → IsAskedBy method target.now (map header_of fields.now) r
         → (path : List ℕ) (params : List Param) → IsTargetOf r.target path params → HaveNames params) }
 {
     let (params, six) = read_six(alloc, target)?;

@@ -21,16 +21,19 @@ fn is_signed_by(link: &LinkParts<'_>, scope: &Scope<'_>, secret: &[u8]) -> bool
     ensures { (signed : Signed) → AreOf link.now.parts signed
         → (text : List ℕ) × IsTheOnly (IsCanonicalRequest signed) text
         × ((date : List ℕ) → WritesMoment date link.now.start
-        → (IsTrue result ↔ ((texts_of link.now.six).signature ≡ signature_of secret.now date (scope_of scope.now) text))) }
+        → (IsTrue result ↔ ((texts_of link.now.six).signature
+        ≡ signature_of secret.now date (scope_of scope.now) text))) }
 {
     let digits = signature(secret, scope, &link.start, &link.parts);
     link.six.signature() == digits.as_slice()
 }
 
 /// Judges a link that was read, under its key's secret and at a moment: refusal 21 where the signature is
-/// not that of the canonical request, 22 before the window and 23 at its end or past it. It takes no memory.
+/// not that of the canonical request, 22 before the window and 23 at its end or past it. It takes no
+/// memory.
 pub fn judge(link: &LinkParts<'_>, secret: &[u8], now: Moment) -> Result<(), Refusal>
-    ensures { (r : Request) (p : LinkValues) → IsLinkOf link.now r p → Judges secret.now r (at now) p result }
+    ensures { (r : Request) (p : LinkValues) → IsLinkOf link.now r p
+        → Judges secret.now r (at now) p result }
 {
     let scope = match Scope::read(link.six.credential(), link.six.date()) {
         Ok(scope) => scope,

@@ -9,7 +9,8 @@ ghost use Rattle.links.specs.Admits.{KnownKey, IsSignedBy, Admits};
 /// request is admitted, once its key stands unrevoked: by the signature and the window that `judge` asks.
 pub fn law_of_parts()
     ensures one { (r : Request) (p q : LinkValues) → IsWellFormed r p → IsWellFormed r q → q ≡ p }
-    ensures admitted { (look_up : List ℕ → Option KnownKey) (r : Request) (n : Now) (p : LinkValues) (k : KnownKey)
-        → IsWellFormed r p → look_up p.key_id ≡ Some k → IsFalse k.revoked
-        → Admits look_up r n ↔ (IsSignedBy k.secret r p × HasBegun n p.start × IsNotOver n p.start p.expires) }
+    ensures admitted { (look_up : List ℕ → Option KnownKey) (r : Request) (n : Now)
+        (p : LinkValues) (k : KnownKey) → IsWellFormed r p → look_up p.key_id ≡ Some k → IsFalse k.revoked
+        → Admits look_up r n
+        ↔ (IsSignedBy k.secret r p × HasBegun n p.start × IsNotOver n p.start p.expires) }
 {}

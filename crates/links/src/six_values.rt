@@ -29,7 +29,8 @@ impl SixValues {
 
     /// Decodes the raw values. It asks for memory once.
     pub(crate) fn decode(alloc: Global, raw: RawSix<'_>) -> Result<SixValues, AllocError>
-        ensures { IfOk result (λ six. (ps : List Param) → AreRawSix raw.entry ps → AreSixOf (texts_of six) ps) }
+        ensures { IfOk result (λ six. (ps : List Param) → AreRawSix raw.entry ps
+            → AreSixOf (texts_of six) ps) }
     {
         let mut bytes = Vec::with_capacity(alloc, raw.len())?;
         percent_decode(raw.algorithm).append_to(&mut bytes)?;

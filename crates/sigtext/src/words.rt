@@ -5,7 +5,8 @@ ghost use Rattle.sigtext.specs.Bytes.{IsWord, is_visible};
 /// Whether the text is 1 to `most` bytes, each of which passes the test.
 pub fn is_word<F: Fn(u8) -> bool>(text: &[u8], most: usize, passes: F) -> bool
     requires { F.IsAlwaysCallable passes }
-    ensures { (test : ℕ → Bool) → ((b : ℕ) (answer : Bool) → b < 256 → F.post passes b answer → answer ≡ test b)
+    ensures { (test : ℕ → Bool)
+        → ((b : ℕ) (answer : Bool) → b < 256 → F.post passes b answer → answer ≡ test b)
         → IsTrue result ↔ IsWord test most text.now }
 {
     if text.is_empty() || text.len() > most {
