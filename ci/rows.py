@@ -64,6 +64,8 @@ def encoding():
     yield "# It appends behind what is there."
     yield written("uri_encode", "kept", "/a b", "GET\n"), written(b"GET\n/a%20b")
     yield written("uri_encode", "encoded", "/", "GET\n/a b"), written(b"GET\n/a b%2F")
+    every = bytes(range(256))
+    yield written("uri_encode", "encoded", every, "GET\n"), written(b"GET\n" + quoted(every))
 
 
 def decoding():
@@ -99,6 +101,7 @@ def targets():
         yield written("target", text), refused(8)
     yield "# The decoded path is appended behind what is there."
     yield written("path_into", "/a%20b?c", "GET\n"), written("GET\n/a b")
+    yield written("path_into", b"/" + quoted(bytes(range(256))), "GET\n"), written(b"GET\n/" + bytes(range(256)))
 
 
 SORTED = [

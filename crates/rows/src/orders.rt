@@ -1,5 +1,6 @@
 //! Rows of `links`: links that are written, and links that are judged.
 use crate::row::{Line, Row, RowFault};
+use crate::texts::want_of_memory;
 use links::{LinkFault, LinkKey, LinkOrder, Method, OrderParam, inspect, judge, write_link};
 use sigtext::{Field, Refusal, Target};
 use sigv4::Moment;
@@ -16,13 +17,16 @@ pub fn answer(alloc: Global, row: &Row<'_>, line: &mut Line) -> Result<bool, Row
     Ok(true)
 }
 
+// What stands before a link.
+const FRONT: &[u8] = b"GET ";
+
 // The words of an order before its parameters and headers.
 const FIRST_PAIR: usize = 9;
 
-/// `METHOD PATH START EXPIRES HOST REGION ID SECRET COUNT`, so many parameters, and headers, a name and a value each:
-/// what stands behind `GET ` then. A fault is told before it.
+/// `METHOD PATH START EXPIRES HOST REGION ID SECRET COUNT`, so many parameters, and headers, a name and a value
+/// each: what stands there behind `GET ` then. A fault is told before it.
 fn write(alloc: Global, row: &Row<'_>, line: &mut Line) -> Result<(), RowFault> {
-    let mut out = Vec::from_slice(alloc, b"GET ")?;
+    let mut out = Vec::from_slice(alloc, FRONT)?;
     let count = usize::try_from(row.number(8)?).unwrap_or(usize::MAX);
     let pairs = row.fields(alloc, FIRST_PAIR)?;
     let Some((params, headers)) = pairs.split_at_checked(count) else {
@@ -31,7 +35,7 @@ fn write(alloc: Global, row: &Row<'_>, line: &mut Line) -> Result<(), RowFault> 
     let params = order_params(alloc, params)?;
     if let Err(fault) = write_to(alloc, row, &params, headers, &mut out)? {
         if fault == LinkFault::Memory {
-            return Err(RowFault::Memory);
+            return Err(want_of_memory(&out, FRONT));
         }
         let name = format!(in alloc; "{fault:?}")?;
         line.put(b"fault")?;
