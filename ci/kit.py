@@ -37,11 +37,11 @@ class Run:
     err: bytes
 
 
-def run(words, given=b"", out=subprocess.PIPE, **how):
-    """Runs the words on these bytes. Where `out` is a file of its own, what was written there is not told."""
-    how |= {"stdout": out, "stderr": subprocess.PIPE, "timeout": SECONDS, "check": False}
+def run(words, given=b"", out=subprocess.PIPE, err=subprocess.PIPE, **how):
+    """Runs the words on these bytes. What went to an `out` or `err` of the caller's own is not told."""
+    how |= {"stdout": out, "stderr": err, "timeout": SECONDS, "check": False}
     ended = subprocess.run(words, input=given, **how)
-    return Run(ended.returncode, ended.stdout or b"", ended.stderr)
+    return Run(ended.returncode, ended.stdout or b"", ended.stderr or b"")
 
 
 def side_by_side(call, items):

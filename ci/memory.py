@@ -97,7 +97,8 @@ def test_drop(program, count):
         count.add(name, None)
         again = came.get(TRY_AGAIN, [])
         numbers = numbers or again
-        print(f"{name}: {len(came[OUT_OF_MEMORY])} times out of memory, {len(again)} refusal 40, {len(came[right])} its answer")
+        others = f"{len(came[OUT_OF_MEMORY])} times out of memory, {len(again)} refusal 40"
+        print(f"{name}: {others}, {len(came[right])} its answer")
     return numbers
 
 

@@ -7,23 +7,20 @@ Three things botocore does otherwise than S3, and no order here depends on them:
 `content-type` out of the request.
 """
 
-import dataclasses
 import datetime
+import functools
 import urllib.parse
 
 from botocore.auth import S3SigV4QueryAuth
 from botocore.awsrequest import AWSRequest
 from botocore.credentials import Credentials
 
-from rows import in_turn, written
-from samples import HOST, KEY_ID, MOMENT, NAMES, REGIONS, SECRET, random_text, stop_the_clock
+from rows import Order
+from samples import HOST, KEY_ID, NAMES, REGIONS, SECRET, random_text, stop_the_clock
 
 METHODS = ["GET", "PUT", "HEAD", "POST"]
 HOSTS = [HOST, f"{HOST}:8080", "Files.Example", "[2001:db8::1]:80", "h" * 255]
-MOMENTS = [MOMENT] + [
-    datetime.datetime.strptime(text, "%Y%m%dT%H%M%S%z")
-    for text in ["19700101T000000Z", "20000229T235959Z", "20380119T031408Z", "99991231T235959Z"]
-]
+MOMENTS = ["20130524T000000Z", "19700101T000000Z", "20000229T235959Z", "20380119T031408Z", "99991231T235959Z"]
 KEYS = [
     (KEY_ID, SECRET),
     ("k", "!"),
@@ -33,7 +30,8 @@ KEYS = [
 SHOWN = {"response-content-type": "text/plain; charset=utf-8", "response-cache-control": "no-cache"}
 # Names that sort before and behind X-Amz-.., and names whose order changes once they are encoded.
 SORTED = {"!": "1", "A": "", "X-Amz": "2", "X-Amz.": "3", "X-B": "/", "a": " ", "x-amz-date": "4", "~": "~"}
-ENCODED = {"a/": "2", "a-": "1", "a": "0", "a b": "c/d", "a=": "&", "a+": "+", "ä": "\0", "é": "%41", b"\xff": b"\x80\n"}
+ENCODED = {"a/": "2", "a-": "1", "a": "0", "a b": "c/d", "a=": "&", "a+": "+", "ä": "\0", "é": "%41",
+           b"\xff": b"\x80\n"}
 RANGE = {"x-amz-note": "n", "range": "bytes=0-1"}
 # One header of each letter that a name may have, and values of each letter that they may have.
 LETTERED = {
@@ -46,33 +44,15 @@ LETTERED = {
 }
 
 
-@dataclasses.dataclass
-class Order:
-    method: str
-    path: str | bytes
-    params: dict = dataclasses.field(default_factory=dict)
-    headers: dict = dataclasses.field(default_factory=dict)
-    host: str = HOST
-    region: str = REGIONS[0]
-    key: tuple = KEYS[0]
-    start: datetime.datetime = MOMENT
-    expires: int = 86400
-
-    def row(self):
-        """The order as a row of crates/rows."""
-        start = self.start.strftime("%Y%m%dT%H%M%SZ")
-        words = [self.method, self.path, start, str(self.expires), self.host, self.region, *self.key, str(len(self.params))]
-        return written("write_link", *words, *in_turn(self.params.items()), *in_turn(self.headers.items()))
-
-    def answer(self):
-        """What is owed for the row."""
-        return written(f"GET {self.link()}")
+class BotocoreOrder(Order):
+    """An order whose link botocore makes."""
 
     def link(self):
-        """The link by botocore."""
-        stop_the_clock(self.start)
+        moment = datetime.datetime.strptime(self.start, "%Y%m%dT%H%M%S%z")
+        stop_the_clock(moment)
         url = f"http://{self.host}{urllib.parse.quote(self.path, safe='/')}"
-        request = AWSRequest(self.method, url, {"Host": self.host, **self.headers}, params=dict(self.params))
+        headers = {"Host": self.host, **dict(self.headers)}
+        request = AWSRequest(self.method, url, headers, params=dict(self.params))
         S3SigV4QueryAuth(Credentials(*self.key), "s3", self.region, self.expires).add_auth(request)
         return in_canonical_order(request.url.removeprefix(f"http://{self.host}"))
 
@@ -111,11 +91,12 @@ def random_headers(source):
 
 def orders(source):
     """The orders."""
+    order = functools.partial(BotocoreOrder, host=HOST, key=KEYS[0])
     number = 0
     for name in NAMES + [random_text(source) for _ in range(20)]:
         for params, headers in [({}, {}), (SHOWN, {}), ({}, {"x-amz-meta-note": f"number {number}"})]:
             number += 1
-            yield Order(
+            yield order(
                 METHODS[number % 4],
                 f"/in/{name}",
                 params,
@@ -124,29 +105,29 @@ def orders(source):
                 expires=source.choice([1, 60, 86400, 604800]),
             )
     for method in METHODS:
-        yield Order(method, "/")
-        yield Order(method, "//", {"desk": "key revoke k2"}, expires=604800)
-        yield Order(method, "/in/a/../b c", SORTED)
-        yield Order(method, bytes(range(0x2F, 0x100)) + bytes(range(0x2F)), ENCODED)
-        yield Order(method, "/in/a", headers=RANGE)
-        yield Order(method, "/in/b", ENCODED, LETTERED)
+        yield order(method, "/")
+        yield order(method, "//", {"desk": "key revoke k2"}, expires=604800)
+        yield order(method, "/in/a/../b c", SORTED)
+        yield order(method, bytes(range(0x2F, 0x100)) + bytes(range(0x2F)), ENCODED)
+        yield order(method, "/in/a", headers=RANGE)
+        yield order(method, "/in/b", ENCODED, LETTERED)
     for host in HOSTS:
-        yield Order("GET", "/in/host", SHOWN, RANGE, host=host)
+        yield order("GET", "/in/host", SHOWN, RANGE, host=host)
     for region in ["a", "-" * 32, "0"]:
-        yield Order("GET", "/in/region", SHOWN, RANGE, region=region)
+        yield order("GET", "/in/region", SHOWN, RANGE, region=region)
     for key in KEYS:
-        yield Order("PUT", "/in/key", SHOWN, RANGE, key=key)
+        yield order("PUT", "/in/key", SHOWN, RANGE, key=key)
     for start in MOMENTS:
-        yield Order("PUT", "/in/start", SHOWN, RANGE, start=start)
+        yield order("PUT", "/in/start", SHOWN, RANGE, start=start)
     for _ in range(100):
-        yield Order(
+        yield order(
             source.choice(METHODS),
             b"/" + random_bytes(source) + random_text(source).encode(),
             random_params(source),
             random_headers(source),
-            source.choice(HOSTS),
-            source.choice(REGIONS),
-            source.choice(KEYS),
-            source.choice(MOMENTS),
-            source.randint(1, 604800),
+            host=source.choice(HOSTS),
+            region=source.choice(REGIONS),
+            key=source.choice(KEYS),
+            start=source.choice(MOMENTS),
+            expires=source.randint(1, 604800),
         )

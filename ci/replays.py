@@ -5,6 +5,7 @@ The answers that are owed come from the table of refusals in docs/RULES.md, the 
 lines were read and found true. The last line is `N passed, M failed`.
 """
 
+import contextlib
 import dataclasses
 import itertools
 import os
@@ -116,11 +117,13 @@ LEAST = {
 # Other spellings of the published target, and odd heads that are legal: the signature stays right.
 SPELLINGS = [
     (b"/test.txt?", b"/%74est.txt?"), (b"/test.txt?", b"/te%73%74.tx%74?"), (b"X-Amz-Expires", b"X%2DAmz%2DExpires"),
-    (b"X-Amz-Signature", b"%58-Amz-Signature"), (b"=aeeed9", b"=%61eeed9"), (b"SignedHeaders=host", b"SignedHeaders=%68ost"),
+    (b"X-Amz-Signature", b"%58-Amz-Signature"), (b"=aeeed9", b"=%61eeed9"),
+    (b"SignedHeaders=host", b"SignedHeaders=%68ost"),
     (SIGNED, b"&".join(reversed(SIGNED.replace(b"%2F", b"%2f").split(b"&")))),
 ]
 ODD_HEADS = [
-    (b"GET", b"\r\nGET"), (b"GET", b"\n\n\r\nGET"), (b"HTTP/1.1\r\n", b"HTTP/1.0\r\n"), (b"HTTP/1.1\r\n", b"HTTP/1.1\n"),
+    (b"GET", b"\r\nGET"), (b"GET", b"\n\n\r\nGET"), (b"HTTP/1.1\r\n", b"HTTP/1.0\r\n"),
+    (b"HTTP/1.1\r\n", b"HTTP/1.1\n"),
     (b"\r\nHost", b"\r\nAccept: x\nHost"), (b"\r\nHost", b"\r\nAccept: \x80\xc3\xa9\xff\r\nHost"),
     (b"\r\nHost", b"\r\nAccept:\r\nAccept: \t \r\nHost"), (b"\r\nHost", b"\r\nxx-amz-note: 1\r\nx-amz: 2\r\nHost"),
     (b"Host:", b"HOST:"), (b"Host:", b"hOsT:"), (b"Host: ", b"host:"), (b"Host:", b"Host: \t "),
@@ -158,8 +161,8 @@ def unserved():
         yield Case(f"{len(stream)} bytes that are no request", stream, NOT_SERVED)
 
 
-def signed(method, path, more=b"", *, names=b"host", fields=((b"host", b"files.example"),), unsigned=(), key=(ID, SECRET),
-           date=MOMENT, region="us-east-1", expires=86400):
+def signed(method, path, more=b"", *, names=b"host", fields=((b"host", b"files.example"),), unsigned=(),
+           key=(ID, SECRET), date=MOMENT, region="us-east-1", expires=86400):
     """A request for a link that Python signs. The path and the further parameters are raw texts."""
     credential = f"{key[0]}/{date[:8]}/{region}/s3/aws4_request"
     six = SIX % tuple(map(as_bytes, (credential, date, str(expires), names, "")))
@@ -201,8 +204,8 @@ def windows():
     second = signed("GET", b"/in/a", date="20130524T123456Z", expires=1)
     for at, number in [("20130524T123455Z", 22), ("20130524T123456Z", 27), ("20130524T123457Z", 23)]:
         yield Case(f"a link of a second at {at}", second, answered(number), at)
-    leap = signed("GET", b"/in//a/../b~c-d_e.f", fields=[(b"host", b"files.example:8080")], key=("office_key-2", b"s3cr3t"),
-                  date="20240229T235959Z", region="eu-west-3", expires=1)
+    leap = signed("GET", b"/in//a/../b~c-d_e.f", fields=[(b"host", b"files.example:8080")],
+                  key=("office_key-2", b"s3cr3t"), date="20240229T235959Z", region="eu-west-3", expires=1)
     office = "memory:office_key-2/s3cr3t"
     yield Case("another office", leap, answered(27), "20240229T235959Z", office)
     yield Case("another office a second later", leap, answered(23), "20240301T000000Z", office)
@@ -223,7 +226,8 @@ def greatest():
     office = f"memory:{key[0]}/{key[1].decode()}"
     yield Case("the greatest request", stream, answered(27), "20130530T235959Z", office)
     yield Case("the greatest request, too late", stream, answered(23), "20130531T000000Z", office)
-    yield Case("the greatest request, one byte more", stream.replace(b": v\r", b": vv\r", 1), NOT_SERVED, MOMENT, office)
+    more = stream.replace(b": v\r", b": vv\r", 1)
+    yield Case("the greatest request, one byte more", more, NOT_SERVED, MOMENT, office)
 
 
 def replayed(program, folder, number, case):
@@ -274,7 +278,8 @@ NO_TASK = [
     (["replay", "f", "-s", "--at", "m"], "error: unexpected argument '-s' found"),
     (["replay", "f", "s", "--at", "m", "--until", "n"], "error: unexpected argument '--until' found"),
     (["replay", "f", "s", "--at"], "error: a value is required for '--at <MOMENT>' but none was supplied"),
-    (["replay", "f", "s", "--at", "m", "--at", "m"], "error: the argument '--at <MOMENT>' cannot be used multiple times"),
+    (["replay", "f", "s", "--at", "m", "--at", "m"],
+     "error: the argument '--at <MOMENT>' cannot be used multiple times"),
     (["replay"], "error: the following required arguments were not provided:"),
     (["replay", "f", "--at", "m"], "error: the following required arguments were not provided:"),
     (["replay", "f", "s"], "error: the following required arguments were not provided:"),
@@ -299,29 +304,42 @@ def test_words(program, folder, count):
         count.add(f"drop {words}", difference(kit.run([program, *words]), owed))
 
 
-def to_closed_pipe(words):
-    """The run with a standard output that nobody reads."""
+@contextlib.contextmanager
+def closed_pipe():
+    """A file to write to that nobody reads."""
     heard, told = os.pipe()
     os.close(heard)
     try:
-        return kit.run(words, out=told)
+        yield told
     finally:
         os.close(told)
 
 
-def to_full_disk(words):
-    with open("/dev/full", "wb", buffering=0) as out:
-        return kit.run(words, out=out)
+def full_disk():
+    return open("/dev/full", "wb", buffering=0)
 
 
 def test_failing_output(program, folder, count):
-    stream = folder / "published.http"
-    for words, line in [
-        (["replay", OFFICE, stream, "--at", MOMENT], "a connection failed"), (["--help"], "cannot write"),
-        (["replay", "--help"], "cannot write"),
-    ]:
-        for how in [to_full_disk, to_closed_pipe]:
-            count.add(f"drop {words} {how.__name__}", difference(how([program, *words]), fault(line)))
+    """Standard output or standard error fails. Where that is standard error, the status alone tells."""
+    stream, other = folder / "published.http", folder / "other.http"
+    stream.write_bytes(REQUEST)
+    other.write_bytes(b"GET / HTTP/1.1\r\nContent-Length: 0\r\n\r\n")
+    replay = ["replay", OFFICE, stream, "--at", MOMENT]
+    for failing in [full_disk, closed_pipe]:
+        for words, line in [
+            (replay, "a connection failed"), (["--help"], "cannot write"), (["replay", "--help"], "cannot write"),
+        ]:
+            with failing() as file:
+                found = kit.run([program, *words], out=file)
+            count.add(f"drop {words} to a {failing.__name__}", difference(found, fault(line)))
+        for words, owed in [
+            (replay, answered(27)), (["replay", OFFICE, other, "--at", MOMENT], kit.Run(1, b"", b"")),
+            (["replay", OFFICE, stream, "--at", "now"], kit.Run(1, b"", b"")), (["restore"], kit.Run(2, b"", b"")),
+            ([b"\xff"], kit.Run(1, b"", b"")),
+        ]:
+            with failing() as file:
+                found = kit.run([program, *words], err=file)
+            count.add(f"drop {words} with errors to a {failing.__name__}", difference(found, owed))
 
 
 def main():

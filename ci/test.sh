@@ -2,7 +2,7 @@
 # Passes all tests: `rt ci` from nothing, and then what the proved programs that it leaves write, against what is owed
 # from outside. Each part ends with `N passed, M failed`, and its time is told; a part that does not end so, or cannot
 # be run, has failed. The last line is `N passed, M failed`, the sum of all.
-set -u
+set -uo pipefail
 cd "$(dirname "$0")/.." || exit 2
 work=$(mktemp -d)
 trap 'rm -rf "$work"' EXIT
@@ -14,19 +14,19 @@ TIMEFORMAT='%R %U %S'
 count() {
     local name=$1 status line
     shift
-    { time "$@" >"$work/log" 2>&1; } 2>"$work/time"
+    { time "$@" 2>&1 | tee "$work/log"; } 2>"$work/time"
     status=$?
-    cat "$work/log"
     line=$(grep -E '^[0-9]+ passed, [0-9]+ failed$' "$work/log" | tail -1)
     if [[ $line =~ ^([0-9]+)\ passed,\ ([0-9]+)\ failed$ ]]; then
         passed=$((passed + BASH_REMATCH[1]))
         failed=$((failed + BASH_REMATCH[2]))
+        if [ "$status" -ne 0 ] && [ "${BASH_REMATCH[2]}" -eq 0 ]; then
+            failed=$((failed + 1))
+            line="$line, but status $status"
+        fi
     else
-        line="no counts"
-    fi
-    if [ "$status" -ne 0 ] && [[ ! $line =~ \ [1-9][0-9]*\ failed$ ]]; then
         failed=$((failed + 1))
-        line="$line, status $status"
+        line="no counts, status $status"
     fi
     awk -v name="$name" -v line="$line" \
         '{ printf "%-28s %7.1f s %8.1f s of processors   %s\n", name, $1, $2 + $3, line }' "$work/time" >>"$work/times"

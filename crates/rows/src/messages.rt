@@ -3,7 +3,7 @@ use crate::row::{Line, Row, RowFault};
 use crate::texts::refusal_named;
 use sigtext::Field;
 use std::alloc::Global;
-use wire::{Answer, Counted, Reply, head_end, put_answer, read_head};
+use wire::{Answer, Counted, head_end, put_answer, read_head};
 
 /// Whether the row is one of these calls; then it is answered.
 pub fn answer(alloc: Global, row: &Row<'_>, line: &mut Line) -> Result<bool, RowFault> {
@@ -48,17 +48,19 @@ fn read(row: &Row<'_>, line: &mut Line) -> Result<(), RowFault> {
     Ok(())
 }
 
-/// The name of a refusal, and `HEAD` or another method: the answer, and the number of faults that were counted.
+/// The name of a refusal, and `HEAD` or another method: the answer, whether it is refusal 40, and the number of faults
+/// that were counted.
 fn put(alloc: Global, row: &Row<'_>, line: &mut Line) -> Result<(), RowFault> {
-    let answer = Answer {
-        reply: Reply::Refused(refusal_named(row.word(0)?)?),
-        is_head: row.word(1)? == b"HEAD".as_slice(),
-    };
+    let answer = Answer::refused(
+        refusal_named(row.word(0)?)?,
+        row.word(1)? == b"HEAD".as_slice(),
+    );
     let mut writer = Counted::new(Vec::new(alloc));
     let sent = put_answer(&answer, &mut writer);
     if sent.is_err() {
         return Err(RowFault::Memory);
     }
     line.put(&writer.inner)?;
+    line.put_bool(answer.is_try_again())?;
     Ok(line.put_number(alloc, writer.faults())?)
 }

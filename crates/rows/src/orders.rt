@@ -1,7 +1,8 @@
 //! Rows of `links`: links that are written, and links that are judged.
 use crate::row::{Line, Row, RowFault};
-use links::{LinkFault, LinkKey, LinkOrder, OrderParam, inspect, judge, write_link};
-use sigtext::{Field, Target};
+use crate::texts::want_of_memory;
+use links::{LinkFault, LinkKey, LinkOrder, Method, OrderParam, inspect, judge, write_link};
+use sigtext::{Field, Refusal, Target};
 use sigv4::Moment;
 use std::alloc::{AllocError, Global};
 
@@ -9,19 +10,23 @@ use std::alloc::{AllocError, Global};
 pub fn answer(alloc: Global, row: &Row<'_>, line: &mut Line) -> Result<bool, RowFault> {
     match row.call {
         "write_link" => write(alloc, row, line)?,
+        "method" => read_method(row, line)?,
         "judge" => judge_link(alloc, row, line)?,
         _ => return Ok(false),
     }
     Ok(true)
 }
 
+// What stands before a link.
+const FRONT: &[u8] = b"GET ";
+
 // The words of an order before its parameters and headers.
 const FIRST_PAIR: usize = 9;
 
-/// `METHOD PATH START EXPIRES HOST REGION ID SECRET COUNT`, so many parameters, and headers, a name and a value each:
-/// what stands behind `GET ` then. A fault is told before it.
+/// `METHOD PATH START EXPIRES HOST REGION ID SECRET COUNT`, so many parameters, and headers, a name and a value
+/// each: what stands there behind `GET ` then. A fault is told before it.
 fn write(alloc: Global, row: &Row<'_>, line: &mut Line) -> Result<(), RowFault> {
-    let mut out = Vec::from_slice(alloc, b"GET ")?;
+    let mut out = Vec::from_slice(alloc, FRONT)?;
     let count = usize::try_from(row.number(8)?).unwrap_or(usize::MAX);
     let pairs = row.fields(alloc, FIRST_PAIR)?;
     let Some((params, headers)) = pairs.split_at_checked(count) else {
@@ -30,7 +35,7 @@ fn write(alloc: Global, row: &Row<'_>, line: &mut Line) -> Result<(), RowFault> 
     let params = order_params(alloc, params)?;
     if let Err(fault) = write_to(alloc, row, &params, headers, &mut out)? {
         if fault == LinkFault::Memory {
-            return Err(RowFault::Memory);
+            return Err(want_of_memory(&out, FRONT));
         }
         let name = format!(in alloc; "{fault:?}")?;
         line.put(b"fault")?;
@@ -75,6 +80,15 @@ fn write_to(
     Ok(write_link(alloc, &order, &key, row.word(4)?, row.word(5)?, out))
 }
 
+/// A text: `some` and the text of the method that it names, or `none`.
+fn read_method(row: &Row<'_>, line: &mut Line) -> Result<(), RowFault> {
+    let Some(method) = Method::read(row.word(0)?) else {
+        return Ok(line.put(b"none")?);
+    };
+    line.put(b"some")?;
+    Ok(line.put(method.text())?)
+}
+
 /// `METHOD TARGET SECRET MOMENT` and fields: the key id of a link that is admitted.
 fn judge_link(alloc: Global, row: &Row<'_>, line: &mut Line) -> Result<(), RowFault> {
     let fields = row.fields(alloc, 4)?;
@@ -91,8 +105,9 @@ fn judge_fields<'a>(
         return Err(RowFault::Malformed);
     };
     let now = Moment::read(now).ok_or(RowFault::Malformed)?;
+    let method = Method::read(row.word(0)?).ok_or(Refusal::Method)?;
     let target = Target::read(row.word(1)?)?;
-    let link = inspect(alloc, row.word(0)?, &target, fields)?;
-    judge(alloc, &link, row.word(2)?, now)?;
+    let link = inspect(alloc, method, &target, fields)?;
+    judge(&link, row.word(2)?, now)?;
     Ok(line.put(link.key_id())?)
 }

@@ -1,6 +1,8 @@
 //! Rows of `sigv4`: hashes, moments, credentials, signing keys and signatures.
 use crate::row::{Line, Row, RowFault};
+use crate::texts::parts_of;
 use hex::encode_to_slice;
+use sigtext::{ByteSink, Field};
 use sigv4::{Hmac, Moment, Scope, Sha, derive, is_key_id, is_region, is_secret, signature};
 use std::alloc::{AllocError, Global};
 
@@ -8,8 +10,10 @@ use std::alloc::{AllocError, Global};
 pub fn answer(alloc: Global, row: &Row<'_>, line: &mut Line) -> Result<bool, RowFault> {
     match row.call {
         "sha" => sha(row, line)?,
+        "sha_take" => sha_take(row, line)?,
         "sha_cut" => sha_cut(row.word(0)?, line)?,
         "hmac" => hmac(row, line)?,
+        "hmac_take" => hmac_take(row, line)?,
         "hmac_cut" => hmac_cut(row.word(0)?, row.word(1)?, line)?,
         "moment" => moment(alloc, row, line)?,
         "moment_at" => moment_at(alloc, row, line)?,
@@ -18,7 +22,7 @@ pub fn answer(alloc: Global, row: &Row<'_>, line: &mut Line) -> Result<bool, Row
         "is_secret" => line.put_bool(is_secret(row.word(0)?))?,
         "is_region" => line.put_bool(is_region(row.word(0)?))?,
         "derive" => signing_key(row, line)?,
-        "signature" => sign(row, line)?,
+        "signature" => sign(alloc, row, line)?,
         _ => return Ok(false),
     }
     Ok(true)
@@ -36,6 +40,20 @@ fn sha(row: &Row<'_>, line: &mut Line) -> Result<(), RowFault> {
     for piece in row.words() {
         sha.update(piece);
     }
+    Ok(line.put(&digits(sha.finish()))?)
+}
+
+fn take_each<S: ByteSink>(pieces: &[Vec<u8>], sink: &mut S) -> Result<(), AllocError> {
+    for piece in pieces {
+        sink.take(piece)?;
+    }
+    Ok(())
+}
+
+/// Pieces of a message, which the hasher takes as a sink: its digest.
+fn sha_take(row: &Row<'_>, line: &mut Line) -> Result<(), RowFault> {
+    let mut sha = Sha::new();
+    take_each(row.words(), &mut sha)?;
     Ok(line.put(&digits(sha.finish()))?)
 }
 
@@ -61,6 +79,13 @@ fn hmac(row: &Row<'_>, line: &mut Line) -> Result<(), RowFault> {
     for piece in row.words().get(1..).unwrap_or_default() {
         hmac.update(piece);
     }
+    Ok(line.put(&digits(hmac.finish()))?)
+}
+
+/// A key and pieces of a message, which the hasher takes as a sink: its code.
+fn hmac_take(row: &Row<'_>, line: &mut Line) -> Result<(), RowFault> {
+    let mut hmac = Hmac::new(row.word(0)?);
+    take_each(row.words().get(1..).unwrap_or_default(), &mut hmac)?;
     Ok(line.put(&digits(hmac.finish()))?)
 }
 
@@ -115,14 +140,24 @@ fn signing_key(row: &Row<'_>, line: &mut Line) -> Result<(), RowFault> {
     Ok(line.put(&digits(derive(row.word(0)?, &scope)))?)
 }
 
-/// `SECRET CREDENTIAL DATE TEXT`: the signature of the canonical request that the text is.
-fn sign(row: &Row<'_>, line: &mut Line) -> Result<(), RowFault> {
+/// `SECRET CREDENTIAL DATE METHOD TARGET NAMES` and fields: the signature of the request.
+fn sign(alloc: Global, row: &Row<'_>, line: &mut Line) -> Result<(), RowFault> {
+    let fields = row.fields(alloc, 6)?;
+    let signed = signature_of(alloc, row, &fields)?;
+    Ok(line.put(&signed)?)
+}
+
+fn signature_of<'a>(
+    alloc: Global,
+    row: &'a Row<'_>,
+    fields: &'a [Field<'a>],
+) -> Result<[u8; 64], RowFault> {
     let date = row.word(2)?;
     let scope = Scope::read(row.word(1)?, date)?;
     let Ok(text) = date.try_into() else {
         return Err(RowFault::Malformed);
     };
     let moment = Moment::read(text).ok_or(RowFault::Malformed)?;
-    let signed = signature(row.word(0)?, &scope, &moment, row.word(3)?)?;
-    Ok(line.put(&signed)?)
+    let parts = parts_of(alloc, row, 3, fields)?;
+    Ok(signature(row.word(0)?, &scope, &moment, &parts))
 }

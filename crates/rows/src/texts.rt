@@ -87,16 +87,29 @@ fn columns(alloc: Global, row: &Row<'_>, line: &mut Line) -> Result<(), RowFault
     Ok(line.put(refusal.text().as_bytes())?)
 }
 
-/// `kept TEXT` or `encoded TEXT`, by what is done with `/`, and perhaps what stands in front: what stands there then.
+/// `kept TEXT` or `encoded TEXT`, by what is done with `/`, and perhaps what stands in front: what stands there
+/// then.
 fn encode(alloc: Global, row: &Row<'_>, line: &mut Line) -> Result<(), RowFault> {
     let slash = match row.word(0)? {
         b"kept" => Slash::Kept,
         b"encoded" => Slash::Encoded,
         _ => return Err(RowFault::Malformed),
     };
-    let mut out = Vec::from_slice(alloc, row.word(2).unwrap_or_default())?;
-    uri_encode(row.word(1)?, slash, &mut out)?;
+    let front = row.word(2).unwrap_or_default();
+    let mut out = Vec::from_slice(alloc, front)?;
+    if uri_encode(row.word(1)?, slash, &mut out).is_err() {
+        return Err(want_of_memory(&out, front));
+    }
     Ok(line.put(&out)?)
+}
+
+/// Memory was refused, and what stood there stands there still.
+pub fn want_of_memory(found: &[u8], before: &[u8]) -> RowFault {
+    if found == before {
+        RowFault::Memory
+    } else {
+        RowFault::Malformed
+    }
 }
 
 /// `TEXT`: the decoded path, and the raw names and values in order.
@@ -114,8 +127,12 @@ fn target(alloc: Global, row: &Row<'_>, line: &mut Line) -> Result<(), RowFault>
 
 /// `TARGET TEXT`: the text with the decoded path behind it.
 fn path_into(alloc: Global, row: &Row<'_>, line: &mut Line) -> Result<(), RowFault> {
-    let mut out = Vec::from_slice(alloc, row.word(1)?)?;
-    Target::read(row.word(0)?)?.path_into(&mut out)?;
+    let front = row.word(1)?;
+    let target = Target::read(row.word(0)?)?;
+    let mut out = Vec::from_slice(alloc, front)?;
+    if target.path_into(&mut out).is_err() {
+        return Err(want_of_memory(&out, front));
+    }
     Ok(line.put(&out)?)
 }
 
@@ -154,6 +171,30 @@ fn one_field(alloc: Global, row: &Row<'_>, line: &mut Line) -> Result<(), RowFau
     Ok(())
 }
 
+/// What the signature of a request covers: the words from this place on are its method, its target and the names of
+/// its signed headers.
+pub fn parts_of<'a>(
+    alloc: Global,
+    row: &'a Row<'_>,
+    from: usize,
+    fields: &'a [Field<'a>],
+) -> Result<Parts<'a>, RowFault> {
+    let words = row.words().get(from..).unwrap_or_default();
+    let [method, target, names, ..] = words else {
+        return Err(RowFault::Malformed);
+    };
+    let target = Target::read(target)?;
+    let params = Params::read(alloc, &target)?;
+    let names = SignedNames::read(names)?;
+    let values = signed_values(alloc, fields, &names)?;
+    Ok(Parts {
+        method,
+        target,
+        params,
+        values,
+    })
+}
+
 /// `METHOD TARGET NAMES` and fields: the canonical request of these signed names.
 fn canonical(alloc: Global, row: &Row<'_>, line: &mut Line) -> Result<(), RowFault> {
     let fields = row.fields(alloc, 3)?;
@@ -166,16 +207,7 @@ fn canonical_request<'a>(
     row: &'a Row<'_>,
     fields: &'a [Field<'a>],
 ) -> Result<Vec<u8>, RowFault> {
-    let target = Target::read(row.word(1)?)?;
-    let params = Params::read(alloc, &target)?;
-    let names = SignedNames::read(row.word(2)?)?;
-    let values = signed_values(alloc, fields, &names)?;
-    let parts = Parts {
-        method: row.word(0)?,
-        target,
-        params,
-        values,
-    };
+    let parts = parts_of(alloc, row, 0, fields)?;
     let mut text = Vec::new(alloc);
     canonical_into(&parts, &mut text)?;
     Ok(text)
