@@ -18,3 +18,4 @@ mod Admission
 pub mod SoundOffice
 pub mod Judged
 pub mod StopLemmas
+mod RuleEdges
