@@ -1,5 +1,5 @@
 -- The edges of the rules on places, bodies and the desk, which no served request reaches yet.
-use Rattle.std.proofs.Common.{◌≡◌, ℕ, Bool, true, false, List, [], ◌∷◌, codes, refl}
+use Rattle.std.proofs.Common.{◌≡◌, ℕ, Bool, true, false, List, [], ◌∷◌, codes, refl, arith}
 use Rattle.std.specs.Prelude.{◌≢◌, IsTrue}
 use Rattle.sigtext.specs.declared.refusal.Refusal.TheVariants as rule
 use Rattle.sigtext.specs.Request.{Request}
@@ -40,10 +40,13 @@ module _ (s : State) (p : LinkValues) where
   get_with_body : FormRule rule.BodyNotTaken s (request_by (codes "GET") true (97 ∷ [])) p → ⊥
   get_with_body holds = full (holds no_put)
     where
-      no_put : codes "GET" ≢ codes "PUT"
-      no_put e = cc
+      head_is : (x y : ℕ) (xs ys : List ℕ) → x ∷ xs ≡ y ∷ ys → x ≡ y
+      head_is x y xs ys e = cc
 
-      full : 97 ∷ [] ≡ [] → ⊥
+      no_put : codes "GET" ≢ codes "PUT"
+      no_put e = let first = head_is 71 80 (69 ∷ 84 ∷ []) (85 ∷ 84 ∷ []) e in absurd (omega (arith, first))
+
+      full : ◌≡◌ {A = List ℕ} (97 ∷ []) [] → ⊥
       full e = cc
 
   put_with_body : FormRule rule.BodyNotTaken s (request_by (codes "PUT") true (97 ∷ [])) p
