@@ -26,4 +26,3 @@ pub fn is_visible(byte: u8) -> bool
 {
     matches!(byte, 0x21..=0x7E)
 }
-
