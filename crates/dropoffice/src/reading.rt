@@ -14,7 +14,11 @@ use wire::Message;
 
 /// Reads the link of a message with this method: its parts, or the refusal of the least rule of the numbers 8 to 18
 /// that fails; or refusal 40, where memory was refused.
-pub(crate) fn read_link<'a>(alloc: Global, method: Method, message: &Message<'a>) -> Result<LinkParts<'a>, Refusal>
+pub(crate) fn read_link<'a>(
+    alloc: Global,
+    method: Method,
+    message: &Message<'a>,
+) -> Result<LinkParts<'a>, Refusal>
     requires { message.now.method.now ≡ method_text method }
     ensures ok { IfOk result (λ l. (p : LinkValues) × IsLinkOf l (request_in message.now) p) }
     ensures err { IfErr result (λ q. (q ≢ Refusal.TryAgain) → IsFirstToFail (λ x p. HeadRule x (request_in message.now) p) q) }
