@@ -283,7 +283,7 @@ NO_TASK = [
     (["replay"], "error: the following required arguments were not provided:"),
     (["replay", "f", "--at", "m"], "error: the following required arguments were not provided:"),
     (["replay", "f", "s"], "error: the following required arguments were not provided:"),
-    ([], "Takes and hands out an office's files by signed links"),
+    ([], "Answers requests that carry signed links to an office's files"),
 ]
 
 

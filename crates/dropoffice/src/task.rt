@@ -74,7 +74,7 @@ fn command_line<'a>(alloc: Global) -> Result<Command<'a>, AllocError>
     ensures { IfOk result (λ c. app_of c ≡ drop_app) }
 {
     Command::new(alloc, "drop")
-        .about("Takes and hands out an office's files by signed links")
+        .about("Answers requests that carry signed links to an office's files")
         .subcommand_required(true)
         .arg_required_else_help(true)
         .subcommand(replay_command(alloc)?)
