@@ -1,7 +1,7 @@
 -- A sum over the entries of a finite map, where one entry is put or taken out.
-use Rattle.std.proofs.Common.{◌≡◌, ◌∙◌, ℕ, ◌+◌, Bool, true, false, cond, List, [], ◌∷◌, Option, Some, None, refl, sym, ap, subst, arith}
+use Rattle.std.proofs.Common.{◌≡◌, ◌∙◌, ℕ, ◌+◌, ◌<◌, Bool, true, false, cond, List, [], ◌∷◌, Option, Some, None, refl, sym, ap, subst, arith}
 use Rattle.std.specs.Prelude.{T, ◌&&◌, option_map, unwrap_or}
-use Rattle.std.specs.List.{sum_by, filter}
+use Rattle.std.specs.List.{sum_by, count_by, filter}
 use Rattle.std.specs.declared.cmp.Ordering.{Ordering}
 use Rattle.std.specs.declared.cmp.Ordering.TheVariants.{Less, Equal, Greater}
 use Rattle.std.specs.Ordering.{is_eq, is_lt, eq_by_cmp}
@@ -100,6 +100,36 @@ module _ {K X : Type 0} (R : K → K → Ordering) (o : IsTotalOrder R) (same : 
   -- nothing passes where no entry does
   pub filter-none : (m : FinMap R X) → ((k : K) (v : X) → get m k ≡ Some v → p (k, v) ≡ false) → filter p (entries m) ≡ []
   filter-none m each = none-pass (entries m) (entries_sorted m) (λ k v f. each k v (get-entries m k ∙ f))
+
+  still-found : (q : K) (v : X) (e : K × X) (es : List (K × X)) → T (below_all R e.0 es) → find R q es ≡ Some v → find R q (e ∷ es) ≡ Some v
+  still-found q v e es h found =
+      elim (eq_by_cmp R q e.0) as (λ b. eq_by_cmp R q e.0 ≡ b → cond b (Some e.1) (find R q es) ≡ Some v) [
+        | true ↦ λ t. absurd (some_none v (sym found ∙ not-found q es (below-tied q e.0 es (equal _ (subst T (sym t) tt)) h)))
+        | false ↦ λ t. found
+      ] refl
+
+  abbrev one-if : K × X → ℕ
+  one-if e = cond (p e) 1 0
+
+  found-passing : (es : List (K × X)) → T (is_sorted R es) → 0 < count_by p es → (k : K) × (v : X) × (find R k es ≡ Some v) × (p (k, v) ≡ true)
+  found-passing [] h some = absurd (omega arith)
+  found-passing (e ∷ es) h some =
+      elim (p e) as (λ b. p e ≡ b → (k : K) × (v : X) × (find R k (e ∷ es) ≡ Some v) × (p (k, v) ≡ true)) [
+        | true ↦ λ t. (e.0, e.1, ap (λ r. cond (is_eq r) (Some e.1) (find R e.0 es)) (tied_itself o e.0), t)
+        | false ↦ λ t.
+            let fewer : count_by p (e ∷ es) ≡ one-if e + count_by p es = sum_by-cons one-if e es in
+            let none : one-if e ≡ 0 = ap (λ (b : Bool). cond {A = ℕ} b 1 0) t in
+            let more : 0 < count_by p es = omega (arith, none, fewer, some) in
+            let it = found-passing es (second _ _ h) more in
+            let here : find R it.0 (e ∷ es) ≡ Some it.1 = still-found it.0 it.1 e es (first _ _ h) it.2 in
+            (it.0, it.1, here, it.3)
+      ] refl
+
+  -- where some entries pass, one is found
+  pub one-passes : (m : FinMap R X) → 0 < count_by p (entries m) → (k : K) × (v : X) × (get m k ≡ Some v) × (p (k, v) ≡ true)
+  one-passes m some =
+      let it = found-passing (entries m) (entries_sorted m) some in
+      (it.0, it.1, get-entries m it.0 ∙ it.2, it.3)
 
 -- a sum over the entries that pass, as one over all
 pub sum-filter : {A : Type 0} (p : A → Bool) (f : A → ℕ) (xs : List A) → sum_by f (filter p xs) ≡ sum_by (λ x. cond (p x) (f x) 0) xs

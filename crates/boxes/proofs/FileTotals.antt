@@ -1,5 +1,5 @@
 -- Totals of the state after a file was put or taken out.
-use Rattle.std.proofs.Common.{◌≡◌, ℕ, ◌+◌, ◌≤◌, true, false, cond, List, length, Option, Some, None, refl, ap, arith, eqb}
+use Rattle.std.proofs.Common.{◌≡◌, ℕ, ◌+◌, ◌≤◌, true, false, cond, List, [], length, Option, Some, None, refl, ap, arith, eqb}
 use Rattle.std.specs.Prelude.{sum_by, unwrap_or, option_map}
 use Rattle.std.specs.Cmp.Lexicographic.{pointwise}
 use Rattle.std.specs.FinMap.{get, insert, remove, entries, IsAntisymmetric}
@@ -113,3 +113,51 @@ module _ (s : State) (place : Place) (f : File) (there : get s.files place ≡ S
       let new : count without_file box ≡ sum_by w (entries (remove s.files place)) = length-filter p (entries (remove s.files place)) in
       let old : count s box ≡ sum_by w (entries s.files) = length-filter p (entries s.files) in
       omega (arith, sum, new, old)
+
+  pub used_gone : used without_file place.box + length f.bytes ≡ used s place.box
+  used_gone =
+      let p = λ (e : Place × File). same_bytes e.0.box place.box in
+      let g = λ (e : Place × File). length e.1.bytes in
+      let w = λ (e : Place × File). cond (p e) (g e) 0 in
+      let sum = sum-remove place_cmp place_total place_same w s.files place f there in
+      let new : used without_file place.box ≡ sum_by w (entries (remove s.files place)) = sum-filter p g (entries (remove s.files place)) in
+      let old : used s place.box ≡ sum_by w (entries s.files) = sum-filter p g (entries s.files) in
+      let mine : w (place, f) ≡ length f.bytes = ap (λ b. cond b (length f.bytes) 0) (same_as_itself place.box) in
+      omega (arith, sum, new, old, mine)
+
+  pub count_gone : count without_file place.box + 1 ≡ count s place.box
+  count_gone =
+      let p = λ (e : Place × File). same_bytes e.0.box place.box in
+      let w = one_in place.box in
+      let sum = sum-remove place_cmp place_total place_same w s.files place f there in
+      let new : count without_file place.box ≡ sum_by w (entries (remove s.files place)) = length-filter p (entries (remove s.files place)) in
+      let old : count s place.box ≡ sum_by w (entries s.files) = length-filter p (entries s.files) in
+      let mine : w (place, f) ≡ 1 = ap (λ b. cond b 1 0) (same_as_itself place.box) in
+      omega (arith, sum, new, old, mine)
+
+  pub used_still : (box : List ℕ) → same_bytes place.box box ≡ false → used without_file box ≡ used s box
+  used_still box apart =
+      let p = λ (e : Place × File). same_bytes e.0.box box in
+      let g = λ (e : Place × File). length e.1.bytes in
+      let w = λ (e : Place × File). cond (p e) (g e) 0 in
+      let sum = sum-remove place_cmp place_total place_same w s.files place f there in
+      let new : used without_file box ≡ sum_by w (entries (remove s.files place)) = sum-filter p g (entries (remove s.files place)) in
+      let old : used s box ≡ sum_by w (entries s.files) = sum-filter p g (entries s.files) in
+      let mine : w (place, f) ≡ 0 = ap (λ b. cond b (length f.bytes) 0) apart in
+      omega (arith, sum, new, old, mine)
+
+  pub count_still : (box : List ℕ) → same_bytes place.box box ≡ false → count without_file box ≡ count s box
+  count_still box apart =
+      let p = λ (e : Place × File). same_bytes e.0.box box in
+      let w = one_in box in
+      let sum = sum-remove place_cmp place_total place_same w s.files place f there in
+      let new : count without_file box ≡ sum_by w (entries (remove s.files place)) = length-filter p (entries (remove s.files place)) in
+      let old : count s box ≡ sum_by w (entries s.files) = length-filter p (entries s.files) in
+      let mine : w (place, f) ≡ 0 = ap (λ b. cond b 1 0) apart in
+      omega (arith, sum, new, old, mine)
+
+-- what stands at a place is a part of what its box holds
+pub stands_within : (s : State) (place : Place) → standing_bytes s place ≤ used s place.box
+stands_within s place =
+    let e = used_here s place (record { bytes = []; receipt = 0 }) s.receipts in
+    omega (arith, e)

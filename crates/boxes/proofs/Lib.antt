@@ -12,3 +12,6 @@ pub mod FileTotals
 pub mod NoBox
 pub mod SoundUploads
 pub mod SoundCommands
+pub mod OtherClerks
+pub mod Asked
+pub mod NameTexts

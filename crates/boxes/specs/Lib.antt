@@ -7,3 +7,7 @@ pub mod Sound
 pub mod Rows
 pub mod Commands
 pub mod FirstState
+pub mod Clerks
+pub mod Changes
+pub mod Views
+pub mod Deciding

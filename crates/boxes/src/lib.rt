@@ -1,6 +1,23 @@
-//! The rules of boxes: the definitions, and the rows that they are about.
+//! The rules of boxes: what the office keeps, what a request asks of it, and what it changes.
 #![tactic(auto)]
 
+pub mod change;
+pub mod commands;
+pub mod fetches;
+pub mod laws;
+pub mod opening;
+mod places;
 pub mod rows;
+pub mod totals;
+pub mod uploads;
+pub mod view;
 
-pub use rows::{KeyRow, Mode, Role};
+pub use change::{Change, Command, NewFile};
+pub use commands::desk;
+pub use fetches::fetch;
+pub use laws::{law_of_changes, law_of_clerks};
+pub use opening::{name_fits, open_at};
+pub use rows::{BoxRow, FileRow, KeyRow, Mode, NameRule, OfficeRow, ReceiptRow, Role};
+pub use totals::Totals;
+pub use uploads::{NewBytes, Uploading, upload};
+pub use view::{DeskView, FetchView, UploadView};

@@ -1,0 +1,17 @@
+-- A refusal of the place is one of the upload; bytes that stand have the standing receipt.
+use Rattle.std.proofs.Common.{ap, rules}
+use Rattle.sigtext.specs.declared.refusal.Refusal.{Refusal}
+use Rattle.boxes.specs.Rules.{PlaceRule}
+use Rattle.boxes.specs.State.{Place}
+use Rattle.boxes.proofs.Asked.{refused_at_place, repeat_step, rules_of_repeat}
+use Rattle.boxes.proofs.uploads.upload.Goals as goal
+
+pub returns-in-Err : goal.returns-in-Err
+returns-in-Err c s u sound brought view bytes now key place =
+    refused_at_place s u c.in-Err.refusal (c.in-Err.ensures s u.place view.in_box (ap (λ (p : Place). p.name) place))
+
+pub returns : goal.returns
+returns c s u sound brought view bytes now key place =
+    let stands = bytes.stand.0 (search rules) in
+    let places : (r : Refusal) → PlaceRule r s u.place = (c.in-Ok.ensures s u.place view.in_box (ap (λ (p : Place). p.name) place)).0 in
+    (rules_of_repeat s u places stands, repeat_step s u c.args.view.now.standing c.in-Some.receipt c.in-Some.is view.standing stands)

@@ -1,0 +1,60 @@
+//! What the rules let a request change.
+use crate::rows::{BoxRow, Role};
+
+/// A command of the desk. Its texts have the forms of a sound state's (`HasForm`).
+#[derive(Clone, Copy)]
+pub enum Command<'a> {
+    /// Adds a key, unrevoked.
+    AddKey {
+        id: &'a [u8],
+        role: Role,
+        secret: &'a [u8],
+    },
+    /// Marks the key of this id revoked.
+    RevokeKey {
+        id: &'a [u8],
+    },
+    /// Adds a box.
+    AddBox {
+        name: &'a [u8],
+        row: &'a BoxRow,
+    },
+    /// Sets the second at which a box closes for good.
+    CloseBox {
+        name: &'a [u8],
+        moment: u64,
+    },
+    /// Takes out a file. Its receipt stays.
+    DropFile {
+        in_box: &'a [u8],
+        name: &'a [u8],
+    },
+}
+
+/// A file that is to be set, without its bytes, and so the receipt that is added.
+#[derive(Clone, Copy, Debug)]
+pub struct NewFile<'a> {
+    /// The receipt's number.
+    pub number: u64,
+    /// The name of the box.
+    pub in_box: &'a [u8],
+    /// The name of the file.
+    pub name: &'a [u8],
+    /// The file's length, in bytes.
+    pub size: u64,
+    /// The file's SHA-256 digest.
+    pub digest: [u8; 32],
+    /// The moment, in seconds since 1970-01-01T00:00:00Z.
+    pub moment: u64,
+    /// The id of the key that brings it.
+    pub key: &'a [u8],
+}
+
+/// A change of the state.
+#[derive(Clone, Copy)]
+pub enum Change<'a> {
+    /// Sets a file to these bytes, and adds its receipt.
+    SetFile(NewFile<'a>, &'a [u8]),
+    /// What a command of the desk does.
+    Desk(Command<'a>),
+}

@@ -1,0 +1,44 @@
+//! What a box holds, kept from change to change.
+ghost use Rattle.std.specs.Prelude.{◌≡◌, ℕ, ◌≤◌, ◌<◌, ◌^◌, ◌+◌, length, Some, option_map};
+ghost use Rattle.std.specs.FinMap.{get, insert, remove};
+ghost use Rattle.boxes.specs.State.{File, Place, State};
+ghost use Rattle.boxes.specs.Totals.{used, count};
+
+/// The lengths of a box's files together, in bytes, and how many files they are.
+#[derive(Clone, Copy, Debug, PartialEq, Eq)]
+pub struct Totals {
+    pub used: u64,
+    pub count: u64,
+}
+
+impl Totals {
+    ghost use Rattle.boxes.specs.Views.{AreTotals};
+
+    /// After a file of the new length was set, where one of the old length stood, if one did.
+    pub fn set(self, old: Option<u64>, new: u64) -> Totals
+        ensures { (s : State) (place : Place) (f : File) → AreTotals s place.box self → length f.bytes ≡ new
+            → old ≡ option_map (λ g. length g.bytes) (get s.files place) → used s place.box + new < 2 ^ 64 → count s place.box + 1 < 2 ^ 64
+            → AreTotals (record s { files = insert s.files place f }) place.box result }
+    {
+        let used = self
+            .used
+            .saturating_sub(old.unwrap_or(0))
+            .saturating_add(new);
+        let count = match old {
+            Some(_) => self.count,
+            None => self.count.saturating_add(1),
+        };
+        Totals { used, count }
+    }
+
+    /// After a file of this length was taken out.
+    pub fn take_out(self, old: u64) -> Totals
+        ensures { (s : State) (place : Place) (f : File) → AreTotals s place.box self → get s.files place ≡ Some f → length f.bytes ≡ old
+            → AreTotals (record s { files = remove s.files place }) place.box result }
+    {
+        Totals {
+            used: self.used.saturating_sub(old),
+            count: self.count.saturating_sub(1),
+        }
+    }
+}
