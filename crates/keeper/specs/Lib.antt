@@ -1,0 +1,4 @@
+pub mod Keeping
+pub mod Maps
+pub mod Shelves
+pub mod OneState

@@ -1,12 +1,16 @@
 //! The trait that every keeper meets.
-ghost use Rattle.std.specs.Prelude.{◌≡◌, ◌≢◌, ℕ, IfOk, IfErr, option_map};
+ghost use Rattle.std.specs.Prelude.{◌≡◌, ℕ, ◌+◌, length, map, option_map, OnOk, OnErr, IsErrOf};
 ghost use Rattle.std.specs.FinMap.{get};
 ghost use Rattle.sigtext.specs.Counts.{CountsErrors};
 ghost use Rattle.boxes.specs.State.{State};
+ghost use Rattle.boxes.specs.Views.{AreTotals};
+ghost use Rattle.boxes.specs.Clerks.{clerks};
+ghost use Rattle.boxes.specs.Rows.{IsOfficeOf, key_of, settings_of, IsFileAt, receipts_from, numbered_receipt};
 ghost use Rattle.boxes.specs.Sound.{IsSound};
-ghost use Rattle.boxes.specs.Rows.{key_of};
+ghost use Rattle.boxes.specs.Changes.{IsChangeOf, IsPastFull};
+ghost use Rattle.keeper.specs.Keeping.{Answers, Stays, LeavesAlone, LeavesEither};
 
-use boxes::rows::KeyRow;
+use boxes::{BoxRow, Change, FileRow, KeyRow, OfficeRow, ReceiptRow, Totals};
 use thiserror::Error;
 
 /// Why a keeper could not answer.
@@ -23,7 +27,8 @@ pub enum KeepFault {
     Full,
 }
 
-/// Keeps the state of an office, and counts the calls that fail: the count stops at the greatest value.
+/// Keeps the state of an office, and counts the calls that fail: the count stops at the greatest value. An error
+/// leaves the state. Answers are promised of sound states.
 pub trait Keeper {
     /// What is kept means this state. A relation, since a store that is shut shows nothing.
     ghost means: { Self → State → Type 0 };
@@ -37,15 +42,75 @@ pub trait Keeper {
     /// How many calls failed.
     ghost faults: { Self → ℕ };
 
-    /// The key of this id, if there is one. The office is never too full to say.
-    fn key(&mut self, id: &[u8]) -> Result<Option<KeyRow>, KeepFault>
-        ensures value { (s : State) → means self.old s → is_honest self.new → IsSound s
-            → IfOk result (λ k. option_map key_of k ≡ get s.keys id.now) }
-        ensures same { (s : State) → means self.old s → means self.new s }
-        ensures honest { is_honest self.new → is_honest self.old }
-        ensures count { CountsErrors (faults self.old) (faults self.new) result }
-        ensures fault { IfErr result (λ f. f ≢ KeepFault.Full) };
+    /// A crash now may leave this state. Of memory it means nothing.
+    ghost leaves: { Self → State → Type 0 };
 
-    /// An open keeper means one state.
+    /// Whatever a crash now leaves means a state.
+    ghost leaves_whole: { Self → Type 0 };
+
+    /// There is a store below, which may refuse any call. Memory has none.
+    ghost has_store: { Type 0 };
+
+    /// What the office is set to. Takes no memory.
+    fn settings(&mut self) -> Result<OfficeRow, KeepFault>
+        ensures value { Answers means is_honest self.old self.new result IsOfficeOf }
+        ensures rest { Stays means is_honest faults leaves leaves_whole has_store self.old self.new result }
+        ensures sure { OnErr result has_store };
+
+    /// The key of this id.
+    fn key(&mut self, id: &[u8]) -> Result<Option<KeyRow>, KeepFault>
+        ensures value { Answers means is_honest self.old self.new result (λ s k. option_map key_of k ≡ get s.keys id.now) }
+        ensures rest { Stays means is_honest faults leaves leaves_whole has_store self.old self.new result };
+
+    /// The box of this name.
+    fn box_row(&mut self, name: &[u8]) -> Result<Option<BoxRow>, KeepFault>
+        ensures value { Answers means is_honest self.old self.new result (λ s b. option_map settings_of b ≡ get s.boxes name.now) }
+        ensures rest { Stays means is_honest faults leaves leaves_whole has_store self.old self.new result };
+
+    /// The file of this box and name, with its receipt.
+    fn file(&mut self, in_box: &[u8], name: &[u8]) -> Result<Option<FileRow>, KeepFault>
+        ensures value { Answers means is_honest self.old self.new result (λ s f. IsFileAt s (record { box = in_box.now; name = name.now }) f) }
+        ensures rest { Stays means is_honest faults leaves leaves_whole has_store self.old self.new result };
+
+    /// What the box of this name holds; nothing, where it is not there. Takes no memory.
+    fn sizes(&mut self, in_box: &[u8]) -> Result<Totals, KeepFault>
+        ensures value { Answers means is_honest self.old self.new result (λ s t. AreTotals s in_box.now t) }
+        ensures rest { Stays means is_honest faults leaves leaves_whole has_store self.old self.new result }
+        ensures sure { OnErr result has_store };
+
+    /// How many unrevoked clerk's keys stand. Takes no memory.
+    fn clerks(&mut self) -> Result<u64, KeepFault>
+        ensures value { Answers means is_honest self.old self.new result (λ s n. n ≡ clerks s) }
+        ensures rest { Stays means is_honest faults leaves leaves_whole has_store self.old self.new result }
+        ensures sure { OnErr result has_store };
+
+    /// The number of the next receipt. Takes no memory.
+    fn next_number(&mut self) -> Result<u64, KeepFault>
+        ensures value { Answers means is_honest self.old self.new result (λ s n. n ≡ length s.receipts + 1) }
+        ensures rest { Stays means is_honest faults leaves leaves_whole has_store self.old self.new result }
+        ensures sure { OnErr result has_store };
+
+    /// The receipts numbered `from` or more, ascending, at most `most`.
+    fn receipts(&mut self, from: u64, most: usize) -> Result<Vec<ReceiptRow>, KeepFault>
+        ensures value { Answers means is_honest self.old self.new result (λ s rs. map numbered_receipt rs.items ≡ receipts_from s from most) }
+        ensures rest { Stays means is_honest faults leaves leaves_whole has_store self.old self.new result };
+
+    /// Makes a change that the rules give for the state, whole or not at all. `Full` comes where the office has its
+    /// greatest number of receipts and the change would add one, and only there.
+    fn apply(&mut self, change: &Change<'_>) -> Result<(), KeepFault>
+        ensures made { (s after : State) → means self.old s → IsSound s → IsChangeOf s change.now after → OnOk result (means self.new after) }
+        ensures same { (s : State) → means self.old s → OnErr result (means self.new s) }
+        ensures honest { is_honest self.new → is_honest self.old }
+        ensures opened { is_honest self.new → OnOk result (is_open self.new) }
+        ensures count { CountsErrors (faults self.old) (faults self.new) result }
+        ensures full { (s after : State) → means self.old s → IsSound s → IsChangeOf s change.now after → IsErrOf result KeepFault.Full → IsPastFull s change.now }
+        ensures room { (s after : State) → means self.old s → IsSound s → IsChangeOf s change.now after → OnOk result (IsPastFull s change.now → ⊥) }
+        ensures store { IsErrOf result KeepFault.Store → has_store }
+        ensures durable { (s after : State) → means self.old s → IsSound s → IsChangeOf s change.now after → is_honest self.new
+            → OnOk result (LeavesAlone leaves leaves_whole self.new after) }
+        ensures crash { (s after : State) → means self.old s → IsSound s → IsChangeOf s change.now after → is_honest self.new
+            → OnErr result (LeavesEither leaves leaves_whole self.old self.new s after) };
+
+    /// An honest keeper that is open means one state.
     ghost one: { (k : Self) (s t : State) → is_honest k → is_open k → means k s → means k t → s ≡ t };
 }

@@ -1,6 +1,11 @@
-//! What keeps an office: the trait that every keeper meets.
+//! What keeps an office: the trait that every keeper meets, and a keeper in memory.
 #![tactic(auto)]
 
-pub mod keep;
+mod copies;
+mod keep;
+mod shelf;
+mod shelf_keeps;
+mod shelving;
 
 pub use keep::{KeepFault, Keeper};
+pub use shelf::{Shelf, has_room};

@@ -1,0 +1,5 @@
+pub mod MapLemmas
+pub mod FoundLemmas
+pub mod ClerkCounts
+pub mod ShelfLemmas
+pub mod StayLemmas

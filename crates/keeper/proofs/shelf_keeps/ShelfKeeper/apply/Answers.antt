@@ -1,0 +1,15 @@
+use Rattle.std.proofs.Common.{subst}
+use Rattle.std.proofs.lemmas.Result.{on_ok_weaker}
+use Rattle.boxes.specs.Changes.{IsChangeOf}
+use Rattle.keeper.specs.OneState.{one_state}
+use Rattle.keeper.proofs.shelf_keeps.ShelfKeeper.apply.Goals as goal
+
+pub returns-in-SetFile-clause-durable : goal.returns-in-SetFile-clause-durable
+returns-in-SetFile-clause-durable c s after h sound change honest =
+    let there = subst (λ x. IsChangeOf s x after) c.in-SetFile.is change in
+    on_ok_weaker c.set_file.result (λ now. record { there = now; alone = λ t l. one_state c.set_file.new.self t after l now; whole = tt }) (c.set_file.ensures.made s after h sound there)
+
+pub returns-in-Desk-clause-durable : goal.returns-in-Desk-clause-durable
+returns-in-Desk-clause-durable c s after h sound change honest =
+    let there = subst (λ x. IsChangeOf s x after) c.in-Desk.is change in
+    on_ok_weaker c.obey.result (λ now. record { there = now; alone = λ t l. one_state c.obey.new.self t after l now; whole = tt }) (c.obey.ensures.made s after h sound there)

@@ -1,0 +1,34 @@
+-- What the calls of a keeper say, over its ghost members.
+use Rattle.std.specs.Prelude.{◌≡◌, ◌≢◌, ℕ, ◌⊎◌, Result, IfOk, IfErr, IsErrOf}
+use Rattle.sigtext.specs.Counts.{CountsErrors}
+use Rattle.boxes.specs.State.{State}
+use Rattle.boxes.specs.Sound.{IsSound}
+use Rattle.keeper.specs.declared.keep.KeepFault.{KeepFault}
+use Rattle.keeper.specs.declared.keep.KeepFault.TheVariants.{Full, Store}
+
+-- a success answers this of the state, where that is sound and the store is honest
+abbrev pub Answers : {K T : Type 0} → (K → State → Type 0) → (K → Type 0) → K → K → Result T KeepFault → (State → T → Type 0) → Type 0
+Answers means is_honest old new result Holds = (s : State) → means old s → IsSound s → is_honest new → IfOk result (Holds s)
+
+-- What a call leaves that changes nothing, whatever it answers: the state is the same, a store that is honest now was
+-- so before, an error is counted, the office is never too full, only a store refuses by itself, and a crash leaves
+-- nothing new but the standing state.
+pub record Stays {K T : Type 0} (means : K → State → Type 0) (is_honest : K → Type 0) (faults : K → ℕ) (leaves : K → State → Type 0) (leaves_whole : K → Type 0) (has_store : Type 0) (old new : K) (result : Result T KeepFault) : Type 0 where
+  pub same : (s : State) → means old s → means new s
+  pub honest : is_honest new → is_honest old
+  pub count : CountsErrors (faults old) (faults new) result
+  pub room : IfErr result (λ f. f ≢ Full)
+  pub store : IsErrOf result Store → has_store
+  pub crash : (s t : State) → means old s → is_honest new → leaves new t → leaves old t ⊎ (t ≡ s)
+  pub whole : (s : State) → means old s → is_honest new → leaves_whole old → leaves_whole new
+
+-- a crash leaves the state after, and nothing else
+pub record LeavesAlone {K : Type 0} (leaves : K → State → Type 0) (leaves_whole : K → Type 0) (new : K) (after : State) : Type 0 where
+  pub there : leaves new after
+  pub alone : (t : State) → leaves new t → t ≡ after
+  pub whole : leaves_whole new
+
+-- a crash leaves nothing new but the standing state and the state after
+pub record LeavesEither {K : Type 0} (leaves : K → State → Type 0) (leaves_whole : K → Type 0) (old new : K) (s after : State) : Type 0 where
+  pub either : (t : State) → leaves new t → leaves old t ⊎ (t ≡ s) ⊎ (t ≡ after)
+  pub whole : leaves_whole old → leaves_whole new

@@ -1,0 +1,46 @@
+-- What the ordered maps of a shelf mean.
+use Rattle.std.specs.Prelude.{◌≡◌, ℕ, ◌≤◌, List, length, map, Vec, Some, false}
+use Rattle.std.specs.declared.alloc.Global.{Global}
+use Rattle.sigtext.specs.Bytes.{bytes_cmp}
+use Rattle.boxes.specs.declared.rows.Role.{Role}
+use Rattle.boxes.specs.declared.change.NewFile.{NewFile}
+use Rattle.boxes.specs.State.{Key, Place, place_cmp, File, Receipt, Settings, State}
+use Rattle.boxes.specs.Rows.{key_of, settings_of, numbered, numbered_receipt}
+use Rattle.boxes.specs.Clerks.{clerks}
+use Rattle.boxes.specs.Views.{AreTotals}
+use Rattle.keeper.specs.declared.shelf.ShelvedBox.{ShelvedBox}
+use Rattle.keeper.specs.declared.shelf.StoredFile.{StoredFile}
+use Rattle.keeper.specs.declared.shelf.Shelf.{Shelf}
+use Rattle.keeper.specs.Maps.{found, MapMeans}
+
+abbrev pub bytes_of : Vec ℕ Global → List ℕ
+bytes_of v = v.items
+
+abbrev pub place_of : Vec ℕ Global × Vec ℕ Global → Place
+place_of k = record { box = k.0.items; name = k.1.items }
+
+abbrev pub shelved_settings : ShelvedBox → Settings
+shelved_settings b = settings_of b.row
+
+abbrev pub stored_file : StoredFile → File
+stored_file f = record { bytes = f.bytes.items; receipt = f.number }
+
+-- The maps are those of the state, the receipts are numbered, the kept totals are the sums over the files, and the
+-- kept number of clerks is theirs. It is no more than the keys.
+pub record Holds (k : Shelf) (s : State) : Type 0 where
+  pub offset : k.office.east ≡ s.offset
+  pub keys : MapMeans bytes_cmp bytes_of key_of k.keys.entries s.keys
+  pub boxes : MapMeans bytes_cmp bytes_of shelved_settings k.boxes.entries s.boxes
+  pub files : MapMeans place_cmp place_of stored_file k.files.entries s.files
+  pub receipts : map numbered_receipt k.receipts.items ≡ numbered 1 s.receipts
+  pub totals : (name : List ℕ) (b : ShelvedBox) → found bytes_cmp bytes_of k.boxes.entries name ≡ Some b → AreTotals s name b.totals
+  pub clerks : k.clerks ≡ clerks s
+  pub fewer : k.clerks ≤ length k.keys.entries
+
+-- a key that is added
+abbrev pub added_key : Role → List ℕ → Key
+added_key role secret = record { role = role; secret = secret; revoked = false }
+
+-- the receipt of a file that is set, with its number
+abbrev pub set_receipt : NewFile → ℕ × Receipt
+set_receipt f = (f.number, record { box = f.in_box.now; name = f.name.now; size = f.size; digest = f.digest; moment = f.moment; key = f.key.now })

@@ -1,0 +1,208 @@
+//! A keeper in memory, and what it is asked.
+ghost use Rattle.std.specs.Prelude.{◌≡◌, ℕ, ◌+◌, ◌-◌, ◌≤◌, ◌↔◌, map, take, drop, length, cond, slice_get, option_map, IsTrue, IfSome, IfOk, IfErr};
+ghost use Rattle.std.specs.FinMap.{get};
+ghost use Rattle.sigtext.specs.Counts.{Rose, CountsErrors};
+ghost use Rattle.boxes.specs.State.{State};
+ghost use Rattle.boxes.specs.Sound.{IsSound};
+ghost use Rattle.boxes.specs.Clerks.{is_acting};
+ghost use Rattle.boxes.specs.Rows.{key_of, settings_of, receipts_from, numbered_receipt, IsFileAt};
+ghost use Rattle.boxes.specs.Views.{AreTotals};
+ghost use Rattle.boxes.specs.Changes.{most_receipts};
+ghost use Rattle.keeper.specs.Shelves.{Holds, place_of};
+
+use crate::copies::{copy_box, copy_key, copy_receipt, copy_receipts};
+use crate::keep::KeepFault;
+use boxes::{BoxRow, FileRow, KeyRow, OfficeRow, ReceiptRow, Role, Totals};
+use std::alloc::{AllocError, Global};
+use std::collections::BTreeMap;
+
+/// A box, and what it holds.
+#[derive(Drop)]
+pub struct ShelvedBox {
+    pub row: BoxRow,
+    pub totals: Totals,
+}
+
+/// A file, and the number of its receipt.
+#[derive(Drop)]
+pub struct StoredFile {
+    pub bytes: Vec<u8>,
+    pub number: u64,
+}
+
+/// An office in ordered maps. A question or a change costs as much as the logarithm of what is kept.
+#[derive(Drop)]
+pub struct Shelf {
+    pub(crate) office: OfficeRow,
+    pub(crate) keys: BTreeMap<Vec<u8>, KeyRow>,
+    pub(crate) boxes: BTreeMap<Vec<u8>, ShelvedBox>,
+    pub(crate) files: BTreeMap<(Vec<u8>, Vec<u8>), StoredFile>,
+    pub(crate) receipts: Vec<ReceiptRow>,
+    pub(crate) clerks: u64,
+    pub(crate) faults: u64,
+    pub(crate) alloc: Global,
+}
+
+/// There is room for a receipt of this number.
+pub fn has_room(next: u64) -> bool
+    ensures { IsTrue result ↔ (next ≤ most_receipts) }
+{
+    next <= MOST_RECEIPTS
+}
+
+const MOST_RECEIPTS: u64 = 4_000_000_000;
+
+/// 1 for an unrevoked clerk's key, and else 0.
+pub(crate) fn acting(key: &KeyRow) -> u64
+    ensures { result ≡ cond (is_acting (key_of key.now)) 1 0 }
+{
+    match key.role {
+        Role::Clerk if !key.revoked => 1,
+        _ => 0,
+    }
+}
+
+/// Where a file lies.
+pub(crate) fn new_place(
+    alloc: Global,
+    in_box: &[u8],
+    name: &[u8],
+) -> Result<(Vec<u8>, Vec<u8>), AllocError>
+    ensures { IfOk result (λ p. place_of p ≡ record { box = in_box.now; name = name.now }) }
+{
+    Ok((
+        Vec::from_slice(alloc, in_box)?,
+        Vec::from_slice(alloc, name)?,
+    ))
+}
+
+/// A copy of a file and its receipt.
+fn copy_file(
+    alloc: Global,
+    stored: &StoredFile,
+    receipt: &ReceiptRow,
+) -> Result<FileRow, AllocError>
+    ensures { IfOk result (λ f. (f.bytes.items ≡ stored.now.bytes.items) × (numbered_receipt f.receipt ≡ numbered_receipt receipt.now)) }
+{
+    Ok(FileRow {
+        bytes: Vec::from_slice(alloc, &stored.bytes)?,
+        receipt: copy_receipt(alloc, receipt)?,
+    })
+}
+
+/// The receipt in the place of this number.
+fn numbered_of(receipts: &[ReceiptRow], number: u64) -> Option<&ReceiptRow>
+    ensures there { IfSome result (λ r. (at : ℕ) × (number ≡ at + 1) × (slice_get receipts.now at ≡ Some r.now)) }
+{
+    if number == 0 {
+        return None;
+    }
+    receipts.get(number as usize - 1)
+}
+
+/// The receipts in the places from this number on, at most so many.
+fn stretch(receipts: &[ReceiptRow], from: u64, most: usize) -> &[ReceiptRow]
+    ensures { result.now ≡ take most (drop (from - 1) receipts.now) }
+{
+    let before = (from.saturating_sub(1) as usize).min(receipts.len());
+    let rest = &receipts[before..];
+    let end = most.min(rest.len());
+    &rest[..end]
+}
+
+impl Shelf {
+    /// Counts an error.
+    pub(crate) fn count(&mut self) -> KeepFault
+        ensures result { result ≡ KeepFault.Memory }
+        ensures rose { Rose self.old.faults self.new.faults }
+        ensures same { (s : State) → Holds self.old s → Holds self.new s }
+    {
+        self.faults = self.faults.saturating_add(1);
+        KeepFault::Memory
+    }
+
+    /// The key of this id.
+    pub(crate) fn find_key(&mut self, id: &[u8]) -> Result<Option<KeyRow>, KeepFault>
+        ensures value { (s : State) → Holds self.old s → IfOk result (λ k. option_map key_of k ≡ get s.keys id.now) }
+        ensures same { (s : State) → Holds self.old s → Holds self.new s }
+        ensures count { CountsErrors self.old.faults self.new.faults result }
+        ensures fault { IfErr result (λ f. f ≡ KeepFault.Memory) }
+    {
+        let Some(key) = self.keys.get(id) else {
+            return Ok(None);
+        };
+        match copy_key(self.alloc, key) {
+            Ok(copy) => Ok(Some(copy)),
+            Err(_) => Err(self.count()),
+        }
+    }
+
+    /// The box of this name.
+    pub(crate) fn find_box(&mut self, name: &[u8]) -> Result<Option<BoxRow>, KeepFault>
+        ensures value { (s : State) → Holds self.old s → IfOk result (λ b. option_map settings_of b ≡ get s.boxes name.now) }
+        ensures same { (s : State) → Holds self.old s → Holds self.new s }
+        ensures count { CountsErrors self.old.faults self.new.faults result }
+        ensures fault { IfErr result (λ f. f ≡ KeepFault.Memory) }
+    {
+        let Some(shelved) = self.boxes.get(name) else {
+            return Ok(None);
+        };
+        match copy_box(self.alloc, &shelved.row) {
+            Ok(copy) => Ok(Some(copy)),
+            Err(_) => Err(self.count()),
+        }
+    }
+
+    /// The file of this box and name.
+    pub(crate) fn find_file(
+        &mut self,
+        in_box: &[u8],
+        name: &[u8],
+    ) -> Result<Option<FileRow>, KeepFault>
+        ensures value { (s : State) → Holds self.old s → IsSound s → IfOk result (λ f. IsFileAt s (record { box = in_box.now; name = name.now }) f) }
+        ensures same { (s : State) → Holds self.old s → Holds self.new s }
+        ensures count { CountsErrors self.old.faults self.new.faults result }
+        ensures fault { IfErr result (λ f. f ≡ KeepFault.Memory) }
+    {
+        let Ok(place) = new_place(self.alloc, in_box, name) else {
+            return Err(self.count());
+        };
+        let Some(stored) = self.files.get(&place) else {
+            return Ok(None);
+        };
+        let Some(receipt) = numbered_of(&self.receipts, stored.number) else {
+            return Err(self.count());
+        };
+        match copy_file(self.alloc, stored, receipt) {
+            Ok(copy) => Ok(Some(copy)),
+            Err(_) => Err(self.count()),
+        }
+    }
+
+    /// What the box of this name holds.
+    pub(crate) fn totals_of(&self, in_box: &[u8]) -> Totals
+        ensures { (s : State) → Holds self.now s → IsSound s → AreTotals s in_box.now result }
+    {
+        match self.boxes.get(in_box) {
+            Some(shelved) => shelved.totals,
+            None => Totals { used: 0, count: 0 },
+        }
+    }
+
+    /// The receipts numbered `from` or more, at most `most`.
+    pub(crate) fn find_receipts(
+        &mut self,
+        from: u64,
+        most: usize,
+    ) -> Result<Vec<ReceiptRow>, KeepFault>
+        ensures value { (s : State) → Holds self.old s → IfOk result (λ rs. map numbered_receipt rs.items ≡ receipts_from s from most) }
+        ensures same { (s : State) → Holds self.old s → Holds self.new s }
+        ensures count { CountsErrors self.old.faults self.new.faults result }
+        ensures fault { IfErr result (λ f. f ≡ KeepFault.Memory) }
+    {
+        match copy_receipts(self.alloc, stretch(&self.receipts, from, most)) {
+            Ok(copies) => Ok(copies),
+            Err(_) => Err(self.count()),
+        }
+    }
+}

@@ -1,0 +1,111 @@
+//! The keeper in memory meets the trait.
+ghost use Rattle.std.specs.Prelude.{◌≡◌, pos, neg_ℤ, ◌≤ℤ◌, IfOk, IfErr};
+ghost use Rattle.sigv4.specs.Credential.{IsKeyId, IsSecret};
+ghost use Rattle.boxes.specs.FirstState.{first_state};
+ghost use Rattle.boxes.specs.Sound.{IsSound};
+ghost use Rattle.keeper.specs.Shelves.{Holds};
+ghost use Rattle.keeper.specs.OneState.{one_state};
+
+use crate::keep::{KeepFault, Keeper};
+use crate::shelf::Shelf;
+use crate::shelving::new_key;
+use boxes::{BoxRow, Change, FileRow, KeyRow, OfficeRow, ReceiptRow, Role, Totals};
+use std::alloc::Global;
+use std::collections::BTreeMap;
+
+impl Keeper for Shelf {
+    ghost means = { Holds };
+
+    ghost is_honest = { λ _. Unit {0} };
+
+    ghost is_open = { λ _. Unit {0} };
+
+    ghost faults = { λ k. k.faults };
+
+    ghost leaves = { Holds };
+
+    ghost leaves_whole = { λ _. Unit {0} };
+
+    ghost has_store = { ⊥ };
+
+    fn settings(&mut self) -> Result<OfficeRow, KeepFault> {
+        Ok(self.office)
+    }
+
+    fn key(&mut self, id: &[u8]) -> Result<Option<KeyRow>, KeepFault> {
+        self.find_key(id)
+    }
+
+    fn box_row(&mut self, name: &[u8]) -> Result<Option<BoxRow>, KeepFault> {
+        self.find_box(name)
+    }
+
+    fn file(&mut self, in_box: &[u8], name: &[u8]) -> Result<Option<FileRow>, KeepFault> {
+        self.find_file(in_box, name)
+    }
+
+    fn sizes(&mut self, in_box: &[u8]) -> Result<Totals, KeepFault> {
+        Ok(self.totals_of(in_box))
+    }
+
+    fn clerks(&mut self) -> Result<u64, KeepFault> {
+        Ok(self.clerks)
+    }
+
+    fn next_number(&mut self) -> Result<u64, KeepFault> {
+        Ok(self.receipts.as_slice().len() as u64 + 1)
+    }
+
+    fn receipts(&mut self, from: u64, most: usize) -> Result<Vec<ReceiptRow>, KeepFault> {
+        self.find_receipts(from, most)
+    }
+
+    fn apply(&mut self, change: &Change<'_>) -> Result<(), KeepFault> {
+        match change {
+            Change::SetFile(file, bytes) => self.set_file(file, bytes),
+            Change::Desk(command) => self.obey(command),
+        }
+    }
+
+    ghost one = { λ k s t honest opened a b. one_state k s t a b };
+}
+
+impl Shelf {
+    /// The keeper of an office that begins, with one clerk's key of this id and secret.
+    pub fn new(
+        alloc: Global,
+        office: OfficeRow,
+        id: &[u8],
+        secret: &[u8],
+    ) -> Result<Shelf, KeepFault>
+        ensures means { IfOk result (λ k. ⟦<Shelf as Keeper>⟧.means k (first_state office.east id.now secret.now)) }
+        ensures sound { neg_ℤ (pos 840) ≤ℤ office.east → office.east ≤ℤ pos 840 → IsKeyId id.now → IsSecret secret.now
+            → IsSound (first_state office.east id.now secret.now) }
+        ensures honest { IfOk result ⟦<Shelf as Keeper>⟧.is_honest }
+        ensures opened { IfOk result ⟦<Shelf as Keeper>⟧.is_open }
+        ensures none { IfOk result (λ k. ⟦<Shelf as Keeper>⟧.faults k ≡ 0) }
+        ensures no_store { ⟦<Shelf as Keeper>⟧.has_store → ⊥ }
+        ensures fault { IfErr result (λ f. f ≡ KeepFault.Memory) }
+    {
+        let Ok((id, row)) = new_key(alloc, id, Role::Clerk, secret) else {
+            return Err(KeepFault::Memory);
+        };
+        let mut keys = BTreeMap::new(alloc);
+        match keys.insert(id, row) {
+            Ok(_) => Ok(Shelf {
+                office,
+                keys,
+                boxes: BTreeMap::new(alloc),
+                files: BTreeMap::new(alloc),
+                receipts: Vec::new(alloc),
+                clerks: 1,
+                faults: 0,
+                alloc,
+            }),
+            Err(_) => Err(KeepFault::Memory),
+        }
+    }
+}
+
+#[cfg(test)]
+mod tests;

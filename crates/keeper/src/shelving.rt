@@ -1,0 +1,258 @@
+//! What changes a keeper in memory. Growth comes first, and the change last.
+ghost use Rattle.std.specs.Prelude.{◌≡◌, ◌≤◌, ◌<◌, ◌⊎◌, Some, true, length, cond, option_map, IfOk, IfErr, OnOk, OnErr};
+ghost use Rattle.sigtext.specs.Bytes.{bytes_cmp};
+ghost use Rattle.sigtext.specs.Counts.{CountsErrors};
+ghost use Rattle.boxes.specs.State.{State};
+ghost use Rattle.boxes.specs.Steps.{AddKey, RevokeKey, AddBox, CloseBox, DropFile};
+ghost use Rattle.boxes.specs.Sound.{IsSound};
+ghost use Rattle.boxes.specs.Clerks.{is_acting};
+ghost use Rattle.boxes.specs.Rows.{key_of, settings_of, numbered_receipt};
+ghost use Rattle.boxes.specs.Changes.{IsFileSet, IsObeyed, command_of, most_receipts};
+ghost use Rattle.boxes.specs.declared.rows.KeyRow.{KeyRow};
+ghost use Rattle.keeper.specs.declared.shelf.ShelvedBox.{ShelvedBox};
+ghost use Rattle.keeper.specs.Maps.{found, Sets};
+ghost use Rattle.keeper.specs.Shelves.{Holds, bytes_of, place_of, shelved_settings, stored_file, added_key, set_receipt};
+
+use crate::copies::copy_box;
+use crate::keep::KeepFault;
+use crate::shelf::{Shelf, ShelvedBox, StoredFile, acting, has_room, new_place};
+use boxes::{BoxRow, Command, KeyRow, NewFile, ReceiptRow, Role, Totals};
+use std::alloc::{AllocError, Global};
+use std::collections::BTreeMap;
+
+/// A key that is added, as it is kept.
+pub(crate) fn new_key(
+    alloc: Global,
+    id: &[u8],
+    role: Role,
+    secret: &[u8],
+) -> Result<(Vec<u8>, KeyRow), AllocError>
+    ensures { IfOk result (λ k. (k.0.items ≡ id.now) × (key_of k.1 ≡ added_key role secret.now)) }
+{
+    Ok((
+        Vec::from_slice(alloc, id)?,
+        KeyRow {
+            role,
+            secret: Vec::from_slice(alloc, secret)?,
+            revoked: false,
+        },
+    ))
+}
+
+/// A box that is added, as it is kept. It holds nothing.
+fn new_box(alloc: Global, name: &[u8], row: &BoxRow) -> Result<(Vec<u8>, ShelvedBox), AllocError>
+    ensures { IfOk result (λ b. (b.0.items ≡ name.now) × (shelved_settings b.1 ≡ settings_of row.now) × (b.1.totals ≡ record { used = 0; count = 0 })) }
+{
+    Ok((
+        Vec::from_slice(alloc, name)?,
+        ShelvedBox {
+            row: copy_box(alloc, row)?,
+            totals: Totals { used: 0, count: 0 },
+        },
+    ))
+}
+
+/// A file that is set and its receipt, as they are kept.
+fn new_file(
+    alloc: Global,
+    file: &NewFile<'_>,
+    bytes: &[u8],
+) -> Result<((Vec<u8>, Vec<u8>), StoredFile, ReceiptRow), AllocError>
+    ensures { IfOk result (λ f. (place_of f.0 ≡ record { box = file.now.in_box.now; name = file.now.name.now })
+        × (stored_file f.1 ≡ record { bytes = bytes.now; receipt = file.now.number }) × (numbered_receipt f.2 ≡ set_receipt file.now)) }
+{
+    Ok((
+        new_place(alloc, file.in_box, file.name)?,
+        StoredFile {
+            bytes: Vec::from_slice(alloc, bytes)?,
+            number: file.number,
+        },
+        ReceiptRow {
+            number: file.number,
+            in_box: Vec::from_slice(alloc, file.in_box)?,
+            name: Vec::from_slice(alloc, file.name)?,
+            size: file.size,
+            digest: file.digest,
+            moment: file.moment,
+            key: Vec::from_slice(alloc, file.key)?,
+        },
+    ))
+}
+
+/// How long a file is.
+fn length_of(file: &Option<StoredFile>) -> Option<u64>
+    ensures { result ≡ option_map (λ f. length f.bytes.items) file.now }
+{
+    match file {
+        Some(stored) => Some(stored.bytes.len() as u64),
+        None => None,
+    }
+}
+
+/// 1 where this id has an unrevoked clerk's key, and else 0.
+fn acting_at(keys: &BTreeMap<Vec<u8>, KeyRow>, id: &[u8]) -> u64
+    ensures { (k : KeyRow) → found bytes_cmp bytes_of keys.now.entries id.now ≡ Some k → result ≡ cond (is_acting (key_of k)) 1 0 }
+{
+    match keys.get(id) {
+        Some(key) => acting(key),
+        None => 0,
+    }
+}
+
+/// The key of this id is revoked.
+fn mark_revoked(keys: &mut BTreeMap<Vec<u8>, KeyRow>, id: &[u8])
+    ensures set { (k : KeyRow) → found bytes_cmp bytes_of keys.old.entries id.now ≡ Some k
+        → Sets bytes_cmp bytes_of id.now (Some (record k { revoked = true })) keys.old.entries keys.new.entries }
+    ensures len { length keys.new.entries ≡ length keys.old.entries }
+{
+    if let Some(key) = keys.get_mut(id) {
+        key.revoked = true;
+    }
+}
+
+/// The box of this name closes for good at this second.
+fn set_closing(boxes: &mut BTreeMap<Vec<u8>, ShelvedBox>, name: &[u8], moment: u64)
+    ensures { (b : ShelvedBox) → found bytes_cmp bytes_of boxes.old.entries name.now ≡ Some b
+        → Sets bytes_cmp bytes_of name.now (Some (record b { row = record b.row { closes = moment } })) boxes.old.entries boxes.new.entries }
+{
+    if let Some(shelved) = boxes.get_mut(name) {
+        shelved.row.closes = moment;
+    }
+}
+
+/// The box of this name holds these totals.
+fn set_totals(boxes: &mut BTreeMap<Vec<u8>, ShelvedBox>, name: &[u8], totals: Totals)
+    ensures { (b : ShelvedBox) → found bytes_cmp bytes_of boxes.old.entries name.now ≡ Some b
+        → Sets bytes_cmp bytes_of name.now (Some (record b { totals = totals })) boxes.old.entries boxes.new.entries }
+{
+    if let Some(shelved) = boxes.get_mut(name) {
+        shelved.totals = totals;
+    }
+}
+
+impl Shelf {
+    /// Sets a file to these bytes, and adds its receipt.
+    pub(crate) fn set_file(&mut self, file: &NewFile<'_>, bytes: &[u8]) -> Result<(), KeepFault>
+        ensures made { (s after : State) → Holds self.old s → IsSound s → IsFileSet s file.now bytes.now after → OnOk result (Holds self.new after) }
+        ensures same { (s : State) → Holds self.old s → OnErr result (Holds self.new s) }
+        ensures count { CountsErrors self.old.faults self.new.faults result }
+        ensures fault { IfErr result (λ f. (f ≡ KeepFault.Memory) ⊎ ((f ≡ KeepFault.Full) × (most_receipts < file.now.number))) }
+        ensures room { OnOk result (file.now.number ≤ most_receipts) }
+    {
+        if !has_room(file.number) {
+            self.faults = self.faults.saturating_add(1);
+            return Err(KeepFault::Full);
+        }
+        let totals = self.totals_of(file.in_box);
+        let Ok((place, stored, receipt)) = new_file(self.alloc, file, bytes) else {
+            return Err(self.count());
+        };
+        let Ok(()) = self.receipts.reserve(1) else {
+            return Err(self.count());
+        };
+        match self.files.insert(place, stored) {
+            Ok(old) => {
+                let _ = self.receipts.push(receipt);
+                let totals = totals.set(length_of(&old), bytes.len() as u64);
+                set_totals(&mut self.boxes, file.in_box, totals);
+                Ok(())
+            }
+            Err(_) => Err(self.count()),
+        }
+    }
+
+    /// Adds a key.
+    fn add_key(&mut self, id: &[u8], role: Role, secret: &[u8]) -> Result<(), KeepFault>
+        ensures made { (s after : State) → Holds self.old s → IsObeyed s (AddKey id.now role secret.now) after → OnOk result (Holds self.new after) }
+        ensures same { (s : State) → Holds self.old s → OnErr result (Holds self.new s) }
+        ensures count { CountsErrors self.old.faults self.new.faults result }
+        ensures fault { IfErr result (λ f. f ≡ KeepFault.Memory) }
+    {
+        let most = self.keys.len() as u64 + 1;
+        let Ok((id, row)) = new_key(self.alloc, id, role, secret) else {
+            return Err(self.count());
+        };
+        let clerks = self.clerks.saturating_add(acting(&row)).min(most);
+        match self.keys.insert(id, row) {
+            Ok(_) => {
+                self.clerks = clerks;
+                Ok(())
+            }
+            Err(_) => Err(self.count()),
+        }
+    }
+
+    /// Revokes a key. Takes no memory.
+    fn revoke_key(&mut self, id: &[u8])
+        ensures made { (s after : State) → Holds self.old s → IsObeyed s (RevokeKey id.now) after → Holds self.new after }
+        ensures faults { self.new.faults ≡ self.old.faults }
+    {
+        let gone = acting_at(&self.keys, id);
+        mark_revoked(&mut self.keys, id);
+        self.clerks = self.clerks.saturating_sub(gone);
+    }
+
+    /// Adds a box.
+    fn add_box(&mut self, name: &[u8], row: &BoxRow) -> Result<(), KeepFault>
+        ensures made { (s after : State) → Holds self.old s → IsSound s → IsObeyed s (AddBox name.now (settings_of row.now)) after → OnOk result (Holds self.new after) }
+        ensures same { (s : State) → Holds self.old s → OnErr result (Holds self.new s) }
+        ensures count { CountsErrors self.old.faults self.new.faults result }
+        ensures fault { IfErr result (λ f. f ≡ KeepFault.Memory) }
+    {
+        let Ok((name, shelved)) = new_box(self.alloc, name, row) else {
+            return Err(self.count());
+        };
+        match self.boxes.insert(name, shelved) {
+            Ok(_) => Ok(()),
+            Err(_) => Err(self.count()),
+        }
+    }
+
+    /// Sets when a box closes for good. Takes no memory.
+    fn close_box(&mut self, name: &[u8], moment: u64)
+        ensures made { (s after : State) → Holds self.old s → IsObeyed s (CloseBox name.now moment) after → Holds self.new after }
+        ensures faults { self.new.faults ≡ self.old.faults }
+    {
+        set_closing(&mut self.boxes, name, moment);
+    }
+
+    /// Takes out a file. Its receipt stays.
+    fn drop_file(&mut self, in_box: &[u8], name: &[u8]) -> Result<(), KeepFault>
+        ensures made { (s after : State) → Holds self.old s → IsSound s → IsObeyed s (DropFile (record { box = in_box.now; name = name.now })) after → OnOk result (Holds self.new after) }
+        ensures same { (s : State) → Holds self.old s → OnErr result (Holds self.new s) }
+        ensures count { CountsErrors self.old.faults self.new.faults result }
+        ensures fault { IfErr result (λ f. f ≡ KeepFault.Memory) }
+    {
+        let Ok(place) = new_place(self.alloc, in_box, name) else {
+            return Err(self.count());
+        };
+        let totals = self.totals_of(in_box);
+        if let Some(stored) = self.files.remove(&place) {
+            let totals = totals.take_out(stored.bytes.len() as u64);
+            set_totals(&mut self.boxes, in_box, totals);
+        }
+        Ok(())
+    }
+
+    /// Does what a command of the desk says.
+    pub(crate) fn obey(&mut self, command: &Command<'_>) -> Result<(), KeepFault>
+        ensures made { (s after : State) → Holds self.old s → IsSound s → IsObeyed s (command_of command.now) after → OnOk result (Holds self.new after) }
+        ensures same { (s : State) → Holds self.old s → OnErr result (Holds self.new s) }
+        ensures count { CountsErrors self.old.faults self.new.faults result }
+        ensures fault { IfErr result (λ f. f ≡ KeepFault.Memory) }
+    {
+        match command {
+            Command::AddKey { id, role, secret } => self.add_key(id, *role, secret),
+            Command::RevokeKey { id } => {
+                self.revoke_key(id);
+                Ok(())
+            }
+            Command::AddBox { name, row } => self.add_box(name, row),
+            Command::CloseBox { name, moment } => {
+                self.close_box(name, *moment);
+                Ok(())
+            }
+            Command::DropFile { in_box, name } => self.drop_file(in_box, name),
+        }
+    }
+}
