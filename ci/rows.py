@@ -1,7 +1,7 @@
 """Writes the table of calls that crates/rows answers, and what is owed for each: crates/rows/stdin and stdout.
 
 What is owed comes from outside the crates: from the table of refusals in docs/RULES.md, from Python's `hashlib`,
-`hmac`, `calendar` and `urllib.parse`, from published vectors, and from the forms in docs/RULES.md, read by a person.
+`hmac`, `calendar`, `datetime` and `urllib.parse`, from published vectors, and from the forms in docs/RULES.md, read by a person.
 No argument: it writes both files. `--check`: it says whether they are as it would write them.
 
 A row is the name of a call and its words, with one space before each. A byte outside 0x21..0x7E, and `"` and `%`,
@@ -10,6 +10,7 @@ stands as `%` and two digits; a word without bytes is `""`. An answer is written
 
 import calendar
 import dataclasses
+import datetime
 import hashlib
 import hmac
 import sys
@@ -545,9 +546,55 @@ def answers():
             yield written("put_answer", name, method), owed
 
 
+def local(east, now):
+    """The office's date and time at a moment, by Python's datetime. Its years end in 9999: 400 years have whole weeks, so
+    a moment of the last day is told with the weekday and time of 400 years before."""
+    seconds = now + 60 * east
+    if seconds > 253402300799:
+        seconds -= 146097 * 86400
+    return datetime.datetime(1970, 1, 1) + datetime.timedelta(seconds=seconds)
+
+
+def is_open(opens, closes, days, first, last, east, now):
+    there = local(east, now)
+    return opens <= now < closes and days[there.weekday()] == "1" and first <= 60 * there.hour + there.minute < last
+
+
+FIRST, LAST, MAY = 0, 253402300799, 1369353600  # 1970, the last second of 9999, and 24 May 2013
+HOURS = [
+    # opens, closes, days, from, to: always; one hour; weekdays; one day from its first to its last minute
+    (FIRST, LAST, "1111111", 0, 1440), (FIRST, LAST, "0000100", 60, 120), (FIRST, LAST, "1111100", 480, 1020),
+    (MAY, MAY + 86400, "1010101", 0, 1439), (FIRST, LAST, "0000010", 1439, 1440), (MAY + 1, MAY + 2, "1111111", 0, 1440),
+    (FIRST, LAST, "0000010", 0, 1440),
+]
+
+
+def hours():
+    yield "# Opening hours, by Python's datetime: edges of minutes, days and years, and local times before 1970."
+    for box in HOURS:
+        for east in [0, 60, 840, -840, -1, 330]:
+            around = [MAY, MAY + 3600, MAY + 7200, MAY - 60 * east, MAY + 86400, FIRST, LAST - 86400, LAST - 60]
+            moments = sorted({m + d for m in around for d in (-1, 0, 1, 59, 60) if FIRST <= m + d <= LAST} | {LAST - 1, LAST})
+            owed = [str(is_open(*box, east, now)).lower() for now in moments]
+            yield written("open_at", *map(str, [*box, east, *moments])), written(*owed)
+
+
+def names_of_boxes():
+    yield "# Which names a box takes: by bytes."
+    for kind, name, *texts in [
+        ("any", ""), ("any", "a"), ("ends", "a.pdf", ".pdf"), ("ends", ".pdf", ".pdf"), ("ends", "pdf", ".pdf"),
+        ("ends", "a.PDF", ".pdf"), ("ends", "a.pdf ", ".pdf"), ("ends", "a.txt", ".pdf", ".txt"), ("ends", "a", "b", "c"),
+        ("ends", ".pdfa", ".pdf"), ("ends", "\xe4.p", "\xe4.p"), ("begins", "bid-1", "bid-"), ("begins", "bid-", "bid-"),
+        ("begins", "bid", "bid-"), ("begins", "Bid-1", "bid-"), ("begins", "a bid-", "bid-"),
+    ]:
+        tests = {"any": True, "ends": any(map(name.endswith, texts)), "begins": name.startswith(tuple(texts))}
+        yield written("name_fits", kind, name, *texts), str(tests[kind]).lower()
+
+
 GROUPS = [
     refusals, encoding, decoding, targets, parameters, names, values, requests, hashes, codes, moments, scopes, forms,
-    signing, methods, written_links, judged, heads, answers,
+    signing, methods, written_links, judged, hours, names_of_boxes, heads,
+    answers,
 ]
 
 

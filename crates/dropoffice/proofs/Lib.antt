@@ -1,5 +1,4 @@
 pub mod FieldLists
-pub mod Lookups
 pub mod Deciding
 pub mod Answered
 pub mod Handlings

@@ -3,7 +3,6 @@ pub mod Answering
 pub mod Sessions
 pub mod Connections
 pub mod Served
-pub mod OneKey
 pub mod Clocks
 pub mod Offices
 pub mod Handling

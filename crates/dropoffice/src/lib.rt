@@ -5,7 +5,6 @@ pub mod clocks;
 mod fields;
 mod handling;
 pub mod office;
-pub mod one_key;
 mod program;
 mod reading;
 pub mod replay;
@@ -15,7 +14,6 @@ pub mod task;
 
 pub use clocks::{Clock, FixedClock, ListedClock};
 pub use office::Office;
-pub use one_key::OneKey;
 pub use program::perform;
 pub use replay::{Replayed, replay_bytes};
 pub use session::SessionEnd;

@@ -7,8 +7,9 @@ ghost use Rattle.dropoffice.specs.Replays.{IsReplay, Replays};
 
 use crate::clocks::FixedClock;
 use crate::office::Office;
-use crate::one_key::OneKey;
 use crate::session::SessionEnd;
+use boxes::OfficeRow;
+use keeper::Shelf;
 use sigv4::Moment;
 use std::alloc::{AllocError, Global};
 use std::io::{Read, Write};
@@ -30,7 +31,10 @@ pub fn replay<R: Read, W: Write>(
         (W.contents writer.old.inner) (W.contents writer.new.inner) (first_state (pos 0) id.now secret.now) moment) }
     ensures faults { IfOk result (λ end. TellsFaults end reader.old reader.new writer.old writer.new) }
 {
-    let mut office = Office::new(alloc, OneKey::new(alloc, id, secret)?);
+    let Ok(keeper) = Shelf::new(alloc, OfficeRow { east: 0 }, id, secret) else {
+        return Err(AllocError);
+    };
+    let mut office = Office::new(alloc, keeper);
     Ok(office.session(reader, writer, &mut FixedClock::new(moment)))
 }
 

@@ -2,6 +2,7 @@
 //! the name of a call and its words (`row`). Lines that begin with `#`, and empty ones, are printed as they are.
 #![tactic(auto)]
 
+mod hours;
 mod messages;
 mod orders;
 mod row;
@@ -19,6 +20,7 @@ fn answer(alloc: Global, text: &str) -> Result<Line, RowFault> {
     let is_answered = texts::answer(alloc, &row, &mut line)?
         || signatures::answer(alloc, &row, &mut line)?
         || orders::answer(alloc, &row, &mut line)?
+        || hours::answer(alloc, &row, &mut line)?
         || messages::answer(alloc, &row, &mut line)?;
     if is_answered {
         Ok(line)

@@ -1,7 +1,10 @@
 //! Keepers that say something else of the published link's key.
+ghost use Rattle.std.specs.Prelude.{◌≡◌};
+ghost use Rattle.sigtext.specs.Counts.{Rose};
+
 use crate::fakes::{Sink, Source};
 use crate::published::{DATE, REQUEST, SECRET, TRY_AGAIN};
-use boxes::rows::{KeyRow, Role};
+use boxes::{BoxRow, Change, FileRow, KeyRow, OfficeRow, ReceiptRow, Role, Totals};
 use dropoffice::{Counted, FixedClock, Office, SessionEnd};
 use keeper::{KeepFault, Keeper};
 use sigv4::Moment;
@@ -18,6 +21,17 @@ struct Stub {
     alloc: Global,
 }
 
+impl Stub {
+    /// A fault, which is counted.
+    fn count(&mut self, fault: KeepFault) -> KeepFault
+        ensures result { result ≡ fault }
+        ensures rose { Rose self.old.faults self.new.faults }
+    {
+        self.faults = self.faults.saturating_add(1);
+        fault
+    }
+}
+
 impl Keeper for Stub {
     ghost means = { λ _ _. ⊥ };
 
@@ -27,10 +41,19 @@ impl Keeper for Stub {
 
     ghost faults = { λ k. k.faults };
 
+    ghost leaves = { λ _ _. ⊥ };
+
+    ghost leaves_whole = { λ _. Unit {0} };
+
+    ghost has_store = { Unit {0} };
+
+    fn settings(&mut self) -> Result<OfficeRow, KeepFault> {
+        Err(self.count(KeepFault::Store))
+    }
+
     fn key(&mut self, _id: &[u8]) -> Result<Option<KeyRow>, KeepFault> {
         if self.fails {
-            self.faults = self.faults.saturating_add(1);
-            return Err(KeepFault::Store);
+            return Err(self.count(KeepFault::Store));
         }
         match Vec::from_slice(self.alloc, SECRET) {
             Ok(secret) => Ok(Some(KeyRow {
@@ -38,11 +61,36 @@ impl Keeper for Stub {
                 secret,
                 revoked: self.revoked,
             })),
-            Err(_) => {
-                self.faults = self.faults.saturating_add(1);
-                Err(KeepFault::Memory)
-            }
+            Err(_) => Err(self.count(KeepFault::Memory)),
         }
+    }
+
+    fn box_row(&mut self, _name: &[u8]) -> Result<Option<BoxRow>, KeepFault> {
+        Err(self.count(KeepFault::Store))
+    }
+
+    fn file(&mut self, _in_box: &[u8], _name: &[u8]) -> Result<Option<FileRow>, KeepFault> {
+        Err(self.count(KeepFault::Store))
+    }
+
+    fn sizes(&mut self, _in_box: &[u8]) -> Result<Totals, KeepFault> {
+        Err(self.count(KeepFault::Store))
+    }
+
+    fn clerks(&mut self) -> Result<u64, KeepFault> {
+        Err(self.count(KeepFault::Store))
+    }
+
+    fn next_number(&mut self) -> Result<u64, KeepFault> {
+        Err(self.count(KeepFault::Store))
+    }
+
+    fn receipts(&mut self, _from: u64, _most: usize) -> Result<Vec<ReceiptRow>, KeepFault> {
+        Err(self.count(KeepFault::Store))
+    }
+
+    fn apply(&mut self, _change: &Change<'_>) -> Result<(), KeepFault> {
+        Err(self.count(KeepFault::Store))
     }
 
     ghost one = { λ k s t honest opened a b. absurd a };

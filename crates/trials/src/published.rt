@@ -1,7 +1,9 @@
 //! The published example of the Amazon S3 API Reference, "Authenticating Requests: Using Query Parameters", and what
 //! an office without boxes answers to it.
 use crate::fakes::{Sink, Source};
-use dropoffice::{Counted, FixedClock, Office, OneKey, SessionEnd};
+use boxes::OfficeRow;
+use dropoffice::{Counted, FixedClock, Office, SessionEnd};
+use keeper::Shelf;
 use sigv4::Moment;
 use std::alloc::{AllocError, Global};
 use std::io::Read;
@@ -27,8 +29,11 @@ pub const TRY_AGAIN: &[u8] =
     b"HTTP/1.1 500 Internal Server Error\r\nContent-Type: text/plain\r\nContent-Length: 27\r\nConnection: close\r\n\r\nInternalError 40 try again\n";
 
 /// An office without boxes that has the example's key.
-pub fn make_office(alloc: Global) -> Result<Office<OneKey>, AllocError> {
-    Ok(Office::new(alloc, OneKey::new(alloc, ID, SECRET)?))
+pub fn make_office(alloc: Global) -> Result<Office<Shelf>, AllocError> {
+    match Shelf::new(alloc, OfficeRow { east: 0 }, ID, SECRET) {
+        Ok(keeper) => Ok(Office::new(alloc, keeper)),
+        Err(_) => Err(AllocError),
+    }
 }
 
 /// What a session over the streams gave.

@@ -1,7 +1,7 @@
-use Rattle.std.proofs.Common.{◌≡◌, ◌∙◌, sym, ap, pos}
+use Rattle.std.proofs.Common.{sym, subst, pos, arith}
 use Rattle.boxes.specs.FirstState.{first_state}
+use Rattle.keeper.specs.Shelves.{Holds}
 use Rattle.dropoffice.specs.Kept.{IsKept}
-use Rattle.dropoffice.specs.OneKey.{state_of}
 use Rattle.dropoffice.proofs.ReplayLemmas.{replayed}
 use Rattle.dropoffice.proofs.SoundOffice.{no_box_at_first}
 use Rattle.dropoffice.proofs.replay.replay.Goals as goal
@@ -9,11 +9,11 @@ use Rattle.dropoffice.proofs.replay.replay.Goals as goal
 pub returns-clause-session : goal.returns-clause-session
 returns-clause-session g c =
     let s = first_state (pos 0) c.args.id.now c.args.secret.now in
-    let kept : IsKept (λ t. t ≡ state_of c.new-office.result.keeper) (Unit {0}) s =
+    let kept : IsKept (Holds c.new-office.result.keeper) (Unit {0}) s =
     record {
-      means = c.in_ok-new.ensures.means ∙ ap state_of (sym c.new-office.ensures);
+      means = subst (λ k. Holds k s) (sym c.new-office.ensures) c.in-Ok.ensures.means;
       is_honest = tt;
-      sound = c.in_ok-new.ensures.sound c.requires.id c.requires.secret;
+      sound = c.in-Ok.ensures.sound (omega arith) (omega arith) c.requires.id c.requires.secret;
       no_box = no_box_at_first c.args.id.now c.args.secret.now;
     } in
     let h = c.session.ensures.serves s kept in

@@ -11,16 +11,16 @@ use Rattle.dropoffice.proofs.office.Office.refusal_of.Goals as goal
 
 pub returns-in-Ok-None-clause-fails : goal.returns-in-Ok-None-clause-fails
 returns-in-Ok-None-clause-fails g c s r p kept served method is other =
-    key_unknown s r c.args.now p served is.well_formed (asked_none s c.key_id.result.now p.key_id c.in-Ok-None.field-0 (c.in-Ok-None.ensures.value s kept.means kept.is_honest kept.sound) c.in-Ok-None.field-0-is (c.key_id.ensures r p is))
+    key_unknown s r c.args.now p served is.well_formed (asked_none s c.key_id.result.now p.key_id c.in-Ok-None.field-0 (c.in-Ok-None.ensures.value s kept.means kept.sound kept.is_honest) c.in-Ok-None.field-0-is (c.key_id.ensures r p is))
 
 pub returns-then-key-clause-fails : goal.returns-then-key-clause-fails
 returns-then-key-clause-fails g c s r p kept served method is other =
-    let there = asked_some s c.key_id.result.now p.key_id c.in-Ok-Some.field-0 c.in-Ok-Some.key (c.in-Ok-Some.ensures.value s kept.means kept.is_honest kept.sound) c.in-Ok-Some.field-0-is (c.key_id.ensures r p is) in
+    let there = asked_some s c.key_id.result.now p.key_id c.in-Ok-Some.field-0 c.in-Ok-Some.key (c.in-Ok-Some.ensures.value s kept.means kept.sound kept.is_honest) c.in-Ok-Some.field-0-is (c.key_id.ensures r p is) in
     key_revoked s r c.args.now p (key_of c.in-Ok-Some.key) served is.well_formed there c.if-key.true
 
 pub returns-in-Ok-clause-fails : goal.returns-in-Ok-clause-fails
 returns-in-Ok-clause-fails g c s r p kept served method is other =
-    let there = asked_some s c.key_id.result.now p.key_id c.in-Ok-Some.field-0 c.in-Ok-Some.key (c.in-Ok-Some.ensures.value s kept.means kept.is_honest kept.sound) c.in-Ok-Some.field-0-is (c.key_id.ensures r p is) in
+    let there = asked_some s c.key_id.result.now p.key_id c.in-Ok-Some.field-0 c.in-Ok-Some.key (c.in-Ok-Some.ensures.value s kept.means kept.sound kept.is_honest) c.in-Ok-Some.field-0-is (c.key_id.ensures r p is) in
     let right = c.in-Ok.ensures r p is in
     let key : HasKey s p (key_of c.in-Ok-Some.key) = record { there = there; unrevoked = c.if-key.false } in
     let admitted : IsAdmitted s r c.args.now p (key_of c.in-Ok-Some.key) =
@@ -30,7 +30,7 @@ returns-in-Ok-clause-fails g c s r p kept served method is other =
 
 pub returns-in-Ok-Some-clause-fails : goal.returns-in-Ok-Some-clause-fails
 returns-in-Ok-Some-clause-fails g c s r p kept served method is other =
-    let there = asked_some s c.key_id.result.now p.key_id c.in-Ok-Some.field-0 c.in-Ok-Some.key (c.in-Ok-Some.ensures.value s kept.means kept.is_honest kept.sound) c.in-Ok-Some.field-0-is (c.key_id.ensures r p is) in
+    let there = asked_some s c.key_id.result.now p.key_id c.in-Ok-Some.field-0 c.in-Ok-Some.key (c.in-Ok-Some.ensures.value s kept.means kept.sound kept.is_honest) c.in-Ok-Some.field-0-is (c.key_id.ensures r p is) in
     let key : HasKey s p (key_of c.in-Ok-Some.key) = record { there = there; unrevoked = c.if-key.false } in
     judged s r c.args.now p (key_of c.in-Ok-Some.key) c.in-Err-judge.refusal served is.well_formed key (subst (λ (t : List ℕ). FailsAt c.in-Err-judge.refusal t r (at c.args.now) p) c.deref.ensures.value (c.in-Err-judge.ensures r p is))
 
