@@ -1,11 +1,12 @@
 -- What a session says of its reader, its writer, its clock and its keeper's count of faults.
-use Rattle.std.specs.Prelude.{◌≡◌, ◌≢◌, ◌≤◌, ℕ, List, [], ◌∷◌, Bool, true, false, count_by, Option, Some, None, ⊤}
+use Rattle.std.specs.Prelude.{◌≡◌, ◌≢◌, ◌≤◌, ◌⊎◌, ℕ, List, [], ◌∷◌, Bool, true, false, count_by, Option, Some, None, ⊤}
 use Rattle.std.specs.Io.KnownBytes.{Appends, Consumes, IsAtEnd}
 use Rattle.sigtext.specs.Counts.{Rose}
 use Rattle.boxes.specs.State.{State}
 use Rattle.wire.specs.declared.counted.Counted.{Counted}
 use Rattle.dropoffice.specs.declared.session.SessionEnd.{SessionEnd}
 use Rattle.dropoffice.specs.declared.session.SessionEnd.TheVariants.{Ended, Truncated, Refused, Limit, ReadFault, WriteFault, Unserved}
+use Rattle.dropoffice.specs.Served.{IsServed}
 use Rattle.dropoffice.specs.Sessions.{Session, Connection, Run, most_messages}
 
 -- the clock told these moments, one after another
@@ -57,13 +58,21 @@ pub record TellsFaults {R W : Type 0} (e : SessionEnd) (reader reader' : Counted
   pub written : e ≡ WriteFault → Rose writer.faults writer'.faults
   pub not_written : (e ≢ WriteFault) → writer'.faults ≡ writer.faults
 
--- each connection of the list as it was served: what its reader gave, what its writer was given, and that its
--- end tells their faults
+-- What an end tells: the faults that were counted, and whether the stream is of the kind that is served so far. One
+-- that is not is left as it is, and nothing is written; and unless a read failed, no other is left so.
+pub record TellsEnd {R W : Type 0} (remaining : R → Option (List ℕ)) (e : SessionEnd) (reader reader' : Counted R) (writer writer' : Counted W) : Type 0 where
+  pub faults : TellsFaults e reader reader' writer writer'
+  pub unserved : e ≡ Unserved → (stream : List ℕ) → remaining reader.inner ≡ Some stream → IsServed stream → ⊥
+  pub untouched : e ≡ Unserved → writer' ≡ writer
+  pub only : (e ≢ Unserved) → Rose reader.faults reader'.faults ⊎ ((stream : List ℕ) → remaining reader.inner ≡ Some stream → IsServed stream)
+
+-- each connection of the list as it was served: what its reader gave, what its writer was given, and what its
+-- end tells
 abbrev pub AreServed : {R W : Type 0} → (R → Option (List ℕ)) → (W → Option (List ℕ)) → List (Counted R × Counted W) → List (Counted R × Counted W) → List Connection → Type 0
 AreServed remaining contents [] [] [] = ⊤
 AreServed remaining contents (old ∷ olds) (new ∷ news) (c ∷ cs) =
     IsStream c.gave_up c.end (remaining old.0.inner) (remaining new.0.inner) c.stream × Appends (contents old.1.inner) (contents new.1.inner) c.answers
-    × TellsFaults c.end old.0 new.0 old.1 new.1 × AreServed remaining contents olds news cs
+    × TellsEnd remaining c.end old.0 new.0 old.1 new.1 × AreServed remaining contents olds news cs
 AreServed remaining contents olds news cs = ⊥
 
 -- the keeper's count of faults over the connections, one after another
