@@ -9,7 +9,7 @@ use Rattle.boxes.specs.Steps as step
 use Rattle.dropoffice.specs.declared.session.SessionEnd.{SessionEnd}
 use Rattle.dropoffice.specs.Answering.{Accepts, put, fetch, post, Answers, Replies, refuses, accepts}
 use Rattle.dropoffice.specs.Served.{HasNoBox}
-use Rattle.dropoffice.specs.Sessions.{Session, limit, ended, truncated, unframed, served, gave_up, gave_up_at, unserved, read_failed, write_failed, write_failed_unframed, write_failed_giving_up, write_failed_giving_up_at}
+use Rattle.dropoffice.specs.Sessions.{Session, limit, ended, truncated, unframed, served, gave_up_at, unserved, read_failed, write_failed, write_failed_unframed, write_failed_giving_up_at}
 use Rattle.wire.specs.Answers.{Said}
 
 not_there : {X : Type 0} (o : Option X) → o ≡ None → IsSome o → ⊥
@@ -37,11 +37,9 @@ session_keeps n stream s ms out e g after none (unframed _ _ _ _ _) = refl
 session_keeps n stream s ms out e g after none (served k _ rest _ mid _ r now moments text more _ _ next answers others) =
     let same = answer_keeps s r now text mid none answers in
     session_keeps k rest mid moments more e g after (subst HasNoBox (sym same) none) others ∙ same
-session_keeps n stream s ms out e g after none (gave_up _ _ _ _) = refl
 session_keeps n stream s ms out e g after none (gave_up_at _ _ _ _ _ _ _ _) = refl
-session_keeps n stream s ms out e g after none (unserved _ _ _ _) = refl
+session_keeps n stream s ms out e g after none (unserved _ _ _) = refl
 session_keeps n stream s ms out e g after none (read_failed _ _ _ _) = refl
 session_keeps n stream s ms out e g after none (write_failed _ _ _ _ _ r now text _ next answers _) = answer_keeps s r now text after none answers
 session_keeps n stream s ms out e g after none (write_failed_unframed _ _ _ _ _ _ _) = refl
-session_keeps n stream s ms out e g after none (write_failed_giving_up _ _ _ _ _ _) = refl
 session_keeps n stream s ms out e g after none (write_failed_giving_up_at _ _ _ _ _ _ _ _ _ _) = refl

@@ -223,7 +223,7 @@ stays_unserved gives clock clock' None input' output output' count count' means 
     told = sym told;
     written = nothing_written output output' written;
     counted = counted;
-    session = session.unserved 999 [] s (λ served. no_message served.request [] served.next);
+    session = session.unserved [] s (λ served. no_message served.request [] served.next);
   },
 )
 stays_unserved gives clock clock' (Some xs) input' output output' count count' means s other same written told counted = (
@@ -238,6 +238,6 @@ stays_unserved gives clock clock' (Some xs) input' output output' count count' m
     told = sym told;
     written = nothing_written output output' written;
     counted = counted;
-    session = session.unserved 999 xs s (other xs refl);
+    session = session.unserved xs s (other xs refl);
   },
 )

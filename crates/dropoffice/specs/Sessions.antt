@@ -24,6 +24,10 @@ closing q = answer_text false (answer.Refused q)
 abbrev pub HasNoMessage : List ℕ → Type 0
 HasNoMessage stream = (r : Request) (rest : List ℕ) → Next stream (frame.Message r) rest → ⊥
 
+-- how many messages a connection is served
+abbrev pub most_messages : ℕ
+most_messages = 1000
+
 -- Up to n further messages of a stream are served from a state. This takes the moments, one for each
 -- message that was read whole, writes the bytes, ends so, and leaves the last state. The mark says
 -- whether the session gave up: whether refusal 40 is its last answer, written or begun.
@@ -36,12 +40,11 @@ pub data Session : ℕ → List ℕ → State → List ℕ → List ℕ → Sess
   served : (n : ℕ) (stream rest : List ℕ) (s mid after : State) (r : Request) (now : ℕ) (moments text out : List ℕ) (e : SessionEnd) (gave_up : Bool)
       → Next stream (frame.Message r) rest → Answers s r now text mid → Session n rest mid moments out e gave_up after
       → Session (suc n) stream s (now ∷ moments) (text ++ out) e gave_up after
-  -- memory was refused, or the keeper counted a fault: where no message stands whole yet, or at one
-  gave_up : (n : ℕ) (stream : List ℕ) (s : State) → HasNoMessage stream → Session (suc n) stream s [] (closing rule.TryAgain) (Refused 40) true s
+  -- memory was refused, or the keeper counted a fault, at a message
   gave_up_at : (n : ℕ) (stream rest : List ℕ) (s : State) (r : Request) (now : ℕ) → Next stream (frame.Message r) rest → IsReadable r
       → Session (suc n) stream s (now ∷ []) (closing rule.TryAgain) (Refused 40) true s
-  -- the stream is not of the kind that is served so far
-  unserved : (n : ℕ) (stream : List ℕ) (s : State) → (IsServed stream → ⊥) → Session (suc n) stream s [] [] Unserved false s
+  -- the whole stream is not of the kind that is served so far
+  unserved : (stream : List ℕ) (s : State) → (IsServed stream → ⊥) → Session most_messages stream s [] [] Unserved false s
   -- a read failed, and no further message stands whole in the bytes read before it
   read_failed : (n : ℕ) (stream : List ℕ) (s : State) → HasNoMessage stream → Session (suc n) stream s [] [] ReadFault false s
   -- a write failed, and a beginning of the answer was written; the request has taken effect, or was refused
@@ -50,14 +53,8 @@ pub data Session : ℕ → List ℕ → State → List ℕ → List ℕ → Sess
       → Session (suc n) stream s (now ∷ []) front WriteFault false after
   write_failed_unframed : (n : ℕ) (stream : List ℕ) (s : State) (q : Refusal) (front : List ℕ) → Next stream (frame.Refused q) []
       → IsBeginning front (closing q) → Session (suc n) stream s [] front WriteFault false s
-  write_failed_giving_up : (n : ℕ) (stream : List ℕ) (s : State) (front : List ℕ) → HasNoMessage stream
-      → IsBeginning front (closing rule.TryAgain) → Session (suc n) stream s [] front WriteFault true s
   write_failed_giving_up_at : (n : ℕ) (stream rest : List ℕ) (s : State) (r : Request) (now : ℕ) (front : List ℕ) → Next stream (frame.Message r) rest
       → IsReadable r → IsBeginning front (closing rule.TryAgain) → Session (suc n) stream s (now ∷ []) front WriteFault true s
-
--- how many messages a connection is served
-abbrev pub most_messages : ℕ
-most_messages = 1000
 
 -- a connection as it was served
 pub record Connection : Type 0 where
