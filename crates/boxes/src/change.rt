@@ -1,7 +1,7 @@
 //! What the rules let a request change.
 use crate::rows::{BoxRow, Role};
 
-/// A command of the desk. Its texts have the forms of a sound state's (`HasForm`).
+/// A command of the desk. The rules give its change only where its texts have their forms (`HasForm`).
 #[derive(Clone, Copy)]
 pub enum Command<'a> {
     /// Adds a key, unrevoked.

@@ -95,8 +95,8 @@ pub trait Keeper {
         ensures value { Answers means is_honest self.old self.new result (λ s rs. map numbered_receipt rs.items ≡ receipts_from s from most) }
         ensures rest { Stays means is_honest faults leaves leaves_whole has_store self.old self.new result };
 
-    /// Makes a change that the rules give for the state, whole or not at all. `Full` comes where the office has its
-    /// greatest number of receipts and the change would add one, and only there.
+    /// Makes a change that the rules give for the state, whole or not at all. `Full` comes only where the office has its
+    /// greatest number of receipts and the change would add one; there no change is made.
     fn apply(&mut self, change: &Change<'_>) -> Result<(), KeepFault>
         ensures made { (s after : State) → means self.old s → IsSound s → IsChangeOf s change.now after → OnOk result (means self.new after) }
         ensures same { (s : State) → means self.old s → OnErr result (means self.new s) }

@@ -30,7 +30,7 @@ pub struct StoredFile {
     pub number: u64,
 }
 
-/// An office in ordered maps. A question or a change costs as much as the logarithm of what is kept.
+/// An office in ordered maps. Looking up costs the logarithm of what is kept; what is answered or set is copied.
 #[derive(Drop)]
 pub struct Shelf {
     pub(crate) office: OfficeRow,
