@@ -1,15 +1,18 @@
 -- What a refusal is answered with.
-use Rattle.std.proofs.Common.{◌≡◌, ℕ, sym, ap, ◌∙◌}
+use Rattle.std.proofs.Common.{◌≡◌, ℕ, Result, Ok, Err, sym, ap, ◌∙◌}
+use Rattle.std.specs.Prelude.{IfErr}
 use Rattle.sigtext.specs.declared.refusal.Refusal.{Refusal}
 use Rattle.sigtext.specs.declared.refusal.Refusal.TheVariants as rule
 use Rattle.sigtext.specs.Request.{Request}
 use Rattle.sigtext.specs.Rules.{IsFirstToFail}
+use Rattle.links.specs.WellFormed.{LinkValues, IsWellFormed}
 use Rattle.boxes.specs.State.{State}
 use Rattle.wire.specs.declared.answer.Answer.{Answer}
 use Rattle.wire.specs.declared.answer.Reply.TheVariants as reply
 use Rattle.wire.specs.Shown.{whole_text}
 use Rattle.wire.specs.Answers.{answer_text}
 use Rattle.wire.specs.Answers as said
+use Rattle.dropoffice.specs.Asked.{IsReadable}
 use Rattle.dropoffice.specs.Answering.{Answers, is_head, refuses}
 use Rattle.dropoffice.specs.Offices.{IsTryAgain}
 use Rattle.dropoffice.specs.Rules.{Rule}
@@ -27,3 +30,9 @@ again_is a q is again = refused_is q rule.TryAgain (sym is ∙ again)
 
 pub is_again : (a : Answer) (q : Refusal) → a.reply ≡ reply.Refused q → q ≡ rule.TryAgain → IsTryAgain a
 is_again a q is again = is ∙ ap reply.Refused again
+
+-- a request whose link is well formed is readable, whatever became of it
+pub read_readable : {T : Type 0} (r : Request) (p : LinkValues) (result : Result T Refusal) → IsWellFormed r p → IfErr result (λ q. q ≡ rule.TryAgain → IsReadable r)
+read_readable r p (Ok x) formed = tt
+read_readable r p (Err q) formed = λ again.
+    record { served = formed rule.Method; path = p.path; params = p.params; target = formed rule.Target; named = (formed rule.NotSigned, (formed rule.Parameters).no_other) }

@@ -13,7 +13,6 @@ use Rattle.boxes.specs.declared.rows.KeyRow.{KeyRow}
 use Rattle.links.specs.Judging.{FailsAt}
 use Rattle.links.specs.Moments.{at}
 use Rattle.dropoffice.specs.Rules.{Rule}
-use Rattle.dropoffice.specs.Served.{IsServedRequest}
 use Rattle.dropoffice.proofs.Deciding.{HasKey, signature_mismatch, not_yet_valid, expired}
 
 -- what the keeper answered of the key
@@ -24,12 +23,12 @@ pub asked_some : (s : State) (asked id : List ℕ) (o : Option KeyRow) (row : Ke
 asked_some s asked id o row value some same = ap (get s.keys) (sym same) ∙ sym value ∙ ap (λ (x : Option KeyRow). option_map key_of x) some
 
 -- the signature or the window is refused
-pub judged : (s : State) (r : Request) (now : ℕ) (p : LinkValues) (k : Key) (q : Refusal) → IsServedRequest r → IsWellFormed r p → HasKey s p k
+pub judged : (s : State) (r : Request) (now : ℕ) (p : LinkValues) (k : Key) (q : Refusal) → IsWellFormed r p → HasKey s p k
     → FailsAt q k.secret r (at now) p → IsFirstToFail (Rule s r now) q
-judged s r now p k rule.SignatureMismatch served formed key fails = signature_mismatch s r now p k served formed key fails
-judged s r now p k rule.NotYetValid served formed key (signed, early) = not_yet_valid s r now p k served formed key signed early
-judged s r now p k rule.Expired served formed key (signed, begun, late) = expired s r now p k served formed key signed begun late
-judged s r now p k _ served formed key fails = absurd fails
+judged s r now p k rule.SignatureMismatch formed key fails = signature_mismatch s r now p k formed key fails
+judged s r now p k rule.NotYetValid formed key (signed, early) = not_yet_valid s r now p k formed key signed early
+judged s r now p k rule.Expired formed key (signed, begun, late) = expired s r now p k formed key signed begun late
+judged s r now p k _ formed key fails = absurd fails
 
 -- no refusal of a signature or a window is number 40
 pub not_again : (secret : List ℕ) (r : Request) (now : ℕ) (p : LinkValues) (q : Refusal) → FailsAt q secret r (at now) p → q ≢ rule.TryAgain

@@ -18,3 +18,6 @@ pub mod SoundOffice
 pub mod Judged
 pub mod StopLemmas
 mod RuleEdges
+pub mod Forming
+pub mod Placing
+pub mod Replies

@@ -9,7 +9,9 @@ pub mod Handling
 pub mod Sent
 pub mod Streams
 pub mod Tasks
-pub mod Remaining
+pub mod Admitted
+pub mod Places
+pub mod Replying
 pub mod Asked
 pub mod Kept
 pub mod Replays

@@ -1,11 +1,16 @@
 //! The office: one request, one connection, a list of connections, and the program's words.
 #![tactic(auto)]
 
+mod admitting;
 pub mod clocks;
+mod fetching;
 mod fields;
+mod forms;
 mod handling;
 pub mod office;
+mod places;
 mod program;
+mod putting;
 mod reading;
 pub mod replay;
 pub mod run;

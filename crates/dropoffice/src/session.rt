@@ -79,7 +79,7 @@ impl<K: Keeper> Office<K> {
         ensures never_less { K.faults self.old.keeper ≤ K.faults self.new.keeper }
     {
         let now = clock.now();
-        let answer = self.decide(message, now);
+        let answer = self.answer(message, now);
         send_answer(&answer, writer)
     }
 

@@ -1,5 +1,5 @@
 //! What a well-formed link says.
-ghost use Rattle.std.specs.Prelude.{◌≡◌};
+ghost use Rattle.std.specs.Prelude.{◌≡◌, ◌++◌, OnErr, OnOk};
 ghost use Rattle.sigtext.specs.Request.{Request};
 ghost use Rattle.links.specs.WellFormed.{LinkValues};
 ghost use Rattle.links.specs.LinkReadings.{IsLinkOf};
@@ -7,6 +7,7 @@ ghost use Rattle.links.specs.LinkReadings.{IsLinkOf};
 use crate::six_values::SixValues;
 use sigtext::Parts;
 use sigv4::{Moment, Scope};
+use std::alloc::AllocError;
 
 /// What a well-formed link says. It owns the values of the six, decoded, and the lists of parameters and
 /// signed headers; it borrows the rest from the target and the fields.
@@ -30,5 +31,13 @@ impl LinkParts<'_> {
             Ok(scope) => scope.key_id,
             Err(_) => &[],
         }
+    }
+
+    /// Appends the decoded path. An error leaves the vector: memory was refused.
+    pub fn path_into(&self, out: &mut Vec<u8>) -> Result<(), AllocError>
+        ensures ok { OnOk result ((r : Request) (p : LinkValues) → IsLinkOf self.now r p → out.new.items ≡ out.old.items ++ p.path) }
+        ensures err { OnErr result (out.new.items ≡ out.old.items) }
+    {
+        self.parts.target.path_into(out)
     }
 }

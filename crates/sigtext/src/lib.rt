@@ -24,6 +24,6 @@ pub use names::{SignedNames, is_header_name};
 pub use params::Params;
 pub use refusal::Refusal;
 pub use sink::ByteSink;
-pub use target::{Pairs, RawParam, Target, TextFault};
+pub use target::{Pairs, RawParam, Target, TextFault, cut};
 pub use values::{Values, signed_values};
 pub use words::{is_visible, is_word};

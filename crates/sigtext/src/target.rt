@@ -112,8 +112,8 @@ impl<'a> Iterator for Pairs<'a> {
     }
 }
 
-// What stands before the first such byte, and what behind it.
-fn cut(text: &[u8], byte: u8) -> Option<(&[u8], &[u8])>
+/// What stands before the first such byte, and what behind it; `None` where there is none. Takes no memory.
+pub fn cut(text: &[u8], byte: u8) -> Option<(&[u8], &[u8])>
     ensures { IsCut byte text.now result }
 {
     let at = text.iter().position(|b| *b == byte)?;

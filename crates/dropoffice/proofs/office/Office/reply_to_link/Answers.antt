@@ -1,0 +1,38 @@
+use Rattle.std.proofs.Common.{◌∙◌, ap, inl, inr, refl}
+use Rattle.links.specs.Methods.{method_text}
+use Rattle.wire.specs.Messages.{request_in}
+use Rattle.dropoffice.proofs.Deciding.{reaches_boxes, no_command}
+use Rattle.dropoffice.proofs.office.Office.reply_to_link.Goals as goal
+
+pub returns-in-Err-check_form-clause-replies : goal.returns-in-Err-check_form-clause-replies
+returns-in-Err-check_form-clause-replies g c s p kept is other =
+    let x = c.in-Ok.ensures.admits s (request_in c.args.message.now) p kept is in
+    c.in-Err-check_form.ensures s c.args.now p x.0 x.1 x.2
+
+pub returns-in-Put-clause-replies : goal.returns-in-Put-clause-replies
+returns-in-Put-clause-replies g c s p kept is =
+    let r = request_in c.args.message.now in
+    let x = c.in-Ok.ensures.admits s r p (record { means = kept.means; is_honest = c.put.ensures.honest kept.is_honest; sound = kept.sound }) is in
+    let reached = reaches_boxes s r c.args.now p x.0 x.1 (c.in-Ok-check_form.ensures s c.args.now p x.0 x.1 x.2) in
+    c.put.ensures.replies s r p (record { means = c.in-Ok.ensures.same s kept.means; is_honest = kept.is_honest; sound = kept.sound }) is (c.requires ∙ ap method_text c.in-Put.is) refl reached
+
+pub returns-in-Get-clause-replies : goal.returns-in-Get-clause-replies
+returns-in-Get-clause-replies g c s p kept is =
+    let r = request_in c.args.message.now in
+    let x = c.in-Ok.ensures.admits s r p (record { means = kept.means; is_honest = c.fetch.ensures.honest kept.is_honest; sound = kept.sound }) is in
+    let reached = reaches_boxes s r c.args.now p x.0 x.1 (c.in-Ok-check_form.ensures s c.args.now p x.0 x.1 x.2) in
+    c.fetch.ensures.replies s r p c.args.now (record { means = c.in-Ok.ensures.same s kept.means; is_honest = kept.is_honest; sound = kept.sound }) is (inl (c.requires ∙ ap method_text c.in-Get.is)) reached
+
+pub returns-in-Head-clause-replies : goal.returns-in-Head-clause-replies
+returns-in-Head-clause-replies g c s p kept is =
+    let r = request_in c.args.message.now in
+    let x = c.in-Ok.ensures.admits s r p (record { means = kept.means; is_honest = c.fetch-in-Head.ensures.honest kept.is_honest; sound = kept.sound }) is in
+    let reached = reaches_boxes s r c.args.now p x.0 x.1 (c.in-Ok-check_form.ensures s c.args.now p x.0 x.1 x.2) in
+    c.fetch-in-Head.ensures.replies s r p c.args.now (record { means = c.in-Ok.ensures.same s kept.means; is_honest = kept.is_honest; sound = kept.sound }) is (inr (c.requires ∙ ap method_text c.in-Head.is)) reached
+
+pub returns-in-Post-clause-replies : goal.returns-in-Post-clause-replies
+returns-in-Post-clause-replies g c s p kept is other =
+    let r = request_in c.args.message.now in
+    let x = c.in-Ok.ensures.admits s r p kept is in
+    let reached = reaches_boxes s r c.args.now p x.0 x.1 (c.in-Ok-check_form.ensures s c.args.now p x.0 x.1 x.2) in
+    no_command s r c.args.now p reached (c.requires ∙ ap method_text c.in-Post.is)
