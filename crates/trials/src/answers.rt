@@ -67,7 +67,7 @@ fn some_bytes(alloc: Global, len: usize) -> Result<Vec<u8>, AllocError> {
     let mut next: u8 = 0;
     for _ in 0..len {
         bytes.push(next)?;
-        next = if next == 250 { 0 } else { next + 1 };
+        next = if next >= 250 { 0 } else { next + 1 };
     }
     Ok(bytes)
 }
