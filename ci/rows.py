@@ -538,12 +538,28 @@ def heads():
         yield written("read_head", text), "none"
 
 
+def good(kind, body, method, *fields):
+    """An answer of status 200 to this method (docs/RULES.md, 7), that it is not refusal 40, and no fault."""
+    lines = ["HTTP/1.1 200 OK", f"Content-Type: {kind}", f"Content-Length: {len(body)}", *fields, "", ""]
+    return written("\r\n".join(lines).encode() + (b"" if method == "HEAD" else body), "false", "0")
+
+
 def answers():
     yield "# The answer of each refusal, to a HEAD and to a GET; whether it is refusal 40; and no fault counted."
     for name, (number, *_) in zip(REFUSALS, table_of_refusals()):
         for method in ["GET", "HEAD"]:
             owed = written(answer(int(number), method), str(name == "TryAgain").lower(), "0")
             yield written("put_answer", name, method), owed
+    yield "# The answers of status 200: a receipt, by number, length and digest; a file, by number, digest and bytes; done."
+    for number, body in [(1, b"abc"), (1, b""), (40, bytes(range(256))), (4000000000, b"a" * 1000), (2 ** 64 - 1, b"\r\n\r\n")]:
+        sha = hashlib.sha256(body)
+        receipt = f"receipt {number} {len(body)} {sha.hexdigest()}\n".encode()
+        fields = [f"X-Drop-Receipt: {number}", f"X-Drop-Sha256: {sha.hexdigest()}"]
+        for method in ["GET", "PUT", "HEAD"]:
+            yield written("put_kept", str(number), str(len(body)), sha.digest(), method), good("text/plain", receipt, method)
+            yield written("put_found", str(number), sha.digest(), body, method), good("application/octet-stream", body, method, *fields)
+    for method in ["POST", "HEAD"]:
+        yield written("put_done", method), good("text/plain", b"done\n", method)
 
 
 def local(east, now):

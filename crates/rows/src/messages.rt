@@ -3,14 +3,17 @@ use crate::row::{Line, Row, RowFault};
 use crate::texts::refusal_named;
 use sigtext::Field;
 use std::alloc::Global;
-use wire::{Answer, Counted, head_end, put_answer, read_head};
+use wire::{Answer, Counted, Reply, head_end, put_answer, read_head};
 
 /// Whether the row is one of these calls; then it is answered.
 pub fn answer(alloc: Global, row: &Row<'_>, line: &mut Line) -> Result<bool, RowFault> {
     match row.call {
         "head_end" => end_of_head(alloc, row, line)?,
         "read_head" => read(row, line)?,
-        "put_answer" => put(alloc, row, line)?,
+        "put_answer" => put(alloc, &refused(row)?, line)?,
+        "put_kept" => put(alloc, &kept(row)?, line)?,
+        "put_found" => put(alloc, &found(alloc, row)?, line)?,
+        "put_done" => put(alloc, &done(row)?, line)?,
         _ => return Ok(false),
     }
     Ok(true)
@@ -48,15 +51,56 @@ fn read(row: &Row<'_>, line: &mut Line) -> Result<(), RowFault> {
     Ok(())
 }
 
-/// The name of a refusal, and `HEAD` or another method: the answer, whether it is refusal 40, and the number of faults
-/// that were counted.
-fn put(alloc: Global, row: &Row<'_>, line: &mut Line) -> Result<(), RowFault> {
-    let answer = Answer::refused(
-        refusal_named(row.word(0)?)?,
-        row.word(1)? == b"HEAD".as_slice(),
-    );
+/// The name of a refusal, and the method.
+fn refused(row: &Row<'_>) -> Result<Answer, RowFault> {
+    let refusal = refusal_named(row.word(0)?)?;
+    Ok(Answer::refused(refusal, is_head(row, 1)?))
+}
+
+/// A receipt's number, the file's length, its digest of 32 bytes, and the method.
+fn kept(row: &Row<'_>) -> Result<Answer, RowFault> {
+    let reply = Reply::Kept {
+        number: row.number(0)?,
+        size: row.number(1)?,
+        digest: digest(row.word(2)?)?,
+    };
+    let is_head = is_head(row, 3)?;
+    Ok(Answer { reply, is_head })
+}
+
+/// A receipt's number, the digest of 32 bytes, a file's bytes, and the method.
+fn found(alloc: Global, row: &Row<'_>) -> Result<Answer, RowFault> {
+    let reply = Reply::Found {
+        number: row.number(0)?,
+        digest: digest(row.word(1)?)?,
+        bytes: Vec::from_slice(alloc, row.word(2)?)?,
+    };
+    let is_head = is_head(row, 3)?;
+    Ok(Answer { reply, is_head })
+}
+
+/// The method.
+fn done(row: &Row<'_>) -> Result<Answer, RowFault> {
+    let is_head = is_head(row, 0)?;
+    Ok(Answer {
+        reply: Reply::Done,
+        is_head,
+    })
+}
+
+// Whether the word at this place is `HEAD`; any other method is none.
+fn is_head(row: &Row<'_>, at: usize) -> Result<bool, RowFault> {
+    Ok(row.word(at)? == b"HEAD".as_slice())
+}
+
+fn digest(word: &[u8]) -> Result<[u8; 32], RowFault> {
+    <[u8; 32]>::try_from(word).map_err(|_| RowFault::Malformed)
+}
+
+/// The answer's text, whether it is refusal 40, and the number of faults that were counted.
+fn put(alloc: Global, answer: &Answer, line: &mut Line) -> Result<(), RowFault> {
     let mut writer = Counted::new(Vec::new(alloc));
-    let sent = put_answer(&answer, &mut writer);
+    let sent = put_answer(answer, &mut writer);
     if sent.is_err() {
         return Err(RowFault::Memory);
     }

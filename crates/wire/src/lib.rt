@@ -5,7 +5,9 @@ pub mod answer;
 pub mod counted;
 pub mod fault;
 pub mod filling;
+mod found;
 pub mod head;
+mod joining;
 pub mod sending;
 
 pub use answer::{Answer, Reply, put_answer};
