@@ -1,0 +1,122 @@
+//! Whole messages: heads, and bodies in one piece.
+ghost use Rattle.std.specs.Prelude.{◌≡◌, ◌≢◌, ◌≤◌, ◌<◌, ◌-◌, ◌+◌, ℕ, Bool, List, [], ◌++◌, length, take, vec_capacity, IfSome, IfErr, IfOk, Ok};
+ghost use Rattle.std.specs.Io.KnownBytes.{Consumes};
+ghost use Rattle.wire.specs.Feeding.{CountsReads};
+ghost use Rattle.wire.specs.Feeds.{left};
+ghost use Rattle.wire.specs.Whole.{BreaksOff, BreaksOffWithin, Brings, MayBegin};
+
+use crate::backlog::MOST_HEAD;
+use crate::fault::WireFault;
+use crate::feed::{Feed, Piece, Place, Step};
+use sigtext::Refusal;
+use std::io::Read;
+
+/// What came.
+#[derive(Clone, Copy, Debug)]
+pub enum Came {
+    /// A message. The text of its head, through CR LF CR LF, has so many bytes.
+    Message {
+        size: usize,
+        /// Whether a Content-Length was given.
+        has_length: bool,
+    },
+    /// The stream breaks a rule of framing, 1 to 6.
+    Refused(Refusal),
+    /// The stream ended.
+    End,
+    /// The stream ended in a head.
+    Truncated,
+}
+
+// How a body ended.
+#[derive(Clone, Copy, Debug)]
+enum Joined {
+    Whole,
+    // The stream ended in it.
+    Lacking,
+}
+
+/// Reads a whole message: the text of its head, of at most 8192 bytes, to the front of the array, and its body, of
+/// at most 1048576 bytes, into the vector, in the place of what that held. The vector grows at most once, by what
+/// the head announces. At a fault no whole message came, or memory was refused: in the feed's first message for its
+/// buffer, and else for a body that is not empty.
+pub fn read_message<R: Read>(
+    feed: &mut Feed<'_, R>,
+    text: &mut [u8; MOST_HEAD],
+    body: &mut Vec<u8>,
+) -> Result<Came, WireFault>
+    requires { MayBegin feed.old.place }
+    ensures same { feed.new.reader.ghost_name ≡ feed.old.reader.ghost_name }
+    ensures brings { IfOk result (λ came. Brings came text.new body.new.items (left R.remaining feed.old) (left R.remaining feed.new) feed.new.place) }
+    ensures fault { IfErr result (λ f. BreaksOff f (left R.remaining feed.old) (R.remaining feed.new.reader.now.inner)) }
+    ensures count { CountsReads result feed.old.reader.now.faults feed.new.reader.now.faults }
+{
+    let (size, has_length, length) = match feed.next() {
+        Ok(Step::Head(head)) => {
+            let size = head.text.len();
+            text[..size].copy_from_slice(head.text);
+            (size, head.has_length, head.length)
+        }
+        Ok(Step::Refused(refusal)) => return Ok(Came::Refused(refusal)),
+        Ok(Step::End) => return Ok(Came::End),
+        Ok(Step::Truncated) => return Ok(Came::Truncated),
+        Err(fault) => return Err(fault),
+    };
+    match join_body(feed, length, body) {
+        Ok(Joined::Whole) => Ok(Came::Message { size, has_length }),
+        Ok(Joined::Lacking) => Ok(Came::Refused(Refusal::BodyIncomplete)),
+        Err(fault) => Err(fault),
+    }
+}
+
+// Puts the body that is open, of which so many bytes are to come, into the vector, in the place of what that held.
+fn join_body<R: Read>(
+    feed: &mut Feed<'_, R>,
+    size: usize,
+    body: &mut Vec<u8>,
+) -> Result<Joined, WireFault>
+    requires { feed.old.place ≡ Place.Body size }
+    ensures same { feed.new.reader.ghost_name ≡ feed.old.reader.ghost_name }
+    ensures whole { result ≡ Ok Joined.Whole → (length body.new.items ≡ size) × (feed.new.place ≡ Place.Between)
+        × Consumes (left R.remaining feed.old) (left R.remaining feed.new) body.new.items }
+    ensures lacking { result ≡ Ok Joined.Lacking → (feed.new.place ≡ Place.Over) × IfSome (left R.remaining feed.old) (λ rest. length rest < size) }
+    ensures fault { IfErr result (λ f. BreaksOffWithin size f (left R.remaining feed.old) (R.remaining feed.new.reader.now.inner)) }
+    ensures count { CountsReads result feed.old.reader.now.faults feed.new.reader.now.faults }
+{
+    body.clear();
+    match body.reserve_exact(size) {
+        Ok(()) => join_pieces(feed, size, body),
+        Err(_) => Err(WireFault::Memory),
+    }
+}
+
+// Puts the pieces of the body that is open, of which so many bytes are to come, into the empty vector, which has
+// room for them.
+fn join_pieces<R: Read>(
+    feed: &mut Feed<'_, R>,
+    size: usize,
+    body: &mut Vec<u8>,
+) -> Result<Joined, WireFault>
+    requires open { feed.old.place ≡ Place.Body size }
+    requires empty { body.old.items ≡ [] }
+    requires room { size ≤ vec_capacity body.old }
+    ensures same { feed.new.reader.ghost_name ≡ feed.old.reader.ghost_name }
+    ensures whole { result ≡ Ok Joined.Whole → (length body.new.items ≡ size) × (feed.new.place ≡ Place.Between)
+        × Consumes (left R.remaining feed.old) (left R.remaining feed.new) body.new.items }
+    ensures lacking { result ≡ Ok Joined.Lacking → (feed.new.place ≡ Place.Over) × IfSome (left R.remaining feed.old) (λ rest. length rest < size) }
+    ensures fault { IfErr result (λ f. BreaksOffWithin size f (left R.remaining feed.old) (R.remaining feed.new.reader.now.inner)) }
+    ensures count { CountsReads result feed.old.reader.now.faults feed.new.reader.now.faults }
+{
+    'pieces: loop {
+        match feed.piece() {
+            Ok(Piece::Bytes(bytes)) => {
+                if body.extend_from_slice(bytes).is_err() {
+                    return Err(WireFault::Memory);
+                }
+            }
+            Ok(Piece::Done) => return Ok(Joined::Whole),
+            Ok(Piece::Refused(_)) => return Ok(Joined::Lacking),
+            Err(fault) => return Err(fault),
+        }
+    }
+}
