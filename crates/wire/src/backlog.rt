@@ -1,6 +1,7 @@
 //! Bytes that were read ahead.
 ghost use Rattle.std.specs.Prelude.{◌≡◌, ◌≢◌, ◌↔◌, ◌≤◌, ◌<◌, ◌-◌, ◌+◌, ℕ, List, [], ◌++◌, true, false, length, take, drop, vec_len, IfOk, IfErr, IsTrue, OnErr, OnOk};
 ghost use Rattle.std.specs.Io.KnownBytes.{Consumes, IsAtEnd, Keeps, prepend_known};
+ghost use Rattle.sigtext.specs.Limits.{most_head};
 ghost use Rattle.sigtext.specs.Counts.{CountsErrors, Rose};
 
 use crate::counted::Counted;
@@ -41,7 +42,7 @@ pub struct Backlog {
 }
 
 impl Backlog {
-    ghost use Rattle.wire.specs.Waiting.{Shows, taken, waiting};
+    ghost use Rattle.wire.specs.Waiting.{Adds, Shows, taken, waiting};
 
     /// Nothing waits, and there is no room.
     pub fn new(alloc: Global) -> Backlog
@@ -75,10 +76,17 @@ impl Backlog {
 
     // The first 8192 of them, or all.
     fn window(&self) -> &[u8]
-        ensures { result.now ≡ take 8192 (waiting self.now) }
+        ensures { result.now ≡ take most_head (waiting self.now) }
     {
         let waiting = self.waiting();
         &waiting[..waiting.len().min(MOST_HEAD)]
+    }
+
+    // Whether a head would have ended in them.
+    fn is_long(&self) -> bool
+        ensures { IsTrue result ↔ (most_head ≤ length (waiting self.now)) }
+    {
+        self.waiting().len() >= MOST_HEAD
     }
 
     /// Takes the first n bytes.
@@ -105,9 +113,7 @@ impl Backlog {
     /// Reads once, behind the bytes that wait. Says whether bytes came.
     pub fn read_more<R: Read>(&mut self, reader: &mut Counted<R>) -> Result<bool, WireFault>
         requires { length (waiting self.old) < vec_len self.old.bytes }
-        ensures came { IfOk result (λ more. (bytes : List ℕ) × (waiting self.new ≡ waiting self.old ++ bytes)
-            × Consumes (R.remaining reader.old.inner) (R.remaining reader.new.inner) bytes × (more ≡ true → bytes ≢ [])
-            × (more ≡ false → (bytes ≡ []) × IsAtEnd (R.remaining reader.new.inner))) }
+        ensures came { IfOk result (λ more. Adds more (waiting self.old) (waiting self.new) (R.remaining reader.old.inner) (R.remaining reader.new.inner)) }
         ensures fault { IfErr result (λ f. (f ≡ WireFault.Read) × (waiting self.new ≡ waiting self.old) × Keeps (R.remaining reader.old.inner) (R.remaining reader.new.inner)) }
         ensures count { CountsErrors reader.old.faults reader.new.faults result }
         ensures room { vec_len self.new.bytes ≡ vec_len self.old.bytes }
@@ -134,9 +140,7 @@ impl Backlog {
     fn read_behind<R: Read>(&mut self, reader: &mut Counted<R>) -> Result<bool, WireFault>
         requires front { self.old.start ≡ 0 }
         requires room { length (waiting self.old) < vec_len self.old.bytes }
-        ensures came { IfOk result (λ more. (bytes : List ℕ) × (waiting self.new ≡ waiting self.old ++ bytes)
-            × Consumes (R.remaining reader.old.inner) (R.remaining reader.new.inner) bytes × (more ≡ true → bytes ≢ [])
-            × (more ≡ false → (bytes ≡ []) × IsAtEnd (R.remaining reader.new.inner))) }
+        ensures came { IfOk result (λ more. Adds more (waiting self.old) (waiting self.new) (R.remaining reader.old.inner) (R.remaining reader.new.inner)) }
         ensures fault { IfErr result (λ f. (f ≡ WireFault.Read) × (waiting self.new ≡ waiting self.old) × Keeps (R.remaining reader.old.inner) (R.remaining reader.new.inner)) }
         ensures count { CountsErrors reader.old.faults reader.new.faults result }
         ensures room { vec_len self.new.bytes ≡ vec_len self.old.bytes }
@@ -166,7 +170,7 @@ impl Backlog {
                 None => {}
             }
             searched = self.waiting().len();
-            if searched >= MOST_HEAD {
+            if self.is_long() {
                 return Front::TooLong;
             }
             match self.read_more(reader) {

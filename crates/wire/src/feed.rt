@@ -90,14 +90,14 @@ pub struct Feed<'r, R> {
 
 impl<'r, R: Read> Feed<'r, R> {
     ghost use Rattle.wire.specs.contracts.feed.Feed.{the_row};
-    ghost use Rattle.wire.specs.Feeds.{left};
+    ghost use Rattle.wire.specs.Feeds.{SameReader, left, place_of, reader_of, waits_in};
 
     /// Reads nothing and takes no memory.
     pub fn new(alloc: Global, reader: &'r mut Counted<R>) -> Feed<'r, R>
         ensures same { result.reader.ghost_name ≡ reader.entry.ghost_name }
-        ensures reader { result.reader.now ≡ reader.old }
-        ensures place { result.place ≡ Place.Fresh }
-        ensures waiting { waiting result.backlog ≡ [] }
+        ensures reader { reader_of result ≡ reader.old }
+        ensures place { place_of result ≡ Place.Fresh }
+        ensures waiting { waits_in result ≡ [] }
     {
         Feed {
             reader,
@@ -110,7 +110,7 @@ impl<'r, R: Read> Feed<'r, R> {
     /// Gives the reader back. Call it at the end: a feed that is only dropped tells nothing of its reader.
     pub fn into_reader(self) -> &'r mut Counted<R>
         ensures same { result.ghost_name ≡ self.entry.reader.ghost_name }
-        ensures now { result.now ≡ self.entry.reader.now }
+        ensures now { result.now ≡ reader_of self.entry }
     {
         self.reader
     }
@@ -119,9 +119,9 @@ impl<'r, R: Read> Feed<'r, R> {
     /// is the end. After anything but a head the feed has ended.
     pub fn next(&mut self) -> Result<Step<'_>, WireFault>
         ensures* after { sem 𝓛 (Rests (the_row (record { mir = named 1; lft = [] }) R.row) self.entry (λ new.
-            (new.reader.ghost_name ≡ self.old.reader.ghost_name)
-            × GivesStep self.old.place (left R.remaining self.old) (told result) new.place (waiting new.backlog) (R.remaining new.reader.now.inner)
-            × CountsReads result self.old.reader.now.faults new.reader.now.faults)) }
+            SameReader self.old new
+            × GivesStep (place_of self.old) (left R.remaining self.old) (told result) (place_of new) (waits_in new) (R.remaining (reader_of new).inner)
+            × CountsReads result (reader_of self.old).faults (reader_of new).faults)) }
     {
         match self.advance()? {
             Found::Head {
@@ -142,9 +142,9 @@ impl<'r, R: Read> Feed<'r, R> {
     /// The next piece of the body that is open. Where none is, it is done.
     pub fn piece(&mut self) -> Result<Piece<'_>, WireFault>
         ensures* after { sem 𝓛 (Rests (the_row (record { mir = named 1; lft = [] }) R.row) self.entry (λ new.
-            (new.reader.ghost_name ≡ self.old.reader.ghost_name)
-            × GivesPiece self.old.place (left R.remaining self.old) (part result) new.place (waiting new.backlog) (R.remaining new.reader.now.inner)
-            × CountsReads result self.old.reader.now.faults new.reader.now.faults)) }
+            SameReader self.old new
+            × GivesPiece (place_of self.old) (left R.remaining self.old) (part result) (place_of new) (waits_in new) (R.remaining (reader_of new).inner)
+            × CountsReads result (reader_of self.old).faults (reader_of new).faults)) }
     {
         match self.go_on()? {
             Taken::Bytes(size) => Ok(Piece::Bytes(self.backlog.taken(size))),
@@ -155,10 +155,10 @@ impl<'r, R: Read> Feed<'r, R> {
 
     // Takes the next head, and says how long it is.
     fn advance(&mut self) -> Result<Found, WireFault>
-        ensures same { self.new.reader.ghost_name ≡ self.old.reader.ghost_name }
-        ensures step { GivesStep self.old.place (left R.remaining self.old) (found_in self.new.backlog result) self.new.place (waiting self.new.backlog) (R.remaining self.new.reader.now.inner) }
+        ensures same { SameReader self.old self.new }
+        ensures step { GivesStep (place_of self.old) (left R.remaining self.old) (found_in self.new.backlog result) (place_of self.new) (waits_in self.new) (R.remaining (reader_of self.new).inner) }
         ensures size { size_of result ≤ self.new.backlog.start }
-        ensures count { CountsReads result self.old.reader.now.faults self.new.reader.now.faults }
+        ensures count { CountsReads result (reader_of self.old).faults (reader_of self.new).faults }
     {
         match self.place {
             Place::Fresh => match Backlog::with_room(self.alloc) {
@@ -184,10 +184,10 @@ impl<'r, R: Read> Feed<'r, R> {
 
     // Takes the next piece, and says how long it is.
     fn go_on(&mut self) -> Result<Taken, WireFault>
-        ensures same { self.new.reader.ghost_name ≡ self.old.reader.ghost_name }
-        ensures piece { GivesPiece self.old.place (left R.remaining self.old) (taken_from self.new.backlog result) self.new.place (waiting self.new.backlog) (R.remaining self.new.reader.now.inner) }
+        ensures same { SameReader self.old self.new }
+        ensures piece { GivesPiece (place_of self.old) (left R.remaining self.old) (taken_from self.new.backlog result) (place_of self.new) (waits_in self.new) (R.remaining (reader_of self.new).inner) }
         ensures size { piece_size result ≤ self.new.backlog.start }
-        ensures count { CountsReads result self.old.reader.now.faults self.new.reader.now.faults }
+        ensures count { CountsReads result (reader_of self.old).faults (reader_of self.new).faults }
     {
         let Place::Body(to_come) = self.place else {
             return Ok(Taken::Done);

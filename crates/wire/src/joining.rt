@@ -2,7 +2,7 @@
 ghost use Rattle.std.specs.Prelude.{◌≡◌, ◌≢◌, ◌≤◌, ◌<◌, ◌-◌, ◌+◌, ℕ, Bool, List, [], ◌++◌, length, take, vec_capacity, IfSome, IfErr, IfOk, Ok};
 ghost use Rattle.std.specs.Io.KnownBytes.{Consumes};
 ghost use Rattle.wire.specs.Feeding.{CountsReads};
-ghost use Rattle.wire.specs.Feeds.{left};
+ghost use Rattle.wire.specs.Feeds.{SameReader, left, place_of, reader_of};
 ghost use Rattle.wire.specs.Whole.{BreaksOff, BreaksOffWithin, Brings, MayBegin};
 
 use crate::backlog::MOST_HEAD;
@@ -45,11 +45,11 @@ pub fn read_message<R: Read>(
     text: &mut [u8; MOST_HEAD],
     body: &mut Vec<u8>,
 ) -> Result<Came, WireFault>
-    requires { MayBegin feed.old.place }
-    ensures same { feed.new.reader.ghost_name ≡ feed.old.reader.ghost_name }
-    ensures brings { IfOk result (λ came. Brings came text.new body.new.items (left R.remaining feed.old) (left R.remaining feed.new) feed.new.place) }
-    ensures fault { IfErr result (λ f. BreaksOff f (left R.remaining feed.old) (R.remaining feed.new.reader.now.inner)) }
-    ensures count { CountsReads result feed.old.reader.now.faults feed.new.reader.now.faults }
+    requires { MayBegin (place_of feed.old) }
+    ensures same { SameReader feed.old feed.new }
+    ensures brings { IfOk result (λ came. Brings came text.new body.new.items (left R.remaining feed.old) (left R.remaining feed.new) (place_of feed.new)) }
+    ensures fault { IfErr result (λ f. BreaksOff f (left R.remaining feed.old) (R.remaining (reader_of feed.new).inner)) }
+    ensures count { CountsReads result (reader_of feed.old).faults (reader_of feed.new).faults }
 {
     let (size, has_length, length) = match feed.next() {
         Ok(Step::Head(head)) => {
@@ -75,13 +75,13 @@ fn join_body<R: Read>(
     size: usize,
     body: &mut Vec<u8>,
 ) -> Result<Joined, WireFault>
-    requires { feed.old.place ≡ Place.Body size }
-    ensures same { feed.new.reader.ghost_name ≡ feed.old.reader.ghost_name }
-    ensures whole { result ≡ Ok Joined.Whole → (length body.new.items ≡ size) × (feed.new.place ≡ Place.Between)
+    requires { place_of feed.old ≡ Place.Body size }
+    ensures same { SameReader feed.old feed.new }
+    ensures whole { result ≡ Ok Joined.Whole → (length body.new.items ≡ size) × (place_of feed.new ≡ Place.Between)
         × Consumes (left R.remaining feed.old) (left R.remaining feed.new) body.new.items }
-    ensures lacking { result ≡ Ok Joined.Lacking → (feed.new.place ≡ Place.Over) × IfSome (left R.remaining feed.old) (λ rest. length rest < size) }
-    ensures fault { IfErr result (λ f. BreaksOffWithin size f (left R.remaining feed.old) (R.remaining feed.new.reader.now.inner)) }
-    ensures count { CountsReads result feed.old.reader.now.faults feed.new.reader.now.faults }
+    ensures lacking { result ≡ Ok Joined.Lacking → (place_of feed.new ≡ Place.Over) × IfSome (left R.remaining feed.old) (λ rest. length rest < size) }
+    ensures fault { IfErr result (λ f. BreaksOffWithin size f (left R.remaining feed.old) (R.remaining (reader_of feed.new).inner)) }
+    ensures count { CountsReads result (reader_of feed.old).faults (reader_of feed.new).faults }
 {
     body.clear();
     match body.reserve_exact(size) {
@@ -97,15 +97,15 @@ fn join_pieces<R: Read>(
     size: usize,
     body: &mut Vec<u8>,
 ) -> Result<Joined, WireFault>
-    requires open { feed.old.place ≡ Place.Body size }
+    requires open { place_of feed.old ≡ Place.Body size }
     requires empty { body.old.items ≡ [] }
     requires room { size ≤ vec_capacity body.old }
-    ensures same { feed.new.reader.ghost_name ≡ feed.old.reader.ghost_name }
-    ensures whole { result ≡ Ok Joined.Whole → (length body.new.items ≡ size) × (feed.new.place ≡ Place.Between)
+    ensures same { SameReader feed.old feed.new }
+    ensures whole { result ≡ Ok Joined.Whole → (length body.new.items ≡ size) × (place_of feed.new ≡ Place.Between)
         × Consumes (left R.remaining feed.old) (left R.remaining feed.new) body.new.items }
-    ensures lacking { result ≡ Ok Joined.Lacking → (feed.new.place ≡ Place.Over) × IfSome (left R.remaining feed.old) (λ rest. length rest < size) }
-    ensures fault { IfErr result (λ f. BreaksOffWithin size f (left R.remaining feed.old) (R.remaining feed.new.reader.now.inner)) }
-    ensures count { CountsReads result feed.old.reader.now.faults feed.new.reader.now.faults }
+    ensures lacking { result ≡ Ok Joined.Lacking → (place_of feed.new ≡ Place.Over) × IfSome (left R.remaining feed.old) (λ rest. length rest < size) }
+    ensures fault { IfErr result (λ f. BreaksOffWithin size f (left R.remaining feed.old) (R.remaining (reader_of feed.new).inner)) }
+    ensures count { CountsReads result (reader_of feed.old).faults (reader_of feed.new).faults }
 {
     'pieces: loop {
         match feed.piece() {

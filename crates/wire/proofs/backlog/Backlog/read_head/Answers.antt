@@ -5,7 +5,7 @@ use Rattle.std.proofs.KnownBytes.{Keeps-refl, Keeps-trans}
 use Rattle.std.proofs.lemmas.List.{append-nil}
 use Rattle.wire.specs.Waiting.{waiting}
 use Rattle.wire.proofs.Heads.{no_end_in_nothing}
-use Rattle.wire.proofs.Backlogs.{still_none, in_window, still_searched, prepend-more}
+use Rattle.wire.proofs.Backlogs.{is_short, still_none, in_window, still_searched, prepend-more}
 use Rattle.wire.proofs.backlog.Backlog.read_head.Goals as goal
 
 pub reads-init : goal.reads-init
@@ -17,7 +17,7 @@ head_end_behind-requires g c = in_window c.window.result.now (waiting c.reads.se
 pub reads-preserved : goal.reads-preserved
 reads-preserved g c =
     let old = waiting c.reads.self in
-    let short : length old < 8192 = omega (arith, c.if-searched-ge-MOST_HEAD.false, ap length c.waiting-searched.ensures) in
+    let short : length old < 8192 = is_short c.is_long.result (length old) c.is_long.ensures.1 c.if-is_long.false in
     let (bytes, more, consumed, some, none) = c.in-Ok-true.ensures.came in
     let size = c.waiting-searched.result.now in
     let searched : length size ≡ length old = ap length c.waiting-searched.ensures in
@@ -39,7 +39,7 @@ reads-preserved g c =
 pub returns-else-searched-eq0-clause-shows : goal.returns-else-searched-eq0-clause-shows
 returns-else-searched-eq0-clause-shows g c =
     let old = waiting c.reads.self in
-    let short : length old < 8192 = omega (arith, c.if-searched-ge-MOST_HEAD.false, ap length c.waiting-searched.ensures) in
+    let short : length old < 8192 = is_short c.is_long.result (length old) c.is_long.ensures.1 c.if-is_long.false in
     let (bytes, more, consumed, some, none) = c.in-Ok-false.ensures.came in
     let end = none c.in-Ok-false.field-0-test in
     let same = more ∙ ap (λ t. old ++ t) end.0 ∙ append-nil old in
@@ -49,5 +49,5 @@ returns-else-searched-eq0-clause-shows g c =
 pub returns-in-Err-clause-shows : goal.returns-in-Err-clause-shows
 returns-in-Err-clause-shows g c =
     let old = waiting c.reads.self in
-    let short : length old < 8192 = omega (arith, c.if-searched-ge-MOST_HEAD.false, ap length c.waiting-searched.ensures) in
+    let short : length old < 8192 = is_short c.is_long.result (length old) c.is_long.ensures.1 c.if-is_long.false in
     still_none c.window.result.now old _ c.window.ensures short c.in-Err.ensures.fault.1 c.in-None.ensures.none
