@@ -12,7 +12,7 @@ use sigtext::Refusal;
 use std::io::Read;
 
 /// What came.
-#[derive(Clone, Copy, Debug)]
+#[derive(Clone, Copy, Debug, PartialEq, Eq)]
 pub enum Came {
     /// A message. The text of its head, through CR LF CR LF, has so many bytes.
     Message {
