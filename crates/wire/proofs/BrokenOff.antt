@@ -1,5 +1,5 @@
 -- What came where no whole message did.
-use Rattle.std.proofs.Common.{◌≡◌, ◌<◌, ℕ, Bool, List, [], ◌++◌, length, Option, None, Some, Err, inl, inr, arith, lit<, sym, ap, subst, ◌∙◌, length-append, refl}
+use Rattle.std.proofs.Common.{◌≡◌, ◌<◌, ℕ, Bool, List, [], ◌++◌, length, Option, Some, Err, inl, inr, arith, lit<, sym, ap, subst, ◌∙◌, length-append}
 use Rattle.std.specs.Prelude.{IfSome}
 use Rattle.std.specs.Io.KnownBytes.{Consumes, Keeps, prepend_known}
 use Rattle.std.proofs.KnownBytes.{Consumes-trans, Consumes-kept, prepend_known-nil}
@@ -15,13 +15,11 @@ use Rattle.wire.specs.declared.feed.Place.TheVariants as place
 use Rattle.wire.proofs.Backlogs.{consumes_waiting}
 use Rattle.wire.proofs.Beginnings.{fresh, between, over_fresh, over_between}
 use Rattle.wire.proofs.Fronts.{same_length, same_rest}
+use Rattle.wire.proofs.Halves.{head_taken}
 use Rattle.wire.proofs.Heads.{no_end_in_nothing}
-use Rattle.wire.proofs.WaitingFronts.{has_head, holds_none, no_front_short}
+use Rattle.wire.proofs.WaitingFronts.{front_further, has_head, holds_none, no_front_short}
 
 -- ---- in a body
-
-front_further : (text given : List ℕ) → IsFront text text [] → IsFront (text ++ given) text given
-front_further text given f = record { whole = refl; ends = f.ends; short = f.short; shortest = f.shortest }
 
 -- a message behind a head has the body's length that this announces
 message_in : (text given : List ℕ) (has_length : Bool) (n : ℕ) (r : Request) (rest : List ℕ) → Opens text has_length n
@@ -43,18 +41,12 @@ no_bare_message text given has_length n o some r rest step none =
     let (size, e) = message_in text given has_length n r rest o step in
     omega (arith, some, size, ap length none)
 
--- the head was taken from what was left
-head_consumed : (known mid : Option (List ℕ)) (text : List ℕ)
-    → IfSome known (λ stream. (rest : List ℕ) × IsFront stream text rest × (mid ≡ Some rest)) → Consumes known mid text
-head_consumed None mid text f = tt
-head_consumed (Some stream) mid text (rest, front, e) = subst (λ (m : Option (List ℕ)). Consumes (Some stream) m text) (sym e) front.whole
-
 pub broken_in_body : (f : WireFault) (known mid reader : Option (List ℕ)) (text : List ℕ) (has_length : Bool) (n : ℕ) → Opens text has_length n
     → IfSome known (λ stream. (rest : List ℕ) × IsFront stream text rest × (mid ≡ Some rest)) → BreaksOffWithin n f mid reader → BreaksOff f known reader
 broken_in_body fault.Read known mid reader text has_length n o h (given, taken, few) =
-    (text ++ given, Consumes-trans known mid reader text given (head_consumed known mid text h) taken, no_message_yet text given has_length n o few)
+    (text ++ given, Consumes-trans known mid reader text given (head_taken known mid text h) taken, no_message_yet text given has_length n o few)
 broken_in_body fault.Memory known mid reader text has_length n o h (given, taken, some) =
-    (text ++ given, Consumes-trans known mid reader text given (head_consumed known mid text h) taken, no_bare_message text given has_length n o some)
+    (text ++ given, Consumes-trans known mid reader text given (head_taken known mid text h) taken, no_bare_message text given has_length n o some)
 broken_in_body fault.Write known mid reader text has_length n o h never = absurd never
 
 -- pieces came, and nothing waits

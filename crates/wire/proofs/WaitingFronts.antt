@@ -12,7 +12,7 @@ use Rattle.wire.specs.Framing as next
 use Rattle.wire.specs.Heads.{IsHeadEnd, HasNoHeadEnd}
 use Rattle.wire.specs.Judging.{Tells, Breaks}
 use Rattle.wire.specs.Judging as breaks
-use Rattle.wire.specs.Feeding.{HoldsNoMessage}
+use Rattle.wire.specs.Feeding.{HoldsNoMessage, OfStream}
 
 -- ---- what is left is what waits, and what the reader has
 
@@ -22,11 +22,17 @@ known_whole None reader waits P h f = tt
 known_whole (Some stream) None waits P h f = absurd h
 known_whole (Some stream) (Some rest) waits P h f = subst P h (f rest refl)
 
-pub known_end : (known reader : Option (List ℕ)) (waits : List ℕ) (P : List ℕ → Type 0) → Keeps known (prepend_known waits reader)
-    → IsAtEnd reader → P waits → IfSome known P
-known_end None reader waits P h e p = tt
-known_end (Some stream) None waits P h e p = absurd h
-known_end (Some stream) (Some rest) waits P h e p = subst P (sym (append-nil waits) ∙ ap (λ (t : List ℕ). waits ++ t) (sym e) ∙ h) p
+pub of_whole : (known reader : Option (List ℕ)) (waits : List ℕ) (P : List ℕ → Type 0) → Keeps known (prepend_known waits reader)
+    → ((rest : List ℕ) → P (waits ++ rest)) → OfStream known P
+of_whole None reader waits P h f = record { stream = waits ++ []; is = tt; holds = f [] }
+of_whole (Some stream) None waits P h f = absurd h
+of_whole (Some stream) (Some rest) waits P h f = record { stream = waits ++ rest; is = sym h; holds = f rest }
+
+pub of_end : (known reader : Option (List ℕ)) (waits : List ℕ) (P : List ℕ → Type 0) → Keeps known (prepend_known waits reader)
+    → IsAtEnd reader → P waits → OfStream known P
+of_end None reader waits P h e p = record { stream = waits; is = tt; holds = p }
+of_end (Some stream) None waits P h e p = absurd h
+of_end (Some stream) (Some rest) waits P h e p = record { stream = waits; is = sym h ∙ ap (λ (t : List ℕ). waits ++ t) e ∙ append-nil waits; holds = p }
 
 -- ---- fronts
 
@@ -83,9 +89,12 @@ breaks_early text r (breaks.too_large head n tells large) = (lit< tt, lit≤ tt)
 pub front_of : (waits rest text after : List ℕ) (n : ℕ) → IsHeadEnd (take 8192 waits) n → text ≡ take n waits → after ≡ drop n waits → IsFront (waits ++ rest) text (after ++ rest)
 front_of waits rest text after n h t a = rw (t, a) (front_whole waits rest n h)
 
--- a front is the front of itself
+-- a front is the front of itself, and of all that goes on from it
 pub front_alone : (stream text rest : List ℕ) → IsFront stream text rest → IsFront text text []
 front_alone stream text rest f = record { whole = sym (append-nil text); ends = f.ends; short = f.short; shortest = f.shortest }
+
+pub front_further : (text more : List ℕ) → IsFront text text [] → IsFront (text ++ more) text more
+front_further text more f = record { whole = refl; ends = f.ends; short = f.short; shortest = f.shortest }
 
 pub text_alone : (waits text : List ℕ) (n : ℕ) → IsHeadEnd (take 8192 waits) n → text ≡ take n waits → IsFront text text []
 text_alone waits text n h t = front_alone (waits ++ []) text (drop n waits ++ []) (front_of waits [] text (drop n waits) n h t refl)
@@ -97,6 +106,6 @@ opened known reader waits text after n h t a kept =
     (λ rest e. (after ++ rest, front_of waits rest text after n h t a, ap (prepend_known after) e))
 
 pub barred : (known reader : Option (List ℕ)) (waits text after : List ℕ) (n : ℕ) (r : Refusal) → IsHeadEnd (take 8192 waits) n → text ≡ take n waits → after ≡ drop n waits
-    → Keeps known (prepend_known waits reader) → Breaks text r → IfSome known (λ stream. Next stream (Refused r) [])
+    → Keeps known (prepend_known waits reader) → Breaks text r → OfStream known (λ stream. Next stream (Refused r) [])
 barred known reader waits text after n r h t a kept b =
-    known_whole known reader waits (λ stream. Next stream (Refused r) []) kept (λ rest e. next_refused (waits ++ rest) text (after ++ rest) r (front_of waits rest text after n h t a) b)
+    of_whole known reader waits (λ stream. Next stream (Refused r) []) kept (λ rest. next_refused (waits ++ rest) text (after ++ rest) r (front_of waits rest text after n h t a) b)

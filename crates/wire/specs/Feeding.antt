@@ -63,14 +63,20 @@ pub record Opens (text : List ℕ) (has_length : Bool) (n : ℕ) : Type 0 where
   pub head : RequestHead
   pub tells : Tells text head has_length n
 
+-- of the stream that was left: of its bytes where they are known, and else of some bytes
+pub record OfStream (known : Option (List ℕ)) (Holds : List ℕ → Type 0) : Type 0 where
+  pub stream : List ℕ
+  pub is : IfSome known (λ bytes. bytes ≡ stream)
+  pub holds : Holds stream
+
 -- What is told where a message may begin. known: the bytes of the stream that were left, where the
 -- reader's are known; waits and reader: those that wait now, and those that the reader has.
 abbrev pub Finds : Option (List ℕ) → Result Told WireFault → List ℕ → Option (List ℕ) → Type 0
 Finds known (Ok (Opened text has_length n)) waits reader =
     Opens text has_length n × IfSome known (λ stream. (rest : List ℕ) × IsFront stream text rest × (prepend_known waits reader ≡ Some rest))
-Finds known (Ok (Barred r)) waits reader = (0 < number_of r) × (number_of r ≤ 5) × IfSome known (λ stream. Next stream (framing.Refused r) [])
-Finds known (Ok Ended) waits reader = IfSome known (λ stream. Next stream framing.Ended [])
-Finds known (Ok CutShort) waits reader = IfSome known (λ stream. Next stream framing.Truncated [])
+Finds known (Ok (Barred r)) waits reader = (0 < number_of r) × (number_of r ≤ 5) × OfStream known (λ stream. Next stream (framing.Refused r) [])
+Finds known (Ok Ended) waits reader = (waits ≡ []) × IsAtEnd reader × OfStream known (λ stream. Next stream framing.Ended [])
+Finds known (Ok CutShort) waits reader = IsAtEnd reader × OfStream known (λ stream. Next stream framing.Truncated [])
 Finds known (Err fault.Read) waits reader = HoldsNoMessage waits × Keeps known (prepend_known waits reader)
 Finds known (Err _) waits reader = ⊥
 

@@ -1,12 +1,12 @@
 -- Whole messages, and what was read where none came.
-use Rattle.std.specs.Prelude.{◌≡◌, ◌≢◌, ℕ, ◌<◌, ◌≤◌, ◌⊎◌, Bool, List, [], length, take, Option, Some, IfSome}
-use Rattle.std.specs.Io.KnownBytes.{Consumes}
+use Rattle.std.specs.Prelude.{◌≡◌, ◌≢◌, ℕ, ◌<◌, ◌≤◌, ◌⊎◌, Bool, List, [], ◌++◌, length, take, Option, Some, IfSome}
+use Rattle.std.specs.Io.KnownBytes.{Consumes, IsAtEnd}
 use Rattle.sigtext.specs.Limits.{most_head}
 use Rattle.sigtext.specs.Refusals.{number_of}
 use Rattle.sigtext.specs.Request.{Request}
 use Rattle.wire.specs.Framing.{Next, Message, request_of}
 use Rattle.wire.specs.Framing as framing
-use Rattle.wire.specs.Feeding.{HoldsNoMessage, Opens}
+use Rattle.wire.specs.Feeding.{HoldsNoMessage, OfStream, Opens}
 use Rattle.wire.specs.declared.fault.WireFault.{WireFault}
 use Rattle.wire.specs.declared.fault.WireFault.TheVariants as fault
 use Rattle.wire.specs.declared.joining.Came.{Came}
@@ -22,17 +22,18 @@ MayBegin p = (p ≡ place.Fresh) ⊎ (p ≡ place.Between)
 -- old and new: what was left of the stream, where that is known, and what is left now.
 pub record IsNextMessage (text : List ℕ) (has_length : Bool) (body : List ℕ) (old new : Option (List ℕ)) : Type 0 where
   pub opens : Opens text has_length (length body)
+  pub taken : Consumes old new (text ++ body)
   pub next : IfSome old (λ stream. (rest : List ℕ) × Next stream (Message (request_of opens.head has_length body)) rest × (new ≡ Some rest))
 
 -- What was read. text and body: the array and the vector it was put into; old and new: what was left of the
--- stream; p: where the feed stands now.
-abbrev pub Brings : Came → List ℕ → List ℕ → Option (List ℕ) → Option (List ℕ) → Place → Type 0
-Brings (came.Message size has_length) text body old new p =
+-- stream; reader: what the reader has now; p: where the feed stands now.
+abbrev pub Brings : Came → List ℕ → List ℕ → Option (List ℕ) → Option (List ℕ) → Option (List ℕ) → Place → Type 0
+Brings (came.Message size has_length) text body old new reader p =
     (size ≤ most_head) × (p ≡ place.Between) × IsNextMessage (take size text) has_length body old new
-Brings (came.Refused r) text body old new p =
-    (p ≡ place.Over) × (0 < number_of r) × (number_of r ≤ 6) × IfSome old (λ stream. Next stream (framing.Refused r) [])
-Brings came.End text body old new p = (p ≡ place.Over) × IfSome old (λ stream. Next stream framing.Ended [])
-Brings came.Truncated text body old new p = (p ≡ place.Over) × IfSome old (λ stream. Next stream framing.Truncated [])
+Brings (came.Refused r) text body old new reader p =
+    (p ≡ place.Over) × (0 < number_of r) × (number_of r ≤ 6) × OfStream old (λ stream. Next stream (framing.Refused r) [])
+Brings came.End text body old new reader p = (p ≡ place.Over) × IsAtEnd reader × OfStream old (λ stream. Next stream framing.Ended [])
+Brings came.Truncated text body old new reader p = (p ≡ place.Over) × IsAtEnd reader × OfStream old (λ stream. Next stream framing.Truncated [])
 
 -- each message that stands whole at the front of the bytes has a body that is not empty
 abbrev pub HoldsNoBareMessage : List ℕ → Type 0

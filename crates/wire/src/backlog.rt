@@ -10,7 +10,7 @@ use crate::head::head_end_behind;
 use std::alloc::{AllocError, Global};
 use std::io::Read;
 
-/// How many bytes may wait.
+/// How many bytes may wait: those of a head and of a piece.
 pub const ROOM: usize = 73_728;
 
 /// The most bytes that a head may have.

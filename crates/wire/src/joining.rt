@@ -47,7 +47,8 @@ pub fn read_message<R: Read>(
 ) -> Result<Came, WireFault>
     requires { MayBegin (place_of feed.old) }
     ensures same { SameReader feed.old feed.new }
-    ensures brings { IfOk result (λ came. Brings came text.new body.new.items (left R.remaining feed.old) (left R.remaining feed.new) (place_of feed.new)) }
+    ensures brings { IfOk result (λ came. Brings came text.new body.new.items (left R.remaining feed.old) (left R.remaining feed.new)
+        (R.remaining (reader_of feed.new).inner) (place_of feed.new)) }
     ensures fault { IfErr result (λ f. BreaksOff f (left R.remaining feed.old) (R.remaining (reader_of feed.new).inner)) }
     ensures count { CountsReads result (reader_of feed.old).faults (reader_of feed.new).faults }
 {
@@ -79,7 +80,7 @@ fn join_body<R: Read>(
     ensures same { SameReader feed.old feed.new }
     ensures whole { result ≡ Ok Joined.Whole → (length body.new.items ≡ size) × (place_of feed.new ≡ Place.Between)
         × Consumes (left R.remaining feed.old) (left R.remaining feed.new) body.new.items }
-    ensures lacking { result ≡ Ok Joined.Lacking → (place_of feed.new ≡ Place.Over) × IfSome (left R.remaining feed.old) (λ rest. length rest < size) }
+    ensures lacking { result ≡ Ok Joined.Lacking → (place_of feed.new ≡ Place.Over) × (0 < size) × IfSome (left R.remaining feed.old) (λ rest. length rest < size) }
     ensures fault { IfErr result (λ f. BreaksOffWithin size f (left R.remaining feed.old) (R.remaining (reader_of feed.new).inner)) }
     ensures count { CountsReads result (reader_of feed.old).faults (reader_of feed.new).faults }
 {
@@ -103,7 +104,7 @@ fn join_pieces<R: Read>(
     ensures same { SameReader feed.old feed.new }
     ensures whole { result ≡ Ok Joined.Whole → (length body.new.items ≡ size) × (place_of feed.new ≡ Place.Between)
         × Consumes (left R.remaining feed.old) (left R.remaining feed.new) body.new.items }
-    ensures lacking { result ≡ Ok Joined.Lacking → (place_of feed.new ≡ Place.Over) × IfSome (left R.remaining feed.old) (λ rest. length rest < size) }
+    ensures lacking { result ≡ Ok Joined.Lacking → (place_of feed.new ≡ Place.Over) × (0 < size) × IfSome (left R.remaining feed.old) (λ rest. length rest < size) }
     ensures fault { IfErr result (λ f. BreaksOffWithin size f (left R.remaining feed.old) (R.remaining (reader_of feed.new).inner)) }
     ensures count { CountsReads result (reader_of feed.old).faults (reader_of feed.new).faults }
 {

@@ -13,7 +13,9 @@ pub mod head;
 pub mod joining;
 pub mod sending;
 
+pub use announce::MOST_BODY;
 pub use answer::{Answer, Reply, put_answer};
+pub use backlog::MOST_HEAD;
 pub use counted::Counted;
 pub use fault::WireFault;
 pub use feed::{Feed, Opening, Piece, Step};

@@ -5,7 +5,7 @@ use Rattle.wire.specs.Framing.{IsFront, Next, Refused, Ended, Truncated}
 use Rattle.wire.specs.Framing as next
 use Rattle.wire.specs.Judging.{Tells}
 use Rattle.wire.specs.Waiting.{waiting}
-use Rattle.wire.proofs.WaitingFronts.{known_whole, known_end, text_alone, opened, barred, next_too_long, next_truncated, breaks_early}
+use Rattle.wire.proofs.WaitingFronts.{of_whole, of_end, text_alone, opened, barred, next_too_long, next_truncated, breaks_early}
 use Rattle.wire.proofs.cutting.find.Goals as goal
 
 pub take-requires : goal.take-requires
@@ -36,14 +36,14 @@ returns-in-Err-clause-finds g c =
 pub returns-in-TooLong-clause-finds : goal.returns-in-TooLong-clause-finds
 returns-in-TooLong-clause-finds g c =
     let shows = c.in-TooLong.ensures.shows in
-    (lit< tt, lit≤ tt, known_whole _ _ (waiting c.read_head.new.self) (λ s. Next s (Refused rule.HeadTooLong) []) c.in-TooLong.ensures.kept (λ rest _. next_too_long _ rest shows.0 shows.1))
+    (lit< tt, lit≤ tt, of_whole _ _ (waiting c.read_head.new.self) (λ s. Next s (Refused rule.HeadTooLong) []) c.in-TooLong.ensures.kept (λ rest. next_too_long _ rest shows.0 shows.1))
 
 pub returns-in-End-clause-finds : goal.returns-in-End-clause-finds
 returns-in-End-clause-finds g c =
     let shows = c.in-End.ensures.shows in
-    known_end _ _ (waiting c.read_head.new.self) (λ s. Next s Ended []) c.in-End.ensures.kept shows.1 (next.ended shows.0)
+    (shows.0, shows.1, of_end _ _ (waiting c.read_head.new.self) (λ s. Next s Ended []) c.in-End.ensures.kept shows.1 (next.ended shows.0))
 
 pub returns-in-Truncated-clause-finds : goal.returns-in-Truncated-clause-finds
 returns-in-Truncated-clause-finds g c =
     let shows = c.in-Truncated.ensures.shows in
-    known_end _ _ (waiting c.read_head.new.self) (λ s. Next s Truncated []) c.in-Truncated.ensures.kept shows.3 (next_truncated _ shows.0 shows.1 shows.2)
+    (shows.3, of_end _ _ (waiting c.read_head.new.self) (λ s. Next s Truncated []) c.in-Truncated.ensures.kept shows.3 (next_truncated _ shows.0 shows.1 shows.2))

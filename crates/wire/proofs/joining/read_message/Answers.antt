@@ -36,7 +36,7 @@ returns-in-Ok-Lacking-clause-brings g c =
     (c.in-Ok-Head.is ∙ ap Ok c.in-Ok-Head.field-0-is) c.next.follows.holds-at-none.1 in
     let f = opened_there old.place mid.place (left remaining old) (remaining mid.reader.now.inner) h.text.now (waiting mid.backlog) h.has_length h.length c.requires gives in
     let w = c.in-Ok-Lacking.ensures.lacking (ap Ok c.in-Ok-Lacking.field-0-is) in
-    (w.0, lit< tt, lit≤ tt, lacking_joined (left remaining old) (left remaining mid) h.text.now h.has_length h.length f.0 f.1 w.1)
+    (w.0, lit< tt, lit≤ tt, lacking_joined (left remaining old) (left remaining mid) h.text.now h.has_length h.length f.0 f.1 w.1 w.2)
 
 pub returns-in-Err-join_body-clause-fault : goal.returns-in-Err-join_body-clause-fault
 returns-in-Err-join_body-clause-fault g c =
