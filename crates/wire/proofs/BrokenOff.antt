@@ -1,15 +1,16 @@
 -- What came where no whole message did.
-use Rattle.std.proofs.Common.{◌≡◌, ◌<◌, ℕ, Bool, List, [], ◌++◌, length, Option, Some, Err, inl, inr, arith, lit<, sym, ap, subst, ◌∙◌, length-append}
+use Rattle.std.proofs.Common.{◌≡◌, ◌<◌, ℕ, Bool, List, [], ◌++◌, length, Option, Some, Result, Err, inl, inr, arith, lit<, sym, ap, subst, ◌∙◌, length-append}
 use Rattle.std.specs.Prelude.{IfSome}
 use Rattle.std.specs.Io.KnownBytes.{Consumes, Keeps, prepend_known}
 use Rattle.std.proofs.KnownBytes.{Consumes-trans, Consumes-kept, prepend_known-nil}
 use Rattle.sigtext.specs.Request.{Request}
 use Rattle.wire.specs.Framing.{IsFront, Next, Message}
 use Rattle.wire.specs.Framing as next
-use Rattle.wire.specs.Feeding.{Finds, GivesStep, HoldsNoMessage, Opens}
+use Rattle.wire.specs.Feeding.{Finds, GivesStep, told, HoldsNoMessage, Opens}
 use Rattle.wire.specs.Whole.{BreaksOff, BreaksOffWithin, HoldsNoBareMessage, MayBegin}
 use Rattle.wire.specs.declared.fault.WireFault.{WireFault}
 use Rattle.wire.specs.declared.fault.WireFault.TheVariants as fault
+use Rattle.wire.specs.declared.feed.Step.{Step}
 use Rattle.wire.specs.declared.feed.Place.{Place}
 use Rattle.wire.specs.declared.feed.Place.TheVariants as place
 use Rattle.wire.proofs.Backlogs.{consumes_waiting}
@@ -75,7 +76,7 @@ no_buffer fault.Memory known reader waits is none kept = (waits, consumes_waitin
 no_buffer fault.Read known reader waits is none kept = absurd cc
 no_buffer fault.Write known reader waits is none kept = absurd cc
 
-pub broken_there : (p q : Place) (f : WireFault) (known reader : Option (List ℕ)) (waits : List ℕ) → MayBegin p
+broken_there : (p q : Place) (f : WireFault) (known reader : Option (List ℕ)) (waits : List ℕ) → MayBegin p
     → GivesStep p known (Err f) q waits reader → BreaksOff f known reader
 broken_there place.Fresh q f known reader waits m (at, inl x) = broken_finding f known reader waits x
 broken_there place.Fresh q f known reader waits m (at, inr (e, none, kept)) = let is : f ≡ fault.Memory = cc in no_buffer f known reader waits is none kept
@@ -84,3 +85,9 @@ broken_there (place.Body k) q f known reader waits (inl e) s = absurd (fresh k e
 broken_there (place.Body k) q f known reader waits (inr e) s = absurd (between k e)
 broken_there place.Over q f known reader waits (inl e) s = absurd (over_fresh e)
 broken_there place.Over q f known reader waits (inr e) s = absurd (over_between e)
+
+-- the same of what a call told
+pub broken_by : (p q : Place) (f : WireFault) (known reader : Option (List ℕ)) (waits : List ℕ) (result : Result Step WireFault) → result ≡ Err f → MayBegin p
+    → GivesStep p known (told result) q waits reader → BreaksOff f known reader
+broken_by p q f known reader waits result is m s =
+    broken_there p q f known reader waits m (subst (λ (r : Result Step WireFault). GivesStep p known (told r) q waits reader) is s)
