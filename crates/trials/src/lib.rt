@@ -10,7 +10,11 @@ mod counts;
 #[cfg(test)]
 mod fakes;
 #[cfg(test)]
+mod feeds;
+#[cfg(test)]
 mod keepers;
+#[cfg(test)]
+mod messages;
 #[cfg(test)]
 mod programs;
 #[cfg(test)]

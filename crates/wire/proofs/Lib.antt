@@ -4,3 +4,11 @@ pub mod AnswerRows
 pub mod Heads
 pub mod Fronts
 pub mod FramingEdges
+pub mod FieldLists
+pub mod Lengths
+pub mod Announced
+pub mod Backlogs
+pub mod WaitingFronts
+pub mod Halves
+pub mod Beginnings
+pub mod BrokenOff

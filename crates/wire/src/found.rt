@@ -8,7 +8,7 @@ ghost use Rattle.wire.specs.Sending.{Sends};
 
 use crate::counted::Counted;
 use crate::fault::WireFault;
-use crate::joining::join;
+use crate::composing::join;
 use crate::sending::send;
 use hex::encode_to_slice;
 use std::io::Write;

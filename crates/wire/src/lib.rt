@@ -1,18 +1,27 @@
 //! Messages and answers on the wire.
 #![tactic(auto)]
 
+mod announce;
 pub mod answer;
+mod backlog;
+mod composing;
 pub mod counted;
+mod cutting;
 pub mod fault;
+pub mod feed;
 pub mod filling;
 mod found;
 pub mod head;
-mod joining;
+pub mod joining;
 pub mod sending;
 
+pub use announce::MOST_BODY;
 pub use answer::{Answer, Reply, put_answer};
+pub use backlog::MOST_HEAD;
 pub use counted::Counted;
 pub use fault::WireFault;
+pub use feed::{Feed, Opening, Piece, Step};
 pub use filling::{Filled, Stop, fill};
-pub use head::{Head, Message, head_end, read_head};
+pub use head::{Head, MOST_FIELDS, Message, head_end, read_head};
+pub use joining::{Came, read_message};
 pub use sending::send;

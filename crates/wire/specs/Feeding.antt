@@ -1,0 +1,121 @@
+-- What the calls of a `Feed` give, whatever pieces its reader gives.
+use Rattle.std.specs.Prelude.{◌≡◌, ℕ, ◌+◌, ◌-◌, ◌<◌, ◌≤◌, ◌⊎◌, Bool, List, [], ◌++◌, length, Option, Some, IfSome, Result, Ok, Err}
+use Rattle.std.specs.Io.KnownBytes.{Consumes, IsAtEnd, Keeps, prepend_known}
+use Rattle.httparse.specs.Grammar.{RequestHead}
+use Rattle.sigtext.specs.Counts.{Rose}
+use Rattle.sigtext.specs.Limits.{most_body}
+use Rattle.sigtext.specs.Refusals.{number_of}
+use Rattle.sigtext.specs.Request.{Request}
+use Rattle.sigtext.specs.declared.refusal.Refusal.{Refusal}
+use Rattle.sigtext.specs.declared.refusal.Refusal.TheVariants as rule
+use Rattle.wire.specs.Framing.{IsFront, HasHead, Next, Message}
+use Rattle.wire.specs.Framing as framing
+use Rattle.wire.specs.Judging.{Tells}
+use Rattle.wire.specs.declared.fault.WireFault.{WireFault}
+use Rattle.wire.specs.declared.fault.WireFault.TheVariants as fault
+use Rattle.wire.specs.declared.feed.Place.{Place}
+use Rattle.wire.specs.declared.feed.Place.TheVariants as place
+use Rattle.wire.specs.declared.feed.Step.{Step}
+use Rattle.wire.specs.declared.feed.Step.TheVariants as step
+use Rattle.wire.specs.declared.feed.Piece.{Piece}
+use Rattle.wire.specs.declared.feed.Piece.TheVariants as piece
+
+-- what a `next` tells: a head, by its text, whether a length was given, and the body's length; a refusal;
+-- the end; an end within a head
+pub data Told : Type 0 where
+  Opened : (text : List ℕ) → (has_length : Bool) → (n : ℕ) → Told
+  Barred : (refusal : Refusal) → Told
+  Ended : Told
+  CutShort : Told
+
+abbrev pub told : Result Step WireFault → Result Told WireFault
+told (Ok (step.Head h)) = Ok (Opened h.text.now h.has_length h.length)
+told (Ok (step.Refused r)) = Ok (Barred r)
+told (Ok step.End) = Ok Ended
+told (Ok step.Truncated) = Ok CutShort
+told (Err e) = Err e
+
+-- what a `piece` tells: some bytes, that the body is whole, a refusal
+pub data Part : Type 0 where
+  Bytes : (bytes : List ℕ) → Part
+  Done : Part
+  Lacking : (refusal : Refusal) → Part
+
+abbrev pub part : Result Piece WireFault → Result Part WireFault
+part (Ok (piece.Bytes bytes)) = Ok (Bytes bytes.now)
+part (Ok piece.Done) = Ok Done
+part (Ok (piece.Refused r)) = Ok (Lacking r)
+part (Err e) = Err e
+
+-- no message stands whole at the front of the bytes
+abbrev pub HoldsNoMessage : List ℕ → Type 0
+HoldsNoMessage bytes = (r : Request) (rest : List ℕ) → Next bytes (Message r) rest → ⊥
+
+-- the greatest length of a piece, in bytes
+abbrev pub most_piece : ℕ
+most_piece = 65536
+
+-- the text is a head, of no more bytes than a head may have, which announces a body of n bytes, no more than a body
+-- may have
+pub record Opens (text : List ℕ) (has_length : Bool) (n : ℕ) : Type 0 where
+  pub is_front : IsFront text text []
+  pub small : n ≤ most_body
+  pub head : RequestHead
+  pub tells : Tells text head has_length n
+
+-- of the stream that was left: of its bytes where they are known, and else of some bytes
+pub record OfStream (known : Option (List ℕ)) (Holds : List ℕ → Type 0) : Type 0 where
+  pub stream : List ℕ
+  pub is : IfSome known (λ bytes. bytes ≡ stream)
+  pub holds : Holds stream
+
+-- What is told where a message may begin. known: the bytes of the stream that were left, where the
+-- reader's are known; waits and reader: those that wait now, and those that the reader has.
+abbrev pub Finds : Option (List ℕ) → Result Told WireFault → List ℕ → Option (List ℕ) → Type 0
+Finds known (Ok (Opened text has_length n)) waits reader =
+    Opens text has_length n × IfSome known (λ stream. (rest : List ℕ) × IsFront stream text rest × (prepend_known waits reader ≡ Some rest))
+Finds known (Ok (Barred r)) waits reader = (0 < number_of r) × (number_of r ≤ 5) × OfStream known (λ stream. Next stream (framing.Refused r) [])
+Finds known (Ok Ended) waits reader = (waits ≡ []) × IsAtEnd reader × OfStream known (λ stream. Next stream framing.Ended [])
+Finds known (Ok CutShort) waits reader = IsAtEnd reader × OfStream known (λ stream. Next stream framing.Truncated [])
+Finds known (Err fault.Read) waits reader = HoldsNoMessage waits × Keeps known (prepend_known waits reader)
+Finds known (Err _) waits reader = ⊥
+
+-- where a feed stands behind what it told
+abbrev pub place_after : Result Told WireFault → Place
+place_after (Ok (Opened text has_length n)) = place.Body n
+place_after _ = place.Over
+
+-- What a `next` gives, from where the feed stood. Memory is refused in the first alone.
+abbrev pub GivesStep : Place → Option (List ℕ) → Result Told WireFault → Place → List ℕ → Option (List ℕ) → Type 0
+GivesStep place.Fresh known told new waits reader =
+    (new ≡ place_after told) × (Finds known told waits reader ⊎ ((told ≡ Err fault.Memory) × (waits ≡ []) × Keeps known (prepend_known waits reader)))
+GivesStep place.Between known told new waits reader = (new ≡ place_after told) × Finds known told waits reader
+GivesStep (place.Body n) known told new waits reader = (new ≡ place.Over) × (told ≡ Ok Ended) × Keeps known (prepend_known waits reader)
+GivesStep place.Over known told new waits reader = (new ≡ place.Over) × (told ≡ Ok Ended) × Keeps known (prepend_known waits reader)
+
+-- what a `piece` gives where a body is open with n bytes to come
+abbrev pub GoesOn : ℕ → Option (List ℕ) → Result Part WireFault → Place → List ℕ → Option (List ℕ) → Type 0
+GoesOn n known (Ok (Bytes bytes)) new waits reader =
+    (new ≡ place.Body (n - length bytes)) × (0 < length bytes) × (length bytes ≤ most_piece) × (length bytes ≤ n)
+    × Consumes known (prepend_known waits reader) bytes
+GoesOn n known (Ok Done) new waits reader = (new ≡ place.Between) × (n ≡ 0) × Keeps known (prepend_known waits reader)
+GoesOn n known (Ok (Lacking r)) new waits reader = (new ≡ place.Over) × (0 < n) × (r ≡ rule.BodyIncomplete) × IsAtEnd known
+GoesOn n known (Err fault.Read) new waits reader = (new ≡ place.Over) × (0 < n) × (waits ≡ []) × Keeps known (prepend_known waits reader)
+GoesOn n known (Err _) new waits reader = ⊥
+
+-- what a `piece` gives, from where the feed stood
+abbrev pub GivesPiece : Place → Option (List ℕ) → Result Part WireFault → Place → List ℕ → Option (List ℕ) → Type 0
+GivesPiece (place.Body n) known part new waits reader = GoesOn n known part new waits reader
+GivesPiece old known part new waits reader = (new ≡ old) × (part ≡ Ok Done) × Keeps known (prepend_known waits reader)
+
+-- the count of faults rose where a read failed, and else it stayed
+abbrev pub CountsReads : {T : Type 0} → Result T WireFault → ℕ → ℕ → Type 0
+CountsReads (Err fault.Read) old new = Rose old new
+CountsReads result old new = new ≡ old
+
+-- Of a message whose head announces a body of size bytes these were given, n are to come, and rest is
+-- what is left of the stream.
+pub record Halfway (stream : List ℕ) (head : RequestHead) (has_length : Bool) (size : ℕ) (given : List ℕ) (n : ℕ) (rest : List ℕ) : Type 0 where
+  pub has_head : HasHead stream head has_length size (given ++ rest)
+  pub small : size ≤ most_body
+  pub count : length given + n ≡ size

@@ -1,0 +1,210 @@
+//! Bytes that were read ahead.
+ghost use Rattle.std.specs.Prelude.{◌≡◌, ◌≢◌, ◌↔◌, ◌≤◌, ◌<◌, ◌-◌, ◌+◌, ℕ, List, [], ◌++◌, true, false, length, take, drop, vec_len, IfOk, IfErr, IsTrue, OnErr, OnOk};
+ghost use Rattle.std.specs.Io.KnownBytes.{Consumes, IsAtEnd, Keeps, prepend_known};
+ghost use Rattle.sigtext.specs.Limits.{most_head};
+ghost use Rattle.sigtext.specs.Counts.{CountsErrors, Rose};
+
+use crate::counted::Counted;
+use crate::fault::WireFault;
+use crate::head::head_end_behind;
+use std::alloc::{AllocError, Global};
+use std::io::Read;
+
+/// How many bytes may wait: those of a head and of a piece.
+pub const ROOM: usize = 73_728;
+
+/// The most bytes that a head may have.
+pub const MOST_HEAD: usize = 8192;
+
+/// What the bytes that wait say of the front of the stream.
+#[derive(Clone, Copy, Debug, PartialEq, Eq)]
+pub enum Front {
+    /// So many of them are up to and with the first CR LF CR LF.
+    Whole(usize),
+    /// No head ends in the first 8192 of them.
+    TooLong,
+    /// The stream ended, and no byte waits.
+    End,
+    /// The stream ended, and those that wait are less than a head.
+    Truncated,
+    /// A read failed, and those that wait are less than a head.
+    Fault,
+}
+
+/// A buffer, and which of its bytes were read and not taken yet.
+#[derive(Drop)]
+pub struct Backlog {
+    bytes: Vec<u8>,
+    start: usize,
+    end: usize,
+    ghost ordered: { start ≤ end },
+    ghost within: { end ≤ vec_len bytes },
+}
+
+impl Backlog {
+    ghost use Rattle.wire.specs.Waiting.{Adds, Shows, taken, waiting};
+
+    /// Nothing waits, and there is no room.
+    pub fn new(alloc: Global) -> Backlog
+        ensures { waiting result ≡ [] }
+    {
+        Backlog {
+            bytes: Vec::new(alloc),
+            start: 0,
+            end: 0,
+        }
+    }
+
+    /// Nothing waits, and there is room.
+    pub fn with_room(alloc: Global) -> Result<Backlog, AllocError>
+        ensures waiting { IfOk result (λ b. waiting b ≡ []) }
+        ensures room { IfOk result (λ b. vec_len b.bytes ≡ ROOM) }
+    {
+        Ok(Backlog {
+            bytes: vec![in alloc; 0; ROOM]?,
+            start: 0,
+            end: 0,
+        })
+    }
+
+    /// The bytes that wait.
+    pub fn waiting(&self) -> &[u8]
+        ensures { result.now ≡ waiting self.now }
+    {
+        &self.bytes[self.start..self.end]
+    }
+
+    // The first 8192 of them, or all.
+    fn window(&self) -> &[u8]
+        ensures { result.now ≡ take most_head (waiting self.now) }
+    {
+        let waiting = self.waiting();
+        &waiting[..waiting.len().min(MOST_HEAD)]
+    }
+
+    // Whether a head would have ended in them.
+    fn is_long(&self) -> bool
+        ensures { IsTrue result ↔ (most_head ≤ length (waiting self.now)) }
+    {
+        self.waiting().len() >= MOST_HEAD
+    }
+
+    /// Takes the first n bytes.
+    pub fn take(&mut self, n: usize)
+        requires { n ≤ length (waiting self.old) }
+        ensures taken { taken self.new n ≡ take n (waiting self.old) }
+        ensures within { n ≤ self.new.start }
+        ensures rest { waiting self.new ≡ drop n (waiting self.old) }
+        ensures room { vec_len self.new.bytes ≡ vec_len self.old.bytes }
+    {
+        let end = self.end;
+        prove!(self.start <= end);
+        self.start += n;
+    }
+
+    /// The n bytes that were taken last.
+    pub fn taken(&self, n: usize) -> &[u8]
+        requires { n ≤ self.now.start }
+        ensures { result.now ≡ taken self.now n }
+    {
+        &self.bytes[self.start - n..self.start]
+    }
+
+    /// Reads once, behind the bytes that wait. Says whether bytes came.
+    pub fn read_more<R: Read>(&mut self, reader: &mut Counted<R>) -> Result<bool, WireFault>
+        requires { length (waiting self.old) < vec_len self.old.bytes }
+        ensures came { IfOk result (λ more. Adds more (waiting self.old) (waiting self.new) (R.remaining reader.old.inner) (R.remaining reader.new.inner)) }
+        ensures fault { IfErr result (λ f. (f ≡ WireFault.Read) × (waiting self.new ≡ waiting self.old) × Keeps (R.remaining reader.old.inner) (R.remaining reader.new.inner)) }
+        ensures count { CountsErrors reader.old.faults reader.new.faults result }
+        ensures room { vec_len self.new.bytes ≡ vec_len self.old.bytes }
+    {
+        self.move_to_front();
+        self.read_behind(reader)
+    }
+
+    // Moves the bytes that wait to the front of the buffer.
+    fn move_to_front(&mut self)
+        ensures start { self.new.start ≡ 0 }
+        ensures kept { waiting self.new ≡ waiting self.old }
+        ensures room { vec_len self.new.bytes ≡ vec_len self.old.bytes }
+    {
+        if self.start == 0 {
+            return;
+        }
+        self.bytes.copy_within(self.start..self.end, 0);
+        self.end -= self.start;
+        self.start = 0;
+    }
+
+    // Reads once, behind the bytes that wait at the front.
+    fn read_behind<R: Read>(&mut self, reader: &mut Counted<R>) -> Result<bool, WireFault>
+        requires front { self.old.start ≡ 0 }
+        requires room { length (waiting self.old) < vec_len self.old.bytes }
+        ensures came { IfOk result (λ more. Adds more (waiting self.old) (waiting self.new) (R.remaining reader.old.inner) (R.remaining reader.new.inner)) }
+        ensures fault { IfErr result (λ f. (f ≡ WireFault.Read) × (waiting self.new ≡ waiting self.old) × Keeps (R.remaining reader.old.inner) (R.remaining reader.new.inner)) }
+        ensures count { CountsErrors reader.old.faults reader.new.faults result }
+        ensures room { vec_len self.new.bytes ≡ vec_len self.old.bytes }
+    {
+        match read_at(&mut self.bytes, self.end, reader) {
+            Ok(n) => {
+                self.end += n;
+                Ok(n > 0)
+            }
+            Err(fault) => Err(fault),
+        }
+    }
+
+    /// Reads until the bytes that wait show where the first head ends, or that there is none.
+    pub fn read_head<R: Read>(&mut self, reader: &mut Counted<R>) -> Front
+        requires { vec_len self.old.bytes ≡ ROOM }
+        ensures shows { Shows result (waiting self.new) (R.remaining reader.new.inner) }
+        ensures kept { Keeps (prepend_known (waiting self.old) (R.remaining reader.old.inner)) (prepend_known (waiting self.new) (R.remaining reader.new.inner)) }
+        ensures fault { result ≡ Front.Fault → Rose reader.old.faults reader.new.faults }
+        ensures clean { result ≢ Front.Fault → reader.new.faults ≡ reader.old.faults }
+        ensures room { vec_len self.new.bytes ≡ ROOM }
+    {
+        let mut searched = 0;
+        'reads: loop {
+            match head_end_behind(self.window(), searched) {
+                Some(n) => return Front::Whole(n),
+                None => {}
+            }
+            searched = self.waiting().len();
+            if self.is_long() {
+                return Front::TooLong;
+            }
+            match self.read_more(reader) {
+                Ok(true) => {}
+                Ok(false) => {
+                    return if searched == 0 {
+                        Front::End
+                    } else {
+                        Front::Truncated
+                    };
+                }
+                Err(_) => return Front::Fault,
+            }
+        }
+    }
+}
+
+// Reads once into the buffer from here on.
+fn read_at<R: Read>(
+    bytes: &mut [u8],
+    at: usize,
+    reader: &mut Counted<R>,
+) -> Result<usize, WireFault>
+    requires { at ≤ length bytes.old }
+    ensures within { IfOk result (λ n. at + n ≤ length bytes.new) }
+    ensures came { IfOk result (λ n. (came : List ℕ) × (length came ≡ n) × (take (at + n) bytes.new ≡ take at bytes.old ++ came)
+        × Consumes (R.remaining reader.old.inner) (R.remaining reader.new.inner) came) }
+    ensures end { IfOk result (λ n. n ≡ 0 → at < length bytes.old → IsAtEnd (R.remaining reader.new.inner)) }
+    ensures fault { IfErr result (λ f. (f ≡ WireFault.Read) × Keeps (R.remaining reader.old.inner) (R.remaining reader.new.inner)) }
+    ensures kept { OnErr result (take at bytes.new ≡ take at bytes.old) }
+    ensures count { CountsErrors reader.old.faults reader.new.faults result }
+{
+    match reader.read(&mut bytes[at..]) {
+        Ok(n) => Ok(n),
+        Err(_) => Err(WireFault::Read),
+    }
+}

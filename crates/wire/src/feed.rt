@@ -1,0 +1,230 @@
+//! The messages of a stream, their bodies in pieces.
+ghost use Rattle.std.specs.Prelude.{◌≡◌, ◌≢◌, ◌≤◌, ◌<◌, ◌-◌, ℕ, Bool, List, [], ◌++◌, length, take, drop, vec_len, IfErr, IfOk};
+ghost use Rattle.std.specs.Borrow.{sem};
+ghost use Rattle.std.specs.Io.BufRead.{Rests};
+ghost use Rattle.httparse.specs.Grammar.{RequestHead};
+ghost use Rattle.sigtext.specs.Limits.{most_body};
+ghost use Rattle.wire.specs.Framing.{IsFront, Next, Message, Refused, request_of};
+ghost use Rattle.wire.specs.Judging.{Tells};
+ghost use Rattle.wire.specs.Feeding.{CountsReads, GivesPiece, GivesStep, Halfway, part, told};
+ghost use Rattle.wire.specs.Waiting.{taken, waiting};
+ghost use Rattle.wire.specs.Cutting.{found_in, piece_size, size_of, taken_from};
+ghost use Rattle.wire.specs.declared.feed.Place.TheVariants as stands;
+ghost use mir.Syntax.{named};
+
+use crate::backlog::Backlog;
+use crate::counted::Counted;
+use crate::cutting::{Found, cut_piece, find};
+use crate::fault::WireFault;
+use sigtext::Refusal;
+use std::alloc::Global;
+use std::io::Read;
+
+/// The head of a message. Its text is lent from the feed's buffer until the feed's next call: what is
+/// needed longer is copied out, and `read_head` reads its parts.
+#[derive(Clone, Copy, Debug)]
+pub struct Opening<'a> {
+    /// The whole head, through CR LF CR LF: at most 8192 bytes.
+    pub text: &'a [u8],
+    /// Whether a Content-Length was given.
+    pub has_length: bool,
+    /// How many bytes the body has.
+    pub length: usize,
+}
+
+/// What comes next.
+#[derive(Clone, Copy, Debug)]
+pub enum Step<'a> {
+    /// A head. Its body follows in pieces.
+    Head(Opening<'a>),
+    /// The stream breaks a rule of framing, 1 to 5.
+    Refused(Refusal),
+    /// The stream ended, or the feed has ended.
+    End,
+    /// The stream ended in a head.
+    Truncated,
+}
+
+/// A piece of a body.
+#[derive(Clone, Copy, Debug)]
+pub enum Piece<'a> {
+    /// The next 1 to 65536 bytes.
+    Bytes(&'a [u8]),
+    /// The body is whole, or none is open.
+    Done,
+    /// The stream ended in the body: refusal 6.
+    Refused(Refusal),
+}
+
+// What was taken of a body: so many bytes; its end; nothing, since the stream has ended.
+#[derive(Clone, Copy, Debug)]
+enum Taken {
+    Bytes(usize),
+    Done,
+    Lacking,
+}
+
+/// Where a feed stands.
+#[derive(Clone, Copy, Debug, PartialEq, Eq)]
+pub enum Place {
+    /// Before the first `next`. There is no buffer yet.
+    Fresh,
+    /// Where a message may begin.
+    Between,
+    /// In a body, of which so many bytes are to come.
+    Body(usize),
+    /// At its end.
+    Over,
+}
+
+/// Cuts the bytes of a reader into messages.
+#[derive(Drop)]
+pub struct Feed<'r, R> {
+    reader: &'r mut Counted<R>,
+    alloc: Global,
+    backlog: Backlog,
+    place: Place,
+    ghost fresh: { place ≡ stands.Fresh → waiting backlog ≡ [] },
+    ghost reserved: { place ≢ stands.Fresh → place ≢ stands.Over → vec_len backlog.bytes ≡ 73728 },
+}
+
+impl<'r, R: Read> Feed<'r, R> {
+    ghost use Rattle.wire.specs.contracts.feed.Feed.{the_row};
+    ghost use Rattle.wire.specs.Feeds.{SameReader, left, place_of, reader_of, waits_in};
+
+    /// Reads nothing and takes no memory.
+    pub fn new(alloc: Global, reader: &'r mut Counted<R>) -> Feed<'r, R>
+        ensures same { result.reader.ghost_name ≡ reader.entry.ghost_name }
+        ensures reader { reader_of result ≡ reader.old }
+        ensures place { place_of result ≡ Place.Fresh }
+        ensures waiting { waits_in result ≡ [] }
+    {
+        Feed {
+            reader,
+            alloc,
+            backlog: Backlog::new(alloc),
+            place: Place::Fresh,
+        }
+    }
+
+    /// Gives the reader back. Call it at the end: a feed that is only dropped tells nothing of its reader.
+    pub fn into_reader(self) -> &'r mut Counted<R>
+        ensures same { result.ghost_name ≡ self.entry.reader.ghost_name }
+        ensures now { result.now ≡ reader_of self.entry }
+    {
+        self.reader
+    }
+
+    /// The next head, or what stands in its place. Where a body is open, and where the feed has ended, it
+    /// is the end. After anything but a head the feed has ended.
+    pub fn next(&mut self) -> Result<Step<'_>, WireFault>
+        ensures* after { sem 𝓛 (Rests (the_row (record { mir = named 1; lft = [] }) R.row) self.entry (λ new.
+            SameReader self.old new
+            × GivesStep (place_of self.old) (left R.remaining self.old) (told result) (place_of new) (waits_in new) (R.remaining (reader_of new).inner)
+            × CountsReads result (reader_of self.old).faults (reader_of new).faults)) }
+    {
+        match self.advance()? {
+            Found::Head {
+                size,
+                has_length,
+                length,
+            } => Ok(Step::Head(Opening {
+                text: self.backlog.taken(size),
+                has_length,
+                length,
+            })),
+            Found::Refused(refusal) => Ok(Step::Refused(refusal)),
+            Found::End => Ok(Step::End),
+            Found::Truncated => Ok(Step::Truncated),
+        }
+    }
+
+    /// The next piece of the body that is open. Where none is, it is done.
+    pub fn piece(&mut self) -> Result<Piece<'_>, WireFault>
+        ensures* after { sem 𝓛 (Rests (the_row (record { mir = named 1; lft = [] }) R.row) self.entry (λ new.
+            SameReader self.old new
+            × GivesPiece (place_of self.old) (left R.remaining self.old) (part result) (place_of new) (waits_in new) (R.remaining (reader_of new).inner)
+            × CountsReads result (reader_of self.old).faults (reader_of new).faults)) }
+    {
+        match self.go_on()? {
+            Taken::Bytes(size) => Ok(Piece::Bytes(self.backlog.taken(size))),
+            Taken::Done => Ok(Piece::Done),
+            Taken::Lacking => Ok(Piece::Refused(Refusal::BodyIncomplete)),
+        }
+    }
+
+    // Takes the next head, and says how long it is.
+    fn advance(&mut self) -> Result<Found, WireFault>
+        ensures same { SameReader self.old self.new }
+        ensures step { GivesStep (place_of self.old) (left R.remaining self.old) (found_in self.new.backlog result) (place_of self.new) (waits_in self.new) (R.remaining (reader_of self.new).inner) }
+        ensures size { size_of result ≤ self.new.backlog.start }
+        ensures count { CountsReads result (reader_of self.old).faults (reader_of self.new).faults }
+    {
+        match self.place {
+            Place::Fresh => match Backlog::with_room(self.alloc) {
+                Ok(backlog) => self.backlog = backlog,
+                Err(_) => {
+                    self.place = Place::Over;
+                    return Err(WireFault::Memory);
+                }
+            },
+            Place::Between => {}
+            Place::Body(_) | Place::Over => {
+                self.place = Place::Over;
+                return Ok(Found::End);
+            }
+        }
+        let found = find(&mut self.backlog, self.reader);
+        self.place = match found {
+            Ok(Found::Head { length, .. }) => Place::Body(length),
+            _ => Place::Over,
+        };
+        found
+    }
+
+    // Takes the next piece, and says how long it is.
+    fn go_on(&mut self) -> Result<Taken, WireFault>
+        ensures same { SameReader self.old self.new }
+        ensures piece { GivesPiece (place_of self.old) (left R.remaining self.old) (taken_from self.new.backlog result) (place_of self.new) (waits_in self.new) (R.remaining (reader_of self.new).inner) }
+        ensures size { piece_size result ≤ self.new.backlog.start }
+        ensures count { CountsReads result (reader_of self.old).faults (reader_of self.new).faults }
+    {
+        let Place::Body(to_come) = self.place else {
+            return Ok(Taken::Done);
+        };
+        if to_come == 0 {
+            self.place = Place::Between;
+            return Ok(Taken::Done);
+        }
+        match cut_piece(&mut self.backlog, self.reader, to_come) {
+            Ok(0) => {
+                self.place = Place::Over;
+                Ok(Taken::Lacking)
+            }
+            Ok(size) => {
+                self.place = Place::Body(to_come - size);
+                Ok(Taken::Bytes(size))
+            }
+            Err(fault) => {
+                self.place = Place::Over;
+                Err(fault)
+            }
+        }
+    }
+}
+
+/// The laws of pieces: a head begins a body, pieces that are no longer than what is to come go on, and
+/// what was given is the body of the next message exactly where enough bytes follow; else the next step
+/// is refusal 6.
+pub fn pieces_join()
+    ensures begins { (stream text rest : List ℕ) (head : RequestHead) (has_length : Bool) (n : ℕ) → IsFront stream text rest → Tells text head has_length n → n ≤ most_body
+        → Halfway stream head has_length n [] n rest }
+    ensures goes_on { (stream : List ℕ) (head : RequestHead) (has_length : Bool) (size : ℕ) (given : List ℕ) (n : ℕ) (bytes rest : List ℕ)
+        → Halfway stream head has_length size given n (bytes ++ rest) → length bytes ≤ n → Halfway stream head has_length size (given ++ bytes) (n - length bytes) rest }
+    ensures whole { (stream : List ℕ) (head : RequestHead) (has_length : Bool) (size : ℕ) (given rest : List ℕ)
+        → Halfway stream head has_length size given 0 rest → Next stream (Message (request_of head has_length given)) rest }
+    ensures lacking { (stream : List ℕ) (head : RequestHead) (has_length : Bool) (size : ℕ) (given : List ℕ) (n : ℕ) (rest : List ℕ)
+        → Halfway stream head has_length size given n rest → length rest < n → Next stream (Refused Refusal.BodyIncomplete) [] }
+    ensures enough { (stream : List ℕ) (head : RequestHead) (has_length : Bool) (size : ℕ) (given : List ℕ) (n : ℕ) (rest : List ℕ)
+        → Halfway stream head has_length size given n rest → n ≤ length rest → Next stream (Message (request_of head has_length (given ++ take n rest))) (drop n rest) }
+{}
