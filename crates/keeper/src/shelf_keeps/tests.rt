@@ -1,6 +1,6 @@
 //! One office in memory, change by change.
 use crate::keep::{KeepFault, Keeper};
-use crate::shelf::Shelf;
+use crate::shelf::{Shelf, has_room};
 use boxes::{BoxRow, Change, Command, Mode, NameRule, NewFile, OfficeRow, Role};
 use std::alloc::Global;
 use std::test::Fail;
@@ -89,5 +89,13 @@ fn keeps_each_change(rt: HostRuntime) -> Result<(), Fail> {
     assert_eq!(rt; shelf.receipts(0, 9)?.len(), 2);
     assert_eq!(rt; shelf.next_number()?, 3);
     assert!(rt; shelf.apply(&sets(4_000_000_001, b"")) == Err(KeepFault::Full));
+    Ok(())
+}
+
+#[test]
+fn has_room_for_four_milliards_of_receipts(rt: HostRuntime) -> Result<(), Fail> {
+    assert!(rt; has_room(1));
+    assert!(rt; has_room(4_000_000_000));
+    assert!(rt; !has_room(4_000_000_001));
     Ok(())
 }
