@@ -1,6 +1,6 @@
 -- The edges of sound states, and of the forms of desk commands.
 use Rattle.std.proofs.Common.{◌≡◌, ◌<◌, ◌≤◌, ℕ, Bool, List, [], ◌∷◌, length, codes, replicate, true, lit<, lit≤, arith, refl, subst}
-use Rattle.std.specs.Prelude.{pos, neg_ℤ, ◌≤ℤ◌, IsSomeAnd, IsTrue, IsUtf8, nat_le, ◌&&◌, ◌||◌, ⊤}
+use Rattle.std.specs.Prelude.{pos, neg_ℤ, ◌≤ℤ◌, IsSomeAnd, IsTrue, IsUtf8, ⊤}
 use Rattle.std.specs.List.{list_all}
 use Rattle.std.specs.FinMap.{get}
 use Rattle.sigv4.specs.Credential.{IsKeyId, IsSecret}
@@ -9,7 +9,7 @@ use Rattle.boxes.specs.declared.rows.Mode.TheVariants.{Keep}
 use Rattle.boxes.specs.State.{AnyName, Ends, Begins, Settings, Place, Receipt, State}
 use Rattle.boxes.specs.Opening.{Fits}
 use Rattle.boxes.specs.Rules.{IsName}
-use Rattle.boxes.specs.Sound.{IsMoment, IsBoxName, IsRuleText, IsNameRule, AreSettings, IsReceipt, IsSound}
+use Rattle.boxes.specs.Sound.{is_rule_byte, IsMoment, IsBoxName, IsRuleText, IsNameRule, AreSettings, IsReceipt, IsSound}
 use Rattle.boxes.specs.FirstState.{first_state}
 use Rattle.boxes.specs.Steps.{AddKey, RevokeKey, AddBox, CloseBox, DropFile}
 use Rattle.boxes.specs.Commands.{HasForm}
@@ -47,10 +47,6 @@ pub not_empty : IsBoxName [] → ⊥
 not_empty is = let some : 0 < length {A = ℕ} [] = is.some in omega arith
 
 -- ---- rules on names
-
--- a byte of a rule's text
-abbrev is_rule_byte : ℕ → Bool
-is_rule_byte b = nat_le 0x21 b && (nat_le b 0x2B || nat_le 0x2D b) && (nat_le b 0x7E || nat_le 0x80 b)
 
 pub text_of_32 : (text : List ℕ) → length text ≡ 32 → IsTrue (list_all is_rule_byte text) → IsUtf8 text → IsNameRule (Ends (text ∷ []))
 text_of_32 text long each utf8 = (lit≤ tt, lit≤ tt, (record { word = record { some = omega arith; short = omega arith; each = each }; utf8 = utf8 }, tt))
