@@ -1,15 +1,13 @@
 -- Which rules of an upload or a fetch are met, and the least that fails.
 use Rattle.std.proofs.Common.{◌≡◌, ◌∙◌, ℕ, ◌+◌, ◌-◌, ◌<◌, ◌≤◌, true, false, length, Option, Some, None, refl, sym, ap, subst, arith, inl, inr}
-use Rattle.std.specs.Prelude.{is_some, IsSome, IsNone, IfSome, IsSomeAnd, option_map, unwrap_or, slice_get}
+use Rattle.std.specs.Prelude.{IsSome, IsNone, IfSome, IsSomeAnd, option_map, unwrap_or, slice_get}
 use Rattle.std.specs.FinMap.{get}
 use Rattle.sigtext.specs.declared.refusal.Refusal.{Refusal}
 use Rattle.sigtext.specs.declared.refusal.Refusal.TheVariants as rule
 use Rattle.sigtext.specs.Refusals.{number_of}
-use Rattle.boxes.specs.declared.rows.Mode.TheVariants.{Keep}
 use Rattle.boxes.specs.declared.rows.ReceiptRow.{ReceiptRow}
 use Rattle.boxes.specs.State.{Place, File, Receipt, Settings, State}
-use Rattle.boxes.specs.Totals.{used, count}
-use Rattle.boxes.specs.Opening.{IsOpen}
+use Rattle.boxes.specs.Totals.{used}
 use Rattle.boxes.specs.Rows.{receipt_in}
 use Rattle.boxes.specs.Rules.{Upload, PlaceRule, NewBytesRule, UploadRule, FetchRule, Stands, standing_bytes}
 use Rattle.boxes.specs.Steps.{HasReceipt, UploadStep, Kept, again}

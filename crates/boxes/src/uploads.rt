@@ -57,12 +57,17 @@ fn standing_size(view: &UploadView) -> Option<u64>
 
 // What bytes that do not stand already must hold in a box, whatever its quota: the rules 30 to 32, and else the least
 // that fails. `stood` is the length of the file that stands.
-fn check_place(view: &UploadView, row: &BoxRow, now: Moment, stood: Option<u64>) -> Result<(), Refusal>
+fn check_place(
+    view: &UploadView,
+    row: &BoxRow,
+    now: Moment,
+    stood: Option<u64>,
+) -> Result<(), Refusal>
     ensures { (s : State) (u : Upload) → IsUploadViewOf s u.place view.now → u.now ≡ now
         → stood ≡ option_map (λ f. length f.bytes) (get s.files u.place)
         → MatchResult result
         (λ done. NewBytesRule Refusal.BoxClosed s (settings_of row.now) u × NewBytesRule Refusal.OtherBytesKept s (settings_of row.now) u
-            × NewBytesRule Refusal.TooManyFiles s (settings_of row.now) u)
+        × NewBytesRule Refusal.TooManyFiles s (settings_of row.now) u)
         (λ q. IsLeastToFail (λ r. NewBytesRule r s (settings_of row.now) u) q) }
 {
     if !open_at(row, view.office.east, now) {
