@@ -1,18 +1,17 @@
 -- What each desk command leaves of a small office, and which office is full.
-use Rattle.std.proofs.Common.{◌≡◌, ◌∙◌, ℕ, ◌≤◌, [], ◌∷◌, codes, length, Some, None, false, true, arith, sym, ap}
+use Rattle.std.proofs.Common.{◌≡◌, ◌∙◌, ◌≤◌, [], ◌∷◌, codes, length, Some, None, false, true, arith, sym, ap}
 use Rattle.std.specs.FinMap.{FinMap, insert, get, get-remove, entries}
 use Rattle.boxes.specs.declared.rows.Role.TheVariants.{Clerk, Link}
-use Rattle.boxes.specs.declared.rows.Mode.TheVariants.{Keep}
 use Rattle.boxes.specs.declared.change.Command as row
 use Rattle.boxes.specs.declared.change.NewFile.{NewFile}
 use Rattle.boxes.specs.declared.change.Change.TheVariants as change
 use Rattle.sigtext.specs.Bytes.{bytes_cmp}
-use Rattle.boxes.specs.State.{AnyName, Key, Settings, place_cmp, File, Receipt, State}
+use Rattle.boxes.specs.State.{Key, Settings, place_cmp, File, Receipt, State}
 use Rattle.boxes.specs.Steps.{CommandStep, AddKey, RevokeKey, AddBox, CloseBox, DropFile}
 use Rattle.boxes.specs.Changes.{most_receipts, IsPastFull}
 use Rattle.boxes.proofs.Lookups.{bytes_total, place_total, entries_put, get_of, get_same}
 use Rattle.boxes.proofs.CommandSteps.{key_added_is, key_revoked_is, box_added_is, box_closed_is, file_dropped_is}
-use Rattle.boxes.proofs.StepEdges.{place, first, file, files, file_entries, settings, boxes, box_entries, with_keys, office, key, ann, ann_and, ann_entries, both_entries}
+use Rattle.boxes.proofs.StepEdges.{place, first, file, files, file_entries, closing, settings, boxes, box_entries, with_keys, office, key, ann, ann_and, ann_entries, both_entries}
 
 some_is : {X : Type 0} (x y : X) → Some x ≡ Some y → x ≡ y
 some_is x y e = cc
@@ -49,20 +48,6 @@ key_is_revoked after step =
     )
 
 -- ---- boxes
-
--- a box from 100 to 200, as in the office, that closes for good at this second
-abbrev closing : ℕ → Settings
-closing second = record {
-  opens = 100;
-  closes = second;
-  days = true ∷ true ∷ true ∷ true ∷ true ∷ true ∷ true ∷ [];
-  from_minute = 0;
-  to_minute = 1440;
-  quota = 10;
-  max_files = 2;
-  mode = Keep;
-  rule = AnyName;
-}
 
 -- a box comes beside the other
 pub box_comes : (after : State) → CommandStep office (AddBox (codes "out") (closing 300)) after

@@ -30,10 +30,11 @@ files = insert empty (place (codes "a")) file
 pub file_entries : entries files ≡ (place (codes "a"), file) ∷ []
 file_entries = entries_put place_cmp empty (place (codes "a")) file [] place_total (no_entries place_cmp)
 
-abbrev pub settings : Settings
-settings = record {
+-- open from 100 on, all day and every day, up to this second
+abbrev pub closing : ℕ → Settings
+closing second = record {
   opens = 100;
-  closes = 200;
+  closes = second;
   days = true ∷ true ∷ true ∷ true ∷ true ∷ true ∷ true ∷ [];
   from_minute = 0;
   to_minute = 1440;
@@ -42,6 +43,9 @@ settings = record {
   mode = Keep;
   rule = AnyName;
 }
+
+abbrev pub settings : Settings
+settings = closing 200
 
 abbrev pub boxes : FinMap bytes_cmp Settings
 boxes = insert empty (codes "in") settings
