@@ -1,10 +1,10 @@
 """Runs the proved programs with each allocation refused in turn.
 
-The objects that `rt ci` leaves of crates/drop and crates/rows are linked again, with ci/heap.c in the place of the
-heap of the kit's C library. Then each number from 1 on is refused, up to the first at which there is no allocation
-left to refuse. The program must give its whole right answer, or say that memory was refused, in the way that is owed
+The objects that `rt ci` leaves of crates/drop, crates/rows and the tests of crates/keeper are linked again, with
+ci/heap.c in the place of the heap of the kit's C library. Then each number from 1 on is refused, up to the first at
+which there is no allocation left to refuse. The program must give its whole right answer, or say that memory was refused, in the way that is owed
 there; and never anything else. One number is tried by `rt try --fail-alloc` too. The last line is
-`N passed, M failed`: each words of `drop` are a test, and each row is one.
+`N passed, M failed`: each words of `drop` are a test, each row is one, and so is the keeper's.
 """
 
 import itertools
@@ -25,13 +25,13 @@ OUT_OF_MEMORY = fault("out of memory")
 UNREAD = kit.Run(1, b"", b"Error: Kind(OutOfMemory)\n")
 
 
-def linked(crate, folder):
-    """The crate's proved program over the heap that refuses."""
+def linked(crate, folder, tests=""):
+    """The crate's proved program, or that of its tests, over the heap that refuses."""
     chain = kit.toolchain()
-    heap, program = folder / "heap.o", folder / crate
+    heap, program = folder / "heap.o", folder / (crate + tests)
     clang = [chain / "toolchain/bin/clang", "-O1", "-fPIC", "-Wall", "-Wextra", "-Werror", "-c", "ci/heap.c"]
     link = [chain / "bin/rattle-link", "--target", "x86_64-unknown-linux-gnu", "--toolchain", chain / "toolchain"]
-    link += ["-o", program, kit.built(crate, ".o"), chain / "c/libos_c.a", heap]
+    link += ["-o", program, kit.built(crate, f"{tests}.o"), chain / "c/libos_c.a", heap]
     for words in [[*clang, "-o", heap], link]:
         subprocess.run(words, cwd=kit.ROOT, check=True, stdout=subprocess.DEVNULL)
     return program
@@ -139,12 +139,26 @@ def test_rows(program, count):
     print(f"rows: {len(pairs)} with {refused} allocations refused in all")
 
 
+def test_keeper(program, count):
+    """Each call of the keeper in memory, by the test that makes a call once more to which memory was refused."""
+    name = "shelf_keeps::tests::keeps_each_change"
+    right, again = (kit.Run(0, f"{number} refused\n\ntest result: ok\n".encode(), b"") for number in (0, 1))
+    try:
+        came = each_refusal([program, name], b"", right, [again])
+    except Wrong as wrong:
+        count.add(name, str(wrong))
+        return
+    count.add(name, None)
+    print(f"keeper: {len(came[again])} times a call was refused, and the next one was right")
+
+
 def main():
     count = kit.Count()
     with tempfile.TemporaryDirectory(prefix="drop-memory-") as room:
         folder = pathlib.Path(room)
         numbers = test_drop(linked("drop", folder), count)
         test_rows(linked("rows", folder), count)
+        test_keeper(linked("keeper", folder, "_tests"), count)
         test_sample(numbers, count)
     count.end()
 

@@ -1,15 +1,13 @@
 -- Which rules of an upload or a fetch are met, and the least that fails.
 use Rattle.std.proofs.Common.{◌≡◌, ◌∙◌, ℕ, ◌+◌, ◌-◌, ◌<◌, ◌≤◌, true, false, length, Option, Some, None, refl, sym, ap, subst, arith, inl, inr}
-use Rattle.std.specs.Prelude.{is_some, IsSome, IsNone, IfSome, IsSomeAnd, option_map, unwrap_or, slice_get}
+use Rattle.std.specs.Prelude.{IsSome, IsNone, IfSome, IsSomeAnd, option_map, unwrap_or, slice_get}
 use Rattle.std.specs.FinMap.{get}
 use Rattle.sigtext.specs.declared.refusal.Refusal.{Refusal}
 use Rattle.sigtext.specs.declared.refusal.Refusal.TheVariants as rule
 use Rattle.sigtext.specs.Refusals.{number_of}
-use Rattle.boxes.specs.declared.rows.Mode.TheVariants.{Keep}
 use Rattle.boxes.specs.declared.rows.ReceiptRow.{ReceiptRow}
 use Rattle.boxes.specs.State.{Place, File, Receipt, Settings, State}
-use Rattle.boxes.specs.Totals.{used, count}
-use Rattle.boxes.specs.Opening.{IsOpen}
+use Rattle.boxes.specs.Totals.{used}
 use Rattle.boxes.specs.Rows.{receipt_in}
 use Rattle.boxes.specs.Rules.{Upload, PlaceRule, NewBytesRule, UploadRule, FetchRule, Stands, standing_bytes}
 use Rattle.boxes.specs.Steps.{HasReceipt, UploadStep, Kept, again}
@@ -94,24 +92,9 @@ all_rules s b u closed kept many quota _ = tt
 
 -- with the length of the file that stands
 module _ (s : State) (b : Settings) (u : Upload) (stood : Option ℕ) (stands : stood ≡ option_map (λ f. length f.bytes) (get s.files u.place)) where
-  mapped : {X Y : Type 0} (f : X → Y) (o : Option X) → is_some (option_map f o) ≡ is_some o
-  mapped f None = refl
-  mapped f (Some x) = refl
-
-  alike : is_some stood ≡ is_some (get s.files u.place)
-  alike = ap is_some stands ∙ mapped (λ (f : File). length f.bytes) (get s.files u.place)
-
-  abbrev Keeps : Type 0
-  Keeps = b.mode ≡ Keep → is_some stood ≡ false
-
-  keeps : Keeps → NewBytesRule rule.OtherBytesKept s b u
-  keeps kept keep = sym alike ∙ kept keep
-
-  abbrev Fewer : Type 0
-  Fewer = is_some stood ≡ false → count s u.place.box < b.max_files
-
-  fewer : Fewer → NewBytesRule rule.TooManyFiles s b u
-  fewer room none = room (alike ∙ none)
+  -- the rules 30 to 32
+  abbrev Placed : Type 0
+  Placed = NewBytesRule rule.BoxClosed s b u × NewBytesRule rule.OtherBytesKept s b u × NewBytesRule rule.TooManyFiles s b u
 
   abbrev Within : Type 0
   Within = used s u.place.box - unwrap_or stood 0 + length u.bytes ≤ b.quota
@@ -119,15 +102,15 @@ module _ (s : State) (b : Settings) (u : Upload) (stood : Option ℕ) (stands : 
   same_bound : (unwrap_or stood 0) ≡ standing_bytes s u.place
   same_bound = ap (λ (o : Option ℕ). unwrap_or o 0) stands
 
-  pub least_quota : IsOpen b s.offset u.now → Keeps → Fewer → (Within → ⊥) → IsLeastToFail (λ r. NewBytesRule r s b u) rule.QuotaPassed
-  least_quota opened kept room past = record {
-    before = λ r low. rules_below 33 s b u (λ l. opened) (λ l. keeps kept) (λ l. fewer room) (λ l. absurd (omega arith)) r low;
+  pub least_quota : Placed → (Within → ⊥) → IsLeastToFail (λ r. NewBytesRule r s b u) rule.QuotaPassed
+  least_quota (opened, kept, room) past = record {
+    before = λ r low. rules_below 33 s b u (λ l. opened) (λ l. kept) (λ l. room) (λ l. absurd (omega arith)) r low;
     fails = λ h. past (subst (λ (n : ℕ). used s u.place.box - n + length u.bytes ≤ b.quota) (sym same_bound) h);
   }
 
-  pub all_new : IsOpen b s.offset u.now → Keeps → Fewer → Within → (r : Refusal) → NewBytesRule r s b u
-  all_new opened kept room within =
-      all_rules s b u opened (keeps kept) (fewer room) (subst (λ (n : ℕ). used s u.place.box - n + length u.bytes ≤ b.quota) same_bound within)
+  pub all_new : Placed → Within → (r : Refusal) → NewBytesRule r s b u
+  all_new (opened, kept, room) within =
+      all_rules s b u opened kept room (subst (λ (n : ℕ). used s u.place.box - n + length u.bytes ≤ b.quota) same_bound within)
 
 -- ---- an upload
 

@@ -33,128 +33,95 @@ texts_alike a b e = (slice_eq-Decides Decides-eqb a b (pointwise eqb a b) refl).
 pub texts_apart : (a b : List ℕ) → (a ≡ b → ⊥) → same_bytes a b ≡ false
 texts_apart a b n = elim (same_bytes a b) as (λ t. same_bytes a b ≡ t → t ≡ false) [ true ↦ λ e. absurd (n ((slice_eq-Decides Decides-eqb a b (pointwise eqb a b) refl).0 e)) | false ↦ λ e. refl ] refl
 
--- what a file counts for in a box
+-- what a file counts for in a box: its bytes, and itself
+abbrev bytes_in : List ℕ → Place × File → ℕ
+bytes_in box e = cond (same_bytes e.0.box box) (length e.1.bytes) 0
+
 abbrev one_in : List ℕ → Place × File → ℕ
 one_in box e = cond (same_bytes e.0.box box) 1 0
+
+-- the totals are the sums of that
+used_sum : (s : State) (box : List ℕ) → used s box ≡ sum_by (bytes_in box) (entries s.files)
+used_sum s box = sum-filter (λ (e : Place × File). same_bytes e.0.box box) (λ e. length e.1.bytes) (entries s.files)
+
+count_sum : (s : State) (box : List ℕ) → count s box ≡ sum_by (one_in box) (entries s.files)
+count_sum s box = length-filter (λ (e : Place × File). same_bytes e.0.box box) (entries s.files)
 
 module _ (s : State) (place : Place) (f : File) (rs : List Receipt) where
   -- the state with the file set
   abbrev pub with_file : State
   with_file = record s { files = insert s.files place f; receipts = rs }
 
+  used_put : (box : List ℕ) → used with_file box + weight (bytes_in box) place (get s.files place) ≡ used s box + bytes_in box (place, f)
+  used_put box = omega (arith, sum-insert place_cmp place_total place_same (bytes_in box) s.files place f, used_sum with_file box, used_sum s box)
+
+  count_put : (box : List ℕ) → count with_file box + weight (one_in box) place (get s.files place) ≡ count s box + one_in box (place, f)
+  count_put box = omega (arith, sum-insert place_cmp place_total place_same (one_in box) s.files place f, count_sum with_file box, count_sum s box)
+
   pub used_here : used with_file place.box + standing_bytes s place ≡ used s place.box + length f.bytes
   used_here =
-      let p = λ (e : Place × File). same_bytes e.0.box place.box in
-      let g = λ (e : Place × File). length e.1.bytes in
-      let w = λ (e : Place × File). cond (p e) (g e) 0 in
-      let sum = sum-insert place_cmp place_total place_same w s.files place f in
-      let new : used with_file place.box ≡ sum_by w (entries (insert s.files place f)) = sum-filter p g (entries (insert s.files place f)) in
-      let old : used s place.box ≡ sum_by w (entries s.files) = sum-filter p g (entries s.files) in
-      let mine : w (place, f) ≡ length f.bytes = ap (λ b. cond b (length f.bytes) 0) (same_as_itself place.box) in
-      let stood : weight w place (get s.files place) ≡ standing_bytes s place =
+      let mine : bytes_in place.box (place, f) ≡ length f.bytes = ap (λ b. cond b (length f.bytes) 0) (same_as_itself place.box) in
+      let stood : weight (bytes_in place.box) place (get s.files place) ≡ standing_bytes s place =
       ap (λ b. unwrap_or (option_map (λ (x : File). cond b (length x.bytes) 0) (get s.files place)) 0) (same_as_itself place.box) in
-      omega (arith, sum, new, old, mine, stood)
+      omega (arith, used_put place.box, mine, stood)
 
   pub count_here : count with_file place.box + ones (get s.files place) ≡ count s place.box + 1
   count_here =
-      let p = λ (e : Place × File). same_bytes e.0.box place.box in
-      let w = one_in place.box in
-      let sum = sum-insert place_cmp place_total place_same w s.files place f in
-      let new : count with_file place.box ≡ sum_by w (entries (insert s.files place f)) = length-filter p (entries (insert s.files place f)) in
-      let old : count s place.box ≡ sum_by w (entries s.files) = length-filter p (entries s.files) in
-      let mine : w (place, f) ≡ 1 = ap (λ b. cond b 1 0) (same_as_itself place.box) in
-      let stood : weight w place (get s.files place) ≡ ones (get s.files place) =
-      elim (get s.files place) as (λ o. weight w place o ≡ ones o) [ None ↦ refl | Some x ↦ ap (λ b. cond b 1 0) (same_as_itself place.box) ] in
-      omega (arith, sum, new, old, mine, stood)
+      let mine : one_in place.box (place, f) ≡ 1 = ap (λ b. cond b 1 0) (same_as_itself place.box) in
+      let stood : weight (one_in place.box) place (get s.files place) ≡ ones (get s.files place) =
+      elim (get s.files place) as (λ o. weight (one_in place.box) place o ≡ ones o) [ None ↦ refl | Some x ↦ ap (λ b. cond b 1 0) (same_as_itself place.box) ] in
+      omega (arith, count_put place.box, mine, stood)
+
+  -- a file of another box counts for nothing
+  none_stood : (box : List ℕ) (n : File → ℕ) → same_bytes place.box box ≡ false → weight (λ e. cond (same_bytes e.0.box box) (n e.1) 0) place (get s.files place) ≡ 0
+  none_stood box n apart = elim (get s.files place) as (λ o. weight (λ e. cond (same_bytes e.0.box box) (n e.1) 0) place o ≡ 0) [ None ↦ refl | Some x ↦ ap (λ b. cond b (n x) 0) apart ]
 
   pub used_there : (box : List ℕ) → same_bytes place.box box ≡ false → used with_file box ≡ used s box
   used_there box apart =
-      let p = λ (e : Place × File). same_bytes e.0.box box in
-      let g = λ (e : Place × File). length e.1.bytes in
-      let w = λ (e : Place × File). cond (p e) (g e) 0 in
-      let sum = sum-insert place_cmp place_total place_same w s.files place f in
-      let new : used with_file box ≡ sum_by w (entries (insert s.files place f)) = sum-filter p g (entries (insert s.files place f)) in
-      let old : used s box ≡ sum_by w (entries s.files) = sum-filter p g (entries s.files) in
-      let mine : w (place, f) ≡ 0 = ap (λ b. cond b (length f.bytes) 0) apart in
-      let stood : weight w place (get s.files place) ≡ 0 = elim (get s.files place) as (λ o. weight w place o ≡ 0) [ None ↦ refl | Some x ↦ ap (λ b. cond b (length x.bytes) 0) apart ] in
-      omega (arith, sum, new, old, mine, stood)
+      let mine : bytes_in box (place, f) ≡ 0 = ap (λ b. cond b (length f.bytes) 0) apart in
+      omega (arith, used_put box, mine, none_stood box (λ x. length x.bytes) apart)
 
   pub count_there : (box : List ℕ) → same_bytes place.box box ≡ false → count with_file box ≡ count s box
   count_there box apart =
-      let p = λ (e : Place × File). same_bytes e.0.box box in
-      let w = one_in box in
-      let sum = sum-insert place_cmp place_total place_same w s.files place f in
-      let new : count with_file box ≡ sum_by w (entries (insert s.files place f)) = length-filter p (entries (insert s.files place f)) in
-      let old : count s box ≡ sum_by w (entries s.files) = length-filter p (entries s.files) in
-      let mine : w (place, f) ≡ 0 = ap (λ b. cond b 1 0) apart in
-      let stood : weight w place (get s.files place) ≡ 0 = elim (get s.files place) as (λ o. weight w place o ≡ 0) [ None ↦ refl | Some x ↦ ap (λ b. cond b 1 0) apart ] in
-      omega (arith, sum, new, old, mine, stood)
+      let mine : one_in box (place, f) ≡ 0 = ap (λ b. cond b 1 0) apart in
+      omega (arith, count_put box, mine, none_stood box (λ x. 1) apart)
 
 module _ (s : State) (place : Place) (f : File) (there : get s.files place ≡ Some f) where
   -- the state without the file
   abbrev pub without_file : State
   without_file = record s { files = remove s.files place }
 
+  used_left : (box : List ℕ) → used without_file box + bytes_in box (place, f) ≡ used s box
+  used_left box = omega (arith, sum-remove place_cmp place_total place_same (bytes_in box) s.files place f there, used_sum without_file box, used_sum s box)
+
+  count_left : (box : List ℕ) → count without_file box + one_in box (place, f) ≡ count s box
+  count_left box = omega (arith, sum-remove place_cmp place_total place_same (one_in box) s.files place f there, count_sum without_file box, count_sum s box)
+
   pub used_less : (box : List ℕ) → used without_file box ≤ used s box
-  used_less box =
-      let p = λ (e : Place × File). same_bytes e.0.box box in
-      let g = λ (e : Place × File). length e.1.bytes in
-      let w = λ (e : Place × File). cond (p e) (g e) 0 in
-      let sum = sum-remove place_cmp place_total place_same w s.files place f there in
-      let new : used without_file box ≡ sum_by w (entries (remove s.files place)) = sum-filter p g (entries (remove s.files place)) in
-      let old : used s box ≡ sum_by w (entries s.files) = sum-filter p g (entries s.files) in
-      omega (arith, sum, new, old)
+  used_less box = omega (arith, used_left box)
 
   pub count_less : (box : List ℕ) → count without_file box ≤ count s box
-  count_less box =
-      let p = λ (e : Place × File). same_bytes e.0.box box in
-      let w = one_in box in
-      let sum = sum-remove place_cmp place_total place_same w s.files place f there in
-      let new : count without_file box ≡ sum_by w (entries (remove s.files place)) = length-filter p (entries (remove s.files place)) in
-      let old : count s box ≡ sum_by w (entries s.files) = length-filter p (entries s.files) in
-      omega (arith, sum, new, old)
+  count_less box = omega (arith, count_left box)
 
   pub used_gone : used without_file place.box + length f.bytes ≡ used s place.box
   used_gone =
-      let p = λ (e : Place × File). same_bytes e.0.box place.box in
-      let g = λ (e : Place × File). length e.1.bytes in
-      let w = λ (e : Place × File). cond (p e) (g e) 0 in
-      let sum = sum-remove place_cmp place_total place_same w s.files place f there in
-      let new : used without_file place.box ≡ sum_by w (entries (remove s.files place)) = sum-filter p g (entries (remove s.files place)) in
-      let old : used s place.box ≡ sum_by w (entries s.files) = sum-filter p g (entries s.files) in
-      let mine : w (place, f) ≡ length f.bytes = ap (λ b. cond b (length f.bytes) 0) (same_as_itself place.box) in
-      omega (arith, sum, new, old, mine)
+      let mine : bytes_in place.box (place, f) ≡ length f.bytes = ap (λ b. cond b (length f.bytes) 0) (same_as_itself place.box) in
+      omega (arith, used_left place.box, mine)
 
   pub count_gone : count without_file place.box + 1 ≡ count s place.box
   count_gone =
-      let p = λ (e : Place × File). same_bytes e.0.box place.box in
-      let w = one_in place.box in
-      let sum = sum-remove place_cmp place_total place_same w s.files place f there in
-      let new : count without_file place.box ≡ sum_by w (entries (remove s.files place)) = length-filter p (entries (remove s.files place)) in
-      let old : count s place.box ≡ sum_by w (entries s.files) = length-filter p (entries s.files) in
-      let mine : w (place, f) ≡ 1 = ap (λ b. cond b 1 0) (same_as_itself place.box) in
-      omega (arith, sum, new, old, mine)
+      let mine : one_in place.box (place, f) ≡ 1 = ap (λ b. cond b 1 0) (same_as_itself place.box) in
+      omega (arith, count_left place.box, mine)
 
   pub used_still : (box : List ℕ) → same_bytes place.box box ≡ false → used without_file box ≡ used s box
   used_still box apart =
-      let p = λ (e : Place × File). same_bytes e.0.box box in
-      let g = λ (e : Place × File). length e.1.bytes in
-      let w = λ (e : Place × File). cond (p e) (g e) 0 in
-      let sum = sum-remove place_cmp place_total place_same w s.files place f there in
-      let new : used without_file box ≡ sum_by w (entries (remove s.files place)) = sum-filter p g (entries (remove s.files place)) in
-      let old : used s box ≡ sum_by w (entries s.files) = sum-filter p g (entries s.files) in
-      let mine : w (place, f) ≡ 0 = ap (λ b. cond b (length f.bytes) 0) apart in
-      omega (arith, sum, new, old, mine)
+      let mine : bytes_in box (place, f) ≡ 0 = ap (λ b. cond b (length f.bytes) 0) apart in
+      omega (arith, used_left box, mine)
 
   pub count_still : (box : List ℕ) → same_bytes place.box box ≡ false → count without_file box ≡ count s box
   count_still box apart =
-      let p = λ (e : Place × File). same_bytes e.0.box box in
-      let w = one_in box in
-      let sum = sum-remove place_cmp place_total place_same w s.files place f there in
-      let new : count without_file box ≡ sum_by w (entries (remove s.files place)) = length-filter p (entries (remove s.files place)) in
-      let old : count s box ≡ sum_by w (entries s.files) = length-filter p (entries s.files) in
-      let mine : w (place, f) ≡ 0 = ap (λ b. cond b 1 0) apart in
-      omega (arith, sum, new, old, mine)
+      let mine : one_in box (place, f) ≡ 0 = ap (λ b. cond b 1 0) apart in
+      omega (arith, count_left box, mine)
 
 -- what stands at a place is a part of what its box holds
 pub stands_within : (s : State) (place : Place) → standing_bytes s place ≤ used s place.box

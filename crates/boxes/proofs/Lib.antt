@@ -5,6 +5,7 @@ pub mod HourEdges
 pub mod NameEdges
 pub mod UploadEdges
 pub mod StepEdges
+pub mod ChangeEdges
 pub mod CommandSteps
 pub mod SoundEdges
 pub mod EntrySums

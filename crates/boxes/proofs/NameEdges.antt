@@ -1,5 +1,5 @@
 -- The edges of names: which of them a rule takes, and which are names.
-use Rattle.std.proofs.Common.{◌≡◌, ◌<◌, ℕ, zero, suc, List, [], ◌∷◌, ◌++◌, length, drop, get_or, codes, lit<, arith, refl, sym, ap, ◌∙◌, length-append}
+use Rattle.std.proofs.Common.{◌≡◌, ◌<◌, ◌+◌, ℕ, zero, suc, List, [], ◌∷◌, ◌++◌, length, drop, get_or, codes, lit<, arith, refl, sym, ap, ◌∙◌, length-append}
 use Rattle.std.specs.Prelude.{slice_index_or, IsUtf8}
 use Rattle.std.specs.Str.{IsAscii}
 use Rattle.std.proofs.lemmas.List.{drop_at}
@@ -37,23 +37,22 @@ ends_short text name short fits =
     let (front, is) = one_text text name fits in
     omega (arith, ap length is, length-append front text)
 
+-- a name whose last bytes, as many as the text has, are another text; n bytes stand before them
+other_end : (text name : List ℕ) (n : ℕ) → length name ≡ n + length text → (drop n name ≡ text → ⊥) → Fits (Ends (text ∷ [])) name → ⊥
+other_end text name n size other fits =
+    let (front, is) = one_text text name fits in
+    let long : length front ≡ n = omega (arith, size, ap length is, length-append front text) in
+    other (ap (drop n) is ∙ drop_at front text n long)
+
 -- a name that begins with the text
 pub ends_elsewhere : Fits (Ends (codes ".pdf" ∷ [])) (codes ".pdf.exe") → ⊥
-ends_elsewhere fits =
-    let (front, is) = one_text (codes ".pdf") (codes ".pdf.exe") fits in
-    let long : length front ≡ 4 = omega (arith, ap length is, length-append front (codes ".pdf")) in
-    let last : codes ".exe" ≡ codes ".pdf" = ap (drop 4) is ∙ drop_at front (codes ".pdf") 4 long in
-    let second : ◌≡◌ {A = ℕ} 101 112 = ap (λ (t : List ℕ). get_or t 1 0) last in
-    omega arith
+ends_elsewhere = other_end (codes ".pdf") (codes ".pdf.exe") 4 refl (λ last.
+    let second : ◌≡◌ {A = ℕ} 101 112 = ap (λ (t : List ℕ). get_or t 1 0) last in omega arith)
 
 -- letters have their case
 pub ends_in_capitals : Fits (Ends (codes ".pdf" ∷ [])) (codes "a.PDF") → ⊥
-ends_in_capitals fits =
-    let (front, is) = one_text (codes ".pdf") (codes "a.PDF") fits in
-    let long : length front ≡ 1 = omega (arith, ap length is, length-append front (codes ".pdf")) in
-    let last : codes ".PDF" ≡ codes ".pdf" = ap (drop 1) is ∙ drop_at front (codes ".pdf") 1 long in
-    let second : ◌≡◌ {A = ℕ} 80 112 = ap (λ (t : List ℕ). get_or t 1 0) last in
-    omega arith
+ends_in_capitals = other_end (codes ".pdf") (codes "a.PDF") 1 refl (λ last.
+    let second : ◌≡◌ {A = ℕ} 80 112 = ap (λ (t : List ℕ). get_or t 1 0) last in omega arith)
 
 pub no_text_of_none : (name : List ℕ) → Fits (Ends []) name → ⊥
 no_text_of_none name (text, front, (k, within, is), joined) = omega arith

@@ -2,7 +2,7 @@
 use Rattle.std.proofs.Common.{◌≡◌, ◌∙◌, ℕ, zero, suc, ◌<◌, ◌-◌, Bool, true, false, List, [], ◌∷◌, ◌++◌, length, map, take, drop, refl, sym, ap, arith, eqb}
 use Rattle.std.specs.Prelude.{◌||◌, ◌↔◌, Contains, IsTrue, Result, Ok, Err, MatchResult}
 use Rattle.std.specs.List.{list_any, starts_with, ends_with, slice_index_or}
-use Rattle.std.specs.Result.{is_err}
+use Rattle.std.specs.Result.{is_err, is_ok}
 use Rattle.std.proofs.lemmas.Bool.Decides.{Decides-eqb}
 use Rattle.std.proofs.lemmas.Slice.Eq.{starts_is, ends_is}
 
@@ -62,3 +62,8 @@ ends_with_one f r name xs e =
 pub of_ok : {A E : Type 0} (P : Type 0) (Q : A → Type 0) (N : E → Type 0) (r : Result A E) → MatchResult r (λ x. Q x × P) N → is_err r ≡ false → P
 of_ok P Q N (Ok x) h e = h.1
 of_ok P Q N (Err x) h e = absurd cc
+
+-- it is no error exactly where that holds
+pub tells_ok : {A E : Type 0} (P : Type 0) (Q : A → Type 0) (N : E → Type 0) (r : Result A E) → MatchResult r (λ x. Q x × P) N → ((x : E) → N x → P → ⊥) → IsTrue (is_ok r) ↔ P
+tells_ok P Q N (Ok x) h fails = (λ t. h.1, λ p. refl)
+tells_ok P Q N (Err x) h fails = (λ t. absurd cc, λ p. absurd (fails x h p))

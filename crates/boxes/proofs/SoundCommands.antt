@@ -60,7 +60,7 @@ listed_too : (s t : State) → t.receipts ≡ s.receipts → (n : ℕ) (r : Rece
 listed_too s t e n r h = record { place = h.place; counted = h.counted; listed = rw e h.listed }
 
 file_too : (s t : State) → t.receipts ≡ s.receipts → (place : Place) (f : File) → IsFileOf s place f → IsFileOf t place f
-file_too s t e place f h = record { receipt = h.receipt; listed = listed_too s t e f.receipt h.receipt h.listed; box = h.box; name = h.name; size = h.size; digest = h.digest }
+file_too s t e place f h = record { bytes = h.bytes; receipt = h.receipt; listed = listed_too s t e f.receipt h.receipt h.listed; box = h.box; name = h.name; size = h.size; digest = h.digest }
 
 module _ (s : State) (id : List ℕ) (k : Key) (sound : IsSound s) (form : IsKeyId id × IsSecret k.secret) where
   abbrev keyed : State

@@ -1,15 +1,17 @@
 -- The edges of sound states, and of the forms of desk commands.
-use Rattle.std.proofs.Common.{◌≡◌, ◌<◌, ◌≤◌, ℕ, Bool, List, [], ◌∷◌, length, codes, replicate, true, lit<, lit≤, arith, refl, subst}
-use Rattle.std.specs.Prelude.{pos, neg_ℤ, ◌≤ℤ◌, IsSomeAnd, IsTrue, IsUtf8, nat_le, ◌&&◌, ◌||◌, ⊤}
+use Rattle.std.proofs.Common.{◌≡◌, ◌<◌, ◌≤◌, ℕ, zero, suc, Bool, List, [], ◌∷◌, length, codes, replicate, true, lit<, lit≤, arith, refl, subst}
+use Rattle.std.specs.Prelude.{pos, neg_ℤ, ◌≤ℤ◌, IsSomeAnd, IsTrue, IsUtf8, ⊤}
 use Rattle.std.specs.List.{list_all}
 use Rattle.std.specs.FinMap.{get}
+use Rattle.sigtext.specs.Bytes.{AreBytes}
 use Rattle.sigv4.specs.Credential.{IsKeyId, IsSecret}
 use Rattle.boxes.specs.declared.rows.Role.{Role}
 use Rattle.boxes.specs.declared.rows.Mode.TheVariants.{Keep}
 use Rattle.boxes.specs.State.{AnyName, Ends, Begins, Settings, Place, Receipt, State}
 use Rattle.boxes.specs.Opening.{Fits}
 use Rattle.boxes.specs.Rules.{IsName}
-use Rattle.boxes.specs.Sound.{IsMoment, IsBoxName, IsRuleText, IsNameRule, AreSettings, IsReceipt, IsSound}
+use Rattle.boxes.specs.Sound.{is_rule_byte, IsDigest, IsMoment, IsBoxName, IsRuleText, IsNameRule, AreSettings, IsReceipt, IsFileOf, IsSound}
+use Rattle.boxes.specs.Changes.{IsBrought}
 use Rattle.boxes.specs.FirstState.{first_state}
 use Rattle.boxes.specs.Steps.{AddKey, RevokeKey, AddBox, CloseBox, DropFile}
 use Rattle.boxes.specs.Commands.{HasForm}
@@ -47,10 +49,6 @@ pub not_empty : IsBoxName [] → ⊥
 not_empty is = let some : 0 < length {A = ℕ} [] = is.some in omega arith
 
 -- ---- rules on names
-
--- a byte of a rule's text
-abbrev is_rule_byte : ℕ → Bool
-is_rule_byte b = nat_le 0x21 b && (nat_le b 0x2B || nat_le 0x2D b) && (nat_le b 0x7E || nat_le 0x80 b)
 
 pub text_of_32 : (text : List ℕ) → length text ≡ 32 → IsTrue (list_all is_rule_byte text) → IsUtf8 text → IsNameRule (Ends (text ∷ []))
 text_of_32 text long each utf8 = (lit≤ tt, lit≤ tt, (record { word = record { some = omega arith; short = omega arith; each = each }; utf8 = utf8 }, tt))
@@ -134,10 +132,10 @@ no_larger_quota are = let quota : 1000000000001 ≤ 1000000000000 = are.quota in
 pub no_more_files : AreSettings (settings 0 0 week 0 1440 0 1000001) → ⊥
 no_more_files are = let files : 1000001 ≤ 1000000 = are.max_files in omega arith
 
--- ---- receipts: each part at its greatest, and one more
+-- ---- receipts and files: each part at its greatest, and one more
 
 pub greatest_receipt : (s : State) (r : Receipt) → IsSomeAnd (get s.boxes r.box) (λ b. Fits b.rule r.name) → IsName r.name → length r.name ≡ 1024
-    → r.size ≡ 1048576 → length r.digest ≡ 32 → r.moment ≡ 253402300799 → IsSomeAnd (get s.keys r.key) (λ k. ⊤) → IsReceipt s r
+    → r.size ≡ 1048576 → IsDigest r.digest → r.moment ≡ 253402300799 → IsSomeAnd (get s.keys r.key) (λ k. ⊤) → IsReceipt s r
 greatest_receipt s r box name long size digest moment key =
     record { box = box; name = name; short = omega arith; size = omega arith; digest = digest; moment = omega arith; key = key }
 
@@ -149,6 +147,29 @@ no_larger_size s r large is = let size : r.size ≤ 1048576 = is.size in omega a
 
 pub no_later_receipt : (s : State) (r : Receipt) → r.moment ≡ 253402300800 → IsReceipt s r → ⊥
 no_later_receipt s r late is = let moment : r.moment ≤ 253402300799 = is.moment in omega arith
+
+-- a digest has 32 bytes, of which 255 is the greatest
+
+pub greatest_digest : IsDigest (replicate 32 255)
+greatest_digest = (refl, greatest 32)
+  where
+    greatest : (n : ℕ) → AreBytes (replicate n 255)
+    greatest zero = tt
+    greatest (suc n) = (lit< tt, greatest n)
+
+pub no_shorter_digest : IsDigest (replicate 31 255) → ⊥
+no_shorter_digest is = let long : ◌≡◌ {A = ℕ} 31 32 = is.0 in omega arith
+
+pub no_digest_of_numbers : IsDigest (replicate 32 256) → ⊥
+no_digest_of_numbers is = let first : 256 < 256 = is.1.0 in omega arith
+
+-- and so has a file
+
+pub no_file_of_numbers : (s : State) (place : Place) (receipt : ℕ) → IsFileOf s place (record { bytes = 256 ∷ []; receipt = receipt }) → ⊥
+no_file_of_numbers s place receipt is = let first : 256 < 256 = is.bytes.0 in omega arith
+
+pub no_upload_of_numbers : (s : State) (place : Place) (now : ℕ) (key : List ℕ) → IsBrought s (record { place = place; bytes = 256 ∷ []; now = now; key = key }) → ⊥
+no_upload_of_numbers s place now key is = let first : 256 < 256 = is.bytes.0 in omega arith
 
 -- ---- offsets of fourteen hours, and a minute more
 

@@ -1,20 +1,23 @@
--- An upload that no rule refuses keeps soundness.
+-- An upload that is taken keeps soundness.
 use Rattle.std.proofs.Common.{◌≡◌, ◌∙◌, ◌⊎◌, ℕ, zero, suc, ◌+◌, ◌-◌, ◌≤◌, ◌<◌, List, [], ◌∷◌, ◌++◌, true, false, cond, length, Option, Some, None, refl, sym, ap, subst, arith, ⊎_elim, inl, inr, rules}
 use Rattle.std.specs.Prelude.{slice_get, IsSome, IsSomeAnd, IfSome, IsNone, ⊤}
 use Rattle.std.specs.List.{AllByRecursion}
 use Rattle.std.specs.Ordering.{eq_by_cmp}
 use Rattle.std.specs.FinMap.{get, get-insert}
+use Rattle.std.proofs.lemmas.List.Elements.{recursion_from_All}
 use Rattle.sha2.proofs.Facts256.{length-sha256}
 use Rattle.sigtext.specs.Bytes.{same_bytes}
-use Rattle.sigtext.specs.Limits.{most_body}
 use Rattle.sigtext.specs.declared.refusal.Refusal.{Refusal}
 use Rattle.sigtext.specs.declared.refusal.Refusal.TheVariants as rule
+use Rattle.sigv4.specs.Hmac.{sha256}
+use Rattle.sigv4.proofs.Digests.{small_sha256}
 use Rattle.boxes.specs.State.{Place, place_cmp, File, Receipt, Settings, State}
 use Rattle.boxes.specs.Totals.{used, count}
 use Rattle.boxes.specs.Opening.{Fits}
-use Rattle.boxes.specs.Rules.{Upload, UploadRule, NewBytesRule, Stands, standing_bytes}
-use Rattle.boxes.specs.Steps.{StepReply, UploadStep, again, taken, after_upload, receipt_of, HasReceipt}
-use Rattle.boxes.specs.Sound.{IsMoment, IsSound, IsReceipt, IsFileOf}
+use Rattle.boxes.specs.Rules.{Upload, NewBytesRule, standing_bytes}
+use Rattle.boxes.specs.Steps.{after_upload, receipt_of, HasReceipt}
+use Rattle.boxes.specs.Sound.{IsDigest, IsSound, IsReceipt, IsFileOf}
+use Rattle.boxes.specs.Changes.{IsTaken}
 use Rattle.boxes.proofs.Lookups.{place_total, equal_is}
 use Rattle.boxes.proofs.FileTotals.{ones, place_same, used_here, used_there, count_here, count_there, texts_alike}
 
@@ -43,14 +46,10 @@ trivial : {X : Type 0} (o : Option X) → IfSome o (λ x. ⊤)
 trivial None = tt
 trivial (Some x) = tt
 
--- an upload that may be taken
-record MayTake (s : State) (u : Upload) : Type 0 where
-  rules : (r : Refusal) → UploadRule r s u
-  short : length u.bytes ≤ most_body
-  moment : IsMoment u.now
-  key : IsSome (get s.keys u.key)
+digest_of : (bytes : List ℕ) → IsDigest (sha256 bytes)
+digest_of bytes = (length-sha256 bytes, recursion_from_All (λ b. b < 256) (sha256 bytes) (small_sha256 bytes))
 
-module _ (s : State) (u : Upload) (sound : IsSound s) (may : MayTake s u) (new : Stands s u → ⊥) where
+module _ (s : State) (u : Upload) (sound : IsSound s) (may : IsTaken s u) where
   abbrev after : State
   after = after_upload s u
 
@@ -67,20 +66,20 @@ module _ (s : State) (u : Upload) (sound : IsSound s) (may : MayTake s u) (new :
         box = some_and (λ b. Fits b.rule u.place.name) (get s.boxes u.place.box) (may.rules rule.NoSuchBox).0 named.1;
         name = named.0;
         short = (may.rules rule.NameTooLong).0;
-        size = may.short;
-        digest = length-sha256 u.bytes;
-        moment = may.moment;
-        key = some_and (λ k. ⊤) (get s.keys u.key) may.key (trivial (get s.keys u.key));
+        size = may.brought.short;
+        digest = digest_of u.bytes;
+        moment = may.brought.moment;
+        key = some_and (λ k. ⊤) (get s.keys u.key) may.brought.key (trivial (get s.keys u.key));
       }
 
   old_listed : (n : ℕ) (r : Receipt) → HasReceipt s n r → HasReceipt after n r
   old_listed n r h = record { place = h.place; counted = h.counted; listed = get_front s.receipts (receipt_of u) h.place r h.listed }
 
   old_file : (place : Place) (f : File) → IsFileOf s place f → IsFileOf after place f
-  old_file place f h = record { receipt = h.receipt; listed = old_listed f.receipt h.receipt h.listed; box = h.box; name = h.name; size = h.size; digest = h.digest }
+  old_file place f h = record { bytes = h.bytes; receipt = h.receipt; listed = old_listed f.receipt h.receipt h.listed; box = h.box; name = h.name; size = h.size; digest = h.digest }
 
   new_file : IsFileOf after u.place file
-  new_file = record { receipt = receipt_of u; listed = record { place = length s.receipts; counted = refl; listed = get_last s.receipts (receipt_of u) }; box = refl; name = refl; size = refl; digest = refl }
+  new_file = record { bytes = may.brought.bytes; receipt = receipt_of u; listed = record { place = length s.receipts; counted = refl; listed = get_last s.receipts (receipt_of u) }; box = refl; name = refl; size = refl; digest = refl }
 
   all_files : (place : Place) (f : File) → get after.files place ≡ Some f → IsFileOf after place f
   all_files place f e =
@@ -94,7 +93,7 @@ module _ (s : State) (u : Upload) (sound : IsSound s) (may : MayTake s u) (new :
 
   -- a rule of 30 to 33 holds of the box
   new_rule : (r : Refusal) (b : Settings) → get s.boxes u.place.box ≡ Some b → NewBytesRule r s b u
-  new_rule r b e = ⊎_elim (λ stands. absurd (new stands)) (λ rules. if_some (λ x. NewBytesRule r s x u) (get s.boxes u.place.box) b e rules) (may.rules r).1
+  new_rule r b e = ⊎_elim (λ stands. absurd (may.new stands)) (λ rules. if_some (λ x. NewBytesRule r s x u) (get s.boxes u.place.box) b e rules) (may.rules r).1
 
   quota : (name : List ℕ) (b : Settings) → get s.boxes name ≡ Some b → used after name ≤ b.quota
   quota name b e =
@@ -131,8 +130,8 @@ module _ (s : State) (u : Upload) (sound : IsSound s) (may : MayTake s u) (new :
         | false ↦ λ t. rw (count_there s u.place file (s.receipts ++ receipt_of u ∷ []) name t) (sound.quotas name b e).1
       ] refl
 
-  taken_keeps : IsSound after
-  taken_keeps = record {
+  pub upload_keeps_soundness : IsSound after
+  upload_keeps_soundness = record {
     east = sound.east;
     keys = sound.keys;
     boxes = sound.boxes;
@@ -141,12 +140,3 @@ module _ (s : State) (u : Upload) (sound : IsSound s) (may : MayTake s u) (new :
     quotas = λ name b e. (quota name b e, number name b e);
     clerk = let k = sound.clerk in record { id = k.id; key = k.key; there = k.there; clerk = k.clerk; unrevoked = k.unrevoked };
   }
-
-step_keeps : (s : State) (u : Upload) → IsSound s → MayTake s u → (reply : StepReply) (after : State) → UploadStep s u reply after → IsSound after
-step_keeps s u sound may _ _ (again f r there same listed) = sound
-step_keeps s u sound may _ _ (taken new) = taken_keeps s u sound may new
-
-pub upload_keeps_soundness : (s : State) (u : Upload) (reply : StepReply) (after : State) → IsSound s → ((r : Refusal) → UploadRule r s u)
-    → length u.bytes ≤ most_body → IsMoment u.now → IsSome (get s.keys u.key) → UploadStep s u reply after → IsSound after
-upload_keeps_soundness s u reply after sound rules short moment key step =
-    step_keeps s u sound (record { rules = rules; short = short; moment = moment; key = key }) reply after step

@@ -15,25 +15,26 @@ use Rattle.boxes.proofs.Lookups.{bytes_total, place_total, no_entries, entries_p
 true_false : true ≡ false → ⊥
 true_false e = cc
 
-abbrev place : List ℕ → Place
+abbrev pub place : List ℕ → Place
 place name = record { box = codes "in"; name = name }
 
-abbrev first : Receipt
+abbrev pub first : Receipt
 first = record { box = codes "in"; name = codes "a"; size = 3; digest = sha256 (codes "abc"); moment = 100; key = codes "ann" }
 
-abbrev file : File
+abbrev pub file : File
 file = record { bytes = codes "abc"; receipt = 1 }
 
-abbrev files : FinMap place_cmp File
+abbrev pub files : FinMap place_cmp File
 files = insert empty (place (codes "a")) file
 
-file_entries : entries files ≡ (place (codes "a"), file) ∷ []
+pub file_entries : entries files ≡ (place (codes "a"), file) ∷ []
 file_entries = entries_put place_cmp empty (place (codes "a")) file [] place_total (no_entries place_cmp)
 
-abbrev settings : Settings
-settings = record {
+-- open from 100 on, all day and every day, up to this second
+abbrev pub closing : ℕ → Settings
+closing second = record {
   opens = 100;
-  closes = 200;
+  closes = second;
   days = true ∷ true ∷ true ∷ true ∷ true ∷ true ∷ true ∷ [];
   from_minute = 0;
   to_minute = 1440;
@@ -43,17 +44,20 @@ settings = record {
   rule = AnyName;
 }
 
-abbrev boxes : FinMap bytes_cmp Settings
+abbrev pub settings : Settings
+settings = closing 200
+
+abbrev pub boxes : FinMap bytes_cmp Settings
 boxes = insert empty (codes "in") settings
 
-box_entries : entries boxes ≡ (codes "in", settings) ∷ []
+pub box_entries : entries boxes ≡ (codes "in", settings) ∷ []
 box_entries = entries_put bytes_cmp empty (codes "in") settings [] bytes_total (no_entries bytes_cmp)
 
 -- a box with one file, and these keys
-abbrev with_keys : FinMap bytes_cmp Key → State
+abbrev pub with_keys : FinMap bytes_cmp Key → State
 with_keys keys = record { offset = pos 0; keys = keys; boxes = boxes; files = files; receipts = first ∷ [] }
 
-abbrev office : State
+abbrev pub office : State
 office = with_keys empty
 
 -- ---- uploads
@@ -114,19 +118,19 @@ fetched _ _ (found f r there listed) =
 
 -- ---- keys: a clerk `ann`, and with her another clerk, one who was revoked, or a link
 
-abbrev key : Role → Bool → Key
+abbrev pub key : Role → Bool → Key
 key role revoked = record { role = role; secret = codes "secret"; revoked = revoked }
 
-abbrev ann : FinMap bytes_cmp Key
+abbrev pub ann : FinMap bytes_cmp Key
 ann = insert empty (codes "ann") (key Clerk false)
 
-abbrev ann_and : Key → FinMap bytes_cmp Key
+abbrev pub ann_and : Key → FinMap bytes_cmp Key
 ann_and other = insert ann (codes "bob") other
 
-ann_entries : entries ann ≡ (codes "ann", key Clerk false) ∷ []
+pub ann_entries : entries ann ≡ (codes "ann", key Clerk false) ∷ []
 ann_entries = entries_put bytes_cmp empty (codes "ann") (key Clerk false) [] bytes_total (no_entries bytes_cmp)
 
-both_entries : (other : Key) → entries (ann_and other) ≡ (codes "ann", key Clerk false) ∷ (codes "bob", other) ∷ []
+pub both_entries : (other : Key) → entries (ann_and other) ≡ (codes "ann", key Clerk false) ∷ (codes "bob", other) ∷ []
 both_entries other = entries_put bytes_cmp ann (codes "bob") other _ bytes_total ann_entries
 
 in_ann : (q : List ℕ) → get ann q ≡ find bytes_cmp q ((codes "ann", key Clerk false) ∷ [])

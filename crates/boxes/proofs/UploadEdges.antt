@@ -181,24 +181,30 @@ standing : (name : List ℕ) → standing_bytes (state two_files (settings Repla
     ≡ unwrap_or (option_map (λ f. length f.bytes) (find place_cmp (in_box name) ((in_box (codes "a"), first) ∷ (in_box (codes "b"), second) ∷ (elsewhere, third) ∷ []))) 0
 standing name = ap (λ (o : Option File). unwrap_or (option_map (λ f. length f.bytes) o) 0) (get_of place_cmp two_files _ (in_box name) two_entries)
 
+-- bytes fit where so many stand under the name exactly up to ten together
+abbrev stood_at : List ℕ → ℕ
+stood_at name = standing_bytes (state two_files (settings Replace 10 9)) (in_box name)
+
+within : (name bytes : List ℕ) (n : ℕ) → stood_at name ≡ n → 5 - n + length bytes ≤ 10 → IsWithin name bytes
+within name bytes n stood few = omega (arith, five_used, stood, few)
+
+not_within : (name bytes : List ℕ) (n : ℕ) → stood_at name ≡ n → 10 < 5 - n + length bytes → IsWithin name bytes → ⊥
+not_within name bytes n stood many is =
+    let most : used (state two_files (settings Replace 10 9)) (codes "in") - stood_at name + length bytes ≤ 10 = is in
+    omega (arith, five_used, stood, many)
+
 pub five_more : (bytes : List ℕ) → length bytes ≡ 5 → IsWithin (codes "c") bytes
-five_more bytes long = let none : standing_bytes (state two_files (settings Replace 10 9)) (in_box (codes "c")) ≡ 0 = standing (codes "c") in omega (arith, five_used)
+five_more bytes long = within (codes "c") bytes 0 (standing (codes "c")) (omega arith)
 
 pub not_six_more : (bytes : List ℕ) → length bytes ≡ 6 → IsWithin (codes "c") bytes → ⊥
-not_six_more bytes long within =
-    let none : standing_bytes (state two_files (settings Replace 10 9)) (in_box (codes "c")) ≡ 0 = standing (codes "c") in
-    let most : used (state two_files (settings Replace 10 9)) (codes "in") - standing_bytes (state two_files (settings Replace 10 9)) (in_box (codes "c")) + length bytes ≤ 10 = within in
-    omega (arith, five_used)
+not_six_more bytes long = not_within (codes "c") bytes 0 (standing (codes "c")) (omega arith)
 
 -- three bytes stand under `a`, and make room
 pub eight_for_three : (bytes : List ℕ) → length bytes ≡ 8 → IsWithin (codes "a") bytes
-eight_for_three bytes long = let three : standing_bytes (state two_files (settings Replace 10 9)) (in_box (codes "a")) ≡ 3 = standing (codes "a") in omega (arith, five_used)
+eight_for_three bytes long = within (codes "a") bytes 3 (standing (codes "a")) (omega arith)
 
 pub not_nine_for_three : (bytes : List ℕ) → length bytes ≡ 9 → IsWithin (codes "a") bytes → ⊥
-not_nine_for_three bytes long within =
-    let three : standing_bytes (state two_files (settings Replace 10 9)) (in_box (codes "a")) ≡ 3 = standing (codes "a") in
-    let most : used (state two_files (settings Replace 10 9)) (codes "in") - standing_bytes (state two_files (settings Replace 10 9)) (in_box (codes "a")) + length bytes ≤ 10 = within in
-    omega (arith, five_used)
+not_nine_for_three bytes long = not_within (codes "a") bytes 3 (standing (codes "a")) (omega arith)
 
 -- ---- 34: a file stands under box and name
 

@@ -1,6 +1,7 @@
 -- Which changes the rules give for a state, and the state after each.
 use Rattle.std.specs.Prelude.{◌≡◌, ℕ, ◌+◌, ◌≤◌, List, length, IsSome}
 use Rattle.std.specs.FinMap.{get}
+use Rattle.sigtext.specs.Bytes.{AreBytes}
 use Rattle.sigtext.specs.Limits.{most_body}
 use Rattle.sigtext.specs.declared.refusal.Refusal.{Refusal}
 use Rattle.sigv4.specs.Hmac.{sha256}
@@ -24,8 +25,9 @@ command_of (command.AddBox name box) = AddBox name.now (settings_of box.now)
 command_of (command.CloseBox name moment) = CloseBox name.now moment
 command_of (command.DropFile box name) = DropFile (record { box = box.now; name = name.now })
 
--- what every upload brings that reaches the rules of boxes: a body within the limit, a moment, a key that stands
+-- what every upload brings that reaches the rules of boxes: bytes within the limit, a moment, a key that stands
 pub record IsBrought (s : State) (u : Upload) : Type 0 where
+  pub bytes : AreBytes u.bytes
   pub short : length u.bytes ≤ most_body
   pub moment : IsMoment u.now
   pub key : IsSome (get s.keys u.key)

@@ -4,6 +4,7 @@
 pub mod change;
 pub mod commands;
 pub mod fetches;
+pub mod forms;
 pub mod laws;
 pub mod opening;
 mod places;
@@ -15,6 +16,7 @@ pub mod view;
 pub use change::{Change, Command, NewFile};
 pub use commands::desk;
 pub use fetches::fetch;
+pub use forms::has_form;
 pub use laws::{law_of_changes, law_of_clerks};
 pub use opening::{name_fits, open_at};
 pub use rows::{BoxRow, FileRow, KeyRow, Mode, NameRule, OfficeRow, ReceiptRow, Role};

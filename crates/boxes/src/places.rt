@@ -12,10 +12,10 @@ use crate::rows::BoxRow;
 use sigtext::Refusal;
 use std::str;
 
-const MOST_NAME_BYTES: usize = 1024;
+pub(crate) const MOST_NAME_BYTES: usize = 1024;
 
 // Whether the text may be the name of a file: not empty, UTF-8, no byte below 0x20 and no 0x7F.
-fn is_name(name: &[u8]) -> bool
+pub(crate) fn is_name(name: &[u8]) -> bool
     ensures { IsTrue result ↔ IsName name.now }
 {
     if name.is_empty() || str::from_utf8(name).is_err() {

@@ -55,6 +55,33 @@ fn standing_size(view: &UploadView) -> Option<u64>
     view.standing.as_ref().map(|receipt| receipt.size)
 }
 
+// What bytes that do not stand already must hold in a box, whatever its quota: the rules 30 to 32, and else the least
+// that fails. `stood` is the length of the file that stands.
+fn check_place(
+    view: &UploadView,
+    row: &BoxRow,
+    now: Moment,
+    stood: Option<u64>,
+) -> Result<(), Refusal>
+    ensures { (s : State) (u : Upload) → IsUploadViewOf s u.place view.now → u.now ≡ now
+        → stood ≡ option_map (λ f. length f.bytes) (get s.files u.place)
+        → MatchResult result
+        (λ done. NewBytesRule Refusal.BoxClosed s (settings_of row.now) u × NewBytesRule Refusal.OtherBytesKept s (settings_of row.now) u
+        × NewBytesRule Refusal.TooManyFiles s (settings_of row.now) u)
+        (λ q. IsLeastToFail (λ r. NewBytesRule r s (settings_of row.now) u) q) }
+{
+    if !open_at(row, view.office.east, now) {
+        return Err(Refusal::BoxClosed);
+    }
+    if stood.is_some() && row.mode == Mode::Keep {
+        return Err(Refusal::OtherBytesKept);
+    }
+    if stood.is_none() && view.totals.count >= row.max_files {
+        return Err(Refusal::TooManyFiles);
+    }
+    Ok(())
+}
+
 // What bytes that do not stand already must hold in a box: the rules 30 to 33, and else the least that fails.
 fn check_new_bytes(view: &UploadView, row: &BoxRow, now: Moment, size: u64) -> Result<(), Refusal>
     ensures { (s : State) (u : Upload) → IsSound s → IsUploadViewOf s u.place view.now
@@ -63,20 +90,13 @@ fn check_new_bytes(view: &UploadView, row: &BoxRow, now: Moment, size: u64) -> R
         (λ done. (r : refusal.Refusal) → NewBytesRule r s (settings_of row.now) u)
         (λ q. IsLeastToFail (λ r. NewBytesRule r s (settings_of row.now) u) q) }
 {
-    if !open_at(row, view.office.east, now) {
-        return Err(Refusal::BoxClosed);
-    }
     let stood = standing_size(view);
-    if stood.is_some() && row.mode == Mode::Keep {
-        return Err(Refusal::OtherBytesKept);
+    check_place(view, row, now, stood)?;
+    if is_within_quota(view.totals.used, stood.unwrap_or(0), size, row.quota) {
+        Ok(())
+    } else {
+        Err(Refusal::QuotaPassed)
     }
-    if stood.is_none() && view.totals.count >= row.max_files {
-        return Err(Refusal::TooManyFiles);
-    }
-    if !is_within_quota(view.totals.used, stood.unwrap_or(0), size, row.quota) {
-        return Err(Refusal::QuotaPassed);
-    }
-    Ok(())
 }
 
 /// Decides an upload of a key to a box and a name at a moment, from what the keeper said and from what is known of

@@ -1,5 +1,5 @@
 //! The trait that every keeper meets.
-ghost use Rattle.std.specs.Prelude.{◌≡◌, ℕ, ◌+◌, length, map, option_map, OnOk, OnErr, IsErrOf};
+ghost use Rattle.std.specs.Prelude.{◌≡◌, ℕ, ◌+◌, ◌⊎◌, length, map, option_map, IfErr, OnOk, OnErr, IsErrOf};
 ghost use Rattle.std.specs.FinMap.{get};
 ghost use Rattle.sigtext.specs.Counts.{CountsErrors};
 ghost use Rattle.boxes.specs.State.{State};
@@ -95,8 +95,9 @@ pub trait Keeper {
         ensures value { Answers means is_honest self.old self.new result (λ s rs. map numbered_receipt rs.items ≡ receipts_from s from most) }
         ensures rest { Stays means is_honest faults leaves leaves_whole has_store self.old self.new result };
 
-    /// Makes a change that the rules give for the state, whole or not at all. `Full` comes only where the office has its
-    /// greatest number of receipts and the change would add one; there no change is made.
+    /// Makes a change that the rules give for the state, whole or not at all. Where the office has its greatest number
+    /// of receipts and the change would add one, no change is made: the error is `Full`, or the store's own. Elsewhere
+    /// `Full` never comes.
     fn apply(&mut self, change: &Change<'_>) -> Result<(), KeepFault>
         ensures made { (s after : State) → means self.old s → IsSound s → IsChangeOf s change.now after → OnOk result (means self.new after) }
         ensures same { (s : State) → means self.old s → OnErr result (means self.new s) }
@@ -105,6 +106,8 @@ pub trait Keeper {
         ensures count { CountsErrors (faults self.old) (faults self.new) result }
         ensures full { (s after : State) → means self.old s → IsSound s → IsChangeOf s change.now after → IsErrOf result KeepFault.Full → IsPastFull s change.now }
         ensures room { (s after : State) → means self.old s → IsSound s → IsChangeOf s change.now after → OnOk result (IsPastFull s change.now → ⊥) }
+        ensures first { (s after : State) → means self.old s → IsSound s → IsChangeOf s change.now after → IsPastFull s change.now
+            → IfErr result (λ f. (f ≡ KeepFault.Full) ⊎ has_store) }
         ensures store { IsErrOf result KeepFault.Store → has_store }
         ensures durable { (s after : State) → means self.old s → IsSound s → IsChangeOf s change.now after → is_honest self.new
             → OnOk result (LeavesAlone leaves leaves_whole self.new after) }
@@ -113,4 +116,7 @@ pub trait Keeper {
 
     /// An honest keeper that is open means one state.
     ghost one: { (k : Self) (s t : State) → is_honest k → is_open k → means k s → means k t → s ≡ t };
+
+    /// A keeper without a store is honest and open at all times.
+    ghost always: { (has_store → ⊥) → (k : Self) → is_honest k × is_open k };
 }

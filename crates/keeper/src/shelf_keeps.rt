@@ -68,6 +68,8 @@ impl Keeper for Shelf {
     }
 
     ghost one = { λ k s t honest opened a b. one_state k s t a b };
+
+    ghost always = { λ none k. (tt, tt) };
 }
 
 impl Shelf {

@@ -136,7 +136,7 @@ impl Shelf {
         ensures made { (s after : State) → Holds self.old s → IsSound s → IsFileSet s file.now bytes.now after → OnOk result (Holds self.new after) }
         ensures same { (s : State) → Holds self.old s → OnErr result (Holds self.new s) }
         ensures count { CountsErrors self.old.faults self.new.faults result }
-        ensures fault { IfErr result (λ f. (f ≡ KeepFault.Memory) ⊎ ((f ≡ KeepFault.Full) × (most_receipts < file.now.number))) }
+        ensures fault { IfErr result (λ f. ((f ≡ KeepFault.Memory) × (file.now.number ≤ most_receipts)) ⊎ ((f ≡ KeepFault.Full) × (most_receipts < file.now.number))) }
         ensures room { OnOk result (file.now.number ≤ most_receipts) }
     {
         if !has_room(file.number) {

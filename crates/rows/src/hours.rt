@@ -6,7 +6,7 @@ use std::alloc::{AllocError, Global};
 use std::str;
 
 /// Whether the row is one of these calls; then it is answered.
-pub fn answer(alloc: Global, row: &Row<'_>, line: &mut Line) -> Result<bool, RowFault> {
+pub(crate) fn answer(alloc: Global, row: &Row<'_>, line: &mut Line) -> Result<bool, RowFault> {
     match row.call {
         "open_at" => open(row, line)?,
         "name_fits" => fits(alloc, row, line)?,

@@ -6,7 +6,7 @@ use std::alloc::Global;
 use wire::{Answer, Counted, Reply, head_end, put_answer, read_head};
 
 /// Whether the row is one of these calls; then it is answered.
-pub fn answer(alloc: Global, row: &Row<'_>, line: &mut Line) -> Result<bool, RowFault> {
+pub(crate) fn answer(alloc: Global, row: &Row<'_>, line: &mut Line) -> Result<bool, RowFault> {
     match row.call {
         "head_end" => end_of_head(alloc, row, line)?,
         "read_head" => read(row, line)?,

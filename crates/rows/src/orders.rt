@@ -7,7 +7,7 @@ use sigv4::Moment;
 use std::alloc::{AllocError, Global};
 
 /// Whether the row is one of these calls; then it is answered.
-pub fn answer(alloc: Global, row: &Row<'_>, line: &mut Line) -> Result<bool, RowFault> {
+pub(crate) fn answer(alloc: Global, row: &Row<'_>, line: &mut Line) -> Result<bool, RowFault> {
     match row.call {
         "write_link" => write(alloc, row, line)?,
         "method" => read_method(row, line)?,

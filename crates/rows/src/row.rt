@@ -12,7 +12,7 @@ const EMPTY: &str = "\"\"";
 
 /// Why a row has no other answer.
 #[derive(Clone, Copy, Debug, PartialEq, Eq)]
-pub enum RowFault {
+pub(crate) enum RowFault {
     /// The row names no call, or lacks words.
     Malformed,
     /// Memory was refused.
@@ -55,13 +55,13 @@ impl From<TextFault> for RowFault {
 /// The name of a call and its words, without their escapes. In the table one space stands before each word; a
 /// byte may be written as `%` and two hexadecimal digits, and a word without bytes as `""`.
 #[derive(Drop)]
-pub struct Row<'a> {
-    pub call: &'a str,
+pub(crate) struct Row<'a> {
+    pub(crate) call: &'a str,
     words: Vec<Vec<u8>>,
 }
 
 impl<'a> Row<'a> {
-    pub fn read(alloc: Global, text: &'a str) -> Result<Row<'a>, AllocError> {
+    pub(crate) fn read(alloc: Global, text: &'a str) -> Result<Row<'a>, AllocError> {
         let (call, rest) = text.split_once(' ').unwrap_or((text, ""));
         let mut words = Vec::new(alloc);
         if !rest.is_empty() {
@@ -73,12 +73,12 @@ impl<'a> Row<'a> {
     }
 
     /// The words.
-    pub fn words(&self) -> &[Vec<u8>] {
+    pub(crate) fn words(&self) -> &[Vec<u8>] {
         &self.words
     }
 
     /// The word at this place, counted from 0.
-    pub fn word(&self, at: usize) -> Result<&[u8], RowFault> {
+    pub(crate) fn word(&self, at: usize) -> Result<&[u8], RowFault> {
         match self.words.get(at) {
             Some(word) => Ok(word),
             None => Err(RowFault::Malformed),
@@ -86,7 +86,7 @@ impl<'a> Row<'a> {
     }
 
     /// The number that the word at this place writes.
-    pub fn number(&self, at: usize) -> Result<u64, RowFault> {
+    pub(crate) fn number(&self, at: usize) -> Result<u64, RowFault> {
         let Ok(text) = str::from_utf8(self.word(at)?) else {
             return Err(RowFault::Malformed);
         };
@@ -94,7 +94,7 @@ impl<'a> Row<'a> {
     }
 
     /// The fields that the words from this place on name: a name and a value in turn.
-    pub fn fields(&self, alloc: Global, from: usize) -> Result<Vec<Field<'_>>, RowFault> {
+    pub(crate) fn fields(&self, alloc: Global, from: usize) -> Result<Vec<Field<'_>>, RowFault> {
         let mut fields = Vec::new(alloc);
         for pair in self.words.get(from..).unwrap_or_default().chunks(2) {
             let [name, value] = pair else {
@@ -118,19 +118,19 @@ fn unescaped(alloc: Global, piece: &str) -> Result<Vec<u8>, AllocError> {
 
 /// An answer: words, escaped as those of a row.
 #[derive(Debug, Drop)]
-pub struct Line {
+pub(crate) struct Line {
     text: String,
 }
 
 impl Line {
-    pub fn new(alloc: Global) -> Line {
+    pub(crate) fn new(alloc: Global) -> Line {
         Line {
             text: String::new(alloc),
         }
     }
 
     /// Puts a word at the end.
-    pub fn put(&mut self, word: &[u8]) -> Result<(), AllocError> {
+    pub(crate) fn put(&mut self, word: &[u8]) -> Result<(), AllocError> {
         if !self.text.is_empty() {
             self.text.push(' ')?;
         }
@@ -141,12 +141,12 @@ impl Line {
     }
 
     /// Puts `true` or `false`.
-    pub fn put_bool(&mut self, value: bool) -> Result<(), AllocError> {
+    pub(crate) fn put_bool(&mut self, value: bool) -> Result<(), AllocError> {
         self.put(if value { b"true" } else { b"false" })
     }
 
     /// Puts a number in decimal digits.
-    pub fn put_number(&mut self, alloc: Global, number: u64) -> Result<(), AllocError> {
+    pub(crate) fn put_number(&mut self, alloc: Global, number: u64) -> Result<(), AllocError> {
         let digits = format!(in alloc; "{number}")?;
         self.put(digits.as_bytes())
     }

@@ -7,7 +7,7 @@ use sigv4::{Hmac, Moment, Scope, Sha, derive, is_key_id, is_region, is_secret, s
 use std::alloc::{AllocError, Global};
 
 /// Whether the row is one of these calls; then it is answered.
-pub fn answer(alloc: Global, row: &Row<'_>, line: &mut Line) -> Result<bool, RowFault> {
+pub(crate) fn answer(alloc: Global, row: &Row<'_>, line: &mut Line) -> Result<bool, RowFault> {
     match row.call {
         "sha" => sha(row, line)?,
         "sha_take" => sha_take(row, line)?,

@@ -7,7 +7,7 @@ use sigtext::{
 use std::alloc::Global;
 
 /// Whether the row is one of these calls; then it is answered.
-pub fn answer(alloc: Global, row: &Row<'_>, line: &mut Line) -> Result<bool, RowFault> {
+pub(crate) fn answer(alloc: Global, row: &Row<'_>, line: &mut Line) -> Result<bool, RowFault> {
     match row.call {
         "refusal" => columns(alloc, row, line)?,
         "uri_encode" => encode(alloc, row, line)?,
@@ -69,7 +69,7 @@ const REFUSALS: [(&str, Refusal); 37] = [
 ];
 
 /// The refusal whose variant has this name.
-pub fn refusal_named(name: &[u8]) -> Result<Refusal, RowFault> {
+pub(crate) fn refusal_named(name: &[u8]) -> Result<Refusal, RowFault> {
     for (found, refusal) in REFUSALS {
         if found.as_bytes() == name {
             return Ok(refusal);
@@ -104,7 +104,7 @@ fn encode(alloc: Global, row: &Row<'_>, line: &mut Line) -> Result<(), RowFault>
 }
 
 /// Memory was refused, and what stood there stands there still.
-pub fn want_of_memory(found: &[u8], before: &[u8]) -> RowFault {
+pub(crate) fn want_of_memory(found: &[u8], before: &[u8]) -> RowFault {
     if found == before {
         RowFault::Memory
     } else {
@@ -173,7 +173,7 @@ fn one_field(alloc: Global, row: &Row<'_>, line: &mut Line) -> Result<(), RowFau
 
 /// What the signature of a request covers: the words from this place on are its method, its target and the names of
 /// its signed headers.
-pub fn parts_of<'a>(
+pub(crate) fn parts_of<'a>(
     alloc: Global,
     row: &'a Row<'_>,
     from: usize,

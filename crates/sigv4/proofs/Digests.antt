@@ -31,7 +31,7 @@ unfolding digest_bytes
 small_words h zero = All-nil (λ b. b < 256)
 small_words h (suc n) = All-append (λ b. b < 256) (digest_bytes h n) (to_be_bytes w32 (slice_index h n)) (small_words h n) (small_word (slice_index h n))
 
-small_sha256 : (message : List ℕ) → All (λ b. b < 256) (sha256 message)
+pub small_sha256 : (message : List ℕ) → All (λ b. b < 256) (sha256 message)
 unfolding sha256
 small_sha256 message = small_words _ 8
 

@@ -94,6 +94,8 @@ impl Keeper for Stub {
     }
 
     ghost one = { λ k s t honest opened a b. absurd a };
+
+    ghost always = { λ none k. absurd (none tt) };
 }
 
 // The published target by POST, rightly signed (by Python's hmac).

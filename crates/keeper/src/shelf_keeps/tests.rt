@@ -1,16 +1,96 @@
-//! One office in memory, change by change.
+//! One office in memory, change by change. A call to which memory is refused is made once more (`ci/memory.py` refuses
+//! each allocation in turn): its error must leave the office, and count one.
 use crate::keep::{KeepFault, Keeper};
-use crate::shelf::Shelf;
+use crate::shelf::{Shelf, has_room};
 use boxes::{BoxRow, Change, Command, Mode, NameRule, NewFile, OfficeRow, Role};
-use std::alloc::Global;
+use std::alloc::{AllocError, Global};
+use std::process::Abort;
 use std::test::Fail;
 
 const NAME: &[u8] = b"a.pdf";
 
+// An office, and how many of its calls were refused memory.
+#[derive(Drop)]
+struct Tried {
+    shelf: Shelf,
+    refused: u64,
+}
+
+// How much is kept: keys, clerks among them, boxes, files, receipts, and what the box `in` holds.
+fn kept(shelf: &Shelf) -> [u64; 7] {
+    let totals = shelf.totals_of(b"in");
+    [
+        shelf.keys.len() as u64,
+        shelf.clerks,
+        shelf.boxes.len() as u64,
+        shelf.files.len() as u64,
+        shelf.receipts.as_slice().len() as u64,
+        totals.used,
+        totals.count,
+    ]
+}
+
+fn expect(holds: bool, else_wrong: &'static str) -> Result<(), Fail> {
+    if holds {
+        Ok(())
+    } else {
+        Err(Fail::new(else_wrong))
+    }
+}
+
+impl Tried {
+    // An office whose clerk is `ann`, two hours west.
+    fn new(alloc: Global) -> Result<Tried, Fail> {
+        let office = OfficeRow { east: -120 };
+        match Shelf::new(alloc, office, b"ann", b"secret") {
+            Ok(shelf) => Ok(Tried { shelf, refused: 0 }),
+            Err(_) => Ok(Tried {
+                shelf: Shelf::new(alloc, office, b"ann", b"secret")?,
+                refused: 1,
+            }),
+        }
+    }
+
+    // What a call gives, at the second time where memory was refused at the first.
+    fn call<T: Drop, F: Fn(&mut Shelf) -> Result<T, KeepFault>>(
+        &mut self,
+        call: F,
+    ) -> Result<T, Fail>
+        requires { F.IsAlwaysCallable call }
+    {
+        let before = kept(&self.shelf);
+        let faults = self.shelf.faults;
+        if let Ok(value) = call(&mut self.shelf) {
+            let is_uncounted = self.shelf.faults == faults;
+            expect(is_uncounted, "a success was counted")?;
+            return Ok(value);
+        }
+        let is_counted = self.shelf.faults == faults.saturating_add(1);
+        expect(is_counted, "an error was not counted once")?;
+        let stands = kept(&self.shelf) == before;
+        expect(stands, "an error changed the office")?;
+        self.refused = self.refused.saturating_add(1);
+        Ok(call(&mut self.shelf)?)
+    }
+
+    // Makes the change.
+    fn change(&mut self, change: Change<'_>) -> Result<(), Fail> {
+        self.call(|shelf| shelf.apply(&change))
+    }
+
+    // Whether the box `in` holds so many bytes in so many files.
+    fn holds(&mut self, used: u64, count: u64) -> Result<bool, Fail> {
+        let totals = self.call(|shelf| shelf.sizes(b"in"))?;
+        Ok(totals.used == used && totals.count == count)
+    }
+}
+
 // A box that takes names that end with `.pdf`.
-fn a_box(alloc: Global) -> Result<BoxRow, Fail> {
+fn a_box(alloc: Global) -> Result<BoxRow, AllocError> {
     let mut texts = Vec::new(alloc);
-    texts.push(Vec::from_slice(alloc, b".pdf")?)?;
+    texts
+        .push(Vec::from_slice(alloc, b".pdf")?)
+        .map_err(AllocError::from)?;
     Ok(BoxRow {
         opens: 0,
         closes: 200,
@@ -38,56 +118,81 @@ fn sets(number: u64, bytes: &[u8]) -> Change<'_> {
     Change::SetFile(file, bytes)
 }
 
-// Whether the box `in` holds so many bytes in so many files.
-fn holds(shelf: &mut Shelf, used: u64, count: u64) -> Result<bool, Fail> {
-    let totals = shelf.sizes(b"in")?;
-    Ok(totals.used == used && totals.count == count)
+fn keeps_keys(rt: &impl Abort, office: &mut Tried) -> Result<(), Fail> {
+    assert_eq!(rt; office.call(|shelf| shelf.clerks())?, 1);
+    office.change(Change::Desk(Command::AddKey {
+        id: b"bob",
+        role: Role::Clerk,
+        secret: b"other",
+    }))?;
+    assert_eq!(rt; office.call(|shelf| shelf.clerks())?, 2);
+    office.change(Change::Desk(Command::RevokeKey { id: b"bob" }))?;
+    assert_eq!(rt; office.call(|shelf| shelf.clerks())?, 1);
+    let bob = office.call(|shelf| shelf.key(b"bob"))?.ok_or("no key")?;
+    assert!(rt; bob.revoked && bob.secret.as_slice() == b"other".as_slice());
+    assert!(rt; office.call(|shelf| shelf.key(b"eve"))?.is_none());
+    Ok(())
+}
+
+fn keeps_boxes(rt: &impl Abort, alloc: Global, office: &mut Tried) -> Result<(), Fail> {
+    let row = a_box(alloc).or_else(|_| a_box(alloc))?;
+    office.change(Change::Desk(Command::AddBox {
+        name: b"in",
+        row: &row,
+    }))?;
+    office.change(Change::Desk(Command::CloseBox {
+        name: b"in",
+        moment: 150,
+    }))?;
+    let kept = office.call(|shelf| shelf.box_row(b"in"))?.ok_or("no box")?;
+    assert!(rt; kept.closes == 150 && kept.quota == 10);
+    assert!(rt; office.call(|shelf| shelf.box_row(b"out"))?.is_none());
+    Ok(())
+}
+
+fn keeps_files(rt: &impl Abort, office: &mut Tried) -> Result<(), Fail> {
+    office.change(sets(1, b"abc"))?;
+    assert!(rt; office.holds(3, 1)?);
+    office.change(sets(2, b"hello"))?;
+    assert!(rt; office.holds(5, 1)?);
+    let file = office
+        .call(|shelf| shelf.file(b"in", NAME))?
+        .ok_or("no file")?;
+    assert!(rt; file.bytes.as_slice() == b"hello".as_slice() && file.receipt.number == 2);
+    office.change(Change::Desk(Command::DropFile {
+        in_box: b"in",
+        name: NAME,
+    }))?;
+    assert!(rt; office.holds(0, 0)?);
+    assert!(rt; office.call(|shelf| shelf.file(b"in", NAME))?.is_none());
+    Ok(())
+}
+
+fn keeps_receipts(rt: &impl Abort, office: &mut Tried) -> Result<(), Fail> {
+    let last = office.call(|shelf| shelf.receipts(2, 9))?;
+    assert!(rt; last.len() == 1 && last[0].number == 2 && last[0].size == 5);
+    assert_eq!(rt; office.call(|shelf| shelf.receipts(0, 9))?.len(), 2);
+    assert_eq!(rt; office.call(|shelf| shelf.next_number())?, 3);
+    Ok(())
 }
 
 #[test]
 fn keeps_each_change(rt: HostRuntime) -> Result<(), Fail> {
-    let alloc = rt.alloc();
-    let mut shelf = Shelf::new(alloc, OfficeRow { east: -120 }, b"ann", b"secret")?;
-    assert_eq!(rt; shelf.settings()?.east, -120);
-    assert_eq!(rt; shelf.clerks()?, 1);
-    let add = Command::AddKey {
-        id: b"bob",
-        role: Role::Clerk,
-        secret: b"other",
-    };
-    shelf.apply(&Change::Desk(add))?;
-    assert_eq!(rt; shelf.clerks()?, 2);
-    shelf.apply(&Change::Desk(Command::RevokeKey { id: b"bob" }))?;
-    assert_eq!(rt; shelf.clerks()?, 1);
-    let bob = shelf.key(b"bob")?.ok_or("no key")?;
-    assert!(rt; bob.revoked && bob.secret.as_slice() == b"other".as_slice());
-    let row = a_box(alloc)?;
-    shelf.apply(&Change::Desk(Command::AddBox {
-        name: b"in",
-        row: &row,
-    }))?;
-    shelf.apply(&sets(1, b"abc"))?;
-    assert!(rt; holds(&mut shelf, 3, 1)?);
-    shelf.apply(&sets(2, b"hello"))?;
-    assert!(rt; holds(&mut shelf, 5, 1)?);
-    let file = shelf.file(b"in", NAME)?.ok_or("no file")?;
-    assert!(rt; file.bytes.as_slice() == b"hello".as_slice() && file.receipt.number == 2);
-    let close = Command::CloseBox {
-        name: b"in",
-        moment: 150,
-    };
-    shelf.apply(&Change::Desk(close))?;
-    assert_eq!(rt; shelf.box_row(b"in")?.ok_or("no box")?.closes, 150);
-    let away = Command::DropFile {
-        in_box: b"in",
-        name: NAME,
-    };
-    shelf.apply(&Change::Desk(away))?;
-    assert!(rt; holds(&mut shelf, 0, 0)?);
-    assert!(rt; shelf.file(b"in", NAME)?.is_none());
-    assert_eq!(rt; shelf.receipts(2, 9)?.len(), 1);
-    assert_eq!(rt; shelf.receipts(0, 9)?.len(), 2);
-    assert_eq!(rt; shelf.next_number()?, 3);
-    assert!(rt; shelf.apply(&sets(4_000_000_001, b"")) == Err(KeepFault::Full));
+    let mut office = Tried::new(rt.alloc())?;
+    assert_eq!(rt; office.call(|shelf| shelf.settings())?.east, -120);
+    keeps_keys(&rt, &mut office)?;
+    keeps_boxes(&rt, rt.alloc(), &mut office)?;
+    keeps_files(&rt, &mut office)?;
+    keeps_receipts(&rt, &mut office)?;
+    assert!(rt; office.shelf.apply(&sets(4_000_000_001, b"")) == Err(KeepFault::Full));
+    println!(rt; "{} refused", office.refused)?;
+    Ok(())
+}
+
+#[test]
+fn has_room_for_four_milliards_of_receipts(rt: HostRuntime) -> Result<(), Fail> {
+    assert!(rt; has_room(1));
+    assert!(rt; has_room(4_000_000_000));
+    assert!(rt; !has_room(4_000_000_001));
     Ok(())
 }

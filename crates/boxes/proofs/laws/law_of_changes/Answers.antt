@@ -1,20 +1,17 @@
--- A file that is set is an upload that no rule refuses; a command with its form is possible.
+-- A file that is set is an upload that is taken; a command with its form is possible.
 use Rattle.std.proofs.Common.{sym, subst}
 use Rattle.boxes.specs.declared.change.Change.{Change}
 use Rattle.boxes.specs.declared.change.Change.TheVariants as change
 use Rattle.boxes.specs.Changes.{IsChangeOf, upload_in, command_of}
 use Rattle.boxes.specs.Sound.{IsSound}
 use Rattle.boxes.specs.State.{State}
-use Rattle.boxes.specs.Steps.{taken, after_upload}
 use Rattle.boxes.proofs.SoundCommands.{command_keeps_soundness}
 use Rattle.boxes.proofs.SoundUploads.{upload_keeps_soundness}
 use Rattle.boxes.proofs.laws.law_of_changes.Goals as goal
 
 change_keeps_soundness : (s after : State) (it : Change) → IsSound s → IsChangeOf s it after → IsSound after
 change_keeps_soundness s after (change.SetFile f bytes) sound h =
-    let u = upload_in f bytes.now in
-    let b = h.taken.brought in
-    subst IsSound (sym h.sets) (upload_keeps_soundness s u _ (after_upload s u) sound h.taken.rules b.short b.moment b.key (taken h.taken.new))
+    subst IsSound (sym h.sets) (upload_keeps_soundness s (upload_in f bytes.now) sound h.taken)
 change_keeps_soundness s after (change.Desk c) sound h = command_keeps_soundness s (command_of c) after sound h.form h.possible h.step
 
 pub returns : goal.returns
