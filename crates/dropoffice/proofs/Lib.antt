@@ -1,12 +1,8 @@
-pub mod FieldLists
 pub mod Deciding
 pub mod Answered
 pub mod Handlings
 pub mod ToldMoments
 pub mod ReplayLemmas
-pub mod Fronts
-pub mod SessionEnds
-pub mod Kept
 pub mod RunSoFar
 pub mod FaultFree
 pub mod FullRows
@@ -16,8 +12,8 @@ pub mod TaskValues
 mod Admission
 pub mod SoundOffice
 pub mod Judged
-pub mod StopLemmas
 mod RuleEdges
 pub mod Forming
 pub mod Placing
 pub mod Replies
+pub mod SessionSteps

@@ -5,6 +5,7 @@ use Rattle.std.specs.FinMap.{get}
 use Rattle.std.specs.Borrow.{Bor}
 use Rattle.sigtext.specs.declared.refusal.Refusal.{Refusal}
 use Rattle.sigtext.specs.declared.refusal.Refusal.TheVariants as rule
+use Rattle.sigtext.specs.Bytes.{AreBytes}
 use Rattle.sigtext.specs.Limits.{most_body}
 use Rattle.sigtext.specs.Request.{Request}
 use Rattle.sigtext.specs.Rules.{IsFirstToFail}
@@ -52,8 +53,8 @@ module _ (means : State → Type 0) (s : State) (r : Request) (now : ℕ) (p : L
 
   -- ---- uploads
 
-  pub brought : length r.body ≤ most_body → IsMoment now → IsBrought s (upload_of r now p)
-  brought short moment = record { short = short; moment = moment; key = there s p.key_id (get s.keys p.key_id) refl (reached.link rule.KeyUnknown) }
+  pub brought : length r.body ≤ most_body → AreBytes r.body → IsMoment now → IsBrought s (upload_of r now p)
+  brought short bytes moment = record { short = short; bytes = bytes; moment = moment; key = there s p.key_id (get s.keys p.key_id) refl (reached.link rule.KeyUnknown) }
 
   pub again : (x : Bor ReceiptRow) → IsPut r → IsLeft means s → DecidesUpload s (upload_of r now p) (uploading.Again x)
       → IsReplied means s r now (Ok (reply.Kept x.now.number x.now.size x.now.digest))

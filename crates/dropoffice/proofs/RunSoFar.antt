@@ -8,11 +8,9 @@ use Rattle.std.proofs.Math.Seq.{take-suc}
 use Rattle.boxes.specs.State.{State}
 use Rattle.wire.specs.declared.counted.Counted.{Counted}
 use Rattle.dropoffice.specs.declared.session.SessionEnd.{SessionEnd}
-use Rattle.dropoffice.specs.Connections.{Told, IsStream, Serves, TellsEnd, KeepsCount, KeepsCounts, AreServed, is_fault, Runs}
+use Rattle.dropoffice.specs.Connections.{Told, IsStream, Serves, TellsFaults, KeepsCount, KeepsCounts, AreServed, is_fault, Runs}
 use Rattle.dropoffice.specs.Kept.{IsLeft}
-use Rattle.dropoffice.specs.Served.{HasNoBox}
 use Rattle.dropoffice.specs.Sessions.{Session, Connection, Run, most_messages}
-use Rattle.dropoffice.proofs.Kept.{session_keeps}
 
 -- ---- one more at the end of each part
 
@@ -21,7 +19,7 @@ told_more gives c d e [] more t u = subst (λ x. Told gives x more e) (sym t) u
 told_more gives c d e (m ∷ moments) more t u = (t.0, t.1, told_more gives t.0 d e moments more t.2 u)
 
 served_more : {R W : Type 0} (remaining : R → Option (List ℕ)) (contents : W → Option (List ℕ)) (old new : Counted R × Counted W) (c : Connection) (olds news : List (Counted R × Counted W)) (cs : List Connection)
-    → AreServed remaining contents olds news cs → IsStream c.gave_up c.end (remaining old.0.inner) (remaining new.0.inner) c.stream → Appends (contents old.1.inner) (contents new.1.inner) c.answers → TellsEnd remaining c.end old.0 new.0 old.1 new.1
+    → AreServed remaining contents olds news cs → IsStream c.gave_up c.end (remaining old.0.inner) (remaining new.0.inner) c.stream → Appends (contents old.1.inner) (contents new.1.inner) c.answers → TellsFaults c.end old.0 new.0 old.1 new.1
     → AreServed remaining contents (olds ++ old ∷ []) (news ++ new ∷ []) (cs ++ c ∷ [])
 served_more remaining contents old new c [] [] [] h read written risen = (read, written, risen, tt)
 served_more remaining contents old new c [] [] (d ∷ cs) h read written risen = absurd h
@@ -48,7 +46,7 @@ counts_more (d ∷ cs) c first mid last h keeps = (h.0, h.1, counts_more cs c h.
 
 runs_more : {C R W : Type 0} (gives : C → ℕ → C → Type 0) (remaining : R → Option (List ℕ)) (contents : W → Option (List ℕ)) (first clock clock' : C) (olds news : List (Counted R × Counted W)) (old new : Counted R × Counted W)
     (count count' count'' : ℕ) (s mid after : State) (faults faults' : ℕ) (e : SessionEnd) → Runs gives remaining contents first clock olds news count count' s mid faults
-    → Serves gives (remaining old.0.inner) (remaining new.0.inner) (contents old.1.inner) (contents new.1.inner) clock clock' count' count'' mid after e → TellsEnd remaining e old.0 new.0 old.1 new.1 → faults' ≡ faults + cond (is_fault e) 1 0
+    → Serves most_messages gives (remaining old.0.inner) (remaining new.0.inner) (contents old.1.inner) (contents new.1.inner) clock clock' count' count'' mid after e → TellsFaults e old.0 new.0 old.1 new.1 → faults' ≡ faults + cond (is_fault e) 1 0
     → Runs gives remaining contents first clock' (olds ++ old ∷ []) (news ++ new ∷ []) count count'' s after faults'
 runs_more gives remaining contents first clock clock' olds news old new count count' count'' s mid after faults faults' e r served risen counted =
     let c : Connection = record { stream = served.stream; answers = served.answers; end = e; gave_up = served.gave_up } in
@@ -69,15 +67,13 @@ pub record SoFar {C R W : Type 0} (means : State → Type 0) (gives : C → ℕ 
     (old now : List (Counted R × Counted W)) (i : ℕ) (count count' : ℕ) (s : State) (faults : ℕ) : Type 0 where
   pub state : State
   pub same : IsLeft means state
-  pub none : HasNoBox state
   pub runs : Runs gives remaining contents first clock (take i old) (take i now) count count' s state faults
 
 pub starts : {C R W : Type 0} (means : State → Type 0) (gives : C → ℕ → C → Type 0) (remaining : R → Option (List ℕ)) (contents : W → Option (List ℕ)) (clock : C) (old : List (Counted R × Counted W)) (count : ℕ) (s : State)
-    → IsLeft means s → HasNoBox s → SoFar means gives remaining contents clock clock old old 0 count count s 0
-starts means gives remaining contents clock old count s same none = record {
+    → IsLeft means s → SoFar means gives remaining contents clock clock old old 0 count count s 0
+starts means gives remaining contents clock old count s same = record {
   state = s;
   same = same;
-  none = none;
   runs = record { connections = []; moments = []; told = refl; served = tt; counted = refl; run = (refl, refl); faulty = refl };
 }
 
@@ -111,21 +107,19 @@ others_stay old now i d new lt lt' same = drop-set-lt (i + 1) now i new (omega a
 pub goes_on : {C R W : Type 0} (means means' : State → Type 0) (gives : C → ℕ → C → Type 0) (remaining : R → Option (List ℕ)) (contents : W → Option (List ℕ)) (first clock clock' : C)
     (old now : List (Counted R × Counted W)) (i : ℕ) (count count' count'' : ℕ) (s : State) (faults faults' : ℕ) (d new : Counted R × Counted W) (e : SessionEnd)
     → i < length old → i < length now → drop i now ≡ drop i old
-    → ((mid : State) → IsLeft means mid → HasNoBox mid
-    → (after : State) × IsLeft means' after × Serves gives (remaining (get_or now i d).0.inner) (remaining new.0.inner) (contents (get_or now i d).1.inner) (contents new.1.inner) clock clock' count' count'' mid after e)
-    → TellsEnd remaining e (get_or now i d).0 new.0 (get_or now i d).1 new.1 → faults' ≡ faults + cond (is_fault e) 1 0
+    → ((mid : State) → IsLeft means mid
+    → (after : State) × IsLeft means' after × Serves most_messages gives (remaining (get_or now i d).0.inner) (remaining new.0.inner) (contents (get_or now i d).1.inner) (contents new.1.inner) clock clock' count' count'' mid after e)
+    → TellsFaults e (get_or now i d).0 new.0 (get_or now i d).1 new.1 → faults' ≡ faults + cond (is_fault e) 1 0
     → SoFar means gives remaining contents first clock old now i count count' s faults → SoFar means' gives remaining contents first clock' old (set now i new) (i + 1) count count'' s faults'
 goes_on means means' gives remaining contents first clock clock' old now i count count' count'' s faults faults' d new e lt lt' rest serves risen counted f =
     let item = get_or now i d in
     let first_is : item ≡ get_or old i d = (as_at_first old now i d lt lt' rest).0 in
-    let h = serves f.state f.same f.none in
-    let kept = session_keeps most_messages h.2.stream f.state h.2.moments h.2.answers e h.2.gave_up h.0 f.none h.2.session in
+    let h = serves f.state f.same in
     let more = runs_more gives remaining contents first clock clock' (take i old) (take i now) item new count count' count'' s f.state h.0 faults faults' e f.runs h.2 risen counted in
     let before : take (i + 1) old ≡ take i old ++ item ∷ [] = take_one_more old i d lt ∙ ap (λ c. take i old ++ c ∷ []) (sym first_is) in
     record {
       state = h.0;
       same = h.1;
-      none = subst HasNoBox (sym kept) f.none;
       runs = subst (λ xs. Runs gives remaining contents first clock' xs (take (i + 1) (set now i new)) count count'' s h.0 faults') (sym before)
           (subst (λ xs. Runs gives remaining contents first clock' (take i old ++ item ∷ []) xs count count'' s h.0 faults') (sym (take_more_set now i new lt')) more);
     }

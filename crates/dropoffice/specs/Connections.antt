@@ -5,8 +5,7 @@ use Rattle.sigtext.specs.Counts.{Rose}
 use Rattle.boxes.specs.State.{State}
 use Rattle.wire.specs.declared.counted.Counted.{Counted}
 use Rattle.dropoffice.specs.declared.session.SessionEnd.{SessionEnd}
-use Rattle.dropoffice.specs.declared.session.SessionEnd.TheVariants.{Ended, Truncated, Refused, Limit, ReadFault, WriteFault, Unserved}
-use Rattle.dropoffice.specs.Served.{IsServed}
+use Rattle.dropoffice.specs.declared.session.SessionEnd.TheVariants.{Ended, Truncated, Refused, Limit, ReadFault, WriteFault}
 use Rattle.dropoffice.specs.Sessions.{Session, Connection, Run, most_messages}
 
 -- the clock told these moments, one after another
@@ -29,7 +28,6 @@ IsStream false Truncated old new stream = IsKnown old stream × IsAtEnd new
 IsStream false (Refused number) old new stream = IsKnown old stream
 IsStream false Limit old new stream = IsKnown old stream
 IsStream false WriteFault old new stream = IsKnown old stream
-IsStream false Unserved old new stream = IsKnown old stream
 
 -- the keeper's count of faults is free where a session gave up, and else it stays
 abbrev pub KeepsCount : Bool → ℕ → ℕ → Type 0
@@ -37,8 +35,8 @@ KeepsCount true old new = old ≤ new
 KeepsCount false old new = new ≡ old
 
 -- what was read, which moments were told, what was written, what the keeper counted, and that these are
--- a session
-pub record Serves {C : Type 0} (gives : C → ℕ → C → Type 0) (input input' output output' : Option (List ℕ)) (clock clock' : C) (count count' : ℕ) (s after : State) (e : SessionEnd) : Type 0 where
+-- a session of up to n messages
+pub record Serves {C : Type 0} (n : ℕ) (gives : C → ℕ → C → Type 0) (input input' output output' : Option (List ℕ)) (clock clock' : C) (count count' : ℕ) (s after : State) (e : SessionEnd) : Type 0 where
   pub stream : List ℕ
   pub moments : List ℕ
   pub answers : List ℕ
@@ -47,24 +45,14 @@ pub record Serves {C : Type 0} (gives : C → ℕ → C → Type 0) (input input
   pub told : Told gives clock moments clock'
   pub written : Appends output output' answers
   pub counted : KeepsCount gave_up count count'
-  pub session : Session most_messages stream s moments answers e gave_up after
+  pub session : Session n stream s moments answers e gave_up after
 
 -- A fault of the reader or the writer that was counted is the end that is told, and no other end is told as one.
--- As long as a stream is read to its end before its message is answered, a reader may have failed besides where the
--- session gave up, where the writer failed too, and where the stream is not served.
 pub record TellsFaults {R W : Type 0} (e : SessionEnd) (reader reader' : Counted R) (writer writer' : Counted W) : Type 0 where
   pub read : e ≡ ReadFault → Rose reader.faults reader'.faults
-  pub not_read : (e ≢ ReadFault) → (e ≢ WriteFault) → (e ≢ Refused 40) → (e ≢ Unserved) → reader'.faults ≡ reader.faults
+  pub not_read : (e ≢ ReadFault) → reader'.faults ≡ reader.faults
   pub written : e ≡ WriteFault → Rose writer.faults writer'.faults
   pub not_written : (e ≢ WriteFault) → writer'.faults ≡ writer.faults
-
--- What an end tells: the faults that were counted, and whether the stream is of the kind that is served so far. One
--- that is not is left as it is, and nothing is written; and unless a read failed, no other is left so.
-pub record TellsEnd {R W : Type 0} (remaining : R → Option (List ℕ)) (e : SessionEnd) (reader reader' : Counted R) (writer writer' : Counted W) : Type 0 where
-  pub faults : TellsFaults e reader reader' writer writer'
-  pub unserved : e ≡ Unserved → (stream : List ℕ) → remaining reader.inner ≡ Some stream → IsServed stream → ⊥
-  pub untouched : e ≡ Unserved → writer' ≡ writer
-  pub only : (e ≢ Unserved) → Rose reader.faults reader'.faults ⊎ ((stream : List ℕ) → remaining reader.inner ≡ Some stream → IsServed stream)
 
 -- each connection of the list as it was served: what its reader gave, what its writer was given, and what its
 -- end tells
@@ -72,7 +60,7 @@ abbrev pub AreServed : {R W : Type 0} → (R → Option (List ℕ)) → (W → O
 AreServed remaining contents [] [] [] = ⊤
 AreServed remaining contents (old ∷ olds) (new ∷ news) (c ∷ cs) =
     IsStream c.gave_up c.end (remaining old.0.inner) (remaining new.0.inner) c.stream × Appends (contents old.1.inner) (contents new.1.inner) c.answers
-    × TellsEnd remaining c.end old.0 new.0 old.1 new.1 × AreServed remaining contents olds news cs
+    × TellsFaults c.end old.0 new.0 old.1 new.1 × AreServed remaining contents olds news cs
 AreServed remaining contents olds news cs = ⊥
 
 -- the keeper's count of faults over the connections, one after another
@@ -88,7 +76,6 @@ is_fault Ended = false
 is_fault Truncated = false
 is_fault (Refused number) = false
 is_fault Limit = false
-is_fault Unserved = false
 
 -- the whole run: the connections in order, their moments, the state after, what the keeper counted, and how
 -- many connections ended by a fault

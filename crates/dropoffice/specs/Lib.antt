@@ -2,12 +2,11 @@ pub mod Rules
 pub mod Answering
 pub mod Sessions
 pub mod Connections
-pub mod Served
 pub mod Clocks
 pub mod Offices
 pub mod Handling
 pub mod Sent
-pub mod Streams
+pub mod Stepping
 pub mod Tasks
 pub mod Admitted
 pub mod Places

@@ -5,12 +5,11 @@ use Rattle.wire.specs.declared.answer.Answer.{Answer}
 use Rattle.sigtext.specs.Bytes.{IsBeginning}
 use Rattle.wire.specs.Shown.{whole_text}
 use Rattle.dropoffice.specs.declared.handling.Handled.{Handled}
-use Rattle.dropoffice.specs.declared.handling.Handled.TheVariants.{Unserved, Answered, GaveUp, Broken}
+use Rattle.dropoffice.specs.declared.handling.Handled.TheVariants.{Answered, GaveUp, Broken}
 use Rattle.dropoffice.specs.Offices.{IsTryAgain}
 
 -- the whole text was written, or a beginning of it
 abbrev pub IsSent : Option (List ℕ) → Option (List ℕ) → Answer → Handled → Type 0
-IsSent old new a Unserved = ⊥
 IsSent old new a Answered = (IsTryAgain a → ⊥) × Appends old new (whole_text a)
 IsSent old new a GaveUp = IsTryAgain a × Appends old new (whole_text a)
 IsSent old new a Broken = (IsTryAgain a ⊎ (IsTryAgain a → ⊥)) × (front : List ℕ) × Appends old new front × IsBeginning front (whole_text a)

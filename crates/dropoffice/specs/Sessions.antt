@@ -9,20 +9,17 @@ use Rattle.wire.specs.Answers.{answer_text}
 use Rattle.wire.specs.Answers as answer
 use Rattle.wire.specs.Framing.{Next}
 use Rattle.wire.specs.Framing as frame
+use Rattle.wire.specs.Feeding.{HoldsNoMessage}
+use Rattle.wire.specs.Whole.{HoldsNoBareMessage}
 use Rattle.sigtext.specs.Bytes.{IsBeginning}
 use Rattle.dropoffice.specs.declared.session.SessionEnd.{SessionEnd}
-use Rattle.dropoffice.specs.declared.session.SessionEnd.TheVariants.{Ended, Truncated, Refused, Limit, ReadFault, WriteFault, Unserved}
+use Rattle.dropoffice.specs.declared.session.SessionEnd.TheVariants.{Ended, Truncated, Refused, Limit, ReadFault, WriteFault}
 use Rattle.dropoffice.specs.Answering.{Answers}
 use Rattle.dropoffice.specs.Asked.{IsReadable}
-use Rattle.dropoffice.specs.Served.{IsServed}
 
 -- the text of a refusal that closes the connection
 abbrev pub closing : Refusal → List ℕ
 closing q = answer_text false (answer.Refused q)
-
--- no message stands whole at the front of the stream
-abbrev pub HasNoMessage : List ℕ → Type 0
-HasNoMessage stream = (r : Request) (rest : List ℕ) → Next stream (frame.Message r) rest → ⊥
 
 -- how many messages a connection is served
 abbrev pub most_messages : ℕ
@@ -43,10 +40,10 @@ pub data Session : ℕ → List ℕ → State → List ℕ → List ℕ → Sess
   -- memory was refused, or the keeper counted a fault, at a message
   gave_up_at : (n : ℕ) (stream rest : List ℕ) (s : State) (r : Request) (now : ℕ) → Next stream (frame.Message r) rest → IsReadable r
       → Session (suc n) stream s (now ∷ []) (closing rule.TryAgain) (Refused 40) true s
-  -- the whole stream is not of the kind that is served so far
-  unserved : (stream : List ℕ) (s : State) → (IsServed stream → ⊥) → Session most_messages stream s [] [] Unserved false s
+  -- memory was refused where a message is read: for the first buffer, or for a body that is not empty
+  gave_up_reading : (n : ℕ) (stream : List ℕ) (s : State) → HoldsNoBareMessage stream → Session (suc n) stream s [] (closing rule.TryAgain) (Refused 40) true s
   -- a read failed, and no further message stands whole in the bytes read before it
-  read_failed : (n : ℕ) (stream : List ℕ) (s : State) → HasNoMessage stream → Session (suc n) stream s [] [] ReadFault false s
+  read_failed : (n : ℕ) (stream : List ℕ) (s : State) → HoldsNoMessage stream → Session (suc n) stream s [] [] ReadFault false s
   -- a write failed, and a beginning of the answer was written; the request has taken effect, or was refused
   write_failed : (n : ℕ) (stream rest : List ℕ) (s after : State) (r : Request) (now : ℕ) (text front : List ℕ)
       → Next stream (frame.Message r) rest → Answers s r now text after → IsBeginning front text
@@ -55,6 +52,8 @@ pub data Session : ℕ → List ℕ → State → List ℕ → List ℕ → Sess
       → IsBeginning front (closing q) → Session (suc n) stream s [] front WriteFault false s
   write_failed_giving_up_at : (n : ℕ) (stream rest : List ℕ) (s : State) (r : Request) (now : ℕ) (front : List ℕ) → Next stream (frame.Message r) rest
       → IsReadable r → IsBeginning front (closing rule.TryAgain) → Session (suc n) stream s (now ∷ []) front WriteFault true s
+  write_failed_giving_up_reading : (n : ℕ) (stream : List ℕ) (s : State) (front : List ℕ) → HoldsNoBareMessage stream
+      → IsBeginning front (closing rule.TryAgain) → Session (suc n) stream s [] front WriteFault true s
 
 -- a connection as it was served
 pub record Connection : Type 0 where

@@ -9,8 +9,6 @@ use wire::{Answer, Counted, put_answer};
 /// What became of a message.
 #[derive(Clone, Copy, Debug, PartialEq, Eq)]
 pub(crate) enum Handled {
-    /// It is not of the kind that is served so far; nothing was answered or changed.
-    Unserved,
     /// Its answer was written.
     Answered,
     /// Refusal 40 was written.

@@ -4,7 +4,6 @@
 mod admitting;
 pub mod clocks;
 mod fetching;
-mod fields;
 mod forms;
 mod handling;
 pub mod office;
@@ -15,6 +14,7 @@ mod reading;
 pub mod replay;
 pub mod run;
 pub mod session;
+mod stepping;
 pub mod task;
 
 pub use clocks::{Clock, FixedClock, ListedClock};

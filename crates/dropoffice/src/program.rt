@@ -37,8 +37,6 @@ enum Fault<'a> {
     #[error("a connection failed")]
     ConnectionFailed,
     /// The stream is not of the kind that is served so far.
-    #[error("not served yet")]
-    NotServed,
     /// Memory was refused.
     #[error("out of memory")]
     OutOfMemory,
@@ -111,7 +109,6 @@ fn do_replay<'a, R: Files + AllocGlobal>(
     writer.flush().map_err(|_| Fault::ConnectionFailed)?;
     match end {
         SessionEnd::ReadFault | SessionEnd::WriteFault => Err(Fault::ConnectionFailed),
-        SessionEnd::Unserved => Err(Fault::NotServed),
         SessionEnd::Ended | SessionEnd::Truncated | SessionEnd::Refused(_) | SessionEnd::Limit => {
             Ok(())
         }

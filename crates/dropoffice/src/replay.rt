@@ -2,7 +2,7 @@
 ghost use Rattle.std.specs.Prelude.{◌≡◌, pos, IfOk, OnErr};
 ghost use Rattle.sigv4.specs.Credential.{IsKeyId, IsSecret};
 ghost use Rattle.boxes.specs.FirstState.{first_state};
-ghost use Rattle.dropoffice.specs.Connections.{TellsEnd};
+ghost use Rattle.dropoffice.specs.Connections.{TellsFaults};
 ghost use Rattle.dropoffice.specs.Replays.{IsReplay, Replays};
 
 use crate::clocks::FixedClock;
@@ -29,7 +29,7 @@ pub fn replay<R: Read, W: Write>(
     requires secret { IsSecret secret.now }
     ensures session { IfOk result (Replays (R.remaining reader.old.inner) (R.remaining reader.new.inner)
         (W.contents writer.old.inner) (W.contents writer.new.inner) (first_state (pos 0) id.now secret.now) moment) }
-    ensures tells { IfOk result (λ end. TellsEnd R.remaining end reader.old reader.new writer.old writer.new) }
+    ensures tells { IfOk result (λ end. TellsFaults end reader.old reader.new writer.old writer.new) }
     ensures err { OnErr result ((reader.new ≡ reader.old) × (writer.new ≡ writer.old)) }
 {
     let Ok(keeper) = Shelf::new(alloc, OfficeRow { east: 0 }, id, secret) else {

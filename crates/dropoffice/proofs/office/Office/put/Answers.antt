@@ -1,5 +1,7 @@
 use Rattle.std.proofs.Common.{◌≡◌, ◌↔◌, ◌∙◌, ◌≤◌, Bool, Ok, arith, ℕ, List, length, ap, sym, subst, refl}
+use Rattle.sigtext.specs.Bytes.{AreBytes}
 use Rattle.sigtext.specs.Limits.{most_body}
+use Rattle.links.proofs.WrittenBytes.{are_bytes}
 use Rattle.sigv4.specs.Hmac.{sha256}
 use Rattle.boxes.specs.Steps.{after_upload}
 use Rattle.boxes.specs.Changes.{IsFileSet}
@@ -18,7 +20,7 @@ pub returns-in-Refused-clause-replies : goal.returns-in-Refused-clause-replies
 returns-in-Refused-clause-replies g c s r p kept is is_put body_is reached other =
     let u = upload_of r c.args.now p in
     let same = c.read_place-place.ensures ∙ ap place_of (c.deref.ensures.value ∙ c.in-Ok.ensures r p is) in
-    let brings = brought (g.K.Keeper.means c.look_up.new.self.keeper) s r c.args.now p reached (subst (λ (b : List ℕ). length b ≤ most_body) (sym body_is) c.requires) (omega (arith, c.well_formed)) in
+    let brings = brought (g.K.Keeper.means c.look_up.new.self.keeper) s r c.args.now p reached (subst (λ (b : List ℕ). length b ≤ most_body) (sym body_is) c.requires) (subst AreBytes (sym body_is) (are_bytes c.args.body.now c.type_inv.body)) (omega (arith, c.well_formed)) in
     not_put (g.K.Keeper.means c.look_up.new.self.keeper) s r c.args.now p reached c.in-Refused.refusal is_put
     (c.in-Refused.ensures s u kept.sound brings (subst (λ x. IsUploadViewOf s x c.in-Ok-look_up.field-0.view) same (c.in-Ok-look_up.ensures.view s kept))
      (record { length_is = ap length (sym body_is); digest = c.digest_of-digest.ensures ∙ ap sha256 (sym body_is); stand = c.in-Ok-look_up.ensures.stand s u kept (sym same) body_is })
@@ -29,7 +31,7 @@ returns-in-Again-clause-replies g c s r p kept is is_put body_is reached =
     let u = upload_of r c.args.now p in
     let means = g.K.Keeper.means c.look_up.new.self.keeper in
     let same = c.read_place-place.ensures ∙ ap place_of (c.deref.ensures.value ∙ c.in-Ok.ensures r p is) in
-    let brings = brought means s r c.args.now p reached (subst (λ (b : List ℕ). length b ≤ most_body) (sym body_is) c.requires) (omega (arith, c.well_formed)) in
+    let brings = brought means s r c.args.now p reached (subst (λ (b : List ℕ). length b ≤ most_body) (sym body_is) c.requires) (subst AreBytes (sym body_is) (are_bytes c.args.body.now c.type_inv.body)) (omega (arith, c.well_formed)) in
     subst (λ (x : Reply). IsReplied means s r c.args.now (Ok x)) (sym c.reply_of.ensures)
     (again means s r c.args.now p reached c.in-Again.receipt is_put (record { means = c.in-Ok-look_up.ensures.same s kept.means; sound = kept.sound })
      (c.in-Again.ensures s u kept.sound brings (subst (λ x. IsUploadViewOf s x c.in-Ok-look_up.field-0.view) same (c.in-Ok-look_up.ensures.view s kept))
@@ -43,7 +45,7 @@ returns-clause-replies g c s r p kept is is_put body_is reached =
     let still : IsKept (g.K.Keeper.means c.args.self.now.keeper) (g.K.Keeper.is_honest c.look_up.new.self.keeper) s =
     record { means = kept.means; is_honest = c.set_file.ensures.honest kept.is_honest; sound = kept.sound } in
     let same = c.read_place-place.ensures ∙ ap place_of (c.deref.ensures.value ∙ c.in-Ok.ensures r p is) in
-    let brings = brought means s r c.args.now p reached (subst (λ (b : List ℕ). length b ≤ most_body) (sym body_is) c.requires) (omega (arith, c.well_formed)) in
+    let brings = brought means s r c.args.now p reached (subst (λ (b : List ℕ). length b ≤ most_body) (sym body_is) c.requires) (subst AreBytes (sym body_is) (are_bytes c.args.body.now c.type_inv.body)) (omega (arith, c.well_formed)) in
     let decided = c.in-Taken.ensures s u kept.sound brings (subst (λ x. IsUploadViewOf s x c.in-Ok-look_up.field-0.view) same (c.in-Ok-look_up.ensures.view s still))
     (record { length_is = ap length (sym body_is); digest = c.digest_of-digest.ensures ∙ ap sha256 (sym body_is); stand = c.in-Ok-look_up.ensures.stand s u still (sym same) body_is })
     refl (sym (c.key_id.ensures r p is)) (sym same) in

@@ -1,0 +1,265 @@
+-- What one step of a session gives, and a step before the steps that follow.
+use Rattle.std.proofs.Common.{◌≡◌, ◌≤◌, ℕ, suc, Bool, true, false, List, [], ◌∷◌, ◌++◌, length, Option, Some, None, refl, sym, ap, subst, ◌∙◌, append_assoc, arith}
+use Rattle.std.proofs.lemmas.List.{append-nil}
+use Rattle.std.specs.Io.KnownBytes.{Appends, Consumes, IsAtEnd, prepend_known}
+use Rattle.sigtext.specs.Bytes.{IsBeginning}
+use Rattle.sigtext.specs.declared.refusal.Refusal.{Refusal}
+use Rattle.sigtext.specs.declared.refusal.Refusal.TheVariants as rule
+use Rattle.sigtext.specs.Request.{Request}
+use Rattle.boxes.specs.State.{State}
+use Rattle.httparse.specs.Grammar.{RequestHead}
+use Rattle.wire.specs.Feeding.{Opens, OfStream, HoldsNoMessage}
+use Rattle.wire.specs.Framing.{IsHead, Next, Message, request_of}
+use Rattle.wire.specs.Framing as frame
+use Rattle.wire.specs.Whole.{IsNextMessage, HoldsNoBareMessage}
+use Rattle.wire.proofs.Halves.{message_stands}
+use Rattle.dropoffice.specs.declared.session.SessionEnd.{SessionEnd}
+use Rattle.dropoffice.specs.declared.session.SessionEnd.TheVariants.{Ended, Truncated, Refused, Limit, ReadFault, WriteFault}
+use Rattle.dropoffice.specs.declared.handling.Handled.TheVariants.{Answered, GaveUp, Broken}
+use Rattle.dropoffice.specs.Connections.{IsKnown, IsStream, KeepsCount, Serves}
+use Rattle.dropoffice.specs.Handling.{Handles, answered, gave_up_at, broke, broke_giving_up_at}
+use Rattle.dropoffice.specs.Kept.{IsLeft}
+use Rattle.dropoffice.specs.Sessions.{Session}
+use Rattle.dropoffice.specs.Sessions as session
+use Rattle.dropoffice.specs.Stepping.{Goes, IsClosed, Steps}
+
+-- ---- known bytes, one part after another
+
+consumes_more : (a b c : Option (List ℕ)) (x y : List ℕ) → Consumes a b x → Consumes b c y → Consumes a c (x ++ y)
+consumes_more None b c x y h k = tt
+consumes_more (Some p) None c x y h k = absurd h
+consumes_more (Some p) (Some q) None x y h k = absurd k
+consumes_more (Some p) (Some q) (Some r) x y h k = h ∙ ap (λ (t : List ℕ). x ++ t) k ∙ sym (append_assoc x y r)
+
+appends_more : (a b c : Option (List ℕ)) (x y : List ℕ) → Appends a b x → Appends b c y → Appends a c (x ++ y)
+appends_more None b c x y h k = tt
+appends_more (Some p) None c x y h k = absurd h
+appends_more (Some p) (Some q) None x y h k = absurd k
+appends_more (Some p) (Some q) (Some r) x y h k = k ∙ ap (λ (t : List ℕ). t ++ y) h ∙ append_assoc p x y
+
+known_more : (a b : Option (List ℕ)) (x y : List ℕ) → Consumes a b x → IsKnown b y → IsKnown a (x ++ y)
+known_more None b x y h k = tt
+known_more (Some p) None x y h k = absurd h
+known_more (Some p) (Some q) x y h k = ap (λ (t : List ℕ). x ++ t) k ∙ sym h
+
+stream_more : (gave_up : Bool) (e : SessionEnd) (a b c : Option (List ℕ)) (x y : List ℕ) → Consumes a b x → IsStream gave_up e b c y → IsStream gave_up e a c (x ++ y)
+stream_more true e a b c x y h k = consumes_more a b c x y h k
+stream_more false ReadFault a b c x y h k = consumes_more a b c x y h k
+stream_more false Ended a b c x y h k = (known_more a b x y h k.0, k.1)
+stream_more false Truncated a b c x y h k = (known_more a b x y h k.0, k.1)
+stream_more false (Refused number) a b c x y h k = known_more a b x y h k
+stream_more false Limit a b c x y h k = known_more a b x y h k
+stream_more false WriteFault a b c x y h k = known_more a b x y h k
+
+-- those that wait are taken too, as far as the reader is asked
+all_taken : (reader : Option (List ℕ)) (waits : List ℕ) → Consumes (prepend_known waits reader) reader waits
+all_taken None waits = tt
+all_taken (Some xs) waits = refl
+
+-- what is left, where it is known
+rest_of : Option (List ℕ) → List ℕ
+rest_of None = []
+rest_of (Some xs) = xs
+
+known_rest : (a b : Option (List ℕ)) (x : List ℕ) → Consumes a b x → IsKnown a (x ++ rest_of b)
+known_rest None b x h = tt
+known_rest (Some p) None x h = absurd h
+known_rest (Some p) (Some q) x h = sym h
+
+is_stream : (a : Option (List ℕ)) (Holds : List ℕ → Type 0) (o : OfStream a Holds) → IsKnown a o.stream
+is_stream None Holds o = tt
+is_stream (Some p) Holds o = sym o.is
+
+-- ---- a step, and those that follow
+
+pub serves_more : {C : Type 0} (gives : C → ℕ → C → Type 0) (n : ℕ) (left left' reader output output' output'' : Option (List ℕ)) (clock clock' clock'' : C) (count count' count'' : ℕ) (s mid after : State) (e : SessionEnd)
+    → Goes gives left left' output output' clock clock' count count' s mid → Serves n gives left' reader output' output'' clock' clock'' count' count'' mid after e
+    → Serves (suc n) gives left reader output output'' clock clock'' count count'' s after e
+serves_more gives n left left' reader output output' output'' clock clock' clock'' count count' count'' s mid after e g r = record {
+  stream = g.front ++ r.stream;
+  moments = g.moment ∷ r.moments;
+  answers = g.text ++ r.answers;
+  gave_up = r.gave_up;
+  read = stream_more r.gave_up e left left' reader g.front r.stream g.taken r.read;
+  told = (clock', g.told, r.told);
+  written = appends_more output output' output'' g.text r.answers g.written r.written;
+  counted = subst (λ (k : ℕ). KeepsCount r.gave_up k count'') g.counted r.counted;
+  session = session.served n (g.front ++ r.stream) r.stream s mid after g.request g.moment r.moments g.text r.answers e r.gave_up (g.message r.stream) g.answers r.session;
+}
+
+known_whole : (a : Option (List ℕ)) → IsKnown a (rest_of a)
+known_whole None = tt
+known_whole (Some p) = refl
+
+nothing_written : (a : Option (List ℕ)) → Appends a a []
+nothing_written None = tt
+nothing_written (Some p) = sym (append-nil p)
+
+-- no message is served any more
+pub serves_none : {C : Type 0} (gives : C → ℕ → C → Type 0) (left reader output : Option (List ℕ)) (clock : C) (count : ℕ) (s : State) → Serves 0 gives left reader output output clock clock count count s s Limit
+serves_none gives left reader output clock count s = record {
+  stream = rest_of left;
+  moments = [];
+  answers = [];
+  gave_up = false;
+  read = known_whole left;
+  told = refl;
+  written = nothing_written output;
+  counted = refl;
+  session = session.limit (rest_of left) s;
+}
+-- ---- steps with a message
+
+module _ {C : Type 0} (gives : C → ℕ → C → Type 0) (left reader output output' : Option (List ℕ)) (clock clock' : C) (count count' : ℕ) (means : State → Type 0) (s : State)
+    (text : List ℕ) (has_length : Bool) (body waits : List ℕ) (m : IsNextMessage text has_length body left (prepend_known waits reader)) where
+  r : Request
+  r = request_of m.opens.head has_length body
+
+  stands : (more : List ℕ) → Next ((text ++ body) ++ more) (Message r) more
+  stands more = subst (λ (t : List ℕ). Next t (Message r) more) (sym (append_assoc text body more)) (message_stands text body more has_length m.opens)
+
+  all_read : Consumes left reader ((text ++ body) ++ waits)
+  all_read = consumes_more left (prepend_known waits reader) reader (text ++ body) waits m.taken (all_taken reader waits)
+
+  pub answered_step : Handles gives clock clock' output output' count count' means s r Answered → Steps gives left (prepend_known waits reader) reader output output' clock clock' count count' means s None
+  answered_step (answered now written after told appends same keeps answers) =
+      (after, keeps, record { front = text ++ body; request = r; moment = now; text = written; taken = m.taken; message = stands; told = told; written = appends; answers = answers; counted = same })
+
+  pub gave_up_step : Handles gives clock clock' output output' count count' means s r GaveUp → Steps gives left (prepend_known waits reader) reader output output' clock clock' count count' means s (Some (Refused 40))
+  gave_up_step (gave_up_at now told appends less readable keeps) = (s, keeps, λ n. record {
+    stream = (text ++ body) ++ waits;
+    moments = now ∷ [];
+    answers = session.closing rule.TryAgain;
+    gave_up = true;
+    read = all_read;
+    told = (clock', told, refl);
+    written = appends;
+    counted = less;
+    session = session.gave_up_at n ((text ++ body) ++ waits) waits s r now (stands waits) readable;
+  })
+
+  pub broken_step : Handles gives clock clock' output output' count count' means s r Broken → Steps gives left (prepend_known waits reader) reader output output' clock clock' count count' means s (Some WriteFault)
+  broken_step (broke now written front after told appends begins same keeps answers) =
+      let rest = rest_of (prepend_known waits reader) in
+      (after, keeps, λ n. record {
+         stream = (text ++ body) ++ rest;
+         moments = now ∷ [];
+         answers = front;
+         gave_up = false;
+         read = known_rest left (prepend_known waits reader) (text ++ body) m.taken;
+         told = (clock', told, refl);
+         written = appends;
+         counted = same;
+         session = session.write_failed n ((text ++ body) ++ rest) rest s after r now written front (stands rest) answers begins;
+       })
+  broken_step (broke_giving_up_at now front told appends begins less readable keeps) = (s, keeps, λ n. record {
+    stream = (text ++ body) ++ waits;
+    moments = now ∷ [];
+    answers = front;
+    gave_up = true;
+    read = all_read;
+    told = (clock', told, refl);
+    written = appends;
+    counted = less;
+    session = session.write_failed_giving_up_at n ((text ++ body) ++ waits) waits s r now front (stands waits) readable begins;
+  })
+
+-- ---- steps without a message
+
+module _ {C : Type 0} (gives : C → ℕ → C → Type 0) (left left' reader output output' : Option (List ℕ)) (clock : C) (count : ℕ) (means : State → Type 0) (s : State) (keeps : IsLeft means s) where
+  pub ended_step : IsAtEnd reader → OfStream left (λ stream. Next stream frame.Ended []) → Steps gives left left' reader output output clock clock count count means s (Some Ended)
+  ended_step at_end o = (s, keeps, λ n. record {
+    stream = o.stream;
+    moments = [];
+    answers = [];
+    gave_up = false;
+    read = (is_stream left (λ stream. Next stream frame.Ended []) o, at_end);
+    told = refl;
+    written = nothing_written output;
+    counted = refl;
+    session = session.ended n o.stream s o.holds;
+  })
+
+  pub truncated_step : IsAtEnd reader → OfStream left (λ stream. Next stream frame.Truncated []) → Steps gives left left' reader output output clock clock count count means s (Some Truncated)
+  truncated_step at_end o = (s, keeps, λ n. record {
+    stream = o.stream;
+    moments = [];
+    answers = [];
+    gave_up = false;
+    read = (is_stream left (λ stream. Next stream frame.Truncated []) o, at_end);
+    told = refl;
+    written = nothing_written output;
+    counted = refl;
+    session = session.truncated n o.stream s o.holds;
+  })
+
+  pub read_failed_step : (front : List ℕ) → Consumes left reader front → HoldsNoMessage front → Steps gives left left' reader output output clock clock count count means s (Some ReadFault)
+  read_failed_step front taken none = (s, keeps, λ n. record {
+    stream = front;
+    moments = [];
+    answers = [];
+    gave_up = false;
+    read = taken;
+    told = refl;
+    written = nothing_written output;
+    counted = refl;
+    session = session.read_failed n front s none;
+  })
+
+  pub closed_step : (q : Refusal) (e : SessionEnd) → OfStream left (λ stream. Next stream (frame.Refused q) []) → IsClosed output output' q e
+      → Steps gives left left' reader output output' clock clock count count means s (Some e)
+  closed_step q (Refused number) o closed = (s, keeps, λ n. record {
+    stream = o.stream;
+    moments = [];
+    answers = session.closing q;
+    gave_up = false;
+    read = is_stream left (λ stream. Next stream (frame.Refused q) []) o;
+    told = refl;
+    written = closed.1;
+    counted = refl;
+    session = subst (λ (k : ℕ). Session (suc n) o.stream s [] (session.closing q) (Refused k) false s) (sym closed.0) (session.unframed n o.stream s q o.holds);
+  })
+  closed_step q WriteFault o closed = (s, keeps, λ n. record {
+    stream = o.stream;
+    moments = [];
+    answers = closed.0;
+    gave_up = false;
+    read = is_stream left (λ stream. Next stream (frame.Refused q) []) o;
+    told = refl;
+    written = closed.1;
+    counted = refl;
+    session = session.write_failed_unframed n o.stream s q closed.0 o.holds closed.2;
+  })
+  closed_step q Ended o closed = absurd closed
+  closed_step q Truncated o closed = absurd closed
+  closed_step q Limit o closed = absurd closed
+  closed_step q ReadFault o closed = absurd closed
+
+  pub no_memory_step : (e : SessionEnd) (front : List ℕ) → Consumes left reader front → HoldsNoBareMessage front → IsClosed output output' rule.TryAgain e
+      → Steps gives left left' reader output output' clock clock count count means s (Some e)
+  no_memory_step (Refused number) front taken none closed = (s, keeps, λ n. record {
+    stream = front;
+    moments = [];
+    answers = session.closing rule.TryAgain;
+    gave_up = true;
+    read = taken;
+    told = refl;
+    written = closed.1;
+    counted = omega arith;
+    session = subst (λ (k : ℕ). Session (suc n) front s [] (session.closing rule.TryAgain) (Refused k) true s) (sym closed.0) (session.gave_up_reading n front s none);
+  })
+  no_memory_step WriteFault front taken none closed = (s, keeps, λ n. record {
+    stream = front;
+    moments = [];
+    answers = closed.0;
+    gave_up = true;
+    read = taken;
+    told = refl;
+    written = closed.1;
+    counted = omega arith;
+    session = session.write_failed_giving_up_reading n front s closed.0 none closed.2;
+  })
+  no_memory_step Ended front taken none closed = absurd closed
+  no_memory_step Truncated front taken none closed = absurd closed
+  no_memory_step Limit front taken none closed = absurd closed
+  no_memory_step ReadFault front taken none closed = absurd closed

@@ -1,7 +1,0 @@
-use Rattle.std.proofs.Common.{◌≡◌, [], take, map}
-use Rattle.sigtext.specs.Fields.{header_of}
-use Rattle.sigtext.specs.SignedHeaders.{named}
-use Rattle.dropoffice.proofs.fields.has_field.Given as goal
-
-abbrev pub invariant-fields : goal.invariant-fields
-invariant-fields l = named l.name (map header_of (take l.field-index l.fields)) ≡ []
