@@ -32,7 +32,7 @@ fn read_all(alloc: Global, reader: Source<'_>) -> Result<Outcome, Fail> {
         end: Ok(Came::End),
         faults: 0,
     };
-    for _ in 0..9 {
+    'messages: for _ in 0..9 {
         match read_message(&mut feed, &mut head, &mut body) {
             Ok(Came::Message { size, has_length }) => {
                 got.text.extend_from_slice(head.get(..size).unwrap_or(b""))?;
