@@ -32,15 +32,15 @@ again_written a e = ap (λ r. answer_text a.is_head (said_of r)) e ∙ closes_al
 
 -- a message whose moment was taken
 pub handled_at : {C : Type 0} (gives : C → ℕ → C → Type 0) (clock clock' : C) (old new : Option (List ℕ)) (count count' : ℕ) (means : State → Type 0) (s : State) (r : Request) (now : ℕ) (a : Answer) (h : Handled)
-    → gives clock now clock' → IsLeft means s → ((IsTryAgain a → ⊥) → count' ≡ count) → count ≤ count' → (IsTryAgain a → IsReadable r) → IsAnswered means s r now a → IsSent old new a h
+    → gives clock now clock' → (IsTryAgain a → IsLeft means s) → ((IsTryAgain a → ⊥) → count' ≡ count) → count ≤ count' → (IsTryAgain a → IsReadable r) → IsAnswered means s r now a → IsSent old new a h
     → Handles gives clock clock' old new count count' means s r h
 handled_at gives clock clock' old new count count' means s r now a Answered told same still less readable answers sent =
     let x = answers sent.0 in answered now (whole_text a) x.0 told sent.1 (still sent.0) x.1 x.2
 handled_at gives clock clock' old new count count' means s r now a GaveUp told same still less readable answers sent =
-    gave_up_at now told (subst (Appends old new) (again_written a sent.0) sent.1) less (readable sent.0) same
+    gave_up_at now told (subst (Appends old new) (again_written a sent.0) sent.1) less (readable sent.0) (same sent.0)
 handled_at gives clock clock' old new count count' means s r now a Broken told same still less readable answers sent =
     ⊎_elim
-    (λ again. broke_giving_up_at now sent.1 told sent.2 (subst (IsBeginning sent.1) (again_written a again) sent.3) less (readable again) same)
+    (λ again. broke_giving_up_at now sent.1 told sent.2 (subst (IsBeginning sent.1) (again_written a again) sent.3) less (readable again) (same again))
     (λ other. let x = answers other in broke now (whole_text a) sent.1 x.0 told sent.2 sent.3 (still other) x.1 x.2)
     sent.0
 

@@ -1,5 +1,5 @@
 -- What one step of a session gives, and a step before the steps that follow.
-use Rattle.std.proofs.Common.{◌≡◌, ◌≤◌, ℕ, suc, Bool, true, false, List, [], ◌∷◌, ◌++◌, length, Option, Some, None, refl, sym, ap, subst, ◌∙◌, append_assoc, arith}
+use Rattle.std.proofs.Common.{◌≡◌, ◌≤◌, ◌<◌, ◌+◌, ◌-◌, ℕ, suc, Bool, true, false, List, [], ◌∷◌, ◌++◌, length, Option, Some, None, refl, sym, ap, subst, ◌∙◌, append_assoc, arith}
 use Rattle.std.proofs.lemmas.List.{append-nil}
 use Rattle.std.specs.Io.KnownBytes.{Appends, Consumes, IsAtEnd, prepend_known}
 use Rattle.sigtext.specs.Bytes.{IsBeginning}
@@ -11,10 +11,14 @@ use Rattle.httparse.specs.Grammar.{RequestHead}
 use Rattle.wire.specs.Feeding.{Opens, OfStream, HoldsNoMessage}
 use Rattle.wire.specs.Framing.{IsHead, Next, Message, request_of}
 use Rattle.wire.specs.Framing as frame
-use Rattle.wire.specs.Whole.{IsNextMessage, HoldsNoBareMessage}
+use Rattle.wire.specs.declared.fault.WireFault.{WireFault}
+use Rattle.wire.specs.declared.feed.Place.{Place}
+use Rattle.wire.specs.declared.joining.Came.{Came}
+use Rattle.wire.specs.Whole.{BreaksOff, Brings, IsNextMessage, HoldsNoBareMessage}
 use Rattle.wire.proofs.Halves.{message_stands}
 use Rattle.dropoffice.specs.declared.session.SessionEnd.{SessionEnd}
 use Rattle.dropoffice.specs.declared.session.SessionEnd.TheVariants.{Ended, Truncated, Refused, Limit, ReadFault, WriteFault}
+use Rattle.dropoffice.specs.declared.handling.Handled.{Handled}
 use Rattle.dropoffice.specs.declared.handling.Handled.TheVariants.{Answered, GaveUp, Broken}
 use Rattle.dropoffice.specs.Connections.{IsKnown, IsStream, KeepsCount, Serves}
 use Rattle.dropoffice.specs.Handling.{Handles, answered, gave_up_at, broke, broke_giving_up_at}
@@ -57,7 +61,7 @@ all_taken None waits = tt
 all_taken (Some xs) waits = refl
 
 -- what is left, where it is known
-rest_of : Option (List ℕ) → List ℕ
+abbrev rest_of : Option (List ℕ) → List ℕ
 rest_of None = []
 rest_of (Some xs) = xs
 
@@ -69,6 +73,13 @@ known_rest (Some p) (Some q) x h = sym h
 is_stream : (a : Option (List ℕ)) (Holds : List ℕ → Type 0) (o : OfStream a Holds) → IsKnown a o.stream
 is_stream None Holds o = tt
 is_stream (Some p) Holds o = sym o.is
+
+-- what was told of what came, and of what broke off
+pub brought_by : (text body : List ℕ) (old new reader : Option (List ℕ)) (p : Place) (x y : Came) → x ≡ y → Brings x text body old new reader p → Brings y text body old new reader p
+brought_by text body old new reader p x y is h = subst (λ (z : Came). Brings z text body old new reader p) is h
+
+pub broke_off_by : (old reader : Option (List ℕ)) (x y : WireFault) → x ≡ y → BreaksOff x old reader → BreaksOff y old reader
+broke_off_by old reader x y is h = subst (λ (z : WireFault). BreaksOff z old reader) is h
 
 -- ---- a step, and those that follow
 
@@ -111,9 +122,13 @@ serves_none gives left reader output clock count s = record {
 -- ---- steps with a message
 
 module _ {C : Type 0} (gives : C → ℕ → C → Type 0) (left reader output output' : Option (List ℕ)) (clock clock' : C) (count count' : ℕ) (means : State → Type 0) (s : State)
-    (text : List ℕ) (has_length : Bool) (body waits : List ℕ) (m : IsNextMessage text has_length body left (prepend_known waits reader)) where
-  r : Request
+    (text : List ℕ) (has_length : Bool) (body waits : List ℕ) (m : IsNextMessage text has_length body left (prepend_known waits reader)) (given : List ℕ) (same_body : given ≡ body) where
+  abbrev r : Request
   r = request_of m.opens.head has_length body
+
+  -- as it was handled
+  of_body : (h : Handled) → Handles gives clock clock' output output' count count' means s (request_of m.opens.head has_length given) h → Handles gives clock clock' output output' count count' means s r h
+  of_body h handles = subst (λ (b : List ℕ). Handles gives clock clock' output output' count count' means s (request_of m.opens.head has_length b) h) same_body handles
 
   stands : (more : List ℕ) → Next ((text ++ body) ++ more) (Message r) more
   stands more = subst (λ (t : List ℕ). Next t (Message r) more) (sym (append_assoc text body more)) (message_stands text body more has_length m.opens)
@@ -121,12 +136,12 @@ module _ {C : Type 0} (gives : C → ℕ → C → Type 0) (left reader output o
   all_read : Consumes left reader ((text ++ body) ++ waits)
   all_read = consumes_more left (prepend_known waits reader) reader (text ++ body) waits m.taken (all_taken reader waits)
 
-  pub answered_step : Handles gives clock clock' output output' count count' means s r Answered → Steps gives left (prepend_known waits reader) reader output output' clock clock' count count' means s None
-  answered_step (answered now written after told appends same keeps answers) =
+  answered_done : Handles gives clock clock' output output' count count' means s r Answered → Steps gives left (prepend_known waits reader) reader output output' clock clock' count count' means s None
+  answered_done (answered now written after told appends same keeps answers) =
       (after, keeps, record { front = text ++ body; request = r; moment = now; text = written; taken = m.taken; message = stands; told = told; written = appends; answers = answers; counted = same })
 
-  pub gave_up_step : Handles gives clock clock' output output' count count' means s r GaveUp → Steps gives left (prepend_known waits reader) reader output output' clock clock' count count' means s (Some (Refused 40))
-  gave_up_step (gave_up_at now told appends less readable keeps) = (s, keeps, λ n. record {
+  gave_up_done : Handles gives clock clock' output output' count count' means s r GaveUp → Steps gives left (prepend_known waits reader) reader output output' clock clock' count count' means s (Some (Refused 40))
+  gave_up_done (gave_up_at now told appends less readable keeps) = (s, keeps, λ n. record {
     stream = (text ++ body) ++ waits;
     moments = now ∷ [];
     answers = session.closing rule.TryAgain;
@@ -138,8 +153,8 @@ module _ {C : Type 0} (gives : C → ℕ → C → Type 0) (left reader output o
     session = session.gave_up_at n ((text ++ body) ++ waits) waits s r now (stands waits) readable;
   })
 
-  pub broken_step : Handles gives clock clock' output output' count count' means s r Broken → Steps gives left (prepend_known waits reader) reader output output' clock clock' count count' means s (Some WriteFault)
-  broken_step (broke now written front after told appends begins same keeps answers) =
+  broken_done : Handles gives clock clock' output output' count count' means s r Broken → Steps gives left (prepend_known waits reader) reader output output' clock clock' count count' means s (Some WriteFault)
+  broken_done (broke now written front after told appends begins same keeps answers) =
       let rest = rest_of (prepend_known waits reader) in
       (after, keeps, λ n. record {
          stream = (text ++ body) ++ rest;
@@ -152,7 +167,7 @@ module _ {C : Type 0} (gives : C → ℕ → C → Type 0) (left reader output o
          counted = same;
          session = session.write_failed n ((text ++ body) ++ rest) rest s after r now written front (stands rest) answers begins;
        })
-  broken_step (broke_giving_up_at now front told appends begins less readable keeps) = (s, keeps, λ n. record {
+  broken_done (broke_giving_up_at now front told appends begins less readable keeps) = (s, keeps, λ n. record {
     stream = (text ++ body) ++ waits;
     moments = now ∷ [];
     answers = front;
@@ -163,6 +178,18 @@ module _ {C : Type 0} (gives : C → ℕ → C → Type 0) (left reader output o
     counted = less;
     session = session.write_failed_giving_up_at n ((text ++ body) ++ waits) waits s r now front (stands waits) readable begins;
   })
+
+  pub answered_step : Handles gives clock clock' output output' count count' means s (request_of m.opens.head has_length given) Answered
+      → Steps gives left (prepend_known waits reader) reader output output' clock clock' count count' means s None
+  answered_step handles = answered_done (of_body Answered handles)
+
+  pub gave_up_step : Handles gives clock clock' output output' count count' means s (request_of m.opens.head has_length given) GaveUp
+      → Steps gives left (prepend_known waits reader) reader output output' clock clock' count count' means s (Some (Refused 40))
+  gave_up_step handles = gave_up_done (of_body GaveUp handles)
+
+  pub broken_step : Handles gives clock clock' output output' count count' means s (request_of m.opens.head has_length given) Broken
+      → Steps gives left (prepend_known waits reader) reader output output' clock clock' count count' means s (Some WriteFault)
+  broken_step handles = broken_done (of_body Broken handles)
 
 -- ---- steps without a message
 
@@ -263,3 +290,35 @@ module _ {C : Type 0} (gives : C → ℕ → C → Type 0) (left left' reader ou
   no_memory_step Truncated front taken none closed = absurd closed
   no_memory_step Limit front taken none closed = absurd closed
   no_memory_step ReadFault front taken none closed = absurd closed
+
+-- ---- the messages so far
+
+-- What follows the messages so far makes the session whole. left, output, clock, count and s: at first; those with a
+-- dash: now.
+pub record Follows {C : Type 0} (gives : C → ℕ → C → Type 0) (counter : ℕ) (left left' output output' : Option (List ℕ)) (clock clock' : C) (count count' : ℕ) (s mid : State) : Type 0 where
+  pub whole : (n : ℕ) (reader last : Option (List ℕ)) (end : C) (sum : ℕ) (after : State) (e : SessionEnd) → n + counter ≡ session.most_messages
+      → Serves n gives left' reader output' last clock' end count' sum mid after e → Serves session.most_messages gives left reader output last clock end count sum s after e
+
+pub follows_first : {C : Type 0} (gives : C → ℕ → C → Type 0) (left output : Option (List ℕ)) (clock : C) (count : ℕ) (s : State) → Follows gives 0 left left output output clock clock count count s s
+follows_first gives left output clock count s = record {
+  whole = λ n reader last end sum after e is serves.
+      let all : n ≡ session.most_messages = omega (arith, is) in
+      subst (λ (k : ℕ). Serves k gives left reader output last clock end count sum s after e) all serves;
+}
+
+module _ {C : Type 0} (gives : C → ℕ → C → Type 0) (counter : ℕ) (left left' output output' : Option (List ℕ)) (clock clock' : C) (count count' : ℕ) (s mid : State) (f : Follows gives counter left left' output output' clock clock' count count' s mid) where
+  pub follows_more : (left'' output'' : Option (List ℕ)) (clock'' : C) (count'' : ℕ) (next : State) → Goes gives left' left'' output' output'' clock' clock'' count' count'' mid next
+      → Follows gives (counter + 1) left left'' output output'' clock clock'' count count'' s next
+  follows_more left'' output'' clock'' count'' next goes = record {
+    whole = λ n reader last end sum after e is serves.
+        f.whole (suc n) reader last end sum after e (omega (arith, is))
+        (serves_more gives n left' left'' reader output' output'' last clock' clock'' end count' count'' sum mid next after e goes serves);
+  }
+
+  pub follows_end : (reader last : Option (List ℕ)) (end : C) (sum : ℕ) (after : State) (e : SessionEnd) → counter < session.most_messages
+      → ((n : ℕ) → Serves (suc n) gives left' reader output' last clock' end count' sum mid after e) → Serves session.most_messages gives left reader output last clock end count sum s after e
+  follows_end reader last end sum after e lt serves =
+      f.whole (suc (999 - counter)) reader last end sum after e (omega (arith, lt)) (serves (999 - counter))
+
+  pub follows_limit : (reader : Option (List ℕ)) → counter ≡ session.most_messages → Serves session.most_messages gives left reader output output' clock clock' count count' s mid Limit
+  follows_limit reader all = f.whole 0 reader output' clock' count' mid Limit (omega (arith, all)) (serves_none gives left' reader output' clock' count' mid)

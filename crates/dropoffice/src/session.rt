@@ -67,8 +67,9 @@ impl<K: Keeper> Office<K> {
     {
         let mut body = Vec::new(self.alloc);
         'messages: for _ in 0..MOST_MESSAGES {
-            if let Some(end) = self.step(feed, &mut body, writer, clock) {
-                return end;
+            match self.step(feed, &mut body, writer, clock) {
+                None => {}
+                Some(end) => return end,
             }
         }
         SessionEnd::Limit
