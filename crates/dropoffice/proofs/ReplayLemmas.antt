@@ -4,14 +4,14 @@ use Rattle.std.specs.Io.KnownBytes.{Appends, Consumes}
 use Rattle.std.proofs.lemmas.List.{append-nil}
 use Rattle.boxes.specs.State.{State}
 use Rattle.dropoffice.specs.declared.session.SessionEnd.{SessionEnd}
-use Rattle.dropoffice.specs.declared.session.SessionEnd.TheVariants.{Ended, Truncated, Refused, Limit, ReadFault, WriteFault, Unserved}
+use Rattle.dropoffice.specs.declared.session.SessionEnd.TheVariants.{Ended, Truncated, Refused, Limit, ReadFault, WriteFault}
 use Rattle.dropoffice.specs.Connections.{IsStream, Told, Serves}
 use Rattle.dropoffice.specs.Replays.{Replays, IsReplay}
 use Rattle.dropoffice.specs.Sessions.{Session, most_messages}
 
 pub replayed : {C : Type 0} (gives : C → ℕ → C → Type 0) (input input' output output' : Option (List ℕ)) (clock clock' : C) (count count' : ℕ) (s after : State) (moment : ℕ) (e : SessionEnd)
     → ((moments : List ℕ) (later : C) → Told gives clock moments later → moments ≡ replicate (length moments) moment)
-    → Serves gives input input' output output' clock clock' count count' s after e → Replays input input' output output' s moment e
+    → Serves most_messages gives input input' output output' clock clock' count count' s after e → Replays input input' output output' s moment e
 replayed gives input input' output output' clock clock' count count' s after moment e tells served = record {
   stream = served.stream;
   messages = length served.moments;
@@ -44,7 +44,6 @@ front_of bytes front false Truncated new c = all bytes front false Truncated c.0
 front_of bytes front false (Refused number) new c = all bytes front false (Refused number) c
 front_of bytes front false Limit new c = all bytes front false Limit c
 front_of bytes front false WriteFault new c = all bytes front false WriteFault c
-front_of bytes front false Unserved new c = all bytes front false Unserved c
 
 written_is : (old new answers : List ℕ) → Appends (Some old) (Some new) answers → old ≡ [] → new ≡ answers
 written_is old new answers w e = w ∙ ap (λ (t : List ℕ). t ++ answers) e

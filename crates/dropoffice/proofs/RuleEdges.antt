@@ -1,4 +1,4 @@
--- The edges of the rules on places, bodies and the desk, which no served request reaches yet.
+-- The edges of the rules on places, bodies and the desk.
 use Rattle.std.proofs.Common.{◌≡◌, ℕ, Bool, true, false, List, [], ◌∷◌, codes, refl, arith}
 use Rattle.std.specs.Prelude.{◌≢◌, IsTrue}
 use Rattle.sigtext.specs.declared.refusal.Refusal.TheVariants as rule

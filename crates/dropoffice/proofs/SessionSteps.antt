@@ -322,3 +322,10 @@ module _ {C : Type 0} (gives : C → ℕ → C → Type 0) (counter : ℕ) (left
 
   pub follows_limit : (reader : Option (List ℕ)) → counter ≡ session.most_messages → Serves session.most_messages gives left reader output output' clock clock' count count' s mid Limit
   follows_limit reader all = f.whole 0 reader output' clock' count' mid Limit (omega (arith, all)) (serves_none gives left' reader output' clock' count' mid)
+
+-- ---- the feed of a reader
+
+-- a new feed has left what its reader has
+pub fresh_left : (waits : List ℕ) (known : Option (List ℕ)) → waits ≡ [] → prepend_known waits known ≡ known
+fresh_left waits None empty = refl
+fresh_left waits (Some xs) empty = ap (λ (t : List ℕ). Some (t ++ xs)) empty

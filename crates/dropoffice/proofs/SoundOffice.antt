@@ -1,17 +1,9 @@
 -- The first state of an office with offset 0.
 use Rattle.std.proofs.Common.{◌≡◌, ℕ, List, pos, arith}
-use Rattle.std.specs.FinMap.{get-empty}
-use Rattle.sigtext.specs.Bytes.{bytes_cmp}
 use Rattle.sigv4.specs.Credential.{IsKeyId, IsSecret}
 use Rattle.boxes.specs.FirstState.{first_state}
 use Rattle.boxes.specs.Sound.{IsSound}
 use Rattle.boxes.proofs.SoundFirstState.{sound_first_state}
-use Rattle.dropoffice.specs.Served.{HasNoBox}
 
 pub sound_office : (id secret : List ℕ) → IsKeyId id → IsSecret secret → IsSound (first_state (pos 0) id secret)
 sound_office id secret is_id is_secret = sound_first_state (pos 0) id secret (omega arith) (omega arith) is_id is_secret
-
--- there is no box
-pub no_box_at_first : (id secret : List ℕ) → HasNoBox (first_state (pos 0) id secret)
-unfolding first_state
-no_box_at_first id secret name = get-empty bytes_cmp name

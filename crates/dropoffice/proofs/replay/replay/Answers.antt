@@ -3,7 +3,6 @@ use Rattle.boxes.specs.FirstState.{first_state}
 use Rattle.keeper.specs.Shelves.{Holds}
 use Rattle.dropoffice.specs.Kept.{IsKept}
 use Rattle.dropoffice.proofs.ReplayLemmas.{replayed}
-use Rattle.dropoffice.proofs.SoundOffice.{no_box_at_first}
 use Rattle.dropoffice.proofs.replay.replay.Goals as goal
 
 pub returns-clause-session : goal.returns-clause-session
@@ -14,7 +13,6 @@ returns-clause-session g c =
       means = subst (λ k. Holds k s) (sym c.new-office.ensures) c.in-Ok.ensures.means;
       is_honest = tt;
       sound = c.in-Ok.ensures.sound (omega arith) (omega arith) c.requires.id c.requires.secret;
-      no_box = no_box_at_first c.args.id.now c.args.secret.now;
     } in
     let h = c.session.ensures.serves s kept in
     replayed _ _ _ _ _ _ _ _ _ s h.0 c.args.moment c.session.result c.new-2.ensures h.2

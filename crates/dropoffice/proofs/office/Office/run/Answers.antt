@@ -7,7 +7,7 @@ use Rattle.dropoffice.proofs.office.Office.run.Goals.{then-is_fault, else-is_fau
 pub connections-init : goal.connections-init
 connections-init g c = (
   λ s kept. starts (g.K.Keeper.means c.args.self.now.keeper) g.C.Clock.now_gives g.R.Read.remaining g.W.Write.contents c.args.clock.now c.args.connections.now (g.K.Keeper.faults c.args.self.now.keeper) s
-      (record { means = kept.means; sound = kept.sound }) kept.no_box,
+      (record { means = kept.means; sound = kept.sound }),
   λ honest. honest,
   refl,
   omega arith,
@@ -30,13 +30,8 @@ connections-preserved g c =
       λ s kept.
           goes_on (g.K.Keeper.means c.connections.self.keeper) (g.K.Keeper.means c.session-end.new.self.keeper) g.C.Clock.now_gives g.R.Read.remaining g.W.Write.contents c.args.clock.now c.connections.clock c.session-end.new.clock
           old now i (g.K.Keeper.faults c.args.self.now.keeper) (g.K.Keeper.faults c.connections.self.keeper) (g.K.Keeper.faults c.session-end.new.self.keeper) s c.connections.faulty c.if-is_fault.faulty c.connection-item.result (c.session-end.new.reader, c.session-end.new.writer) c.session-end.result
-          lt lt' c.connections.invariant.2 (λ mid left no_box. c.session-end.ensures.serves mid (record { means = left.means; is_honest = kept.is_honest; sound = left.sound; no_box = no_box })) (record {
-            faults = c.session-end.ensures.faults;
-            unserved = c.session-end.ensures.unserved;
-            untouched = λ none. (c.session-end.ensures.untouched none).1;
-            only = c.session-end.ensures.only;
-          }) counted
-          (c.connections.invariant.0 s (record { means = kept.means; is_honest = c.session-end.ensures.honest kept.is_honest; sound = kept.sound; no_box = kept.no_box })),
+          lt lt' c.connections.invariant.2 (λ mid left. c.session-end.ensures.serves mid (record { means = left.means; is_honest = kept.is_honest; sound = left.sound })) c.session-end.ensures.faults counted
+          (c.connections.invariant.0 s (record { means = kept.means; is_honest = c.session-end.ensures.honest kept.is_honest; sound = kept.sound })),
       λ honest. c.connections.invariant.1 (c.session-end.ensures.honest honest),
       others_stay old now i c.connection-item.result (c.session-end.new.reader, c.session-end.new.writer) lt lt' c.connections.invariant.2,
       elim c.if-is_fault.branch [ then-is_fault w ↦ omega arith | else-is_fault w ↦ omega arith ],
