@@ -1,9 +1,9 @@
-//! Texts and buffers over writers and readers that are slow or broken.
-use crate::fakes::{Sink, Source};
+//! Texts over writers that are slow or broken.
+use crate::fakes::Sink;
 use crate::published::NO_BOX;
 use sigtext::Refusal;
 use std::alloc::Global;
-use wire::{Answer, Counted, Filled, Stop, WireFault, fill, put_answer, send};
+use wire::{Answer, Counted, WireFault, put_answer, send};
 
 // Whether `hello` over a writer that takes so many bytes at once, and so many in all, leaves this.
 fn leaves(
@@ -38,40 +38,6 @@ fn no_byte_needs_no_write(rt: HostRuntime) {
     let mut writer = Counted::new(Sink::new(rt.alloc(), 9, 0));
     assert!(rt; send(b"", &mut writer).is_ok());
     assert_eq!(rt; writer.faults(), 0);
-}
-
-#[test]
-fn a_buffer_is_filled(rt: HostRuntime) {
-    for (at_once, fails, stop) in [
-        (1, false, Stop::End),
-        (1, true, Stop::Fault),
-        (9, false, Stop::End),
-        (9, true, Stop::Fault),
-    ] {
-        let mut buffer = [0; 4];
-        let mut reader = Counted::new(Source {
-            rest: b"hello",
-            at_once,
-            fails,
-        });
-        let full = Filled {
-            len: 4,
-            stop: Stop::Full,
-        };
-        assert_eq!(rt; fill(&mut reader, &mut buffer), full);
-        assert!(rt; full.is_full() && !full.has_failed());
-        assert_eq!(rt; buffer, *b"hell");
-        let last = Filled { len: 1, stop };
-        assert_eq!(rt; fill(&mut reader, &mut buffer), last);
-        assert!(rt; !last.is_full() && last.has_failed() == fails);
-        assert_eq!(rt; buffer, *b"oell");
-        let none = Filled {
-            len: 0,
-            stop: Stop::Full,
-        };
-        assert_eq!(rt; fill(&mut reader, &mut buffer[..0]), none);
-        assert_eq!(rt; reader.faults(), if fails { 1 } else { 0 });
-    }
 }
 
 // What a writer gets that takes so many bytes at once, and so many in all; and how many faults are counted.

@@ -6,9 +6,9 @@ ghost use Rattle.wire.specs.Answers as said;
 ghost use Rattle.wire.specs.Answers.{answer_text, file_head};
 ghost use Rattle.wire.specs.Sending.{Sends};
 
+use crate::composing::join;
 use crate::counted::Counted;
 use crate::fault::WireFault;
-use crate::composing::join;
 use crate::sending::send;
 use hex::encode_to_slice;
 use std::io::Write;

@@ -20,7 +20,7 @@ returns-in-Ok-Whole-clause-brings g c =
       w.1,
       copied c.copy_from_slice.new.self h.text.now _ h.has_length c.join_body.new.body.items _ _ c.copy_from_slice.ensures.after
           (message_joined (left remaining old) (left remaining mid) (left remaining c.join_body.new.feed) h.text.now c.join_body.new.body.items h.has_length
-              (subst (λ (n : ℕ). Opens h.text.now h.has_length n) (sym w.0) f.0) f.1 w.2),
+          (subst (λ (n : ℕ). Opens h.text.now h.has_length n) (sym w.0) f.0) f.1 w.2),
     )
 
 pub returns-in-Ok-Lacking-clause-brings : goal.returns-in-Ok-Lacking-clause-brings
