@@ -10,13 +10,10 @@ use Rattle.sigtext.specs.Request.{Request}
 use Rattle.sigtext.specs.Rules.{HoldBefore, AllHold, IsFirstToFail}
 use Rattle.links.specs.WellFormed.{LinkValues, HeadRule, IsWellFormed}
 use Rattle.links.specs.Admits.{KnownKey, IsSignedBy, LinkRule}
-use Rattle.links.specs.Methods.{method_text}
 use Rattle.links.specs.Moments.{at, HasBegun, IsNotOver}
-use Rattle.links.specs.declared.methods.Method.{Method}
-use Rattle.links.specs.declared.methods.Method.TheVariants as method
 use Rattle.links.proofs.Parts.{parts_before}
 use Rattle.boxes.specs.declared.rows.Role.{Role}
-use Rattle.boxes.specs.declared.rows.Role.TheVariants.{Clerk, Link}
+use Rattle.boxes.specs.declared.rows.Role.TheVariants.{Clerk}
 use Rattle.boxes.specs.State.{Key, State}
 use Rattle.boxes.specs.Deciding.{IsLeastToFail}
 use Rattle.boxes.specs.Rules.{UploadRule, Upload, FetchRule}
@@ -325,8 +322,8 @@ module _ (s : State) (r : Request) (now : ℕ) (p : LinkValues) (reached : Reach
     fails = λ o hold bad.
         ⊎_elim (λ (small : number_of q < 27). least.fails (upload_rule s (upload_of r now p) q small))
         (λ (large : 27 ≤ number_of q).
-          let same = same_parts s r now p o q (omega arith) reached.head hold in
-          least.fails (subst (λ (x : LinkValues). UploadRule q s (upload_of r now x)) same (bad.put put)))
+        let same = same_parts s r now p o q (omega arith) reached.head hold in
+        least.fails (subst (λ (x : LinkValues). UploadRule q s (upload_of r now x)) same (bad.put put)))
         (cases_lt (number_of q) 27);
   }
 
@@ -344,8 +341,8 @@ module _ (s : State) (r : Request) (now : ℕ) (p : LinkValues) (reached : Reach
     fails = λ o hold bad.
         ⊎_elim (λ (small : number_of q < 27). least.fails (fetch_rule s (place_of p.path) q small))
         (λ (large : 27 ≤ number_of q).
-          let same = same_parts s r now p o q (omega arith) reached.head hold in
-          least.fails (subst (λ (x : LinkValues). FetchRule q s (place_of x.path)) same (bad.fetch fetch)))
+        let same = same_parts s r now p o q (omega arith) reached.head hold in
+        least.fails (subst (λ (x : LinkValues). FetchRule q s (place_of x.path)) same (bad.fetch fetch)))
         (cases_lt (number_of q) 27);
   }
 

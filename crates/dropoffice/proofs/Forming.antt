@@ -1,6 +1,6 @@
 -- What the method of a message and the role of its key decide.
-use Rattle.std.proofs.Common.{◌≡◌, ◌↔◌, ℕ, Bool, false, length, List, [], ◌∷◌, arith, refl, sym, ap, subst, ◌∙◌}
-use Rattle.std.specs.Prelude.{◌≢◌, ◌==◌, IsFalse, IsTrue, codes}
+use Rattle.std.proofs.Common.{◌≡◌, ◌↔◌, ℕ, Bool, false, length, List, [], ◌∷◌, arith, refl, ap}
+use Rattle.std.specs.Prelude.{◌==◌, IsFalse, IsTrue, codes}
 use Rattle.links.specs.Methods.{method_text}
 use Rattle.links.specs.declared.methods.Method.{Method}
 use Rattle.links.specs.declared.methods.Method.TheVariants as method

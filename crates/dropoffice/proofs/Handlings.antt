@@ -54,5 +54,5 @@ handles_head gives clock clock' old new count count' means s h text found head m
     let once : found ≡ head = (request_unique text found head [] [] is_found.reads is_head.reads).0 in
     subst (λ (x : RequestHead). Handles gives clock clock' old new count count' means s (request_of x has_length body) h) once
     (subst (λ (x : List Header). Handles gives clock clock' old new count count' means s (record { method = found.method; target = found.target; headers = x; has_length = has_length; body = body }) h) c
-     (subst (λ (x : List ℕ). Handles gives clock clock' old new count count' means s (record { method = found.method; target = x; headers = headers; has_length = has_length; body = body }) h) b
-      (subst (λ (x : List ℕ). Handles gives clock clock' old new count count' means s (record { method = x; target = target; headers = headers; has_length = has_length; body = body }) h) a handles)))
+    (subst (λ (x : List ℕ). Handles gives clock clock' old new count count' means s (record { method = found.method; target = x; headers = headers; has_length = has_length; body = body }) h) b
+    (subst (λ (x : List ℕ). Handles gives clock clock' old new count count' means s (record { method = x; target = target; headers = headers; has_length = has_length; body = body }) h) a handles)))

@@ -1,10 +1,9 @@
 -- Where a path that is cut at a slash points.
-use Rattle.std.proofs.Common.{◌≡◌, ℕ, List, [], ◌∷◌, ◌++◌, ap, sym, ◌∙◌, refl}
+use Rattle.std.proofs.Common.{◌≡◌, ℕ, List, [], ◌∷◌, ◌++◌, ap, sym, ◌∙◌}
 use Rattle.std.specs.Prelude.{◌==◌, drop}
 use Rattle.std.specs.List.{before_first, after_first}
 use Rattle.sigtext.specs.Targets.{Lacks}
 use Rattle.clap.proofs.CutLemmas.{before_first-at, before_first-Lacks, after_first-at, after_first-Lacks}
-use Rattle.boxes.specs.State.{Place}
 use Rattle.dropoffice.specs.Rules.{place_of}
 
 -- with a second slash

@@ -1,6 +1,6 @@
 -- What an upload and a fetch are replied, by what was decided of them.
 use Rattle.std.proofs.Common.{◌≡◌, ◌≤◌, ℕ, List, Option, Some, None, Result, Ok, Err, length, ◌+◌, refl, sym, ap, subst, ◌∙◌}
-use Rattle.std.specs.Prelude.{IsSome, IfErr, IfOk, OnOk, option_map}
+use Rattle.std.specs.Prelude.{IsSome, IfErr, IfOk, OnOk}
 use Rattle.std.specs.FinMap.{get}
 use Rattle.std.specs.Borrow.{Bor}
 use Rattle.sigtext.specs.declared.refusal.Refusal.{Refusal}
@@ -10,15 +10,14 @@ use Rattle.sigtext.specs.Limits.{most_body}
 use Rattle.sigtext.specs.Request.{Request}
 use Rattle.sigtext.specs.Rules.{IsFirstToFail}
 use Rattle.links.specs.WellFormed.{LinkValues}
-use Rattle.links.specs.Admits.{KnownKey}
 use Rattle.boxes.specs.declared.rows.FileRow.{FileRow}
 use Rattle.boxes.specs.declared.rows.ReceiptRow.{ReceiptRow}
 use Rattle.boxes.specs.declared.change.NewFile.{NewFile}
 use Rattle.boxes.specs.declared.uploads.Uploading.TheVariants as uploading
-use Rattle.boxes.specs.Changes.{IsBrought, IsFileSet, IsTaken, upload_in}
+use Rattle.boxes.specs.Changes.{IsBrought, IsFileSet, IsTaken}
 use Rattle.boxes.specs.Deciding.{DecidesFetch, DecidesUpload}
 use Rattle.boxes.specs.Rows.{receipt_in}
-use Rattle.boxes.specs.Rules.{FetchRule, Upload}
+use Rattle.boxes.specs.Rules.{Upload}
 use Rattle.boxes.specs.Sound.{IsMoment}
 use Rattle.boxes.specs.State.{Key, Place, State}
 use Rattle.boxes.specs.Steps.{FetchStep, receipt_of, after_upload, taken}
@@ -27,7 +26,7 @@ use Rattle.hex.specs.Hex.{encode_lower}
 use Rattle.wire.specs.Answers as said
 use Rattle.wire.specs.declared.answer.Reply.{Reply}
 use Rattle.wire.specs.declared.answer.Reply.TheVariants as reply
-use Rattle.dropoffice.specs.Answering.{Accepts, put, fetch}
+use Rattle.dropoffice.specs.Answering.{put, fetch}
 use Rattle.dropoffice.specs.Admitted.{ReachesBoxes}
 use Rattle.dropoffice.specs.Kept.{IsLeft}
 use Rattle.dropoffice.specs.Replying.{IsReceiptFor, IsReplied}
@@ -80,11 +79,15 @@ module _ (means : State → Type 0) (s : State) (r : Request) (now : ℕ) (p : L
       → IsReplied means s r now (Ok (reply.Kept f.number f.size f.digest))
   kept f is_put left decided =
       let u = upload_of r now p in
-      let file = decided.3 in
-      (step.Kept (length s.receipts + 1) (receipt_of u), after_upload s u, put p _ _ (holds_put s r now p reached is_put decided.0) is_put (taken decided.1), left,
-       ap (λ (n : ℕ). said.Kept n f.size (encode_lower f.digest)) file.number
-       ∙ ap (λ (n : ℕ). said.Kept (length s.receipts + 1) n (encode_lower f.digest)) file.size
-       ∙ ap (λ (d : List ℕ). said.Kept (length s.receipts + 1) (length r.body) (encode_lower d)) file.digest)
+      let file = decided.3 in (
+        step.Kept (length s.receipts + 1) (receipt_of u),
+        after_upload s u,
+        put p _ _ (holds_put s r now p reached is_put decided.0) is_put (taken decided.1),
+        left,
+        ap (λ (n : ℕ). said.Kept n f.size (encode_lower f.digest)) file.number
+            ∙ ap (λ (n : ℕ). said.Kept (length s.receipts + 1) n (encode_lower f.digest)) file.size
+            ∙ ap (λ (d : List ℕ). said.Kept (length s.receipts + 1) (length r.body) (encode_lower d)) file.digest,
+      )
 
   -- what became of the file that was to be set
   pub set_replied : (f : NewFile) (result : Result Reply Refusal) → IsPut r → DecidesUpload s (upload_of r now p) (uploading.Taken f) → IfOk result (IsReceiptFor f)

@@ -1,14 +1,12 @@
 -- What one step of a session gives, and a step before the steps that follow.
-use Rattle.std.proofs.Common.{◌≡◌, ◌≤◌, ◌<◌, ◌+◌, ◌-◌, ℕ, suc, Bool, true, false, List, [], ◌∷◌, ◌++◌, length, Option, Some, None, refl, sym, ap, subst, ◌∙◌, append_assoc, arith}
+use Rattle.std.proofs.Common.{◌≡◌, ◌<◌, ◌+◌, ◌-◌, ℕ, suc, Bool, true, false, List, [], ◌∷◌, ◌++◌, Option, Some, None, refl, sym, ap, subst, ◌∙◌, append_assoc, arith}
 use Rattle.std.proofs.lemmas.List.{append-nil}
 use Rattle.std.specs.Io.KnownBytes.{Appends, Consumes, IsAtEnd, prepend_known}
-use Rattle.sigtext.specs.Bytes.{IsBeginning}
 use Rattle.sigtext.specs.declared.refusal.Refusal.{Refusal}
 use Rattle.sigtext.specs.declared.refusal.Refusal.TheVariants as rule
 use Rattle.sigtext.specs.Request.{Request}
 use Rattle.boxes.specs.State.{State}
-use Rattle.httparse.specs.Grammar.{RequestHead}
-use Rattle.wire.specs.Feeding.{Opens, OfStream, HoldsNoMessage}
+use Rattle.wire.specs.Feeding.{OfStream, HoldsNoMessage}
 use Rattle.wire.specs.Framing.{IsHead, Next, Message, request_of}
 use Rattle.wire.specs.Framing as frame
 use Rattle.wire.specs.declared.fault.WireFault.{WireFault}
@@ -119,6 +117,7 @@ serves_none gives left reader output clock count s = record {
   counted = refl;
   session = session.limit (rest_of left) s;
 }
+
 -- ---- steps with a message
 
 module _ {C : Type 0} (gives : C → ℕ → C → Type 0) (left reader output output' : Option (List ℕ)) (clock clock' : C) (count count' : ℕ) (means : State → Type 0) (s : State)
@@ -141,43 +140,54 @@ module _ {C : Type 0} (gives : C → ℕ → C → Type 0) (left reader output o
       (after, keeps, record { front = text ++ body; request = r; moment = now; text = written; taken = m.taken; message = stands; told = told; written = appends; answers = answers; counted = same })
 
   gave_up_done : Handles gives clock clock' output output' count count' means s r GaveUp → Steps gives left (prepend_known waits reader) reader output output' clock clock' count count' means s (Some (Refused 40))
-  gave_up_done (gave_up_at now told appends less readable keeps) = (s, keeps, λ n. record {
-    stream = (text ++ body) ++ waits;
-    moments = now ∷ [];
-    answers = session.closing rule.TryAgain;
-    gave_up = true;
-    read = all_read;
-    told = (clock', told, refl);
-    written = appends;
-    counted = less;
-    session = session.gave_up_at n ((text ++ body) ++ waits) waits s r now (stands waits) readable;
-  })
+  gave_up_done (gave_up_at now told appends less readable keeps) = (
+    s,
+    keeps,
+    λ n. record {
+      stream = (text ++ body) ++ waits;
+      moments = now ∷ [];
+      answers = session.closing rule.TryAgain;
+      gave_up = true;
+      read = all_read;
+      told = (clock', told, refl);
+      written = appends;
+      counted = less;
+      session = session.gave_up_at n ((text ++ body) ++ waits) waits s r now (stands waits) readable;
+    },
+  )
 
   broken_done : Handles gives clock clock' output output' count count' means s r Broken → Steps gives left (prepend_known waits reader) reader output output' clock clock' count count' means s (Some WriteFault)
   broken_done (broke now written front after told appends begins same keeps answers) =
-      let rest = rest_of (prepend_known waits reader) in
-      (after, keeps, λ n. record {
-         stream = (text ++ body) ++ rest;
-         moments = now ∷ [];
-         answers = front;
-         gave_up = false;
-         read = known_rest left (prepend_known waits reader) (text ++ body) m.taken;
-         told = (clock', told, refl);
-         written = appends;
-         counted = same;
-         session = session.write_failed n ((text ++ body) ++ rest) rest s after r now written front (stands rest) answers begins;
-       })
-  broken_done (broke_giving_up_at now front told appends begins less readable keeps) = (s, keeps, λ n. record {
-    stream = (text ++ body) ++ waits;
-    moments = now ∷ [];
-    answers = front;
-    gave_up = true;
-    read = all_read;
-    told = (clock', told, refl);
-    written = appends;
-    counted = less;
-    session = session.write_failed_giving_up_at n ((text ++ body) ++ waits) waits s r now front (stands waits) readable begins;
-  })
+      let rest = rest_of (prepend_known waits reader) in (
+        after,
+        keeps,
+        λ n. record {
+          stream = (text ++ body) ++ rest;
+          moments = now ∷ [];
+          answers = front;
+          gave_up = false;
+          read = known_rest left (prepend_known waits reader) (text ++ body) m.taken;
+          told = (clock', told, refl);
+          written = appends;
+          counted = same;
+          session = session.write_failed n ((text ++ body) ++ rest) rest s after r now written front (stands rest) answers begins;
+        },
+      )
+  broken_done (broke_giving_up_at now front told appends begins less readable keeps) = (
+    s,
+    keeps,
+    λ n. record {
+      stream = (text ++ body) ++ waits;
+      moments = now ∷ [];
+      answers = front;
+      gave_up = true;
+      read = all_read;
+      told = (clock', told, refl);
+      written = appends;
+      counted = less;
+      session = session.write_failed_giving_up_at n ((text ++ body) ++ waits) waits s r now front (stands waits) readable begins;
+    },
+  )
 
   pub answered_step : Handles gives clock clock' output output' count count' means s (request_of m.opens.head has_length given) Answered
       → Steps gives left (prepend_known waits reader) reader output output' clock clock' count count' means s None
@@ -195,68 +205,88 @@ module _ {C : Type 0} (gives : C → ℕ → C → Type 0) (left reader output o
 
 module _ {C : Type 0} (gives : C → ℕ → C → Type 0) (left left' reader output output' : Option (List ℕ)) (clock : C) (count : ℕ) (means : State → Type 0) (s : State) (keeps : IsLeft means s) where
   pub ended_step : IsAtEnd reader → OfStream left (λ stream. Next stream frame.Ended []) → Steps gives left left' reader output output clock clock count count means s (Some Ended)
-  ended_step at_end o = (s, keeps, λ n. record {
-    stream = o.stream;
-    moments = [];
-    answers = [];
-    gave_up = false;
-    read = (is_stream left (λ stream. Next stream frame.Ended []) o, at_end);
-    told = refl;
-    written = nothing_written output;
-    counted = refl;
-    session = session.ended n o.stream s o.holds;
-  })
+  ended_step at_end o = (
+    s,
+    keeps,
+    λ n. record {
+      stream = o.stream;
+      moments = [];
+      answers = [];
+      gave_up = false;
+      read = (is_stream left (λ stream. Next stream frame.Ended []) o, at_end);
+      told = refl;
+      written = nothing_written output;
+      counted = refl;
+      session = session.ended n o.stream s o.holds;
+    },
+  )
 
   pub truncated_step : IsAtEnd reader → OfStream left (λ stream. Next stream frame.Truncated []) → Steps gives left left' reader output output clock clock count count means s (Some Truncated)
-  truncated_step at_end o = (s, keeps, λ n. record {
-    stream = o.stream;
-    moments = [];
-    answers = [];
-    gave_up = false;
-    read = (is_stream left (λ stream. Next stream frame.Truncated []) o, at_end);
-    told = refl;
-    written = nothing_written output;
-    counted = refl;
-    session = session.truncated n o.stream s o.holds;
-  })
+  truncated_step at_end o = (
+    s,
+    keeps,
+    λ n. record {
+      stream = o.stream;
+      moments = [];
+      answers = [];
+      gave_up = false;
+      read = (is_stream left (λ stream. Next stream frame.Truncated []) o, at_end);
+      told = refl;
+      written = nothing_written output;
+      counted = refl;
+      session = session.truncated n o.stream s o.holds;
+    },
+  )
 
   pub read_failed_step : (front : List ℕ) → Consumes left reader front → HoldsNoMessage front → Steps gives left left' reader output output clock clock count count means s (Some ReadFault)
-  read_failed_step front taken none = (s, keeps, λ n. record {
-    stream = front;
-    moments = [];
-    answers = [];
-    gave_up = false;
-    read = taken;
-    told = refl;
-    written = nothing_written output;
-    counted = refl;
-    session = session.read_failed n front s none;
-  })
+  read_failed_step front taken none = (
+    s,
+    keeps,
+    λ n. record {
+      stream = front;
+      moments = [];
+      answers = [];
+      gave_up = false;
+      read = taken;
+      told = refl;
+      written = nothing_written output;
+      counted = refl;
+      session = session.read_failed n front s none;
+    },
+  )
 
   pub closed_step : (q : Refusal) (e : SessionEnd) → OfStream left (λ stream. Next stream (frame.Refused q) []) → IsClosed output output' q e
       → Steps gives left left' reader output output' clock clock count count means s (Some e)
-  closed_step q (Refused number) o closed = (s, keeps, λ n. record {
-    stream = o.stream;
-    moments = [];
-    answers = session.closing q;
-    gave_up = false;
-    read = is_stream left (λ stream. Next stream (frame.Refused q) []) o;
-    told = refl;
-    written = closed.1;
-    counted = refl;
-    session = subst (λ (k : ℕ). Session (suc n) o.stream s [] (session.closing q) (Refused k) false s) (sym closed.0) (session.unframed n o.stream s q o.holds);
-  })
-  closed_step q WriteFault o closed = (s, keeps, λ n. record {
-    stream = o.stream;
-    moments = [];
-    answers = closed.0;
-    gave_up = false;
-    read = is_stream left (λ stream. Next stream (frame.Refused q) []) o;
-    told = refl;
-    written = closed.1;
-    counted = refl;
-    session = session.write_failed_unframed n o.stream s q closed.0 o.holds closed.2;
-  })
+  closed_step q (Refused number) o closed = (
+    s,
+    keeps,
+    λ n. record {
+      stream = o.stream;
+      moments = [];
+      answers = session.closing q;
+      gave_up = false;
+      read = is_stream left (λ stream. Next stream (frame.Refused q) []) o;
+      told = refl;
+      written = closed.1;
+      counted = refl;
+      session = subst (λ (k : ℕ). Session (suc n) o.stream s [] (session.closing q) (Refused k) false s) (sym closed.0) (session.unframed n o.stream s q o.holds);
+    },
+  )
+  closed_step q WriteFault o closed = (
+    s,
+    keeps,
+    λ n. record {
+      stream = o.stream;
+      moments = [];
+      answers = closed.0;
+      gave_up = false;
+      read = is_stream left (λ stream. Next stream (frame.Refused q) []) o;
+      told = refl;
+      written = closed.1;
+      counted = refl;
+      session = session.write_failed_unframed n o.stream s q closed.0 o.holds closed.2;
+    },
+  )
   closed_step q Ended o closed = absurd closed
   closed_step q Truncated o closed = absurd closed
   closed_step q Limit o closed = absurd closed
@@ -264,28 +294,36 @@ module _ {C : Type 0} (gives : C → ℕ → C → Type 0) (left left' reader ou
 
   pub no_memory_step : (e : SessionEnd) (front : List ℕ) → Consumes left reader front → HoldsNoBareMessage front → IsClosed output output' rule.TryAgain e
       → Steps gives left left' reader output output' clock clock count count means s (Some e)
-  no_memory_step (Refused number) front taken none closed = (s, keeps, λ n. record {
-    stream = front;
-    moments = [];
-    answers = session.closing rule.TryAgain;
-    gave_up = true;
-    read = taken;
-    told = refl;
-    written = closed.1;
-    counted = omega arith;
-    session = subst (λ (k : ℕ). Session (suc n) front s [] (session.closing rule.TryAgain) (Refused k) true s) (sym closed.0) (session.gave_up_reading n front s none);
-  })
-  no_memory_step WriteFault front taken none closed = (s, keeps, λ n. record {
-    stream = front;
-    moments = [];
-    answers = closed.0;
-    gave_up = true;
-    read = taken;
-    told = refl;
-    written = closed.1;
-    counted = omega arith;
-    session = session.write_failed_giving_up_reading n front s closed.0 none closed.2;
-  })
+  no_memory_step (Refused number) front taken none closed = (
+    s,
+    keeps,
+    λ n. record {
+      stream = front;
+      moments = [];
+      answers = session.closing rule.TryAgain;
+      gave_up = true;
+      read = taken;
+      told = refl;
+      written = closed.1;
+      counted = omega arith;
+      session = subst (λ (k : ℕ). Session (suc n) front s [] (session.closing rule.TryAgain) (Refused k) true s) (sym closed.0) (session.gave_up_reading n front s none);
+    },
+  )
+  no_memory_step WriteFault front taken none closed = (
+    s,
+    keeps,
+    λ n. record {
+      stream = front;
+      moments = [];
+      answers = closed.0;
+      gave_up = true;
+      read = taken;
+      told = refl;
+      written = closed.1;
+      counted = omega arith;
+      session = session.write_failed_giving_up_reading n front s closed.0 none closed.2;
+    },
+  )
   no_memory_step Ended front taken none closed = absurd closed
   no_memory_step Truncated front taken none closed = absurd closed
   no_memory_step Limit front taken none closed = absurd closed

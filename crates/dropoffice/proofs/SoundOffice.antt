@@ -1,5 +1,5 @@
 -- The first state of an office with offset 0.
-use Rattle.std.proofs.Common.{◌≡◌, ℕ, List, pos, arith}
+use Rattle.std.proofs.Common.{ℕ, List, pos, arith}
 use Rattle.sigv4.specs.Credential.{IsKeyId, IsSecret}
 use Rattle.boxes.specs.FirstState.{first_state}
 use Rattle.boxes.specs.Sound.{IsSound}

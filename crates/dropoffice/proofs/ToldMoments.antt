@@ -1,5 +1,5 @@
 -- What the clocks of the office tell.
-use Rattle.std.proofs.Common.{◌≡◌, ℕ, suc, ◌+◌, List, [], ◌∷◌, length, replicate, refl, sym, ap, subst, ◌∙◌}
+use Rattle.std.proofs.Common.{◌≡◌, ℕ, List, [], ◌∷◌, length, replicate, refl, ap, subst, ◌∙◌}
 use Rattle.dropoffice.specs.declared.clocks.FixedClock.{FixedClock}
 use Rattle.dropoffice.specs.declared.clocks.ListedClock.{ListedClock}
 use Rattle.dropoffice.specs.Clocks.{NextOf, TellsNext, listed}

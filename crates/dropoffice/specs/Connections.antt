@@ -1,12 +1,12 @@
 -- What a session says of its reader, its writer, its clock and its keeper's count of faults.
-use Rattle.std.specs.Prelude.{◌≡◌, ◌≢◌, ◌≤◌, ◌⊎◌, ℕ, List, [], ◌∷◌, Bool, true, false, count_by, Option, Some, None, ⊤}
+use Rattle.std.specs.Prelude.{◌≡◌, ◌≢◌, ◌≤◌, ℕ, List, [], ◌∷◌, Bool, true, false, count_by, Option, Some, None, ⊤}
 use Rattle.std.specs.Io.KnownBytes.{Appends, Consumes, IsAtEnd}
 use Rattle.sigtext.specs.Counts.{Rose}
 use Rattle.boxes.specs.State.{State}
 use Rattle.wire.specs.declared.counted.Counted.{Counted}
 use Rattle.dropoffice.specs.declared.session.SessionEnd.{SessionEnd}
 use Rattle.dropoffice.specs.declared.session.SessionEnd.TheVariants.{Ended, Truncated, Refused, Limit, ReadFault, WriteFault}
-use Rattle.dropoffice.specs.Sessions.{Session, Connection, Run, most_messages}
+use Rattle.dropoffice.specs.Sessions.{Session, Connection, Run}
 
 -- the clock told these moments, one after another
 abbrev pub Told : {C : Type 0} → (C → ℕ → C → Type 0) → C → List ℕ → C → Type 0

@@ -112,7 +112,12 @@ impl<K: Keeper> Office<K> {
     }
 
     // Takes an upload whose link is admitted and whose form is right, or refuses it.
-    pub(crate) fn put(&mut self, link: &LinkParts<'_>, body: &[u8], now: Moment) -> Result<Reply, Refusal>
+    pub(crate) fn put(
+        &mut self,
+        link: &LinkParts<'_>,
+        body: &[u8],
+        now: Moment,
+    ) -> Result<Reply, Refusal>
         requires { length body.now ≤ most_body }
         ensures replies { (s : State) (r : Request) (p : LinkValues) → IsKept (K.means self.old.keeper) (K.is_honest self.new.keeper) s
             → IsLinkOf link.now r p → IsPut r → r.body ≡ body.now → ReachesBoxes s r now p

@@ -10,7 +10,10 @@ use crate::session::SessionEnd;
 use keeper::Keeper;
 use sigtext::{Field, Refusal};
 use std::io::{Read, Write};
-use wire::{Answer, Came, Counted, Feed, MOST_FIELDS, MOST_HEAD, Message, WireFault, put_answer, read_head, read_message};
+use wire::{
+    Answer, Came, Counted, Feed, MOST_FIELDS, MOST_HEAD, Message, WireFault, put_answer, read_head,
+    read_message,
+};
 
 // Writes the answer of a refusal that closes the connection, and tells the end.
 fn close<W: Write>(refusal: Refusal, writer: &mut Counted<W>) -> SessionEnd

@@ -1,10 +1,7 @@
-use Rattle.std.proofs.Common.{◌≡◌, ◌∙◌, ap, sym, subst, List, []}
+use Rattle.std.proofs.Common.{◌∙◌, ap, sym}
 use Rattle.links.specs.Methods.{method_text}
 use Rattle.links.proofs.Texts.{clash}
 use Rattle.wire.specs.Messages.{request_in}
-use Rattle.boxes.specs.State.{Key}
-use Rattle.boxes.specs.declared.rows.Role.{Role}
-use Rattle.boxes.specs.declared.rows.Role.TheVariants.{Clerk}
 use Rattle.dropoffice.proofs.Deciding.{role_not_allowed, length_missing, body_not_taken}
 use Rattle.dropoffice.proofs.Forming.{barred, is_put, is_post, not_empty}
 use Rattle.dropoffice.proofs.forms.check_form.Goals as goal

@@ -1,4 +1,4 @@
-use Rattle.std.proofs.Common.{map, refl, sym, subst, ◌∙◌}
+use Rattle.std.proofs.Common.{map, refl, sym, subst}
 use Rattle.sigtext.specs.Rules.{IsFirstToFail}
 use Rattle.sigtext.specs.Fields.{header_of}
 use Rattle.wire.specs.Messages.{request_in}

@@ -1,4 +1,4 @@
-use Rattle.std.proofs.Common.{◌≡◌, ◌∙◌, sym, ap, subst, pos, List, ℕ, [], Vec, Option, Some}
+use Rattle.std.proofs.Common.{◌≡◌, ◌∙◌, ap, subst, pos, List, ℕ, [], Some}
 use Rattle.boxes.specs.FirstState.{first_state}
 use Rattle.dropoffice.specs.Replays.{Replays}
 use Rattle.dropoffice.proofs.ReplayLemmas.{bytes_replayed}

@@ -1,4 +1,4 @@
-use Rattle.std.proofs.Common.{refl, sym, subst, List, ℕ}
+use Rattle.std.proofs.Common.{refl, subst, List, ℕ}
 use Rattle.boxes.specs.Rows.{key_of}
 use Rattle.links.specs.Admits.{IsSignedBy}
 use Rattle.links.specs.Judging.{FailsAt}
@@ -19,10 +19,11 @@ returns-then-key-clause-admits g c s r p kept is other =
 pub returns-in-Ok-clause-admits : goal.returns-in-Ok-clause-admits
 returns-in-Ok-clause-admits g c s r p kept is =
     let there = asked_some s c.key_id.result.now p.key_id c.in-Ok-Some.field-0 c.in-Ok-Some.key (c.in-Ok-Some.ensures.value s kept.means kept.sound kept.is_honest) c.in-Ok-Some.field-0-is (c.key_id.ensures r p is) in
-    let right = c.in-Ok.ensures r p is in
-    (key_of c.in-Ok-Some.key,
-     record { well_formed = is.well_formed; there = there; unrevoked = c.if-key.false; signed = subst (λ (t : List ℕ). IsSignedBy t r p) c.deref.ensures.value right.0; begun = right.1; not_over = right.2 },
-     refl)
+    let right = c.in-Ok.ensures r p is in (
+      key_of c.in-Ok-Some.key,
+      record { well_formed = is.well_formed; there = there; unrevoked = c.if-key.false; signed = subst (λ (t : List ℕ). IsSignedBy t r p) c.deref.ensures.value right.0; begun = right.1; not_over = right.2 },
+      refl,
+    )
 
 pub returns-in-Ok-Some-clause-admits : goal.returns-in-Ok-Some-clause-admits
 returns-in-Ok-Some-clause-admits g c s r p kept is other =

@@ -11,12 +11,15 @@ use Rattle.dropoffice.proofs.office.Office.answer.Goals as goal
 pub returns-in-Ok-clause-answers : goal.returns-in-Ok-clause-answers
 returns-in-Ok-clause-answers g c s kept other =
     let x = c.in-Ok.ensures.replies s kept in
-    let head : c.eq-is_head.result ≡ same_bytes c.args.message.now.method.now (codes "HEAD") = c.eq-is_head.ensures ∙ ap (same_bytes c.args.message.now.method.now) c.text.ensures in
-    (x.1, x.3, record {
-       reply = shown x.0;
-       replies = accepts x.0 x.1 x.2;
-       is = ap (λ (b : Bool). answer_text b (said_of c.in-Ok.reply)) head ∙ ap (answer_text (same_bytes c.args.message.now.method.now (codes "HEAD"))) x.4;
-     })
+    let head : c.eq-is_head.result ≡ same_bytes c.args.message.now.method.now (codes "HEAD") = c.eq-is_head.ensures ∙ ap (same_bytes c.args.message.now.method.now) c.text.ensures in (
+      x.1,
+      x.3,
+      record {
+        reply = shown x.0;
+        replies = accepts x.0 x.1 x.2;
+        is = ap (λ (b : Bool). answer_text b (said_of c.in-Ok.reply)) head ∙ ap (answer_text (same_bytes c.args.message.now.method.now (codes "HEAD"))) x.4;
+      },
+    )
 
 pub returns-in-Err-clause-answers : goal.returns-in-Err-clause-answers
 returns-in-Err-clause-answers g c s kept other =

@@ -1,17 +1,14 @@
-use Rattle.std.proofs.Common.{◌≡◌, ◌↔◌, ◌∙◌, ◌≤◌, Bool, Ok, arith, ℕ, List, length, ap, sym, subst, refl}
+use Rattle.std.proofs.Common.{◌∙◌, ◌≤◌, Ok, arith, ℕ, List, length, ap, sym, subst, refl}
 use Rattle.sigtext.specs.Bytes.{AreBytes}
 use Rattle.sigtext.specs.Limits.{most_body}
 use Rattle.links.proofs.WrittenBytes.{are_bytes}
 use Rattle.sigv4.specs.Hmac.{sha256}
 use Rattle.boxes.specs.Steps.{after_upload}
 use Rattle.boxes.specs.Changes.{IsFileSet}
-use Rattle.std.specs.Prelude.{IsTrue}
-use Rattle.boxes.specs.Rules.{Stands}
 use Rattle.boxes.specs.Views.{IsUploadViewOf}
 use Rattle.wire.specs.declared.answer.Reply.{Reply}
 use Rattle.dropoffice.specs.Replying.{IsReplied}
 use Rattle.dropoffice.specs.Rules.{place_of, upload_of}
-use Rattle.dropoffice.specs.Places.{place_at}
 use Rattle.dropoffice.specs.Kept.{IsKept}
 use Rattle.dropoffice.proofs.Replies.{brought, again, not_put, sets, set_replied}
 use Rattle.dropoffice.proofs.office.Office.put.Goals as goal
@@ -23,8 +20,8 @@ returns-in-Refused-clause-replies g c s r p kept is is_put body_is reached other
     let brings = brought (g.K.Keeper.means c.look_up.new.self.keeper) s r c.args.now p reached (subst (λ (b : List ℕ). length b ≤ most_body) (sym body_is) c.requires) (subst AreBytes (sym body_is) (are_bytes c.args.body.now c.type_inv.body)) (omega (arith, c.well_formed)) in
     not_put (g.K.Keeper.means c.look_up.new.self.keeper) s r c.args.now p reached c.in-Refused.refusal is_put
     (c.in-Refused.ensures s u kept.sound brings (subst (λ x. IsUploadViewOf s x c.in-Ok-look_up.field-0.view) same (c.in-Ok-look_up.ensures.view s kept))
-     (record { length_is = ap length (sym body_is); digest = c.digest_of-digest.ensures ∙ ap sha256 (sym body_is); stand = c.in-Ok-look_up.ensures.stand s u kept (sym same) body_is })
-     refl (sym (c.key_id.ensures r p is)) (sym same))
+    (record { length_is = ap length (sym body_is); digest = c.digest_of-digest.ensures ∙ ap sha256 (sym body_is); stand = c.in-Ok-look_up.ensures.stand s u kept (sym same) body_is })
+    refl (sym (c.key_id.ensures r p is)) (sym same))
 
 pub returns-in-Again-clause-replies : goal.returns-in-Again-clause-replies
 returns-in-Again-clause-replies g c s r p kept is is_put body_is reached =
@@ -34,9 +31,9 @@ returns-in-Again-clause-replies g c s r p kept is is_put body_is reached =
     let brings = brought means s r c.args.now p reached (subst (λ (b : List ℕ). length b ≤ most_body) (sym body_is) c.requires) (subst AreBytes (sym body_is) (are_bytes c.args.body.now c.type_inv.body)) (omega (arith, c.well_formed)) in
     subst (λ (x : Reply). IsReplied means s r c.args.now (Ok x)) (sym c.reply_of.ensures)
     (again means s r c.args.now p reached c.in-Again.receipt is_put (record { means = c.in-Ok-look_up.ensures.same s kept.means; sound = kept.sound })
-     (c.in-Again.ensures s u kept.sound brings (subst (λ x. IsUploadViewOf s x c.in-Ok-look_up.field-0.view) same (c.in-Ok-look_up.ensures.view s kept))
-      (record { length_is = ap length (sym body_is); digest = c.digest_of-digest.ensures ∙ ap sha256 (sym body_is); stand = c.in-Ok-look_up.ensures.stand s u kept (sym same) body_is })
-      refl (sym (c.key_id.ensures r p is)) (sym same)))
+    (c.in-Again.ensures s u kept.sound brings (subst (λ x. IsUploadViewOf s x c.in-Ok-look_up.field-0.view) same (c.in-Ok-look_up.ensures.view s kept))
+    (record { length_is = ap length (sym body_is); digest = c.digest_of-digest.ensures ∙ ap sha256 (sym body_is); stand = c.in-Ok-look_up.ensures.stand s u kept (sym same) body_is })
+    refl (sym (c.key_id.ensures r p is)) (sym same)))
 
 pub returns-clause-replies : goal.returns-clause-replies
 returns-clause-replies g c s r p kept is is_put body_is reached =

@@ -1,4 +1,3 @@
-use Rattle.std.proofs.Common.{Result, Ok, Err, refl}
 use Rattle.sigtext.specs.declared.refusal.Refusal.TheVariants as rule
 use Rattle.wire.specs.Messages.{request_in}
 use Rattle.links.proofs.LinkRules.{method_first}

@@ -1,8 +1,6 @@
-use Rattle.std.proofs.Common.{◌≡◌, ◌≤◌, ◌∙◌, ℕ, refl, sym, subst, arith}
+use Rattle.std.proofs.Common.{◌∙◌, ℕ, refl, subst, arith}
 use Rattle.sigtext.specs.Counts.{Rose}
-use Rattle.boxes.specs.State.{State}
 use Rattle.wire.specs.Feeds.{left, reader_of}
-use Rattle.dropoffice.specs.Kept.{IsKept}
 use Rattle.dropoffice.proofs.SessionSteps.{follows_first, follows_more, follows_end, follows_limit}
 use Rattle.dropoffice.proofs.office.Office.serve_feed.Goals as goal
 
@@ -14,8 +12,11 @@ messages-init g c = (
   refl,
   refl,
   λ honest. honest,
-  λ s kept. (s, record { means = kept.means; sound = kept.sound },
-             follows_first g.C.Clock.now_gives (left g.R.Read.remaining c.args.feed.now) (g.W.Write.contents c.args.writer.now.inner) c.args.clock.now (g.K.Keeper.faults c.args.self.now.keeper) s),
+  λ s kept. (
+    s,
+    record { means = kept.means; sound = kept.sound },
+    follows_first g.C.Clock.now_gives (left g.R.Read.remaining c.args.feed.now) (g.W.Write.contents c.args.writer.now.inner) c.args.clock.now (g.K.Keeper.faults c.args.self.now.keeper) s,
+  ),
 )
 
 pub step-requires : goal.step-requires
@@ -27,9 +28,12 @@ returns-in-Some-clause-same g c = c.step.ensures.same ∙ c.messages.invariant.1
 pub returns-in-Some-clause-serves : goal.returns-in-Some-clause-serves
 returns-in-Some-clause-serves g c s kept =
     let x = c.messages.invariant.6 s (record { means = kept.means; is_honest = c.in-Some.ensures.honest kept.is_honest; sound = kept.sound }) in
-    let h = c.in-Some.ensures.steps x.0 (record { means = x.1.means; is_honest = kept.is_honest; sound = x.1.sound }) in
-    (h.0, h.1, follows_end g.C.Clock.now_gives c.messages.counter (left g.R.Read.remaining c.args.feed.now) (left g.R.Read.remaining c.messages.feed) (g.W.Write.contents c.args.writer.now.inner) (g.W.Write.contents c.messages.writer.inner) c.args.clock.now c.messages.clock (g.K.Keeper.faults c.args.self.now.keeper) (g.K.Keeper.faults c.messages.self.keeper) s x.0 x.2
-     (g.R.Read.remaining (reader_of c.step.new.feed).inner) (g.W.Write.contents c.step.new.writer.inner) c.step.new.clock (g.K.Keeper.faults c.step.new.self.keeper) h.0 c.in-Some.end c.messages-test.true h.2)
+    let h = c.in-Some.ensures.steps x.0 (record { means = x.1.means; is_honest = kept.is_honest; sound = x.1.sound }) in (
+      h.0,
+      h.1,
+      follows_end g.C.Clock.now_gives c.messages.counter (left g.R.Read.remaining c.args.feed.now) (left g.R.Read.remaining c.messages.feed) (g.W.Write.contents c.args.writer.now.inner) (g.W.Write.contents c.messages.writer.inner) c.args.clock.now c.messages.clock (g.K.Keeper.faults c.args.self.now.keeper) (g.K.Keeper.faults c.messages.self.keeper) s x.0 x.2
+          (g.R.Read.remaining (reader_of c.step.new.feed).inner) (g.W.Write.contents c.step.new.writer.inner) c.step.new.clock (g.K.Keeper.faults c.step.new.self.keeper) h.0 c.in-Some.end c.messages-test.true h.2,
+    )
 
 pub returns-in-Some-clause-faults : goal.returns-in-Some-clause-faults
 returns-in-Some-clause-faults g c =
@@ -61,9 +65,12 @@ messages-preserved g c =
       λ honest. c.messages.invariant.5 (c.in-None.ensures.honest honest),
       λ s kept.
           let x = c.messages.invariant.6 s (record { means = kept.means; is_honest = c.in-None.ensures.honest kept.is_honest; sound = kept.sound }) in
-          let h = c.in-None.ensures.steps x.0 (record { means = x.1.means; is_honest = kept.is_honest; sound = x.1.sound }) in
-          (h.0, h.1, follows_more g.C.Clock.now_gives c.messages.counter (left g.R.Read.remaining c.args.feed.now) (left g.R.Read.remaining c.messages.feed) (g.W.Write.contents c.args.writer.now.inner) (g.W.Write.contents c.messages.writer.inner) c.args.clock.now c.messages.clock (g.K.Keeper.faults c.args.self.now.keeper) (g.K.Keeper.faults c.messages.self.keeper) s x.0 x.2
-           (left g.R.Read.remaining c.step.new.feed) (g.W.Write.contents c.step.new.writer.inner) c.step.new.clock (g.K.Keeper.faults c.step.new.self.keeper) h.0 h.2),
+          let h = c.in-None.ensures.steps x.0 (record { means = x.1.means; is_honest = kept.is_honest; sound = x.1.sound }) in (
+            h.0,
+            h.1,
+            follows_more g.C.Clock.now_gives c.messages.counter (left g.R.Read.remaining c.args.feed.now) (left g.R.Read.remaining c.messages.feed) (g.W.Write.contents c.args.writer.now.inner) (g.W.Write.contents c.messages.writer.inner) c.args.clock.now c.messages.clock (g.K.Keeper.faults c.args.self.now.keeper) (g.K.Keeper.faults c.messages.self.keeper) s x.0 x.2
+                (left g.R.Read.remaining c.step.new.feed) (g.W.Write.contents c.step.new.writer.inner) c.step.new.clock (g.K.Keeper.faults c.step.new.self.keeper) h.0 h.2,
+          ),
     )
 
 pub returns-clause-same : goal.returns-clause-same
@@ -71,9 +78,12 @@ returns-clause-same g c = c.messages.invariant.1
 
 pub returns-clause-serves : goal.returns-clause-serves
 returns-clause-serves g c s kept =
-    let x = c.messages.invariant.6 s kept in
-    (x.0, x.1, follows_limit g.C.Clock.now_gives c.messages.counter (left g.R.Read.remaining c.args.feed.now) (left g.R.Read.remaining c.messages.feed) (g.W.Write.contents c.args.writer.now.inner) (g.W.Write.contents c.messages.writer.inner) c.args.clock.now c.messages.clock (g.K.Keeper.faults c.args.self.now.keeper) (g.K.Keeper.faults c.messages.self.keeper) s x.0 x.2
-     (g.R.Read.remaining (reader_of c.messages.feed).inner) (omega (arith, c.messages.auto.counter-end, c.messages-test.false)))
+    let x = c.messages.invariant.6 s kept in (
+      x.0,
+      x.1,
+      follows_limit g.C.Clock.now_gives c.messages.counter (left g.R.Read.remaining c.args.feed.now) (left g.R.Read.remaining c.messages.feed) (g.W.Write.contents c.args.writer.now.inner) (g.W.Write.contents c.messages.writer.inner) c.args.clock.now c.messages.clock (g.K.Keeper.faults c.args.self.now.keeper) (g.K.Keeper.faults c.messages.self.keeper) s x.0 x.2
+          (g.R.Read.remaining (reader_of c.messages.feed).inner) (omega (arith, c.messages.auto.counter-end, c.messages-test.false)),
+    )
 
 pub returns-clause-faults : goal.returns-clause-faults
 returns-clause-faults g c = record {
