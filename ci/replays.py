@@ -1,4 +1,4 @@
-"""Runs the proved program `drop` on whole requests and on words, and compares all that it writes, and its status.
+"""Runs the proved program `drop` on streams of requests and on words, and compares all that it writes, and its status.
 
 The answers that are owed come from the table of refusals in docs/RULES.md, the signatures from Python's `hmac`
 (ci/expected.py), the lines on standard error from README.md, and the help from ci/drop.help and ci/replay.help, whose
@@ -39,11 +39,16 @@ def answered(number, method="GET"):
     return kit.Run(0, answer(number, method), b"")
 
 
+def all_answered(numbers):
+    """What is owed for a stream of GETs that are refused so, one after another."""
+    return kit.Run(0, b"".join(map(answer, numbers)), b"")
+
+
+SILENCE = all_answered([])
+
+
 def fault(line):
     return kit.Run(1, b"", f"drop: {line}\n".encode())
-
-
-NOT_SERVED = fault("not served yet")
 
 
 def changed(part, by):
@@ -129,11 +134,43 @@ ODD_HEADS = [
     (b"Host:", b"HOST:"), (b"Host:", b"hOsT:"), (b"Host: ", b"host:"), (b"Host:", b"Host: \t "),
     (b".amazonaws.com\r\n", b".amazonaws.com \t \r\n"),
 ]
-UNSERVED = [
-    (b"GET", b"G(T"), (b"\r\nHost", b"\r\nContent-Length: 0\r\nHost"), (b"\r\nHost", b"\r\ncontent-LENGTH: x\r\nHost"),
-    (b"\r\nHost", b"\r\nTransfer-Encoding: identity\r\nHost"), (b"\r\n\r\n", b"\r\n\r\n "), (b"\r\n\r\n", b"\r\n"),
-    (b"\r\n\r\n", b"\n\r\n"), (b"\r\nHost", b"\n\nHost"), (b"\r\nHost", b"\r\n\r\nA:\r\nHost"),
+LENGTH = b"\r\nContent-Length: "
+# Heads that break a rule of framing: the refusal answers, and closes the connection.
+BADLY_FRAMED = {
+    1: [
+        (b"GET", b"G(T"), (b"\r\nHost", b"\n\nHost"), (b"\r\nHost", b"\r\nA\r\nHost"), (b"HTTP/1.1", b"HTTP/2.0"),
+        (b"GET " + PUBLISHED + b" HTTP/1.1", b""), (b"\r\nHost", b"\r\n folded\r\nHost"),
+    ],
+    3: [
+        (b"\r\nHost", b"\r\nTransfer-Encoding: identity\r\nHost"), (b"\r\nHost", b"\r\ntransfer-ENCODING:\r\nHost"),
+        (b"\r\nHost", b"\r\nContent-Length: x\r\nTransfer-Encoding: chunked\r\nHost"),
+    ],
+    4: [
+        (b"\r\nHost", b"\r\ncontent-LENGTH: x\r\nHost"),
+        *((b"\r\nHost", LENGTH + value + b"\r\nHost") for value in [
+            b"3" + LENGTH + b"3", b"0" + LENGTH + b"0", b"+3", b"-3", b"", b" \t", b"00000000003", b"3 3", b"3,3",
+            b"0x3", b"3a", b"3.0", b"10485760000",
+        ]),
+    ],
+    5: [(b"\r\nHost", LENGTH + value + b"\r\nHost") for value in [b"1048577", b"0001048577", b"9999999999"]],
+    6: [
+        *((b"\r\nHost", LENGTH + value + b"\r\nHost") for value in [b"1", b"1048576", b"\t0000000003 \t"]),
+        (HOST + b"\r\n\r\n", b"Content-Length: 3\r\n\r\nab"),
+    ],
+}
+# Streams in which no message stands whole, and no rule is broken yet.
+CUT_OFF = [
+    b"", b"\r", b"\r\n", b"GET /", b"PUT / HTTP/1.1" + LENGTH + b"3", b"a" * 8191,
+    changed(b"\r\n\r\n", b"\r\n"), changed(b"\r\n\r\n", b"\n\r\n"), changed(b"\r\n\r\n", b"\r\n\r"),
 ]
+# The first 8192 bytes hold no CR LF CR LF.
+TOO_LONG = [
+    b"a" * 8192, b"a" * 8193, b"a" * 9000, b"\r\n" + b"a" * 8187 + b"\r\n\r\n", b"a" * 8192 + REQUEST,
+    changed(b"\r\n\r\n", b"\r\nA:" + b"a" * 8192),
+]
+# An upload that ends within its body.
+CUT_UPLOAD = b"PUT /in/x HTTP/1.1\r\nHost: a" + LENGTH + b"3\r\n\r\nab"
+MOST_MESSAGES = 1000
 
 
 def broken():
@@ -148,17 +185,53 @@ def odd():
     yield from changes(answered(27), SPELLINGS + ODD_HEADS)
     for count in [62, 63, 64, 65]:
         stream = changed(b"\r\nHost", b"\r\nA:1" * (count - 1) + b"\r\nHost")
-        yield Case(f"{count} fields", stream, answered(27) if count <= 64 else NOT_SERVED)
+        yield Case(f"{count} fields", stream, answered(27 if count <= 64 else 1))
     for length in [8191, 8192, 8193, 8194]:
         stream = changed(b"\r\nHost", b"\r\nA:" + b"a" * (length - len(REQUEST) - 4) + b"\r\nHost")
         assert len(stream) == length
-        yield Case(f"a head of {length} bytes", stream, answered(27) if length <= 8192 else NOT_SERVED)
+        yield Case(f"a head of {length} bytes", stream, answered(27 if length <= 8192 else 2))
 
 
-def unserved():
-    yield from changes(NOT_SERVED, UNSERVED)
-    for stream in [b"", b"GET /", b"\r\n\r\n", *(b"a" * length for length in (8191, 8192, 8193, 9000))]:
-        yield Case(f"{len(stream)} bytes that are no request", stream, NOT_SERVED)
+def framed():
+    """What is no message: it is refused, and closes the connection, or it is cut off, and gets no answer."""
+    for number, rows in BADLY_FRAMED.items():
+        yield from changes(answered(number), rows)
+        part, by = rows[-1]
+        for method in [b"HEAD", b"PUT"]:
+            yield Case(f"{method!r} and {by!r}", changed(part, by).replace(b"GET", method, 1), answered(number))
+    yield Case("an empty head", b"\r\n\r\n", answered(1))
+    for stream in TOO_LONG:
+        yield Case(f"a head that is too long, of {len(stream)} bytes", stream, answered(2))
+    for stream in CUT_OFF:
+        yield Case(f"{len(stream)} bytes of a head", stream, SILENCE)
+
+
+def connections():
+    """Streams of several messages: each is answered, until one closes the connection."""
+    thrice = REQUEST * 3
+    split = changed(b"\r\nHost", b"\r\n\r\nA:\r\nHost")
+    yield Case("a head without its host, and no head", split, all_answered([17, 1]))
+    yield Case("a byte behind", REQUEST + b" ", answered(27))
+    for middle, numbers in [
+        (b"\r\n\r\n", [27, 1]), (changed(b"d404", b"d405"), [27, 21, 27]), (b"GET /\r\n\r\n", [27, 1]),
+        (changed(b"\r\nHost", b"\r\nTransfer-Encoding: x\r\nHost"), [27, 3]),
+        (changed(b"\r\nHost", LENGTH + b"9999999999\r\nHost"), [27, 5]), (b"\r\n", [27, 27]),
+    ]:
+        yield Case(f"{middle!r} between two", REQUEST + middle + REQUEST, all_answered(numbers))
+    # A body may hold what would be a request if it stood alone.
+    hidden = changed(b"\r\nHost", LENGTH + b"%d\r\nHost" % len(REQUEST)) + REQUEST
+    yield Case("a request in a body", hidden + REQUEST, all_answered([26, 27]))
+    stream = thrice + CUT_UPLOAD
+    for cut in range(len(stream) + 1):
+        whole, rest = divmod(min(cut, len(thrice)), len(REQUEST))
+        numbers = [27] * whole + [6] * (cut >= len(stream) - len(b"ab"))
+        yield Case(f"three and an upload, {cut} bytes", stream[:cut], all_answered(numbers))
+    for count, more, numbers in [
+        (MOST_MESSAGES - 1, b"\r\n\r\n", [1]), (MOST_MESSAGES, b"", []), (MOST_MESSAGES, b"\r\n\r\n", []),
+        (MOST_MESSAGES, CUT_UPLOAD, []), (MOST_MESSAGES, REQUEST, []), (MOST_MESSAGES, b"a" * 9000, []),
+    ]:
+        owed = all_answered([27] * count + numbers)
+        yield Case(f"{count} requests, and {len(more)} bytes behind", REQUEST * count + more, owed)
 
 
 def signed(method, path, more=b"", *, names=b"host", fields=((b"host", b"files.example"),), unsigned=(),
@@ -171,6 +244,23 @@ def signed(method, path, more=b"", *, names=b"host", fields=((b"host", b"files.e
     target += b"&X-Amz-Signature=" + signature(key[1], credential, date, text).encode()
     lines = [b"%s %s HTTP/1.1" % (as_bytes(method), target)]
     return b"\r\n".join([*lines, *(b"%s: %s" % field for field in (*fields, *unsigned)), b"", b""])
+
+
+def bodies():
+    """Requests that tell a length: only a PUT may have a body, and must tell its length."""
+    for method, number in [("GET", 26), ("HEAD", 26), ("POST", 26), ("PUT", 27)]:
+        for value, body in [
+            (b"1", b"x"), (b"0000000003", b"abc"), (b"\t4 ", b"\r\n\r\n"), (b"1048576", b"a" * 1048576),
+        ]:
+            stream = signed(method, b"/in/a", unsigned=[(b"Content-Length", value)]) + body
+            yield Case(f"a {method} with a body of {len(body)} bytes", stream, answered(number, method))
+    for method, number in [("GET", 27), ("HEAD", 27), ("POST", 35), ("PUT", 27)]:
+        for field in [(b"Content-Length", b"0"), (b"content-LENGTH", b"0000000000")]:
+            stream = signed(method, b"/in/a", unsigned=[field])
+            yield Case(f"a {method} with {field!r}", stream, answered(number, method))
+    for method, number in [("GET", 27), ("HEAD", 27), ("POST", 35), ("PUT", 25)]:
+        yield Case(f"a {method} without a length", signed(method, b"/in/a"), answered(number, method))
+    yield Case("a PUT for another moment", signed("PUT", b"/in/a", date="20130525T000000Z"), answered(22, "PUT"))
 
 
 def links():
@@ -227,7 +317,7 @@ def greatest():
     yield Case("the greatest request", stream, answered(27), "20130530T235959Z", office)
     yield Case("the greatest request, too late", stream, answered(23), "20130531T000000Z", office)
     more = stream.replace(b": v\r", b": vv\r", 1)
-    yield Case("the greatest request, one byte more", more, NOT_SERVED, MOMENT, office)
+    yield Case("the greatest request, one byte more", more, answered(2), MOMENT, office)
 
 
 def replayed(program, folder, number, case):
@@ -242,7 +332,9 @@ def difference(found, owed):
 
 
 def test_streams(program, folder, count):
-    cases = [*broken(), *odd(), *unserved(), *links(), *windows(), *greatest()]
+    cases = [
+        *broken(), *odd(), *framed(), *connections(), *bodies(), *links(), *windows(), *greatest(),
+    ]
     runs = kit.side_by_side(lambda item: replayed(program, folder, *item), enumerate(cases))
     for case, found in zip(cases, runs):
         count.add(case.name, difference(found, case.owed))
@@ -333,7 +425,7 @@ def test_failing_output(program, folder, count):
                 found = kit.run([program, *words], out=file)
             count.add(f"drop {words} to a {failing.__name__}", difference(found, fault(line)))
         for words, owed in [
-            (replay, answered(27)), (["replay", OFFICE, other, "--at", MOMENT], kit.Run(1, b"", b"")),
+            (replay, answered(27)), (["replay", OFFICE, other, "--at", MOMENT], answered(9)),
             (["replay", OFFICE, stream, "--at", "now"], kit.Run(1, b"", b"")), (["restore"], kit.Run(2, b"", b"")),
             ([b"\xff"], kit.Run(1, b"", b"")),
         ]:
