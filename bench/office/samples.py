@@ -1,6 +1,6 @@
 #!/usr/bin/env python3
-"""samples.py FOLDER FILES: the streams of the bench for an office that holds so many small files, each with the answers that
-are owed (Python's hmac and hashlib, by ci/expected.py). All messages of a stream have one length."""
+"""samples.py FOLDER FILES: the streams of the bench for an office that holds so many small files, each with the answers
+that are owed (Python's hmac and hashlib, by ci/expected.py). All messages of a stream have one length."""
 import hashlib, itertools, pathlib, sys
 
 TOP = pathlib.Path(__file__).resolve().parents[2]

@@ -1,5 +1,6 @@
 #!/usr/bin/env python3
-"""table.py SMALL GREAT PEER: the figures of the rounds, as a table: the best of them, and the median in brackets."""
+"""table.py SMALL GREAT PEER: the figures of the rounds, as a table: of requests a second the best; of microseconds the
+best and, in brackets, the median; the ratio of the two best and, in brackets, the median of the rounds' ratios."""
 import statistics, sys
 
 # The steps in the order of the program: what is asked, the messages, their connections, and the peer's work.
@@ -38,14 +39,16 @@ def peers_of(name):
 
 def main(small, great, peer):
     peers = peers_of(peer)
-    print("| Request | Messages on a connection | 10^3 files: requests/s | us | 10^5 files: requests/s | us | ratio | OpenSSL HMAC, us | SHA-256 alone, us |")
-    print("|---|---|---|---|---|---|---|---|---|")
+    sizes = ["10^3 files: a second", "us", "10^5 files: a second", "us", "Ratio"]
+    print("| " + " | ".join(["Request", "On one connection", *sizes, "OpenSSL, us", "its blocks alone, us"]) + " |")
+    print("|" + "---|" * 9)
     for step, few, many in zip(STEPS, steps_of(small), steps_of(great)):
         name, messages, connections, work = step
         cells = [name, str(messages // connections)]
         for costs in (few, many):
             cells += [f"{1e6 / min(costs):.0f}", f"{min(costs):.1f} ({statistics.median(costs):.1f})"]
-        cells.append(f"{min(many) / min(few):.2f} ({statistics.median(many) / statistics.median(few):.2f})")
+        ratios = [great / small for small, great in zip(few, many)]
+        cells.append(f"{min(many) / min(few):.2f} ({statistics.median(ratios):.2f})")
         cells += [f"{peers[way, work]:.1f}" for way in ("hmac", "sha")]
         print("| " + " | ".join(cells) + " |")
 
