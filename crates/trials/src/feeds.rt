@@ -8,7 +8,7 @@ use wire::{Counted, Feed, Piece, Step, WireFault};
 const GET: &[u8] = b"GET /b HTTP/1.1\r\n\r\n";
 
 /// A PUT of a body of so many bytes, and a GET behind it.
-pub fn two_messages(alloc: Global, size: usize) -> Result<Vec<u8>, Fail> {
+pub(crate) fn two_messages(alloc: Global, size: usize) -> Result<Vec<u8>, Fail> {
     let mut stream = Vec::new(alloc);
     let head = format!(in alloc; "PUT /a HTTP/1.1\r\nContent-Length: {size}\r\n\r\n")?;
     stream.extend_from_slice(head.as_bytes())?;
@@ -18,7 +18,7 @@ pub fn two_messages(alloc: Global, size: usize) -> Result<Vec<u8>, Fail> {
 }
 
 /// The body of that PUT: 0 to 250, over and over.
-pub fn body(alloc: Global, size: usize) -> Result<Vec<u8>, Fail> {
+pub(crate) fn body(alloc: Global, size: usize) -> Result<Vec<u8>, Fail> {
     let mut body = Vec::new(alloc);
     let mut byte = 0;
     for _ in 0..size {
@@ -29,7 +29,7 @@ pub fn body(alloc: Global, size: usize) -> Result<Vec<u8>, Fail> {
 }
 
 /// A head of so many bytes: 31 at least.
-pub fn long_head(alloc: Global, size: usize) -> Result<Vec<u8>, Fail> {
+pub(crate) fn long_head(alloc: Global, size: usize) -> Result<Vec<u8>, Fail> {
     let mut head = Vec::new(alloc);
     head.extend_from_slice(b"GET /a HTTP/1.1\r\nX-Long: ")?;
     for _ in 0..size.saturating_sub(29) {
@@ -40,7 +40,7 @@ pub fn long_head(alloc: Global, size: usize) -> Result<Vec<u8>, Fail> {
 }
 
 /// A head of so many fields.
-pub fn many_fields(alloc: Global, count: usize) -> Result<Vec<u8>, Fail> {
+pub(crate) fn many_fields(alloc: Global, count: usize) -> Result<Vec<u8>, Fail> {
     let mut head = Vec::new(alloc);
     head.extend_from_slice(b"GET /a HTTP/1.1\r\n")?;
     for _ in 0..count {
