@@ -1,0 +1,21 @@
+use Rattle.std.proofs.Common.{arith}
+use Rattle.sqlite.specs.State.{HasCleanDisk}
+use Rattle.sqlite.specs.Held.{state}
+use Rattle.sqlkeeper.proofs.Runs.{query_keeps}
+use Rattle.sqlkeeper.proofs.Ours.{asks_of}
+use Rattle.sqlkeeper.proofs.Texts.{next_number, next_number_command, next_number_is}
+use Rattle.sqlkeeper.proofs.LastNumber.{shows_last}
+use Rattle.sqlkeeper.proofs.statements.select_last.Goals as goal
+
+pub returns-clause-found : goal.returns-clause-found
+returns-clause-found g c v tables receipts ours pends listed inside clean =
+    let old = state g.S.Store c.args.tx.now.conn.now in
+    let new = state g.S.Store c.query_all.new.self.conn.now in
+    let early : HasCleanDisk old = omega (arith, c.query_all.ensures.survives.clean) in
+    shows_last (λ v. v.items) c.query_all.result v (asks_of v ours next_number next_number_command next_number_is) old new tables receipts inside (pends early inside) listed (c.query_all.ensures.ok clean)
+
+pub returns-clause-uncommitted : goal.returns-clause-uncommitted
+returns-clause-uncommitted g c clean inside =
+    let old = state g.S.Store c.args.tx.now.conn.now in
+    let new = state g.S.Store c.query_all.new.self.conn.now in
+    query_keeps (λ v. v.items) _ _ old new c.query_all.result inside (c.query_all.ensures.ok clean) (c.query_all.ensures.err clean)

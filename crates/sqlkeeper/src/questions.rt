@@ -1,0 +1,149 @@
+//! Questions inside a transaction. They change nothing.
+
+ghost use Rattle.std.specs.Prelude.{◌≡◌, ◌+◌, ◌-◌, ℕ, List, length, map, take, drop, slice_get, None, Some, IsTrue, OnOk, IfOk, option_map};
+ghost use Rattle.std.specs.FinMap.{get};
+ghost use Rattle.std.specs.List.{AllByRecursion};
+ghost use Rattle.sqlite.specs.State.{HasCleanDisk, KeepsCommit, Survives};
+ghost use Rattle.sqlite.specs.Held.{state};
+ghost use Rattle.boxes.specs.State.{Receipt, State};
+ghost use Rattle.boxes.specs.Rows.{key_of, settings_of, receipt_in, numbered, numbered_receipt};
+ghost use Rattle.boxes.specs.Clerks.{clerks};
+ghost use Rattle.boxes.specs.Sound.{AreSettings, IsDigest};
+ghost use Rattle.sqlkeeper.specs.Schema.{Version, IsVersion};
+ghost use Rattle.sqlkeeper.specs.Tables.{Tables, Box, piece_of};
+ghost use Rattle.sqlkeeper.specs.Means.{Pends, IsRunning};
+ghost use Rattle.sqlkeeper.specs.Questions.{AreTotalsOf, IsReceiptOf};
+
+use boxes::{BoxRow, KeyRow, ReceiptRow, Totals};
+use sqlite::{Alter, Error, ErrorCode, Transaction};
+
+/// The offset of the office's clock east of UTC, in minutes.
+pub fn east<S: Alter>(tx: &mut Transaction<'_, S>) -> Result<i16, Error>
+    ensures same_reference { tx.new.conn.ghost_name ≡ tx.old.conn.ghost_name }
+    ensures found { (v : Version) (tables : Tables) → IsVersion v → Pends v (state S.Store tx.old.conn.now) tables
+        → IsTrue (state S.Store tx.old.conn.now).in_transaction → HasCleanDisk (state S.Store tx.new.conn.now) → IfOk result (λ east. east ≡ tables.offset) }
+    ensures still { (v : Version) (tables : Tables) → IsVersion v → Pends v (state S.Store tx.old.conn.now) tables → OnOk result (Pends v (state S.Store tx.new.conn.now) tables) }
+    ensures running { HasCleanDisk (state S.Store tx.new.conn.now) → IsTrue (state S.Store tx.old.conn.now).in_transaction → OnOk result (IsRunning (state S.Store tx.new.conn.now)) }
+    ensures uncommitted { HasCleanDisk (state S.Store tx.new.conn.now) → IsTrue (state S.Store tx.old.conn.now).in_transaction → KeepsCommit (state S.Store tx.old.conn.now) (state S.Store tx.new.conn.now) }
+    ensures survives { Survives (state S.Store tx.old.conn.now) (state S.Store tx.new.conn.now) (λ _. ⊥) }
+{
+    Err(Error::SqliteFailure(ErrorCode::TransactionState))
+}
+
+/// The key of this id.
+pub fn key<S: Alter>(tx: &mut Transaction<'_, S>, id: &str) -> Result<Option<KeyRow>, Error>
+    ensures same_reference { tx.new.conn.ghost_name ≡ tx.old.conn.ghost_name }
+    ensures found { (v : Version) (tables : Tables) → IsVersion v → Pends v (state S.Store tx.old.conn.now) tables
+        → IsTrue (state S.Store tx.old.conn.now).in_transaction → HasCleanDisk (state S.Store tx.new.conn.now) → IfOk result (λ key. option_map key_of key ≡ tables.key id.now) }
+    ensures still { (v : Version) (tables : Tables) → IsVersion v → Pends v (state S.Store tx.old.conn.now) tables → OnOk result (Pends v (state S.Store tx.new.conn.now) tables) }
+    ensures running { HasCleanDisk (state S.Store tx.new.conn.now) → IsTrue (state S.Store tx.old.conn.now).in_transaction → OnOk result (IsRunning (state S.Store tx.new.conn.now)) }
+    ensures uncommitted { HasCleanDisk (state S.Store tx.new.conn.now) → IsTrue (state S.Store tx.old.conn.now).in_transaction → KeepsCommit (state S.Store tx.old.conn.now) (state S.Store tx.new.conn.now) }
+    ensures survives { Survives (state S.Store tx.old.conn.now) (state S.Store tx.new.conn.now) (λ _. ⊥) }
+{
+    Err(Error::SqliteFailure(ErrorCode::TransactionState))
+}
+
+/// The box of this name. Its settings are to be those of a sound state.
+pub fn box_row<S: Alter>(tx: &mut Transaction<'_, S>, name: &str) -> Result<Option<BoxRow>, Error>
+    ensures same_reference { tx.new.conn.ghost_name ≡ tx.old.conn.ghost_name }
+    ensures found { (v : Version) (tables : Tables) → IsVersion v → Pends v (state S.Store tx.old.conn.now) tables → ((b : Box) → tables.box name.now ≡ Some b → AreSettings b.settings)
+        → IsTrue (state S.Store tx.old.conn.now).in_transaction → HasCleanDisk (state S.Store tx.new.conn.now) → IfOk result (λ row. option_map settings_of row ≡ option_map (λ b. b.settings) (tables.box name.now)) }
+    ensures still { (v : Version) (tables : Tables) → IsVersion v → Pends v (state S.Store tx.old.conn.now) tables → OnOk result (Pends v (state S.Store tx.new.conn.now) tables) }
+    ensures running { HasCleanDisk (state S.Store tx.new.conn.now) → IsTrue (state S.Store tx.old.conn.now).in_transaction → OnOk result (IsRunning (state S.Store tx.new.conn.now)) }
+    ensures uncommitted { HasCleanDisk (state S.Store tx.new.conn.now) → IsTrue (state S.Store tx.old.conn.now).in_transaction → KeepsCommit (state S.Store tx.old.conn.now) (state S.Store tx.new.conn.now) }
+    ensures survives { Survives (state S.Store tx.old.conn.now) (state S.Store tx.new.conn.now) (λ _. ⊥) }
+{
+    Err(Error::SqliteFailure(ErrorCode::TransactionState))
+}
+
+/// What the box of this name holds; nothing, where it is not there.
+pub fn totals<S: Alter>(tx: &mut Transaction<'_, S>, name: &str) -> Result<Totals, Error>
+    ensures same_reference { tx.new.conn.ghost_name ≡ tx.old.conn.ghost_name }
+    ensures found { (v : Version) (tables : Tables) → IsVersion v → Pends v (state S.Store tx.old.conn.now) tables
+        → IsTrue (state S.Store tx.old.conn.now).in_transaction → HasCleanDisk (state S.Store tx.new.conn.now) → IfOk result (AreTotalsOf (tables.box name.now)) }
+    ensures still { (v : Version) (tables : Tables) → IsVersion v → Pends v (state S.Store tx.old.conn.now) tables → OnOk result (Pends v (state S.Store tx.new.conn.now) tables) }
+    ensures running { HasCleanDisk (state S.Store tx.new.conn.now) → IsTrue (state S.Store tx.old.conn.now).in_transaction → OnOk result (IsRunning (state S.Store tx.new.conn.now)) }
+    ensures uncommitted { HasCleanDisk (state S.Store tx.new.conn.now) → IsTrue (state S.Store tx.old.conn.now).in_transaction → KeepsCommit (state S.Store tx.old.conn.now) (state S.Store tx.new.conn.now) }
+    ensures survives { Survives (state S.Store tx.old.conn.now) (state S.Store tx.new.conn.now) (λ _. ⊥) }
+{
+    Err(Error::SqliteFailure(ErrorCode::TransactionState))
+}
+
+/// The number of the receipt of the file of this box and name.
+pub fn file_number<S: Alter>(tx: &mut Transaction<'_, S>, in_box: &str, name: &str) -> Result<Option<u64>, Error>
+    ensures same_reference { tx.new.conn.ghost_name ≡ tx.old.conn.ghost_name }
+    ensures found { (v : Version) (tables : Tables) → IsVersion v → Pends v (state S.Store tx.old.conn.now) tables
+        → IsTrue (state S.Store tx.old.conn.now).in_transaction → HasCleanDisk (state S.Store tx.new.conn.now) → IfOk result (λ number. number ≡ tables.file (record { box = in_box.now; name = name.now })) }
+    ensures still { (v : Version) (tables : Tables) → IsVersion v → Pends v (state S.Store tx.old.conn.now) tables → OnOk result (Pends v (state S.Store tx.new.conn.now) tables) }
+    ensures running { HasCleanDisk (state S.Store tx.new.conn.now) → IsTrue (state S.Store tx.old.conn.now).in_transaction → OnOk result (IsRunning (state S.Store tx.new.conn.now)) }
+    ensures uncommitted { HasCleanDisk (state S.Store tx.new.conn.now) → IsTrue (state S.Store tx.old.conn.now).in_transaction → KeepsCommit (state S.Store tx.old.conn.now) (state S.Store tx.new.conn.now) }
+    ensures survives { Survives (state S.Store tx.old.conn.now) (state S.Store tx.new.conn.now) (λ _. ⊥) }
+{
+    Err(Error::SqliteFailure(ErrorCode::TransactionState))
+}
+
+/// The receipt of this number. Its digest is to have 32 bytes.
+pub fn receipt<S: Alter>(tx: &mut Transaction<'_, S>, number: u64) -> Result<Option<ReceiptRow>, Error>
+    ensures same_reference { tx.new.conn.ghost_name ≡ tx.old.conn.ghost_name }
+    ensures found { (v : Version) (tables : Tables) (at : ℕ) → IsVersion v → Pends v (state S.Store tx.old.conn.now) tables → number ≡ at + 1 → ((r : Receipt) → tables.receipt at ≡ Some r → IsDigest r.digest)
+        → IsTrue (state S.Store tx.old.conn.now).in_transaction → HasCleanDisk (state S.Store tx.new.conn.now) → IfOk result (IsReceiptOf number (tables.receipt at)) }
+    ensures still { (v : Version) (tables : Tables) → IsVersion v → Pends v (state S.Store tx.old.conn.now) tables → OnOk result (Pends v (state S.Store tx.new.conn.now) tables) }
+    ensures running { HasCleanDisk (state S.Store tx.new.conn.now) → IsTrue (state S.Store tx.old.conn.now).in_transaction → OnOk result (IsRunning (state S.Store tx.new.conn.now)) }
+    ensures uncommitted { HasCleanDisk (state S.Store tx.new.conn.now) → IsTrue (state S.Store tx.old.conn.now).in_transaction → KeepsCommit (state S.Store tx.old.conn.now) (state S.Store tx.new.conn.now) }
+    ensures survives { Survives (state S.Store tx.old.conn.now) (state S.Store tx.new.conn.now) (λ _. ⊥) }
+{
+    Err(Error::SqliteFailure(ErrorCode::TransactionState))
+}
+
+/// One piece of the file of this box and name, from 0 on.
+pub fn piece<S: Alter>(tx: &mut Transaction<'_, S>, in_box: &str, name: &str, part: u32) -> Result<Option<Vec<u8>>, Error>
+    ensures same_reference { tx.new.conn.ghost_name ≡ tx.old.conn.ghost_name }
+    ensures found { (v : Version) (tables : Tables) → IsVersion v → Pends v (state S.Store tx.old.conn.now) tables
+        → IsTrue (state S.Store tx.old.conn.now).in_transaction → HasCleanDisk (state S.Store tx.new.conn.now) → IfOk result (λ bytes. option_map (λ b. b.items) bytes ≡ tables.piece (record { place = record { box = in_box.now; name = name.now }; at = part })) }
+    ensures still { (v : Version) (tables : Tables) → IsVersion v → Pends v (state S.Store tx.old.conn.now) tables → OnOk result (Pends v (state S.Store tx.new.conn.now) tables) }
+    ensures running { HasCleanDisk (state S.Store tx.new.conn.now) → IsTrue (state S.Store tx.old.conn.now).in_transaction → OnOk result (IsRunning (state S.Store tx.new.conn.now)) }
+    ensures uncommitted { HasCleanDisk (state S.Store tx.new.conn.now) → IsTrue (state S.Store tx.old.conn.now).in_transaction → KeepsCommit (state S.Store tx.old.conn.now) (state S.Store tx.new.conn.now) }
+    ensures survives { Survives (state S.Store tx.old.conn.now) (state S.Store tx.new.conn.now) (λ _. ⊥) }
+{
+    Err(Error::SqliteFailure(ErrorCode::TransactionState))
+}
+
+/// The file's bytes, so many, from its pieces.
+pub fn file_bytes<S: Alter>(tx: &mut Transaction<'_, S>, in_box: &str, name: &str, size: u64) -> Result<Vec<u8>, Error>
+    ensures same_reference { tx.new.conn.ghost_name ≡ tx.old.conn.ghost_name }
+    ensures found { (v : Version) (tables : Tables) (bytes : List ℕ) → IsVersion v → Pends v (state S.Store tx.old.conn.now) tables → length bytes ≡ size
+        → ((at : ℕ) → tables.piece (record { place = record { box = in_box.now; name = name.now }; at = at }) ≡ piece_of bytes at)
+        → IsTrue (state S.Store tx.old.conn.now).in_transaction → HasCleanDisk (state S.Store tx.new.conn.now) → IfOk result (λ found. found.items ≡ bytes) }
+    ensures still { (v : Version) (tables : Tables) → IsVersion v → Pends v (state S.Store tx.old.conn.now) tables → OnOk result (Pends v (state S.Store tx.new.conn.now) tables) }
+    ensures running { HasCleanDisk (state S.Store tx.new.conn.now) → IsTrue (state S.Store tx.old.conn.now).in_transaction → OnOk result (IsRunning (state S.Store tx.new.conn.now)) }
+    ensures uncommitted { HasCleanDisk (state S.Store tx.new.conn.now) → IsTrue (state S.Store tx.old.conn.now).in_transaction → KeepsCommit (state S.Store tx.old.conn.now) (state S.Store tx.new.conn.now) }
+    ensures survives { Survives (state S.Store tx.old.conn.now) (state S.Store tx.new.conn.now) (λ _. ⊥) }
+{
+    Err(Error::SqliteFailure(ErrorCode::TransactionState))
+}
+
+/// How many unrevoked clerk's keys stand.
+pub fn clerks<S: Alter>(tx: &mut Transaction<'_, S>) -> Result<u64, Error>
+    ensures same_reference { tx.new.conn.ghost_name ≡ tx.old.conn.ghost_name }
+    ensures found { (v : Version) (tables : Tables) (s : State) → IsVersion v → Pends v (state S.Store tx.old.conn.now) tables → tables.key ≡ get s.keys
+        → IsTrue (state S.Store tx.old.conn.now).in_transaction → HasCleanDisk (state S.Store tx.new.conn.now) → IfOk result (λ count. count ≡ clerks s) }
+    ensures still { (v : Version) (tables : Tables) → IsVersion v → Pends v (state S.Store tx.old.conn.now) tables → OnOk result (Pends v (state S.Store tx.new.conn.now) tables) }
+    ensures running { HasCleanDisk (state S.Store tx.new.conn.now) → IsTrue (state S.Store tx.old.conn.now).in_transaction → OnOk result (IsRunning (state S.Store tx.new.conn.now)) }
+    ensures uncommitted { HasCleanDisk (state S.Store tx.new.conn.now) → IsTrue (state S.Store tx.old.conn.now).in_transaction → KeepsCommit (state S.Store tx.old.conn.now) (state S.Store tx.new.conn.now) }
+    ensures survives { Survives (state S.Store tx.old.conn.now) (state S.Store tx.new.conn.now) (λ _. ⊥) }
+{
+    Err(Error::SqliteFailure(ErrorCode::TransactionState))
+}
+
+/// The receipts numbered `from` or more, ascending, at most `most`. Their digests are to have 32 bytes.
+pub fn receipts<S: Alter>(tx: &mut Transaction<'_, S>, from: u64, most: usize) -> Result<Vec<ReceiptRow>, Error>
+    ensures same_reference { tx.new.conn.ghost_name ≡ tx.old.conn.ghost_name }
+    ensures found { (v : Version) (tables : Tables) (receipts : List Receipt) → IsVersion v → Pends v (state S.Store tx.old.conn.now) tables → tables.receipt ≡ slice_get receipts → AllByRecursion (λ r. IsDigest r.digest) receipts
+        → IsTrue (state S.Store tx.old.conn.now).in_transaction → HasCleanDisk (state S.Store tx.new.conn.now) → IfOk result (λ rows. map numbered_receipt rows.items ≡ take most (drop (from - 1) (numbered 1 receipts))) }
+    ensures still { (v : Version) (tables : Tables) → IsVersion v → Pends v (state S.Store tx.old.conn.now) tables → OnOk result (Pends v (state S.Store tx.new.conn.now) tables) }
+    ensures running { HasCleanDisk (state S.Store tx.new.conn.now) → IsTrue (state S.Store tx.old.conn.now).in_transaction → OnOk result (IsRunning (state S.Store tx.new.conn.now)) }
+    ensures uncommitted { HasCleanDisk (state S.Store tx.new.conn.now) → IsTrue (state S.Store tx.old.conn.now).in_transaction → KeepsCommit (state S.Store tx.old.conn.now) (state S.Store tx.new.conn.now) }
+    ensures survives { Survives (state S.Store tx.old.conn.now) (state S.Store tx.new.conn.now) (λ _. ⊥) }
+{
+    Err(Error::SqliteFailure(ErrorCode::TransactionState))
+}

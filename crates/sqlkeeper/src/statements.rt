@@ -1,0 +1,302 @@
+//! One statement each, inside a transaction.
+
+ghost use Rattle.std.specs.Prelude.{◌≡◌, ◌≤◌, ◌+◌, ℕ, List, length, pos, slice_get, None, Some, true, false, IsTrue, OnOk, IfOk};
+ghost use Rattle.sqlite.specs.State.{HasCleanDisk, KeepsCommit, Survives};
+ghost use Rattle.sqlite.specs.Held.{state};
+ghost use Rattle.boxes.specs.State.{Key, Place, Receipt};
+ghost use Rattle.sqlkeeper.specs.Schema.{Version, IsVersion};
+ghost use Rattle.sqlkeeper.specs.Tables.{Tables, Box, Part};
+ghost use Rattle.sqlkeeper.specs.Changes.{with_key, closing_at, without_file, with_receipt, with_piece, without_pieces, with_totals, with_box, with_bytes, with_file, NoPieces, AddsPiece};
+ghost use Rattle.sqlkeeper.specs.Means.{Pends, IsRunning};
+ghost use Rattle.sqlkeeper.specs.Questions.{last_rows, ShowsKey};
+
+use boxes::Role;
+use sqlite::{Alter, Error, ErrorCode, Row, Transaction, params};
+
+/// The most bytes of a piece.
+const PIECE: usize = 65536;
+
+/// One more receipt.
+pub fn insert_receipt<S: Alter>(
+    tx: &mut Transaction<'_, S>,
+    number: u32,
+    box_name: &str,
+    name: &str,
+    length: u32,
+    digest: &[u8],
+    moment: i64,
+    key: &str,
+) -> Result<(), Error>
+    ensures same_reference { tx.new.conn.ghost_name ≡ tx.old.conn.ghost_name }
+    ensures done { (v : Version) (tables : Tables) (at : ℕ) (r : Receipt) → IsVersion v → Pends v (state S.Store tx.old.conn.now) tables → tables.receipt at ≡ None
+        → number ≡ at + 1 → r.box ≡ box_name.now → r.name ≡ name.now → r.size ≡ length → r.digest ≡ digest.now → pos r.moment ≡ moment → r.key ≡ key.now
+        → OnOk result (Pends v (state S.Store tx.new.conn.now) (with_receipt tables at r)) }
+    ensures running { HasCleanDisk (state S.Store tx.new.conn.now) → OnOk result (IsRunning (state S.Store tx.new.conn.now)) }
+    ensures uncommitted { HasCleanDisk (state S.Store tx.new.conn.now) → KeepsCommit (state S.Store tx.old.conn.now) (state S.Store tx.new.conn.now) }
+    ensures survives { Survives (state S.Store tx.old.conn.now) (state S.Store tx.new.conn.now) (λ _. ⊥) }
+{
+    tx.execute(
+        "INSERT INTO receipts VALUES (?1, ?2, ?3, ?4, ?5, ?6, ?7)",
+        params![number, box_name, name, length, digest, moment, key],
+    )?;
+    Ok(())
+}
+
+/// One more piece of a file.
+pub fn insert_piece<S: Alter>(
+    tx: &mut Transaction<'_, S>,
+    box_name: &str,
+    name: &str,
+    part: u32,
+    bytes: &[u8],
+) -> Result<(), Error>
+    ensures same_reference { tx.new.conn.ghost_name ≡ tx.old.conn.ghost_name }
+    ensures done { (v : Version) (tables after : Tables) → IsVersion v → Pends v (state S.Store tx.old.conn.now) tables
+        → AddsPiece tables after (record { place = record { box = box_name.now; name = name.now }; at = part }) bytes.now
+        → OnOk result (Pends v (state S.Store tx.new.conn.now) after) }
+    ensures running { HasCleanDisk (state S.Store tx.new.conn.now) → OnOk result (IsRunning (state S.Store tx.new.conn.now)) }
+    ensures uncommitted { HasCleanDisk (state S.Store tx.new.conn.now) → KeepsCommit (state S.Store tx.old.conn.now) (state S.Store tx.new.conn.now) }
+    ensures survives { Survives (state S.Store tx.old.conn.now) (state S.Store tx.new.conn.now) (λ _. ⊥) }
+{
+    tx.execute(
+        "INSERT INTO pieces VALUES (?1, ?2, ?3, ?4)",
+        params![box_name, name, part, bytes],
+    )?;
+    Ok(())
+}
+
+/// The pieces of a file go.
+pub fn delete_pieces<S: Alter>(
+    tx: &mut Transaction<'_, S>,
+    box_name: &str,
+    name: &str,
+) -> Result<(), Error>
+    ensures same_reference { tx.new.conn.ghost_name ≡ tx.old.conn.ghost_name }
+    ensures done { (v : Version) (tables : Tables) → IsVersion v → Pends v (state S.Store tx.old.conn.now) tables
+        → OnOk result (Pends v (state S.Store tx.new.conn.now) (without_pieces tables (record { box = box_name.now; name = name.now }))) }
+    ensures running { HasCleanDisk (state S.Store tx.new.conn.now) → OnOk result (IsRunning (state S.Store tx.new.conn.now)) }
+    ensures uncommitted { HasCleanDisk (state S.Store tx.new.conn.now) → KeepsCommit (state S.Store tx.old.conn.now) (state S.Store tx.new.conn.now) }
+    ensures survives { Survives (state S.Store tx.old.conn.now) (state S.Store tx.new.conn.now) (λ _. ⊥) }
+{
+    tx.execute(
+        "DELETE FROM pieces WHERE box = ?1 AND name = ?2",
+        params![box_name, name],
+    )?;
+    Ok(())
+}
+
+/// The totals of a box.
+pub fn update_totals<S: Alter>(
+    tx: &mut Transaction<'_, S>,
+    name: &str,
+    used: i64,
+    count: u32,
+) -> Result<(), Error>
+    ensures same_reference { tx.new.conn.ghost_name ≡ tx.old.conn.ghost_name }
+    ensures done { (v : Version) (tables : Tables) (b : Box) (sum : ℕ) → IsVersion v → Pends v (state S.Store tx.old.conn.now) tables → tables.box name.now ≡ Some b → pos sum ≡ used
+        → OnOk result (Pends v (state S.Store tx.new.conn.now) (with_box tables name.now (with_totals sum count b))) }
+    ensures running { HasCleanDisk (state S.Store tx.new.conn.now) → OnOk result (IsRunning (state S.Store tx.new.conn.now)) }
+    ensures uncommitted { HasCleanDisk (state S.Store tx.new.conn.now) → KeepsCommit (state S.Store tx.old.conn.now) (state S.Store tx.new.conn.now) }
+    ensures survives { Survives (state S.Store tx.old.conn.now) (state S.Store tx.new.conn.now) (λ _. ⊥) }
+{
+    tx.execute(
+        "UPDATE boxes SET used = ?2, count = ?3 WHERE name = ?1",
+        params![name, used, count],
+    )?;
+    Ok(())
+}
+
+/// All pieces of a file that has none.
+pub fn insert_pieces<S: Alter>(
+    tx: &mut Transaction<'_, S>,
+    box_name: &str,
+    name: &str,
+    bytes: &[u8],
+) -> Result<(), Error>
+    requires short { length bytes.now ≤ 8388608 }
+    ensures same_reference { tx.new.conn.ghost_name ≡ tx.old.conn.ghost_name }
+    ensures done { let place : Place = record { box = box_name.now; name = name.now } in
+        (v : Version) (tables : Tables) → IsVersion v → Pends v (state S.Store tx.old.conn.now) tables → NoPieces tables place
+        → OnOk result (Pends v (state S.Store tx.new.conn.now) (with_bytes tables place bytes.now)) }
+    ensures running { HasCleanDisk (state S.Store tx.new.conn.now) → IsRunning (state S.Store tx.old.conn.now) → OnOk result (IsRunning (state S.Store tx.new.conn.now)) }
+    ensures uncommitted { HasCleanDisk (state S.Store tx.new.conn.now) → KeepsCommit (state S.Store tx.old.conn.now) (state S.Store tx.new.conn.now) }
+    ensures survives { Survives (state S.Store tx.old.conn.now) (state S.Store tx.new.conn.now) (λ _. ⊥) }
+{
+    let mut rest = bytes;
+    let mut part = 0;
+    while !rest.is_empty() {
+        let (piece, more) = rest.split_at(PIECE.min(rest.len()));
+        insert_piece(tx, box_name, name, part, piece)?;
+        rest = more;
+        part += 1;
+    }
+    Ok(())
+}
+
+fn select_last<S: Alter>(tx: &mut Transaction<'_, S>) -> Result<Vec<Row>, Error>
+    ensures same_reference { tx.new.conn.ghost_name ≡ tx.old.conn.ghost_name }
+    ensures found { (v : Version) (tables : Tables) (receipts : List Receipt) → IsVersion v → Pends v (state S.Store tx.old.conn.now) tables → tables.receipt ≡ slice_get receipts
+        → IsTrue (state S.Store tx.old.conn.now).in_transaction → HasCleanDisk (state S.Store tx.new.conn.now) → IfOk result (λ rows. rows.items ≡ last_rows (length receipts)) }
+    ensures uncommitted { HasCleanDisk (state S.Store tx.new.conn.now) → IsTrue (state S.Store tx.old.conn.now).in_transaction → KeepsCommit (state S.Store tx.old.conn.now) (state S.Store tx.new.conn.now) }
+    ensures survives { Survives (state S.Store tx.old.conn.now) (state S.Store tx.new.conn.now) (λ _. ⊥) }
+{
+    tx.query_all(
+        "SELECT number FROM receipts ORDER BY number DESC LIMIT 1",
+        &[],
+    )
+}
+
+/// The number that the next receipt gets.
+pub fn next_number<S: Alter>(tx: &mut Transaction<'_, S>) -> Result<u32, Error>
+    ensures same_reference { tx.new.conn.ghost_name ≡ tx.old.conn.ghost_name }
+    ensures found { (v : Version) (tables : Tables) (receipts : List Receipt) → IsVersion v → Pends v (state S.Store tx.old.conn.now) tables → tables.receipt ≡ slice_get receipts
+        → IsTrue (state S.Store tx.old.conn.now).in_transaction → HasCleanDisk (state S.Store tx.new.conn.now) → IfOk result (λ number. number ≡ length receipts + 1) }
+    ensures uncommitted { HasCleanDisk (state S.Store tx.new.conn.now) → IsTrue (state S.Store tx.old.conn.now).in_transaction → KeepsCommit (state S.Store tx.old.conn.now) (state S.Store tx.new.conn.now) }
+    ensures survives { Survives (state S.Store tx.old.conn.now) (state S.Store tx.new.conn.now) (λ _. ⊥) }
+{
+    let rows = select_last(tx)?;
+    let Some(row) = rows.first() else {
+        return Ok(1);
+    };
+    let last: u32 = row.get(0)?;
+    match last.checked_add(1) {
+        Some(next) => Ok(next),
+        None => Err(Error::SqliteFailure(ErrorCode::TooBig)),
+    }
+}
+
+/// The rows of a key: its role, secret and whether it is revoked.
+pub fn select_key<S: Alter>(tx: &mut Transaction<'_, S>, id: &str) -> Result<Vec<Row>, Error>
+    ensures same_reference { tx.new.conn.ghost_name ≡ tx.old.conn.ghost_name }
+    ensures found { (v : Version) (tables : Tables) → IsVersion v → Pends v (state S.Store tx.old.conn.now) tables
+        → IsTrue (state S.Store tx.old.conn.now).in_transaction → HasCleanDisk (state S.Store tx.new.conn.now) → IfOk result (λ rows. ShowsKey tables id.now rows.items) }
+    ensures uncommitted { HasCleanDisk (state S.Store tx.new.conn.now) → IsTrue (state S.Store tx.old.conn.now).in_transaction → KeepsCommit (state S.Store tx.old.conn.now) (state S.Store tx.new.conn.now) }
+    ensures survives { Survives (state S.Store tx.old.conn.now) (state S.Store tx.new.conn.now) (λ _. ⊥) }
+{
+    tx.query_all(
+        "SELECT role, secret, revoked FROM keys WHERE id = ?1",
+        params![id],
+    )
+}
+
+/// A file that stood under no such name, without its pieces.
+pub fn insert_file<S: Alter>(
+    tx: &mut Transaction<'_, S>,
+    box_name: &str,
+    name: &str,
+    receipt: u32,
+) -> Result<(), Error>
+    ensures same_reference { tx.new.conn.ghost_name ≡ tx.old.conn.ghost_name }
+    ensures done { let place : Place = record { box = box_name.now; name = name.now } in
+        (v : Version) (tables : Tables) → IsVersion v → Pends v (state S.Store tx.old.conn.now) tables → tables.file place ≡ None
+        → OnOk result (Pends v (state S.Store tx.new.conn.now) (with_file tables place receipt)) }
+    ensures running { HasCleanDisk (state S.Store tx.new.conn.now) → OnOk result (IsRunning (state S.Store tx.new.conn.now)) }
+    ensures uncommitted { HasCleanDisk (state S.Store tx.new.conn.now) → KeepsCommit (state S.Store tx.old.conn.now) (state S.Store tx.new.conn.now) }
+    ensures survives { Survives (state S.Store tx.old.conn.now) (state S.Store tx.new.conn.now) (λ _. ⊥) }
+{
+    tx.execute(
+        "INSERT INTO files VALUES (?1, ?2, ?3)",
+        params![box_name, name, receipt],
+    )?;
+    Ok(())
+}
+
+/// The receipt of a file that stands.
+pub fn update_file<S: Alter>(
+    tx: &mut Transaction<'_, S>,
+    box_name: &str,
+    name: &str,
+    receipt: u32,
+) -> Result<(), Error>
+    ensures same_reference { tx.new.conn.ghost_name ≡ tx.old.conn.ghost_name }
+    ensures done { let place : Place = record { box = box_name.now; name = name.now } in
+        (v : Version) (tables : Tables) (was : ℕ) → IsVersion v → Pends v (state S.Store tx.old.conn.now) tables → tables.file place ≡ Some was
+        → OnOk result (Pends v (state S.Store tx.new.conn.now) (with_file tables place receipt)) }
+    ensures running { HasCleanDisk (state S.Store tx.new.conn.now) → OnOk result (IsRunning (state S.Store tx.new.conn.now)) }
+    ensures uncommitted { HasCleanDisk (state S.Store tx.new.conn.now) → KeepsCommit (state S.Store tx.old.conn.now) (state S.Store tx.new.conn.now) }
+    ensures survives { Survives (state S.Store tx.old.conn.now) (state S.Store tx.new.conn.now) (λ _. ⊥) }
+{
+    tx.execute(
+        "UPDATE files SET receipt = ?3 WHERE box = ?1 AND name = ?2",
+        params![box_name, name, receipt],
+    )?;
+    Ok(())
+}
+
+/// One more key, unrevoked.
+pub fn insert_key<S: Alter>(
+    tx: &mut Transaction<'_, S>,
+    id: &str,
+    role: Role,
+    secret: &[u8],
+) -> Result<(), Error>
+    ensures same_reference { tx.new.conn.ghost_name ≡ tx.old.conn.ghost_name }
+    ensures done { (v : Version) (tables : Tables) → IsVersion v → Pends v (state S.Store tx.old.conn.now) tables → tables.key id.now ≡ None
+        → OnOk result (Pends v (state S.Store tx.new.conn.now) (with_key tables id.now (record { role = role; secret = secret.now; revoked = false }))) }
+    ensures running { HasCleanDisk (state S.Store tx.new.conn.now) → OnOk result (IsRunning (state S.Store tx.new.conn.now)) }
+    ensures uncommitted { HasCleanDisk (state S.Store tx.new.conn.now) → KeepsCommit (state S.Store tx.old.conn.now) (state S.Store tx.new.conn.now) }
+    ensures survives { Survives (state S.Store tx.old.conn.now) (state S.Store tx.new.conn.now) (λ _. ⊥) }
+{
+    let number: i32 = match role {
+        Role::Link => 0,
+        Role::Clerk => 1,
+    };
+    tx.execute(
+        "INSERT INTO keys VALUES (?1, ?2, ?3, 0)",
+        params![id, number, secret],
+    )?;
+    Ok(())
+}
+
+/// A key is revoked.
+pub fn update_revoked<S: Alter>(tx: &mut Transaction<'_, S>, id: &str) -> Result<(), Error>
+    ensures same_reference { tx.new.conn.ghost_name ≡ tx.old.conn.ghost_name }
+    ensures done { (v : Version) (tables : Tables) (key : Key) → IsVersion v → Pends v (state S.Store tx.old.conn.now) tables → tables.key id.now ≡ Some key
+        → OnOk result (Pends v (state S.Store tx.new.conn.now) (with_key tables id.now (record key { revoked = true }))) }
+    ensures running { HasCleanDisk (state S.Store tx.new.conn.now) → OnOk result (IsRunning (state S.Store tx.new.conn.now)) }
+    ensures uncommitted { HasCleanDisk (state S.Store tx.new.conn.now) → KeepsCommit (state S.Store tx.old.conn.now) (state S.Store tx.new.conn.now) }
+    ensures survives { Survives (state S.Store tx.old.conn.now) (state S.Store tx.new.conn.now) (λ _. ⊥) }
+{
+    tx.execute("UPDATE keys SET revoked = 1 WHERE id = ?1", params![id])?;
+    Ok(())
+}
+
+/// The moment at which a box closes for good, in seconds since 1970-01-01T00:00:00Z.
+pub fn update_closes<S: Alter>(
+    tx: &mut Transaction<'_, S>,
+    name: &str,
+    moment: i64,
+) -> Result<(), Error>
+    ensures same_reference { tx.new.conn.ghost_name ≡ tx.old.conn.ghost_name }
+    ensures done { (v : Version) (tables : Tables) (b : Box) (second : ℕ) → IsVersion v → Pends v (state S.Store tx.old.conn.now) tables → tables.box name.now ≡ Some b → pos second ≡ moment
+        → OnOk result (Pends v (state S.Store tx.new.conn.now) (with_box tables name.now (closing_at second b))) }
+    ensures running { HasCleanDisk (state S.Store tx.new.conn.now) → OnOk result (IsRunning (state S.Store tx.new.conn.now)) }
+    ensures uncommitted { HasCleanDisk (state S.Store tx.new.conn.now) → KeepsCommit (state S.Store tx.old.conn.now) (state S.Store tx.new.conn.now) }
+    ensures survives { Survives (state S.Store tx.old.conn.now) (state S.Store tx.new.conn.now) (λ _. ⊥) }
+{
+    tx.execute(
+        "UPDATE boxes SET closes = ?2 WHERE name = ?1",
+        params![name, moment],
+    )?;
+    Ok(())
+}
+
+/// The row of a file goes. Its pieces went before.
+pub fn delete_file<S: Alter>(
+    tx: &mut Transaction<'_, S>,
+    in_box: &str,
+    name: &str,
+) -> Result<(), Error>
+    ensures same_reference { tx.new.conn.ghost_name ≡ tx.old.conn.ghost_name }
+    ensures done { (v : Version) (tables : Tables) → IsVersion v → Pends v (state S.Store tx.old.conn.now) tables
+        → OnOk result (Pends v (state S.Store tx.new.conn.now) (without_file tables (record { box = in_box.now; name = name.now }))) }
+    ensures running { HasCleanDisk (state S.Store tx.new.conn.now) → OnOk result (IsRunning (state S.Store tx.new.conn.now)) }
+    ensures uncommitted { HasCleanDisk (state S.Store tx.new.conn.now) → KeepsCommit (state S.Store tx.old.conn.now) (state S.Store tx.new.conn.now) }
+    ensures survives { Survives (state S.Store tx.old.conn.now) (state S.Store tx.new.conn.now) (λ _. ⊥) }
+{
+    tx.execute(
+        "DELETE FROM files WHERE box = ?1 AND name = ?2",
+        params![in_box, name],
+    )?;
+    Ok(())
+}
