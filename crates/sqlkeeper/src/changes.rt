@@ -1,11 +1,13 @@
 //! What a change writes, inside its transaction.
 
-ghost use Rattle.std.specs.Prelude.{◌≡◌, ◌≤◌, ◌+◌, ℕ, length, pos, None, Some, is_some, OnOk, OnErr};
+ghost use Rattle.std.specs.Prelude.{◌≡◌, IsTrue, ◌≤◌, ◌+◌, ℕ, length, pos, None, Some, is_some, OnOk, OnErr};
 ghost use Rattle.sqlite.specs.State.{HasCleanDisk, KeepsCommit, Survives};
 ghost use Rattle.sqlite.specs.Held.{state};
 ghost use Rattle.sigv4.specs.Hmac.{sha256};
 ghost use Rattle.boxes.specs.State.{Place, Receipt, State};
 ghost use Rattle.boxes.specs.Rules.{Upload};
+ghost use Rattle.boxes.specs.Sound.{IsSound};
+ghost use Rattle.boxes.specs.Changes.{IsChangeOf};
 ghost use Rattle.boxes.specs.Steps.{after_upload};
 ghost use Rattle.sqlkeeper.specs.Schema.{Version, IsVersion};
 ghost use Rattle.sqlkeeper.specs.Tables.{Tables, Box};
@@ -15,6 +17,7 @@ ghost use Rattle.sqlkeeper.specs.Means.{Pends, IsRunning, Means, LeavesOnly, Add
 use crate::statements::{
     delete_pieces, insert_file, insert_pieces, insert_receipt, update_file, update_totals,
 };
+use boxes::Change;
 use sqlite::{Alter, Connection, Error, ErrorCode, Transaction};
 
 /// The row of a file, which may stand already.
@@ -109,4 +112,19 @@ pub fn put_file<S: Alter>(
         &mut tx, box_name, name, bytes, stands, number, digest, moment, key, used, count,
     )?;
     tx.commit()
+}
+
+/// Makes a change, in a transaction of its own.
+pub(crate) fn apply_change<S: Alter>(
+    conn: &mut Connection<S>,
+    change: &Change<'_>,
+) -> Result<(), Error>
+    ensures made { (v : Version) (s after : State) → IsVersion v → Means v (state S.Store conn.old) s → IsSound s → IsChangeOf s change.now after → OnOk result (Means v (state S.Store conn.new) after) }
+    ensures kept { (v : Version) (s : State) → IsVersion v → Means v (state S.Store conn.old) s → OnErr result (Means v (state S.Store conn.new) s) }
+    ensures opened { HasCleanDisk (state S.Store conn.new) → OnOk result (IsTrue (state S.Store conn.new).is_open) }
+    ensures durable { (v : Version) (s after : State) → IsVersion v → Means v (state S.Store conn.old) s → IsSound s → IsChangeOf s change.now after → OnOk result (LeavesOnly v (state S.Store conn.new) after) }
+    ensures crash { (v : Version) (s after : State) → IsVersion v → Means v (state S.Store conn.old) s → IsSound s → IsChangeOf s change.now after → AddsOnly v (state S.Store conn.old) (state S.Store conn.new) after }
+    ensures clean { HasCleanDisk (state S.Store conn.new) → HasCleanDisk (state S.Store conn.old) }
+{
+    Err(Error::SqliteFailure(ErrorCode::TransactionState))
 }

@@ -1,14 +1,14 @@
 //! The office file: its tables, and a keeper over them.
 #![tactic(auto)]
 
+mod asking;
 mod changes;
 mod creating;
+mod keeper;
 mod questions;
+mod standing;
 mod statements;
 
 pub use changes::put_file;
 pub use creating::make_office;
-pub use questions::{
-    box_row, clerks, east, file_bytes, file_number, key as key_row, piece, receipt, receipts, totals,
-};
-pub use statements::{delete_file, insert_key, next_number, select_key, update_closes, update_revoked};
+pub use crate::keeper::SqlKeeper;

@@ -1,0 +1,131 @@
+//! The keeper over an office file.
+
+ghost use Rattle.std.specs.Prelude.{◌≡◌, ◌≢◌, ◌↔◌, Ok, IfOk, IfErr, IsTrue, ⊤};
+ghost use Rattle.boxes.specs.State.{State};
+ghost use Rattle.boxes.specs.Changes.{IsChangeOf, IsPastFull};
+ghost use Rattle.sigtext.specs.Counts.{CountsErrors};
+ghost use Rattle.sqlite.specs.State.{HasCleanDisk};
+ghost use Rattle.sqlite.specs.Held.{state};
+ghost use Rattle.sqlkeeper.specs.Kept.{KeepsState, MayLeave, LeavesStates};
+ghost use Rattle.sqlkeeper.specs.OneState.{one_kept};
+
+use crate::asking;
+use crate::changes::apply_change;
+use boxes::{BoxRow, Change, FileRow, KeyRow, OfficeRow, ReceiptRow, Totals};
+use keeper::{KeepFault, Keeper, has_room};
+use sqlite::{Alter, Connection, Error, ErrorCode};
+use std::str;
+
+/// Keeps an office in a file, by a connection to it. It counts the calls that fail.
+pub struct SqlKeeper<S: Alter> {
+    conn: Connection<S>,
+    faults: u64,
+}
+
+// Why a call of the file failed.
+fn fault_of(error: Error) -> KeepFault
+    ensures { result ≢ KeepFault.Full }
+{
+    match error {
+        Error::SqliteFailure(ErrorCode::OutOfMemory) => KeepFault::Memory,
+        _ => KeepFault::Store,
+    }
+}
+
+// What the file answered, where an error is counted.
+fn counted<T>(faults: &mut u64, answer: Result<T, Error>) -> Result<T, KeepFault>
+    ensures value { IfOk result (λ value. answer ≡ Ok value) }
+    ensures count { CountsErrors faults.old faults.new result }
+    ensures room { IfErr result (λ f. f ≢ KeepFault.Full) }
+{
+    match answer {
+        Ok(value) => Ok(value),
+        Err(error) => {
+            *faults = faults.saturating_add(1);
+            Err(fault_of(error))
+        }
+    }
+}
+
+// The change adds a receipt, and there is no room for one.
+fn is_past_full(change: &Change<'_>) -> bool
+    ensures { (s after : State) → IsChangeOf s change.now after → (IsTrue result ↔ IsPastFull s change.now) }
+{
+    match change {
+        Change::SetFile(file, _) => !has_room(file.number),
+        Change::Desk(_) => false,
+    }
+}
+
+impl<S: Alter> Keeper for SqlKeeper<S> {
+    ghost means = { λ k. KeepsState (state S.Store k.conn) };
+
+    ghost is_honest = { λ k. HasCleanDisk (state S.Store k.conn) };
+
+    ghost is_open = { λ k. IsTrue (state S.Store k.conn).is_open };
+
+    ghost faults = { λ k. k.faults };
+
+    ghost leaves = { λ k. MayLeave (state S.Store k.conn) };
+
+    ghost leaves_whole = { λ k. LeavesStates (state S.Store k.conn) };
+
+    ghost has_store = { ⊤ };
+
+    fn settings(&mut self) -> Result<OfficeRow, KeepFault> {
+        let east = counted(&mut self.faults, asking::east(&mut self.conn))?;
+        Ok(OfficeRow { east })
+    }
+
+    fn key(&mut self, id: &[u8]) -> Result<Option<KeyRow>, KeepFault> {
+        let Ok(id) = str::from_utf8(id) else {
+            return Ok(None);
+        };
+        counted(&mut self.faults, asking::key(&mut self.conn, id))
+    }
+
+    fn box_row(&mut self, name: &[u8]) -> Result<Option<BoxRow>, KeepFault> {
+        let Ok(name) = str::from_utf8(name) else {
+            return Ok(None);
+        };
+        counted(&mut self.faults, asking::box_row(&mut self.conn, name))
+    }
+
+    fn file(&mut self, in_box: &[u8], name: &[u8]) -> Result<Option<FileRow>, KeepFault> {
+        let (Ok(in_box), Ok(name)) = (str::from_utf8(in_box), str::from_utf8(name)) else {
+            return Ok(None);
+        };
+        counted(&mut self.faults, asking::file(&mut self.conn, in_box, name))
+    }
+
+    fn sizes(&mut self, in_box: &[u8]) -> Result<Totals, KeepFault> {
+        let Ok(name) = str::from_utf8(in_box) else {
+            return Ok(Totals { used: 0, count: 0 });
+        };
+        counted(&mut self.faults, asking::totals(&mut self.conn, name))
+    }
+
+    fn clerks(&mut self) -> Result<u64, KeepFault> {
+        counted(&mut self.faults, asking::clerks(&mut self.conn))
+    }
+
+    fn next_number(&mut self) -> Result<u64, KeepFault> {
+        counted(&mut self.faults, asking::next_number(&mut self.conn))
+    }
+
+    fn receipts(&mut self, from: u64, most: usize) -> Result<Vec<ReceiptRow>, KeepFault> {
+        counted(&mut self.faults, asking::receipts(&mut self.conn, from, most))
+    }
+
+    fn apply(&mut self, change: &Change<'_>) -> Result<(), KeepFault> {
+        if is_past_full(change) {
+            self.faults = self.faults.saturating_add(1);
+            return Err(KeepFault::Full);
+        }
+        counted(&mut self.faults, apply_change(&mut self.conn, change))
+    }
+
+    ghost one = { λ k s t honest opened a b. one_kept (state S.Store k.conn) s t honest opened a b };
+
+    ghost always = { λ none k. absurd (none tt) };
+}
