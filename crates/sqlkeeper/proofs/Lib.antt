@@ -22,3 +22,5 @@ pub mod FindKey
 pub mod FileRows
 pub mod Uploads
 pub mod Taken
+pub mod Stays
+pub mod StandingFiles

@@ -4,11 +4,11 @@
 mod asking;
 mod changes;
 mod creating;
-mod keeper;
+mod file_keeper;
 mod questions;
 mod standing;
 mod statements;
 
 pub use changes::put_file;
 pub use creating::make_office;
-pub use crate::keeper::SqlKeeper;
+pub use file_keeper::SqlKeeper;

@@ -125,7 +125,7 @@ impl<S: Alter> Keeper for SqlKeeper<S> {
         counted(&mut self.faults, apply_change(&mut self.conn, change))
     }
 
-    ghost one = { λ k s t honest opened a b. one_kept (state S.Store k.conn) s t honest opened a b };
+    ghost one = { λ k s t honest opened a b. one_kept _ s t honest opened a b };
 
     ghost always = { λ none k. absurd (none tt) };
 }
