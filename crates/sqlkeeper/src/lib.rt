@@ -1,14 +1,18 @@
 //! The office file: its tables, and a keeper over them.
 #![tactic(auto)]
 
+mod box_rows;
 mod changes;
 mod creating;
 mod questions;
 mod statements;
 
-pub use changes::put_file;
+pub use changes::apply_change;
 pub use creating::make_office;
 pub use questions::{
-    box_row, clerks, east, file_bytes, file_number, key as key_row, piece, receipt, receipts, totals,
+    box_row, clerks, east, file_bytes, file_number, key as key_row, piece, receipt, receipts,
+    totals,
 };
-pub use statements::{delete_file, insert_key, next_number, select_key, update_closes, update_revoked};
+pub use statements::{
+    delete_file, insert_key, next_number, select_key, update_closes, update_revoked,
+};
