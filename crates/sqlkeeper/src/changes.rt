@@ -24,8 +24,8 @@ use boxes::{BoxRow, Change, Command, NewFile, Role, Totals};
 use sqlite::{Alter, Connection, Error, ErrorCode, Transaction};
 use std::str;
 
-/// The most bytes of a file: 8 MiB.
-const MOST_BYTES: usize = 8388608;
+/// The most bytes that are cut into pieces: 8 MiB.
+const MOST_BYTES: usize = 8_388_608;
 
 /// For a number that a column has no room for.
 const TOO_BIG: Error = Error::SqliteFailure(ErrorCode::TooBig);
