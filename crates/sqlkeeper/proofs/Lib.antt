@@ -21,6 +21,9 @@ pub mod LastNumber
 pub mod FindKey
 pub mod FileRows
 pub mod Uploads
+pub mod Commands
+pub mod FileChanges
+pub mod Numbers
 pub mod Taken
 pub mod Stays
 pub mod StandingFiles

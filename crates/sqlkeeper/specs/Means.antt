@@ -1,15 +1,10 @@
 -- What a connection holds, and what a crash of it leaves.
-use Rattle.std.specs.Prelude.{◌≡◌, ◌⊎◌, ◌+◌, ℕ, ℤ, pos, Bool, List, [], Some, is_some, length, IsTrue, false}
+use Rattle.std.specs.Prelude.{◌≡◌, ◌⊎◌, [], IsTrue, false}
 use Rattle.sqlite_trees.specs.Tree.{Trees}
 use Rattle.sqlite.specs.Effect.{Database, IsDatabase}
 use Rattle.sqlite.specs.State.{State, HasCleanDisk}
 use Rattle.std.specs.List.{AllByRecursion}
-use Rattle.std.specs.FinMap.{get}
-use Rattle.sigtext.specs.Bytes.{same_bytes}
-use Rattle.boxes.specs.State.{State as Office, Settings}
-use Rattle.boxes.specs.Totals.{used, count}
-use Rattle.boxes.specs.Rules.{Upload}
-use Rattle.boxes.specs.Steps.{after_upload}
+use Rattle.boxes.specs.State.{State as Office}
 use Rattle.sqlite_schema.specs.declared.schema.Schema.{Schema}
 use Rattle.sqlkeeper.specs.Schema.{Version}
 use Rattle.sqlkeeper.specs.Tables.{Tables, TablesMean, tables_of}
@@ -70,20 +65,3 @@ AddsOnly v old new office = HasCleanDisk new → (trees : Trees) → new.may_lea
 -- a crash leaves what it could leave before
 abbrev pub AddsNothing : State → State → Type 0
 AddsNothing old new = HasCleanDisk new → (trees : Trees) → new.may_leave trees → old.may_leave trees
-
--- ---- a change
-
--- the totals of the other boxes stay
-abbrev pub KeepsTotals : Office → Office → List ℕ → Type 0
-KeepsTotals old new box = (name : List ℕ) → same_bytes name box ≡ false → (used new name ≡ used old name) × (count new name ≡ count old name)
-
--- these are the values that the upload writes, into a box that is there
-pub record Writes (s : Office) (u : Upload) (stands : Bool) (number : ℕ) (moment sum : ℤ) (files : ℕ) : Type 0 where
-  pub settings : Settings
-  pub there : get s.boxes u.place.box ≡ Some settings
-  pub stands_is : stands ≡ is_some (get s.files u.place)
-  pub number_is : number ≡ length s.receipts + 1
-  pub moment_is : pos u.now ≡ moment
-  pub used_is : pos (used (after_upload s u) u.place.box) ≡ sum
-  pub count_is : count (after_upload s u) u.place.box ≡ files
-  pub others : KeepsTotals s (after_upload s u) u.place.box

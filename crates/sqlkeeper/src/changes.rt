@@ -1,35 +1,79 @@
 //! What a change writes, inside its transaction.
 
-ghost use Rattle.std.specs.Prelude.{◌≡◌, IsTrue, ◌≤◌, ◌+◌, ℕ, length, pos, None, Some, is_some, OnOk, OnErr};
+ghost use Rattle.std.specs.Prelude.{◌≡◌, ◌+◌, ℕ, length, option_map, IsTrue, None, Some, is_some, IfOk, OnOk, OnErr};
+ghost use Rattle.std.specs.FinMap.{get};
 ghost use Rattle.sqlite.specs.State.{HasCleanDisk, KeepsCommit, Survives};
 ghost use Rattle.sqlite.specs.Held.{state};
-ghost use Rattle.sigv4.specs.Hmac.{sha256};
 ghost use Rattle.boxes.specs.State.{Place, Receipt, State};
-ghost use Rattle.boxes.specs.Rules.{Upload};
+ghost use Rattle.boxes.specs.Steps.{AddKey, RevokeKey, AddBox, CloseBox, DropFile};
+ghost use Rattle.boxes.specs.Rows.{settings_of};
 ghost use Rattle.boxes.specs.Sound.{IsSound};
-ghost use Rattle.boxes.specs.Changes.{IsChangeOf};
-ghost use Rattle.boxes.specs.Steps.{after_upload};
+ghost use Rattle.boxes.specs.Changes.{IsFileSet, IsObeyed, IsChangeOf, command_of};
 ghost use Rattle.sqlkeeper.specs.Schema.{Version, IsVersion};
-ghost use Rattle.sqlkeeper.specs.Tables.{Tables, Box};
-ghost use Rattle.sqlkeeper.specs.Changes.{with_file, with_upload, with_totals};
-ghost use Rattle.sqlkeeper.specs.Means.{Pends, IsRunning, Means, LeavesOnly, AddsOnly, Writes};
+ghost use Rattle.sqlkeeper.specs.Tables.{Tables, Box, tables_of};
+ghost use Rattle.sqlkeeper.specs.Changes.{with_file, with_receipt, without_pieces, with_upload, with_drop, with_totals, with_box};
+ghost use Rattle.sqlkeeper.specs.Means.{Pends, IsRunning, Means, LeavesOnly, AddsOnly};
 
+use crate::box_rows::insert_box;
+use crate::questions::{file_number, receipt, totals};
 use crate::statements::{
-    delete_pieces, insert_file, insert_pieces, insert_receipt, update_file, update_totals,
+    delete_file, delete_pieces, insert_file, insert_key, insert_pieces, insert_receipt,
+    update_closes, update_file, update_revoked, update_totals,
 };
-use boxes::Change;
+use boxes::{BoxRow, Change, Command, NewFile, Role, Totals};
 use sqlite::{Alter, Connection, Error, ErrorCode, Transaction};
+use std::str;
+
+/// The most bytes that are cut into pieces: 8 MiB.
+const MOST_BYTES: usize = 8_388_608;
+
+/// For a number that a column has no room for.
+const TOO_BIG: Error = Error::SqliteFailure(ErrorCode::TooBig);
+
+/// The text of these bytes.
+fn text_of(bytes: &[u8]) -> Result<&str, Error>
+    ensures { IfOk result (λ text. text.now ≡ bytes.now) }
+{
+    match str::from_utf8(bytes) {
+        Ok(text) => Ok(text),
+        Err(error) => Err(Error::Utf8Error(error.valid_up_to())),
+    }
+}
+
+/// How long the file of this box and name is, in bytes, in a sound state: its receipt tells.
+fn standing_size<S: Alter>(
+    tx: &mut Transaction<'_, S>,
+    in_box: &str,
+    name: &str,
+) -> Result<Option<u64>, Error>
+    ensures same_reference { tx.new.conn.ghost_name ≡ tx.old.conn.ghost_name }
+    ensures found { let place : Place = record { box = in_box.now; name = name.now } in
+        (v : Version) (s : State) → IsVersion v → Pends v (state S.Store tx.old.conn.now) (tables_of s) → IsSound s
+        → IsTrue (state S.Store tx.old.conn.now).in_transaction → HasCleanDisk (state S.Store tx.new.conn.now) → IfOk result (λ size. size ≡ option_map (λ f. length f.bytes) (get s.files place)) }
+    ensures still { (v : Version) (tables : Tables) → IsVersion v → Pends v (state S.Store tx.old.conn.now) tables → OnOk result (Pends v (state S.Store tx.new.conn.now) tables) }
+    ensures running { HasCleanDisk (state S.Store tx.new.conn.now) → IsTrue (state S.Store tx.old.conn.now).in_transaction → OnOk result (IsRunning (state S.Store tx.new.conn.now)) }
+    ensures uncommitted { HasCleanDisk (state S.Store tx.new.conn.now) → IsTrue (state S.Store tx.old.conn.now).in_transaction → KeepsCommit (state S.Store tx.old.conn.now) (state S.Store tx.new.conn.now) }
+    ensures survives { Survives (state S.Store tx.old.conn.now) (state S.Store tx.new.conn.now) (λ _. ⊥) }
+{
+    let Some(number) = file_number(tx, in_box, name)? else {
+        return Ok(None);
+    };
+    match receipt(tx, number)? {
+        Some(receipt) => Ok(Some(receipt.size)),
+        None => Err(Error::QueryReturnedNoRows),
+    }
+}
 
 /// The row of a file, which may stand already.
 fn set_row<S: Alter>(
     tx: &mut Transaction<'_, S>,
-    box_name: &str,
+    in_box: &str,
     name: &str,
     stands: bool,
     receipt: u32,
 ) -> Result<(), Error>
     ensures same_reference { tx.new.conn.ghost_name ≡ tx.old.conn.ghost_name }
-    ensures done { let place : Place = record { box = box_name.now; name = name.now } in
+    ensures done { let place : Place = record { box = in_box.now; name = name.now } in
         (v : Version) (tables : Tables) → IsVersion v → Pends v (state S.Store tx.old.conn.now) tables → stands ≡ is_some (tables.file place)
         → OnOk result (Pends v (state S.Store tx.new.conn.now) (with_file tables place receipt)) }
     ensures running { HasCleanDisk (state S.Store tx.new.conn.now) → OnOk result (IsRunning (state S.Store tx.new.conn.now)) }
@@ -37,94 +81,274 @@ fn set_row<S: Alter>(
     ensures survives { Survives (state S.Store tx.old.conn.now) (state S.Store tx.new.conn.now) (λ _. ⊥) }
 {
     if stands {
-        update_file(tx, box_name, name, receipt)
+        update_file(tx, in_box, name, receipt)
     } else {
-        insert_file(tx, box_name, name, receipt)
+        insert_file(tx, in_box, name, receipt)
     }
 }
 
-/// Sets a file: its receipt, its row, its pieces and the box's totals.
-pub fn set_file<S: Alter>(
+/// What the box of this name holds.
+fn set_totals<S: Alter>(
     tx: &mut Transaction<'_, S>,
-    box_name: &str,
     name: &str,
-    bytes: &[u8],
-    stands: bool,
-    number: u32,
-    digest: &[u8],
-    moment: i64,
-    key: &str,
-    used: i64,
-    count: u32,
+    totals: Totals,
 ) -> Result<(), Error>
-    requires short { length bytes.now ≤ 8388608 }
     ensures same_reference { tx.new.conn.ghost_name ≡ tx.old.conn.ghost_name }
-    ensures done { let place : Place = record { box = box_name.now; name = name.now } in
-        (v : Version) (tables : Tables) (b : Box) (sum at : ℕ) (r : Receipt) → IsVersion v → Pends v (state S.Store tx.old.conn.now) tables
-        → tables.receipt at ≡ None → stands ≡ is_some (tables.file place) → tables.box box_name.now ≡ Some b
-        → number ≡ at + 1 → r.box ≡ box_name.now → r.name ≡ name.now → r.size ≡ length bytes.now → r.digest ≡ digest.now → pos r.moment ≡ moment → r.key ≡ key.now → pos sum ≡ used
-        → OnOk result (Pends v (state S.Store tx.new.conn.now) (with_upload tables place bytes.now at r (with_totals sum count b))) }
+    ensures done { (v : Version) (tables : Tables) (b : Box) → IsVersion v → Pends v (state S.Store tx.old.conn.now) tables → tables.box name.now ≡ Some b
+        → OnOk result (Pends v (state S.Store tx.new.conn.now) (with_box tables name.now (with_totals totals.used totals.count b))) }
     ensures running { HasCleanDisk (state S.Store tx.new.conn.now) → OnOk result (IsRunning (state S.Store tx.new.conn.now)) }
     ensures uncommitted { HasCleanDisk (state S.Store tx.new.conn.now) → KeepsCommit (state S.Store tx.old.conn.now) (state S.Store tx.new.conn.now) }
     ensures survives { Survives (state S.Store tx.old.conn.now) (state S.Store tx.new.conn.now) (λ _. ⊥) }
 {
-    let Ok(size) = u32::try_from(bytes.len()) else {
-        return Err(Error::SqliteFailure(ErrorCode::TooBig));
+    let (Ok(used), Ok(count)) = (i64::try_from(totals.used), u32::try_from(totals.count)) else {
+        return Err(TOO_BIG);
     };
-    delete_pieces(tx, box_name, name)?;
-    insert_receipt(tx, number, box_name, name, size, digest, moment, key)?;
-    set_row(tx, box_name, name, stands, number)?;
-    insert_pieces(tx, box_name, name, bytes)?;
-    update_totals(tx, box_name, used, count)
+    update_totals(tx, name, used, count)
 }
 
-/// An upload that is taken.
-pub fn put_file<S: Alter>(
-    conn: &mut Connection<S>,
-    box_name: &str,
+/// The receipt of a file that is set.
+fn add_receipt<S: Alter>(
+    tx: &mut Transaction<'_, S>,
+    number: u32,
+    file: &NewFile<'_>,
+    in_box: &str,
+    name: &str,
+) -> Result<(), Error>
+    ensures same_reference { tx.new.conn.ghost_name ≡ tx.old.conn.ghost_name }
+    ensures done { (v : Version) (tables : Tables) (at : ℕ) (r : Receipt) → IsVersion v → Pends v (state S.Store tx.old.conn.now) tables → tables.receipt at ≡ None
+        → number ≡ at + 1 → r.box ≡ in_box.now → r.name ≡ name.now → r.size ≡ file.now.size → r.digest ≡ file.now.digest → r.moment ≡ file.now.moment → r.key ≡ file.now.key.now
+        → OnOk result (Pends v (state S.Store tx.new.conn.now) (with_receipt tables at r)) }
+    ensures running { HasCleanDisk (state S.Store tx.new.conn.now) → OnOk result (IsRunning (state S.Store tx.new.conn.now)) }
+    ensures uncommitted { HasCleanDisk (state S.Store tx.new.conn.now) → KeepsCommit (state S.Store tx.old.conn.now) (state S.Store tx.new.conn.now) }
+    ensures survives { Survives (state S.Store tx.old.conn.now) (state S.Store tx.new.conn.now) (λ _. ⊥) }
+{
+    let key = text_of(file.key)?;
+    let (Ok(size), Ok(moment)) = (u32::try_from(file.size), i64::try_from(file.moment)) else {
+        return Err(TOO_BIG);
+    };
+    insert_receipt(tx, number, in_box, name, size, &file.digest, moment, key)
+}
+
+/// The rows of a file that is set: the old pieces go, and its receipt and its own row come.
+fn write_rows<S: Alter>(
+    tx: &mut Transaction<'_, S>,
+    file: &NewFile<'_>,
+    in_box: &str,
+    name: &str,
+    stands: bool,
+) -> Result<(), Error>
+    ensures same_reference { tx.new.conn.ghost_name ≡ tx.old.conn.ghost_name }
+    ensures done { let place : Place = record { box = in_box.now; name = name.now } in
+        (v : Version) (tables : Tables) (at : ℕ) (r : Receipt) → IsVersion v → Pends v (state S.Store tx.old.conn.now) tables
+        → tables.receipt at ≡ None → stands ≡ is_some (tables.file place)
+        → file.now.number ≡ at + 1 → r.box ≡ in_box.now → r.name ≡ name.now → r.size ≡ file.now.size → r.digest ≡ file.now.digest → r.moment ≡ file.now.moment → r.key ≡ file.now.key.now
+        → OnOk result (Pends v (state S.Store tx.new.conn.now) (with_file (with_receipt (without_pieces tables place) at r) place (at + 1))) }
+    ensures running { HasCleanDisk (state S.Store tx.new.conn.now) → OnOk result (IsRunning (state S.Store tx.new.conn.now)) }
+    ensures uncommitted { HasCleanDisk (state S.Store tx.new.conn.now) → KeepsCommit (state S.Store tx.old.conn.now) (state S.Store tx.new.conn.now) }
+    ensures survives { Survives (state S.Store tx.old.conn.now) (state S.Store tx.new.conn.now) (λ _. ⊥) }
+{
+    let Ok(number) = u32::try_from(file.number) else {
+        return Err(TOO_BIG);
+    };
+    delete_pieces(tx, in_box, name)?;
+    add_receipt(tx, number, file, in_box, name)?;
+    set_row(tx, in_box, name, stands, number)
+}
+
+/// A file with its receipt and its pieces, and what its box holds then.
+fn write_file<S: Alter>(
+    tx: &mut Transaction<'_, S>,
+    file: &NewFile<'_>,
+    in_box: &str,
     name: &str,
     bytes: &[u8],
     stands: bool,
-    number: u32,
-    digest: &[u8],
-    moment: i64,
-    key: &str,
-    used: i64,
-    count: u32,
+    totals: Totals,
 ) -> Result<(), Error>
-    requires short { length bytes.now ≤ 8388608 }
-    ensures made { let u : ℕ → Upload = λ now. record { place = record { box = box_name.now; name = name.now }; bytes = bytes.now; now = now; key = key.now } in
-        (v : Version) (s : State) (now : ℕ) → IsVersion v → Means v (state S.Store conn.old) s → Writes s (u now) stands number moment used count → digest.now ≡ sha256 bytes.now
-        → OnOk result (Means v (state S.Store conn.new) (after_upload s (u now))) }
+    ensures same_reference { tx.new.conn.ghost_name ≡ tx.old.conn.ghost_name }
+    ensures done { let place : Place = record { box = in_box.now; name = name.now } in
+        (v : Version) (tables : Tables) (b : Box) (at : ℕ) (r : Receipt) → IsVersion v → Pends v (state S.Store tx.old.conn.now) tables
+        → tables.receipt at ≡ None → stands ≡ is_some (tables.file place) → tables.box in_box.now ≡ Some b
+        → file.now.number ≡ at + 1 → r.box ≡ in_box.now → r.name ≡ name.now → r.size ≡ file.now.size → r.digest ≡ file.now.digest → r.moment ≡ file.now.moment → r.key ≡ file.now.key.now
+        → OnOk result (Pends v (state S.Store tx.new.conn.now) (with_upload tables place bytes.now at r (with_totals totals.used totals.count b))) }
+    ensures running { HasCleanDisk (state S.Store tx.new.conn.now) → OnOk result (IsRunning (state S.Store tx.new.conn.now)) }
+    ensures uncommitted { HasCleanDisk (state S.Store tx.new.conn.now) → KeepsCommit (state S.Store tx.old.conn.now) (state S.Store tx.new.conn.now) }
+    ensures survives { Survives (state S.Store tx.old.conn.now) (state S.Store tx.new.conn.now) (λ _. ⊥) }
+{
+    if bytes.len() > MOST_BYTES {
+        return Err(TOO_BIG);
+    }
+    write_rows(tx, file, in_box, name, stands)?;
+    insert_pieces(tx, in_box, name, bytes)?;
+    set_totals(tx, in_box, totals)
+}
+
+/// Sets a file to these bytes, and adds its receipt.
+fn set_file<S: Alter>(
+    tx: &mut Transaction<'_, S>,
+    file: &NewFile<'_>,
+    bytes: &[u8],
+) -> Result<(), Error>
+    ensures same_reference { tx.new.conn.ghost_name ≡ tx.old.conn.ghost_name }
+    ensures done { (v : Version) (s after : State) → IsVersion v → Pends v (state S.Store tx.old.conn.now) (tables_of s) → IsSound s → IsFileSet s file.now bytes.now after
+        → IsTrue (state S.Store tx.old.conn.now).in_transaction → OnOk result (Pends v (state S.Store tx.new.conn.now) (tables_of after)) }
+    ensures running { HasCleanDisk (state S.Store tx.new.conn.now) → IsTrue (state S.Store tx.old.conn.now).in_transaction → OnOk result (IsRunning (state S.Store tx.new.conn.now)) }
+    ensures uncommitted { HasCleanDisk (state S.Store tx.new.conn.now) → IsTrue (state S.Store tx.old.conn.now).in_transaction → KeepsCommit (state S.Store tx.old.conn.now) (state S.Store tx.new.conn.now) }
+    ensures survives { Survives (state S.Store tx.old.conn.now) (state S.Store tx.new.conn.now) (λ _. ⊥) }
+{
+    let in_box = text_of(file.in_box)?;
+    let name = text_of(file.name)?;
+    let old = standing_size(tx, in_box, name)?;
+    let held = totals(tx, in_box)?.set(old, bytes.len() as u64);
+    write_file(tx, file, in_box, name, bytes, old.is_some(), held)
+}
+
+/// Adds a key, unrevoked.
+fn add_key<S: Alter>(
+    tx: &mut Transaction<'_, S>,
+    id: &[u8],
+    role: Role,
+    secret: &[u8],
+) -> Result<(), Error>
+    ensures same_reference { tx.new.conn.ghost_name ≡ tx.old.conn.ghost_name }
+    ensures done { (v : Version) (s after : State) → IsVersion v → Pends v (state S.Store tx.old.conn.now) (tables_of s) → IsObeyed s (AddKey id.now role secret.now) after
+        → OnOk result (Pends v (state S.Store tx.new.conn.now) (tables_of after)) }
+    ensures running { HasCleanDisk (state S.Store tx.new.conn.now) → OnOk result (IsRunning (state S.Store tx.new.conn.now)) }
+    ensures uncommitted { HasCleanDisk (state S.Store tx.new.conn.now) → KeepsCommit (state S.Store tx.old.conn.now) (state S.Store tx.new.conn.now) }
+    ensures survives { Survives (state S.Store tx.old.conn.now) (state S.Store tx.new.conn.now) (λ _. ⊥) }
+{
+    insert_key(tx, text_of(id)?, role, secret)
+}
+
+/// Marks a key revoked.
+fn revoke_key<S: Alter>(tx: &mut Transaction<'_, S>, id: &[u8]) -> Result<(), Error>
+    ensures same_reference { tx.new.conn.ghost_name ≡ tx.old.conn.ghost_name }
+    ensures done { (v : Version) (s after : State) → IsVersion v → Pends v (state S.Store tx.old.conn.now) (tables_of s) → IsObeyed s (RevokeKey id.now) after
+        → OnOk result (Pends v (state S.Store tx.new.conn.now) (tables_of after)) }
+    ensures running { HasCleanDisk (state S.Store tx.new.conn.now) → OnOk result (IsRunning (state S.Store tx.new.conn.now)) }
+    ensures uncommitted { HasCleanDisk (state S.Store tx.new.conn.now) → KeepsCommit (state S.Store tx.old.conn.now) (state S.Store tx.new.conn.now) }
+    ensures survives { Survives (state S.Store tx.old.conn.now) (state S.Store tx.new.conn.now) (λ _. ⊥) }
+{
+    update_revoked(tx, text_of(id)?)
+}
+
+/// Adds a box. It holds nothing.
+fn add_box<S: Alter>(tx: &mut Transaction<'_, S>, name: &[u8], row: &BoxRow) -> Result<(), Error>
+    ensures same_reference { tx.new.conn.ghost_name ≡ tx.old.conn.ghost_name }
+    ensures done { (v : Version) (s after : State) → IsVersion v → Pends v (state S.Store tx.old.conn.now) (tables_of s) → IsSound s → IsObeyed s (AddBox name.now (settings_of row.now)) after
+        → OnOk result (Pends v (state S.Store tx.new.conn.now) (tables_of after)) }
+    ensures running { HasCleanDisk (state S.Store tx.new.conn.now) → OnOk result (IsRunning (state S.Store tx.new.conn.now)) }
+    ensures uncommitted { HasCleanDisk (state S.Store tx.new.conn.now) → KeepsCommit (state S.Store tx.old.conn.now) (state S.Store tx.new.conn.now) }
+    ensures survives { Survives (state S.Store tx.old.conn.now) (state S.Store tx.new.conn.now) (λ _. ⊥) }
+{
+    insert_box(tx, text_of(name)?, row)
+}
+
+/// Sets the second at which a box closes for good, since 1970-01-01T00:00:00Z.
+fn close_box<S: Alter>(tx: &mut Transaction<'_, S>, name: &[u8], moment: u64) -> Result<(), Error>
+    ensures same_reference { tx.new.conn.ghost_name ≡ tx.old.conn.ghost_name }
+    ensures done { (v : Version) (s after : State) → IsVersion v → Pends v (state S.Store tx.old.conn.now) (tables_of s) → IsObeyed s (CloseBox name.now moment) after
+        → OnOk result (Pends v (state S.Store tx.new.conn.now) (tables_of after)) }
+    ensures running { HasCleanDisk (state S.Store tx.new.conn.now) → OnOk result (IsRunning (state S.Store tx.new.conn.now)) }
+    ensures uncommitted { HasCleanDisk (state S.Store tx.new.conn.now) → KeepsCommit (state S.Store tx.old.conn.now) (state S.Store tx.new.conn.now) }
+    ensures survives { Survives (state S.Store tx.old.conn.now) (state S.Store tx.new.conn.now) (λ _. ⊥) }
+{
+    let Ok(moment) = i64::try_from(moment) else {
+        return Err(TOO_BIG);
+    };
+    update_closes(tx, text_of(name)?, moment)
+}
+
+/// The rows of a file go, and the totals of its box come.
+fn take_rows<S: Alter>(
+    tx: &mut Transaction<'_, S>,
+    in_box: &str,
+    name: &str,
+    totals: Totals,
+) -> Result<(), Error>
+    ensures same_reference { tx.new.conn.ghost_name ≡ tx.old.conn.ghost_name }
+    ensures done { let place : Place = record { box = in_box.now; name = name.now } in
+        (v : Version) (tables : Tables) (b : Box) → IsVersion v → Pends v (state S.Store tx.old.conn.now) tables → tables.box in_box.now ≡ Some b
+        → OnOk result (Pends v (state S.Store tx.new.conn.now) (with_drop tables place (with_totals totals.used totals.count b))) }
+    ensures running { HasCleanDisk (state S.Store tx.new.conn.now) → OnOk result (IsRunning (state S.Store tx.new.conn.now)) }
+    ensures uncommitted { HasCleanDisk (state S.Store tx.new.conn.now) → KeepsCommit (state S.Store tx.old.conn.now) (state S.Store tx.new.conn.now) }
+    ensures survives { Survives (state S.Store tx.old.conn.now) (state S.Store tx.new.conn.now) (λ _. ⊥) }
+{
+    delete_pieces(tx, in_box, name)?;
+    delete_file(tx, in_box, name)?;
+    set_totals(tx, in_box, totals)
+}
+
+/// Takes out a file. Its receipt stays.
+fn drop_file<S: Alter>(tx: &mut Transaction<'_, S>, in_box: &[u8], name: &[u8]) -> Result<(), Error>
+    ensures same_reference { tx.new.conn.ghost_name ≡ tx.old.conn.ghost_name }
+    ensures done { (v : Version) (s after : State) → IsVersion v → Pends v (state S.Store tx.old.conn.now) (tables_of s) → IsSound s → IsObeyed s (DropFile (record { box = in_box.now; name = name.now })) after
+        → IsTrue (state S.Store tx.old.conn.now).in_transaction → OnOk result (Pends v (state S.Store tx.new.conn.now) (tables_of after)) }
+    ensures running { HasCleanDisk (state S.Store tx.new.conn.now) → IsTrue (state S.Store tx.old.conn.now).in_transaction → OnOk result (IsRunning (state S.Store tx.new.conn.now)) }
+    ensures uncommitted { HasCleanDisk (state S.Store tx.new.conn.now) → IsTrue (state S.Store tx.old.conn.now).in_transaction → KeepsCommit (state S.Store tx.old.conn.now) (state S.Store tx.new.conn.now) }
+    ensures survives { Survives (state S.Store tx.old.conn.now) (state S.Store tx.new.conn.now) (λ _. ⊥) }
+{
+    let in_box = text_of(in_box)?;
+    let name = text_of(name)?;
+    let Some(size) = standing_size(tx, in_box, name)? else {
+        return Err(Error::QueryReturnedNoRows);
+    };
+    let left = totals(tx, in_box)?.take_out(size);
+    take_rows(tx, in_box, name, left)
+}
+
+/// Does what a command of the desk says.
+fn obey<S: Alter>(tx: &mut Transaction<'_, S>, command: &Command<'_>) -> Result<(), Error>
+    ensures same_reference { tx.new.conn.ghost_name ≡ tx.old.conn.ghost_name }
+    ensures done { (v : Version) (s after : State) → IsVersion v → Pends v (state S.Store tx.old.conn.now) (tables_of s) → IsSound s → IsObeyed s (command_of command.now) after
+        → IsTrue (state S.Store tx.old.conn.now).in_transaction → OnOk result (Pends v (state S.Store tx.new.conn.now) (tables_of after)) }
+    ensures running { HasCleanDisk (state S.Store tx.new.conn.now) → IsTrue (state S.Store tx.old.conn.now).in_transaction → OnOk result (IsRunning (state S.Store tx.new.conn.now)) }
+    ensures uncommitted { HasCleanDisk (state S.Store tx.new.conn.now) → IsTrue (state S.Store tx.old.conn.now).in_transaction → KeepsCommit (state S.Store tx.old.conn.now) (state S.Store tx.new.conn.now) }
+    ensures survives { Survives (state S.Store tx.old.conn.now) (state S.Store tx.new.conn.now) (λ _. ⊥) }
+{
+    match command {
+        Command::AddKey { id, role, secret } => add_key(tx, id, *role, secret),
+        Command::RevokeKey { id } => revoke_key(tx, id),
+        Command::AddBox { name, row } => add_box(tx, name, row),
+        Command::CloseBox { name, moment } => close_box(tx, name, *moment),
+        Command::DropFile { in_box, name } => drop_file(tx, in_box, name),
+    }
+}
+
+/// Writes what the change says.
+fn write_change<S: Alter>(tx: &mut Transaction<'_, S>, change: &Change<'_>) -> Result<(), Error>
+    ensures same_reference { tx.new.conn.ghost_name ≡ tx.old.conn.ghost_name }
+    ensures done { (v : Version) (s after : State) → IsVersion v → Pends v (state S.Store tx.old.conn.now) (tables_of s) → IsSound s → IsChangeOf s change.now after
+        → IsTrue (state S.Store tx.old.conn.now).in_transaction → OnOk result (Pends v (state S.Store tx.new.conn.now) (tables_of after)) }
+    ensures running { HasCleanDisk (state S.Store tx.new.conn.now) → IsTrue (state S.Store tx.old.conn.now).in_transaction → OnOk result (IsRunning (state S.Store tx.new.conn.now)) }
+    ensures uncommitted { HasCleanDisk (state S.Store tx.new.conn.now) → IsTrue (state S.Store tx.old.conn.now).in_transaction → KeepsCommit (state S.Store tx.old.conn.now) (state S.Store tx.new.conn.now) }
+    ensures survives { Survives (state S.Store tx.old.conn.now) (state S.Store tx.new.conn.now) (λ _. ⊥) }
+{
+    match change {
+        Change::SetFile(file, bytes) => set_file(tx, file, bytes),
+        Change::Desk(command) => obey(tx, command),
+    }
+}
+
+/// Makes a change that the rules give for the office, all of it or nothing. It is committed when the call returns `Ok`.
+///
+/// # Errors
+///
+/// Those of the database, a pending transaction among them, and one for a text that is not UTF-8 or a number that the
+/// file has no room for. The office is then as it was.
+pub fn apply_change<S: Alter>(conn: &mut Connection<S>, change: &Change<'_>) -> Result<(), Error>
+    ensures made { (v : Version) (s after : State) → IsVersion v → Means v (state S.Store conn.old) s → IsSound s → IsChangeOf s change.now after
+        → OnOk result (Means v (state S.Store conn.new) after) }
     ensures kept { (v : Version) (s : State) → IsVersion v → Means v (state S.Store conn.old) s → OnErr result (Means v (state S.Store conn.new) s) }
-    ensures durable { let u : ℕ → Upload = λ now. record { place = record { box = box_name.now; name = name.now }; bytes = bytes.now; now = now; key = key.now } in
-        (v : Version) (s : State) (now : ℕ) → IsVersion v → Means v (state S.Store conn.old) s → Writes s (u now) stands number moment used count → digest.now ≡ sha256 bytes.now
-        → OnOk result (LeavesOnly v (state S.Store conn.new) (after_upload s (u now))) }
-    ensures crash { let u : ℕ → Upload = λ now. record { place = record { box = box_name.now; name = name.now }; bytes = bytes.now; now = now; key = key.now } in
-        (v : Version) (s : State) (now : ℕ) → IsVersion v → Means v (state S.Store conn.old) s → Writes s (u now) stands number moment used count → digest.now ≡ sha256 bytes.now
-        → AddsOnly v (state S.Store conn.old) (state S.Store conn.new) (after_upload s (u now)) }
+    ensures durable { (v : Version) (s after : State) → IsVersion v → Means v (state S.Store conn.old) s → IsSound s → IsChangeOf s change.now after
+        → OnOk result (LeavesOnly v (state S.Store conn.new) after) }
+    ensures crash { (v : Version) (s after : State) → IsVersion v → Means v (state S.Store conn.old) s → IsSound s → IsChangeOf s change.now after
+        → AddsOnly v (state S.Store conn.old) (state S.Store conn.new) after }
 {
     if !conn.is_autocommit() {
         return Err(Error::SqliteFailure(ErrorCode::TransactionState));
     }
     let mut tx = conn.transaction();
-    set_file(
-        &mut tx, box_name, name, bytes, stands, number, digest, moment, key, used, count,
-    )?;
+    write_change(&mut tx, change)?;
     tx.commit()
-}
-
-/// Makes a change, in a transaction of its own.
-pub(crate) fn apply_change<S: Alter>(
-    conn: &mut Connection<S>,
-    change: &Change<'_>,
-) -> Result<(), Error>
-    ensures made { (v : Version) (s after : State) → IsVersion v → Means v (state S.Store conn.old) s → IsSound s → IsChangeOf s change.now after → OnOk result (Means v (state S.Store conn.new) after) }
-    ensures kept { (v : Version) (s : State) → IsVersion v → Means v (state S.Store conn.old) s → OnErr result (Means v (state S.Store conn.new) s) }
-    ensures opened { HasCleanDisk (state S.Store conn.new) → OnOk result (IsTrue (state S.Store conn.new).is_open) }
-    ensures durable { (v : Version) (s after : State) → IsVersion v → Means v (state S.Store conn.old) s → IsSound s → IsChangeOf s change.now after → OnOk result (LeavesOnly v (state S.Store conn.new) after) }
-    ensures crash { (v : Version) (s after : State) → IsVersion v → Means v (state S.Store conn.old) s → IsSound s → IsChangeOf s change.now after → AddsOnly v (state S.Store conn.old) (state S.Store conn.new) after }
-    ensures clean { HasCleanDisk (state S.Store conn.new) → HasCleanDisk (state S.Store conn.old) }
-{
-    Err(Error::SqliteFailure(ErrorCode::TransactionState))
 }

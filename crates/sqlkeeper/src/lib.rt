@@ -2,6 +2,7 @@
 #![tactic(auto)]
 
 mod asking;
+mod box_rows;
 mod changes;
 mod creating;
 mod file_keeper;
@@ -9,6 +10,5 @@ mod questions;
 mod standing;
 mod statements;
 
-pub use changes::put_file;
 pub use creating::make_office;
 pub use file_keeper::SqlKeeper;

@@ -11,8 +11,8 @@ none_of (Some x) h = cc
 
 pub returns-then-stands-clause-done : goal.returns-then-stands-clause-done
 returns-then-stands-clause-done g c v tables ours pends stands =
-    let was = some_of (tables.file (record { box = c.args.box_name.now; name = c.args.name.now })) (sym stands ∙ c.if-stands.true) in c.update_file.ensures.done v tables was.0 ours pends was.1
+    let was = some_of (tables.file (record { box = c.args.in_box.now; name = c.args.name.now })) (sym stands ∙ c.if-stands.true) in c.update_file.ensures.done v tables was.0 ours pends was.1
 
 pub returns-else-stands-clause-done : goal.returns-else-stands-clause-done
 returns-else-stands-clause-done g c v tables ours pends stands =
-    c.insert_file.ensures.done v tables ours pends (none_of (tables.file (record { box = c.args.box_name.now; name = c.args.name.now })) (sym stands ∙ c.if-stands.false))
+    c.insert_file.ensures.done v tables ours pends (none_of (tables.file (record { box = c.args.in_box.now; name = c.args.name.now })) (sym stands ∙ c.if-stands.false))
