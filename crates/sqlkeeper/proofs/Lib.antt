@@ -20,5 +20,8 @@ pub mod Ordered
 pub mod LastNumber
 pub mod FindKey
 pub mod FileRows
+pub mod KeyRows
+pub mod ClosingRows
 pub mod Uploads
 pub mod Taken
+pub mod Making
