@@ -1,5 +1,5 @@
--- The INSERT of a file, and the UPDATE of its receipt.
-use Rattle.std.proofs.Common.{◌≡◌, ℕ, ℤ, pos, List, [], ◌∷◌, map, drop, None, Some, Ok, arith, refl, ap, sym, ◌∙◌}
+-- The INSERT of a file, the UPDATE of its receipt, and its DELETE.
+use Rattle.std.proofs.Common.{◌≡◌, ℕ, ℤ, pos, List, [], ◌∷◌, map, drop, Option, None, Some, Ok, arith, refl, ap, sym, ◌∙◌}
 use Rattle.std.specs.List.{list_all}
 use Rattle.sqlite_value.specs.declared.value.Value.TheVariants.{Null, Int, Text}
 use Rattle.sqlite_value.specs.Order.{Row, column}
@@ -12,19 +12,19 @@ use Rattle.sqlite.specs.State.{State, Executes}
 use Rattle.sqlite.specs.Term.{Term, lit, col}
 use Rattle.boxes.specs.State.{Place}
 use Rattle.sqlkeeper.specs.Schema.{Version}
-use Rattle.sqlkeeper.specs.Tables.{Tables, TablesMean, RowsMean, IsFileRow, put, same_place}
-use Rattle.sqlkeeper.specs.Changes.{with_file}
+use Rattle.sqlkeeper.specs.Tables.{Tables, TablesMean, RowsMean, IsFileRow, put, without, same_place}
+use Rattle.sqlkeeper.specs.Changes.{with_file, without_file}
 use Rattle.sqlkeeper.specs.Means.{Holds}
 use Rattle.sqlkeeper.proofs.Says.{Says}
 use Rattle.sqlkeeper.proofs.Forms.{is}
-use Rattle.sqlkeeper.proofs.Texts.{insert_file, insert_file_command, update_file, update_file_command}
+use Rattle.sqlkeeper.proofs.Texts.{insert_file, insert_file_command, update_file, update_file_command, delete_file, delete_file_command}
 use Rattle.sqlkeeper.proofs.Ours.{IsOurs, OthersStay, files_at}
 use Rattle.sqlkeeper.proofs.Rows.{cast_null, cast_int}
 use Rattle.sqlkeeper.proofs.Updates.{HaveRowids}
-use Rattle.sqlkeeper.proofs.Maps.{means_put, means_update, Hits}
+use Rattle.sqlkeeper.proofs.Maps.{means_put, means_update, means_without, Hits}
 use Rattle.sqlkeeper.proofs.Keys.{adds_put, sets_put, tells_places}
-use Rattle.sqlkeeper.proofs.PieceRows.{passes_place}
-use Rattle.sqlkeeper.proofs.Steps.{inserts_row, updates_rows}
+use Rattle.sqlkeeper.proofs.PieceRows.{given_place, passes_place}
+use Rattle.sqlkeeper.proofs.Steps.{inserts_row, updates_rows, deletes_rows}
 
 abbrev pub given_file : Place → ℕ → Row
 given_file place number = Text place.box ∷ Text place.name ∷ Int (pos number) ∷ []
@@ -39,9 +39,9 @@ news_are : (rows : List Row) (place : Place) (number : ℕ) → numbered Chosen 
 news_are rows place number = rw (cast_null, cast_int (pos number))
 
 -- the other tables mean what they did
-others_mean : (v : Version) (tables : Tables) (place : Place) (number : ℕ) (old new : State) → TablesMean v.number old.now.trees tables → OthersStay 6 old.now.trees new.now.trees
-    → RowsMean IsFileRow (put same_place tables.file place number) (new.now.trees 6) → TablesMean v.number new.now.trees (with_file tables place number)
-others_mean v tables place number old new means stay files = record {
+others_mean : (v : Version) (tables : Tables) (file : Place → Option ℕ) (old new : State) → TablesMean v.number old.now.trees tables → OthersStay 6 old.now.trees new.now.trees
+    → RowsMean IsFileRow file (new.now.trees 6) → TablesMean v.number new.now.trees (record tables { file = file })
+others_mean v tables file old new means stay files = record {
   office = rw (stay.office (λ e. omega (arith, e))) means.office;
   keys = rw (stay.keys (λ e. omega (arith, e))) means.keys;
   boxes = rw (stay.boxes (λ e. omega (arith, e))) means.boxes;
@@ -60,7 +60,7 @@ puts_file v ours says old new count tables place number has means free ran =
     let files : RowsMean IsFileRow (put same_place tables.file place number) (new.now.trees 6) = rw done.1.is
     (means_put (put same_place tables.file place number) rows row place number (next_rowid rows) means.files (record { box_is = refl; name_is = refl; receipt_is = refl }) refl
     (adds_put tells_places tables.file place number free) done.1.fresh) in
-    record { schema = done.0.same_schema; sound = done.0.sound; means = others_mean v tables place number old new means done.0.stay files }
+    record { schema = done.0.same_schema; sound = done.0.sound; means = others_mean v tables (put same_place tables.file place number) old new means done.0.stay files }
 
 -- ---- UPDATE
 
@@ -94,4 +94,16 @@ sets_file v ours says old new n tables place was number has means there ran =
     let done = updates_rows v.schema ours files_at 4 ours.files update_file given old new n (λ db. refl) has ran filter set_terms says apart in
     let files = means_update (put same_place tables.file place number) rows (new.now.trees 6) (λ r. list_all (holds (given ∷ r ∷ [])) filter) (λ r. kept r place number) place (λ old. number)
     means.files done.1 (hits_file place number) (sets_put tells_places tables.file place was (λ old. number) there) in
-    record { schema = done.0.same_schema; sound = done.0.sound; means = others_mean v tables place number old new means done.0.stay files }
+    record { schema = done.0.same_schema; sound = done.0.sound; means = others_mean v tables (put same_place tables.file place number) old new means done.0.stay files }
+
+-- ---- DELETE
+
+pub drops_file : (v : Version) (ours : IsOurs v.schema) (says : Says v.schema delete_file delete_file_command) (old new : State) (count : ℕ) (tables : Tables) (place : Place)
+    → old.now.schema ≡ v.schema → TablesMean v.number old.now.trees tables
+    → Executes delete_file (given_place place) old new (Ok count) → Holds v new.now (without_file tables place)
+drops_file v ours says old new count tables place has means ran =
+    let rows = old.now.trees 6 in
+    let apart : HaveRowids rows = record { keyed = means.files.keyed; apart = means.files.apart } in
+    let done = deletes_rows v.schema ours files_at 4 ours.files delete_file (given_place place) old new count (λ db. refl) has ran filter says apart in
+    let files = means_without (λ q. same_place q place) rows (new.now.trees 6) _ means.files done.1 (λ row q number is. passes_place place q row is.box_is is.name_is) in
+    record { schema = done.0.same_schema; sound = done.0.sound; means = others_mean v tables (without (λ q. same_place q place) tables.file) old new means done.0.stay files }

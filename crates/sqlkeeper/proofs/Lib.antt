@@ -20,6 +20,8 @@ pub mod Ordered
 pub mod LastNumber
 pub mod FindKey
 pub mod FileRows
+pub mod KeyRows
+pub mod ClosingRows
 pub mod Uploads
 pub mod Commands
 pub mod FileChanges
@@ -27,3 +29,4 @@ pub mod Numbers
 pub mod Taken
 pub mod Stays
 pub mod StandingFiles
+pub mod Making

@@ -1,5 +1,5 @@
 -- The UPDATE of a box's totals.
-use Rattle.std.proofs.Common.{◌≡◌, ℕ, pos, List, [], ◌∷◌, Some, Ok, arith, refl, ap, sym, ◌∙◌}
+use Rattle.std.proofs.Common.{◌≡◌, ℕ, pos, List, [], ◌∷◌, Option, Some, Ok, arith, refl, ap, sym, ◌∙◌}
 use Rattle.std.specs.List.{list_all}
 use Rattle.std.proofs.Math.Bool.{and-true}
 use Rattle.sigtext.specs.Bytes.{same_bytes}
@@ -11,18 +11,30 @@ use Rattle.sqlite_rules.specs.Cast.{cast_row, cast, as_text}
 use Rattle.sqlite.specs.State.{State, Executes}
 use Rattle.sqlite.specs.Term.{Term, col}
 use Rattle.sqlkeeper.specs.Schema.{Version}
-use Rattle.sqlkeeper.specs.Tables.{Tables, TablesMean, Box, IsBoxRow, put}
+use Rattle.sqlkeeper.specs.Tables.{Tables, TablesMean, RowsMean, Box, IsBoxRow, put}
 use Rattle.sqlkeeper.specs.Changes.{with_totals, with_box}
 use Rattle.sqlkeeper.specs.Means.{Holds}
 use Rattle.sqlkeeper.proofs.Says.{Says}
 use Rattle.sqlkeeper.proofs.Forms.{is}
 use Rattle.sqlkeeper.proofs.Texts.{update_totals, update_totals_command}
-use Rattle.sqlkeeper.proofs.Ours.{IsOurs, boxes_at}
+use Rattle.sqlkeeper.proofs.Ours.{IsOurs, OthersStay, boxes_at}
 use Rattle.sqlkeeper.proofs.Rows.{cast_int, equal_texts}
 use Rattle.sqlkeeper.proofs.Updates.{HaveRowids}
 use Rattle.sqlkeeper.proofs.Maps.{Hits, means_update}
 use Rattle.sqlkeeper.proofs.Keys.{sets_put, tells_bytes, by_order}
 use Rattle.sqlkeeper.proofs.Steps.{updates_rows}
+
+-- the other tables mean what they did
+pub boxes_mean : (v : Version) (tables : Tables) (box : List ℕ → Option Box) (old new : State) → TablesMean v.number old.now.trees tables → OthersStay 3 old.now.trees new.now.trees
+    → RowsMean IsBoxRow box (new.now.trees 3) → TablesMean v.number new.now.trees (record tables { box = box })
+boxes_mean v tables box old new means stay boxes = record {
+  office = rw (stay.office (λ e. omega (arith, e))) means.office;
+  keys = rw (stay.keys (λ e. omega (arith, e))) means.keys;
+  boxes = boxes;
+  receipts = rw (stay.receipts (λ e. omega (arith, e))) means.receipts;
+  files = rw (stay.files (λ e. omega (arith, e))) means.files;
+  pieces = rw (stay.pieces (λ e. omega (arith, e))) means.pieces;
+}
 
 abbrev pub given_totals : List ℕ → ℕ → ℕ → Row
 given_totals name used count = Text name ∷ Int (pos used) ∷ Int (pos count) ∷ []
@@ -34,7 +46,7 @@ abbrev terms : List Term
 terms = col 1 0 ∷ col 1 1 ∷ col 1 2 ∷ col 1 3 ∷ col 1 4 ∷ col 1 5 ∷ col 1 6 ∷ col 1 7 ∷ col 1 8 ∷ col 1 9 ∷ col 1 10 ∷ col 1 11 ∷ col 0 1 ∷ col 0 2 ∷ []
 
 -- WHERE passes the row of this text
-passes_text : (given : Row) (text q : List ℕ) (row : Row) → column given 0 ≡ Text text → column row 1 ≡ Text q → list_all (holds (given ∷ row ∷ [])) filter ≡ same_bytes q text
+pub passes_text : (given : Row) (text q : List ℕ) (row : Row) → column given 0 ≡ Text text → column row 1 ≡ Text q → list_all (holds (given ∷ row ∷ [])) filter ≡ same_bytes q text
 passes_text given text q row here is = rw (here, is, equal_texts q text, ← by_order q text) (and-true (same_bytes q text))
 
 abbrev kept : Row → List ℕ → ℕ → ℕ → Row
@@ -79,16 +91,4 @@ sets_totals v ours says old new n tables name box used count has means there ran
     let done = updates_rows v.schema ours boxes_at 2 ours.boxes update_totals given old new n (λ db. refl) has ran filter terms says apart in
     let boxes = means_update (put same_bytes tables.box name (with_totals used count box)) rows (new.now.trees 3) (λ r. list_all (holds (given ∷ r ∷ [])) filter) (λ r. kept r name used count)
     name (with_totals used count) means.boxes done.1 (hits_box name used count) (sets_put tells_bytes tables.box name box (with_totals used count) there) in
-    let stay = done.0.stay in
-    record {
-      schema = done.0.same_schema;
-      sound = done.0.sound;
-      means = record {
-        office = rw (stay.office (λ e. omega (arith, e))) means.office;
-        keys = rw (stay.keys (λ e. omega (arith, e))) means.keys;
-        boxes = boxes;
-        receipts = rw (stay.receipts (λ e. omega (arith, e))) means.receipts;
-        files = rw (stay.files (λ e. omega (arith, e))) means.files;
-        pieces = rw (stay.pieces (λ e. omega (arith, e))) means.pieces;
-      };
-    }
+    record { schema = done.0.same_schema; sound = done.0.sound; means = boxes_mean v tables (put same_bytes tables.box name (with_totals used count box)) old new means done.0.stay boxes }

@@ -1,0 +1,18 @@
+use Rattle.std.proofs.Common.{arith, IsTrue}
+use Rattle.sqlite.specs.State.{HasCleanDisk}
+use Rattle.sqlite.specs.Held.{state}
+use Rattle.sqlkeeper.proofs.Runs.{inside_if_ok}
+use Rattle.sqlkeeper.proofs.Ours.{ours_of, says_of}
+use Rattle.sqlkeeper.proofs.Texts.{update_revoked, update_revoked_command, update_revoked_is}
+use Rattle.sqlkeeper.proofs.KeyRows.{revokes_key}
+use Rattle.sqlkeeper.proofs.statements.update_revoked.Goals as goal
+
+pub returns-clause-done : goal.returns-clause-done
+returns-clause-done g c v tables key ours pends there clean inside is_open =
+    let old = state g.S.Store c.args.tx.now.conn.now in
+    let new = state g.S.Store c.execute.new.self.conn.now in
+    let was_in : IsTrue old.in_transaction = inside_if_ok old.in_transaction c.execute.result c.in_ok-execute.field-0 _ _ c.execute.ensures.ended c.in_ok-execute.was in
+    let early : HasCleanDisk old = omega (arith, c.execute.ensures.survives.clean) in
+    let ran = rw c.params-to_sql.ensures at (c.in_ok-execute.ensures.runs clean was_in) in
+    let it = pends early was_in ran.1.was_open in
+    revokes_key v (ours_of v ours) (says_of v ours update_revoked update_revoked_command update_revoked_is) old new c.in_ok-execute.field-0 tables c.args.id.now key it.schema it.means there ran.0
