@@ -27,6 +27,8 @@ pub mod Commands
 pub mod FileChanges
 pub mod Numbers
 pub mod Taken
+pub mod StateViews
+pub mod NotText
 pub mod Stays
 pub mod StandingFiles
 pub mod Making

@@ -1,5 +1,5 @@
 -- The file that stands in a sound state, its receipt, and what tables tell of them.
-use Rattle.std.proofs.Common.{◌≡◌, ℕ, ◌+◌, List, length, Option, Some, None, Result, Ok, Err, IfOk, option_map, slice_get, refl, sym, ap, subst, ◌∙◌}
+use Rattle.std.proofs.Common.{◌≡◌, ℕ, ◌+◌, List, length, Option, Some, None, Result, Ok, Err, IfOk, option_map, option_and_then, slice_get, refl, sym, ap, subst, ◌∙◌}
 use Rattle.std.specs.FinMap.{get}
 use Rattle.boxes.specs.declared.rows.ReceiptRow.{ReceiptRow}
 use Rattle.boxes.specs.declared.rows.FileRow.{FileRow}
@@ -76,7 +76,7 @@ module _ (s : State) (sound : IsSound s) (place : Place) (r : ReceiptRow) (found
       sym (ap (λ (x : Receipt). x.size) same ∙ it.size)
 
   pub pieces_are : (n : ℕ) → (tables_of s).piece (record { place = place; at = n }) ≡ piece_of at_place.0.bytes n
-  pieces_are n = rw at_place.1
+  pieces_are n = ap (option_and_then (λ (f : File). piece_of f.bytes n)) at_place.1
 
   pub file_found : (f : FileRow) → f.bytes.items ≡ at_place.0.bytes → f.receipt ≡ r → IsFileAt s place (Some f)
   file_found f bytes same = record {

@@ -1,16 +1,19 @@
 -- What a question to the file leaves of its keeper.
-use Rattle.std.proofs.Common.{◌≡◌, ◌≢◌, inl, inr, ℕ, Result, Ok, Err, IfOk, IfErr, arith, refl, subst}
+use Rattle.std.proofs.Common.{◌≡◌, ◌≢◌, inl, inr, ℕ, Result, Ok, Err, IfOk, IfErr, OnOk, OnErr, IsTrue, arith, refl, subst}
+use Rattle.std.specs.Prelude.{IsErr, IsErrOf}
+use Rattle.sqlite.specs.declared.error.Error.{Error}
 use Rattle.sqlite.specs.State.{HasCleanDisk, Survives}
 use Rattle.sqlite.specs.State as sql
 use Rattle.sigtext.specs.Counts.{CountsErrors}
 use Rattle.boxes.specs.State.{State}
 use Rattle.boxes.specs.Sound.{IsSound}
 use Rattle.keeper.specs.declared.keep.KeepFault.{KeepFault}
-use Rattle.keeper.specs.declared.keep.KeepFault.TheVariants.{Full}
-use Rattle.keeper.specs.Keeping.{Answers, Stays}
+use Rattle.keeper.specs.declared.keep.KeepFault.TheVariants.{Full, Store}
+use Rattle.keeper.specs.Keeping.{Answers, Stays, LeavesAlone, LeavesEither}
 use Rattle.sqlkeeper.specs.Schema.{Version, IsVersion, v1}
-use Rattle.sqlkeeper.specs.Means.{Means}
+use Rattle.sqlkeeper.specs.Means.{Means, LeavesOnly, AddsOnly, LeavesLast}
 use Rattle.sqlkeeper.specs.Kept.{KeepsState, MayLeave, LeavesStates}
+use Rattle.sqlkeeper.specs.OneState.{one_left}
 
 -- an answer, as it was counted
 pub carried : {T E F : Type 0} (P : T → Type 0) (answer : Result T E) (result : Result T F) → IfOk result (λ x. answer ≡ Ok x) → IfOk answer P → IfOk result P
@@ -36,10 +39,64 @@ module _ {K T : Type 0} (st : K → sql.State) (faults : K → ℕ) (old new : K
     ];
   }
     where
-      no_claim : (r : Result T KeepFault) → Rattle.std.specs.Prelude.IsErrOf r Rattle.keeper.specs.declared.keep.KeepFault.TheVariants.Store → Unit {0}
+      no_claim : (r : Result T KeepFault) → IsErrOf r Store → Unit {0}
       no_claim r h = tt
 
   pub answers : {E : Type 0} (answer : Result T E) (Holds : State → T → Type 0) → IfOk result (λ x. answer ≡ Ok x)
       → ((v : Version) (s : State) → IsVersion v → Means v (st old) s → IsSound s → HasCleanDisk (st new) → IfOk answer (Holds s))
       → Answers (λ k. KeepsState (st k)) (λ k. HasCleanDisk (st k)) old new result Holds
   answers answer Holds same found = λ s k sound clean. carried (Holds s) answer result same (found v1 s refl k.means k.sound clean)
+
+module _ {K : Type 0} (st : K → sql.State) (faults : K → ℕ) (old new : K) (answer : Result (Unit {0}) Error) (result : Result (Unit {0}) KeepFault) (value : IfOk result (λ x. answer ≡ Ok x)) (fault : IfErr result (λ f. IsErr answer)) where
+  pub ok_too : (P : Type 0) → OnOk answer P → OnOk result P
+  ok_too P h = go result value
+    where
+      go : (r : Result (Unit {0}) KeepFault) → IfOk r (λ x. answer ≡ Ok x) → OnOk r P
+      go (Ok x) is = let e : OnOk (Ok x) P = subst (λ a. OnOk a P) is h in e
+      go (Err e) is = tt
+
+  pub err_too : (P : Type 0) → OnErr answer P → OnErr result P
+  err_too P h = go answer result fault h
+    where
+      go : (a : Result (Unit {0}) Error) (r : Result (Unit {0}) KeepFault) → IfErr r (λ f. IsErr a) → OnErr a P → OnErr r P
+      go a (Ok x) is there = tt
+      go (Ok y) (Err e) is there = absurd is
+      go (Err y) (Err e) is there = there
+
+  -- a crash leaves the state after and no other
+  pub alone : (after : State) → IsSound after → HasCleanDisk (st new) → OnOk answer (IsTrue (st new).is_open × LeavesLast (st new)) → OnOk answer (LeavesOnly v1 (st new) after)
+      → OnOk result (LeavesAlone (λ k. MayLeave (st k)) (λ k. LeavesStates (st k)) new after)
+  alone after sound clean opened durable = ok_too (LeavesAlone (λ k. MayLeave (st k)) (λ k. LeavesStates (st k)) new after) (go answer opened durable)
+    where
+      go : (a : Result (Unit {0}) Error) → OnOk a (IsTrue (st new).is_open × LeavesLast (st new)) → OnOk a (LeavesOnly v1 (st new) after)
+          → OnOk a (LeavesAlone (λ k. MayLeave (st k)) (λ k. LeavesStates (st k)) new after)
+      go (Err e) opened durable = tt
+      go (Ok x) opened durable = record {
+        there = record { trees = (st new).committed.trees; left = opened.1; keep = record { means = durable clean (st new).committed.trees opened.1; sound = sound } };
+        alone = λ t leaves. one_left leaves.trees t after leaves.keep (record { means = durable clean leaves.trees leaves.left; sound = sound });
+        whole = λ again trees left. (after, record { means = durable clean trees left; sound = sound });
+      }
+
+  pub either : (s after : State) → IsSound after → HasCleanDisk (st new) → HasCleanDisk (st old) → AddsOnly v1 (st old) (st new) after → LeavesEither (λ k. MayLeave (st k)) (λ k. LeavesStates (st k)) old new s after
+  either s after sound clean before adds = record {
+    either = λ t leaves. elim (adds clean leaves.trees leaves.left) [
+      | inl was ↦ inl (record { trees = leaves.trees; left = was; keep = leaves.keep })
+      | inr means ↦ inr (inr (one_left leaves.trees t after leaves.keep (record { means = means; sound = sound })))
+    ];
+    whole = λ all again trees left. elim (adds clean trees left) [
+      | inl was ↦ all before trees was
+      | inr means ↦ (after, record { means = means; sound = sound })
+    ];
+  }
+
+pub kept_then : {X E : Type 0} (new : sql.State) (after : State) (r : Result X E) → IsSound after → OnOk r (Means v1 new after) → OnOk r (KeepsState new after)
+kept_then new after (Ok x) sound means = record { means = means; sound = sound }
+kept_then new after (Err e) sound means = tt
+
+pub kept_at_error : {X E : Type 0} (new : sql.State) (s : State) (r : Result X E) → IsSound s → OnErr r (Means v1 new s) → OnErr r (KeepsState new s)
+kept_at_error new s (Ok x) sound means = tt
+kept_at_error new s (Err e) sound means = record { means = means; sound = sound }
+
+pub at_error : {X E P : Type 0} (r : Result X E) → P → OnErr r P
+at_error (Ok x) p = tt
+at_error (Err e) p = p

@@ -6,7 +6,7 @@ use Rattle.sqlite.specs.State.{State, HasCleanDisk, Shows, KeepsCounts, Survives
 use Rattle.boxes.specs.State.{State as Office}
 use Rattle.sqlkeeper.specs.Schema.{Version}
 use Rattle.sqlkeeper.specs.Tables.{tables_of}
-use Rattle.sqlkeeper.specs.Means.{Holds, IsWhole, Means, OfficeMeans, LeavesOnly, AddsOnly}
+use Rattle.sqlkeeper.specs.Means.{Holds, IsWhole, Means, OfficeMeans, LeavesOnly, AddsOnly, LeavesLast}
 
 -- by the rows alone
 pub by_rows : (v : Version) (db : Database) (office : Office) → Holds v db (tables_of office) → OfficeMeans v db.trees office
@@ -38,3 +38,8 @@ crash v old mid new office holds survives before = λ clean trees leaves. elim (
   | inl was ↦ inl (before clean trees was)
   | inr same ↦ inr (subst (λ t. OfficeMeans v t office) (sym same) (by_rows v mid.now office (holds clean)))
 ]
+
+pub open_still : {X E : Type 0} (mid new : State) (r : Result X E) → (HasCleanDisk new → OnOk r (IsTrue mid.in_transaction × Shows mid new mid.now mid.now false × KeepsCounts mid new × (new.marks ≡ [])))
+    → HasCleanDisk new → (IsTrue new.is_open → LeavesLast new) → OnOk r (IsTrue new.is_open × LeavesLast new)
+open_still mid new (Ok x) shows clean law = let shown = (shows clean).1 in (shown.is_open, law shown.is_open)
+open_still mid new (Err e) shows clean law = tt

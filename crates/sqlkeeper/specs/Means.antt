@@ -65,3 +65,7 @@ AddsOnly v old new office = HasCleanDisk new → (trees : Trees) → new.may_lea
 -- a crash leaves what it could leave before
 abbrev pub AddsNothing : State → State → Type 0
 AddsNothing old new = HasCleanDisk new → (trees : Trees) → new.may_leave trees → old.may_leave trees
+
+-- a crash now may leave what was committed last
+abbrev pub LeavesLast : State → Type 0
+LeavesLast s = s.may_leave s.committed.trees

@@ -160,7 +160,7 @@ one_key row k q v w a b x y =
     let revoked = same_flag v.revoked w.revoked (sym a.revoked_is ∙ b.revoked_is) in
     (text_of k q (sym a.id_is ∙ b.id_is), λ i. record { role = role i; secret = secret i; revoked = revoked i })
 
-abbrev HasSettings : Box → Type 0
+abbrev pub HasSettings : Box → Type 0
 HasSettings b = AreSettings b.settings
 
 one_box : (row : Row) (k q : List ℕ) (v w : Box) → IsBoxRow row k v → IsBoxRow row q w → HasSettings v → HasSettings w → (k ≡ q) × (v ≡ w)
@@ -268,7 +268,7 @@ same_file (Some x) (Some y) e h =
     λ i. Some (record { bytes = bytes i; receipt = number i })
 
 module _ (s : State) (sound : IsSound s) where
-  known_box : (name : List ℕ) (b : Box) → (tables_of s).box name ≡ Some b → HasSettings b
+  pub known_box : (name : List ℕ) (b : Box) → (tables_of s).box name ≡ Some b → HasSettings b
   known_box name b is = go (get s.boxes name) refl
     where
       go : (o : Option Settings) → get s.boxes name ≡ o → HasSettings b

@@ -5,7 +5,7 @@ ghost use Rattle.std.specs.FinMap.{get};
 ghost use Rattle.sqlite.specs.State.{HasCleanDisk, Survives};
 ghost use Rattle.sqlite.specs.Held.{state};
 ghost use Rattle.boxes.specs.State.{State};
-ghost use Rattle.boxes.specs.Rows.{key_of, settings_of, IsFileAt, numbered_receipt, receipts_from};
+ghost use Rattle.boxes.specs.Rows.{IsOfficeOf, key_of, settings_of, IsFileAt, numbered_receipt, receipts_from};
 ghost use Rattle.boxes.specs.Views.{AreTotals};
 ghost use Rattle.boxes.specs.Clerks.{clerks};
 ghost use Rattle.boxes.specs.Sound.{IsSound};
@@ -13,12 +13,12 @@ ghost use Rattle.sqlkeeper.specs.Schema.{Version, IsVersion};
 ghost use Rattle.sqlkeeper.specs.Means.{Means};
 
 use crate::{questions, standing, statements};
-use boxes::{BoxRow, FileRow, KeyRow, ReceiptRow, Totals};
+use boxes::{BoxRow, FileRow, KeyRow, OfficeRow, ReceiptRow, Totals};
 use sqlite::{Alter, Connection, Error, ErrorCode};
 
-/// The offset of the office's clock east of UTC, in minutes.
-pub(crate) fn east<S: Alter>(conn: &mut Connection<S>) -> Result<i16, Error>
-    ensures found { (v : Version) (s : State) → IsVersion v → Means v (state S.Store conn.old) s → IsSound s → HasCleanDisk (state S.Store conn.new) → IfOk result (λ east. east ≡ s.offset) }
+/// What the office is set to.
+pub(crate) fn settings<S: Alter>(conn: &mut Connection<S>) -> Result<OfficeRow, Error>
+    ensures found { (v : Version) (s : State) → IsVersion v → Means v (state S.Store conn.old) s → IsSound s → HasCleanDisk (state S.Store conn.new) → IfOk result (IsOfficeOf s) }
     ensures kept { (v : Version) (s : State) → IsVersion v → Means v (state S.Store conn.old) s → Means v (state S.Store conn.new) s }
     ensures survives { Survives (state S.Store conn.old) (state S.Store conn.new) (λ _. ⊥) }
 {
@@ -26,7 +26,8 @@ pub(crate) fn east<S: Alter>(conn: &mut Connection<S>) -> Result<i16, Error>
         return Err(Error::SqliteFailure(ErrorCode::TransactionState));
     }
     let mut tx = conn.transaction();
-    questions::east(&mut tx)
+    let east = questions::east(&mut tx)?;
+    Ok(OfficeRow { east })
 }
 
 /// The key of this id.

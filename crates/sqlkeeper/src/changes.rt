@@ -12,7 +12,7 @@ ghost use Rattle.boxes.specs.Changes.{IsFileSet, IsObeyed, IsChangeOf, command_o
 ghost use Rattle.sqlkeeper.specs.Schema.{Version, IsVersion};
 ghost use Rattle.sqlkeeper.specs.Tables.{Tables, Box, tables_of};
 ghost use Rattle.sqlkeeper.specs.Changes.{with_file, with_receipt, without_pieces, with_upload, with_drop, with_totals, with_box};
-ghost use Rattle.sqlkeeper.specs.Means.{Pends, IsRunning, Means, LeavesOnly, AddsOnly};
+ghost use Rattle.sqlkeeper.specs.Means.{Pends, IsRunning, Means, LeavesOnly, AddsOnly, LeavesLast};
 
 use crate::box_rows::insert_box;
 use crate::questions::{file_number, receipt, totals};
@@ -336,7 +336,7 @@ fn write_change<S: Alter>(tx: &mut Transaction<'_, S>, change: &Change<'_>) -> R
 ///
 /// Those of the database, a pending transaction among them, and one for a text that is not UTF-8 or a number that the
 /// file has no room for. The office is then as it was.
-pub fn apply_change<S: Alter>(conn: &mut Connection<S>, change: &Change<'_>) -> Result<(), Error>
+pub(crate) fn apply_change<S: Alter>(conn: &mut Connection<S>, change: &Change<'_>) -> Result<(), Error>
     ensures made { (v : Version) (s after : State) → IsVersion v → Means v (state S.Store conn.old) s → IsSound s → IsChangeOf s change.now after
         → OnOk result (Means v (state S.Store conn.new) after) }
     ensures kept { (v : Version) (s : State) → IsVersion v → Means v (state S.Store conn.old) s → OnErr result (Means v (state S.Store conn.new) s) }
@@ -344,6 +344,8 @@ pub fn apply_change<S: Alter>(conn: &mut Connection<S>, change: &Change<'_>) -> 
         → OnOk result (LeavesOnly v (state S.Store conn.new) after) }
     ensures crash { (v : Version) (s after : State) → IsVersion v → Means v (state S.Store conn.old) s → IsSound s → IsChangeOf s change.now after
         → AddsOnly v (state S.Store conn.old) (state S.Store conn.new) after }
+    ensures honest { HasCleanDisk (state S.Store conn.new) → HasCleanDisk (state S.Store conn.old) }
+    ensures opened { HasCleanDisk (state S.Store conn.new) → OnOk result (IsTrue (state S.Store conn.new).is_open × LeavesLast (state S.Store conn.new)) }
 {
     if !conn.is_autocommit() {
         return Err(Error::SqliteFailure(ErrorCode::TransactionState));

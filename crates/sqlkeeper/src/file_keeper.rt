@@ -1,6 +1,6 @@
 //! The keeper over an office file.
 
-ghost use Rattle.std.specs.Prelude.{◌≡◌, ◌≢◌, ◌↔◌, Ok, IfOk, IfErr, IsTrue, ⊤};
+ghost use Rattle.std.specs.Prelude.{◌≡◌, ◌≢◌, ◌↔◌, Ok, IfOk, IfErr, IsErr, IsTrue, ⊤};
 ghost use Rattle.boxes.specs.State.{State};
 ghost use Rattle.boxes.specs.Changes.{IsChangeOf, IsPastFull};
 ghost use Rattle.sigtext.specs.Counts.{CountsErrors};
@@ -11,7 +11,7 @@ ghost use Rattle.sqlkeeper.specs.OneState.{one_kept};
 
 use crate::asking;
 use crate::changes::apply_change;
-use boxes::{BoxRow, Change, FileRow, KeyRow, OfficeRow, ReceiptRow, Totals};
+use boxes::{BoxRow, Change, FileRow, KeyRow, OfficeRow, ReceiptRow, Totals, law_of_changes};
 use keeper::{KeepFault, Keeper, has_room};
 use sqlite::{Alter, Connection, Error, ErrorCode};
 use std::str;
@@ -35,6 +35,7 @@ fn fault_of(error: Error) -> KeepFault
 // What the file answered, where an error is counted.
 fn counted<T>(faults: &mut u64, answer: Result<T, Error>) -> Result<T, KeepFault>
     ensures value { IfOk result (λ value. answer ≡ Ok value) }
+    ensures fault { IfErr result (λ f. IsErr answer) }
     ensures count { CountsErrors faults.old faults.new result }
     ensures room { IfErr result (λ f. f ≢ KeepFault.Full) }
 {
@@ -73,8 +74,7 @@ impl<S: Alter> Keeper for SqlKeeper<S> {
     ghost has_store = { ⊤ };
 
     fn settings(&mut self) -> Result<OfficeRow, KeepFault> {
-        let east = counted(&mut self.faults, asking::east(&mut self.conn))?;
-        Ok(OfficeRow { east })
+        counted(&mut self.faults, asking::settings(&mut self.conn))
     }
 
     fn key(&mut self, id: &[u8]) -> Result<Option<KeyRow>, KeepFault> {
@@ -92,7 +92,10 @@ impl<S: Alter> Keeper for SqlKeeper<S> {
     }
 
     fn file(&mut self, in_box: &[u8], name: &[u8]) -> Result<Option<FileRow>, KeepFault> {
-        let (Ok(in_box), Ok(name)) = (str::from_utf8(in_box), str::from_utf8(name)) else {
+        let Ok(in_box) = str::from_utf8(in_box) else {
+            return Ok(None);
+        };
+        let Ok(name) = str::from_utf8(name) else {
             return Ok(None);
         };
         counted(&mut self.faults, asking::file(&mut self.conn, in_box, name))
@@ -122,6 +125,7 @@ impl<S: Alter> Keeper for SqlKeeper<S> {
             self.faults = self.faults.saturating_add(1);
             return Err(KeepFault::Full);
         }
+        law_of_changes();
         counted(&mut self.faults, apply_change(&mut self.conn, change))
     }
 

@@ -1,4 +1,4 @@
-use Rattle.std.proofs.Common.{◌≡◌, IsTrue, rules, arith, refl, subst, OnOk}
+use Rattle.std.proofs.Common.{◌≡◌, IsTrue, rules, arith, refl, sym, subst, OnOk}
 use Rattle.sqlite_trees.specs.Tree.{Trees}
 use Rattle.sqlite.specs.State.{HasCleanDisk}
 use Rattle.sqlite.specs.Held.{state}
@@ -7,8 +7,8 @@ use Rattle.boxes.specs.Sound.{IsSound}
 use Rattle.boxes.specs.Changes.{IsChangeOf}
 use Rattle.sqlkeeper.specs.Schema.{Version, IsVersion}
 use Rattle.sqlkeeper.specs.Tables.{tables_of}
-use Rattle.sqlkeeper.specs.Means.{Pends, Holds, Means, LeavesOnly, AddsOnly}
-use Rattle.sqlkeeper.proofs.Taken.{made, durable, crash}
+use Rattle.sqlkeeper.specs.Means.{Pends, Holds, Means, LeavesOnly, AddsOnly, LeavesLast}
+use Rattle.sqlkeeper.proofs.Taken.{made, durable, crash, open_still}
 use Rattle.sqlkeeper.proofs.changes.apply_change.Given as given
 use Rattle.sqlkeeper.proofs.changes.apply_change.Goals as goal
 
@@ -50,3 +50,10 @@ returns-clause-crash g c v s after ours means sound change =
     let before : HasCleanDisk end → (db : Trees) → mid.may_leave db → old.may_leave db = search rules in
     let out = crash v old mid end after (holds g c v s after ours means sound change) c.commit.ensures.survives before in
     subst (λ h. AddsOnly v old (state g.S.Store h) after) same out
+
+pub returns-clause-opened : goal.returns-clause-opened
+returns-clause-opened g c clean =
+    let end = state g.S.Store c.commit.new.self.0 in
+    let same : c.commit.new.self.0 ≡ c.conn-2-1.given.0 = search rules in
+    let out = open_still (state g.S.Store c.write_change.new.tx.conn.now) end c.commit.result c.commit.ensures.ok (subst (λ h. HasCleanDisk (state g.S.Store h)) (sym same) clean) (λ is_open. g.met.S.Store.stays c.commit.new.self.0.store is_open) in
+    subst (λ h. OnOk c.commit.result (IsTrue (state g.S.Store h).is_open × LeavesLast (state g.S.Store h))) same out

@@ -1,0 +1,17 @@
+use Rattle.std.proofs.Common.{◌≡◌, IsTrue, IfOk, arith, rules, refl, sym, subst, ◌∙◌}
+use Rattle.sqlite.specs.State.{HasCleanDisk}
+use Rattle.sqlite.specs.Held.{state}
+use Rattle.sqlkeeper.specs.Tables.{tables_of}
+use Rattle.sqlkeeper.specs.Means.{Pends}
+use Rattle.sqlkeeper.proofs.StateViews.{digests_known}
+use Rattle.sqlkeeper.proofs.asking.receipts.Goals as goal
+
+pub returns-clause-found : goal.returns-clause-found
+returns-clause-found g c v s ours means sound clean =
+    let begun = state g.S.Store c.transaction-tx.result.conn.now in
+    let first : Pends v begun (tables_of s) = rw c.transaction-tx.ensures.begun (λ was_clean _ is_open. ((means was_clean).tables is_open).holds) in
+    let inside : IsTrue begun.in_transaction = rw c.transaction-tx.ensures.begun refl in
+    let same : c.drop-tx.new.self.0 ≡ c.conn-1.given.0 = search rules in
+    let ended : HasCleanDisk (state g.S.Store c.drop-tx.new.self.0) = subst (λ h. HasCleanDisk (state g.S.Store h)) (sym same) clean in
+    let early : HasCleanDisk (state g.S.Store c.receipts.new.tx.conn.now) = omega (arith, c.drop-tx.ensures.survives.clean, ended) in
+    c.receipts.ensures.found v (tables_of s) s.receipts ours first refl (digests_known s sound) inside early

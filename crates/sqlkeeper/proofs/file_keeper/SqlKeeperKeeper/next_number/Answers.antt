@@ -1,0 +1,7 @@
+use Rattle.sqlite.specs.Held.{state}
+use Rattle.sqlkeeper.proofs.Stays.{stays}
+use Rattle.sqlkeeper.proofs.file_keeper.SqlKeeperKeeper.next_number.Goals as goal
+
+pub returns-clause-rest : goal.returns-clause-rest
+returns-clause-rest g c =
+    stays (λ k. state g.S.Store k.conn) (λ k. k.faults) c.args.self.now (record { conn = c.next_number.new.conn; faults = c.counted.new.faults }) c.counted.result c.next_number.ensures.kept c.next_number.ensures.survives c.counted.ensures.count c.counted.ensures.room
