@@ -1,11 +1,13 @@
 //! The office file: its tables, and a keeper over them.
 #![tactic(auto)]
 
+mod box_rows;
 mod changes;
 mod creating;
 mod questions;
 mod statements;
 
+pub use box_rows::insert_box;
 pub use changes::put_file;
 pub use creating::make_office;
 pub use questions::{
