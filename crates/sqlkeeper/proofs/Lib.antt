@@ -22,6 +22,8 @@ pub mod FindKey
 pub mod FileRows
 pub mod KeyRows
 pub mod ClosingRows
+pub mod BoxRows
+pub mod RuleTexts
 pub mod Uploads
 pub mod Commands
 pub mod FileChanges
