@@ -47,21 +47,21 @@ module _ {K T : Type 0} (st : K → sql.State) (faults : K → ℕ) (old new : K
       → Answers (λ k. KeepsState (st k)) (λ k. HasCleanDisk (st k)) old new result Holds
   answers answer Holds same found = λ s k sound clean. carried (Holds s) answer result same (found v1 s refl k.means k.sound clean)
 
+ok_carried : (answer : Result (Unit {0}) Error) (r : Result (Unit {0}) KeepFault) (P : Type 0) → IfOk r (λ x. answer ≡ Ok x) → OnOk answer P → OnOk r P
+ok_carried answer (Ok x) P is h = subst (λ (a : Result (Unit {0}) Error). OnOk a P) is h
+ok_carried answer (Err e) P is h = tt
+
+err_carried : (answer : Result (Unit {0}) Error) (r : Result (Unit {0}) KeepFault) (P : Type 0) → IfErr r (λ f. IsErr answer) → OnErr answer P → OnErr r P
+err_carried answer (Ok x) P is there = tt
+err_carried (Ok y) (Err e) P is there = absurd cc
+err_carried (Err y) (Err e) P is there = there
+
 module _ {K : Type 0} (st : K → sql.State) (faults : K → ℕ) (old new : K) (answer : Result (Unit {0}) Error) (result : Result (Unit {0}) KeepFault) (value : IfOk result (λ x. answer ≡ Ok x)) (fault : IfErr result (λ f. IsErr answer)) where
   pub ok_too : (P : Type 0) → OnOk answer P → OnOk result P
-  ok_too P h = go result value
-    where
-      go : (r : Result (Unit {0}) KeepFault) → IfOk r (λ x. answer ≡ Ok x) → OnOk r P
-      go (Ok x) is = let e : OnOk (Ok x) P = subst (λ a. OnOk a P) is h in e
-      go (Err e) is = tt
+  ok_too P h = ok_carried answer result P value h
 
   pub err_too : (P : Type 0) → OnErr answer P → OnErr result P
-  err_too P h = go answer result fault h
-    where
-      go : (a : Result (Unit {0}) Error) (r : Result (Unit {0}) KeepFault) → IfErr r (λ f. IsErr a) → OnErr a P → OnErr r P
-      go a (Ok x) is there = tt
-      go (Ok y) (Err e) is there = absurd is
-      go (Err y) (Err e) is there = there
+  err_too P h = err_carried answer result P fault h
 
   -- a crash leaves the state after and no other
   pub alone : (after : State) → IsSound after → HasCleanDisk (st new) → OnOk answer (IsTrue (st new).is_open × LeavesLast (st new)) → OnOk answer (LeavesOnly v1 (st new) after)
