@@ -20,7 +20,7 @@ use Rattle.sqlkeeper.proofs.Keys.{tells_bytes, by_order}
 use Rattle.sqlkeeper.proofs.Uploads.{same_by_order, turned}
 
 -- a map by bytes with one entry set
-get_put : {X : Type 0} (m : FinMap bytes_cmp X) (k : List ℕ) (x : X) (q : List ℕ) → get (insert m k x) q ≡ put same_bytes (get m) k x q
+pub get_put : {X : Type 0} (m : FinMap bytes_cmp X) (k : List ℕ) (x : X) (q : List ℕ) → get (insert m k x) q ≡ put same_bytes (get m) k x q
 get_put m k x q = get-insert bytes_total m k x q ∙ ap (λ b. cond b (Some x) (get m q)) (sym (by_order q k))
 
 -- files with one taken out

@@ -29,6 +29,7 @@ pub mod Commands
 pub mod FileChanges
 pub mod Numbers
 pub mod Taken
+pub mod FirstTables
 pub mod StateViews
 pub mod NotText
 pub mod Stays

@@ -6,7 +6,7 @@ use Rattle.sqlite.specs.State.{State, HasCleanDisk}
 use Rattle.std.specs.List.{AllByRecursion}
 use Rattle.boxes.specs.State.{State as Office}
 use Rattle.sqlite_schema.specs.declared.schema.Schema.{Schema}
-use Rattle.sqlkeeper.specs.Schema.{Version}
+use Rattle.sqlkeeper.specs.Schema.{Version, s0}
 use Rattle.sqlkeeper.specs.Tables.{Tables, TablesMean, tables_of}
 
 -- ---- SQL level: what a transaction sees, which may be no office's tables
@@ -69,3 +69,16 @@ AddsNothing old new = HasCleanDisk new → (trees : Trees) → new.may_leave tre
 -- a crash now may leave what was committed last
 abbrev pub LeavesLast : State → Type 0
 LeavesLast s = s.may_leave s.committed.trees
+
+-- no table is there, and no transaction is pending
+pub record IsBareNow (s : State) : Type 0 where
+  pub schema : s.now.schema ≡ s0
+  pub settled : s.now ≡ s.committed
+
+pub record IsBareKept (s : State) : Type 0 where
+  pub autocommit : s.in_transaction ≡ false
+  pub bare : IsTrue s.is_open → IsBareNow s
+
+-- while the disk has returned what was written, the database is empty
+abbrev pub IsBare : State → Type 0
+IsBare s = HasCleanDisk s → IsBareKept s

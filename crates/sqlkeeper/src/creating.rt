@@ -1,16 +1,17 @@
 //! The tables of a new office, inside a transaction.
 
-ghost use Rattle.std.specs.Prelude.{◌≡◌, OnOk, false};
+ghost use Rattle.std.specs.Prelude.{◌≡◌, IsTrue, OnOk, OnErr, false};
 ghost use Rattle.sqlite.specs.State.{HasCleanDisk, KeepsCommit, Survives};
 ghost use Rattle.sqlite.specs.Held.{state};
+ghost use Rattle.boxes.specs.FirstState.{first_state};
 ghost use Rattle.boxes.specs.declared.rows.Role.TheVariants.{Clerk};
 ghost use Rattle.sqlkeeper.specs.Schema.{v1, s0, s1, s2, s3, s4, s5, s6};
 ghost use Rattle.sqlkeeper.specs.Changes.{no_rows, with_key};
-ghost use Rattle.sqlkeeper.specs.Means.{SeesNothing, Pends, IsRunning};
+ghost use Rattle.sqlkeeper.specs.Means.{SeesNothing, Pends, IsRunning, IsBare, Means, LeavesOnly, AddsOnly, LeavesLast};
 
 use crate::statements::insert_key;
 use boxes::Role;
-use sqlite::{Alter, Error, Transaction, params};
+use sqlite::{Alter, Connection, Error, ErrorCode, Transaction, params};
 
 /// The table of the office itself.
 fn create_office<S: Alter>(tx: &mut Transaction<'_, S>) -> Result<(), Error>
@@ -144,7 +145,7 @@ fn insert_office<S: Alter>(tx: &mut Transaction<'_, S>, east: i16) -> Result<(),
 }
 
 /// The tables of an office that has one key, a clerk's, and nothing else.
-pub fn make_office<S: Alter>(
+fn make_office<S: Alter>(
     tx: &mut Transaction<'_, S>,
     east: i16,
     id: &str,
@@ -161,4 +162,30 @@ pub fn make_office<S: Alter>(
     create_last(tx)?;
     insert_office(tx, east)?;
     insert_key(tx, id, Role::Clerk, secret)
+}
+
+/// Makes an office that begins, in a database without a table, all of it or nothing.
+///
+/// # Errors
+///
+/// Those of the database, a pending transaction among them. The database is then as it was.
+pub(crate) fn create<S: Alter>(
+    conn: &mut Connection<S>,
+    east: i16,
+    id: &str,
+    secret: &[u8],
+) -> Result<(), Error>
+    ensures made { IsBare (state S.Store conn.old) → OnOk result (Means v1 (state S.Store conn.new) (first_state east id.now secret.now)) }
+    ensures kept { IsBare (state S.Store conn.old) → OnErr result (IsBare (state S.Store conn.new)) }
+    ensures durable { IsBare (state S.Store conn.old) → OnOk result (LeavesOnly v1 (state S.Store conn.new) (first_state east id.now secret.now)) }
+    ensures crash { IsBare (state S.Store conn.old) → AddsOnly v1 (state S.Store conn.old) (state S.Store conn.new) (first_state east id.now secret.now) }
+    ensures honest { HasCleanDisk (state S.Store conn.new) → HasCleanDisk (state S.Store conn.old) }
+    ensures opened { HasCleanDisk (state S.Store conn.new) → OnOk result (IsTrue (state S.Store conn.new).is_open × LeavesLast (state S.Store conn.new)) }
+{
+    if !conn.is_autocommit() {
+        return Err(Error::SqliteFailure(ErrorCode::TransactionState));
+    }
+    let mut tx = conn.transaction();
+    make_office(&mut tx, east, id, secret)?;
+    tx.commit()
 }

@@ -1,20 +1,26 @@
 //! The keeper over an office file.
 
-ghost use Rattle.std.specs.Prelude.{◌≡◌, ◌≢◌, ◌↔◌, Ok, IfOk, IfErr, IsErr, IsTrue, ⊤};
+ghost use Rattle.std.specs.Prelude.{◌≡◌, ◌≢◌, ◌↔◌, pos, neg_ℤ, ◌≤ℤ◌, [], Ok, IfOk, IfErr, IsErr, IsTrue, ⊤};
+ghost use Rattle.sigv4.specs.Credential.{IsKeyId, IsSecret};
+ghost use Rattle.boxes.specs.FirstState.{first_state};
 ghost use Rattle.boxes.specs.State.{State};
 ghost use Rattle.boxes.specs.Changes.{IsChangeOf, IsPastFull};
 ghost use Rattle.sigtext.specs.Counts.{CountsErrors};
 ghost use Rattle.sqlite.specs.State.{HasCleanDisk};
 ghost use Rattle.sqlite.specs.Held.{state};
-ghost use Rattle.sqlkeeper.specs.Kept.{KeepsState, MayLeave, LeavesStates};
+ghost use Rattle.sqlkeeper.specs.Means.{IsBare, AddsOnly};
+ghost use Rattle.sqlkeeper.specs.Schema.{v1};
+ghost use Rattle.sqlkeeper.specs.Kept.{KeepsState, MayLeave, LeavesStates, LeavesOne};
 ghost use Rattle.sqlkeeper.specs.OneState.{one_kept};
 
 use crate::asking;
 use crate::changes::apply_change;
+use crate::creating::create;
 use boxes::{BoxRow, Change, FileRow, KeyRow, OfficeRow, ReceiptRow, Totals, law_of_changes};
 use keeper::{KeepFault, Keeper, has_room};
-use sqlite::{Alter, Connection, Error, ErrorCode};
+use sqlite::{Alter, Connection, ErrorCode};
 use std::str;
+use thiserror::Error;
 
 /// Keeps an office in a file, by a connection to it. It counts the calls that fail.
 pub struct SqlKeeper<S: Alter> {
@@ -23,17 +29,41 @@ pub struct SqlKeeper<S: Alter> {
 }
 
 // Why a call of the file failed.
-fn fault_of(error: Error) -> KeepFault
+fn fault_of(error: sqlite::Error) -> KeepFault
     ensures { result ≢ KeepFault.Full }
 {
     match error {
-        Error::SqliteFailure(ErrorCode::OutOfMemory) => KeepFault::Memory,
+        sqlite::Error::SqliteFailure(ErrorCode::OutOfMemory) => KeepFault::Memory,
         _ => KeepFault::Store,
     }
 }
 
+/// Why an office file could not be made or opened.
+#[derive(Clone, Copy, Debug, PartialEq, Eq, Error)]
+pub enum OpenFault {
+    /// A table is there already.
+    #[error("the office file exists already")]
+    Exists,
+    /// A growth was refused.
+    #[error("out of memory")]
+    Memory,
+    /// The store refused.
+    #[error("the store refused")]
+    Store,
+}
+
+// Why an office file could not be made.
+fn open_fault_of(error: sqlite::Error) -> OpenFault
+    ensures { result ≢ OpenFault.Exists }
+{
+    match fault_of(error) {
+        KeepFault::Memory => OpenFault::Memory,
+        _ => OpenFault::Store,
+    }
+}
+
 // What the file answered, where an error is counted.
-fn counted<T>(faults: &mut u64, answer: Result<T, Error>) -> Result<T, KeepFault>
+fn counted<T>(faults: &mut u64, answer: Result<T, sqlite::Error>) -> Result<T, KeepFault>
     ensures value { IfOk result (λ value. answer ≡ Ok value) }
     ensures fault { IfErr result (λ f. IsErr answer) }
     ensures count { CountsErrors faults.old faults.new result }
@@ -55,6 +85,51 @@ fn is_past_full(change: &Change<'_>) -> bool
     match change {
         Change::SetFile(file, _) => !has_room(file.number),
         Change::Desk(_) => false,
+    }
+}
+
+impl<S: Alter> SqlKeeper<S> {
+    /// Makes an office file in a database without a table: an office that begins, with one clerk's key of this id and
+    /// secret. It is made in one transaction.
+    ///
+    /// # Errors
+    ///
+    /// The fault, with the connection as it is. `Exists` comes exactly where a table is there; then nothing was tried.
+    /// After any fault the database is as it was.
+    pub fn create(
+        mut conn: Connection<S>,
+        office: OfficeRow,
+        id: &[u8],
+        secret: &[u8],
+    ) -> Result<SqlKeeper<S>, (OpenFault, Connection<S>)>
+        ensures made { IsBare (state S.Store conn) → neg_ℤ (pos 840) ≤ℤ office.east → office.east ≤ℤ pos 840 → IsKeyId id.now → IsSecret secret.now
+            → IfOk result (λ k. KeepsState (state S.Store k.conn) (first_state office.east id.now secret.now)) }
+        ensures durable { IsBare (state S.Store conn) → neg_ℤ (pos 840) ≤ℤ office.east → office.east ≤ℤ pos 840 → IsKeyId id.now → IsSecret secret.now
+            → IfOk result (λ k. HasCleanDisk (state S.Store k.conn) → LeavesOne (state S.Store k.conn) (first_state office.east id.now secret.now)) }
+        ensures crash { IsBare (state S.Store conn) → IfErr result (λ e. AddsOnly v1 (state S.Store conn) (state S.Store e.1) (first_state office.east id.now secret.now)) }
+        ensures opened { IfOk result (λ k. HasCleanDisk (state S.Store k.conn) → IsTrue (state S.Store k.conn).is_open) }
+        ensures none { IfOk result (λ k. k.faults ≡ 0) }
+        ensures exists { (state S.Store conn).now.schema.tables ≢ [] → IfOk result (λ k. ⊥) }
+        ensures kept { IsBare (state S.Store conn) → IfErr result (λ e. IsBare (state S.Store e.1)) }
+    {
+        if !conn.schema().tables.is_empty() {
+            return Err((OpenFault::Exists, conn));
+        }
+        let Ok(id) = str::from_utf8(id) else {
+            return Err((OpenFault::Store, conn));
+        };
+        match create(&mut conn, office.east, id, secret) {
+            Ok(()) => Ok(SqlKeeper { conn, faults: 0 }),
+            Err(error) => Err((open_fault_of(error), conn)),
+        }
+    }
+
+    /// Gives the connection back as it is.
+    pub fn close(self) -> Connection<S>
+        ensures { result ≡ self.conn }
+    {
+        let SqlKeeper { conn, faults: _ } = self;
+        conn
     }
 }
 

@@ -10,5 +10,4 @@ mod questions;
 mod standing;
 mod statements;
 
-pub use creating::make_office;
-pub use file_keeper::SqlKeeper;
+pub use file_keeper::{OpenFault, SqlKeeper};

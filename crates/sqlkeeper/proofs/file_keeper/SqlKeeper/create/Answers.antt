@@ -1,0 +1,26 @@
+use Rattle.std.proofs.Common.{◌≡◌, subst, w16, to_z, of_z, rules}
+use Rattle.sqlite.specs.Held.{state}
+use Rattle.boxes.specs.FirstState.{first_state}
+use Rattle.boxes.proofs.SoundFirstState.{sound_first_state}
+use Rattle.sqlkeeper.specs.Schema.{v1}
+use Rattle.sqlkeeper.specs.Means.{Means, LeavesOnly}
+use Rattle.sqlkeeper.proofs.Stays.{leaves_one}
+use Rattle.sqlkeeper.proofs.file_keeper.SqlKeeper.create.Goals as goal
+
+pub returns-in-Ok-create-clause-made : goal.returns-in-Ok-create-clause-made
+returns-in-Ok-create-clause-made g c bare west east is_id is_secret =
+    let end = state g.S.Store c.create.new.conn in
+    let same : to_z w16 (of_z w16 c.args.office.east) ≡ c.args.office.east = search rules in
+    let means = subst (λ id. Means v1 end (first_state (to_z w16 (of_z w16 c.args.office.east)) id c.args.secret.now)) c.in-Ok.ensures.cases.0 (c.in-Ok-create.ensures.made bare) in
+    record {
+      means = subst (λ n. Means v1 end (first_state n c.args.id.now c.args.secret.now)) same means;
+      sound = sound_first_state c.args.office.east c.args.id.now c.args.secret.now west east is_id is_secret;
+    }
+
+pub returns-in-Ok-create-clause-durable : goal.returns-in-Ok-create-clause-durable
+returns-in-Ok-create-clause-durable g c bare west east is_id is_secret clean =
+    let end = state g.S.Store c.create.new.conn in
+    let after = first_state c.args.office.east c.args.id.now c.args.secret.now in
+    let same : to_z w16 (of_z w16 c.args.office.east) ≡ c.args.office.east = search rules in
+    let only = subst (λ id. LeavesOnly v1 end (first_state (to_z w16 (of_z w16 c.args.office.east)) id c.args.secret.now)) c.in-Ok.ensures.cases.0 (c.in-Ok-create.ensures.durable bare) in
+    leaves_one end after (sound_first_state c.args.office.east c.args.id.now c.args.secret.now west east is_id is_secret) clean (c.in-Ok-create.ensures.opened clean).1 (subst (λ n. LeavesOnly v1 end (first_state n c.args.id.now c.args.secret.now)) same only)
