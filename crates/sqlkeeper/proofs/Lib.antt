@@ -18,7 +18,8 @@ pub mod TotalRows
 pub mod Building
 pub mod Ordered
 pub mod LastNumber
-pub mod FindKey
+pub mod Asked
+pub mod PointQueries
 pub mod FileRows
 pub mod Uploads
 pub mod Taken

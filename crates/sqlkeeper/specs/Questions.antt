@@ -7,7 +7,8 @@ use Rattle.boxes.specs.State.{Key, Receipt}
 use Rattle.boxes.specs.declared.totals.Totals.{Totals}
 use Rattle.boxes.specs.declared.rows.ReceiptRow.{ReceiptRow}
 use Rattle.boxes.specs.Rows.{receipt_in}
-use Rattle.sqlkeeper.specs.Tables.{Tables, Box, role_number, flag}
+use Rattle.sqlite.specs.State.{State, Shown}
+use Rattle.sqlkeeper.specs.Tables.{Box, role_number, flag}
 
 -- the number of the last of so many receipts, if there is one
 abbrev pub last_rows : ℕ → List Row
@@ -17,10 +18,12 @@ last_rows (suc n) = (Int (pos (suc n)) ∷ []) ∷ []
 abbrev pub shown_key : Key → Row
 shown_key key = Int (role_number key.role) ∷ Blob key.secret ∷ Int (flag key.revoked) ∷ []
 
--- each row that is shown is that of the key, and the key is shown if it is there
-pub record ShowsKey (tables : Tables) (id : List ℕ) (rows : List Row) : Type 0 where
-  pub sound : (row : Row) → Has rows row → (key : Key) × (row ≡ shown_key key) × (tables.key id ≡ Some key)
-  pub complete : (key : Key) → tables.key id ≡ Some key → Has rows (shown_key key)
+-- the last of the rows that the query shows, if it shows one
+pub record ShowsRow (sql : List ℕ) (given : Row) (old new : State) (row : Option Row) : Type 0 where
+  pub rows : List Row
+  pub shown : Shown sql given old new rows
+  pub some : (r : Row) → row ≡ Some r → Has rows r
+  pub none : row ≡ None → rows ≡ []
 
 -- what a box holds, where it is there; else nothing
 abbrev pub AreTotalsOf : Option Box → Totals → Type 0

@@ -4,6 +4,7 @@
 mod changes;
 mod creating;
 mod questions;
+mod reading;
 mod statements;
 
 pub use changes::put_file;
@@ -11,4 +12,4 @@ pub use creating::make_office;
 pub use questions::{
     box_row, clerks, east, file_bytes, file_number, key as key_row, piece, receipt, receipts, totals,
 };
-pub use statements::{delete_file, insert_key, next_number, select_key, update_closes, update_revoked};
+pub use statements::{delete_file, insert_key, next_number, update_closes, update_revoked};

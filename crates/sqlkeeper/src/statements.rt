@@ -8,7 +8,7 @@ ghost use Rattle.sqlkeeper.specs.Schema.{Version, IsVersion};
 ghost use Rattle.sqlkeeper.specs.Tables.{Tables, Box, Part};
 ghost use Rattle.sqlkeeper.specs.Changes.{with_key, closing_at, without_file, with_receipt, with_piece, without_pieces, with_totals, with_box, with_bytes, with_file, NoPieces, AddsPiece};
 ghost use Rattle.sqlkeeper.specs.Means.{Pends, IsRunning};
-ghost use Rattle.sqlkeeper.specs.Questions.{last_rows, ShowsKey};
+ghost use Rattle.sqlkeeper.specs.Questions.{last_rows};
 
 use boxes::Role;
 use sqlite::{Alter, Error, ErrorCode, Row, Transaction, params};
@@ -163,20 +163,6 @@ pub fn next_number<S: Alter>(tx: &mut Transaction<'_, S>) -> Result<u32, Error>
         Some(next) => Ok(next),
         None => Err(Error::SqliteFailure(ErrorCode::TooBig)),
     }
-}
-
-/// The rows of a key: its role, secret and whether it is revoked.
-pub fn select_key<S: Alter>(tx: &mut Transaction<'_, S>, id: &str) -> Result<Vec<Row>, Error>
-    ensures same_reference { tx.new.conn.ghost_name ≡ tx.old.conn.ghost_name }
-    ensures found { (v : Version) (tables : Tables) → IsVersion v → Pends v (state S.Store tx.old.conn.now) tables
-        → IsTrue (state S.Store tx.old.conn.now).in_transaction → HasCleanDisk (state S.Store tx.new.conn.now) → IfOk result (λ rows. ShowsKey tables id.now rows.items) }
-    ensures uncommitted { HasCleanDisk (state S.Store tx.new.conn.now) → IsTrue (state S.Store tx.old.conn.now).in_transaction → KeepsCommit (state S.Store tx.old.conn.now) (state S.Store tx.new.conn.now) }
-    ensures survives { Survives (state S.Store tx.old.conn.now) (state S.Store tx.new.conn.now) (λ _. ⊥) }
-{
-    tx.query_all(
-        "SELECT role, secret, revoked FROM keys WHERE id = ?1",
-        params![id],
-    )
 }
 
 /// A file that stood under no such name, without its pieces.
