@@ -20,6 +20,7 @@ pub mod Ordered
 pub mod LastNumber
 pub mod Asked
 pub mod PointQueries
+pub mod Readings
 pub mod FileRows
 pub mod Uploads
 pub mod Taken
