@@ -1,5 +1,5 @@
 -- What a question by key shows, in general, and that it changes nothing.
-use Rattle.std.proofs.Common.{◌≡◌, inl, inr, ℕ, List, [], ◌∷◌, ◌++◌, length, Option, None, Some, option_map, Bool, true, Result, Ok, Err, IfOk, IsTrue, refl, sym, ap, subst, ◌∙◌}
+use Rattle.std.proofs.Common.{◌≡◌, inl, inr, ℕ, List, [], ◌∷◌, ◌++◌, length, Option, None, Some, option_map, Bool, true, Result, Ok, Err, IfOk, OnOk, IsTrue, refl, sym, ap, subst, ◌∙◌}
 use Rattle.std.specs.Prelude.{option_to_list}
 use Rattle.std.specs.List.{list_all}
 use Rattle.sqlite_value.specs.declared.value.Value.TheVariants.{Null}
@@ -114,3 +114,14 @@ none_there shown (Some v) h = cc
 pub some_there : {V : Type 0} (shown : V → Row) (there : Option V) (row : Row) → Some row ≡ option_map shown there → (v : V) × (row ≡ shown v) × (there ≡ Some v)
 some_there shown None row h = cc
 some_there shown (Some v) row h = (v, (let same : row ≡ shown v = cc in same), refl)
+
+-- ---- a query as it was answered
+
+pub query_stays : {X : Type 0} (rows_of : X → List Row) (v : Version) (tables : Tables) (sql : List ℕ) (params : Row) (old new : State) (r : Result X Error) → IsPlain (understood v.schema sql)
+    → (HasCleanDisk new → HasCleanDisk old) → Pends v old tables → (HasCleanDisk new → IfOk r (λ x. Shown sql params old new (rows_of x))) → OnOk r (Pends v new tables)
+query_stays rows_of v tables sql params old new (Ok x) plain early pends shown = λ clean inside is_open. still_pends v tables sql params old new (rows_of x) plain (early clean) pends (shown clean) inside
+query_stays rows_of v tables sql params old new (Err e) plain early pends shown = tt
+
+pub query_runs : {X : Type 0} (rows_of : X → List Row) (sql : List ℕ) (params : Row) (old new : State) (r : Result X Error) → IsTrue old.in_transaction → IfOk r (λ x. Shown sql params old new (rows_of x)) → OnOk r (IsRunning new)
+query_runs rows_of sql params old new (Ok x) inside shown = still_running sql params old new (rows_of x) inside shown
+query_runs rows_of sql params old new (Err e) inside shown = tt

@@ -15,7 +15,7 @@ ghost use Rattle.boxes.specs.Sound.{AreSettings, IsDigest};
 ghost use Rattle.sqlkeeper.specs.Schema.{Version, IsVersion};
 ghost use Rattle.sqlkeeper.specs.Tables.{Tables, Box, piece_of};
 ghost use Rattle.sqlkeeper.specs.Means.{Pends, IsRunning};
-ghost use Rattle.sqlkeeper.specs.Questions.{ShowsRow, shown_office, shown_key, shown_box, shown_totals, shown_receipt, shown_number, shown_bytes, AreTotalsOf, IsReceiptOf};
+ghost use Rattle.sqlkeeper.specs.Questions.{last_rows, ShowsRow, shown_office, shown_key, shown_box, shown_totals, shown_receipt, shown_number, shown_bytes, AreTotalsOf, IsReceiptOf};
 
 use crate::reading::{read_box, read_key, read_receipt};
 use boxes::{BoxRow, KeyRow, ReceiptRow, Totals};
@@ -326,6 +326,43 @@ pub fn clerks<S: Alter>(tx: &mut Transaction<'_, S>) -> Result<u64, Error>
     ensures survives { Survives (state S.Store tx.old.conn.now) (state S.Store tx.new.conn.now) (λ _. ⊥) }
 {
     Err(Error::SqliteFailure(ErrorCode::TransactionState))
+}
+
+/// The row of the last receipt, which is its number.
+fn select_last<S: Alter>(tx: &mut Transaction<'_, S>) -> Result<Vec<Row>, Error>
+    ensures same_reference { tx.new.conn.ghost_name ≡ tx.old.conn.ghost_name }
+    ensures found { (v : Version) (tables : Tables) (receipts : List Receipt) → IsVersion v → Pends v (state S.Store tx.old.conn.now) tables → tables.receipt ≡ slice_get receipts
+        → IsTrue (state S.Store tx.old.conn.now).in_transaction → HasCleanDisk (state S.Store tx.new.conn.now) → IfOk result (λ rows. rows.items ≡ last_rows (length receipts)) }
+    ensures still { (v : Version) (tables : Tables) → IsVersion v → Pends v (state S.Store tx.old.conn.now) tables → OnOk result (Pends v (state S.Store tx.new.conn.now) tables) }
+    ensures running { HasCleanDisk (state S.Store tx.new.conn.now) → IsTrue (state S.Store tx.old.conn.now).in_transaction → OnOk result (IsRunning (state S.Store tx.new.conn.now)) }
+    ensures uncommitted { HasCleanDisk (state S.Store tx.new.conn.now) → IsTrue (state S.Store tx.old.conn.now).in_transaction → KeepsCommit (state S.Store tx.old.conn.now) (state S.Store tx.new.conn.now) }
+    ensures survives { Survives (state S.Store tx.old.conn.now) (state S.Store tx.new.conn.now) (λ _. ⊥) }
+{
+    tx.query_all(
+        "SELECT number FROM receipts ORDER BY number DESC LIMIT 1",
+        &[],
+    )
+}
+
+/// The number that the next receipt gets.
+pub fn next_number<S: Alter>(tx: &mut Transaction<'_, S>) -> Result<u32, Error>
+    ensures same_reference { tx.new.conn.ghost_name ≡ tx.old.conn.ghost_name }
+    ensures found { (v : Version) (tables : Tables) (receipts : List Receipt) → IsVersion v → Pends v (state S.Store tx.old.conn.now) tables → tables.receipt ≡ slice_get receipts
+        → IsTrue (state S.Store tx.old.conn.now).in_transaction → HasCleanDisk (state S.Store tx.new.conn.now) → IfOk result (λ number. number ≡ length receipts + 1) }
+    ensures still { (v : Version) (tables : Tables) → IsVersion v → Pends v (state S.Store tx.old.conn.now) tables → OnOk result (Pends v (state S.Store tx.new.conn.now) tables) }
+    ensures running { HasCleanDisk (state S.Store tx.new.conn.now) → IsTrue (state S.Store tx.old.conn.now).in_transaction → OnOk result (IsRunning (state S.Store tx.new.conn.now)) }
+    ensures uncommitted { HasCleanDisk (state S.Store tx.new.conn.now) → IsTrue (state S.Store tx.old.conn.now).in_transaction → KeepsCommit (state S.Store tx.old.conn.now) (state S.Store tx.new.conn.now) }
+    ensures survives { Survives (state S.Store tx.old.conn.now) (state S.Store tx.new.conn.now) (λ _. ⊥) }
+{
+    let rows = select_last(tx)?;
+    let Some(row) = rows.first() else {
+        return Ok(1);
+    };
+    let last: u32 = row.get(0)?;
+    match last.checked_add(1) {
+        Some(next) => Ok(next),
+        None => Err(Error::SqliteFailure(ErrorCode::TooBig)),
+    }
 }
 
 /// The receipts numbered `from` or more, ascending, at most `most`. Their digests are to have 32 bytes.

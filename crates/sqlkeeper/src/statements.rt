@@ -1,6 +1,6 @@
 //! One statement each, inside a transaction.
 
-ghost use Rattle.std.specs.Prelude.{◌≡◌, ◌≤◌, ◌+◌, ℕ, List, length, pos, slice_get, None, Some, true, false, IsTrue, OnOk, IfOk};
+ghost use Rattle.std.specs.Prelude.{◌≡◌, ◌≤◌, ◌+◌, ℕ, List, length, pos, None, Some, true, false, OnOk};
 ghost use Rattle.sqlite.specs.State.{HasCleanDisk, KeepsCommit, Survives};
 ghost use Rattle.sqlite.specs.Held.{state};
 ghost use Rattle.boxes.specs.State.{Key, Place, Receipt};
@@ -8,10 +8,9 @@ ghost use Rattle.sqlkeeper.specs.Schema.{Version, IsVersion};
 ghost use Rattle.sqlkeeper.specs.Tables.{Tables, Box, Part};
 ghost use Rattle.sqlkeeper.specs.Changes.{with_key, closing_at, without_file, with_receipt, with_piece, without_pieces, with_totals, with_box, with_bytes, with_file, NoPieces, AddsPiece};
 ghost use Rattle.sqlkeeper.specs.Means.{Pends, IsRunning};
-ghost use Rattle.sqlkeeper.specs.Questions.{last_rows};
 
 use boxes::Role;
-use sqlite::{Alter, Error, ErrorCode, Row, Transaction, params};
+use sqlite::{Alter, Error, Transaction, params};
 
 /// The most bytes of a piece.
 const PIECE: usize = 65536;
@@ -131,38 +130,6 @@ pub fn insert_pieces<S: Alter>(
         part += 1;
     }
     Ok(())
-}
-
-fn select_last<S: Alter>(tx: &mut Transaction<'_, S>) -> Result<Vec<Row>, Error>
-    ensures same_reference { tx.new.conn.ghost_name ≡ tx.old.conn.ghost_name }
-    ensures found { (v : Version) (tables : Tables) (receipts : List Receipt) → IsVersion v → Pends v (state S.Store tx.old.conn.now) tables → tables.receipt ≡ slice_get receipts
-        → IsTrue (state S.Store tx.old.conn.now).in_transaction → HasCleanDisk (state S.Store tx.new.conn.now) → IfOk result (λ rows. rows.items ≡ last_rows (length receipts)) }
-    ensures uncommitted { HasCleanDisk (state S.Store tx.new.conn.now) → IsTrue (state S.Store tx.old.conn.now).in_transaction → KeepsCommit (state S.Store tx.old.conn.now) (state S.Store tx.new.conn.now) }
-    ensures survives { Survives (state S.Store tx.old.conn.now) (state S.Store tx.new.conn.now) (λ _. ⊥) }
-{
-    tx.query_all(
-        "SELECT number FROM receipts ORDER BY number DESC LIMIT 1",
-        &[],
-    )
-}
-
-/// The number that the next receipt gets.
-pub fn next_number<S: Alter>(tx: &mut Transaction<'_, S>) -> Result<u32, Error>
-    ensures same_reference { tx.new.conn.ghost_name ≡ tx.old.conn.ghost_name }
-    ensures found { (v : Version) (tables : Tables) (receipts : List Receipt) → IsVersion v → Pends v (state S.Store tx.old.conn.now) tables → tables.receipt ≡ slice_get receipts
-        → IsTrue (state S.Store tx.old.conn.now).in_transaction → HasCleanDisk (state S.Store tx.new.conn.now) → IfOk result (λ number. number ≡ length receipts + 1) }
-    ensures uncommitted { HasCleanDisk (state S.Store tx.new.conn.now) → IsTrue (state S.Store tx.old.conn.now).in_transaction → KeepsCommit (state S.Store tx.old.conn.now) (state S.Store tx.new.conn.now) }
-    ensures survives { Survives (state S.Store tx.old.conn.now) (state S.Store tx.new.conn.now) (λ _. ⊥) }
-{
-    let rows = select_last(tx)?;
-    let Some(row) = rows.first() else {
-        return Ok(1);
-    };
-    let last: u32 = row.get(0)?;
-    match last.checked_add(1) {
-        Some(next) => Ok(next),
-        None => Err(Error::SqliteFailure(ErrorCode::TooBig)),
-    }
 }
 
 /// A file that stood under no such name, without its pieces.
