@@ -18,7 +18,9 @@ pub mod TotalRows
 pub mod Building
 pub mod Ordered
 pub mod LastNumber
-pub mod FindKey
+pub mod Asked
+pub mod PointQueries
+pub mod Readings
 pub mod FileRows
 pub mod KeyRows
 pub mod ClosingRows

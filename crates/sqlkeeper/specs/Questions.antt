@@ -1,13 +1,14 @@
 -- What questions show.
-use Rattle.std.specs.Prelude.{◌≡◌, ℕ, suc, zero, pos, List, [], ◌∷◌, Option, Some, None, option_map}
-use Rattle.sqlite_value.specs.declared.value.Value.TheVariants.{Int, Blob}
+use Rattle.std.specs.Prelude.{◌≡◌, ℕ, ℤ, suc, zero, pos, List, [], ◌∷◌, Option, Some, None, option_map}
+use Rattle.sqlite_value.specs.declared.value.Value.TheVariants.{Int, Text, Blob}
 use Rattle.sqlite_value.specs.Order.{Row}
 use Rattle.sqlite_rules.specs.Lists.{Has}
 use Rattle.boxes.specs.State.{Key, Receipt}
 use Rattle.boxes.specs.declared.totals.Totals.{Totals}
 use Rattle.boxes.specs.declared.rows.ReceiptRow.{ReceiptRow}
 use Rattle.boxes.specs.Rows.{receipt_in}
-use Rattle.sqlkeeper.specs.Tables.{Tables, Box, role_number, flag}
+use Rattle.sqlite.specs.State.{State, Shown}
+use Rattle.sqlkeeper.specs.Tables.{Box, role_number, flag, days_text, mode_number, rule_number, rule_text}
 
 -- the number of the last of so many receipts, if there is one
 abbrev pub last_rows : ℕ → List Row
@@ -17,10 +18,32 @@ last_rows (suc n) = (Int (pos (suc n)) ∷ []) ∷ []
 abbrev pub shown_key : Key → Row
 shown_key key = Int (role_number key.role) ∷ Blob key.secret ∷ Int (flag key.revoked) ∷ []
 
--- each row that is shown is that of the key, and the key is shown if it is there
-pub record ShowsKey (tables : Tables) (id : List ℕ) (rows : List Row) : Type 0 where
-  pub sound : (row : Row) → Has rows row → (key : Key) × (row ≡ shown_key key) × (tables.key id ≡ Some key)
-  pub complete : (key : Key) → tables.key id ≡ Some key → Has rows (shown_key key)
+abbrev pub shown_office : ℤ → ℤ → Row
+shown_office version offset = Int version ∷ Int offset ∷ []
+
+abbrev pub shown_box : Box → Row
+shown_box b =
+    Int (pos b.settings.opens) ∷ Int (pos b.settings.closes) ∷ Text (days_text b.settings.days) ∷ Int (pos b.settings.from_minute) ∷ Int (pos b.settings.to_minute) ∷ Int (pos b.settings.quota)
+    ∷ Int (pos b.settings.max_files) ∷ Int (mode_number b.settings.mode) ∷ Int (rule_number b.settings.rule) ∷ Text (rule_text b.settings.rule) ∷ Int (pos b.used) ∷ Int (pos b.count) ∷ []
+
+abbrev pub shown_totals : Box → Row
+shown_totals b = Int (pos b.used) ∷ Int (pos b.count) ∷ []
+
+abbrev pub shown_receipt : Receipt → Row
+shown_receipt r = Text r.box ∷ Text r.name ∷ Int (pos r.size) ∷ Blob r.digest ∷ Int (pos r.moment) ∷ Text r.key ∷ []
+
+abbrev pub shown_number : ℕ → Row
+shown_number n = Int (pos n) ∷ []
+
+abbrev pub shown_bytes : List ℕ → Row
+shown_bytes bytes = Blob bytes ∷ []
+
+-- the last of the rows that the query shows, if it shows one
+pub record ShowsRow (sql : List ℕ) (given : Row) (old new : State) (row : Option Row) : Type 0 where
+  pub rows : List Row
+  pub shown : Shown sql given old new rows
+  pub some : (r : Row) → row ≡ Some r → Has rows r
+  pub none : row ≡ None → rows ≡ []
 
 -- what a box holds, where it is there; else nothing
 abbrev pub AreTotalsOf : Option Box → Totals → Type 0

@@ -12,7 +12,7 @@ ghost use Rattle.boxes.specs.Sound.{IsSound};
 ghost use Rattle.sqlkeeper.specs.Schema.{Version, IsVersion};
 ghost use Rattle.sqlkeeper.specs.Means.{Means};
 
-use crate::{questions, standing, statements};
+use crate::{questions, standing};
 use boxes::{BoxRow, FileRow, KeyRow, OfficeRow, ReceiptRow, Totals};
 use sqlite::{Alter, Connection, Error, ErrorCode};
 
@@ -105,7 +105,7 @@ pub(crate) fn next_number<S: Alter>(conn: &mut Connection<S>) -> Result<u64, Err
         return Err(Error::SqliteFailure(ErrorCode::TransactionState));
     }
     let mut tx = conn.transaction();
-    let number = statements::next_number(&mut tx)?;
+    let number = questions::next_number(&mut tx)?;
     Ok(u64::from(number))
 }
 

@@ -7,6 +7,7 @@ mod changes;
 mod creating;
 mod file_keeper;
 mod questions;
+mod reading;
 mod standing;
 mod statements;
 

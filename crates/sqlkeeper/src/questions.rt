@@ -5,6 +5,9 @@ ghost use Rattle.std.specs.FinMap.{get};
 ghost use Rattle.std.specs.List.{AllByRecursion};
 ghost use Rattle.sqlite.specs.State.{HasCleanDisk, KeepsCommit, Survives};
 ghost use Rattle.sqlite.specs.Held.{state};
+ghost use Rattle.sqlite.specs.Values.{bound};
+ghost use Rattle.sqlite.specs.Given.{IsPlain};
+ghost use Rattle.sqlite.specs.Listing.{understood};
 ghost use Rattle.boxes.specs.State.{Receipt, State};
 ghost use Rattle.boxes.specs.Rows.{key_of, settings_of, receipt_in, numbered, numbered_receipt};
 ghost use Rattle.boxes.specs.Clerks.{clerks};
@@ -12,13 +15,159 @@ ghost use Rattle.boxes.specs.Sound.{AreSettings, IsDigest};
 ghost use Rattle.sqlkeeper.specs.Schema.{Version, IsVersion};
 ghost use Rattle.sqlkeeper.specs.Tables.{Tables, Box, piece_of};
 ghost use Rattle.sqlkeeper.specs.Means.{Pends, IsRunning};
-ghost use Rattle.sqlkeeper.specs.Questions.{AreTotalsOf, IsReceiptOf};
+ghost use Rattle.sqlkeeper.specs.Questions.{last_rows, ShowsRow, shown_office, shown_key, shown_box, shown_totals, shown_receipt, shown_number, shown_bytes, AreTotalsOf, IsReceiptOf};
 
+use crate::reading::{read_box, read_key, read_receipt};
 use boxes::{BoxRow, KeyRow, ReceiptRow, Totals};
-use sqlite::{Alter, Error, ErrorCode, Transaction};
+use sqlite::types::ValueRef;
+use sqlite::{Alter, Error, ErrorCode, Row, Transaction, params};
+
+/// The last of the rows that a query of the office's own tables shows, if it shows one.
+fn select_row<S: Alter>(
+    tx: &mut Transaction<'_, S>,
+    sql: &str,
+    params: &[ValueRef<'_>],
+) -> Result<Option<Row>, Error>
+    ensures same_reference { tx.new.conn.ghost_name ≡ tx.old.conn.ghost_name }
+    ensures shown { HasCleanDisk (state S.Store tx.new.conn.now) → IfOk result (ShowsRow sql.now (bound params.now) (state S.Store tx.old.conn.now) (state S.Store tx.new.conn.now)) }
+    ensures still { (v : Version) (tables : Tables) → IsPlain (understood v.schema sql.now) → Pends v (state S.Store tx.old.conn.now) tables → OnOk result (Pends v (state S.Store tx.new.conn.now) tables) }
+    ensures running { HasCleanDisk (state S.Store tx.new.conn.now) → IsTrue (state S.Store tx.old.conn.now).in_transaction → OnOk result (IsRunning (state S.Store tx.new.conn.now)) }
+    ensures uncommitted { HasCleanDisk (state S.Store tx.new.conn.now) → IsTrue (state S.Store tx.old.conn.now).in_transaction → KeepsCommit (state S.Store tx.old.conn.now) (state S.Store tx.new.conn.now) }
+    ensures survives { Survives (state S.Store tx.old.conn.now) (state S.Store tx.new.conn.now) (λ _. ⊥) }
+{
+    let mut rows = tx.query_all(sql, params)?;
+    Ok(rows.pop())
+}
+
+/// The row of a key: its role, secret and whether it is revoked.
+fn select_key<S: Alter>(tx: &mut Transaction<'_, S>, id: &str) -> Result<Option<Row>, Error>
+    ensures same_reference { tx.new.conn.ghost_name ≡ tx.old.conn.ghost_name }
+    ensures found { (v : Version) (tables : Tables) → IsVersion v → Pends v (state S.Store tx.old.conn.now) tables
+        → IsTrue (state S.Store tx.old.conn.now).in_transaction → HasCleanDisk (state S.Store tx.new.conn.now) → IfOk result (λ row. row ≡ option_map shown_key (tables.key id.now)) }
+    ensures still { (v : Version) (tables : Tables) → IsVersion v → Pends v (state S.Store tx.old.conn.now) tables → OnOk result (Pends v (state S.Store tx.new.conn.now) tables) }
+    ensures running { HasCleanDisk (state S.Store tx.new.conn.now) → IsTrue (state S.Store tx.old.conn.now).in_transaction → OnOk result (IsRunning (state S.Store tx.new.conn.now)) }
+    ensures uncommitted { HasCleanDisk (state S.Store tx.new.conn.now) → IsTrue (state S.Store tx.old.conn.now).in_transaction → KeepsCommit (state S.Store tx.old.conn.now) (state S.Store tx.new.conn.now) }
+    ensures survives { Survives (state S.Store tx.old.conn.now) (state S.Store tx.new.conn.now) (λ _. ⊥) }
+{
+    select_row(
+        tx,
+        "SELECT role, secret, revoked FROM keys WHERE id = ?1",
+        params![id],
+    )
+}
+
+/// The office's own row: its version and its offset.
+fn select_office<S: Alter>(tx: &mut Transaction<'_, S>) -> Result<Option<Row>, Error>
+    ensures same_reference { tx.new.conn.ghost_name ≡ tx.old.conn.ghost_name }
+    ensures found { (v : Version) (tables : Tables) → IsVersion v → Pends v (state S.Store tx.old.conn.now) tables
+        → IsTrue (state S.Store tx.old.conn.now).in_transaction → HasCleanDisk (state S.Store tx.new.conn.now) → IfOk result (λ row. row ≡ Some (shown_office v.number tables.offset)) }
+    ensures still { (v : Version) (tables : Tables) → IsVersion v → Pends v (state S.Store tx.old.conn.now) tables → OnOk result (Pends v (state S.Store tx.new.conn.now) tables) }
+    ensures running { HasCleanDisk (state S.Store tx.new.conn.now) → IsTrue (state S.Store tx.old.conn.now).in_transaction → OnOk result (IsRunning (state S.Store tx.new.conn.now)) }
+    ensures uncommitted { HasCleanDisk (state S.Store tx.new.conn.now) → IsTrue (state S.Store tx.old.conn.now).in_transaction → KeepsCommit (state S.Store tx.old.conn.now) (state S.Store tx.new.conn.now) }
+    ensures survives { Survives (state S.Store tx.old.conn.now) (state S.Store tx.new.conn.now) (λ _. ⊥) }
+{
+    select_row(tx, "SELECT version, east FROM office", &[])
+}
+
+/// The row of a box, without its name.
+fn select_box<S: Alter>(tx: &mut Transaction<'_, S>, name: &str) -> Result<Option<Row>, Error>
+    ensures same_reference { tx.new.conn.ghost_name ≡ tx.old.conn.ghost_name }
+    ensures found { (v : Version) (tables : Tables) → IsVersion v → Pends v (state S.Store tx.old.conn.now) tables
+        → IsTrue (state S.Store tx.old.conn.now).in_transaction → HasCleanDisk (state S.Store tx.new.conn.now) → IfOk result (λ row. row ≡ option_map shown_box (tables.box name.now)) }
+    ensures still { (v : Version) (tables : Tables) → IsVersion v → Pends v (state S.Store tx.old.conn.now) tables → OnOk result (Pends v (state S.Store tx.new.conn.now) tables) }
+    ensures running { HasCleanDisk (state S.Store tx.new.conn.now) → IsTrue (state S.Store tx.old.conn.now).in_transaction → OnOk result (IsRunning (state S.Store tx.new.conn.now)) }
+    ensures uncommitted { HasCleanDisk (state S.Store tx.new.conn.now) → IsTrue (state S.Store tx.old.conn.now).in_transaction → KeepsCommit (state S.Store tx.old.conn.now) (state S.Store tx.new.conn.now) }
+    ensures survives { Survives (state S.Store tx.old.conn.now) (state S.Store tx.new.conn.now) (λ _. ⊥) }
+{
+    select_row(
+        tx,
+        "SELECT opens, closes, days, from_minute, to_minute, quota, max_files, mode, rule_kind, rule_text, used, count FROM boxes WHERE name = ?1",
+        params![name],
+    )
+}
+
+/// The totals in the row of a box.
+fn select_totals<S: Alter>(tx: &mut Transaction<'_, S>, name: &str) -> Result<Option<Row>, Error>
+    ensures same_reference { tx.new.conn.ghost_name ≡ tx.old.conn.ghost_name }
+    ensures found { (v : Version) (tables : Tables) → IsVersion v → Pends v (state S.Store tx.old.conn.now) tables
+        → IsTrue (state S.Store tx.old.conn.now).in_transaction → HasCleanDisk (state S.Store tx.new.conn.now) → IfOk result (λ row. row ≡ option_map shown_totals (tables.box name.now)) }
+    ensures still { (v : Version) (tables : Tables) → IsVersion v → Pends v (state S.Store tx.old.conn.now) tables → OnOk result (Pends v (state S.Store tx.new.conn.now) tables) }
+    ensures running { HasCleanDisk (state S.Store tx.new.conn.now) → IsTrue (state S.Store tx.old.conn.now).in_transaction → OnOk result (IsRunning (state S.Store tx.new.conn.now)) }
+    ensures uncommitted { HasCleanDisk (state S.Store tx.new.conn.now) → IsTrue (state S.Store tx.old.conn.now).in_transaction → KeepsCommit (state S.Store tx.old.conn.now) (state S.Store tx.new.conn.now) }
+    ensures survives { Survives (state S.Store tx.old.conn.now) (state S.Store tx.new.conn.now) (λ _. ⊥) }
+{
+    select_row(
+        tx,
+        "SELECT used, count FROM boxes WHERE name = ?1",
+        params![name],
+    )
+}
+
+/// The number in the row of a file.
+fn select_file<S: Alter>(
+    tx: &mut Transaction<'_, S>,
+    in_box: &str,
+    name: &str,
+) -> Result<Option<Row>, Error>
+    ensures same_reference { tx.new.conn.ghost_name ≡ tx.old.conn.ghost_name }
+    ensures found { (v : Version) (tables : Tables) → IsVersion v → Pends v (state S.Store tx.old.conn.now) tables
+        → IsTrue (state S.Store tx.old.conn.now).in_transaction → HasCleanDisk (state S.Store tx.new.conn.now) → IfOk result (λ row. row ≡ option_map shown_number (tables.file (record { box = in_box.now; name = name.now }))) }
+    ensures still { (v : Version) (tables : Tables) → IsVersion v → Pends v (state S.Store tx.old.conn.now) tables → OnOk result (Pends v (state S.Store tx.new.conn.now) tables) }
+    ensures running { HasCleanDisk (state S.Store tx.new.conn.now) → IsTrue (state S.Store tx.old.conn.now).in_transaction → OnOk result (IsRunning (state S.Store tx.new.conn.now)) }
+    ensures uncommitted { HasCleanDisk (state S.Store tx.new.conn.now) → IsTrue (state S.Store tx.old.conn.now).in_transaction → KeepsCommit (state S.Store tx.old.conn.now) (state S.Store tx.new.conn.now) }
+    ensures survives { Survives (state S.Store tx.old.conn.now) (state S.Store tx.new.conn.now) (λ _. ⊥) }
+{
+    select_row(
+        tx,
+        "SELECT receipt FROM files WHERE box = ?1 AND name = ?2",
+        params![in_box, name],
+    )
+}
+
+/// The row of a receipt, without its number.
+fn select_receipt<S: Alter>(tx: &mut Transaction<'_, S>, number: u64) -> Result<Option<Row>, Error>
+    ensures same_reference { tx.new.conn.ghost_name ≡ tx.old.conn.ghost_name }
+    ensures found { (v : Version) (tables : Tables) (at : ℕ) → IsVersion v → Pends v (state S.Store tx.old.conn.now) tables → number ≡ at + 1
+        → IsTrue (state S.Store tx.old.conn.now).in_transaction → HasCleanDisk (state S.Store tx.new.conn.now) → IfOk result (λ row. row ≡ option_map shown_receipt (tables.receipt at)) }
+    ensures still { (v : Version) (tables : Tables) → IsVersion v → Pends v (state S.Store tx.old.conn.now) tables → OnOk result (Pends v (state S.Store tx.new.conn.now) tables) }
+    ensures running { HasCleanDisk (state S.Store tx.new.conn.now) → IsTrue (state S.Store tx.old.conn.now).in_transaction → OnOk result (IsRunning (state S.Store tx.new.conn.now)) }
+    ensures uncommitted { HasCleanDisk (state S.Store tx.new.conn.now) → IsTrue (state S.Store tx.old.conn.now).in_transaction → KeepsCommit (state S.Store tx.old.conn.now) (state S.Store tx.new.conn.now) }
+    ensures survives { Survives (state S.Store tx.old.conn.now) (state S.Store tx.new.conn.now) (λ _. ⊥) }
+{
+    let Ok(number) = i64::try_from(number) else {
+        return Err(Error::SqliteFailure(ErrorCode::TooBig));
+    };
+    select_row(
+        tx,
+        "SELECT box, name, length, digest, moment, key_id FROM receipts WHERE number = ?1",
+        params![number],
+    )
+}
+
+/// The bytes in the row of a piece.
+fn select_piece<S: Alter>(
+    tx: &mut Transaction<'_, S>,
+    in_box: &str,
+    name: &str,
+    part: u32,
+) -> Result<Option<Row>, Error>
+    ensures same_reference { tx.new.conn.ghost_name ≡ tx.old.conn.ghost_name }
+    ensures found { (v : Version) (tables : Tables) → IsVersion v → Pends v (state S.Store tx.old.conn.now) tables
+        → IsTrue (state S.Store tx.old.conn.now).in_transaction → HasCleanDisk (state S.Store tx.new.conn.now) → IfOk result (λ row. row ≡ option_map shown_bytes (tables.piece (record { place = record { box = in_box.now; name = name.now }; at = part }))) }
+    ensures still { (v : Version) (tables : Tables) → IsVersion v → Pends v (state S.Store tx.old.conn.now) tables → OnOk result (Pends v (state S.Store tx.new.conn.now) tables) }
+    ensures running { HasCleanDisk (state S.Store tx.new.conn.now) → IsTrue (state S.Store tx.old.conn.now).in_transaction → OnOk result (IsRunning (state S.Store tx.new.conn.now)) }
+    ensures uncommitted { HasCleanDisk (state S.Store tx.new.conn.now) → IsTrue (state S.Store tx.old.conn.now).in_transaction → KeepsCommit (state S.Store tx.old.conn.now) (state S.Store tx.new.conn.now) }
+    ensures survives { Survives (state S.Store tx.old.conn.now) (state S.Store tx.new.conn.now) (λ _. ⊥) }
+{
+    select_row(
+        tx,
+        "SELECT bytes FROM pieces WHERE box = ?1 AND name = ?2 AND part = ?3",
+        params![in_box, name, part],
+    )
+}
 
 /// The offset of the office's clock east of UTC, in minutes.
-pub fn east<S: Alter>(tx: &mut Transaction<'_, S>) -> Result<i16, Error>
+pub(crate) fn east<S: Alter>(tx: &mut Transaction<'_, S>) -> Result<i16, Error>
     ensures same_reference { tx.new.conn.ghost_name ≡ tx.old.conn.ghost_name }
     ensures found { (v : Version) (tables : Tables) → IsVersion v → Pends v (state S.Store tx.old.conn.now) tables
         → IsTrue (state S.Store tx.old.conn.now).in_transaction → HasCleanDisk (state S.Store tx.new.conn.now) → IfOk result (λ east. east ≡ tables.offset) }
@@ -27,11 +176,17 @@ pub fn east<S: Alter>(tx: &mut Transaction<'_, S>) -> Result<i16, Error>
     ensures uncommitted { HasCleanDisk (state S.Store tx.new.conn.now) → IsTrue (state S.Store tx.old.conn.now).in_transaction → KeepsCommit (state S.Store tx.old.conn.now) (state S.Store tx.new.conn.now) }
     ensures survives { Survives (state S.Store tx.old.conn.now) (state S.Store tx.new.conn.now) (λ _. ⊥) }
 {
-    Err(Error::SqliteFailure(ErrorCode::TransactionState))
+    let Some(row) = select_office(tx)? else {
+        return Err(Error::QueryReturnedNoRows);
+    };
+    match i16::try_from(row.get::<i64>(1)?) {
+        Ok(east) => Ok(east),
+        Err(_) => Err(Error::IntegralValueOutOfRange(1)),
+    }
 }
 
 /// The key of this id.
-pub fn key<S: Alter>(tx: &mut Transaction<'_, S>, id: &str) -> Result<Option<KeyRow>, Error>
+pub(crate) fn key<S: Alter>(tx: &mut Transaction<'_, S>, id: &str) -> Result<Option<KeyRow>, Error>
     ensures same_reference { tx.new.conn.ghost_name ≡ tx.old.conn.ghost_name }
     ensures found { (v : Version) (tables : Tables) → IsVersion v → Pends v (state S.Store tx.old.conn.now) tables
         → IsTrue (state S.Store tx.old.conn.now).in_transaction → HasCleanDisk (state S.Store tx.new.conn.now) → IfOk result (λ key. option_map key_of key ≡ tables.key id.now) }
@@ -40,11 +195,14 @@ pub fn key<S: Alter>(tx: &mut Transaction<'_, S>, id: &str) -> Result<Option<Key
     ensures uncommitted { HasCleanDisk (state S.Store tx.new.conn.now) → IsTrue (state S.Store tx.old.conn.now).in_transaction → KeepsCommit (state S.Store tx.old.conn.now) (state S.Store tx.new.conn.now) }
     ensures survives { Survives (state S.Store tx.old.conn.now) (state S.Store tx.new.conn.now) (λ _. ⊥) }
 {
-    Err(Error::SqliteFailure(ErrorCode::TransactionState))
+    let Some(row) = select_key(tx, id)? else {
+        return Ok(None);
+    };
+    Ok(Some(read_key(&row)?))
 }
 
 /// The box of this name. Its settings are to be those of a sound state.
-pub fn box_row<S: Alter>(tx: &mut Transaction<'_, S>, name: &str) -> Result<Option<BoxRow>, Error>
+pub(crate) fn box_row<S: Alter>(tx: &mut Transaction<'_, S>, name: &str) -> Result<Option<BoxRow>, Error>
     ensures same_reference { tx.new.conn.ghost_name ≡ tx.old.conn.ghost_name }
     ensures found { (v : Version) (tables : Tables) → IsVersion v → Pends v (state S.Store tx.old.conn.now) tables → ((b : Box) → tables.box name.now ≡ Some b → AreSettings b.settings)
         → IsTrue (state S.Store tx.old.conn.now).in_transaction → HasCleanDisk (state S.Store tx.new.conn.now) → IfOk result (λ row. option_map settings_of row ≡ option_map (λ b. b.settings) (tables.box name.now)) }
@@ -53,11 +211,14 @@ pub fn box_row<S: Alter>(tx: &mut Transaction<'_, S>, name: &str) -> Result<Opti
     ensures uncommitted { HasCleanDisk (state S.Store tx.new.conn.now) → IsTrue (state S.Store tx.old.conn.now).in_transaction → KeepsCommit (state S.Store tx.old.conn.now) (state S.Store tx.new.conn.now) }
     ensures survives { Survives (state S.Store tx.old.conn.now) (state S.Store tx.new.conn.now) (λ _. ⊥) }
 {
-    Err(Error::SqliteFailure(ErrorCode::TransactionState))
+    let Some(row) = select_box(tx, name)? else {
+        return Ok(None);
+    };
+    Ok(Some(read_box(&row)?))
 }
 
 /// What the box of this name holds; nothing, where it is not there.
-pub fn totals<S: Alter>(tx: &mut Transaction<'_, S>, name: &str) -> Result<Totals, Error>
+pub(crate) fn totals<S: Alter>(tx: &mut Transaction<'_, S>, name: &str) -> Result<Totals, Error>
     ensures same_reference { tx.new.conn.ghost_name ≡ tx.old.conn.ghost_name }
     ensures found { (v : Version) (tables : Tables) → IsVersion v → Pends v (state S.Store tx.old.conn.now) tables
         → IsTrue (state S.Store tx.old.conn.now).in_transaction → HasCleanDisk (state S.Store tx.new.conn.now) → IfOk result (AreTotalsOf (tables.box name.now)) }
@@ -66,11 +227,21 @@ pub fn totals<S: Alter>(tx: &mut Transaction<'_, S>, name: &str) -> Result<Total
     ensures uncommitted { HasCleanDisk (state S.Store tx.new.conn.now) → IsTrue (state S.Store tx.old.conn.now).in_transaction → KeepsCommit (state S.Store tx.old.conn.now) (state S.Store tx.new.conn.now) }
     ensures survives { Survives (state S.Store tx.old.conn.now) (state S.Store tx.new.conn.now) (λ _. ⊥) }
 {
-    Err(Error::SqliteFailure(ErrorCode::TransactionState))
+    let Some(row) = select_totals(tx, name)? else {
+        return Ok(Totals { used: 0, count: 0 });
+    };
+    Ok(Totals {
+        used: row.get(0)?,
+        count: row.get(1)?,
+    })
 }
 
 /// The number of the receipt of the file of this box and name.
-pub fn file_number<S: Alter>(tx: &mut Transaction<'_, S>, in_box: &str, name: &str) -> Result<Option<u64>, Error>
+pub(crate) fn file_number<S: Alter>(
+    tx: &mut Transaction<'_, S>,
+    in_box: &str,
+    name: &str,
+) -> Result<Option<u64>, Error>
     ensures same_reference { tx.new.conn.ghost_name ≡ tx.old.conn.ghost_name }
     ensures found { (v : Version) (tables : Tables) → IsVersion v → Pends v (state S.Store tx.old.conn.now) tables
         → IsTrue (state S.Store tx.old.conn.now).in_transaction → HasCleanDisk (state S.Store tx.new.conn.now) → IfOk result (λ number. number ≡ tables.file (record { box = in_box.now; name = name.now })) }
@@ -79,11 +250,17 @@ pub fn file_number<S: Alter>(tx: &mut Transaction<'_, S>, in_box: &str, name: &s
     ensures uncommitted { HasCleanDisk (state S.Store tx.new.conn.now) → IsTrue (state S.Store tx.old.conn.now).in_transaction → KeepsCommit (state S.Store tx.old.conn.now) (state S.Store tx.new.conn.now) }
     ensures survives { Survives (state S.Store tx.old.conn.now) (state S.Store tx.new.conn.now) (λ _. ⊥) }
 {
-    Err(Error::SqliteFailure(ErrorCode::TransactionState))
+    let Some(row) = select_file(tx, in_box, name)? else {
+        return Ok(None);
+    };
+    Ok(Some(row.get(0)?))
 }
 
 /// The receipt of this number. Its digest is to have 32 bytes.
-pub fn receipt<S: Alter>(tx: &mut Transaction<'_, S>, number: u64) -> Result<Option<ReceiptRow>, Error>
+pub(crate) fn receipt<S: Alter>(
+    tx: &mut Transaction<'_, S>,
+    number: u64,
+) -> Result<Option<ReceiptRow>, Error>
     ensures same_reference { tx.new.conn.ghost_name ≡ tx.old.conn.ghost_name }
     ensures found { (v : Version) (tables : Tables) (at : ℕ) → IsVersion v → Pends v (state S.Store tx.old.conn.now) tables → number ≡ at + 1 → ((r : Receipt) → tables.receipt at ≡ Some r → IsDigest r.digest)
         → IsTrue (state S.Store tx.old.conn.now).in_transaction → HasCleanDisk (state S.Store tx.new.conn.now) → IfOk result (IsReceiptOf number (tables.receipt at)) }
@@ -92,11 +269,19 @@ pub fn receipt<S: Alter>(tx: &mut Transaction<'_, S>, number: u64) -> Result<Opt
     ensures uncommitted { HasCleanDisk (state S.Store tx.new.conn.now) → IsTrue (state S.Store tx.old.conn.now).in_transaction → KeepsCommit (state S.Store tx.old.conn.now) (state S.Store tx.new.conn.now) }
     ensures survives { Survives (state S.Store tx.old.conn.now) (state S.Store tx.new.conn.now) (λ _. ⊥) }
 {
-    Err(Error::SqliteFailure(ErrorCode::TransactionState))
+    let Some(row) = select_receipt(tx, number)? else {
+        return Ok(None);
+    };
+    Ok(Some(read_receipt(&row, number)?))
 }
 
 /// One piece of the file of this box and name, from 0 on.
-pub fn piece<S: Alter>(tx: &mut Transaction<'_, S>, in_box: &str, name: &str, part: u32) -> Result<Option<Vec<u8>>, Error>
+pub(crate) fn piece<S: Alter>(
+    tx: &mut Transaction<'_, S>,
+    in_box: &str,
+    name: &str,
+    part: u32,
+) -> Result<Option<Vec<u8>>, Error>
     ensures same_reference { tx.new.conn.ghost_name ≡ tx.old.conn.ghost_name }
     ensures found { (v : Version) (tables : Tables) → IsVersion v → Pends v (state S.Store tx.old.conn.now) tables
         → IsTrue (state S.Store tx.old.conn.now).in_transaction → HasCleanDisk (state S.Store tx.new.conn.now) → IfOk result (λ bytes. option_map (λ b. b.items) bytes ≡ tables.piece (record { place = record { box = in_box.now; name = name.now }; at = part })) }
@@ -105,11 +290,19 @@ pub fn piece<S: Alter>(tx: &mut Transaction<'_, S>, in_box: &str, name: &str, pa
     ensures uncommitted { HasCleanDisk (state S.Store tx.new.conn.now) → IsTrue (state S.Store tx.old.conn.now).in_transaction → KeepsCommit (state S.Store tx.old.conn.now) (state S.Store tx.new.conn.now) }
     ensures survives { Survives (state S.Store tx.old.conn.now) (state S.Store tx.new.conn.now) (λ _. ⊥) }
 {
-    Err(Error::SqliteFailure(ErrorCode::TransactionState))
+    let Some(row) = select_piece(tx, in_box, name, part)? else {
+        return Ok(None);
+    };
+    Ok(Some(row.get(0)?))
 }
 
 /// The file's bytes, so many, from its pieces.
-pub fn file_bytes<S: Alter>(tx: &mut Transaction<'_, S>, in_box: &str, name: &str, size: u64) -> Result<Vec<u8>, Error>
+pub(crate) fn file_bytes<S: Alter>(
+    tx: &mut Transaction<'_, S>,
+    in_box: &str,
+    name: &str,
+    size: u64,
+) -> Result<Vec<u8>, Error>
     ensures same_reference { tx.new.conn.ghost_name ≡ tx.old.conn.ghost_name }
     ensures found { (v : Version) (tables : Tables) (bytes : List ℕ) → IsVersion v → Pends v (state S.Store tx.old.conn.now) tables → length bytes ≡ size
         → ((at : ℕ) → tables.piece (record { place = record { box = in_box.now; name = name.now }; at = at }) ≡ piece_of bytes at)
@@ -123,7 +316,7 @@ pub fn file_bytes<S: Alter>(tx: &mut Transaction<'_, S>, in_box: &str, name: &st
 }
 
 /// How many unrevoked clerk's keys stand.
-pub fn clerks<S: Alter>(tx: &mut Transaction<'_, S>) -> Result<u64, Error>
+pub(crate) fn clerks<S: Alter>(tx: &mut Transaction<'_, S>) -> Result<u64, Error>
     ensures same_reference { tx.new.conn.ghost_name ≡ tx.old.conn.ghost_name }
     ensures found { (v : Version) (tables : Tables) (s : State) → IsVersion v → Pends v (state S.Store tx.old.conn.now) tables → tables.key ≡ get s.keys
         → IsTrue (state S.Store tx.old.conn.now).in_transaction → HasCleanDisk (state S.Store tx.new.conn.now) → IfOk result (λ count. count ≡ clerks s) }
@@ -135,8 +328,49 @@ pub fn clerks<S: Alter>(tx: &mut Transaction<'_, S>) -> Result<u64, Error>
     Err(Error::SqliteFailure(ErrorCode::TransactionState))
 }
 
+/// The row of the last receipt, which is its number.
+fn select_last<S: Alter>(tx: &mut Transaction<'_, S>) -> Result<Vec<Row>, Error>
+    ensures same_reference { tx.new.conn.ghost_name ≡ tx.old.conn.ghost_name }
+    ensures found { (v : Version) (tables : Tables) (receipts : List Receipt) → IsVersion v → Pends v (state S.Store tx.old.conn.now) tables → tables.receipt ≡ slice_get receipts
+        → IsTrue (state S.Store tx.old.conn.now).in_transaction → HasCleanDisk (state S.Store tx.new.conn.now) → IfOk result (λ rows. rows.items ≡ last_rows (length receipts)) }
+    ensures still { (v : Version) (tables : Tables) → IsVersion v → Pends v (state S.Store tx.old.conn.now) tables → OnOk result (Pends v (state S.Store tx.new.conn.now) tables) }
+    ensures running { HasCleanDisk (state S.Store tx.new.conn.now) → IsTrue (state S.Store tx.old.conn.now).in_transaction → OnOk result (IsRunning (state S.Store tx.new.conn.now)) }
+    ensures uncommitted { HasCleanDisk (state S.Store tx.new.conn.now) → IsTrue (state S.Store tx.old.conn.now).in_transaction → KeepsCommit (state S.Store tx.old.conn.now) (state S.Store tx.new.conn.now) }
+    ensures survives { Survives (state S.Store tx.old.conn.now) (state S.Store tx.new.conn.now) (λ _. ⊥) }
+{
+    tx.query_all(
+        "SELECT number FROM receipts ORDER BY number DESC LIMIT 1",
+        &[],
+    )
+}
+
+/// The number that the next receipt gets.
+pub(crate) fn next_number<S: Alter>(tx: &mut Transaction<'_, S>) -> Result<u32, Error>
+    ensures same_reference { tx.new.conn.ghost_name ≡ tx.old.conn.ghost_name }
+    ensures found { (v : Version) (tables : Tables) (receipts : List Receipt) → IsVersion v → Pends v (state S.Store tx.old.conn.now) tables → tables.receipt ≡ slice_get receipts
+        → IsTrue (state S.Store tx.old.conn.now).in_transaction → HasCleanDisk (state S.Store tx.new.conn.now) → IfOk result (λ number. number ≡ length receipts + 1) }
+    ensures still { (v : Version) (tables : Tables) → IsVersion v → Pends v (state S.Store tx.old.conn.now) tables → OnOk result (Pends v (state S.Store tx.new.conn.now) tables) }
+    ensures running { HasCleanDisk (state S.Store tx.new.conn.now) → IsTrue (state S.Store tx.old.conn.now).in_transaction → OnOk result (IsRunning (state S.Store tx.new.conn.now)) }
+    ensures uncommitted { HasCleanDisk (state S.Store tx.new.conn.now) → IsTrue (state S.Store tx.old.conn.now).in_transaction → KeepsCommit (state S.Store tx.old.conn.now) (state S.Store tx.new.conn.now) }
+    ensures survives { Survives (state S.Store tx.old.conn.now) (state S.Store tx.new.conn.now) (λ _. ⊥) }
+{
+    let rows = select_last(tx)?;
+    let Some(row) = rows.first() else {
+        return Ok(1);
+    };
+    let last: u32 = row.get(0)?;
+    match last.checked_add(1) {
+        Some(next) => Ok(next),
+        None => Err(Error::SqliteFailure(ErrorCode::TooBig)),
+    }
+}
+
 /// The receipts numbered `from` or more, ascending, at most `most`. Their digests are to have 32 bytes.
-pub fn receipts<S: Alter>(tx: &mut Transaction<'_, S>, from: u64, most: usize) -> Result<Vec<ReceiptRow>, Error>
+pub(crate) fn receipts<S: Alter>(
+    tx: &mut Transaction<'_, S>,
+    from: u64,
+    most: usize,
+) -> Result<Vec<ReceiptRow>, Error>
     ensures same_reference { tx.new.conn.ghost_name ≡ tx.old.conn.ghost_name }
     ensures found { (v : Version) (tables : Tables) (receipts : List Receipt) → IsVersion v → Pends v (state S.Store tx.old.conn.now) tables → tables.receipt ≡ slice_get receipts → AllByRecursion (λ r. IsDigest r.digest) receipts
         → IsTrue (state S.Store tx.old.conn.now).in_transaction → HasCleanDisk (state S.Store tx.new.conn.now) → IfOk result (λ rows. map numbered_receipt rows.items ≡ take most (drop (from - 1) (numbered 1 receipts))) }

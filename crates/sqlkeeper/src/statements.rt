@@ -1,6 +1,6 @@
 //! One statement each, inside a transaction.
 
-ghost use Rattle.std.specs.Prelude.{◌≡◌, ◌≤◌, ◌+◌, ℕ, List, length, pos, slice_get, None, Some, true, false, IsTrue, OnOk, IfOk};
+ghost use Rattle.std.specs.Prelude.{◌≡◌, ◌≤◌, ◌+◌, ℕ, List, length, pos, None, Some, true, false, OnOk};
 ghost use Rattle.sqlite.specs.State.{HasCleanDisk, KeepsCommit, Survives};
 ghost use Rattle.sqlite.specs.Held.{state};
 ghost use Rattle.boxes.specs.State.{Key, Place, Receipt};
@@ -8,16 +8,15 @@ ghost use Rattle.sqlkeeper.specs.Schema.{Version, IsVersion};
 ghost use Rattle.sqlkeeper.specs.Tables.{Tables, Box, Part};
 ghost use Rattle.sqlkeeper.specs.Changes.{with_key, closing_at, without_file, with_receipt, with_piece, without_pieces, with_totals, with_box, with_bytes, with_file, NoPieces, AddsPiece};
 ghost use Rattle.sqlkeeper.specs.Means.{Pends, IsRunning};
-ghost use Rattle.sqlkeeper.specs.Questions.{last_rows, ShowsKey};
 
 use boxes::Role;
-use sqlite::{Alter, Error, ErrorCode, Row, Transaction, params};
+use sqlite::{Alter, Error, Transaction, params};
 
 /// The most bytes of a piece.
 const PIECE: usize = 65536;
 
 /// One more receipt.
-pub fn insert_receipt<S: Alter>(
+pub(crate) fn insert_receipt<S: Alter>(
     tx: &mut Transaction<'_, S>,
     number: u32,
     box_name: &str,
@@ -43,7 +42,7 @@ pub fn insert_receipt<S: Alter>(
 }
 
 /// One more piece of a file.
-pub fn insert_piece<S: Alter>(
+pub(crate) fn insert_piece<S: Alter>(
     tx: &mut Transaction<'_, S>,
     box_name: &str,
     name: &str,
@@ -66,7 +65,7 @@ pub fn insert_piece<S: Alter>(
 }
 
 /// The pieces of a file go.
-pub fn delete_pieces<S: Alter>(
+pub(crate) fn delete_pieces<S: Alter>(
     tx: &mut Transaction<'_, S>,
     box_name: &str,
     name: &str,
@@ -86,7 +85,7 @@ pub fn delete_pieces<S: Alter>(
 }
 
 /// The totals of a box.
-pub fn update_totals<S: Alter>(
+pub(crate) fn update_totals<S: Alter>(
     tx: &mut Transaction<'_, S>,
     name: &str,
     used: i64,
@@ -107,7 +106,7 @@ pub fn update_totals<S: Alter>(
 }
 
 /// All pieces of a file that has none.
-pub fn insert_pieces<S: Alter>(
+pub(crate) fn insert_pieces<S: Alter>(
     tx: &mut Transaction<'_, S>,
     box_name: &str,
     name: &str,
@@ -133,54 +132,8 @@ pub fn insert_pieces<S: Alter>(
     Ok(())
 }
 
-fn select_last<S: Alter>(tx: &mut Transaction<'_, S>) -> Result<Vec<Row>, Error>
-    ensures same_reference { tx.new.conn.ghost_name ≡ tx.old.conn.ghost_name }
-    ensures found { (v : Version) (tables : Tables) (receipts : List Receipt) → IsVersion v → Pends v (state S.Store tx.old.conn.now) tables → tables.receipt ≡ slice_get receipts
-        → IsTrue (state S.Store tx.old.conn.now).in_transaction → HasCleanDisk (state S.Store tx.new.conn.now) → IfOk result (λ rows. rows.items ≡ last_rows (length receipts)) }
-    ensures uncommitted { HasCleanDisk (state S.Store tx.new.conn.now) → IsTrue (state S.Store tx.old.conn.now).in_transaction → KeepsCommit (state S.Store tx.old.conn.now) (state S.Store tx.new.conn.now) }
-    ensures survives { Survives (state S.Store tx.old.conn.now) (state S.Store tx.new.conn.now) (λ _. ⊥) }
-{
-    tx.query_all(
-        "SELECT number FROM receipts ORDER BY number DESC LIMIT 1",
-        &[],
-    )
-}
-
-/// The number that the next receipt gets.
-pub fn next_number<S: Alter>(tx: &mut Transaction<'_, S>) -> Result<u32, Error>
-    ensures same_reference { tx.new.conn.ghost_name ≡ tx.old.conn.ghost_name }
-    ensures found { (v : Version) (tables : Tables) (receipts : List Receipt) → IsVersion v → Pends v (state S.Store tx.old.conn.now) tables → tables.receipt ≡ slice_get receipts
-        → IsTrue (state S.Store tx.old.conn.now).in_transaction → HasCleanDisk (state S.Store tx.new.conn.now) → IfOk result (λ number. number ≡ length receipts + 1) }
-    ensures uncommitted { HasCleanDisk (state S.Store tx.new.conn.now) → IsTrue (state S.Store tx.old.conn.now).in_transaction → KeepsCommit (state S.Store tx.old.conn.now) (state S.Store tx.new.conn.now) }
-    ensures survives { Survives (state S.Store tx.old.conn.now) (state S.Store tx.new.conn.now) (λ _. ⊥) }
-{
-    let rows = select_last(tx)?;
-    let Some(row) = rows.first() else {
-        return Ok(1);
-    };
-    let last: u32 = row.get(0)?;
-    match last.checked_add(1) {
-        Some(next) => Ok(next),
-        None => Err(Error::SqliteFailure(ErrorCode::TooBig)),
-    }
-}
-
-/// The rows of a key: its role, secret and whether it is revoked.
-pub fn select_key<S: Alter>(tx: &mut Transaction<'_, S>, id: &str) -> Result<Vec<Row>, Error>
-    ensures same_reference { tx.new.conn.ghost_name ≡ tx.old.conn.ghost_name }
-    ensures found { (v : Version) (tables : Tables) → IsVersion v → Pends v (state S.Store tx.old.conn.now) tables
-        → IsTrue (state S.Store tx.old.conn.now).in_transaction → HasCleanDisk (state S.Store tx.new.conn.now) → IfOk result (λ rows. ShowsKey tables id.now rows.items) }
-    ensures uncommitted { HasCleanDisk (state S.Store tx.new.conn.now) → IsTrue (state S.Store tx.old.conn.now).in_transaction → KeepsCommit (state S.Store tx.old.conn.now) (state S.Store tx.new.conn.now) }
-    ensures survives { Survives (state S.Store tx.old.conn.now) (state S.Store tx.new.conn.now) (λ _. ⊥) }
-{
-    tx.query_all(
-        "SELECT role, secret, revoked FROM keys WHERE id = ?1",
-        params![id],
-    )
-}
-
 /// A file that stood under no such name, without its pieces.
-pub fn insert_file<S: Alter>(
+pub(crate) fn insert_file<S: Alter>(
     tx: &mut Transaction<'_, S>,
     box_name: &str,
     name: &str,
@@ -202,7 +155,7 @@ pub fn insert_file<S: Alter>(
 }
 
 /// The receipt of a file that stands.
-pub fn update_file<S: Alter>(
+pub(crate) fn update_file<S: Alter>(
     tx: &mut Transaction<'_, S>,
     box_name: &str,
     name: &str,
@@ -224,7 +177,7 @@ pub fn update_file<S: Alter>(
 }
 
 /// One more key, unrevoked.
-pub fn insert_key<S: Alter>(
+pub(crate) fn insert_key<S: Alter>(
     tx: &mut Transaction<'_, S>,
     id: &str,
     role: Role,
@@ -249,7 +202,7 @@ pub fn insert_key<S: Alter>(
 }
 
 /// A key is revoked.
-pub fn update_revoked<S: Alter>(tx: &mut Transaction<'_, S>, id: &str) -> Result<(), Error>
+pub(crate) fn update_revoked<S: Alter>(tx: &mut Transaction<'_, S>, id: &str) -> Result<(), Error>
     ensures same_reference { tx.new.conn.ghost_name ≡ tx.old.conn.ghost_name }
     ensures done { (v : Version) (tables : Tables) (key : Key) → IsVersion v → Pends v (state S.Store tx.old.conn.now) tables → tables.key id.now ≡ Some key
         → OnOk result (Pends v (state S.Store tx.new.conn.now) (with_key tables id.now (record key { revoked = true }))) }
@@ -262,7 +215,7 @@ pub fn update_revoked<S: Alter>(tx: &mut Transaction<'_, S>, id: &str) -> Result
 }
 
 /// The moment at which a box closes for good, in seconds since 1970-01-01T00:00:00Z.
-pub fn update_closes<S: Alter>(
+pub(crate) fn update_closes<S: Alter>(
     tx: &mut Transaction<'_, S>,
     name: &str,
     moment: i64,
@@ -282,7 +235,7 @@ pub fn update_closes<S: Alter>(
 }
 
 /// The row of a file goes. Its pieces went before.
-pub fn delete_file<S: Alter>(
+pub(crate) fn delete_file<S: Alter>(
     tx: &mut Transaction<'_, S>,
     in_box: &str,
     name: &str,

@@ -1,7 +1,7 @@
 use Rattle.std.proofs.Common.{◌≡◌, ◌+◌, length, slice_get, None, Some, arith, sym, ap, ◌∙◌, rules}
 use Rattle.sqlkeeper.specs.Questions.{last_rows}
 use Rattle.sqlkeeper.proofs.LastNumber.{none_last, some_last}
-use Rattle.sqlkeeper.proofs.statements.next_number.Goals as goal
+use Rattle.sqlkeeper.proofs.questions.next_number.Goals as goal
 
 pub returns-in_default-clause-found : goal.returns-in_default-clause-found
 returns-in_default-clause-found g c v tables receipts ours pends listed inside clean =

@@ -4,8 +4,9 @@ use Rattle.sqlite.specs.Held.{state}
 use Rattle.sqlkeeper.proofs.Runs.{query_keeps}
 use Rattle.sqlkeeper.proofs.Ours.{asks_of}
 use Rattle.sqlkeeper.proofs.Texts.{next_number, next_number_command, next_number_is}
+use Rattle.sqlkeeper.proofs.Asked.{query_stays, query_runs}
 use Rattle.sqlkeeper.proofs.LastNumber.{shows_last}
-use Rattle.sqlkeeper.proofs.statements.select_last.Goals as goal
+use Rattle.sqlkeeper.proofs.questions.select_last.Goals as goal
 
 pub returns-clause-found : goal.returns-clause-found
 returns-clause-found g c v tables receipts ours pends listed inside clean =
@@ -19,3 +20,13 @@ returns-clause-uncommitted g c clean inside =
     let old = state g.S.Store c.args.tx.now.conn.now in
     let new = state g.S.Store c.query_all.new.self.conn.now in
     query_keeps (λ v. v.items) _ _ old new c.query_all.result inside (c.query_all.ensures.ok clean) (c.query_all.ensures.err clean)
+
+pub returns-clause-still : goal.returns-clause-still
+returns-clause-still g c v tables ours pends =
+    let old = state g.S.Store c.args.tx.now.conn.now in
+    let new = state g.S.Store c.query_all.new.self.conn.now in
+    let early : HasCleanDisk new → HasCleanDisk old = λ clean. omega (arith, c.query_all.ensures.survives.clean) in
+    query_stays (λ v. v.items) v tables next_number _ old new c.query_all.result (asks_of v ours next_number next_number_command next_number_is).says.plain early pends c.query_all.ensures.ok
+
+pub returns-clause-running : goal.returns-clause-running
+returns-clause-running g c clean inside = query_runs (λ v. v.items) next_number _ _ _ c.query_all.result inside (c.query_all.ensures.ok clean)
