@@ -20,6 +20,7 @@ ghost use Rattle.sqlkeeper.specs.Questions.{last_rows, ShowsRow, shown_office, s
 use crate::reading::{read_box, read_key, read_receipt};
 use boxes::{BoxRow, KeyRow, ReceiptRow, Totals};
 use sqlite::types::ValueRef;
+use std::alloc::Global;
 use sqlite::{Alter, Error, ErrorCode, Row, Transaction, params};
 
 /// The last of the rows that a query of the office's own tables shows, if it shows one.
@@ -368,6 +369,7 @@ pub fn next_number<S: Alter>(tx: &mut Transaction<'_, S>) -> Result<u32, Error>
 /// The receipts numbered `from` or more, ascending, at most `most`. Their digests are to have 32 bytes.
 pub fn receipts<S: Alter>(
     tx: &mut Transaction<'_, S>,
+    alloc: Global,
     from: u64,
     most: usize,
 ) -> Result<Vec<ReceiptRow>, Error>
@@ -375,9 +377,21 @@ pub fn receipts<S: Alter>(
     ensures found { (v : Version) (tables : Tables) (receipts : List Receipt) → IsVersion v → Pends v (state S.Store tx.old.conn.now) tables → tables.receipt ≡ slice_get receipts → AllByRecursion (λ r. IsDigest r.digest) receipts
         → IsTrue (state S.Store tx.old.conn.now).in_transaction → HasCleanDisk (state S.Store tx.new.conn.now) → IfOk result (λ rows. map numbered_receipt rows.items ≡ take most (drop (from - 1) (numbered 1 receipts))) }
     ensures still { (v : Version) (tables : Tables) → IsVersion v → Pends v (state S.Store tx.old.conn.now) tables → OnOk result (Pends v (state S.Store tx.new.conn.now) tables) }
-    ensures running { HasCleanDisk (state S.Store tx.new.conn.now) → IsTrue (state S.Store tx.old.conn.now).in_transaction → OnOk result (IsRunning (state S.Store tx.new.conn.now)) }
+    ensures running { HasCleanDisk (state S.Store tx.new.conn.now) → IsRunning (state S.Store tx.old.conn.now) → OnOk result (IsRunning (state S.Store tx.new.conn.now)) }
     ensures uncommitted { HasCleanDisk (state S.Store tx.new.conn.now) → IsTrue (state S.Store tx.old.conn.now).in_transaction → KeepsCommit (state S.Store tx.old.conn.now) (state S.Store tx.new.conn.now) }
     ensures survives { Survives (state S.Store tx.old.conn.now) (state S.Store tx.new.conn.now) (λ _. ⊥) }
 {
-    Err(Error::SqliteFailure(ErrorCode::TransactionState))
+    let mut rows = Vec::new(alloc);
+    let mut number = from.max(1);
+    while rows.len() < most {
+        let Some(row) = receipt(tx, number)? else {
+            return Ok(rows);
+        };
+        rows.push(row)?;
+        match number.checked_add(1) {
+            Some(next) => number = next,
+            None => return Err(Error::SqliteFailure(ErrorCode::TooBig)),
+        }
+    }
+    Ok(rows)
 }
