@@ -1,6 +1,9 @@
 -- Questions one after another, and the receipts that they list.
-use Rattle.std.proofs.Common.{◌≡◌, inl, ℕ, ◌+◌, ◌≤◌, zero, suc, List, [], ◌∷◌, ◌++◌, map, take, drop, length, slice_get, Option, None, Some, option_map, IsTrue, arith, refl, sym, ap, subst, ◌∙◌}
-use Rattle.std.proofs.lemmas.List.{take_all, map-append, length-drop}
+use Rattle.std.proofs.Common.{◌≡◌, inl, inr, ℕ, ◌+◌, ◌*◌, ◌<◌, ◌≤◌, zero, suc, List, [], ◌∷◌, ◌++◌, map, take, drop, length, slice_get, Option, None, Some, option_map, IsTrue, arith, refl, sym, ap, subst, ◌∙◌}
+use Rattle.std.specs.Prelude.{nat_lt}
+use Rattle.std.proofs.lemmas.Bool.{cases_Bool, ltb-true, ltb-false}
+use Rattle.std.proofs.Math.Seq.{take-add}
+use Rattle.std.proofs.lemmas.List.{take_all, map-append, length-drop, length-take-le}
 use Rattle.sqlite.specs.State.{State, HasCleanDisk, KeepsCommit, Survives}
 use Rattle.boxes.specs.State.{Receipt}
 use Rattle.std.specs.List.{AllByRecursion}
@@ -8,7 +11,7 @@ use Rattle.boxes.specs.Sound.{IsDigest}
 use Rattle.boxes.specs.declared.rows.ReceiptRow.{ReceiptRow}
 use Rattle.boxes.specs.Rows.{receipt_in, numbered, numbered_receipt}
 use Rattle.sqlkeeper.specs.Schema.{Version, IsVersion}
-use Rattle.sqlkeeper.specs.Tables.{Tables}
+use Rattle.sqlkeeper.specs.Tables.{Tables, piece_of}
 use Rattle.sqlkeeper.specs.Means.{Pends, IsRunning}
 use Rattle.sqlkeeper.specs.Questions.{IsReceiptOf}
 use Rattle.sqlkeeper.proofs.Building.{survives_then, keeps_then}
@@ -101,3 +104,26 @@ digests_at tables receipts at listed all r some = all_at (λ r. IsDigest r.diges
 
 pub receipt_at : (tables : Tables) (receipts : List Receipt) (at number : ℕ) (found : Option ReceiptRow) → tables.receipt ≡ slice_get receipts → IsReceiptOf number (tables.receipt at) found → IsReceiptOf number (slice_get receipts at) found
 receipt_at tables receipts at number found listed is = subst (λ o. IsReceiptOf number o found) (ap (λ f. f at) listed) is
+
+-- ---- the pieces of a file, one after another
+
+pub piece_more : (bytes items piece others : List ℕ) (part next : ℕ) → items ≡ take (65536 * part) bytes → length items < length bytes → Some piece ≡ piece_of bytes part → others ≡ items ++ piece → next ≡ part + 1
+    → others ≡ take (65536 * next) bytes
+piece_more bytes items piece others part next is less some more one = elim (cases_Bool (nat_lt (65536 * part) (length bytes))) [
+  | inl below ↦
+      let there : Some piece ≡ Some (take 65536 (drop (65536 * part) bytes)) = rw below at some in
+      let same : piece ≡ take 65536 (drop (65536 * part) bytes) = cc in
+      let size : 65536 * part + 65536 ≡ 65536 * next = omega (arith, one) in
+      more ∙ ap (λ l. l ++ piece) is ∙ ap (λ l. take (65536 * part) bytes ++ l) same ∙ sym (take-add (65536 * part) 65536 bytes) ∙ ap (λ n. take n bytes) size
+  | inr past ↦ absurd (
+      let all : items ≡ bytes = is ∙ take_all (65536 * part) bytes (ltb-false (65536 * part) (length bytes) past) in
+      let long = ap length all in omega (arith, long, less))
+]
+
+pub pieces_all : (bytes items : List ℕ) (part : ℕ) → items ≡ take (65536 * part) bytes → length bytes ≤ length items → items ≡ bytes
+pieces_all bytes items part is long = elim (cases_Bool (nat_lt (65536 * part) (length bytes))) [
+  | inl below ↦ absurd (
+      let low = ltb-true (65536 * part) (length bytes) below in
+      let short = ap length is ∙ length-take-le (65536 * part) bytes (omega (arith, low)) in omega (arith, low, short, long))
+  | inr past ↦ is ∙ take_all (65536 * part) bytes (ltb-false (65536 * part) (length bytes) past)
+]

@@ -10,7 +10,7 @@ mod statements;
 pub use changes::put_file;
 pub use creating::make_office;
 pub use questions::{
-    box_row, clerks, east, file_bytes, file_number, key as key_row, next_number, piece, receipt, receipts,
-    totals,
+    box_row, clerks, east, file_bytes, file_number, key as key_row, next_number, piece, receipt,
+    receipts, totals,
 };
 pub use statements::{delete_file, insert_key, update_closes, update_revoked};

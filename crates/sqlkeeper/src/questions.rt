@@ -20,8 +20,8 @@ ghost use Rattle.sqlkeeper.specs.Questions.{last_rows, ShowsRow, shown_office, s
 use crate::reading::{read_box, read_key, read_receipt};
 use boxes::{BoxRow, KeyRow, ReceiptRow, Totals};
 use sqlite::types::ValueRef;
-use std::alloc::Global;
 use sqlite::{Alter, Error, ErrorCode, Row, Transaction, params};
+use std::alloc::Global;
 
 /// The last of the rows that a query of the office's own tables shows, if it shows one.
 fn select_row<S: Alter>(
@@ -300,6 +300,7 @@ pub fn piece<S: Alter>(
 /// The file's bytes, so many, from its pieces.
 pub fn file_bytes<S: Alter>(
     tx: &mut Transaction<'_, S>,
+    alloc: Global,
     in_box: &str,
     name: &str,
     size: u64,
@@ -309,11 +310,23 @@ pub fn file_bytes<S: Alter>(
         → ((at : ℕ) → tables.piece (record { place = record { box = in_box.now; name = name.now }; at = at }) ≡ piece_of bytes at)
         → IsTrue (state S.Store tx.old.conn.now).in_transaction → HasCleanDisk (state S.Store tx.new.conn.now) → IfOk result (λ found. found.items ≡ bytes) }
     ensures still { (v : Version) (tables : Tables) → IsVersion v → Pends v (state S.Store tx.old.conn.now) tables → OnOk result (Pends v (state S.Store tx.new.conn.now) tables) }
-    ensures running { HasCleanDisk (state S.Store tx.new.conn.now) → IsTrue (state S.Store tx.old.conn.now).in_transaction → OnOk result (IsRunning (state S.Store tx.new.conn.now)) }
+    ensures running { HasCleanDisk (state S.Store tx.new.conn.now) → IsRunning (state S.Store tx.old.conn.now) → OnOk result (IsRunning (state S.Store tx.new.conn.now)) }
     ensures uncommitted { HasCleanDisk (state S.Store tx.new.conn.now) → IsTrue (state S.Store tx.old.conn.now).in_transaction → KeepsCommit (state S.Store tx.old.conn.now) (state S.Store tx.new.conn.now) }
     ensures survives { Survives (state S.Store tx.old.conn.now) (state S.Store tx.new.conn.now) (λ _. ⊥) }
 {
-    Err(Error::SqliteFailure(ErrorCode::TransactionState))
+    let mut bytes = Vec::new(alloc);
+    let mut part: u32 = 0;
+    while (bytes.len() as u64) < size {
+        let Some(more) = piece(tx, in_box, name, part)? else {
+            return Err(Error::QueryReturnedNoRows);
+        };
+        bytes.extend_from_slice(&more)?;
+        match part.checked_add(1) {
+            Some(next) => part = next,
+            None => return Err(Error::SqliteFailure(ErrorCode::TooBig)),
+        }
+    }
+    Ok(bytes)
 }
 
 /// How many unrevoked clerk's keys stand.

@@ -13,7 +13,7 @@ loop-piece-preserved c =
       can = search rules;
       finite = tt;
       sofar = one_more (λ t. t.items) (slice_split (λ b. eqb b 44) c.args.text.now) (length c.loop-piece.yielded) _ c.in-Some.piece.now c.loop-piece.texts.items c.push.new.self.items c.in_ok-from_slice.field-0
-      turn c.loop-piece.invariant.sofar (length_push c.loop-piece.yielded c.in-Some.piece) c.in_ok-push.ensures.items c.in_ok-from_slice.ensures.items;
+          turn c.loop-piece.invariant.sofar (length_push c.loop-piece.yielded c.in-Some.piece) c.in_ok-push.ensures.items c.in_ok-from_slice.ensures.items;
     }
 
 pub returns : goal.returns
