@@ -21,6 +21,7 @@ pub mod LastNumber
 pub mod Asked
 pub mod PointQueries
 pub mod Readings
+pub mod Listing
 pub mod FileRows
 pub mod KeyRows
 pub mod ClosingRows

@@ -1,5 +1,5 @@
 -- The questions by key: which rows their WHERE passes, and what they show.
-use Rattle.std.proofs.Common.{◌≡◌, ℕ, ◌+◌, pos, List, [], ◌∷◌, ◌&&◌, Bool, true, false, Some, arith, refl, ap, sym, ◌∙◌}
+use Rattle.std.proofs.Common.{◌≡◌, ℕ, ◌+◌, pos, List, [], ◌∷◌, ◌&&◌, Bool, true, false, Some, arith, refl}
 use Rattle.std.specs.Prelude.{nat_eq}
 use Rattle.std.specs.List.{list_all}
 use Rattle.std.proofs.lemmas.Bool.{eqb-true, eq-eqb}
@@ -44,7 +44,7 @@ picks_key tables id = record {
 
 pub picks_box : (tables : Tables) (name : List ℕ)
     → Picks IsBoxRow tables.box same_bytes tells_bytes by_text
-        (col 1 2 ∷ col 1 3 ∷ col 1 4 ∷ col 1 5 ∷ col 1 6 ∷ col 1 7 ∷ col 1 8 ∷ col 1 9 ∷ col 1 10 ∷ col 1 11 ∷ col 1 12 ∷ col 1 13 ∷ []) shown_box (Text name ∷ []) name
+    (col 1 2 ∷ col 1 3 ∷ col 1 4 ∷ col 1 5 ∷ col 1 6 ∷ col 1 7 ∷ col 1 8 ∷ col 1 9 ∷ col 1 10 ∷ col 1 11 ∷ col 1 12 ∷ col 1 13 ∷ []) shown_box (Text name ∷ []) name
 picks_box tables name = record {
   passes = λ row q v is. passes_text name q row is.name_is;
   shows = λ row v is.

@@ -1,8 +1,8 @@
 -- What is read of the rows that questions show.
-use Rattle.std.proofs.Common.{◌≡◌, inl, inr, ℕ, ◌+◌, ◌<◌, ◌≤◌, List, [], ◌∷◌, ◌++◌, map, take, length, get_or, eqb, Bool, true, false, IsTrue, All, pos, if◌then◌else◌, arith, refl, sym, ap, ◌∙◌}
+use Rattle.std.proofs.Common.{◌≡◌, inl, inr, ℕ, ◌+◌, ◌<◌, ◌≤◌, List, [], ◌∷◌, ◌++◌, map, take, length, get_or, eqb, Bool, true, false, IsTrue, All, pos, arith, refl, sym, ap, ◌∙◌}
 use Rattle.std.specs.List.{list_all, slice_split, AllByRecursion, join_with_byte}
 use Rattle.std.proofs.lemmas.Bool.{cases_Bool, and_parts, eqb-true}
-use Rattle.std.proofs.lemmas.List.{take_more, take_all, map-append}
+use Rattle.std.proofs.lemmas.List.{take_more, map-append}
 use Rattle.std.proofs.lemmas.List.Elements.{All-from_recursion}
 use Rattle.sigtext.proofs.Cuts.{split_joined}
 use Rattle.sqlite_value.specs.declared.value.Value.TheVariants.{Int, Text}

@@ -21,6 +21,7 @@ use crate::reading::{read_box, read_key, read_receipt};
 use boxes::{BoxRow, KeyRow, ReceiptRow, Totals};
 use sqlite::types::ValueRef;
 use sqlite::{Alter, Error, ErrorCode, Row, Transaction, params};
+use std::alloc::Global;
 
 /// The last of the rows that a query of the office's own tables shows, if it shows one.
 fn select_row<S: Alter>(
@@ -299,6 +300,7 @@ pub(crate) fn piece<S: Alter>(
 /// The file's bytes, so many, from its pieces.
 pub(crate) fn file_bytes<S: Alter>(
     tx: &mut Transaction<'_, S>,
+    alloc: Global,
     in_box: &str,
     name: &str,
     size: u64,
@@ -308,11 +310,23 @@ pub(crate) fn file_bytes<S: Alter>(
         → ((at : ℕ) → tables.piece (record { place = record { box = in_box.now; name = name.now }; at = at }) ≡ piece_of bytes at)
         → IsTrue (state S.Store tx.old.conn.now).in_transaction → HasCleanDisk (state S.Store tx.new.conn.now) → IfOk result (λ found. found.items ≡ bytes) }
     ensures still { (v : Version) (tables : Tables) → IsVersion v → Pends v (state S.Store tx.old.conn.now) tables → OnOk result (Pends v (state S.Store tx.new.conn.now) tables) }
-    ensures running { HasCleanDisk (state S.Store tx.new.conn.now) → IsTrue (state S.Store tx.old.conn.now).in_transaction → OnOk result (IsRunning (state S.Store tx.new.conn.now)) }
+    ensures running { HasCleanDisk (state S.Store tx.new.conn.now) → IsRunning (state S.Store tx.old.conn.now) → OnOk result (IsRunning (state S.Store tx.new.conn.now)) }
     ensures uncommitted { HasCleanDisk (state S.Store tx.new.conn.now) → IsTrue (state S.Store tx.old.conn.now).in_transaction → KeepsCommit (state S.Store tx.old.conn.now) (state S.Store tx.new.conn.now) }
     ensures survives { Survives (state S.Store tx.old.conn.now) (state S.Store tx.new.conn.now) (λ _. ⊥) }
 {
-    Err(Error::SqliteFailure(ErrorCode::TransactionState))
+    let mut bytes = Vec::new(alloc);
+    let mut part: u32 = 0;
+    while (bytes.len() as u64) < size {
+        let Some(more) = piece(tx, in_box, name, part)? else {
+            return Err(Error::QueryReturnedNoRows);
+        };
+        bytes.extend_from_slice(&more)?;
+        match part.checked_add(1) {
+            Some(next) => part = next,
+            None => return Err(Error::SqliteFailure(ErrorCode::TooBig)),
+        }
+    }
+    Ok(bytes)
 }
 
 /// How many unrevoked clerk's keys stand.
@@ -368,6 +382,7 @@ pub(crate) fn next_number<S: Alter>(tx: &mut Transaction<'_, S>) -> Result<u32, 
 /// The receipts numbered `from` or more, ascending, at most `most`. Their digests are to have 32 bytes.
 pub(crate) fn receipts<S: Alter>(
     tx: &mut Transaction<'_, S>,
+    alloc: Global,
     from: u64,
     most: usize,
 ) -> Result<Vec<ReceiptRow>, Error>
@@ -375,9 +390,21 @@ pub(crate) fn receipts<S: Alter>(
     ensures found { (v : Version) (tables : Tables) (receipts : List Receipt) → IsVersion v → Pends v (state S.Store tx.old.conn.now) tables → tables.receipt ≡ slice_get receipts → AllByRecursion (λ r. IsDigest r.digest) receipts
         → IsTrue (state S.Store tx.old.conn.now).in_transaction → HasCleanDisk (state S.Store tx.new.conn.now) → IfOk result (λ rows. map numbered_receipt rows.items ≡ take most (drop (from - 1) (numbered 1 receipts))) }
     ensures still { (v : Version) (tables : Tables) → IsVersion v → Pends v (state S.Store tx.old.conn.now) tables → OnOk result (Pends v (state S.Store tx.new.conn.now) tables) }
-    ensures running { HasCleanDisk (state S.Store tx.new.conn.now) → IsTrue (state S.Store tx.old.conn.now).in_transaction → OnOk result (IsRunning (state S.Store tx.new.conn.now)) }
+    ensures running { HasCleanDisk (state S.Store tx.new.conn.now) → IsRunning (state S.Store tx.old.conn.now) → OnOk result (IsRunning (state S.Store tx.new.conn.now)) }
     ensures uncommitted { HasCleanDisk (state S.Store tx.new.conn.now) → IsTrue (state S.Store tx.old.conn.now).in_transaction → KeepsCommit (state S.Store tx.old.conn.now) (state S.Store tx.new.conn.now) }
     ensures survives { Survives (state S.Store tx.old.conn.now) (state S.Store tx.new.conn.now) (λ _. ⊥) }
 {
-    Err(Error::SqliteFailure(ErrorCode::TransactionState))
+    let mut rows = Vec::new(alloc);
+    let mut number = from.max(1);
+    while rows.len() < most {
+        let Some(row) = receipt(tx, number)? else {
+            return Ok(rows);
+        };
+        rows.push(row)?;
+        match number.checked_add(1) {
+            Some(next) => number = next,
+            None => return Err(Error::SqliteFailure(ErrorCode::TooBig)),
+        }
+    }
+    Ok(rows)
 }

@@ -1,4 +1,4 @@
-use Rattle.std.proofs.Common.{◌≡◌, eqb, length, ap, sym, ◌∙◌, arith, rules, tests}
+use Rattle.std.proofs.Common.{eqb, length, ◌∙◌, arith, rules, tests}
 use Rattle.std.specs.List.{slice_split}
 use Rattle.std.proofs.lemmas.Iterator.Consumers.{YieldsList-turn, YieldsList-end}
 use Rattle.std.proofs.lemmas.Iterator.Splits.{YieldsList-from_slice_split}
@@ -13,7 +13,7 @@ loop-piece-preserved c =
       can = search rules;
       finite = tt;
       sofar = one_more (λ t. t.items) (slice_split (λ b. eqb b 44) c.args.text.now) (length c.loop-piece.yielded) _ c.in-Some.piece.now c.loop-piece.texts.items c.push.new.self.items c.in_ok-from_slice.field-0
-      turn c.loop-piece.invariant.sofar (length_push c.loop-piece.yielded c.in-Some.piece) c.in_ok-push.ensures.items c.in_ok-from_slice.ensures.items;
+          turn c.loop-piece.invariant.sofar (length_push c.loop-piece.yielded c.in-Some.piece) c.in_ok-push.ensures.items c.in_ok-from_slice.ensures.items;
     }
 
 pub returns : goal.returns

@@ -1,5 +1,5 @@
 use Rattle.std.proofs.Common.{◌≡◌, map, pos, sym, ap, ◌∙◌, rules}
-use Rattle.sqlite_value.specs.declared.value.Value.TheVariants.{Int, Text}
+use Rattle.sqlite_value.specs.declared.value.Value.TheVariants.{Int}
 use Rattle.sqlkeeper.proofs.Readings.{ends_are}
 use Rattle.sqlkeeper.proofs.reading.read_rule.Goals as goal
 
