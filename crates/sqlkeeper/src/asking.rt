@@ -15,6 +15,7 @@ ghost use Rattle.sqlkeeper.specs.Means.{Means};
 use crate::{questions, standing};
 use boxes::{BoxRow, FileRow, KeyRow, OfficeRow, ReceiptRow, Totals};
 use sqlite::{Alter, Connection, Error, ErrorCode};
+use std::alloc::Global;
 
 /// What the office is set to.
 pub(crate) fn settings<S: Alter>(conn: &mut Connection<S>) -> Result<OfficeRow, Error>
@@ -57,7 +58,7 @@ pub(crate) fn box_row<S: Alter>(conn: &mut Connection<S>, name: &str) -> Result<
 }
 
 /// The file of this box and name, with its receipt.
-pub(crate) fn file<S: Alter>(conn: &mut Connection<S>, in_box: &str, name: &str) -> Result<Option<FileRow>, Error>
+pub(crate) fn file<S: Alter>(conn: &mut Connection<S>, alloc: Global, in_box: &str, name: &str) -> Result<Option<FileRow>, Error>
     ensures found { (v : Version) (s : State) → IsVersion v → Means v (state S.Store conn.old) s → IsSound s → HasCleanDisk (state S.Store conn.new) → IfOk result (IsFileAt s (record { box = in_box.now; name = name.now })) }
     ensures kept { (v : Version) (s : State) → IsVersion v → Means v (state S.Store conn.old) s → Means v (state S.Store conn.new) s }
     ensures survives { Survives (state S.Store conn.old) (state S.Store conn.new) (λ _. ⊥) }
@@ -66,7 +67,7 @@ pub(crate) fn file<S: Alter>(conn: &mut Connection<S>, in_box: &str, name: &str)
         return Err(Error::SqliteFailure(ErrorCode::TransactionState));
     }
     let mut tx = conn.transaction();
-    standing::file(&mut tx, in_box, name)
+    standing::file(&mut tx, alloc, in_box, name)
 }
 
 /// What the box of this name holds; nothing, where it is not there.
@@ -110,7 +111,7 @@ pub(crate) fn next_number<S: Alter>(conn: &mut Connection<S>) -> Result<u64, Err
 }
 
 /// The receipts numbered `from` or more, ascending, at most `most`.
-pub(crate) fn receipts<S: Alter>(conn: &mut Connection<S>, from: u64, most: usize) -> Result<Vec<ReceiptRow>, Error>
+pub(crate) fn receipts<S: Alter>(conn: &mut Connection<S>, alloc: Global, from: u64, most: usize) -> Result<Vec<ReceiptRow>, Error>
     ensures found { (v : Version) (s : State) → IsVersion v → Means v (state S.Store conn.old) s → IsSound s → HasCleanDisk (state S.Store conn.new) → IfOk result (λ rows. map numbered_receipt rows.items ≡ receipts_from s from most) }
     ensures kept { (v : Version) (s : State) → IsVersion v → Means v (state S.Store conn.old) s → Means v (state S.Store conn.new) s }
     ensures survives { Survives (state S.Store conn.old) (state S.Store conn.new) (λ _. ⊥) }
@@ -119,5 +120,5 @@ pub(crate) fn receipts<S: Alter>(conn: &mut Connection<S>, from: u64, most: usiz
         return Err(Error::SqliteFailure(ErrorCode::TransactionState));
     }
     let mut tx = conn.transaction();
-    questions::receipts(&mut tx, from, most)
+    questions::receipts(&mut tx, alloc, from, most)
 }

@@ -19,6 +19,7 @@ use crate::creating::create;
 use boxes::{BoxRow, Change, FileRow, KeyRow, OfficeRow, ReceiptRow, Totals, law_of_changes};
 use keeper::{KeepFault, Keeper, has_room};
 use sqlite::{Alter, Connection, ErrorCode};
+use std::alloc::Global;
 use std::str;
 use thiserror::Error;
 
@@ -26,6 +27,7 @@ use thiserror::Error;
 pub struct SqlKeeper<S: Alter> {
     conn: Connection<S>,
     faults: u64,
+    alloc: Global,
 }
 
 // Why a call of the file failed.
@@ -97,6 +99,7 @@ impl<S: Alter> SqlKeeper<S> {
     /// The fault, with the connection as it is. `Exists` comes exactly where a table is there; then nothing was tried.
     /// After any fault the database is as it was.
     pub fn create(
+        alloc: Global,
         mut conn: Connection<S>,
         office: OfficeRow,
         id: &[u8],
@@ -119,7 +122,11 @@ impl<S: Alter> SqlKeeper<S> {
             return Err((OpenFault::Store, conn));
         };
         match create(&mut conn, office.east, id, secret) {
-            Ok(()) => Ok(SqlKeeper { conn, faults: 0 }),
+            Ok(()) => Ok(SqlKeeper {
+                conn,
+                faults: 0,
+                alloc,
+            }),
             Err(error) => Err((open_fault_of(error), conn)),
         }
     }
@@ -128,7 +135,11 @@ impl<S: Alter> SqlKeeper<S> {
     pub fn close(self) -> Connection<S>
         ensures { result ≡ self.conn }
     {
-        let SqlKeeper { conn, faults: _ } = self;
+        let SqlKeeper {
+            conn,
+            faults: _,
+            alloc: _,
+        } = self;
         conn
     }
 }
@@ -173,7 +184,7 @@ impl<S: Alter> Keeper for SqlKeeper<S> {
         let Ok(name) = str::from_utf8(name) else {
             return Ok(None);
         };
-        counted(&mut self.faults, asking::file(&mut self.conn, in_box, name))
+        counted(&mut self.faults, asking::file(&mut self.conn, self.alloc, in_box, name))
     }
 
     fn sizes(&mut self, in_box: &[u8]) -> Result<Totals, KeepFault> {
@@ -192,7 +203,7 @@ impl<S: Alter> Keeper for SqlKeeper<S> {
     }
 
     fn receipts(&mut self, from: u64, most: usize) -> Result<Vec<ReceiptRow>, KeepFault> {
-        counted(&mut self.faults, asking::receipts(&mut self.conn, from, most))
+        counted(&mut self.faults, asking::receipts(&mut self.conn, self.alloc, from, most))
     }
 
     fn apply(&mut self, change: &Change<'_>) -> Result<(), KeepFault> {

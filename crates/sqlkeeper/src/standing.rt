@@ -14,6 +14,7 @@ ghost use Rattle.sqlkeeper.specs.Means.{Pends, IsRunning};
 use crate::questions::{file_bytes, file_number, receipt};
 use boxes::{FileRow, ReceiptRow};
 use sqlite::{Alter, Error, Transaction};
+use std::alloc::Global;
 
 /// The receipt of the file of this box and name.
 pub(crate) fn standing_receipt<S: Alter>(
@@ -38,6 +39,7 @@ pub(crate) fn standing_receipt<S: Alter>(
 /// The file of this box and name, with its receipt.
 pub(crate) fn file<S: Alter>(
     tx: &mut Transaction<'_, S>,
+    alloc: Global,
     in_box: &str,
     name: &str,
 ) -> Result<Option<FileRow>, Error>
@@ -50,6 +52,6 @@ pub(crate) fn file<S: Alter>(
     let Some(receipt) = standing_receipt(tx, in_box, name)? else {
         return Ok(None);
     };
-    let bytes = file_bytes(tx, in_box, name, receipt.size)?;
+    let bytes = file_bytes(tx, alloc, in_box, name, receipt.size)?;
     Ok(Some(FileRow { bytes, receipt }))
 }

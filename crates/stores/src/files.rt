@@ -21,7 +21,7 @@ fn make(alloc: Global) -> Result<SqlKeeper<Store>, Fail> {
     let Ok(conn) = Connection::open_files(alloc, files, Options::new(7)) else {
         return Err("no connection".into());
     };
-    match SqlKeeper::create(conn, OfficeRow { east: 0 }, ID, SECRET) {
+    match SqlKeeper::create(alloc, conn, OfficeRow { east: 0 }, ID, SECRET) {
         Ok(keeper) => Ok(keeper),
         Err(_) => Err("no office".into()),
     }

@@ -18,4 +18,4 @@ returns-clause-value g c s keeps sound clean =
 
 pub returns-clause-rest : goal.returns-clause-rest
 returns-clause-rest g c =
-    stays (λ k. state g.S.Store k.conn) (λ k. k.faults) c.args.self.now (record { conn = c.key.new.conn; faults = c.counted.new.faults }) c.counted.result c.key.ensures.kept c.key.ensures.survives c.counted.ensures.count c.counted.ensures.room
+    stays (λ k. state g.S.Store k.conn) (λ k. k.faults) c.args.self.now (record { conn = c.key.new.conn; faults = c.counted.new.faults; alloc = c.args.self.now.alloc }) c.counted.result c.key.ensures.kept c.key.ensures.survives c.counted.ensures.count c.counted.ensures.room
