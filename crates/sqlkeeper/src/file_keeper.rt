@@ -24,6 +24,7 @@ use std::str;
 use thiserror::Error;
 
 /// Keeps an office in a file, by a connection to it. It counts the calls that fail.
+#[derive(Drop)]
 pub struct SqlKeeper<S: Alter> {
     conn: Connection<S>,
     faults: u64,

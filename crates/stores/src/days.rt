@@ -70,7 +70,7 @@ fn end<K: Keeper>(keeper: &mut K) -> Result<(), KeepFault> {
 }
 
 /// What stands at the end of a day.
-#[derive(Debug, PartialEq)]
+#[derive(Debug, Drop, PartialEq)]
 pub(crate) struct Day {
     clerks: u64,
     next_number: u64,
