@@ -11,11 +11,8 @@ use crate::change::Command;
 use crate::places::{MOST_NAME_BYTES, is_name};
 use crate::rows::{BoxRow, NameRule};
 use sigtext::is_word;
-use sigv4::{is_key_id, is_secret};
+use sigv4::{Moment, is_key_id, is_secret};
 use std::str;
-
-// 9999-12-31T23:59:59Z.
-const LAST_MOMENT: u64 = 253_402_300_799;
 
 const MOST_BOX_NAME_BYTES: usize = 63;
 
@@ -35,7 +32,7 @@ const MOST_FILES: u64 = 1_000_000;
 fn is_moment(moment: u64) -> bool
     ensures { IsTrue result ↔ IsMoment moment }
 {
-    moment <= LAST_MOMENT
+    Moment::new(moment).is_some()
 }
 
 // Whether the byte may stand in the name of a box: a-z 0-9 - .

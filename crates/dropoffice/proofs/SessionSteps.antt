@@ -204,89 +204,23 @@ module _ {C : Type 0} (gives : C → ℕ → C → Type 0) (left reader output o
 -- ---- steps without a message
 
 module _ {C : Type 0} (gives : C → ℕ → C → Type 0) (left left' reader output output' : Option (List ℕ)) (clock : C) (count : ℕ) (means : State → Type 0) (s : State) (keeps : IsLeft means s) where
-  pub ended_step : IsAtEnd reader → OfStream left (λ stream. Next stream frame.Ended []) → Steps gives left left' reader output output clock clock count count means s (Some Ended)
-  ended_step at_end o = (
+  -- the session ends, and the state stays
+  ends : (e : SessionEnd) (gave_up : Bool) (stream text : List ℕ) → IsStream gave_up e left reader stream → Appends output output' text → KeepsCount gave_up count count
+      → ((n : ℕ) → Session (suc n) stream s [] text e gave_up s) → Steps gives left left' reader output output' clock clock count count means s (Some e)
+  ends e gave_up stream text read written counted whole = (
     s,
     keeps,
-    λ n. record {
-      stream = o.stream;
-      moments = [];
-      answers = [];
-      gave_up = false;
-      read = (is_stream left (λ stream. Next stream frame.Ended []) o, at_end);
-      told = refl;
-      written = nothing_written output;
-      counted = refl;
-      session = session.ended n o.stream s o.holds;
-    },
-  )
-
-  pub truncated_step : IsAtEnd reader → OfStream left (λ stream. Next stream frame.Truncated []) → Steps gives left left' reader output output clock clock count count means s (Some Truncated)
-  truncated_step at_end o = (
-    s,
-    keeps,
-    λ n. record {
-      stream = o.stream;
-      moments = [];
-      answers = [];
-      gave_up = false;
-      read = (is_stream left (λ stream. Next stream frame.Truncated []) o, at_end);
-      told = refl;
-      written = nothing_written output;
-      counted = refl;
-      session = session.truncated n o.stream s o.holds;
-    },
-  )
-
-  pub read_failed_step : (front : List ℕ) → Consumes left reader front → HoldsNoMessage front → Steps gives left left' reader output output clock clock count count means s (Some ReadFault)
-  read_failed_step front taken none = (
-    s,
-    keeps,
-    λ n. record {
-      stream = front;
-      moments = [];
-      answers = [];
-      gave_up = false;
-      read = taken;
-      told = refl;
-      written = nothing_written output;
-      counted = refl;
-      session = session.read_failed n front s none;
-    },
+    λ n. record { stream = stream; moments = []; answers = text; gave_up = gave_up; read = read; told = refl; written = written; counted = counted; session = whole n },
   )
 
   pub closed_step : (q : Refusal) (e : SessionEnd) → OfStream left (λ stream. Next stream (frame.Refused q) []) → IsClosed output output' q e
       → Steps gives left left' reader output output' clock clock count count means s (Some e)
-  closed_step q (Refused number) o closed = (
-    s,
-    keeps,
-    λ n. record {
-      stream = o.stream;
-      moments = [];
-      answers = session.closing q;
-      gave_up = false;
-      read = is_stream left (λ stream. Next stream (frame.Refused q) []) o;
-      told = refl;
-      written = closed.1;
-      counted = refl;
-      session = subst (λ (k : ℕ). Session (suc n) o.stream s [] (session.closing q) (Refused k) false s) (sym closed.0) (session.unframed n o.stream s q o.holds);
-    },
-  )
-  closed_step q WriteFault o closed = (
-    s,
-    keeps,
-    λ n. record {
-      stream = o.stream;
-      moments = [];
-      answers = closed.0;
-      gave_up = false;
-      read = is_stream left (λ stream. Next stream (frame.Refused q) []) o;
-      told = refl;
-      written = closed.1;
-      counted = refl;
-      session = session.write_failed_unframed n o.stream s q closed.0 o.holds closed.2;
-    },
-  )
+  closed_step q (Refused number) o closed =
+      ends (Refused number) false o.stream (session.closing q) (is_stream left (λ stream. Next stream (frame.Refused q) []) o) closed.1 refl
+      (λ n. subst (λ (k : ℕ). Session (suc n) o.stream s [] (session.closing q) (Refused k) false s) (sym closed.0) (session.unframed n o.stream s q o.holds))
+  closed_step q WriteFault o closed =
+      ends WriteFault false o.stream closed.0 (is_stream left (λ stream. Next stream (frame.Refused q) []) o) closed.1 refl
+      (λ n. session.write_failed_unframed n o.stream s q closed.0 o.holds closed.2)
   closed_step q Ended o closed = absurd closed
   closed_step q Truncated o closed = absurd closed
   closed_step q Limit o closed = absurd closed
@@ -294,40 +228,31 @@ module _ {C : Type 0} (gives : C → ℕ → C → Type 0) (left left' reader ou
 
   pub no_memory_step : (e : SessionEnd) (front : List ℕ) → Consumes left reader front → HoldsNoBareMessage front → IsClosed output output' rule.TryAgain e
       → Steps gives left left' reader output output' clock clock count count means s (Some e)
-  no_memory_step (Refused number) front taken none closed = (
-    s,
-    keeps,
-    λ n. record {
-      stream = front;
-      moments = [];
-      answers = session.closing rule.TryAgain;
-      gave_up = true;
-      read = taken;
-      told = refl;
-      written = closed.1;
-      counted = omega arith;
-      session = subst (λ (k : ℕ). Session (suc n) front s [] (session.closing rule.TryAgain) (Refused k) true s) (sym closed.0) (session.gave_up_reading n front s none);
-    },
-  )
-  no_memory_step WriteFault front taken none closed = (
-    s,
-    keeps,
-    λ n. record {
-      stream = front;
-      moments = [];
-      answers = closed.0;
-      gave_up = true;
-      read = taken;
-      told = refl;
-      written = closed.1;
-      counted = omega arith;
-      session = session.write_failed_giving_up_reading n front s closed.0 none closed.2;
-    },
-  )
+  no_memory_step (Refused number) front taken none closed =
+      ends (Refused number) true front (session.closing rule.TryAgain) taken closed.1 (omega arith)
+      (λ n. subst (λ (k : ℕ). Session (suc n) front s [] (session.closing rule.TryAgain) (Refused k) true s) (sym closed.0) (session.gave_up_reading n front s none))
+  no_memory_step WriteFault front taken none closed =
+      ends WriteFault true front closed.0 taken closed.1 (omega arith) (λ n. session.write_failed_giving_up_reading n front s closed.0 none closed.2)
   no_memory_step Ended front taken none closed = absurd closed
   no_memory_step Truncated front taken none closed = absurd closed
   no_memory_step Limit front taken none closed = absurd closed
   no_memory_step ReadFault front taken none closed = absurd closed
+
+module _ {C : Type 0} (gives : C → ℕ → C → Type 0) (left left' reader output : Option (List ℕ)) (clock : C) (count : ℕ) (means : State → Type 0) (s : State) (keeps : IsLeft means s) where
+  pub ended_step : IsAtEnd reader → OfStream left (λ stream. Next stream frame.Ended []) → Steps gives left left' reader output output clock clock count count means s (Some Ended)
+  ended_step at_end o =
+      ends gives left left' reader output output clock count means s keeps Ended false o.stream [] (is_stream left (λ stream. Next stream frame.Ended []) o, at_end) (nothing_written output) refl
+      (λ n. session.ended n o.stream s o.holds)
+
+  pub truncated_step : IsAtEnd reader → OfStream left (λ stream. Next stream frame.Truncated []) → Steps gives left left' reader output output clock clock count count means s (Some Truncated)
+  truncated_step at_end o =
+      ends gives left left' reader output output clock count means s keeps Truncated false o.stream [] (is_stream left (λ stream. Next stream frame.Truncated []) o, at_end) (nothing_written output) refl
+      (λ n. session.truncated n o.stream s o.holds)
+
+  pub read_failed_step : (front : List ℕ) → Consumes left reader front → HoldsNoMessage front → Steps gives left left' reader output output clock clock count count means s (Some ReadFault)
+  read_failed_step front taken none =
+      ends gives left left' reader output output clock count means s keeps ReadFault false front [] taken (nothing_written output) refl
+      (λ n. session.read_failed n front s none)
 
 -- ---- the messages so far
 

@@ -46,7 +46,7 @@ impl<K: Keeper> Office<K> {
     ghost use Rattle.dropoffice.specs.Kept.{IsKept, IsLeft};
     ghost use Rattle.dropoffice.specs.Sessions.{most_messages};
 
-    // Serves the messages of a feed, at most so many.
+    // Serves the messages of a feed, at most 1000.
     fn serve_feed<R: Read, W: Write, C: Clock>(
         &mut self,
         feed: &mut Feed<'_, R>,

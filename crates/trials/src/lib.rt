@@ -6,7 +6,11 @@
 #[cfg(test)]
 mod answers;
 #[cfg(test)]
+mod boxed;
+#[cfg(test)]
 mod counts;
+#[cfg(test)]
+mod exchanges;
 #[cfg(test)]
 mod fakes;
 #[cfg(test)]
@@ -15,6 +19,8 @@ mod feeds;
 mod keepers;
 #[cfg(test)]
 mod messages;
+#[cfg(test)]
+mod owed;
 #[cfg(test)]
 mod programs;
 #[cfg(test)]
@@ -27,3 +33,5 @@ mod sessions;
 mod sinks;
 #[cfg(test)]
 mod texts;
+#[cfg(test)]
+mod uploads;

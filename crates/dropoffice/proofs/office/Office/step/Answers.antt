@@ -47,20 +47,20 @@ returns-in-Ok-End-clause-steps g c s kept =
     let b = brought_by c.read_message.new.text c.read_message.new.body.items (left g.R.Read.remaining c.args.feed.now) (left g.R.Read.remaining c.read_message.new.feed)
     (g.R.Read.remaining (reader_of c.read_message.new.feed).inner) (place_of c.read_message.new.feed) c.in-Ok-End.field-0 came.End c.in-Ok-End.field-0-is c.in-Ok-End.ensures.brings in
     ended_step g.C.Clock.now_gives (left g.R.Read.remaining c.args.feed.now) (left g.R.Read.remaining c.read_message.new.feed) (g.R.Read.remaining (reader_of c.read_message.new.feed).inner)
-    (g.W.Write.contents c.args.writer.now.inner) (g.W.Write.contents c.args.writer.now.inner) c.args.clock.now (g.K.Keeper.faults c.args.self.now.keeper) (g.K.Keeper.means c.args.self.now.keeper) s (record { means = kept.means; sound = kept.sound }) b.1 b.2
+    (g.W.Write.contents c.args.writer.now.inner) c.args.clock.now (g.K.Keeper.faults c.args.self.now.keeper) (g.K.Keeper.means c.args.self.now.keeper) s (record { means = kept.means; sound = kept.sound }) b.1 b.2
 
 pub returns-in-Ok-Truncated-clause-steps : goal.returns-in-Ok-Truncated-clause-steps
 returns-in-Ok-Truncated-clause-steps g c s kept =
     let b = brought_by c.read_message.new.text c.read_message.new.body.items (left g.R.Read.remaining c.args.feed.now) (left g.R.Read.remaining c.read_message.new.feed)
     (g.R.Read.remaining (reader_of c.read_message.new.feed).inner) (place_of c.read_message.new.feed) c.in-Ok-Truncated.field-0 came.Truncated c.in-Ok-Truncated.field-0-is c.in-Ok-Truncated.ensures.brings in
     truncated_step g.C.Clock.now_gives (left g.R.Read.remaining c.args.feed.now) (left g.R.Read.remaining c.read_message.new.feed) (g.R.Read.remaining (reader_of c.read_message.new.feed).inner)
-    (g.W.Write.contents c.args.writer.now.inner) (g.W.Write.contents c.args.writer.now.inner) c.args.clock.now (g.K.Keeper.faults c.args.self.now.keeper) (g.K.Keeper.means c.args.self.now.keeper) s (record { means = kept.means; sound = kept.sound }) b.1 b.2
+    (g.W.Write.contents c.args.writer.now.inner) c.args.clock.now (g.K.Keeper.faults c.args.self.now.keeper) (g.K.Keeper.means c.args.self.now.keeper) s (record { means = kept.means; sound = kept.sound }) b.1 b.2
 
 pub returns-in-Err-Read-clause-steps : goal.returns-in-Err-Read-clause-steps
 returns-in-Err-Read-clause-steps g c s kept =
     let b = broke_off_by (left g.R.Read.remaining c.args.feed.now) (g.R.Read.remaining (reader_of c.read_message.new.feed).inner) c.in-Err-Read.field-0 fault.Read c.in-Err-Read.field-0-is c.in-Err-Read.ensures.fault in
     read_failed_step g.C.Clock.now_gives (left g.R.Read.remaining c.args.feed.now) (left g.R.Read.remaining c.read_message.new.feed) (g.R.Read.remaining (reader_of c.read_message.new.feed).inner)
-    (g.W.Write.contents c.args.writer.now.inner) (g.W.Write.contents c.args.writer.now.inner) c.args.clock.now (g.K.Keeper.faults c.args.self.now.keeper) (g.K.Keeper.means c.args.self.now.keeper) s (record { means = kept.means; sound = kept.sound }) b.0 b.1 b.2
+    (g.W.Write.contents c.args.writer.now.inner) c.args.clock.now (g.K.Keeper.faults c.args.self.now.keeper) (g.K.Keeper.means c.args.self.now.keeper) s (record { means = kept.means; sound = kept.sound }) b.0 b.1 b.2
 
 pub returns-in-Err-Memory-clause-steps : goal.returns-in-Err-Memory-clause-steps
 returns-in-Err-Memory-clause-steps g c s kept =

@@ -1,0 +1,119 @@
+//! An office with a box, and requests for it by links that are written here.
+use crate::fakes::{Sink, Source};
+use crate::published::{DATE, ID, SECRET};
+use boxes::{BoxRow, Change, Command, Mode, NameRule, OfficeRow};
+use dropoffice::{Counted, FixedClock, Office, SessionEnd};
+use keeper::{Keeper, Shelf};
+use links::{LinkKey, LinkOrder, write_link};
+use sigv4::Moment;
+use std::alloc::Global;
+use std::test::Fail;
+
+/// The clerk's key.
+pub(crate) const CLERK: LinkKey<'static> = LinkKey {
+    id: ID,
+    secret: SECRET,
+};
+
+/// The settings of a box that is open from 1 January to 1 June 2013, on all days.
+pub(crate) fn settings(mode: Mode, quota: u64, max_files: u64) -> BoxRow {
+    BoxRow {
+        opens: 1_356_998_400,
+        closes: 1_370_044_800,
+        days: [true; 7],
+        from_minute: 0,
+        to_minute: 1440,
+        quota,
+        max_files,
+        mode,
+        rule: NameRule::Any,
+    }
+}
+
+/// An office whose clock is so many minutes east of UTC, with the clerk's key and a box `in`.
+pub(crate) fn make_office(alloc: Global, east: i16, row: &BoxRow) -> Result<Office<Shelf>, Fail> {
+    let mut keeper = Shelf::new(alloc, OfficeRow { east }, ID, SECRET)?;
+    keeper.apply(&Change::Desk(Command::AddBox { name: b"in", row }))?;
+    Ok(Office::new(alloc, keeper))
+}
+
+/// A request by a link of seven days; without a body it tells no length.
+#[derive(Clone, Copy)]
+pub(crate) struct Asked<'a> {
+    pub(crate) key: LinkKey<'a>,
+    pub(crate) method: &'a [u8],
+    pub(crate) path: &'a [u8],
+    pub(crate) body: Option<&'a [u8]>,
+    pub(crate) start: &'a [u8; 16],
+}
+
+impl Asked<'_> {
+    /// The request as a message.
+    pub(crate) fn message(&self, alloc: Global) -> Result<Vec<u8>, Fail> {
+        let order = LinkOrder {
+            method: self.method,
+            path: self.path,
+            params: &[],
+            headers: &[],
+            start: Moment::read(self.start).ok_or("no moment")?,
+            expires: 604_800,
+        };
+        let mut stream = Vec::from_slice(alloc, self.method)?;
+        stream.push(b' ')?;
+        write_link(
+            alloc,
+            &order,
+            &self.key,
+            b"files.example",
+            b"us-east-1",
+            &mut stream,
+        )?;
+        stream.extend_from_slice(b" HTTP/1.1\r\nHost: files.example\r\n")?;
+        if let Some(body) = self.body {
+            let field = format!(in alloc; "Content-Length: {}\r\n", body.len())?;
+            stream.extend_from_slice(field.as_bytes())?;
+        }
+        stream.extend_from_slice(b"\r\n")?;
+        stream.extend_from_slice(self.body.unwrap_or(b""))?;
+        Ok(stream)
+    }
+}
+
+/// An upload by the clerk's key.
+pub(crate) fn put<'a>(alloc: Global, path: &'a [u8], body: &'a [u8]) -> Result<Vec<u8>, Fail> {
+    let asked = Asked {
+        key: CLERK,
+        method: b"PUT",
+        path,
+        body: Some(body),
+        start: DATE,
+    };
+    asked.message(alloc)
+}
+
+/// A request without a body by the clerk's key.
+pub(crate) fn bare<'a>(alloc: Global, method: &'a [u8], path: &'a [u8]) -> Result<Vec<u8>, Fail> {
+    let asked = Asked {
+        key: CLERK,
+        method,
+        path,
+        body: None,
+        start: DATE,
+    };
+    asked.message(alloc)
+}
+
+/// What a session at a moment writes that reads the stream to its end.
+pub(crate) fn reply(
+    office: &mut Office<Shelf>,
+    stream: &[u8],
+    at: &[u8; 16],
+) -> Result<Vec<u8>, Fail> {
+    let moment = Moment::read(at).ok_or("no moment")?;
+    let mut reader = Counted::new(Source::whole(stream));
+    let mut writer = Counted::new(Sink::new(office.alloc, 4096, 4096));
+    match office.session(&mut reader, &mut writer, &mut FixedClock::new(moment)) {
+        SessionEnd::Ended => Ok(writer.inner.text),
+        _ => Err("another end".into()),
+    }
+}

@@ -1,0 +1,222 @@
+//! Uploads and fetches over streams that are cut or fail, and by other keys.
+use crate::boxed::{Asked, CLERK, bare, make_office, put, reply, settings};
+use crate::fakes::{Cut, Sink, Source};
+use crate::owed::{
+    FIRST_ABC, FOUND_ABC, HEAD_OF_ABC, NO_BODY_HERE, NO_CLERK, NO_FILE, REVOKED, SECOND_X,
+};
+use crate::published::{DATE, EXPIRED, NO_BOX};
+use boxes::{Change, Command, Mode, Role};
+use dropoffice::{Counted, FixedClock, ListedClock, SessionEnd};
+use keeper::Keeper;
+use links::LinkKey;
+use sigv4::Moment;
+use std::alloc::Global;
+use std::io::Read;
+use std::test::Fail;
+
+// An upload of `abc`, and the fetch of it, in one stream.
+fn put_and_get(alloc: Global) -> Result<Vec<u8>, Fail> {
+    let mut stream = put(alloc, b"/in/a.txt", b"abc")?;
+    stream.extend_from_slice(&bare(alloc, b"GET", b"/in/a.txt")?)?;
+    Ok(stream)
+}
+
+// The answers to those two, one behind the other.
+fn both(alloc: Global) -> Result<Vec<u8>, Fail> {
+    let mut text = Vec::from_slice(alloc, FIRST_ABC)?;
+    text.extend_from_slice(FOUND_ABC)?;
+    Ok(text)
+}
+
+// What an office with an open box writes to a reader, and how the session ends.
+fn exchange<R: Read + Drop>(alloc: Global, reader: R) -> Result<(Vec<u8>, SessionEnd), Fail> {
+    let moment = Moment::read(DATE).ok_or("no moment")?;
+    let mut office = make_office(alloc, 0, &settings(Mode::Keep, 100, 2))?;
+    let mut reader = Counted::new(reader);
+    let mut writer = Counted::new(Sink::new(alloc, 4096, 4096));
+    let end = office.session(&mut reader, &mut writer, &mut FixedClock::new(moment));
+    Ok((writer.inner.text, end))
+}
+
+#[test]
+fn a_file_is_fetched_with_its_receipt(rt: HostRuntime) -> Result<(), Fail> {
+    let alloc = rt.alloc();
+    let mut office = make_office(alloc, 0, &settings(Mode::Keep, 100, 2))?;
+    for (method, path, want) in [
+        (b"GET".as_slice(), b"/in/a.txt".as_slice(), NO_FILE),
+        (b"GET", b"/out/a.txt", NO_BOX),
+    ] {
+        assert_eq!(rt;
+            reply(&mut office, &bare(alloc, method, path)?, DATE)?.as_slice(),
+            want
+        );
+    }
+    let upload = put(alloc, b"/in/a.txt", b"abc")?;
+    assert_eq!(rt; reply(&mut office, &upload, DATE)?.as_slice(), FIRST_ABC);
+    for (method, path, want) in [
+        (b"GET".as_slice(), b"/in/a.txt".as_slice(), FOUND_ABC),
+        (b"HEAD", b"/in/a.txt", HEAD_OF_ABC),
+        (b"GET", b"/in/b.txt", NO_FILE),
+    ] {
+        assert_eq!(rt;
+            reply(&mut office, &bare(alloc, method, path)?, DATE)?.as_slice(),
+            want
+        );
+    }
+    Ok(())
+}
+
+// A request by the key `k2`.
+fn by_link<'a>(
+    alloc: Global,
+    method: &'a [u8],
+    path: &'a [u8],
+    body: Option<&'a [u8]>,
+) -> Result<Vec<u8>, Fail> {
+    let asked = Asked {
+        key: LinkKey {
+            id: b"k2",
+            secret: b"s3cr3t",
+        },
+        method,
+        path,
+        body,
+        start: DATE,
+    };
+    asked.message(alloc)
+}
+
+#[test]
+fn a_links_key_puts_and_fetches_until_it_is_revoked(rt: HostRuntime) -> Result<(), Fail> {
+    let alloc = rt.alloc();
+    let mut office = make_office(alloc, 0, &settings(Mode::Keep, 100, 2))?;
+    let upload = by_link(alloc, b"PUT", b"/in/a.txt", Some(b"abc"))?;
+    let fetch = by_link(alloc, b"GET", b"/in/a.txt", None)?;
+    let order = by_link(alloc, b"POST", b"/", None)?;
+    let adding = Command::AddKey {
+        id: b"k2",
+        role: Role::Link,
+        secret: b"s3cr3t",
+    };
+    office.keeper.apply(&Change::Desk(adding))?;
+    assert_eq!(rt; reply(&mut office, &upload, DATE)?.as_slice(), FIRST_ABC);
+    assert_eq!(rt; reply(&mut office, &fetch, DATE)?.as_slice(), FOUND_ABC);
+    assert_eq!(rt; reply(&mut office, &order, DATE)?.as_slice(), NO_CLERK);
+    office
+        .keeper
+        .apply(&Change::Desk(Command::RevokeKey { id: b"k2" }))?;
+    assert_eq!(rt; reply(&mut office, &fetch, DATE)?.as_slice(), REVOKED);
+    Ok(())
+}
+
+#[test]
+fn a_fetch_has_no_body(rt: HostRuntime) -> Result<(), Fail> {
+    let alloc = rt.alloc();
+    let asked = Asked {
+        key: CLERK,
+        method: b"GET",
+        path: b"/in/a.txt",
+        body: Some(b"x"),
+        start: DATE,
+    };
+    let mut office = make_office(alloc, 0, &settings(Mode::Keep, 100, 2))?;
+    assert_eq!(rt;
+        reply(&mut office, &asked.message(alloc)?, DATE)?.as_slice(),
+        NO_BODY_HERE
+    );
+    Ok(())
+}
+
+#[test]
+fn answers_come_whatever_is_read_at_once(rt: HostRuntime) -> Result<(), Fail> {
+    let stream = put_and_get(rt.alloc())?;
+    let want = both(rt.alloc())?;
+    for at_once in [1, 7, 4096] {
+        let source = Source {
+            rest: &stream,
+            at_once,
+            fails: false,
+        };
+        let (text, end) = exchange(rt.alloc(), source)?;
+        assert_eq!(rt; text.as_slice(), want.as_slice(), "{at_once} at once");
+        assert_eq!(rt; end, SessionEnd::Ended, "{at_once} at once");
+    }
+    Ok(())
+}
+
+#[test]
+fn answers_come_wherever_the_stream_is_cut(rt: HostRuntime) -> Result<(), Fail> {
+    let stream = put_and_get(rt.alloc())?;
+    let want = both(rt.alloc())?;
+    for place in 0..stream.len() {
+        let (first, rest) = stream.split_at(place);
+        let (text, end) = exchange(rt.alloc(), Cut { first, rest })?;
+        assert_eq!(rt; text.as_slice(), want.as_slice(), "cut at {place}");
+        assert_eq!(rt; end, SessionEnd::Ended, "cut at {place}");
+    }
+    Ok(())
+}
+
+#[test]
+fn a_read_fails_behind_a_message(rt: HostRuntime) -> Result<(), Fail> {
+    let stream = put(rt.alloc(), b"/in/a.txt", b"abc")?;
+    for at_once in [1, 4096] {
+        let source = Source {
+            rest: &stream,
+            at_once,
+            fails: true,
+        };
+        let (text, end) = exchange(rt.alloc(), source)?;
+        assert_eq!(rt; text.as_slice(), FIRST_ABC);
+        assert_eq!(rt; end, SessionEnd::ReadFault);
+    }
+    Ok(())
+}
+
+#[test]
+fn a_receipt_stands_though_its_answer_broke_off(rt: HostRuntime) -> Result<(), Fail> {
+    let alloc = rt.alloc();
+    let moment = Moment::read(DATE).ok_or("no moment")?;
+    let mut office = make_office(alloc, 0, &settings(Mode::Keep, 100, 2))?;
+    let upload = put(alloc, b"/in/a.txt", b"abc")?;
+    let mut reader = Counted::new(Source::whole(&upload));
+    let mut writer = Counted::new(Sink::new(alloc, 4096, 10));
+    let end = office.session(&mut reader, &mut writer, &mut FixedClock::new(moment));
+    assert_eq!(rt; end, SessionEnd::WriteFault);
+    assert_eq!(rt; writer.inner.text.as_slice(), &FIRST_ABC[..10]);
+    assert_eq!(rt; office.keeper.next_number()?, 2);
+    assert_eq!(rt; reply(&mut office, &upload, DATE)?.as_slice(), FIRST_ABC);
+    assert_eq!(rt; office.keeper.next_number()?, 2);
+    Ok(())
+}
+
+#[test]
+fn a_run_goes_on_behind_a_connection_that_fails(rt: HostRuntime) -> Result<(), Fail> {
+    let alloc = rt.alloc();
+    let mut office = make_office(alloc, 0, &settings(Mode::Keep, 100, 2))?;
+    let first = put(alloc, b"/in/a.txt", b"abc")?;
+    let second = put(alloc, b"/in/b.txt", b"x")?;
+    let third = bare(alloc, b"GET", b"/in/a.txt")?;
+    let broken = Source {
+        rest: &second,
+        at_once: 100,
+        fails: true,
+    };
+    let ample = || Sink::new(alloc, 4096, 4096);
+    let mut connections = [
+        (Counted::new(Source::whole(&first)), Counted::new(ample())),
+        (Counted::new(broken), Counted::new(ample())),
+        (Counted::new(Source::whole(&third)), Counted::new(ample())),
+    ];
+    let others = [
+        Moment::read(b"20130524T000001Z").ok_or("no moment")?,
+        Moment::read(b"20130531T000000Z").ok_or("no moment")?,
+    ];
+    let mut clock = ListedClock::new(Moment::read(DATE).ok_or("no moment")?, &others);
+    assert_eq!(rt; office.run(&mut connections, &mut clock), 1);
+    assert_eq!(rt; connections[0].1.inner.text.as_slice(), FIRST_ABC);
+    assert_eq!(rt; connections[1].1.inner.text.as_slice(), SECOND_X);
+    assert_eq!(rt; connections[2].1.inner.text.as_slice(), EXPIRED);
+    assert_eq!(rt; office.keeper.next_number()?, 3);
+    Ok(())
+}
