@@ -113,7 +113,8 @@ impl<S: Alter> SqlKeeper<S> {
         ensures crash { IsBare (state S.Store conn) → IfErr result (λ e. AddsOnly v1 (state S.Store conn) (state S.Store e.1) (first_state office.east id.now secret.now)) }
         ensures opened { IfOk result (λ k. HasCleanDisk (state S.Store k.conn) → IsTrue (state S.Store k.conn).is_open) }
         ensures none { IfOk result (λ k. k.faults ≡ 0) }
-        ensures exists { (state S.Store conn).now.schema.tables ≢ [] → IfOk result (λ k. ⊥) }
+        ensures exists { (state S.Store conn).now.schema.tables ≢ [] → IfErr result (λ e. e.0 ≡ OpenFault.Exists) × IsErr result }
+        ensures told { IfErr result (λ e. e.0 ≡ OpenFault.Exists → (state S.Store conn).now.schema.tables ≢ []) }
         ensures kept { IsBare (state S.Store conn) → IfErr result (λ e. IsBare (state S.Store e.1)) }
     {
         if !conn.schema().tables.is_empty() {
