@@ -29,41 +29,6 @@ pub given : {X E : Type 0} (P Q : Type 0) (r : Result X E) → (P → OnOk r (P 
 given P Q (Ok x) h = λ p. h p p
 given P Q (Err e) h = tt
 
--- ---- the length of a file that stands
-
-pub record Standing (s : State) (place : Place) (number : ℕ) : Type 0 where
-  pub file : File
-  pub there : get s.files place ≡ Some file
-  pub at : ℕ
-  pub counted : number ≡ at + 1
-  pub receipt : Receipt
-  pub listed : slice_get s.receipts at ≡ Some receipt
-  pub size : receipt.size ≡ length file.bytes
-  pub digest : IsDigest receipt.digest
-
-pub standing : (s : State) (place : Place) (number : ℕ) → IsSound s → option_map (λ (f : File). f.receipt) (get s.files place) ≡ Some number → Standing s place number
-standing s place number sound shown =
-    let f = some_of (λ (f : File). f.receipt) (get s.files place) number shown in
-    let it = sound.files place f.0 f.1 in
-    record {
-      file = f.0;
-      there = f.1;
-      at = it.listed.place;
-      counted = sym f.2 ∙ it.listed.counted;
-      receipt = it.receipt;
-      listed = it.listed.listed;
-      size = it.size;
-      digest = (all_at (IsReceipt s) s.receipts it.listed.place it.receipt sound.receipts it.listed.listed).digest;
-    }
-
--- the receipt tells how long it is
-pub told : (s : State) (place : Place) (number : ℕ) (it : Standing s place number) (found : Option ReceiptRow) (row : ReceiptRow)
-    → option_map receipt_in found ≡ slice_get s.receipts it.at → found ≡ Some row → Some row.size ≡ option_map (λ (f : File). length f.bytes) (get s.files place)
-told s place number it found row shown is =
-    let same : Some (receipt_in row) ≡ Some it.receipt = ap (option_map receipt_in) (sym is) ∙ shown ∙ it.listed in
-    let receipt : receipt_in row ≡ it.receipt = cc in
-    ap Some (ap (λ (r : Receipt). r.size) receipt ∙ it.size) ∙ ap (option_map (λ (f : File). length f.bytes)) (sym it.there)
-
 pub same_some : {X Y Z : Type 0} (f : X → Y) (g : X → Z) (o : Option X) → is_some (option_map f o) ≡ is_some (option_map g o)
 same_some f g None = refl
 same_some f g (Some x) = refl

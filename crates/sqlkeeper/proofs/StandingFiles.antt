@@ -83,3 +83,13 @@ module _ (s : State) (sound : IsSound s) (place : Place) (r : ReceiptRow) (found
     file = (λ i. Some (record { bytes = bytes i; receipt = (ap (λ (x : ReceiptRow). x.number) same ∙ at_place.2) i })) ∙ sym at_place.1;
     receipt = λ g is. let e : f ≡ g = cc in found.receipt g.receipt (ap Some (sym same ∙ ap (λ (x : FileRow). x.receipt) e));
   }
+
+  pub told_size : Some r.size ≡ option_map (λ (f : File). length f.bytes) (get s.files place)
+  told_size = ap Some (sym size_is) ∙ sym (ap (option_map (λ (f : File). length f.bytes)) at_place.1)
+
+pub no_size : (s : State) (place : Place) → IsReceiptAt s place None → None ≡ option_map (λ (f : File). length f.bytes) (get s.files place)
+no_size s place found = go (get s.files place) refl
+  where
+    go : (o : Option File) → get s.files place ≡ o → None ≡ option_map (λ (f : File). length f.bytes) (get s.files place)
+    go None none = sym (ap (option_map (λ (f : File). length f.bytes)) none)
+    go (Some f) some = let e = found.there ∙ ap (option_map (λ (g : File). g.receipt)) some in cc

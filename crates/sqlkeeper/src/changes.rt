@@ -15,7 +15,8 @@ ghost use Rattle.sqlkeeper.specs.Changes.{with_file, with_receipt, without_piece
 ghost use Rattle.sqlkeeper.specs.Means.{Pends, IsRunning, Means, LeavesOnly, AddsOnly, LeavesLast};
 
 use crate::box_rows::insert_box;
-use crate::questions::{file_number, receipt, totals};
+use crate::questions::totals;
+use crate::standing::standing_size;
 use crate::statements::{
     delete_file, delete_pieces, insert_file, insert_key, insert_pieces, insert_receipt,
     update_closes, update_file, update_revoked, update_totals,
@@ -37,30 +38,6 @@ fn text_of(bytes: &[u8]) -> Result<&str, Error>
     match str::from_utf8(bytes) {
         Ok(text) => Ok(text),
         Err(error) => Err(Error::Utf8Error(error.valid_up_to())),
-    }
-}
-
-/// How long the file of this box and name is, in bytes, in a sound state: its receipt tells.
-fn standing_size<S: Alter>(
-    tx: &mut Transaction<'_, S>,
-    in_box: &str,
-    name: &str,
-) -> Result<Option<u64>, Error>
-    ensures same_reference { tx.new.conn.ghost_name ≡ tx.old.conn.ghost_name }
-    ensures found { let place : Place = record { box = in_box.now; name = name.now } in
-        (v : Version) (s : State) → IsVersion v → Pends v (state S.Store tx.old.conn.now) (tables_of s) → IsSound s
-        → IsTrue (state S.Store tx.old.conn.now).in_transaction → HasCleanDisk (state S.Store tx.new.conn.now) → IfOk result (λ size. size ≡ option_map (λ f. length f.bytes) (get s.files place)) }
-    ensures still { (v : Version) (tables : Tables) → IsVersion v → Pends v (state S.Store tx.old.conn.now) tables → OnOk result (Pends v (state S.Store tx.new.conn.now) tables) }
-    ensures running { HasCleanDisk (state S.Store tx.new.conn.now) → IsTrue (state S.Store tx.old.conn.now).in_transaction → OnOk result (IsRunning (state S.Store tx.new.conn.now)) }
-    ensures uncommitted { HasCleanDisk (state S.Store tx.new.conn.now) → IsTrue (state S.Store tx.old.conn.now).in_transaction → KeepsCommit (state S.Store tx.old.conn.now) (state S.Store tx.new.conn.now) }
-    ensures survives { Survives (state S.Store tx.old.conn.now) (state S.Store tx.new.conn.now) (λ _. ⊥) }
-{
-    let Some(number) = file_number(tx, in_box, name)? else {
-        return Ok(None);
-    };
-    match receipt(tx, number)? {
-        Some(receipt) => Ok(Some(receipt.size)),
-        None => Err(Error::QueryReturnedNoRows),
     }
 }
 
