@@ -84,7 +84,7 @@ pub(crate) fn totals<S: Alter>(conn: &mut Connection<S>, name: &str) -> Result<T
 }
 
 /// How many unrevoked clerk's keys stand.
-pub(crate) fn clerks<S: Alter>(conn: &mut Connection<S>) -> Result<u64, Error>
+pub(crate) fn clerks<S: Alter>(conn: &mut Connection<S>, alloc: Global) -> Result<u64, Error>
     ensures found { (v : Version) (s : State) → IsVersion v → Means v (state S.Store conn.old) s → IsSound s → HasCleanDisk (state S.Store conn.new) → IfOk result (λ count. count ≡ clerks s) }
     ensures kept { (v : Version) (s : State) → IsVersion v → Means v (state S.Store conn.old) s → Means v (state S.Store conn.new) s }
     ensures survives { Survives (state S.Store conn.old) (state S.Store conn.new) (λ _. ⊥) }
@@ -93,7 +93,7 @@ pub(crate) fn clerks<S: Alter>(conn: &mut Connection<S>) -> Result<u64, Error>
         return Err(Error::SqliteFailure(ErrorCode::TransactionState));
     }
     let mut tx = conn.transaction();
-    questions::clerks(&mut tx)
+    questions::clerks(&mut tx, alloc)
 }
 
 /// The number of the next receipt.

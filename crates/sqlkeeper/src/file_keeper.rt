@@ -195,7 +195,7 @@ impl<S: Alter> Keeper for SqlKeeper<S> {
     }
 
     fn clerks(&mut self) -> Result<u64, KeepFault> {
-        counted(&mut self.faults, asking::clerks(&mut self.conn))
+        counted(&mut self.faults, asking::clerks(&mut self.conn, self.alloc))
     }
 
     fn next_number(&mut self) -> Result<u64, KeepFault> {
