@@ -38,3 +38,5 @@ pub mod NotText
 pub mod Stays
 pub mod StandingFiles
 pub mod Making
+pub mod Different
+pub mod ClerkRows

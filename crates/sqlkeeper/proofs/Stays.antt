@@ -103,3 +103,7 @@ kept_at_error new s (Err e) sound means = record { means = means; sound = sound 
 pub at_error : {X E P : Type 0} (r : Result X E) → P → OnErr r P
 at_error (Ok x) p = tt
 at_error (Err e) p = p
+
+pub at_answer : {X E P : Type 0} (r : Result X E) → P → OnOk r P
+at_answer (Ok x) p = p
+at_answer (Err e) p = tt

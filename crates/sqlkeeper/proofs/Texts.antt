@@ -283,4 +283,3 @@ list_pieces_command = select (query 9 [] (col 1 0 ∷ col 1 1 ∷ col 1 2 ∷ co
 pub list_pieces_is : Asks s6 list_pieces list_pieces_command
 unfolding understood everything
 list_pieces_is = record { says = record { is = refl; plain = (refl, refl) }; unlisted = refl }
-

@@ -175,8 +175,7 @@ one_box row k q v w a b x y =
     let mode = same_mode v.settings.mode w.settings.mode (sym a.mode_is ∙ b.mode_is) in
     let rule = same_rule v.settings.rule w.settings.rule x.rule y.rule (sym a.kind_is ∙ b.kind_is) (sym a.text_is ∙ b.text_is) in
     let used = number_of v.used w.used (sym a.used_is ∙ b.used_is) in
-    let count = number_of v.count w.count (sym a.count_is ∙ b.count_is) in
-    (
+    let count = number_of v.count w.count (sym a.count_is ∙ b.count_is) in (
       text_of k q (sym a.name_is ∙ b.name_is),
       λ i. record {
         settings = record { opens = opens i; closes = closes i; days = days i; from_minute = from i; to_minute = to i; quota = quota i; max_files = most i; mode = mode i; rule = rule i };

@@ -1,9 +1,13 @@
 -- What questions show.
-use Rattle.std.specs.Prelude.{◌≡◌, ℕ, ℤ, suc, zero, pos, List, [], ◌∷◌, Option, Some, None, option_map}
-use Rattle.sqlite_value.specs.declared.value.Value.TheVariants.{Int, Text, Blob}
-use Rattle.sqlite_value.specs.Order.{Row}
+use Rattle.std.specs.Prelude.{◌≡◌, ℕ, ℤ, suc, zero, pos, List, [], ◌∷◌, map, true, Option, Some, None, option_map}
+use Rattle.std.specs.FinSet.{len, from_list}
+use Rattle.sqlite_value.specs.declared.value.Value.{Value}
+use Rattle.sqlite_value.specs.declared.value.Value.TheVariants.{Null, Int, Real, Text, Blob}
+use Rattle.sqlite_value.specs.Order.{Row, column}
 use Rattle.sqlite_rules.specs.Lists.{Has}
+use Rattle.sigtext.specs.Bytes.{bytes_cmp}
 use Rattle.boxes.specs.State.{Key, Receipt}
+use Rattle.boxes.specs.Clerks.{is_acting}
 use Rattle.boxes.specs.declared.totals.Totals.{Totals}
 use Rattle.boxes.specs.declared.rows.ReceiptRow.{ReceiptRow}
 use Rattle.boxes.specs.Rows.{receipt_in}
@@ -53,3 +57,28 @@ AreTotalsOf (Some b) t = (t.used ≡ b.used) × (t.count ≡ b.count)
 -- the receipt with its number, where it is there
 abbrev pub IsReceiptOf : ℕ → Option Receipt → Option ReceiptRow → Type 0
 IsReceiptOf number there found = (option_map receipt_in found ≡ there) × ((r : ReceiptRow) → found ≡ Some r → r.number ≡ number)
+
+-- ---- the unrevoked clerk's keys
+
+abbrev pub shown_id : List ℕ → Row
+shown_id id = Text id ∷ []
+
+-- the rows, as a set, are the ids of the unrevoked clerk's keys
+pub record AreActing (lookup : List ℕ → Option Key) (rows : List Row) : Type 0 where
+  pub sound : (row : Row) → Has rows row → (id : List ℕ) × (key : Key) × (row ≡ shown_id id) × (lookup id ≡ Some key) × (is_acting key ≡ true)
+  pub complete : (id : List ℕ) (key : Key) → lookup id ≡ Some key → is_acting key ≡ true → Has rows (shown_id id)
+
+-- the bytes of a text; a value that is no text has none
+abbrev pub text_in : Value → List ℕ
+text_in Null = []
+text_in (Int n) = []
+text_in (Real x) = []
+text_in (Text text) = text
+text_in (Blob bytes) = []
+
+abbrev pub first_text : Row → List ℕ
+first_text row = text_in (column row 0)
+
+-- how many different texts stand first in the rows
+abbrev pub different_texts : List Row → ℕ
+different_texts rows = len (from_list {R = bytes_cmp} (map first_text rows))

@@ -45,7 +45,10 @@ pub(crate) fn key<S: Alter>(conn: &mut Connection<S>, id: &str) -> Result<Option
 }
 
 /// The box of this name.
-pub(crate) fn box_row<S: Alter>(conn: &mut Connection<S>, name: &str) -> Result<Option<BoxRow>, Error>
+pub(crate) fn box_row<S: Alter>(
+    conn: &mut Connection<S>,
+    name: &str,
+) -> Result<Option<BoxRow>, Error>
     ensures found { (v : Version) (s : State) → IsVersion v → Means v (state S.Store conn.old) s → IsSound s → HasCleanDisk (state S.Store conn.new) → IfOk result (λ row. option_map settings_of row ≡ get s.boxes name.now) }
     ensures kept { (v : Version) (s : State) → IsVersion v → Means v (state S.Store conn.old) s → Means v (state S.Store conn.new) s }
     ensures survives { Survives (state S.Store conn.old) (state S.Store conn.new) (λ _. ⊥) }
@@ -58,7 +61,12 @@ pub(crate) fn box_row<S: Alter>(conn: &mut Connection<S>, name: &str) -> Result<
 }
 
 /// The file of this box and name, with its receipt.
-pub(crate) fn file<S: Alter>(conn: &mut Connection<S>, alloc: Global, in_box: &str, name: &str) -> Result<Option<FileRow>, Error>
+pub(crate) fn file<S: Alter>(
+    conn: &mut Connection<S>,
+    alloc: Global,
+    in_box: &str,
+    name: &str,
+) -> Result<Option<FileRow>, Error>
     ensures found { (v : Version) (s : State) → IsVersion v → Means v (state S.Store conn.old) s → IsSound s → HasCleanDisk (state S.Store conn.new) → IfOk result (IsFileAt s (record { box = in_box.now; name = name.now })) }
     ensures kept { (v : Version) (s : State) → IsVersion v → Means v (state S.Store conn.old) s → Means v (state S.Store conn.new) s }
     ensures survives { Survives (state S.Store conn.old) (state S.Store conn.new) (λ _. ⊥) }
@@ -84,7 +92,7 @@ pub(crate) fn totals<S: Alter>(conn: &mut Connection<S>, name: &str) -> Result<T
 }
 
 /// How many unrevoked clerk's keys stand.
-pub(crate) fn clerks<S: Alter>(conn: &mut Connection<S>) -> Result<u64, Error>
+pub(crate) fn clerks<S: Alter>(conn: &mut Connection<S>, alloc: Global) -> Result<u64, Error>
     ensures found { (v : Version) (s : State) → IsVersion v → Means v (state S.Store conn.old) s → IsSound s → HasCleanDisk (state S.Store conn.new) → IfOk result (λ count. count ≡ clerks s) }
     ensures kept { (v : Version) (s : State) → IsVersion v → Means v (state S.Store conn.old) s → Means v (state S.Store conn.new) s }
     ensures survives { Survives (state S.Store conn.old) (state S.Store conn.new) (λ _. ⊥) }
@@ -93,7 +101,7 @@ pub(crate) fn clerks<S: Alter>(conn: &mut Connection<S>) -> Result<u64, Error>
         return Err(Error::SqliteFailure(ErrorCode::TransactionState));
     }
     let mut tx = conn.transaction();
-    questions::clerks(&mut tx)
+    questions::clerks(&mut tx, alloc)
 }
 
 /// The number of the next receipt.
@@ -111,7 +119,12 @@ pub(crate) fn next_number<S: Alter>(conn: &mut Connection<S>) -> Result<u64, Err
 }
 
 /// The receipts numbered `from` or more, ascending, at most `most`.
-pub(crate) fn receipts<S: Alter>(conn: &mut Connection<S>, alloc: Global, from: u64, most: usize) -> Result<Vec<ReceiptRow>, Error>
+pub(crate) fn receipts<S: Alter>(
+    conn: &mut Connection<S>,
+    alloc: Global,
+    from: u64,
+    most: usize,
+) -> Result<Vec<ReceiptRow>, Error>
     ensures found { (v : Version) (s : State) → IsVersion v → Means v (state S.Store conn.old) s → IsSound s → HasCleanDisk (state S.Store conn.new) → IfOk result (λ rows. map numbered_receipt rows.items ≡ receipts_from s from most) }
     ensures kept { (v : Version) (s : State) → IsVersion v → Means v (state S.Store conn.old) s → Means v (state S.Store conn.new) s }
     ensures survives { Survives (state S.Store conn.old) (state S.Store conn.new) (λ _. ⊥) }

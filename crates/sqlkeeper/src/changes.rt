@@ -313,7 +313,10 @@ fn write_change<S: Alter>(tx: &mut Transaction<'_, S>, change: &Change<'_>) -> R
 ///
 /// Those of the database, a pending transaction among them, and one for a text that is not UTF-8 or a number that the
 /// file has no room for. The office is then as it was.
-pub(crate) fn apply_change<S: Alter>(conn: &mut Connection<S>, change: &Change<'_>) -> Result<(), Error>
+pub(crate) fn apply_change<S: Alter>(
+    conn: &mut Connection<S>,
+    change: &Change<'_>,
+) -> Result<(), Error>
     ensures made { (v : Version) (s after : State) → IsVersion v → Means v (state S.Store conn.old) s → IsSound s → IsChangeOf s change.now after
         → OnOk result (Means v (state S.Store conn.new) after) }
     ensures kept { (v : Version) (s : State) → IsVersion v → Means v (state S.Store conn.old) s → OnErr result (Means v (state S.Store conn.new) s) }

@@ -186,7 +186,10 @@ impl<S: Alter> Keeper for SqlKeeper<S> {
         let Ok(name) = str::from_utf8(name) else {
             return Ok(None);
         };
-        counted(&mut self.faults, asking::file(&mut self.conn, self.alloc, in_box, name))
+        counted(
+            &mut self.faults,
+            asking::file(&mut self.conn, self.alloc, in_box, name),
+        )
     }
 
     fn sizes(&mut self, in_box: &[u8]) -> Result<Totals, KeepFault> {
@@ -197,7 +200,7 @@ impl<S: Alter> Keeper for SqlKeeper<S> {
     }
 
     fn clerks(&mut self) -> Result<u64, KeepFault> {
-        counted(&mut self.faults, asking::clerks(&mut self.conn))
+        counted(&mut self.faults, asking::clerks(&mut self.conn, self.alloc))
     }
 
     fn next_number(&mut self) -> Result<u64, KeepFault> {
@@ -205,7 +208,10 @@ impl<S: Alter> Keeper for SqlKeeper<S> {
     }
 
     fn receipts(&mut self, from: u64, most: usize) -> Result<Vec<ReceiptRow>, KeepFault> {
-        counted(&mut self.faults, asking::receipts(&mut self.conn, self.alloc, from, most))
+        counted(
+            &mut self.faults,
+            asking::receipts(&mut self.conn, self.alloc, from, most),
+        )
     }
 
     fn apply(&mut self, change: &Change<'_>) -> Result<(), KeepFault> {

@@ -15,13 +15,14 @@ ghost use Rattle.boxes.specs.Sound.{AreSettings, IsDigest};
 ghost use Rattle.sqlkeeper.specs.Schema.{Version, IsVersion};
 ghost use Rattle.sqlkeeper.specs.Tables.{Tables, Box, piece_of};
 ghost use Rattle.sqlkeeper.specs.Means.{Pends, IsRunning};
-ghost use Rattle.sqlkeeper.specs.Questions.{last_rows, ShowsRow, shown_office, shown_key, shown_box, shown_totals, shown_receipt, shown_number, shown_bytes, AreTotalsOf, IsReceiptOf};
+ghost use Rattle.sqlkeeper.specs.Questions.{last_rows, ShowsRow, shown_office, shown_key, shown_box, shown_totals, shown_receipt, shown_number, shown_bytes, AreTotalsOf, IsReceiptOf, AreActing, different_texts};
 
-use crate::reading::{read_box, read_key, read_receipt};
+use crate::reading::{read_box, read_key, read_receipt, read_text};
 use boxes::{BoxRow, KeyRow, ReceiptRow, Totals};
 use sqlite::types::ValueRef;
 use sqlite::{Alter, Error, ErrorCode, Row, Transaction, params};
 use std::alloc::Global;
+use std::collections::BTreeSet;
 
 /// The last of the rows that a query of the office's own tables shows, if it shows one.
 fn select_row<S: Alter>(
@@ -203,7 +204,10 @@ pub(crate) fn key<S: Alter>(tx: &mut Transaction<'_, S>, id: &str) -> Result<Opt
 }
 
 /// The box of this name. Its settings are to be those of a sound state.
-pub(crate) fn box_row<S: Alter>(tx: &mut Transaction<'_, S>, name: &str) -> Result<Option<BoxRow>, Error>
+pub(crate) fn box_row<S: Alter>(
+    tx: &mut Transaction<'_, S>,
+    name: &str,
+) -> Result<Option<BoxRow>, Error>
     ensures same_reference { tx.new.conn.ghost_name ≡ tx.old.conn.ghost_name }
     ensures found { (v : Version) (tables : Tables) → IsVersion v → Pends v (state S.Store tx.old.conn.now) tables → ((b : Box) → tables.box name.now ≡ Some b → AreSettings b.settings)
         → IsTrue (state S.Store tx.old.conn.now).in_transaction → HasCleanDisk (state S.Store tx.new.conn.now) → IfOk result (λ row. option_map settings_of row ≡ option_map (λ b. b.settings) (tables.box name.now)) }
@@ -329,8 +333,32 @@ pub(crate) fn file_bytes<S: Alter>(
     Ok(bytes)
 }
 
+/// The rows of the unrevoked clerk's keys, each an id, in no order.
+fn select_clerks<S: Alter>(tx: &mut Transaction<'_, S>) -> Result<Vec<Row>, Error>
+    ensures same_reference { tx.new.conn.ghost_name ≡ tx.old.conn.ghost_name }
+    ensures found { (v : Version) (tables : Tables) → IsVersion v → Pends v (state S.Store tx.old.conn.now) tables
+        → IsTrue (state S.Store tx.old.conn.now).in_transaction → HasCleanDisk (state S.Store tx.new.conn.now) → IfOk result (λ rows. AreActing tables.key rows.items) }
+    ensures still { (v : Version) (tables : Tables) → IsVersion v → Pends v (state S.Store tx.old.conn.now) tables → OnOk result (Pends v (state S.Store tx.new.conn.now) tables) }
+    ensures running { HasCleanDisk (state S.Store tx.new.conn.now) → IsTrue (state S.Store tx.old.conn.now).in_transaction → OnOk result (IsRunning (state S.Store tx.new.conn.now)) }
+    ensures uncommitted { HasCleanDisk (state S.Store tx.new.conn.now) → IsTrue (state S.Store tx.old.conn.now).in_transaction → KeepsCommit (state S.Store tx.old.conn.now) (state S.Store tx.new.conn.now) }
+    ensures survives { Survives (state S.Store tx.old.conn.now) (state S.Store tx.new.conn.now) (λ _. ⊥) }
+{
+    tx.query_all("SELECT id FROM keys WHERE role = 1 AND revoked = 0", &[])
+}
+
+/// How many different texts stand first in the rows. A row that begins with no text is an error.
+fn count_texts(alloc: Global, rows: &[Row]) -> Result<u64, Error>
+    ensures { IfOk result (λ count. count ≡ different_texts rows.now) }
+{
+    let mut texts = BTreeSet::new(alloc);
+    for row in rows {
+        texts.insert(read_text(row, 0)?)?;
+    }
+    Ok(texts.len() as u64)
+}
+
 /// How many unrevoked clerk's keys stand.
-pub(crate) fn clerks<S: Alter>(tx: &mut Transaction<'_, S>) -> Result<u64, Error>
+pub(crate) fn clerks<S: Alter>(tx: &mut Transaction<'_, S>, alloc: Global) -> Result<u64, Error>
     ensures same_reference { tx.new.conn.ghost_name ≡ tx.old.conn.ghost_name }
     ensures found { (v : Version) (tables : Tables) (s : State) → IsVersion v → Pends v (state S.Store tx.old.conn.now) tables → tables.key ≡ get s.keys
         → IsTrue (state S.Store tx.old.conn.now).in_transaction → HasCleanDisk (state S.Store tx.new.conn.now) → IfOk result (λ count. count ≡ clerks s) }
@@ -339,7 +367,8 @@ pub(crate) fn clerks<S: Alter>(tx: &mut Transaction<'_, S>) -> Result<u64, Error
     ensures uncommitted { HasCleanDisk (state S.Store tx.new.conn.now) → IsTrue (state S.Store tx.old.conn.now).in_transaction → KeepsCommit (state S.Store tx.old.conn.now) (state S.Store tx.new.conn.now) }
     ensures survives { Survives (state S.Store tx.old.conn.now) (state S.Store tx.new.conn.now) (λ _. ⊥) }
 {
-    Err(Error::SqliteFailure(ErrorCode::TransactionState))
+    let rows = select_clerks(tx)?;
+    count_texts(alloc, &rows)
 }
 
 /// The row of the last receipt, which is its number.

@@ -48,7 +48,7 @@ fn read_mode(row: &Row, at: usize) -> Result<Mode, Error>
 }
 
 /// A text's bytes.
-fn read_text(row: &Row, at: usize) -> Result<Vec<u8>, Error>
+pub(crate) fn read_text(row: &Row, at: usize) -> Result<Vec<u8>, Error>
     ensures { IfOk result (λ text. column row.now at ≡ Text text.items) }
 {
     Ok(row.get::<String>(at)?.into_bytes())
