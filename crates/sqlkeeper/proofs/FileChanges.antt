@@ -1,21 +1,18 @@
 -- What is known of a file that is set or taken out, before anything is written. No SQL is in it.
-use Rattle.std.proofs.Common.{◌≡◌, ℕ, ◌+◌, ◌<◌, ◌^◌, List, length, slice_get, is_some, Option, None, Some, Result, Ok, Err, OnOk, arith, refl, sym, ap, subst, ◌∙◌}
+use Rattle.std.proofs.Common.{◌≡◌, ℕ, ◌+◌, ◌<◌, ◌^◌, List, length, is_some, Option, None, Some, Result, Ok, Err, OnOk, arith, refl, sym, ap, subst, ◌∙◌}
 use Rattle.std.specs.Prelude.{option_map}
 use Rattle.std.specs.FinMap.{get, insert, remove}
 use Rattle.sigtext.specs.declared.refusal.Refusal.TheVariants.{NoSuchBox}
 use Rattle.boxes.specs.declared.change.NewFile.{NewFile}
-use Rattle.boxes.specs.declared.rows.ReceiptRow.{ReceiptRow}
 use Rattle.boxes.specs.declared.totals.Totals.{Totals}
-use Rattle.boxes.specs.State.{Place, File, Receipt, Settings, State}
+use Rattle.boxes.specs.State.{Place, File, Settings, State}
 use Rattle.boxes.specs.Totals.{used, count}
 use Rattle.boxes.specs.Rules.{Upload}
-use Rattle.boxes.specs.Rows.{receipt_in}
-use Rattle.boxes.specs.Sound.{IsSound, IsReceipt, IsDigest}
+use Rattle.boxes.specs.Sound.{IsSound}
 use Rattle.boxes.specs.Steps.{receipt_of, after_upload, DropFile}
 use Rattle.boxes.specs.Changes.{IsTaken, IsFileSet, IsObeyed, upload_in}
 use Rattle.boxes.specs.Views.{AreTotals}
 use Rattle.boxes.proofs.CommandSteps.{file_dropped_is}
-use Rattle.boxes.proofs.NoBox.{all_at}
 use Rattle.keeper.proofs.MapLemmas.{some_of}
 use Rattle.keeper.proofs.ShelfLemmas.{there_is, file_in_box}
 use Rattle.sqlkeeper.specs.Tables.{tables_of}

@@ -1,5 +1,5 @@
 -- The tables of an office that begins.
-use Rattle.std.proofs.Common.{◌≡◌, ℕ, ℤ, List, [], Option, Some, None, refl, sym, ap, ◌∙◌}
+use Rattle.std.proofs.Common.{◌≡◌, ℕ, ℤ, List, Option, None, ◌∙◌}
 use Rattle.std.specs.Prelude.{false}
 use Rattle.std.specs.FinMap.{get, empty, get-empty}
 use Rattle.sigtext.specs.Bytes.{same_bytes, bytes_cmp}

@@ -1,6 +1,6 @@
 -- What is named by bytes that are no UTF-8 is not in a sound state.
-use Rattle.std.proofs.Common.{◌≡◌, ℕ, ◌<◌, ◌≤◌, Bool, true, false, List, [], ◌∷◌, length, Option, Some, None, All, ⊎_elim, arith, lit<, refl, sym, ap, subst, ◌∙◌}
-use Rattle.std.specs.Prelude.{IsUtf8, slice_index, ◌&&◌, ◌||◌, ◌==◌, nat_le, IsSomeAnd}
+use Rattle.std.proofs.Common.{◌≡◌, ℕ, ◌<◌, ◌≤◌, Bool, true, List, [], ◌∷◌, length, Option, Some, None, All, ⊎_elim, arith, lit<, refl, sym, subst}
+use Rattle.std.specs.Prelude.{IsUtf8, slice_index, IsSomeAnd}
 use Rattle.std.specs.List.{list_all}
 use Rattle.std.specs.FinMap.{get}
 use Rattle.std.proofs.Math.ListN.{get_or-eq_default}
@@ -10,7 +10,7 @@ use Rattle.std.proofs.lemmas.Str.{IsUtf8-from_ascii}
 use Rattle.std.proofs.lemmas.List.Elements.{All-nil, All-cons}
 use Rattle.sigtext.specs.Bytes.{IsWord}
 use Rattle.sigv4.specs.Credential.{is_key_byte}
-use Rattle.boxes.specs.State.{Key, Settings, Place, File, State}
+use Rattle.boxes.specs.State.{Place, State}
 use Rattle.boxes.specs.Rows.{IsFileAt}
 use Rattle.boxes.specs.Sound.{IsSound, IsReceipt, is_box_byte}
 use Rattle.boxes.proofs.NoBox.{all_at}

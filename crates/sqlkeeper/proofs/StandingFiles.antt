@@ -4,7 +4,7 @@ use Rattle.std.specs.FinMap.{get}
 use Rattle.boxes.specs.declared.rows.ReceiptRow.{ReceiptRow}
 use Rattle.boxes.specs.declared.rows.FileRow.{FileRow}
 use Rattle.boxes.specs.State.{Place, File, Receipt, State}
-use Rattle.boxes.specs.Rows.{IsFileAt, receipt_in, file_of}
+use Rattle.boxes.specs.Rows.{IsFileAt, receipt_in}
 use Rattle.boxes.specs.Sound.{IsSound, IsReceipt, IsDigest, IsFileOf}
 use Rattle.boxes.specs.Steps.{HasReceipt}
 use Rattle.boxes.specs.Views.{IsReceiptAt}

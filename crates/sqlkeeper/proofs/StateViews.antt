@@ -1,11 +1,9 @@
 -- What tables tell of a sound state.
-use Rattle.std.proofs.Common.{◌≡◌, ℕ, List, [], ◌∷◌, Option, Some, None, option_map, refl, sym, ap, ◌∙◌}
+use Rattle.std.proofs.Common.{◌≡◌, ℕ, List, [], ◌∷◌, Option, Some, None, option_map, refl, sym, ◌∙◌}
 use Rattle.std.specs.List.{AllByRecursion}
 use Rattle.std.specs.FinMap.{get}
-use Rattle.boxes.specs.declared.rows.BoxRow.{BoxRow}
 use Rattle.boxes.specs.declared.totals.Totals.{Totals}
 use Rattle.boxes.specs.State.{Settings, Receipt, State}
-use Rattle.boxes.specs.Rows.{settings_of}
 use Rattle.boxes.specs.Sound.{IsSound, IsReceipt, IsDigest}
 use Rattle.boxes.specs.Views.{AreTotals}
 use Rattle.boxes.proofs.NoBox.{none_used, none_counted}

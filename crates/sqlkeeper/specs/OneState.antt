@@ -1,7 +1,7 @@
 -- Rows mean one sound state at most.
-use Rattle.std.proofs.Common.{◌≡◌, ◌⊎◌, inl, inr, ℕ, zero, suc, ◌+◌, ◌*◌, ◌≤◌, ◌<◌, ◌||◌, ◌&&◌, ◌==◌, ℤ, pos, List, [], ◌∷◌, ◌++◌, map, take, drop, length, Bool, true, false, Option, None, Some, option_map, option_and_then, slice_get, arith, refl, sym, ap, subst, ◌∙◌, IsTrue}
+use Rattle.std.proofs.Common.{◌≡◌, inl, inr, ℕ, zero, suc, ◌+◌, ◌*◌, ℤ, pos, List, [], ◌∷◌, ◌++◌, take, drop, length, Bool, true, false, Option, None, Some, option_map, option_and_then, slice_get, arith, refl, sym, ap, subst, ◌∙◌, IsTrue}
 use Rattle.std.specs.List.{AllByRecursion}
-use Rattle.std.specs.FinMap.{FinMap, get, same_map}
+use Rattle.std.specs.FinMap.{get, same_map}
 use Rattle.std.specs.Prelude.{nat_lt}
 use Rattle.std.specs.List.{list_all}
 use Rattle.std.proofs.Math.Seq.{take-add, take_all}
@@ -14,7 +14,7 @@ use Rattle.boxes.specs.declared.rows.Role.{Role}
 use Rattle.boxes.specs.declared.rows.Role.TheVariants.{Clerk, Link}
 use Rattle.boxes.specs.declared.rows.Mode.{Mode}
 use Rattle.boxes.specs.declared.rows.Mode.TheVariants.{Keep, Replace}
-use Rattle.boxes.specs.State.{Key, NameRule, AnyName, Ends, Begins, Settings, Place, place_cmp, File, Receipt, State}
+use Rattle.boxes.specs.State.{Key, NameRule, AnyName, Ends, Begins, Settings, Place, File, Receipt, State}
 use Rattle.boxes.specs.Sound.{IsSound, AreSettings, IsNameRule, IsRuleText, is_rule_byte}
 use Rattle.boxes.proofs.Lookups.{bytes_total, bytes_same, place_total}
 use Rattle.boxes.proofs.FileTotals.{place_same}

@@ -1,5 +1,5 @@
 -- The tables of an office, as their CREATE statements make them, in this order.
-use Rattle.std.specs.Prelude.{◌≡◌, ◌⊎◌, true, false, [], ◌∷◌, Some, None, codes, List, ℕ, ℤ, pos, negsuc}
+use Rattle.std.specs.Prelude.{◌≡◌, true, false, [], ◌∷◌, Some, None, codes, List, ℕ, ℤ, pos, negsuc}
 use Rattle.sqlite_value.specs.declared.keys.Collation.TheVariants.{Binary}
 use Rattle.sqlite_value.specs.declared.value.Value.TheVariants.{Null, Int}
 use Rattle.sqlite_sql.specs.Term.{Term, lit, col, op2}

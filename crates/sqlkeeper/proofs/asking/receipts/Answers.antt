@@ -1,4 +1,4 @@
-use Rattle.std.proofs.Common.{◌≡◌, IsTrue, IfOk, arith, rules, refl, sym, subst, ◌∙◌}
+use Rattle.std.proofs.Common.{◌≡◌, IsTrue, arith, rules, refl, sym, subst}
 use Rattle.sqlite.specs.State.{HasCleanDisk}
 use Rattle.sqlite.specs.Held.{state}
 use Rattle.sqlkeeper.specs.Tables.{tables_of}

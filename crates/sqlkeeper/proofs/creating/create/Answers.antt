@@ -1,4 +1,4 @@
-use Rattle.std.proofs.Common.{◌≡◌, IsTrue, rules, arith, false, w16, refl, sym, subst, OnOk}
+use Rattle.std.proofs.Common.{◌≡◌, IsTrue, rules, arith, false, w16, sym, subst, OnOk}
 use Rattle.std.proofs.lemmas.Int.{to_z-of_z}
 use Rattle.boxes.specs.declared.rows.Role.TheVariants.{Clerk}
 use Rattle.sqlkeeper.specs.Changes.{no_rows, with_key}

@@ -1,6 +1,4 @@
-use Rattle.std.proofs.Common.{None, Some, arith, subst}
-use Rattle.sqlite.specs.State.{HasCleanDisk}
-use Rattle.sqlite.specs.Held.{state}
+use Rattle.std.proofs.Common.{subst}
 use Rattle.boxes.specs.State.{Place}
 use Rattle.boxes.specs.Views.{IsReceiptAt}
 use Rattle.sqlkeeper.proofs.StandingFiles.{told_size, no_size}

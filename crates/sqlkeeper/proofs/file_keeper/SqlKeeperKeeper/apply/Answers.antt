@@ -1,6 +1,5 @@
 use Rattle.std.proofs.Common.{refl}
 use Rattle.sqlite.specs.Held.{state}
-use Rattle.boxes.specs.State.{State}
 use Rattle.sqlkeeper.specs.Schema.{v1}
 use Rattle.sqlkeeper.specs.Kept.{KeepsState}
 use Rattle.sqlkeeper.proofs.Stays.{ok_too, err_too, alone, either, kept_then, kept_at_error, at_error}
