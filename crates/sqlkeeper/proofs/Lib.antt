@@ -34,3 +34,6 @@ pub mod NotText
 pub mod Stays
 pub mod StandingFiles
 pub mod Making
+pub mod Apart
+pub mod Listed
+pub mod PieceLengths

@@ -6,6 +6,8 @@ mod box_rows;
 mod changes;
 mod creating;
 mod file_keeper;
+mod lines;
+mod listing;
 mod questions;
 mod standing;
 mod statements;
