@@ -37,3 +37,5 @@ pub mod Making
 pub mod Apart
 pub mod Listed
 pub mod PieceLengths
+pub mod PieceAt
+pub mod Gathering

@@ -18,6 +18,7 @@ use Rattle.sqlite.specs.Listing.{understood}
 use Rattle.sqlite.specs.declared.error.Error.{Error}
 use Rattle.sqlite.specs.Clock.{timed}
 use Rattle.sqlite.specs.State.{State, Shown, ShowsRows, IsUnchanged}
+use Rattle.sqlite_schema.specs.declared.command.Command.{Command}
 use Rattle.sqlite_schema.specs.declared.command.Returning.{Returning}
 use Rattle.sqlite_sql.specs.Query.{IsAnswer}
 use Rattle.std.specs.List.Sorted.{IsPermutation}
@@ -131,6 +132,14 @@ module _ (show : Row → Row) (keeps : (r : Row) → column (show r) 0 ≡ rowid
 
 -- ---- the query
 
+-- a query of the schema's own tables changes nothing
+pub shown_unchanged : (v : Version) (text : List ℕ) (command : Command) (asks : Asks v.schema text command) (params : Row) (old new : State) → old.now.schema ≡ v.schema → (rows : List Row) → Shown text params old new rows → IsUnchanged old new
+unfolding Shown
+shown_unchanged v text command asks params old new has rows h =
+    let known = sym h.1.is ∙ ap (λ s. understood s text) has in
+    let bare = subst IsPlain (sym known) asks.says.plain in
+    (rw bare.0 at h.2).3
+
 module _ {L : Type 0} (reads IsLine : Row → L → Type 0) (v : Version) (text : List ℕ) (tree : ℕ) (project : List Term) (order : List (Term × Sort)) (names : List (List ℕ))
     (asks : Asks v.schema text (select (all_rows tree project order) names)) (old new : State) (has : old.now.schema ≡ v.schema) (lines : List L) (read : AreRead reads text old new lines) where
   abbrev table : List Row
@@ -148,20 +157,15 @@ module _ {L : Type 0} (reads IsLine : Row → L → Type 0) (v : Version) (text 
   rowids_listed keeps = rowids (λ r. eval_all project ([] ∷ r ∷ [])) keeps table read.rows listed read.numbered
 
   pub unchanged : IsUnchanged old new
-  unfolding Shown
-  unchanged =
-      let h = read.shown in
-      let known = sym h.1.is ∙ ap (λ s. understood s text) has in
-      let bare = subst IsPlain (sym known) asks.says.plain in
-      (rw bare.0 at h.2).3
+  unchanged = shown_unchanged v text (select (all_rows tree project order) names) asks [] old new has read.rows read.shown
 
 -- ---- any query
 
-pub shown_runs : (sql : List ℕ) (old new : State) (rows : List Row) → IsTrue old.in_transaction → Shown sql [] old new rows → IsRunning new
+pub shown_runs : (sql : List ℕ) (params : Row) (old new : State) (rows : List Row) → IsTrue old.in_transaction → Shown sql params old new rows → IsRunning new
 unfolding Shown
-shown_runs sql old new rows inside h = go h.0.returning h.2
+shown_runs sql params old new rows inside h = go h.0.returning h.2
   where
-    go : (o : Option Returning) → ShowsRows old new sql h.0 (timed [] h.0.formats h.1.now) rows o → IsRunning new
+    go : (o : Option Returning) → ShowsRows old new sql h.0 (timed params h.0.formats h.1.now) rows o → IsRunning new
     go None s = (subst IsTrue (sym s.3.0.mode) inside, s.3.0.is_open)
     go (Some what) s = (subst IsTrue (sym s.1.shown.mode) inside, s.1.shown.is_open)
 
@@ -169,21 +173,21 @@ pub at_ok : {X E : Type 0} (P : Type 0) (r : Result X E) → P → OnOk r P
 at_ok P (Ok x) p = p
 at_ok P (Err e) p = tt
 
-pub shown_open : (sql : List ℕ) (old new : State) (rows : List Row) → Shown sql [] old new rows → IsTrue old.is_open
+pub shown_open : (sql : List ℕ) (params : Row) (old new : State) (rows : List Row) → Shown sql params old new rows → IsTrue old.is_open
 unfolding Shown
-shown_open sql old new rows h = go h.0.returning h.2
+shown_open sql params old new rows h = go h.0.returning h.2
   where
-    go : (o : Option Returning) → ShowsRows old new sql h.0 (timed [] h.0.formats h.1.now) rows o → IsTrue old.is_open
+    go : (o : Option Returning) → ShowsRows old new sql h.0 (timed params h.0.formats h.1.now) rows o → IsTrue old.is_open
     go None s = s.3.0.was_open
     go (Some what) s = s.1.shown.was_open
 
 -- what was read, where the schema is ours
 pub as_read : {L X : Type 0} (lines_of : X → List L) (reads : Row → L → Type 0) (text : List ℕ) (old new : State) (P : X → Type 0) (r : Result X Error)
     → IfOk r (λ x. AreRead reads text old new (lines_of x)) → ((x : X) → IsTrue old.is_open → AreRead reads text old new (lines_of x) → P x) → IfOk r P
-as_read lines_of reads text old new P (Ok x) read more = more x (shown_open text old new read.rows read.shown) read
+as_read lines_of reads text old new P (Ok x) read more = more x (shown_open text [] old new read.rows read.shown) read
 as_read lines_of reads text old new P (Err e) read more = tt
 
 pub on_read : {L X : Type 0} (lines_of : X → List L) (reads : Row → L → Type 0) (text : List ℕ) (old new : State) (P : Type 0) (r : Result X Error)
     → IfOk r (λ x. AreRead reads text old new (lines_of x)) → ((x : X) → IsTrue old.is_open → AreRead reads text old new (lines_of x) → P) → OnOk r P
-on_read lines_of reads text old new P (Ok x) read more = more x (shown_open text old new read.rows read.shown) read
+on_read lines_of reads text old new P (Ok x) read more = more x (shown_open text [] old new read.rows read.shown) read
 on_read lines_of reads text old new P (Err e) read more = tt

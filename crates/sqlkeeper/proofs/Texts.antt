@@ -2,11 +2,12 @@
 use Rattle.std.proofs.Common.{codes, List, ℕ, [], ◌∷◌, refl}
 use Rattle.sqlite_value.specs.declared.value.Value.TheVariants.{Null}
 use Rattle.sqlite_value.specs.declared.keys.Collation.TheVariants.{Binary}
-use Rattle.sqlite_sql.specs.declared.ops.BinaryOp.TheVariants.{Compare}
+use Rattle.sqlite_sql.specs.declared.ops.BinaryOp.TheVariants.{Compare, And, Or}
 use Rattle.sqlite_sql.specs.declared.ops.UnaryOp.TheVariants.{Length}
-use Rattle.sqlite_sql.specs.declared.ops.CompareOp.TheVariants.{Eq}
+use Rattle.sqlite_sql.specs.declared.ops.CompareOp.TheVariants.{Eq, Gt, Ge}
 use Rattle.sqlite_schema.specs.declared.command.Command.{Command}
 use Rattle.sqlite.specs.Term.{lit, col, op1, op2}
+use Rattle.sqlite.specs.Query.{inner, end}
 use Rattle.sqlite_tied.specs.Compute.{everything}
 use Rattle.sqlite.specs.Listing.{understood}
 use Rattle.sqlkeeper.specs.Schema.{s6}
@@ -282,3 +283,4 @@ list_pieces_command = select (query 9 [] (col 1 0 ∷ col 1 1 ∷ col 1 2 ∷ co
 pub list_pieces_is : Asks s6 list_pieces list_pieces_command
 unfolding understood everything
 list_pieces_is = record { says = record { is = refl; plain = (refl, refl) }; unlisted = refl }
+

@@ -1,5 +1,5 @@
 -- The rows of each table, read as values.
-use Rattle.std.specs.Prelude.{◌≡◌, ℕ, ℤ, pos, List, [], length, map}
+use Rattle.std.specs.Prelude.{◌≡◌, ℕ, ℤ, pos, List, [], length, map, Some}
 use Rattle.std.specs.List.{AllZip}
 use Rattle.std.specs.List.Sorted.{IsPermutation}
 use Rattle.std.specs.Ordering.{int_cmp}
@@ -9,6 +9,8 @@ use Rattle.sqlite_value.specs.Order.{Row, column}
 use Rattle.sqlite_trees.specs.Tree.{IsAscending, rowid}
 use Rattle.sqlite_rules.specs.Lists.{Has}
 use Rattle.sqlite.specs.State.{State, Shown}
+use Rattle.boxes.specs.State.{Place}
+use Rattle.sqlkeeper.specs.Tables.{IsPieceRow, piece_of}
 use Rattle.sqlkeeper.specs.declared.lines.OfficeLine.{OfficeLine}
 use Rattle.sqlkeeper.specs.declared.lines.KeyLine.{KeyLine}
 use Rattle.sqlkeeper.specs.declared.lines.BoxLine.{BoxLine}
@@ -81,6 +83,17 @@ pub record AreLines {L : Type 0} (IsLine : Row → L → Type 0) (rows : List Ro
 pub record HaveRowids (rows : List Row) : Type 0 where
   pub keyed : (row : Row) → Has rows row → (n : ℤ) × (rowid row ≡ Int n)
   pub apart : (a b : Row) → Has rows a → Has rows b → rowid a ≡ rowid b → a ≡ b
+
+-- one of the rows is that of this piece
+pub record HasPiece (rows : List Row) (place : Place) (at : ℕ) (bytes : List ℕ) : Type 0 where
+  pub row : Row
+  pub there : Has rows row
+  pub is : IsPieceRow row (record { place = place; at = at }) bytes
+
+-- so many bytes, each piece of which has a row
+pub record AreBytesOf (rows : List Row) (place : Place) (size : ℕ) (bytes : List ℕ) : Type 0 where
+  pub size_is : length bytes ≡ size
+  pub pieces : (at : ℕ) (piece : List ℕ) → piece_of bytes at ≡ Some piece → HasPiece rows place at piece
 
 -- The first columns are numbers that rise, in some order of the rows.
 pub record AreNumbered (rows : List Row) : Type 0 where

@@ -8,6 +8,7 @@ mod creating;
 mod file_keeper;
 mod lines;
 mod listing;
+mod pieces;
 mod questions;
 mod standing;
 mod statements;

@@ -20,7 +20,7 @@ pub returns-clause-running : goal.returns-clause-running
 returns-clause-running g c clean inside =
     let old = state g.S.Store c.args.tx.now.conn.now in
     let new = state g.S.Store c.query_all.new.self.conn.now in
-    at_ok (IsRunning new) c.lines_of.result (shown_runs c.args.sql.now old new c.in_ok-rows.rows.items inside (c.in_ok-rows.ensures.ok clean))
+    at_ok (IsRunning new) c.lines_of.result (shown_runs c.args.sql.now _ old new c.in_ok-rows.rows.items inside (c.in_ok-rows.ensures.ok clean))
 
 pub returns-clause-uncommitted : goal.returns-clause-uncommitted
 returns-clause-uncommitted g c clean inside =
