@@ -1,5 +1,5 @@
 -- A file's bytes, gathered piece by piece.
-use Rattle.std.proofs.Common.{◌≡◌, ◌⊎◌, inl, inr, ℕ, ◌+◌, ◌-◌, ◌*◌, ◌<◌, ◌≤◌, List, [], ◌++◌, take, drop, length, min, true, false, Some, None, IsTrue, length-append, arith, refl, sym, ap, subst, ◌∙◌}
+use Rattle.std.proofs.Common.{◌≡◌, ◌⊎◌, inl, inr, ℕ, ◌+◌, ◌-◌, ◌*◌, ◌<◌, ◌≤◌, List, [], ◌++◌, take, drop, length, min, true, Some, None, IsTrue, length-append, arith, refl, sym, ap, subst, ◌∙◌}
 use Rattle.std.specs.Prelude.{nat_lt}
 use Rattle.std.proofs.lemmas.Bool.{cases_Bool, ltb-true, ltb-false, lt-ltb}
 use Rattle.std.proofs.Math.Seq.{drop-append_seam}
@@ -9,7 +9,7 @@ use Rattle.boxes.specs.State.{Place}
 use Rattle.sqlkeeper.specs.Schema.{Version, IsVersion}
 use Rattle.sqlkeeper.specs.Tables.{piece_of}
 use Rattle.sqlkeeper.specs.Means.{IsWhole, IsRunning}
-use Rattle.sqlkeeper.specs.Lines.{HasPiece, AreBytesOf}
+use Rattle.sqlkeeper.specs.Lines.{HasPiece}
 use Rattle.sqlkeeper.proofs.Building.{survives_then, survives_itself, keeps_then}
 use Rattle.sqlkeeper.proofs.Runs.{itself_keeps}
 
@@ -102,7 +102,7 @@ module _ (entry mid now : State) (place : Place) (size : ℕ) (bytes piece : Lis
 
     last : HasPiece (entry.now.trees 9) place count piece
     last = subst (λ db. HasPiece (db.trees 9) place count piece) still
-      (next.read v (ours_still v ours clean) (λ is_open. subst IsWhole (sym still) (whole ((g.uncommitted (early clean) ours.inside).was_open is_open))) clean)
+        (next.read v (ours_still v ours clean) (λ is_open. subst IsWhole (sym still) (whole ((g.uncommitted (early clean) ours.inside).was_open is_open))) clean)
 
     pieces : (at : ℕ) (q : List ℕ) → piece_of (bytes ++ piece) at ≡ Some q → HasPiece (entry.now.trees 9) place at q
     pieces at q is = elim (cases_Bool (nat_lt at count)) [
@@ -129,7 +129,3 @@ module _ (entry mid now : State) (place : Place) (size : ℕ) (bytes piece : Lis
     long = long;
     pieces = pieces;
   }
-
-pub all_gathered : (entry now : State) (place : Place) (size : ℕ) (bytes : List ℕ) (count : ℕ) → Gathered entry now place size bytes count → size ≤ length bytes → (v : Version) → OpensOurs v entry
-    → (IsTrue entry.is_open → IsWhole entry.now) → HasCleanDisk now → AreBytesOf (entry.now.trees 9) place size bytes
-all_gathered entry now place size bytes count g all v ours whole clean = record { size_is = omega (arith, g.within, all); pieces = g.pieces v ours whole clean }

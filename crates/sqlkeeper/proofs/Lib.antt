@@ -36,6 +36,6 @@ pub mod StandingFiles
 pub mod Making
 pub mod Apart
 pub mod Listed
-pub mod PieceLengths
+pub mod PieceColumns
 pub mod PieceAt
 pub mod Gathering

@@ -1,54 +1,31 @@
 -- What the question for a piece shows, whatever the database means.
-use Rattle.std.proofs.Common.{◌≡◌, ◌&&◌, inl, inr, ℕ, ℤ, pos, List, [], ◌∷◌, Bool, true, false, Ordering, Less, Equal, Greater, None, Some, Result, Ok, Err, IfOk, OnOk, IsTrue, slice_get, int_cmp, refl, sym, ap, subst, ◌∙◌}
+use Rattle.std.proofs.Common.{◌≡◌, ◌&&◌, ℕ, ℤ, pos, List, [], ◌∷◌, true, int_cmp, refl, sym, ap, subst, ◌∙◌}
 use Rattle.std.specs.List.{list_all}
 use Rattle.std.specs.Ordering.{is_eq}
 use Rattle.std.specs.FinMap.{int_cmp-IsAntisymmetric}
 use Rattle.std.proofs.lemmas.Bool.{and_parts}
-use Rattle.std.proofs.Math.Bool.{and-true}
 use Rattle.sigtext.specs.Bytes.{same_bytes}
 use Rattle.sqlite_value.specs.declared.value.Value.TheVariants.{Null, Int, Text, Blob}
-use Rattle.sqlite_value.specs.Order.{Row, column, value_cmp}
-use Rattle.sqlite_value.proofs.OrderLemmas.{value_cmp-Int}
-use Rattle.sqlite_value.specs.declared.keys.Collation.TheVariants.{Binary}
-use Rattle.sqlite_sql.specs.declared.ops.BinaryOp.TheVariants.{Compare}
-use Rattle.sqlite_sql.specs.declared.ops.CompareOp.TheVariants.{Eq}
-use Rattle.sqlite_sql.specs.Ops.{binary, is_true, from_truth}
-use Rattle.sqlite_sql.specs.Term.{Term, col, holds, eval_all}
+use Rattle.sqlite_value.specs.Order.{Row, column}
+use Rattle.sqlite_sql.specs.Term.{Term, col, holds}
 use Rattle.sqlite_sql.specs.Program.{overlay}
 use Rattle.sqlite_rules.specs.Lists.{Has}
-use Rattle.sqlite_rules.proofs.ListLemmas.{has_got}
 use Rattle.sqlite.specs.State.{State, Shown}
 use Rattle.sqlite.proofs.Callers.{reads_as}
-use Rattle.boxes.specs.State.{Place}
 use Rattle.sqlkeeper.specs.Schema.{Version, IsVersion}
 use Rattle.sqlkeeper.specs.Tables.{IsPieceRow}
 use Rattle.sqlkeeper.specs.Means.{IsWhole}
 use Rattle.sqlkeeper.specs.Lines.{HasPiece}
-use Rattle.sqlkeeper.proofs.Says.{Asks}
 use Rattle.sqlkeeper.proofs.Forms.{is}
 use Rattle.sqlkeeper.proofs.Ours.{asks_of}
 use Rattle.sqlkeeper.proofs.Texts.{select_piece, select_piece_command, select_piece_is}
 use Rattle.sqlkeeper.proofs.Queries.{answered}
-use Rattle.sqlkeeper.proofs.Rows.{equal_texts}
-use Rattle.sqlkeeper.proofs.Keys.{tells_bytes, by_order}
-use Rattle.sqlkeeper.proofs.PieceLengths.{PieceColumns, piece_columns}
+use Rattle.sqlkeeper.proofs.Rows.{equal_texts, equal_integers}
+use Rattle.sqlkeeper.proofs.Keys.{tells_bytes, by_order, is_equal}
+use Rattle.sqlkeeper.proofs.PieceColumns.{PieceColumns, piece_columns}
 
-truth_of : (b : Bool) → is_true (from_truth (Some b)) ≡ b
-truth_of true = refl
-truth_of false = refl
-
--- = between integers
-equal_integers : (a b : ℤ) → is_true (binary (Compare Eq Binary) (Int a) (Int b)) ≡ is_eq (int_cmp a b)
-unfolding binary
-equal_integers a b = truth_of (is_eq (value_cmp (Int a) (Int b))) ∙ ap is_eq (value_cmp-Int a b)
-
-is_equal : (a b : ℤ) → is_eq (int_cmp a b) ≡ true → a ≡ b
-is_equal a b h = int_cmp-IsAntisymmetric a b (go (int_cmp a b) h)
-  where
-    go : (o : Ordering) → is_eq o ≡ true → o ≡ Equal
-    go Less e = absurd cc
-    go Equal e = refl
-    go Greater e = absurd cc
+same_integer : (a b : ℤ) → is_eq (int_cmp a b) ≡ true → a ≡ b
+same_integer a b h = int_cmp-IsAntisymmetric a b (is_equal (int_cmp a b) h)
 
 abbrev filter : List Term
 filter = is 1 0 ∷ is 2 1 ∷ is 3 2 ∷ []
@@ -70,7 +47,7 @@ piece_row box name at row c passes =
     record {
       box_is = c.box.1 ∙ ap Text (tells_bytes.only c.box.0 box a.0);
       name_is = c.name.1 ∙ ap Text (tells_bytes.only c.name.0 name b.0);
-      part_is = c.part.1 ∙ ap Int (is_equal c.part.0 (pos at) d.0);
+      part_is = c.part.1 ∙ ap Int (same_integer c.part.0 (pos at) d.0);
       bytes_is = c.bytes.1;
     }
 

@@ -12,7 +12,7 @@ use crate::lines::{
 };
 use sqlite::{Alter, Error, ErrorCode, Transaction};
 
-/// What the query shows, row by row. Two rows with one number in the first column are refused.
+/// What the query shows, row by row. Two rows with one number in the first column are `DatabaseCorrupt`.
 fn list<S: Alter, L: Line + Drop>(tx: &mut Transaction<'_, S>, sql: &str) -> Result<Vec<L>, Error>
     ensures same_reference { tx.new.conn.ghost_name ≡ tx.old.conn.ghost_name }
     ensures read { HasCleanDisk (state S.Store tx.new.conn.now) → IfOk result (λ lines. AreRead L.reads sql.now (state S.Store tx.old.conn.now) (state S.Store tx.new.conn.now) lines.items) }

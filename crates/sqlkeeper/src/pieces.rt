@@ -14,8 +14,13 @@ use std::alloc::Global;
 /// The most bytes of a piece.
 const PIECE: u64 = 65536;
 
-/// One piece of a file. That there is none is `QueryReturnedNoRows`.
-fn read_piece<S: Alter>(tx: &mut Transaction<'_, S>, in_box: &str, name: &str, part: u32) -> Result<Vec<u8>, Error>
+/// One piece of a file; where it is not there, `QueryReturnedNoRows`.
+fn read_piece<S: Alter>(
+    tx: &mut Transaction<'_, S>,
+    in_box: &str,
+    name: &str,
+    part: u32,
+) -> Result<Vec<u8>, Error>
     ensures same_reference { tx.new.conn.ghost_name ≡ tx.old.conn.ghost_name }
     ensures read { (v : Version) → IsVersion v → (IsTrue (state S.Store tx.old.conn.now).is_open → (state S.Store tx.old.conn.now).now.schema ≡ v.schema) → (IsTrue (state S.Store tx.old.conn.now).is_open → IsWhole (state S.Store tx.old.conn.now).now)
         → IsTrue (state S.Store tx.old.conn.now).in_transaction → HasCleanDisk (state S.Store tx.new.conn.now) → IfOk result (λ piece. HasPiece ((state S.Store tx.old.conn.now).now.trees 9) (record { box = in_box.now; name = name.now }) part piece.items) }
@@ -35,7 +40,8 @@ fn read_piece<S: Alter>(tx: &mut Transaction<'_, S>, in_box: &str, name: &str, p
     row.get(0)
 }
 
-/// The bytes of a file of this size. Pieces of other lengths are `DatabaseCorrupt`, and that one lacks is `QueryReturnedNoRows`.
+/// The bytes of a file of this size. A piece that is not there is `QueryReturnedNoRows`, one of another length
+/// `DatabaseCorrupt`.
 pub(crate) fn read_file<S: Alter>(
     tx: &mut Transaction<'_, S>,
     alloc: Global,

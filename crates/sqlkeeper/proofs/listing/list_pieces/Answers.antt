@@ -4,7 +4,7 @@ use Rattle.sqlkeeper.specs.Lines.{IsPieceLine, ShowsPiece, AreLines, HaveRowids}
 use Rattle.sqlkeeper.proofs.Ours.{asks_of}
 use Rattle.sqlkeeper.proofs.Texts.{list_pieces, list_pieces_command, list_pieces_is}
 use Rattle.sqlkeeper.proofs.Listed.{as_read, on_read, lines_listed, rowids_listed, unchanged}
-use Rattle.sqlkeeper.proofs.PieceLengths.{piece_line}
+use Rattle.sqlkeeper.proofs.PieceColumns.{piece_line}
 use Rattle.sqlkeeper.proofs.listing.list_pieces.Goals as goal
 
 pub returns-clause-listed : goal.returns-clause-listed

@@ -1,7 +1,6 @@
 use Rattle.std.proofs.Common.{◌≡◌, Some, slice_get, sym, ap, ◌∙◌}
 use Rattle.sqlite_rules.proofs.ListLemmas.{has_got}
 use Rattle.sqlite.specs.Held.{state}
-use Rattle.sqlite.specs.State.{Shown}
 use Rattle.boxes.specs.State.{Place}
 use Rattle.sqlkeeper.specs.Means.{IsRunning}
 use Rattle.sqlkeeper.specs.Lines.{HasPiece}
