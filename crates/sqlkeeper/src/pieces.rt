@@ -8,11 +8,9 @@ ghost use Rattle.sqlkeeper.specs.Schema.{Version, IsVersion};
 ghost use Rattle.sqlkeeper.specs.Means.{IsWhole, IsRunning};
 ghost use Rattle.sqlkeeper.specs.Lines.{HasPiece, AreBytesOf};
 
+use crate::statements::PIECE;
 use sqlite::{Alter, Error, ErrorCode, Transaction, params};
 use std::alloc::Global;
-
-/// The most bytes of a piece.
-const PIECE: u64 = 65536;
 
 /// One piece of a file; where it is not there, `QueryReturnedNoRows`.
 fn read_piece<S: Alter>(
@@ -63,7 +61,7 @@ pub(crate) fn read_file<S: Alter>(
     while (bytes.len() as u64) < size {
         let piece = read_piece(tx, in_box, name, part)?;
         let rest = size - bytes.len() as u64;
-        if piece.len() as u64 != rest.min(PIECE) {
+        if piece.len() as u64 != rest.min(PIECE as u64) {
             return Err(Error::SqliteFailure(ErrorCode::DatabaseCorrupt));
         }
         bytes.extend_from_slice(&piece)?;

@@ -14,7 +14,7 @@ use boxes::Role;
 use sqlite::{Alter, Error, ErrorCode, Row, Transaction, params};
 
 /// The most bytes of a piece.
-const PIECE: usize = 65536;
+pub(crate) const PIECE: usize = 65536;
 
 /// One more receipt.
 pub fn insert_receipt<S: Alter>(
