@@ -47,7 +47,7 @@ module _ {K V : Type 0} {same : K → K → Bool} (tells : Tells same) where
 
 -- ---- the keys of the tables
 
-is_equal : (o : Ordering) → is_eq o ≡ true → o ≡ Equal
+pub is_equal : (o : Ordering) → is_eq o ≡ true → o ≡ Equal
 is_equal Less h = cc
 is_equal Equal h = refl
 is_equal Greater h = cc

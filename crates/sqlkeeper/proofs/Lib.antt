@@ -21,7 +21,7 @@ pub mod LastNumber
 pub mod Asked
 pub mod PointQueries
 pub mod Readings
-pub mod Listing
+pub mod ManyQuestions
 pub mod FileRows
 pub mod KeyRows
 pub mod ClosingRows
@@ -40,3 +40,8 @@ pub mod StandingFiles
 pub mod Making
 pub mod Different
 pub mod ClerkRows
+pub mod Apart
+pub mod Listed
+pub mod PieceColumns
+pub mod PieceAt
+pub mod Gathering

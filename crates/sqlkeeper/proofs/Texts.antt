@@ -224,10 +224,10 @@ unfolding understood everything
 select_clerks_is = record { says = record { is = refl; plain = (refl, refl) }; unlisted = refl }
 
 abbrev pub list_office : List ℕ
-list_office = codes "SELECT id, version, east FROM office ORDER BY id"
+list_office = codes "SELECT rowid, id, version, east FROM office ORDER BY id"
 
 abbrev pub list_office_command : Command
-list_office_command = select (query 0 ([]) (col 1 0 ∷ col 1 2 ∷ col 1 3 ∷ []) (rising 0 ∷ []) (no_limit)) (codes "id" ∷ codes "version" ∷ codes "east" ∷ [])
+list_office_command = select (query 0 ([]) (col 1 0 ∷ col 1 0 ∷ col 1 2 ∷ col 1 3 ∷ []) (rising 0 ∷ []) (no_limit)) (codes "id" ∷ codes "id" ∷ codes "version" ∷ codes "east" ∷ [])
 
 pub list_office_is : Asks s6 list_office list_office_command
 unfolding understood everything
@@ -254,10 +254,10 @@ unfolding understood everything
 list_boxes_is = record { says = record { is = refl; plain = (refl, refl) }; unlisted = refl }
 
 abbrev pub list_receipts : List ℕ
-list_receipts = codes "SELECT number, box, name, length, digest, moment, key_id FROM receipts ORDER BY number"
+list_receipts = codes "SELECT rowid, number, box, name, length, digest, moment, key_id FROM receipts ORDER BY number"
 
 abbrev pub list_receipts_command : Command
-list_receipts_command = select (query 5 ([]) (col 1 0 ∷ col 1 2 ∷ col 1 3 ∷ col 1 4 ∷ col 1 5 ∷ col 1 6 ∷ col 1 7 ∷ []) (rising 0 ∷ []) (no_limit)) (codes "number" ∷ codes "box" ∷ codes "name" ∷ codes "length" ∷ codes "digest" ∷ codes "moment" ∷ codes "key_id" ∷ [])
+list_receipts_command = select (query 5 ([]) (col 1 0 ∷ col 1 0 ∷ col 1 2 ∷ col 1 3 ∷ col 1 4 ∷ col 1 5 ∷ col 1 6 ∷ col 1 7 ∷ []) (rising 0 ∷ []) (no_limit)) (codes "number" ∷ codes "number" ∷ codes "box" ∷ codes "name" ∷ codes "length" ∷ codes "digest" ∷ codes "moment" ∷ codes "key_id" ∷ [])
 
 pub list_receipts_is : Asks s6 list_receipts list_receipts_command
 unfolding understood everything

@@ -28,6 +28,7 @@ use Rattle.sqlite.specs.Rows.{Written}
 use Rattle.sqlite.specs.Does.{Tally, Does, AtPlace, OnRows}
 use Rattle.sqlkeeper.proofs.Rows.{went, same_value}
 use Rattle.sqlkeeper.proofs.Inserts.{plain}
+pub use Rattle.sqlkeeper.specs.Lines.{HaveRowids}
 
 -- the rows that were selected, and the edit that was made of them
 pub record UpdatesRows (schema : Schema) (table : Table) (db : Database) (body : Query) (params : Row) (after : Database) : Type 0 where
@@ -119,11 +120,6 @@ pub record RowsChange (rows after : List Row) (p : Row → Bool) (upd : Row → 
 pub record RowsGo (rows after : List Row) (p : Row → Bool) : Type 0 where
   pub each : (x : Row) → Has after x → Has rows x × (p x ≡ false)
   pub stays : (r : Row) → Has rows r → p r ≡ false → Has after r
-
--- each rowid is a number, and no two rows have one
-pub record HaveRowids (rows : List Row) : Type 0 where
-  pub keyed : (row : Row) → Has rows row → (n : ℤ) × (rowid row ≡ Int n)
-  pub apart : (a b : Row) → Has rows a → Has rows b → rowid a ≡ rowid b → a ≡ b
 
 -- the rows that pass, each shown by the same function, which keeps the rowid
 pub record AreSelected (rows selected : List Row) (p : Row → Bool) (show : Row → Row) : Type 0 where

@@ -13,7 +13,7 @@ use boxes::Role;
 use sqlite::{Alter, Error, Transaction, params};
 
 /// The most bytes of a piece.
-const PIECE: usize = 65536;
+pub(crate) const PIECE: usize = 65536;
 
 /// One more receipt.
 pub(crate) fn insert_receipt<S: Alter>(

@@ -1,7 +1,7 @@
 use Rattle.std.proofs.Common.{◌≡◌, ◌+◌, ◌<◌, ◌≤◌, ◌++◌, length, Some, option_map, arith, sym, ap, ◌∙◌, rules}
 use Rattle.sqlite.specs.State.{HasCleanDisk}
 use Rattle.sqlite.specs.Held.{state}
-use Rattle.sqlkeeper.proofs.Listing.{unmoved_then, piece_more, pieces_all}
+use Rattle.sqlkeeper.proofs.ManyQuestions.{unmoved_then, piece_more, pieces_all}
 use Rattle.sqlkeeper.proofs.questions.file_bytes.Goals as goal
 
 pub loop-tx-preserved : goal.loop-tx-preserved

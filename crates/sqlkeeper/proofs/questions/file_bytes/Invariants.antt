@@ -4,7 +4,7 @@ use Rattle.sqlite.specs.Held.{state}
 use Rattle.sqlkeeper.specs.Schema.{Version, IsVersion}
 use Rattle.sqlkeeper.specs.Tables.{Tables, piece_of}
 use Rattle.sqlkeeper.specs.Means.{Pends}
-use Rattle.sqlkeeper.proofs.Listing.{Unmoved}
+use Rattle.sqlkeeper.proofs.ManyQuestions.{Unmoved}
 use Rattle.sqlkeeper.proofs.questions.file_bytes.Given as goal
 
 abbrev pub invariant-loop-tx : goal.invariant-loop-tx

@@ -3,7 +3,7 @@ use Rattle.std.proofs.lemmas.List.{length_push}
 use Rattle.sqlite.specs.State.{HasCleanDisk}
 use Rattle.sqlite.specs.Held.{state}
 use Rattle.boxes.specs.Rows.{numbered}
-use Rattle.sqlkeeper.proofs.Listing.{unmoved_then, lists_more, lists_all, no_more, digests_at, receipt_at}
+use Rattle.sqlkeeper.proofs.ManyQuestions.{unmoved_then, lists_more, lists_all, no_more, digests_at, receipt_at}
 use Rattle.sqlkeeper.proofs.questions.receipts.Goals as goal
 
 pub returns-in_default-clause-found : goal.returns-in_default-clause-found

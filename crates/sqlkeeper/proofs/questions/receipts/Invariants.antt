@@ -7,7 +7,7 @@ use Rattle.boxes.specs.Sound.{IsDigest}
 use Rattle.sqlkeeper.specs.Schema.{Version, IsVersion}
 use Rattle.sqlkeeper.specs.Tables.{Tables}
 use Rattle.sqlkeeper.specs.Means.{Pends}
-use Rattle.sqlkeeper.proofs.Listing.{Unmoved, Lists}
+use Rattle.sqlkeeper.proofs.ManyQuestions.{Unmoved, Lists}
 use Rattle.sqlkeeper.proofs.questions.receipts.Given as goal
 
 abbrev pub invariant-loop-tx : goal.invariant-loop-tx

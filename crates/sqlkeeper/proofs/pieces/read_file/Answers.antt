@@ -1,0 +1,26 @@
+use Rattle.std.proofs.Common.{◌≡◌, ◌+◌, ◌-◌, ◌<◌, ◌++◌, length, min, rules, sym, ap, subst₂, ◌∙◌}
+use Rattle.sqlite.specs.Held.{state}
+use Rattle.boxes.specs.State.{Place}
+use Rattle.sqlkeeper.proofs.Gathering.{Gathered, ReadsNext, gathers}
+use Rattle.sqlkeeper.proofs.pieces.read_file.Goals as goal
+
+pub loop-tx-preserved : goal.loop-tx-preserved
+loop-tx-preserved g c =
+    let place : Place = record { box = c.args.in_box.now; name = c.args.name.now } in
+    let entry = state g.S.Store c.args.tx.now.conn.now in
+    let mid = state g.S.Store c.loop-tx.tx.conn.now in
+    let now = state g.S.Store c.read_piece.new.tx.conn.now in
+    let bytes = c.loop-tx.bytes.items in
+    let piece = c.in_ok-piece.piece.items in
+    let next : ReadsNext mid now place c.loop-tx.part piece = record {
+      read = λ v ours whole clean. c.in_ok-piece.ensures.read v ours.version ours.schema whole ours.inside clean;
+      same = λ v ours clean. c.in_ok-piece.ensures.same v ours.version ours.schema ours.inside clean;
+      running = λ clean inside. c.in_ok-piece.ensures.running clean inside;
+      uncommitted = c.read_piece.ensures.uncommitted;
+      survives = c.read_piece.ensures.survives;
+    } in
+    let count : c.in-Some.next ≡ c.loop-tx.part + 1 = search rules in
+    let items : c.extend_from_slice.new.self.items ≡ bytes ++ piece = c.in_ok-extend_from_slice.ensures.items ∙ ap (◌++◌ bytes) c.deref.ensures.value in
+    let less : length bytes < c.args.size = search rules in
+    let fits : length piece ≡ min (c.args.size - length bytes) 65536 = search rules in
+    (search rules, subst₂ (Gathered entry now place c.args.size) (sym items) (sym count) (gathers entry mid now place c.args.size bytes piece c.loop-tx.part c.loop-tx.invariant.1 next less fits))
