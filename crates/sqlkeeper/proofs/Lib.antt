@@ -34,3 +34,5 @@ pub mod NotText
 pub mod Stays
 pub mod StandingFiles
 pub mod Making
+pub mod Entries
+pub mod KeyEntries

@@ -2,11 +2,15 @@
 #![tactic(auto)]
 
 mod asking;
+mod box_rules;
 mod box_rows;
 mod changes;
 mod creating;
 mod file_keeper;
+mod key_rules;
+mod lines;
 mod questions;
+mod receipt_rules;
 mod standing;
 mod statements;
 

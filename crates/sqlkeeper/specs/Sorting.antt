@@ -1,0 +1,57 @@
+-- Lines that were read into a map.
+use denote.Bor.{Bor}
+use Rattle.std.specs.Prelude.{◌≡◌, ℕ, List, Option, Some, None}
+use Rattle.std.specs.declared.cmp.Ordering.{Ordering}
+use Rattle.std.specs.FinMap.{FinMap, get}
+use Rattle.std.specs.BTreeMap.{BTreeMap}
+use Rattle.boxes.specs.State.{Key, Place, place_cmp, Receipt}
+use Rattle.boxes.specs.Rows.{settings_of}
+use Rattle.sigtext.specs.Bytes.{bytes_cmp}
+use Rattle.std.specs.Ordering.{nat_cmp}
+use Rattle.keeper.specs.Maps.{MapMeans}
+use Rattle.sqlkeeper.specs.Tables.{Box}
+use Rattle.sqlkeeper.specs.Outlines.{AreEntries, IsBoxRule, IsReceiptEntry, IsReceiptRule}
+use Rattle.sqlkeeper.specs.declared.lines.ReceiptLine.{ReceiptLine}
+use Rattle.sqlkeeper.specs.declared.box_rules.BoxEntry.{BoxEntry}
+use Rattle.sqlkeeper.specs.declared.receipt_rules.ReceiptEntry.{ReceiptEntry}
+use Rattle.sqlkeeper.specs.declared.key_rules.KeyEntry.{KeyEntry}
+
+-- the line is the entry, and the entry keeps its rule
+pub record IsGood {L K V : Type 0} (IsEntry : L → K → V → Type 0) (Rule : K → V → Type 0) (line : L) (k : K) (v : V) : Type 0 where
+  pub entry : IsEntry line k v
+  pub rule : Rule k v
+
+-- Where there is a map, it means the entries that the lines are; and where there is none, the lines are no map's entries.
+pub record AreIn {L K K' X Y : Type 0} (R : K' → K' → Ordering) (f : K → K') (g : X → Y) (IsEntry : L → K' → Y → Type 0) (lines : List L) (es : List (K × X)) : Type 0 where
+  pub map : FinMap R Y
+  pub means : MapMeans R f g es map
+  pub entries : AreEntries IsEntry (get map) lines
+
+abbrev pub IsRead : {L K K' X Y : Type 0} (R : K' → K' → Ordering) (f : K → K') (g : X → Y) (IsEntry : L → K' → Y → Type 0) (lines : List L) → Option (BTreeMap K X) → Type 0
+IsRead R f g E lines None = (m : FinMap R _) → AreEntries E (get m) lines → ⊥
+IsRead R f g E lines (Some m) = AreIn R f g E lines m.entries
+
+abbrev pub key_in : KeyEntry → Key
+key_in e = record { role = e.role; secret = e.secret.now; revoked = e.revoked }
+
+-- what a key of the code points to
+abbrev pub text_of : Bor (List ℕ) → List ℕ
+text_of text = text.now
+
+abbrev pub box_in : BoxEntry → Box
+box_in e = record { settings = settings_of e.row; used = e.used; count = e.count }
+
+abbrev pub given_in : ReceiptEntry → Receipt
+given_in e = record { box = e.in_box.now; name = e.name.now; size = e.size; digest = e.digest.now; moment = e.moment; key = e.key.now }
+
+abbrev pub HoldsKeys : BTreeMap (Bor (List ℕ)) KeyEntry → FinMap bytes_cmp Key → Type 0
+HoldsKeys keys m = MapMeans bytes_cmp text_of key_in keys.entries m
+
+-- the boxes of a map, which keep their rules
+pub record HoldsBoxes (boxes : BTreeMap (Bor (List ℕ)) BoxEntry) (m : FinMap bytes_cmp Box) : Type 0 where
+  pub means : MapMeans bytes_cmp text_of box_in boxes.entries m
+  pub good : (name : List ℕ) (b : Box) → get m name ≡ Some b → IsBoxRule name b
+
+-- a line that is a receipt among these keys and boxes
+abbrev pub IsGiven : FinMap bytes_cmp Key → FinMap bytes_cmp Box → ReceiptLine → ℕ → Receipt → Type 0
+IsGiven keys boxes = IsGood IsReceiptEntry (λ at r. IsReceiptRule keys boxes r)
