@@ -98,11 +98,11 @@ module _ {L K V : Type 0} (R : K → K → Ordering) (o : IsTotalOrder R) (same 
       ] refl
 
 module _ {L Q K X V : Type 0} (R : K → K → Ordering) (o : IsTotalOrder R) (same : IsAntisymmetric R) (f : Q → K) (g : X → V) (E : L → K → V → Type 0) where
-  pub start : AreIn R f g E [] []
+  abbrev pub start : AreIn R f g E [] []
   start = record { map = empty; means = means-empty R f o g; entries = no_lines R o same E }
 
   -- one line more, in the map of the code
-  pub next_line : (ls : List L) (i : ℕ) (l : L) (m n : BTreeMap Q X) (k : K) (x : X) → AreIn R f g E (take i ls) m.entries → i < length ls → get_or ls i l ≡ l → E l k (g x)
+  abbrev pub next_line : (ls : List L) (i : ℕ) (l : L) (m n : BTreeMap Q X) (k : K) (x : X) → AreIn R f g E (take i ls) m.entries → i < length ls → get_or ls i l ≡ l → E l k (g x)
       → UpdatesBy (λ a b. R (f a) (f b)) (λ a. R k (f a)) m n (Some x) → (found R f m.entries k ≡ None) ⊎ ((y : X) × (found R f m.entries k ≡ Some y) × (g y ≡ g x))
       → AreIn R f g E (take (i + 1) ls) n.entries
   next_line ls i l m n k x old lt here is updates free = record {

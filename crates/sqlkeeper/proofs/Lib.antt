@@ -36,3 +36,5 @@ pub mod StandingFiles
 pub mod Making
 pub mod Entries
 pub mod KeyEntries
+pub mod ReceiptEntries
+pub mod FileEntries

@@ -1,17 +1,24 @@
 -- Lines that were read into a map.
 use denote.Bor.{Bor}
-use Rattle.std.specs.Prelude.{◌≡◌, ℕ, List, Option, Some, None}
+use Rattle.std.specs.Prelude.{◌≡◌, ◌≤◌, ℕ, List, length, Option, Some, None, ◌+◌, ◌^◌, ◌-◌, min, MatchOption}
 use Rattle.std.specs.declared.cmp.Ordering.{Ordering}
 use Rattle.std.specs.FinMap.{FinMap, get}
 use Rattle.std.specs.BTreeMap.{BTreeMap}
 use Rattle.boxes.specs.State.{Key, Place, place_cmp, Receipt}
+use Rattle.sigtext.specs.Limits.{most_body}
+use Rattle.boxes.specs.Rules.{IsName}
+use Rattle.boxes.specs.Sound.{IsBoxName, IsDigest, IsMoment}
 use Rattle.boxes.specs.Rows.{settings_of}
 use Rattle.sigtext.specs.Bytes.{bytes_cmp}
 use Rattle.std.specs.Ordering.{nat_cmp}
-use Rattle.keeper.specs.Maps.{MapMeans}
+use Rattle.keeper.specs.Maps.{MapMeans, Sets, found}
 use Rattle.sqlkeeper.specs.Tables.{Box}
-use Rattle.sqlkeeper.specs.Outlines.{AreEntries, IsBoxRule, IsReceiptEntry, IsReceiptRule}
+use Rattle.sqlkeeper.specs.Outlines.{AreEntries, IsBoxRule, IsFileEntry, IsFileRule, used_in, count_in, IsReceiptEntry, IsReceiptRule}
+use Rattle.boxes.specs.declared.totals.Totals.{Totals}
 use Rattle.sqlkeeper.specs.declared.lines.ReceiptLine.{ReceiptLine}
+use Rattle.sqlkeeper.specs.declared.lines.FileLine.{FileLine}
+use Rattle.sqlkeeper.specs.declared.file_rules.FileEntry.{FileEntry}
+use Rattle.sqlkeeper.specs.declared.file_rules.Filed.{Filed}
 use Rattle.sqlkeeper.specs.declared.box_rules.BoxEntry.{BoxEntry}
 use Rattle.sqlkeeper.specs.declared.receipt_rules.ReceiptEntry.{ReceiptEntry}
 use Rattle.sqlkeeper.specs.declared.key_rules.KeyEntry.{KeyEntry}
@@ -55,3 +62,52 @@ pub record HoldsBoxes (boxes : BTreeMap (Bor (List ℕ)) BoxEntry) (m : FinMap b
 -- a line that is a receipt among these keys and boxes
 abbrev pub IsGiven : FinMap bytes_cmp Key → FinMap bytes_cmp Box → ReceiptLine → ℕ → Receipt → Type 0
 IsGiven keys boxes = IsGood IsReceiptEntry (λ at r. IsReceiptRule keys boxes r)
+
+-- the forms of what a receipt says
+pub record HasReceiptForms (r : Receipt) : Type 0 where
+  pub box : IsBoxName r.box
+  pub name : IsName r.name
+  pub short : length r.name ≤ 1024
+  pub size : r.size ≤ most_body
+  pub digest : IsDigest r.digest
+  pub moment : IsMoment r.moment
+
+abbrev pub HoldsReceipts : BTreeMap ℕ ReceiptEntry → FinMap nat_cmp Receipt → Type 0
+HoldsReceipts receipts m = MapMeans nat_cmp (λ n. n) given_in receipts.entries m
+
+-- a line that is a file with its receipt among these
+abbrev pub IsFiled : FinMap nat_cmp Receipt → FileLine → Place → ℕ → Type 0
+IsFiled receipts = IsGood IsFileEntry (IsFileRule (get receipts))
+
+abbrev pub spot_of : Bor (List ℕ) × Bor (List ℕ) → Place
+spot_of k = record { box = k.0.now; name = k.1.now }
+
+-- ---- sums, which stop at the greatest number of 64 bits
+
+abbrev pub capped : ℕ → ℕ
+capped n = min n (2 ^ 64 - 1)
+
+abbrev pub used_at : Option Totals → ℕ
+used_at None = 0
+used_at (Some t) = t.used
+
+abbrev pub count_at : Option Totals → ℕ
+count_at None = 0
+count_at (Some t) = t.count
+
+-- the box holds one file more, of this size
+pub record AddsTo (box : List ℕ) (size : ℕ) (before after : List (Bor (List ℕ) × Totals)) : Type 0 where
+  pub totals : Totals
+  pub sets : Sets bytes_cmp text_of box (Some totals) before after
+  pub used : totals.used ≡ capped (used_at (found bytes_cmp text_of before box) + size)
+  pub count : totals.count ≡ capped (count_at (found bytes_cmp text_of before box) + 1)
+
+-- each box's sums over the files of the map
+pub record AreSums (receipts : FinMap nat_cmp Receipt) (files : FinMap place_cmp ℕ) (sums : List (Bor (List ℕ) × Totals)) : Type 0 where
+  pub used : (box : List ℕ) → used_at (found bytes_cmp text_of sums box) ≡ capped (used_in (get receipts) files box)
+  pub count : (box : List ℕ) → count_at (found bytes_cmp text_of sums box) ≡ capped (count_in files box)
+
+-- the files of the lines with the sums of the boxes, or else the lines are no map's entries
+abbrev pub AreFiled : FinMap nat_cmp Receipt → List FileLine → Option Filed → Type 0
+AreFiled receipts lines None = (m : FinMap place_cmp ℕ) → AreEntries (IsFiled receipts) (get m) lines → ⊥
+AreFiled receipts lines (Some filed) = (is : AreIn place_cmp spot_of (λ n. n) (IsFiled receipts) lines filed.files.entries) × AreSums receipts is.map filed.sums.entries

@@ -7,6 +7,7 @@ mod box_rows;
 mod changes;
 mod creating;
 mod file_keeper;
+mod file_rules;
 mod key_rules;
 mod lines;
 mod questions;

@@ -1,13 +1,15 @@
 //! The lines of the receipts, as receipts among keys and boxes.
 
-ghost use Rattle.std.specs.Prelude.{◌≡◌, ◌↔◌, ℕ, ◌+◌, pos, Some, IsTrue, IfOk, MatchOption};
-ghost use Rattle.std.specs.FinMap.{FinMap};
+ghost use Rattle.std.specs.Prelude.{◌≡◌, ◌↔◌, ℕ, ◌+◌, pos, Some, IsTrue, IsSomeAnd, IfOk, MatchOption, ⊤};
+ghost use Rattle.std.specs.FinMap.{FinMap, get};
 ghost use Rattle.std.specs.Ordering.{nat_cmp};
 ghost use Rattle.sigtext.specs.Bytes.{bytes_cmp};
 ghost use Rattle.boxes.specs.State.{Key, Receipt};
+ghost use Rattle.boxes.specs.Opening.{Fits};
+ghost use Rattle.boxes.specs.Sound.{IsDigest};
 ghost use Rattle.sqlkeeper.specs.Tables.{Box};
 ghost use Rattle.sqlkeeper.specs.Outlines.{IsReceiptEntry, IsReceiptRule};
-ghost use Rattle.sqlkeeper.specs.Sorting.{HoldsBoxes, HoldsKeys, IsGiven, IsRead, given_in};
+ghost use Rattle.sqlkeeper.specs.Sorting.{HoldsBoxes, HoldsKeys, HasReceiptForms, IsGiven, IsRead, given_in};
 
 use crate::box_rules::Boxes;
 use crate::key_rules::Keys;
@@ -73,38 +75,60 @@ fn entry_of(line: &ReceiptLine) -> Option<(u64, ReceiptEntry<'_>)>
     ))
 }
 
+/// Whether the bytes are as many as a digest's.
+fn is_digest(bytes: &[u8]) -> bool
+    ensures { IsTrue result ↔ IsDigest bytes.now }
+{
+    bytes.len() == DIGEST_BYTES
+}
+
 /// Whether the texts and numbers of a receipt have their forms.
-fn has_forms(entry: &ReceiptEntry<'_>) -> bool {
+fn has_forms(entry: &ReceiptEntry<'_>) -> bool
+    ensures { IsTrue result ↔ HasReceiptForms (given_in entry.now) }
+{
     let (in_box, name) = (entry.in_box, entry.name);
     let moment = entry.moment;
-    has_form(&Command::DropFile { in_box, name })
-        && has_form(&Command::CloseBox { name: in_box, moment })
-        && entry.size <= MOST_BODY
-        && entry.digest.len() == DIGEST_BYTES
+    if !has_form(&Command::DropFile { in_box, name }) {
+        return false;
+    }
+    if !has_form(&Command::CloseBox { name: in_box, moment }) {
+        return false;
+    }
+    entry.size <= MOST_BODY && is_digest(entry.digest)
 }
 
 /// Whether the box is there, and takes the name.
-fn takes(boxes: &Boxes<'_>, in_box: &[u8], name: &[u8]) -> bool {
+fn takes<'a>(boxes: &Boxes<'a>, in_box: &'a [u8], name: &[u8]) -> bool
+    ensures { (bs : FinMap bytes_cmp Box) → HoldsBoxes boxes.now bs → IsTrue result ↔ IsSomeAnd (get bs in_box.now) (λ b. Fits b.settings.rule name.now) }
+{
     match boxes.get(&in_box) {
         Some(entry) => name_fits(&entry.row.rule, name),
         None => false,
     }
 }
 
+/// Whether the key is there.
+fn has_key<'a>(keys: &Keys<'a>, id: &'a [u8]) -> bool
+    ensures { (ks : FinMap bytes_cmp Key) → HoldsKeys keys.now ks → IsTrue result ↔ IsSomeAnd (get ks id.now) (λ k. ⊤) }
+{
+    keys.contains_key(&id)
+}
+
 /// Whether the receipt is one among these keys and boxes.
-fn is_receipt(entry: &ReceiptEntry<'_>, keys: &Keys<'_>, boxes: &Boxes<'_>) -> bool
+fn is_receipt<'a>(entry: &ReceiptEntry<'a>, keys: &Keys<'a>, boxes: &Boxes<'a>) -> bool
     ensures { (ks : FinMap bytes_cmp Key) (bs : FinMap bytes_cmp Box) → HoldsKeys keys.now ks → HoldsBoxes boxes.now bs → IsTrue result ↔ IsReceiptRule ks bs (given_in entry.now) }
 {
-    has_forms(entry)
-        && keys.contains_key(&entry.key)
-        && takes(boxes, entry.in_box, entry.name)
+    if !has_forms(entry) {
+        return false;
+    }
+    has_key(keys, entry.key) && takes(boxes, entry.in_box, entry.name)
 }
 
 /// The receipt of a line with its place, where it is one among these keys and boxes.
 fn receipt_of<'a>(
     line: &'a ReceiptLine,
-    keys: &Keys<'_>,
-    boxes: &Boxes<'_>,
+    keys: &Keys<'a>,
+    boxes: &Boxes<'a>,
 ) -> Option<(u64, ReceiptEntry<'a>)>
     ensures { (ks : FinMap bytes_cmp Key) (bs : FinMap bytes_cmp Box) → HoldsKeys keys.now ks → HoldsBoxes boxes.now bs
         → MatchOption result ((at : ℕ) (r : Receipt) → IsGiven ks bs line.now at r → ⊥) (λ e. IsGiven ks bs line.now e.0 (given_in e.1)) }
@@ -132,8 +156,8 @@ fn is_same_receipt(a: &ReceiptEntry<'_>, b: &ReceiptEntry<'_>) -> bool
 pub(crate) fn receipts_by_place<'a>(
     alloc: Global,
     lines: &'a [ReceiptLine],
-    keys: &Keys<'_>,
-    boxes: &Boxes<'_>,
+    keys: &Keys<'a>,
+    boxes: &Boxes<'a>,
 ) -> Result<Option<Receipts<'a>>, AllocError>
     ensures { (ks : FinMap bytes_cmp Key) (bs : FinMap bytes_cmp Box) → HoldsKeys keys.now ks → HoldsBoxes boxes.now bs
         → IfOk result (IsRead nat_cmp (λ n. n) given_in (IsGiven ks bs) lines.now) }
