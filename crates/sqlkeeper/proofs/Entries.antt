@@ -132,3 +132,15 @@ pub clashed : {L Q K X V : Type 0} (R : K → K → Ordering) (o : IsTotalOrder 
 clashed R o same f g E functional look ls i l es k x y old lt here is stood apart all =
     let there = old.means.each k ∙ ap (option_map g) stood in
     apart (sym (clash R o same E functional look ls i old.map l k (g x) (g y) all old.entries (has_at ls i l lt here) is there))
+
+-- what holds of each line so far, and of one more
+pub each_more : {X : Type 0} (P : X → Type 0) (xs : List X) (i : ℕ) (x : X) → ((y : X) → Contains (take i xs) y → P y) → i < length xs → get_or xs i x ≡ x → P x
+    → (y : X) → Contains (take (i + 1) xs) y → P y
+each_more P xs i x before lt here is y there =
+    elim (Contains-append_cases (take i xs) (x ∷ []) y (subst (λ ys. Contains ys y) (take_more xs i x lt ∙ ap (λ z. take i xs ++ z ∷ []) here) there)) [
+      | inl old ↦ before y old
+      | inr new ↦ subst P (only x y new) is
+    ]
+
+pub none_before : {X : Type 0} (P : X → Type 0) (xs : List X) (y : X) → Contains (take 0 xs) y → P y
+none_before P xs y h = absurd (omega (arith, h.1))

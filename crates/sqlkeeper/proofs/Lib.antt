@@ -38,3 +38,4 @@ pub mod Entries
 pub mod KeyEntries
 pub mod ReceiptEntries
 pub mod FileEntries
+pub mod Unbroken

@@ -1,6 +1,6 @@
 -- Lines that were read into a map.
 use denote.Bor.{Bor}
-use Rattle.std.specs.Prelude.{◌≡◌, ◌≤◌, ℕ, List, length, Option, Some, None, ◌+◌, ◌^◌, ◌-◌, min, MatchOption}
+use Rattle.std.specs.Prelude.{◌≡◌, ◌≤◌, ℕ, pos, List, length, Option, Some, None, ◌+◌, ◌^◌, ◌-◌, min, MatchOption}
 use Rattle.std.specs.declared.cmp.Ordering.{Ordering}
 use Rattle.std.specs.FinMap.{FinMap, get}
 use Rattle.std.specs.BTreeMap.{BTreeMap}
@@ -16,6 +16,7 @@ use Rattle.sqlkeeper.specs.Tables.{Box}
 use Rattle.sqlkeeper.specs.Outlines.{AreEntries, IsBoxRule, IsFileEntry, IsFileRule, used_in, count_in, IsReceiptEntry, IsReceiptRule}
 use Rattle.boxes.specs.declared.totals.Totals.{Totals}
 use Rattle.sqlkeeper.specs.declared.lines.ReceiptLine.{ReceiptLine}
+use Rattle.sqlkeeper.specs.declared.lines.BoxLine.{BoxLine}
 use Rattle.sqlkeeper.specs.declared.lines.FileLine.{FileLine}
 use Rattle.sqlkeeper.specs.declared.file_rules.FileEntry.{FileEntry}
 use Rattle.sqlkeeper.specs.declared.file_rules.Filed.{Filed}
@@ -111,3 +112,11 @@ pub record AreSums (receipts : FinMap nat_cmp Receipt) (files : FinMap place_cmp
 abbrev pub AreFiled : FinMap nat_cmp Receipt → List FileLine → Option Filed → Type 0
 AreFiled receipts lines None = (m : FinMap place_cmp ℕ) → AreEntries (IsFiled receipts) (get m) lines → ⊥
 AreFiled receipts lines (Some filed) = (is : AreIn place_cmp spot_of (λ n. n) (IsFiled receipts) lines filed.files.entries) × AreSums receipts is.map filed.sums.entries
+
+abbrev pub HoldsFiles : BTreeMap (Bor (List ℕ) × Bor (List ℕ)) ℕ → FinMap place_cmp ℕ → Type 0
+HoldsFiles files m = MapMeans place_cmp spot_of (λ n. n) files.entries m
+
+-- the line tells what its box holds
+pub record HasTotals (receipts : FinMap nat_cmp Receipt) (files : FinMap place_cmp ℕ) (line : BoxLine) : Type 0 where
+  pub used : line.used ≡ pos (used_in (get receipts) files line.name.items)
+  pub count : line.count ≡ pos (count_in files line.name.items)

@@ -10,6 +10,7 @@ mod file_keeper;
 mod file_rules;
 mod key_rules;
 mod lines;
+mod piece_rules;
 mod questions;
 mod receipt_rules;
 mod standing;
