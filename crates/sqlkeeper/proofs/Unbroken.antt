@@ -1,6 +1,11 @@
 -- Receipts of which none is missing before another are a list.
 use Rattle.std.proofs.Common.{◌≡◌, ◌∙◌, ℕ, zero, suc, ◌+◌, ◌<◌, ◌≤◌, List, [], ◌∷◌, Option, Some, None, refl, sym, ap, subst, arith}
-use Rattle.std.specs.Prelude.{IsSomeAnd, slice_get, ⊤}
+use borrow.Author.Count.{below_more}
+use Rattle.std.specs.Prelude.{IsSome, IsSomeAnd, slice_get, option_map, false, ⊤}
+use Rattle.std.specs.Ordering.{nat_cmp, is_lt}
+use Rattle.std.specs.BTreeMap.{BTreeMap}
+use Rattle.std.proofs.lemmas.Map.Keys.{ge_from_not_lt}
+use Rattle.keeper.specs.Maps.{found}
 use Rattle.std.proofs.lemmas.Option.{slice_get_within, slice_get-get_or}
 use Rattle.sqlkeeper.proofs.ReceiptEntries.{some_there}
 
@@ -22,3 +27,16 @@ pub reached : {X : Type 0} (list : List X) (f : ℕ → Option X) → ((i : ℕ)
 reached list f each last at x there lt =
     let within = slice_get_within list last x (sym (each last) ∙ there) in
     is_some_and (f at) _ (each at ∙ slice_get-get_or list at x (omega (arith, within, lt)))
+
+pub whole : {X : Type 0} (f : ℕ → Option X) (last : ℕ) (x : X) → f last ≡ Some x → ((i : ℕ) → i < last → IsSomeAnd (f i) (λ y. ⊤)) → ((i : ℕ) → last < i → f i ≡ None) → (list : List X) × ((i : ℕ) → f i ≡ slice_get list i)
+whole f last x there below above =
+    tabulate (last + 1) f (below_more (λ i. IsSomeAnd (f i) (λ y. ⊤)) last below (is_some_and (f last) x there)) (λ i le. above i (omega (arith, le)))
+
+-- nothing stands above the greatest key
+pub above_none : {X Y : Type 0} (m : BTreeMap ℕ X) (g : X → Y) (f : ℕ → Option Y) → ((i : ℕ) → f i ≡ option_map g (found nat_cmp (λ n. n) m.entries i)) → (last i : ℕ) → last < i
+    → (IsSome (found nat_cmp (λ (n : ℕ). n) m.entries i) → is_lt (nat_cmp last i) ≡ false) → f i ≡ None
+above_none m g f means last i lt bound = means i ∙
+    elim (found nat_cmp (λ (n : ℕ). n) m.entries i) as (λ o. (IsSome o → is_lt (nat_cmp last i) ≡ false) → option_map g o ≡ None) [
+      | None ↦ λ b. refl
+      | Some x ↦ λ b. let le = ge_from_not_lt last i (b refl) in absurd (omega (arith, le, lt))
+    ] bound
