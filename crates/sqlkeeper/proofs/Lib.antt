@@ -39,3 +39,4 @@ pub mod KeyEntries
 pub mod ReceiptEntries
 pub mod FileEntries
 pub mod Unbroken
+pub mod BoxTexts

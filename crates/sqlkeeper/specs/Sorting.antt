@@ -1,18 +1,18 @@
 -- Lines that were read into a map.
 use denote.Bor.{Bor}
-use Rattle.std.specs.Prelude.{◌≡◌, ◌≤◌, ℕ, pos, List, length, Option, Some, None, ◌+◌, ◌^◌, ◌-◌, min, MatchOption}
+use Rattle.std.specs.Prelude.{◌≡◌, ◌≤◌, ℕ, ℤ, pos, List, length, Option, Some, None, ◌+◌, ◌^◌, ◌-◌, min, MatchOption}
 use Rattle.std.specs.declared.cmp.Ordering.{Ordering}
 use Rattle.std.specs.FinMap.{FinMap, get}
 use Rattle.std.specs.BTreeMap.{BTreeMap}
-use Rattle.boxes.specs.State.{Key, Place, place_cmp, Receipt}
+use Rattle.boxes.specs.State.{Key, NameRule, Place, place_cmp, Receipt}
 use Rattle.sigtext.specs.Limits.{most_body}
 use Rattle.boxes.specs.Rules.{IsName}
-use Rattle.boxes.specs.Sound.{IsBoxName, IsDigest, IsMoment}
+use Rattle.boxes.specs.Sound.{IsBoxName, IsDigest, IsMoment, IsNameRule}
 use Rattle.boxes.specs.Rows.{settings_of}
 use Rattle.sigtext.specs.Bytes.{bytes_cmp}
 use Rattle.std.specs.Ordering.{nat_cmp}
 use Rattle.keeper.specs.Maps.{MapMeans, Sets, found}
-use Rattle.sqlkeeper.specs.Tables.{Box}
+use Rattle.sqlkeeper.specs.Tables.{Box, rule_number, rule_text}
 use Rattle.sqlkeeper.specs.Outlines.{AreEntries, IsBoxRule, IsFileEntry, IsFileRule, used_in, count_in, IsReceiptEntry, IsReceiptRule}
 use Rattle.boxes.specs.declared.totals.Totals.{Totals}
 use Rattle.sqlkeeper.specs.declared.lines.ReceiptLine.{ReceiptLine}
@@ -120,3 +120,9 @@ HoldsFiles files m = MapMeans place_cmp spot_of (λ n. n) files.entries m
 pub record HasTotals (receipts : FinMap nat_cmp Receipt) (files : FinMap place_cmp ℕ) (line : BoxLine) : Type 0 where
   pub used : line.used ≡ pos (used_in (get receipts) files line.name.items)
   pub count : line.count ≡ pos (count_in files line.name.items)
+
+-- the number and the text are those of the rule, and of no other that has its form
+pub record TellsRule (kind : ℤ) (text : List ℕ) (rule : NameRule) : Type 0 where
+  pub kind_is : kind ≡ rule_number rule
+  pub text_is : text ≡ rule_text rule
+  pub alone : (other : NameRule) → IsNameRule other → kind ≡ rule_number other → text ≡ rule_text other → rule ≡ other
