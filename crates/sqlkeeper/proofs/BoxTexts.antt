@@ -12,7 +12,7 @@ use Rattle.sqlkeeper.specs.Tables.{joined, rule_number, rule_text, days_text}
 
 -- ---- seven days
 
-open_days : (days : List Bool) → map (λ mark. eqb mark 49) (days_text days) ≡ days
+pub open_days : (days : List Bool) → map (λ mark. eqb mark 49) (days_text days) ≡ days
 open_days [] = refl
 open_days (true ∷ days) = ap (◌∷◌ true) (open_days days)
 open_days (false ∷ days) = ap (◌∷◌ false) (open_days days)

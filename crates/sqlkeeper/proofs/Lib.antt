@@ -40,3 +40,5 @@ pub mod ReceiptEntries
 pub mod FileEntries
 pub mod Unbroken
 pub mod BoxTexts
+pub mod BoxEntries
+pub mod SameTexts

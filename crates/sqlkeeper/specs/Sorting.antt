@@ -4,7 +4,7 @@ use Rattle.std.specs.Prelude.{◌≡◌, ◌≤◌, ℕ, ℤ, pos, List, length,
 use Rattle.std.specs.declared.cmp.Ordering.{Ordering}
 use Rattle.std.specs.FinMap.{FinMap, get}
 use Rattle.std.specs.BTreeMap.{BTreeMap}
-use Rattle.boxes.specs.State.{Key, NameRule, Place, place_cmp, Receipt}
+use Rattle.boxes.specs.State.{Key, NameRule, Place, place_cmp, Receipt, Settings}
 use Rattle.sigtext.specs.Limits.{most_body}
 use Rattle.boxes.specs.Rules.{IsName}
 use Rattle.boxes.specs.Sound.{IsBoxName, IsDigest, IsMoment, IsNameRule}
@@ -126,3 +126,11 @@ pub record TellsRule (kind : ℤ) (text : List ℕ) (rule : NameRule) : Type 0 w
   pub kind_is : kind ≡ rule_number rule
   pub text_is : text ≡ rule_text rule
   pub alone : (other : NameRule) → IsNameRule other → kind ≡ rule_number other → text ≡ rule_text other → rule ≡ other
+
+pub record HaveSameNumbers (a b : Settings) : Type 0 where
+  pub opens : a.opens ≡ b.opens
+  pub closes : a.closes ≡ b.closes
+  pub from_minute : a.from_minute ≡ b.from_minute
+  pub to_minute : a.to_minute ≡ b.to_minute
+  pub quota : a.quota ≡ b.quota
+  pub max_files : a.max_files ≡ b.max_files

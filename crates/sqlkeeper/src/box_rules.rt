@@ -1,6 +1,6 @@
 //! The lines of the boxes, as boxes.
 
-ghost use Rattle.std.specs.Prelude.{◌≡◌, ◌↔◌, ◌≤◌, ◌==◌, ℕ, Bool, List, length, map, pos, IsFalse, IsTrue, IfOk, MatchOption};
+ghost use Rattle.std.specs.Prelude.{◌≡◌, ◌↔◌, ◌≤◌, ◌==◌, ℕ, Bool, List, length, map, pos, IsTrue, IfOk, MatchOption};
 ghost use Rattle.std.specs.List.{slice_split};
 ghost use Rattle.sigtext.specs.Bytes.{bytes_cmp};
 ghost use Rattle.boxes.specs.declared.rows.Mode.{Mode};
@@ -10,7 +10,7 @@ ghost use Rattle.boxes.specs.Sound.{IsNameRule};
 ghost use Rattle.keeper.specs.Maps.{found};
 ghost use Rattle.sqlkeeper.specs.Tables.{Box, days_text, mode_number, rule_number, rule_text};
 ghost use Rattle.sqlkeeper.specs.Outlines.{IsBoxEntry, IsBoxRule};
-ghost use Rattle.sqlkeeper.specs.Sorting.{IsGood, IsRead, TellsRule, box_in, text_of};
+ghost use Rattle.sqlkeeper.specs.Sorting.{HaveSameNumbers, IsGood, IsRead, TellsRule, box_in, text_of};
 
 use crate::box_rows::digits_of_days;
 use crate::lines::BoxLine;
@@ -166,20 +166,44 @@ fn is_same_rule(a: &NameRule, b: &NameRule) -> bool
     }
 }
 
+/// Whether two rows tell the same numbers.
+fn have_same_numbers(a: &BoxRow, b: &BoxRow) -> bool
+    ensures { IsTrue result ↔ HaveSameNumbers (settings_of a.now) (settings_of b.now) }
+{
+    a.opens == b.opens
+        && a.closes == b.closes
+        && a.from_minute == b.from_minute
+        && a.to_minute == b.to_minute
+        && a.quota == b.quota
+        && a.max_files == b.max_files
+}
+
+fn is_same_mode(a: Mode, b: Mode) -> bool
+    ensures { IsTrue result ↔ a ≡ b }
+{
+    a == b
+}
+
+fn are_same_days(a: &[bool; 7], b: &[bool; 7]) -> bool
+    ensures { IsTrue result ↔ a.now ≡ b.now }
+{
+    a == b
+}
+
 /// Whether two rows tell the same box.
 fn is_same_row(a: &BoxRow, b: &BoxRow) -> bool
     ensures { IsTrue result ↔ settings_of a.now ≡ settings_of b.now }
 {
-    if !is_same_rule(&a.rule, &b.rule) || a.days != b.days || a.mode != b.mode {
+    if !is_same_rule(&a.rule, &b.rule) {
         return false;
     }
-    if a.opens != b.opens || a.closes != b.closes {
+    if !are_same_days(&a.days, &b.days) {
         return false;
     }
-    if a.from_minute != b.from_minute || a.to_minute != b.to_minute {
+    if !is_same_mode(a.mode, b.mode) {
         return false;
     }
-    a.quota == b.quota && a.max_files == b.max_files
+    have_same_numbers(a, b)
 }
 
 /// Whether two entries are the same box.
@@ -207,13 +231,13 @@ fn box_of(alloc: Global, line: &BoxLine) -> Result<Option<BoxEntry>, AllocError>
     Ok(Some(entry))
 }
 
-/// Whether another box stands under the name.
-fn clashes<'a>(boxes: &Boxes<'a>, name: &'a [u8], entry: &BoxEntry) -> bool
-    ensures { MatchOption (found bytes_cmp text_of boxes.now.entries name.now) (IsFalse result) (λ first. IsTrue result ↔ (box_in first ≡ box_in entry.now → ⊥)) }
+/// Whether no other box stands under the name.
+fn agrees<'a>(boxes: &Boxes<'a>, name: &'a [u8], entry: &BoxEntry) -> bool
+    ensures { MatchOption (found bytes_cmp text_of boxes.now.entries name.now) (IsTrue result) (λ first. IsTrue result ↔ box_in first ≡ box_in entry.now) }
 {
     match boxes.get(&name) {
-        Some(first) => !is_same_box(first, entry),
-        None => false,
+        Some(first) => is_same_box(first, entry),
+        None => true,
     }
 }
 
@@ -229,10 +253,11 @@ pub(crate) fn boxes_by_name<'a>(
         let Some(entry) = box_of(alloc, line)? else {
             return Ok(None);
         };
-        if clashes(&boxes, &line.name, &entry) {
+        let name = line.name.as_slice();
+        if !agrees(&boxes, name, &entry) {
             return Ok(None);
         }
-        boxes.insert(line.name.as_slice(), entry)?;
+        boxes.insert(name, entry)?;
     }
     Ok(Some(boxes))
 }
