@@ -42,3 +42,4 @@ pub mod Unbroken
 pub mod BoxTexts
 pub mod BoxEntries
 pub mod SameTexts
+pub mod OfficeEntries

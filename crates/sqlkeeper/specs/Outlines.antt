@@ -20,6 +20,7 @@ use Rattle.sqlkeeper.specs.declared.lines.BoxLine.{BoxLine}
 use Rattle.sqlkeeper.specs.declared.lines.ReceiptLine.{ReceiptLine}
 use Rattle.sqlkeeper.specs.declared.lines.FileLine.{FileLine}
 use Rattle.sqlkeeper.specs.declared.lines.PieceLine.{PieceLine}
+use Rattle.sqlkeeper.specs.declared.rules.Lines.{Lines}
 
 pub record Outline : Type 0 where
   pub offset : ℤ
@@ -152,3 +153,19 @@ pub record IsPieceIn (receipt : ℕ → Option Receipt) (files : FinMap place_cm
 
 abbrev pub ArePiecesOf : Outline → List PieceLine → Type 0
 ArePiecesOf o lines = (line : PieceLine) → Contains lines line → IsPieceIn (slice_get o.receipts) o.files line
+
+-- ---- the lines of an office
+
+pub record AreLinesOf (lines : Lines) (o : Outline) : Type 0 where
+  pub office : AreEntries IsOfficeEntry (λ one. Some o.offset) lines.office.now
+  pub keys : AreEntries IsKeyEntry (get o.keys) lines.keys.now
+  pub boxes : AreEntries IsBoxEntry (get o.boxes) lines.boxes.now
+  pub receipts : AreEntries IsReceiptEntry (slice_get o.receipts) lines.receipts.now
+  pub files : AreEntries IsFileEntry (get o.files) lines.files.now
+
+-- the lines are those of an office that keeps every rule
+pub record AreSoundLines (lines : Lines) : Type 0 where
+  pub office : Outline
+  pub lines_are : AreLinesOf lines office
+  pub sound : IsSoundOutline office
+  pub pieces : ArePiecesOf office lines.pieces.now

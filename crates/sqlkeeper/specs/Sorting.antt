@@ -36,7 +36,7 @@ pub record AreIn {L K K' X Y : Type 0} (R : K' → K' → Ordering) (f : K → K
   pub entries : AreEntries IsEntry (get map) lines
 
 abbrev pub IsRead : {L K K' X Y : Type 0} (R : K' → K' → Ordering) (f : K → K') (g : X → Y) (IsEntry : L → K' → Y → Type 0) (lines : List L) → Option (BTreeMap K X) → Type 0
-IsRead R f g E lines None = (m : FinMap R _) → AreEntries E (get m) lines → ⊥
+IsRead {K' = K'} {Y = Y} R f g E lines None = (look : K' → Option Y) → AreEntries E look lines → ⊥
 IsRead R f g E lines (Some m) = AreIn R f g E lines m.entries
 
 abbrev pub key_in : KeyEntry → Key
@@ -110,7 +110,7 @@ pub record AreSums (receipts : FinMap nat_cmp Receipt) (files : FinMap place_cmp
 
 -- the files of the lines with the sums of the boxes, or else the lines are no map's entries
 abbrev pub AreFiled : FinMap nat_cmp Receipt → List FileLine → Option Filed → Type 0
-AreFiled receipts lines None = (m : FinMap place_cmp ℕ) → AreEntries (IsFiled receipts) (get m) lines → ⊥
+AreFiled receipts lines None = (look : Place → Option ℕ) → AreEntries (IsFiled receipts) look lines → ⊥
 AreFiled receipts lines (Some filed) = (is : AreIn place_cmp spot_of (λ n. n) (IsFiled receipts) lines filed.files.entries) × AreSums receipts is.map filed.sums.entries
 
 abbrev pub HoldsFiles : BTreeMap (Bor (List ℕ) × Bor (List ℕ)) ℕ → FinMap place_cmp ℕ → Type 0

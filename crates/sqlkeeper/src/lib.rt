@@ -13,6 +13,7 @@ mod lines;
 mod piece_rules;
 mod questions;
 mod receipt_rules;
+mod rules;
 mod standing;
 mod statements;
 
