@@ -43,9 +43,11 @@ one_box l j k v w a b =
     let mode = one_mode p.mode q.mode (sym a.entry.mode_is ∙ b.entry.mode_is) in
     let rule = one_rule p.rule q.rule a.rule.settings_form.rule b.rule.settings_form.rule (sym a.entry.kind_is ∙ b.entry.kind_is) (sym a.entry.text_is ∙ b.entry.text_is) in
     let used = one_pos v.used w.used (sym a.entry.used_is ∙ b.entry.used_is) in
-    let count = one_pos v.count w.count (sym a.entry.count_is ∙ b.entry.count_is) in
-    (sym a.entry.name_is ∙ b.entry.name_is, λ i. record {
-      settings = record { opens = opens i; closes = closes i; days = days i; from_minute = from i; to_minute = to i; quota = quota i; max_files = most i; mode = mode i; rule = rule i };
-      used = used i;
-      count = count i;
-    })
+    let count = one_pos v.count w.count (sym a.entry.count_is ∙ b.entry.count_is) in (
+      sym a.entry.name_is ∙ b.entry.name_is,
+      λ i. record {
+        settings = record { opens = opens i; closes = closes i; days = days i; from_minute = from i; to_minute = to i; quota = quota i; max_files = most i; mode = mode i; rule = rule i };
+        used = used i;
+        count = count i;
+      },
+    )

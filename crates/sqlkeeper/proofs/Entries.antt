@@ -12,7 +12,7 @@ use Rattle.boxes.proofs.Lookups.{equal_is, some_none}
 use Rattle.keeper.specs.Maps.{found, MapMeans}
 use Rattle.keeper.proofs.MapLemmas.{sets_of, means-set, means-empty}
 use Rattle.sqlkeeper.specs.Outlines.{AreEntries}
-use Rattle.sqlkeeper.specs.Sorting.{AreIn}
+use Rattle.sqlkeeper.specs.Sorting.{AreIn, IsGood}
 
 only_at : {X : Type 0} (l x : X) (k : ℕ) → k < 1 → get_or (l ∷ []) k x ≡ x → l ≡ x
 only_at l x zero h e = e
@@ -92,9 +92,9 @@ module _ {L K V : Type 0} (R : K → K → Ordering) (o : IsTotalOrder R) (same 
       elim (look k) as (λ x. look k ≡ x → x ≡ other k) [
         | Some v ↦ λ e. sym (one_map functional look other ls a b k v e)
         | None ↦ λ e. elim (other k) as (λ y. other k ≡ y → None ≡ y) [
-            | Some v ↦ λ f. absurd (some_none v (sym (one_map functional other look ls b a k v f) ∙ e))
-            | None ↦ λ f. refl
-          ] refl
+          | Some v ↦ λ f. absurd (some_none v (sym (one_map functional other look ls b a k v f) ∙ e))
+          | None ↦ λ f. refl
+        ] refl
       ] refl
 
 module _ {L Q K X V : Type 0} (R : K → K → Ordering) (o : IsTotalOrder R) (same : IsAntisymmetric R) (f : Q → K) (g : X → V) (E : L → K → V → Type 0) where
@@ -144,3 +144,20 @@ each_more P xs i x before lt here is y there =
 
 pub none_before : {X : Type 0} (P : X → Type 0) (xs : List X) (y : X) → Contains (take 0 xs) y → P y
 none_before P xs y h = absurd (omega (arith, h.1))
+
+-- lines whose entries keep a rule, and such lines without it
+pub with_rule : {L K V : Type 0} (E : L → K → V → Type 0) (P : K → V → Type 0) (look : K → Option V) (ls : List L) → AreEntries E look ls → ((k : K) (v : V) → look k ≡ Some v → P k v)
+    → AreEntries (IsGood E P) look ls
+with_rule E P look ls a keeps = record {
+  each = λ l h. let e = a.each l h in (e.0, e.1, record { entry = e.2; rule = keeps e.0 e.1 e.3 }, e.3);
+  all = λ k v there. let l = a.all k v there in (l.0, l.1, record { entry = l.2; rule = keeps k v there });
+}
+
+pub without_rule : {L K V : Type 0} (E : L → K → V → Type 0) (P : K → V → Type 0) (look : K → Option V) (ls : List L) → AreEntries (IsGood E P) look ls → AreEntries E look ls
+without_rule E P look ls a = record {
+  each = λ l h. let e = a.each l h in (e.0, e.1, e.2.entry, e.3);
+  all = λ k v there. let l = a.all k v there in (l.0, l.1, l.2.entry);
+}
+
+pub rule_of_entries : {L K V : Type 0} (E : L → K → V → Type 0) (P : K → V → Type 0) (look : K → Option V) (ls : List L) → AreEntries (IsGood E P) look ls → (k : K) (v : V) → look k ≡ Some v → P k v
+rule_of_entries E P look ls a k v there = let l = a.all k v there in l.2.rule

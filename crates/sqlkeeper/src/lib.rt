@@ -2,8 +2,8 @@
 #![tactic(auto)]
 
 mod asking;
-mod box_rules;
 mod box_rows;
+mod box_rules;
 mod changes;
 mod creating;
 mod file_keeper;

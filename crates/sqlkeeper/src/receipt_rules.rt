@@ -91,7 +91,10 @@ fn has_forms(entry: &ReceiptEntry<'_>) -> bool
     if !has_form(&Command::DropFile { in_box, name }) {
         return false;
     }
-    if !has_form(&Command::CloseBox { name: in_box, moment }) {
+    if !has_form(&Command::CloseBox {
+        name: in_box,
+        moment,
+    }) {
         return false;
     }
     entry.size <= MOST_BODY && is_digest(entry.digest)

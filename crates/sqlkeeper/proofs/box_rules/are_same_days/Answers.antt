@@ -1,4 +1,4 @@
-use Rattle.std.proofs.Common.{◌≡◌, ◌∙◌, sym}
+use Rattle.std.proofs.Common.{◌∙◌, sym}
 use mathlib.Core.Bool.{beq}
 use Rattle.sqlkeeper.proofs.SameTexts.{same_list, tells_bool}
 use Rattle.sqlkeeper.proofs.box_rules.are_same_days.Goals as goal

@@ -1,5 +1,4 @@
 use Rattle.std.proofs.Common.{take}
-use Rattle.std.proofs.lemmas.List.{take_all}
 use Rattle.sigtext.specs.Bytes.{bytes_cmp}
 use Rattle.sqlkeeper.specs.Outlines.{IsBoxEntry, IsBoxRule}
 use Rattle.sqlkeeper.specs.Sorting.{AreIn, IsGood, box_in, text_of}

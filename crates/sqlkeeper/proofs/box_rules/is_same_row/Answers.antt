@@ -1,7 +1,6 @@
-use Rattle.std.proofs.Common.{◌≡◌, ◌∙◌, List, Bool, ap, sym, rules}
-use Rattle.boxes.specs.State.{NameRule, Settings}
-use Rattle.boxes.specs.declared.rows.Mode.{Mode}
-use Rattle.boxes.specs.Rows.{name_rule_of, settings_of}
+use Rattle.std.proofs.Common.{◌≡◌, ap}
+use Rattle.boxes.specs.State.{Settings}
+use Rattle.boxes.specs.Rows.{settings_of}
 use Rattle.sqlkeeper.proofs.box_rules.is_same_row.Goals as goal
 
 pub returns : goal.returns

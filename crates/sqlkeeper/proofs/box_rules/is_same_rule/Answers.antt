@@ -1,4 +1,4 @@
-use Rattle.std.proofs.Common.{◌≡◌, ◌∙◌, Vec, Global, ℕ, List, map, eqb, ap, sym}
+use Rattle.std.proofs.Common.{◌≡◌, ◌∙◌, Vec, Global, ℕ, map, eqb, ap, sym}
 use Rattle.std.specs.Cmp.Lexicographic.{pointwise}
 use Rattle.boxes.specs.State.{Ends}
 use Rattle.boxes.specs.Rows.{name_rule_of}

@@ -2,7 +2,6 @@ use Rattle.std.proofs.Common.{◌≡◌, ◌∙◌, map, pos, sym, ap, rules}
 use Rattle.std.proofs.lemmas.List.Splits.{join_with_byte-slice_split}
 use Rattle.std.specs.List.{join_with_byte}
 use Rattle.sqlite_value.specs.declared.value.Value.TheVariants.{Int, Text}
-use Rattle.sqlkeeper.specs.Tables.{joined}
 use Rattle.sqlkeeper.proofs.BoxTexts.{ends_are, joined_is}
 use Rattle.sqlkeeper.proofs.box_rules.rule_of.Goals as goal
 

@@ -1,4 +1,4 @@
-use Rattle.std.proofs.Common.{◌≡◌, ◌∙◌, ◌+◌, sym, ap, Some, rules}
+use Rattle.std.proofs.Common.{◌≡◌, ◌∙◌, ◌+◌, ap, Some, rules}
 use Rattle.sigtext.specs.Bytes.{bytes_cmp}
 use Rattle.boxes.proofs.Lookups.{bytes_total}
 use Rattle.keeper.proofs.MapLemmas.{sets_of}

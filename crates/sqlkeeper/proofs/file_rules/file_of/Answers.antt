@@ -1,4 +1,4 @@
-use Rattle.std.proofs.Common.{◌≡◌, ◌∙◌, ◌+◌, pos, sym, ap, Some, rules}
+use Rattle.std.proofs.Common.{◌≡◌, ◌∙◌, ◌+◌, pos, sym, ap, rules}
 use Rattle.std.specs.Prelude.{option_map}
 use Rattle.sqlkeeper.specs.Sorting.{given_in}
 use Rattle.sqlkeeper.proofs.FileEntries.{filed}

@@ -1,12 +1,10 @@
-use Rattle.std.proofs.Common.{◌≡◌, ◌∙◌, ◌⊎◌, inl, inr, ℕ, [], refl, sym, ap, subst, Some, None, rules}
+use Rattle.std.proofs.Common.{◌≡◌, ◌∙◌, inl, inr, ℕ, sym, ap, subst, Some, rules}
 use Rattle.std.specs.Prelude.{option_map}
 use Rattle.std.proofs.lemmas.List.{take_all}
-use Rattle.std.specs.FinMap.{empty, insert, get}
 use Rattle.boxes.specs.State.{Place, place_cmp}
 use Rattle.boxes.proofs.Lookups.{place_total}
 use Rattle.boxes.proofs.FileTotals.{place_same}
-use Rattle.sqlkeeper.specs.Outlines.{size_in}
-use Rattle.sqlkeeper.specs.Sorting.{AddsTo, AreIn, AreSums, IsFiled, spot_of}
+use Rattle.sqlkeeper.specs.Sorting.{AddsTo, IsFiled, spot_of}
 use Rattle.sqlkeeper.proofs.Entries.{start, next_line, refused, clashed}
 use Rattle.sqlkeeper.proofs.FileEntries.{one_filed, no_sums, sums_same, sums_more}
 use Rattle.sqlkeeper.proofs.file_rules.files_by_place.Goals as goal
@@ -33,9 +31,11 @@ loop-line-preserved c rs h =
           let stood = sym c.in_ok-first.ensures.old ∙ w.in-Some-2.is in
           (next (inr (w.in-Some-2.first, stood, same)), rw w.sums-is (sums_same rs inv.0.map k number c.loop-line.sums.entries inv.1 (inv.0.means.each k ∙ ap (option_map (λ (n : ℕ). n)) stood ∙ ap (λ n. Some n) same)))
       | in-None+in_ok-add_file-in-None w ↦
-          let none = sym c.in_ok-first.ensures.old ∙ w.in-None.is in
-          (next (inl none), rw w.sums-is (sums_more rs inv.0.map k number c.loop-line.sums.entries w.add_file.new.sums.entries inv.1 (inv.0.means.each k ∙ ap (option_map (λ (n : ℕ). n)) none)
-          (subst (λ size. AddsTo k.box size c.loop-line.sums.entries w.add_file.new.sums.entries) made.1 w.in_ok-add_file-in-None.ensures)))
+          let none = sym c.in_ok-first.ensures.old ∙ w.in-None.is in (
+            next (inl none),
+            rw w.sums-is (sums_more rs inv.0.map k number c.loop-line.sums.entries w.add_file.new.sums.entries inv.1 (inv.0.means.each k ∙ ap (option_map (λ (n : ℕ). n)) none)
+                (subst (λ size. AddsTo k.box size c.loop-line.sums.entries w.add_file.new.sums.entries) made.1 w.in_ok-add_file-in-None.ensures)),
+          )
     ]
 
 pub returns-in_default : goal.returns-in_default

@@ -1,5 +1,4 @@
 use Rattle.std.proofs.Common.{take}
-use Rattle.std.proofs.lemmas.List.{take_all}
 use Rattle.sigtext.specs.Bytes.{bytes_cmp}
 use Rattle.sqlkeeper.specs.Outlines.{IsKeyEntry, IsKeyRule}
 use Rattle.sqlkeeper.specs.Sorting.{AreIn, IsGood, key_in, text_of}

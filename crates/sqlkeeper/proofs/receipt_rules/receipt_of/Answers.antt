@@ -1,7 +1,3 @@
-use Rattle.std.proofs.Common.{subst, sym}
-use Rattle.sqlkeeper.specs.Outlines.{IsReceiptRule}
-use Rattle.sqlkeeper.specs.Sorting.{given_in}
-use Rattle.sqlkeeper.proofs.ReceiptEntries.{one_receipt}
 use Rattle.sqlkeeper.proofs.receipt_rules.receipt_of.Goals as goal
 
 pub returns : goal.returns

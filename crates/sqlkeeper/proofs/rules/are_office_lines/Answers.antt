@@ -1,4 +1,4 @@
-use Rattle.std.proofs.Common.{◌≡◌, get_or, subst, sym, refl}
+use Rattle.std.proofs.Common.{get_or, subst, sym, refl}
 use Rattle.std.specs.Prelude.{Contains}
 use Rattle.std.proofs.lemmas.List.{take_all}
 use Rattle.sqlkeeper.specs.Outlines.{IsOfficeEntry}
