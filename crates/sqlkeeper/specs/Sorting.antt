@@ -127,6 +127,7 @@ pub record TellsRule (kind : ℤ) (text : List ℕ) (rule : NameRule) : Type 0 w
   pub text_is : text ≡ rule_text rule
   pub alone : (other : NameRule) → IsNameRule other → kind ≡ rule_number other → text ≡ rule_text other → rule ≡ other
 
+-- all but the days, the mode and the rule for names
 pub record HaveSameNumbers (a b : Settings) : Type 0 where
   pub opens : a.opens ≡ b.opens
   pub closes : a.closes ≡ b.closes

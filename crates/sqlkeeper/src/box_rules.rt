@@ -178,12 +178,14 @@ fn have_same_numbers(a: &BoxRow, b: &BoxRow) -> bool
         && a.max_files == b.max_files
 }
 
+/// Whether two modes are the same.
 fn is_same_mode(a: Mode, b: Mode) -> bool
     ensures { IsTrue result ↔ a ≡ b }
 {
     a == b
 }
 
+/// Whether two rows of days are the same.
 fn are_same_days(a: &[bool; 7], b: &[bool; 7]) -> bool
     ensures { IsTrue result ↔ a.now ≡ b.now }
 {
