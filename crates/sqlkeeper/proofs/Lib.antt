@@ -45,3 +45,12 @@ pub mod Listed
 pub mod PieceColumns
 pub mod PieceAt
 pub mod Gathering
+pub mod Entries
+pub mod KeyEntries
+pub mod ReceiptEntries
+pub mod FileEntries
+pub mod Unbroken
+pub mod BoxTexts
+pub mod BoxEntries
+pub mod SameTexts
+pub mod OfficeEntries

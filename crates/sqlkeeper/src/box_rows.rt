@@ -104,7 +104,7 @@ fn number_of_rule(rule: &NameRule) -> i32
 }
 
 /// The days, Monday first: '1' for each on which the box is open, else '0'.
-fn digits_of_days(days: [bool; 7]) -> [u8; 7]
+pub(crate) fn digits_of_days(days: [bool; 7]) -> [u8; 7]
     ensures value { result ≡ days_text days }
 {
     days.map(|is_open| if is_open { b'1' } else { b'0' })

@@ -3,14 +3,20 @@
 
 mod asking;
 mod box_rows;
+mod box_rules;
 mod changes;
 mod creating;
 mod file_keeper;
+mod file_rules;
+mod key_rules;
 mod lines;
 mod listing;
+mod piece_rules;
 mod pieces;
 mod questions;
 mod reading;
+mod receipt_rules;
+mod rules;
 mod standing;
 mod statements;
 
