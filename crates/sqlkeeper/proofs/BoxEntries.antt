@@ -1,16 +1,16 @@
 -- A line is one box.
-use Rattle.std.proofs.Common.{◌≡◌, ◌∙◌, ℕ, Bool, true, false, List, [], ◌∷◌, map, eqb, pos, if◌then◌else◌, refl, sym, ap}
+use Rattle.std.proofs.Common.{◌≡◌, ◌∙◌, map, eqb, refl, sym, ap}
 use Rattle.boxes.specs.declared.rows.Mode.{Mode}
 use Rattle.boxes.specs.declared.rows.Mode.TheVariants.{Keep, Replace}
 use Rattle.boxes.specs.State.{NameRule, AnyName, Ends, Begins}
 use Rattle.boxes.specs.Sound.{IsNameRule}
 use Rattle.std.specs.List.{slice_split}
-use Rattle.sqlkeeper.specs.Tables.{Box, mode_number, rule_number, rule_text, days_text}
+use Rattle.sqlkeeper.specs.Tables.{mode_number, rule_number, rule_text}
 use Rattle.sqlkeeper.specs.Outlines.{IsBoxEntry, IsBoxRule}
 use Rattle.sqlkeeper.specs.Sorting.{IsGood}
 use Rattle.sqlkeeper.proofs.Entries.{IsFunctional}
 use Rattle.sqlkeeper.proofs.ReceiptEntries.{one_pos}
-use Rattle.sqlkeeper.proofs.BoxTexts.{cut_joined, open_days}
+use Rattle.sqlkeeper.proofs.Readings.{cut_joined, open_days}
 
 one_mode : (a b : Mode) → mode_number a ≡ mode_number b → a ≡ b
 one_mode Keep Keep e = refl

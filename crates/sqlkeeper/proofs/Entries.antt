@@ -9,7 +9,7 @@ use Rattle.std.proofs.lemmas.List.{take_more, take-append-drop}
 use Rattle.std.proofs.lemmas.List.Elements.{Contains-append_left, Contains-append_right, Contains-append_cases}
 use Rattle.std.specs.BTreeMap.{BTreeMap, UpdatesBy}
 use Rattle.boxes.proofs.Lookups.{equal_is, some_none}
-use Rattle.keeper.specs.Maps.{found, MapMeans}
+use Rattle.keeper.specs.Maps.{found}
 use Rattle.keeper.proofs.MapLemmas.{sets_of, means-set, means-empty}
 use Rattle.sqlkeeper.specs.Outlines.{AreEntries}
 use Rattle.sqlkeeper.specs.Sorting.{AreIn, IsGood}

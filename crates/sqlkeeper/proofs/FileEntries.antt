@@ -1,5 +1,5 @@
 -- A line is one file, and what a file adds to its box.
-use Rattle.std.proofs.Common.{◌≡◌, ◌∙◌, ℕ, ◌+◌, ◌-◌, ◌^◌, ℤ, pos, true, false, cond, List, [], length, Option, Some, None, refl, sym, ap, subst, arith}
+use Rattle.std.proofs.Common.{◌≡◌, ◌∙◌, ℕ, ◌+◌, ◌-◌, ◌^◌, pos, true, false, cond, List, [], length, Some, None, refl, sym, ap, arith}
 use Rattle.std.specs.Prelude.{filter, sum_by, min, unwrap_or, option_map}
 use Rattle.std.specs.Ordering.{nat_cmp, is_eq, eq_by_cmp}
 use Rattle.std.specs.Cmp.{tied_itself}
@@ -11,10 +11,10 @@ use Rattle.boxes.specs.declared.totals.Totals.{Totals}
 use Rattle.boxes.proofs.Lookups.{equal_is, bytes_same, bytes_total, place_total, no_entries}
 use Rattle.boxes.proofs.FileTotals.{place_same, same_as_itself, texts_apart}
 use Rattle.boxes.proofs.EntrySums.{weight, sum-insert, sum-filter}
-use Rattle.keeper.specs.Maps.{Sets, found}
+use Rattle.keeper.specs.Maps.{found}
 use denote.Bor.{Bor}
 use Rattle.sqlkeeper.specs.declared.lines.FileLine.{FileLine}
-use Rattle.sqlkeeper.specs.Outlines.{IsFileEntry, IsFileRule, size_in, used_in, count_in}
+use Rattle.sqlkeeper.specs.Outlines.{IsFileEntry, size_in, used_in, count_in}
 use Rattle.sqlkeeper.specs.Sorting.{IsFiled, AreSums, AddsTo, text_of, capped, used_at, count_at}
 use Rattle.sqlkeeper.proofs.Entries.{IsFunctional}
 use Rattle.sqlkeeper.proofs.ReceiptEntries.{one_pos}

@@ -1,8 +1,7 @@
 -- A line is one key.
-use Rattle.std.proofs.Common.{◌≡◌, ◌∙◌, refl, sym, ap, Bool, true, false, ℤ, pos}
+use Rattle.std.proofs.Common.{◌≡◌, ◌∙◌, refl, sym, Bool, true, false}
 use Rattle.boxes.specs.declared.rows.Role.{Role}
 use Rattle.boxes.specs.declared.rows.Role.TheVariants.{Clerk, Link}
-use Rattle.boxes.specs.State.{Key}
 use Rattle.sqlkeeper.specs.Tables.{role_number, flag}
 use Rattle.sqlkeeper.specs.Outlines.{IsKeyEntry, IsKeyRule}
 use Rattle.sqlkeeper.specs.Sorting.{IsGood}

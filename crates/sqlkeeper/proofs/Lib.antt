@@ -50,7 +50,6 @@ pub mod KeyEntries
 pub mod ReceiptEntries
 pub mod FileEntries
 pub mod Unbroken
-pub mod BoxTexts
 pub mod BoxEntries
 pub mod SameTexts
 pub mod OfficeEntries

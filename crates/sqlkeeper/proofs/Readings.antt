@@ -12,7 +12,7 @@ use Rattle.sqlkeeper.specs.Tables.{joined, rule_number, rule_text, days_text}
 
 -- ---- seven days
 
-open_days : (days : List Bool) → map (λ mark. eqb mark 49) (days_text days) ≡ days
+pub open_days : (days : List Bool) → map (λ mark. eqb mark 49) (days_text days) ≡ days
 open_days [] = refl
 open_days (true ∷ days) = ap (◌∷◌ true) (open_days days)
 open_days (false ∷ days) = ap (◌∷◌ false) (open_days days)
@@ -42,7 +42,7 @@ module _ {X : Type 0} (bytes : X → List ℕ) where
       ap (map bytes) more ∙ map-append bytes texts (text ∷ []) ∙ ap (λ l. l ++ bytes text ∷ []) sofar ∙ ap (λ x. take n pieces ++ x ∷ []) (is ∙ turn.1)
       ∙ sym (take_more pieces n piece turn.0) ∙ ap (λ k. take k pieces) (sym one)
 
-joined_is : (texts : List (List ℕ)) → joined texts ≡ join_with_byte 44 texts
+pub joined_is : (texts : List (List ℕ)) → joined texts ≡ join_with_byte 44 texts
 joined_is [] = refl
 joined_is (t ∷ []) = refl
 joined_is (t ∷ u ∷ texts) = ap (λ rest. t ++ 44 ∷ rest) (joined_is (u ∷ texts))

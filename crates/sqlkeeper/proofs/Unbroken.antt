@@ -1,5 +1,5 @@
 -- Receipts of which none is missing before another are a list.
-use Rattle.std.proofs.Common.{◌≡◌, ◌∙◌, ℕ, zero, suc, ◌+◌, ◌<◌, ◌≤◌, List, [], ◌∷◌, Option, Some, None, refl, sym, ap, subst, arith}
+use Rattle.std.proofs.Common.{◌≡◌, ◌∙◌, ℕ, zero, suc, ◌+◌, ◌<◌, ◌≤◌, List, [], ◌∷◌, Option, Some, None, refl, sym, subst, arith}
 use borrow.Author.Count.{below_more}
 use Rattle.std.specs.Prelude.{IsSome, IsSomeAnd, slice_get, option_map, false, ⊤}
 use Rattle.std.specs.Ordering.{nat_cmp, is_lt}

@@ -1,9 +1,7 @@
 -- An office without the bytes of its files, and the lines that tell it.
-use Rattle.std.specs.Prelude.{◌≡◌, ℕ, ℤ, pos, neg_ℤ, ◌≤ℤ◌, ◌+◌, ◌-◌, ◌*◌, ◌<◌, ◌≤◌, List, Contains, length, filter, sum_by, slice_get, Option, Some, None, option_map, unwrap_or, IsFalse, IsSomeAnd, min, ⊤}
+use Rattle.std.specs.Prelude.{◌≡◌, ℕ, ℤ, pos, neg_ℤ, ◌≤ℤ◌, ◌+◌, ◌-◌, ◌*◌, ◌<◌, ◌≤◌, List, Contains, length, filter, sum_by, slice_get, Option, Some, option_map, unwrap_or, IsFalse, IsSomeAnd, min, ⊤}
 use Rattle.std.specs.List.{AllByRecursion}
-use Rattle.std.specs.declared.cmp.Ordering.{Ordering}
 use Rattle.std.specs.FinMap.{FinMap, get, entries}
-use Rattle.std.specs.BTreeMap.{BTreeMap}
 use Rattle.sigtext.specs.Bytes.{bytes_cmp, same_bytes}
 use Rattle.sigtext.specs.Limits.{most_body}
 use Rattle.sigv4.specs.Credential.{IsKeyId, IsSecret}
@@ -12,7 +10,6 @@ use Rattle.boxes.specs.State.{Key, Place, place_cmp, Receipt}
 use Rattle.boxes.specs.Opening.{Fits}
 use Rattle.boxes.specs.Rules.{IsName}
 use Rattle.boxes.specs.Sound.{IsBoxName, AreSettings, IsDigest, IsMoment}
-use Rattle.keeper.specs.Maps.{MapMeans}
 use Rattle.sqlkeeper.specs.Tables.{Box, role_number, mode_number, rule_number, rule_text, days_text, flag, piece_size}
 use Rattle.sqlkeeper.specs.declared.lines.OfficeLine.{OfficeLine}
 use Rattle.sqlkeeper.specs.declared.lines.KeyLine.{KeyLine}

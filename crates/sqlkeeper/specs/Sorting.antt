@@ -1,6 +1,6 @@
 -- Lines that were read into a map.
 use denote.Bor.{Bor}
-use Rattle.std.specs.Prelude.{◌≡◌, ◌≤◌, ℕ, ℤ, pos, List, length, Option, Some, None, ◌+◌, ◌^◌, ◌-◌, min, MatchOption}
+use Rattle.std.specs.Prelude.{◌≡◌, ◌≤◌, ℕ, ℤ, pos, List, length, Option, Some, None, ◌+◌, ◌^◌, ◌-◌, min}
 use Rattle.std.specs.declared.cmp.Ordering.{Ordering}
 use Rattle.std.specs.FinMap.{FinMap, get}
 use Rattle.std.specs.BTreeMap.{BTreeMap}
@@ -18,7 +18,6 @@ use Rattle.boxes.specs.declared.totals.Totals.{Totals}
 use Rattle.sqlkeeper.specs.declared.lines.ReceiptLine.{ReceiptLine}
 use Rattle.sqlkeeper.specs.declared.lines.BoxLine.{BoxLine}
 use Rattle.sqlkeeper.specs.declared.lines.FileLine.{FileLine}
-use Rattle.sqlkeeper.specs.declared.file_rules.FileEntry.{FileEntry}
 use Rattle.sqlkeeper.specs.declared.file_rules.Filed.{Filed}
 use Rattle.sqlkeeper.specs.declared.box_rules.BoxEntry.{BoxEntry}
 use Rattle.sqlkeeper.specs.declared.receipt_rules.ReceiptEntry.{ReceiptEntry}

@@ -14,6 +14,7 @@ ghost use Rattle.sqlkeeper.specs.Sorting.{HaveSameNumbers, IsGood, IsRead, Tells
 
 use crate::box_rows::digits_of_days;
 use crate::lines::BoxLine;
+use crate::reading::{cut_texts, days_told};
 use crate::receipt_rules::natural;
 use boxes::{BoxRow, Command, Mode, NameRule, has_form};
 use std::alloc::{AllocError, Global};
@@ -51,30 +52,6 @@ fn minute_of(number: i64) -> Option<u16>
     Some(number as u16)
 }
 
-/// The days that seven marks tell: `1` for a day on which a box is open.
-fn days_told(marks: &[u8; 7]) -> [bool; 7]
-    ensures { (days : List Bool) → marks.now ≡ days_text days → result ≡ days }
-{
-    let [
-        monday,
-        tuesday,
-        wednesday,
-        thursday,
-        friday,
-        saturday,
-        sunday,
-    ] = *marks;
-    [
-        monday == b'1',
-        tuesday == b'1',
-        wednesday == b'1',
-        thursday == b'1',
-        friday == b'1',
-        saturday == b'1',
-        sunday == b'1',
-    ]
-}
-
 /// The days of a text, where it has seven marks, each `0` or `1`.
 fn days_of(text: &[u8]) -> Option<[bool; 7]>
     ensures { MatchOption result ((days : List Bool) → length days ≡ 7 → text.now ≡ days_text days → ⊥) (λ days. text.now ≡ days_text days) }
@@ -87,17 +64,6 @@ fn days_of(text: &[u8]) -> Option<[bool; 7]>
         return None;
     }
     Some(days)
-}
-
-/// The texts between a text's commas.
-fn cut_texts(alloc: Global, text: &[u8]) -> Result<Vec<Vec<u8>>, AllocError>
-    ensures { IfOk result (λ texts. map (λ t. t.items) texts.items ≡ slice_split (λ b. b == 44) text.now) }
-{
-    let mut texts = Vec::new(alloc);
-    for piece in text.split(|byte| *byte == b',') {
-        texts.push(Vec::from_slice(alloc, piece)?)?;
-    }
-    Ok(texts)
 }
 
 /// The name rule of a number and a text: 0 takes all, 1 the texts' ends, 2 the text's beginning.

@@ -77,7 +77,7 @@ fn read_digest(row: &Row, at: usize) -> Result<[u8; 32], Error>
 }
 
 /// The days that seven marks tell: `1` for a day on which a box is open.
-fn days_of(marks: &[u8; 7]) -> [bool; 7]
+pub(crate) fn days_told(marks: &[u8; 7]) -> [bool; 7]
     ensures { (days : List Bool) → marks.now ≡ days_text days → result ≡ days }
 {
     let [
@@ -106,13 +106,13 @@ fn read_days(row: &Row, at: usize) -> Result<[bool; 7], Error>
 {
     let text = read_text(row, at)?;
     match <&[u8; 7]>::try_from(text.as_slice()) {
-        Ok(marks) => Ok(days_of(marks)),
+        Ok(marks) => Ok(days_told(marks)),
         Err(_) => Err(Error::IntegralValueOutOfRange(at)),
     }
 }
 
 /// The texts between a text's commas.
-fn cut_texts(alloc: Global, text: &[u8]) -> Result<Vec<Vec<u8>>, AllocError>
+pub(crate) fn cut_texts(alloc: Global, text: &[u8]) -> Result<Vec<Vec<u8>>, AllocError>
     ensures { IfOk result (λ texts. map (λ t. t.items) texts.items ≡ slice_split (λ b. b == 44) text.now) }
 {
     let mut texts = Vec::new(alloc);

@@ -2,7 +2,7 @@ use Rattle.std.proofs.Common.{◌≡◌, ◌∙◌, map, pos, sym, ap, rules}
 use Rattle.std.proofs.lemmas.List.Splits.{join_with_byte-slice_split}
 use Rattle.std.specs.List.{join_with_byte}
 use Rattle.sqlite_value.specs.declared.value.Value.TheVariants.{Int, Text}
-use Rattle.sqlkeeper.proofs.BoxTexts.{ends_are, joined_is}
+use Rattle.sqlkeeper.proofs.Readings.{ends_are, joined_is}
 use Rattle.sqlkeeper.proofs.box_rules.rule_of.Goals as goal
 
 pub returns-in_ok-cut_texts-in-1 : goal.returns-in_ok-cut_texts-in-1
