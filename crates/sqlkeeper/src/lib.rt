@@ -1,4 +1,7 @@
 //! The office file: its tables, and a keeper over them.
+//!
+//! To open a file that was made is to come. `lines`, `listing`, `pieces` and the modules of rules are what it will stand
+//! on: they are proved, and nothing calls them yet.
 #![tactic(auto)]
 
 mod asking;
