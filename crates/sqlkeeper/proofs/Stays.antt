@@ -12,7 +12,7 @@ use Rattle.keeper.specs.declared.keep.KeepFault.TheVariants.{Full, Store}
 use Rattle.keeper.specs.Keeping.{Answers, Stays, LeavesAlone, LeavesEither}
 use Rattle.sqlkeeper.specs.Schema.{Version, IsVersion, v1}
 use Rattle.sqlkeeper.specs.Means.{Means, LeavesOnly, AddsOnly, LeavesLast}
-use Rattle.sqlkeeper.specs.Kept.{KeepsState, MayLeave, LeavesStates, LeavesOne}
+use Rattle.sqlkeeper.specs.Kept.{KeepsState, MayLeave, LeavesStates}
 use Rattle.sqlkeeper.specs.OneState.{one_left}
 
 -- an answer, as it was counted
@@ -47,9 +47,11 @@ module _ {K T : Type 0} (st : K → sql.State) (faults : K → ℕ) (old new : K
       → Answers (λ k. KeepsState (st k)) (λ k. HasCleanDisk (st k)) old new result Holds
   answers answer Holds same found = λ s k sound clean. carried (Holds s) answer result same (found v1 s refl k.means k.sound clean)
 
-pub leaves_one : (s : sql.State) (after : State) → IsSound after → HasCleanDisk s → LeavesLast s → LeavesOnly v1 s after → LeavesOne s after
-leaves_one s after sound clean last durable = record {
-  there = record { trees = s.committed.trees; left = last; keep = record { means = durable clean s.committed.trees last; sound = sound } };
+-- a crash leaves the state that was committed, and no other
+pub left_alone : {K : Type 0} (st : K → sql.State) (new : K) (after : State) → IsSound after → HasCleanDisk (st new) → LeavesLast (st new) → LeavesOnly v1 (st new) after
+    → LeavesAlone (λ k. MayLeave (st k)) (λ k. LeavesStates (st k)) new after
+left_alone st new after sound clean last durable = record {
+  there = record { trees = (st new).committed.trees; left = last; keep = record { means = durable clean (st new).committed.trees last; sound = sound } };
   alone = λ t leaves. one_left leaves.trees t after leaves.keep (record { means = durable clean leaves.trees leaves.left; sound = sound });
   whole = λ again trees left. (after, record { means = durable clean trees left; sound = sound });
 }
@@ -78,7 +80,7 @@ module _ {K : Type 0} (st : K → sql.State) (faults : K → ℕ) (old new : K) 
       go : (a : Result (Unit {0}) Error) → OnOk a (IsTrue (st new).is_open × LeavesLast (st new)) → OnOk a (LeavesOnly v1 (st new) after)
           → OnOk a (LeavesAlone (λ k. MayLeave (st k)) (λ k. LeavesStates (st k)) new after)
       go (Err e) opened durable = tt
-      go (Ok x) opened durable = let one = leaves_one (st new) after sound clean opened.1 durable in record { there = one.there; alone = one.alone; whole = one.whole }
+      go (Ok x) opened durable = left_alone st new after sound clean opened.1 durable
 
   pub either : (s after : State) → IsSound after → HasCleanDisk (st new) → HasCleanDisk (st old) → AddsOnly v1 (st old) (st new) after → LeavesEither (λ k. MayLeave (st k)) (λ k. LeavesStates (st k)) old new s after
   either s after sound clean before adds = record {

@@ -1,5 +1,4 @@
 -- What a keeper over a connection means, and what a crash of it leaves.
-use Rattle.std.specs.Prelude.{◌≡◌}
 use Rattle.sqlite_trees.specs.Tree.{Trees}
 use Rattle.sqlite.specs.State.{State, HasCleanDisk}
 use Rattle.boxes.specs.State.{State as Office}
@@ -26,9 +25,3 @@ pub record MayLeave (s : State) (office : Office) : Type 0 where
 -- whatever a crash now leaves means a state
 abbrev pub LeavesStates : State → Type 0
 LeavesStates s = HasCleanDisk s → (trees : Trees) → s.may_leave trees → (office : Office) × RowsKeep trees office
-
--- a crash now leaves rows that mean this state, and no other rows
-pub record LeavesOne (s : State) (office : Office) : Type 0 where
-  pub there : MayLeave s office
-  pub alone : (other : Office) → MayLeave s other → other ≡ office
-  pub whole : LeavesStates s

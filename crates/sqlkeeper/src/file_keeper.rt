@@ -8,9 +8,10 @@ ghost use Rattle.boxes.specs.Changes.{IsChangeOf, IsPastFull};
 ghost use Rattle.sigtext.specs.Counts.{CountsErrors};
 ghost use Rattle.sqlite.specs.State.{HasCleanDisk};
 ghost use Rattle.sqlite.specs.Held.{state};
+ghost use Rattle.keeper.specs.Keeping.{LeavesAlone};
 ghost use Rattle.sqlkeeper.specs.Means.{IsBare, AddsOnly};
 ghost use Rattle.sqlkeeper.specs.Schema.{v1};
-ghost use Rattle.sqlkeeper.specs.Kept.{KeepsState, MayLeave, LeavesStates, LeavesOne};
+ghost use Rattle.sqlkeeper.specs.Kept.{KeepsState, MayLeave, LeavesStates};
 ghost use Rattle.sqlkeeper.specs.OneState.{one_kept};
 
 use crate::asking;
@@ -107,14 +108,17 @@ impl<S: Alter> SqlKeeper<S> {
         secret: &[u8],
     ) -> Result<SqlKeeper<S>, (OpenFault, Connection<S>)>
         ensures made { IsBare (state S.Store conn) → neg_ℤ (pos 840) ≤ℤ office.east → office.east ≤ℤ pos 840 → IsKeyId id.now → IsSecret secret.now
-            → IfOk result (λ k. KeepsState (state S.Store k.conn) (first_state office.east id.now secret.now)) }
+            → IfOk result (λ k. ⟦<SqlKeeper<S> as Keeper>⟧.means k (first_state office.east id.now secret.now)) }
+        ensures honest { IfOk result (λ k. HasCleanDisk (state S.Store k.conn) → ⟦<SqlKeeper<S> as Keeper>⟧.is_honest k) }
+        ensures opened { IfOk result (λ k. ⟦<SqlKeeper<S> as Keeper>⟧.is_honest k → ⟦<SqlKeeper<S> as Keeper>⟧.is_open k) }
+        ensures none { IfOk result (λ k. ⟦<SqlKeeper<S> as Keeper>⟧.faults k ≡ 0) }
         ensures durable { IsBare (state S.Store conn) → neg_ℤ (pos 840) ≤ℤ office.east → office.east ≤ℤ pos 840 → IsKeyId id.now → IsSecret secret.now
-            → IfOk result (λ k. HasCleanDisk (state S.Store k.conn) → LeavesOne (state S.Store k.conn) (first_state office.east id.now secret.now)) }
+            → IfOk result (λ k. ⟦<SqlKeeper<S> as Keeper>⟧.is_honest k
+            → LeavesAlone ⟦<SqlKeeper<S> as Keeper>⟧.leaves ⟦<SqlKeeper<S> as Keeper>⟧.leaves_whole k (first_state office.east id.now secret.now)) }
         ensures crash { IsBare (state S.Store conn) → IfErr result (λ e. AddsOnly v1 (state S.Store conn) (state S.Store e.1) (first_state office.east id.now secret.now)) }
-        ensures opened { IfOk result (λ k. HasCleanDisk (state S.Store k.conn) → IsTrue (state S.Store k.conn).is_open) }
-        ensures none { IfOk result (λ k. k.faults ≡ 0) }
         ensures exists { (state S.Store conn).now.schema.tables ≢ [] → IfErr result (λ e. e.0 ≡ OpenFault.Exists) × IsErr result }
         ensures told { IfErr result (λ e. e.0 ≡ OpenFault.Exists → (state S.Store conn).now.schema.tables ≢ []) }
+        ensures untouched { IfErr result (λ e. e.0 ≡ OpenFault.Exists → e.1 ≡ conn) }
         ensures kept { IsBare (state S.Store conn) → IfErr result (λ e. IsBare (state S.Store e.1)) }
     {
         if !conn.schema().tables.is_empty() {
@@ -133,9 +137,12 @@ impl<S: Alter> SqlKeeper<S> {
         }
     }
 
-    /// Gives the connection back as it is.
+    /// Gives the connection back as it is: what the keeper means and what a crash leaves of it, the connection holds.
     pub fn close(self) -> Connection<S>
-        ensures { result ≡ self.conn }
+        ensures same { result ≡ self.conn }
+        ensures honest { HasCleanDisk (state S.Store result) → ⟦<SqlKeeper<S> as Keeper>⟧.is_honest self }
+        ensures means { (s : State) → ⟦<SqlKeeper<S> as Keeper>⟧.means self s → KeepsState (state S.Store result) s }
+        ensures leaves { (s : State) → ⟦<SqlKeeper<S> as Keeper>⟧.leaves self s → MayLeave (state S.Store result) s }
     {
         let SqlKeeper {
             conn,

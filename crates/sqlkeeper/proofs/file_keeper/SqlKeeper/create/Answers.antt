@@ -4,7 +4,7 @@ use Rattle.boxes.specs.FirstState.{first_state}
 use Rattle.boxes.proofs.SoundFirstState.{sound_first_state}
 use Rattle.sqlkeeper.specs.Schema.{v1}
 use Rattle.sqlkeeper.specs.Means.{Means, LeavesOnly}
-use Rattle.sqlkeeper.proofs.Stays.{leaves_one}
+use Rattle.sqlkeeper.proofs.Stays.{left_alone}
 use Rattle.sqlkeeper.proofs.file_keeper.SqlKeeper.create.Goals as goal
 
 pub returns-in-Ok-create-clause-made : goal.returns-in-Ok-create-clause-made
@@ -23,4 +23,4 @@ returns-in-Ok-create-clause-durable g c bare west east is_id is_secret clean =
     let after = first_state c.args.office.east c.args.id.now c.args.secret.now in
     let same : to_z w16 (of_z w16 c.args.office.east) ≡ c.args.office.east = search rules in
     let only = subst (λ id. LeavesOnly v1 end (first_state (to_z w16 (of_z w16 c.args.office.east)) id c.args.secret.now)) c.in-Ok.ensures.cases.0 (c.in-Ok-create.ensures.durable bare) in
-    leaves_one end after (sound_first_state c.args.office.east c.args.id.now c.args.secret.now west east is_id is_secret) clean (c.in-Ok-create.ensures.opened clean).1 (subst (λ n. LeavesOnly v1 end (first_state n c.args.id.now c.args.secret.now)) same only)
+    left_alone (λ k. state g.S.Store k.conn) (record { conn = c.create.new.conn; faults = 0; alloc = c.args.alloc }) after (sound_first_state c.args.office.east c.args.id.now c.args.secret.now west east is_id is_secret) clean (c.in-Ok-create.ensures.opened clean).1 (subst (λ n. LeavesOnly v1 end (first_state n c.args.id.now c.args.secret.now)) same only)
