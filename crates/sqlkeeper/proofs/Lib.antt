@@ -32,6 +32,7 @@ pub mod Commands
 pub mod FileChanges
 pub mod Numbers
 pub mod Taken
+pub mod WholeRules
 pub mod FirstTables
 pub mod StateViews
 pub mod NotText

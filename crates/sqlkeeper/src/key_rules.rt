@@ -70,7 +70,10 @@ fn is_same_key(a: &KeyEntry<'_>, b: &KeyEntry<'_>) -> bool
 }
 
 /// The keys of the lines, where each line is a key and no two differ in one id.
-fn keys_by_id<'a>(alloc: Global, lines: &'a [KeyLine]) -> Result<Option<Keys<'a>>, AllocError>
+pub(crate) fn keys_by_id<'a>(
+    alloc: Global,
+    lines: &'a [KeyLine],
+) -> Result<Option<Keys<'a>>, AllocError>
     ensures { IfOk result (IsRead bytes_cmp text_of key_in (IsGood IsKeyEntry IsKeyRule) lines.now) }
 {
     let mut keys = BTreeMap::new(alloc);

@@ -1,10 +1,16 @@
 //! The rules between the lines of an office's tables, without SQL.
 
-ghost use Rattle.std.specs.Prelude.{◌↔◌, ◌≡◌, ◌≤ℤ◌, ℤ, pos, neg_ℤ, Contains, Some, IsTrue};
+ghost use Rattle.std.specs.Prelude.{◌↔◌, ◌≡◌, ◌≤ℤ◌, ℤ, pos, neg_ℤ, Contains, Some, IsTrue, IfOk};
 ghost use Rattle.sqlkeeper.specs.declared.lines.OfficeLine.{OfficeLine};
-ghost use Rattle.sqlkeeper.specs.Outlines.{AreEntries, IsOfficeEntry};
+ghost use Rattle.sqlkeeper.specs.Outlines.{AreEntries, IsOfficeEntry, AreSoundLines};
 
+use crate::box_rules::boxes_by_name;
+use crate::file_rules::files_by_place;
+use crate::key_rules::keys_by_id;
 use crate::lines::{BoxLine, FileLine, KeyLine, OfficeLine, PieceLine, ReceiptLine};
+use crate::piece_rules::{are_pieces, has_clerk, have_totals, is_unbroken};
+use crate::receipt_rules::receipts_by_place;
+use std::alloc::{AllocError, Global};
 
 /// The lines of all tables of an office, in any order.
 #[derive(Clone, Copy)]
@@ -57,4 +63,32 @@ pub(crate) fn is_office(lines: &[OfficeLine]) -> bool
         return false;
     }
     are_office_lines(lines, first)
+}
+
+/// Whether the lines are those of an office that keeps every rule which needs no bytes of a file.
+pub(crate) fn are_sound(alloc: Global, lines: &Lines<'_>) -> Result<bool, AllocError>
+    ensures { IfOk result (λ b. IsTrue b ↔ AreSoundLines lines.now) }
+{
+    if !is_office(lines.office) {
+        return Ok(false);
+    }
+    let Some(keys) = keys_by_id(alloc, lines.keys)? else {
+        return Ok(false);
+    };
+    let Some(boxes) = boxes_by_name(alloc, lines.boxes)? else {
+        return Ok(false);
+    };
+    let Some(receipts) = receipts_by_place(alloc, lines.receipts, &keys, &boxes)? else {
+        return Ok(false);
+    };
+    let Some(filed) = files_by_place(alloc, lines.files, &receipts)? else {
+        return Ok(false);
+    };
+    if !has_clerk(lines.keys) || !is_unbroken(&receipts) {
+        return Ok(false);
+    }
+    if !have_totals(lines.boxes, &filed.sums) {
+        return Ok(false);
+    }
+    Ok(are_pieces(lines.pieces, &filed.files, &receipts))
 }
