@@ -99,7 +99,7 @@ impl<S: Alter> SqlKeeper<S> {
     /// # Errors
     ///
     /// The fault, with the connection as it is. `Exists` comes exactly where a table is there; then nothing was tried.
-    /// After any fault the database is as it was.
+    /// After any other fault a database that was empty is empty still.
     pub fn create(
         alloc: Global,
         mut conn: Connection<S>,
