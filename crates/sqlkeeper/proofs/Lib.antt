@@ -54,3 +54,4 @@ pub mod Unbroken
 pub mod BoxEntries
 pub mod SameTexts
 pub mod OfficeEntries
+pub mod Mapped

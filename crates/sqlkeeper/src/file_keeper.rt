@@ -9,14 +9,16 @@ ghost use Rattle.sigtext.specs.Counts.{CountsErrors};
 ghost use Rattle.sqlite.specs.State.{HasCleanDisk};
 ghost use Rattle.sqlite.specs.Held.{state};
 ghost use Rattle.keeper.specs.Keeping.{LeavesAlone};
-ghost use Rattle.sqlkeeper.specs.Means.{IsBare, AddsOnly};
+ghost use Rattle.sqlkeeper.specs.Means.{IsBare, AddsOnly, AddsNothing};
 ghost use Rattle.sqlkeeper.specs.Schema.{v1};
 ghost use Rattle.sqlkeeper.specs.Kept.{KeepsState, MayLeave, LeavesStates};
 ghost use Rattle.sqlkeeper.specs.OneState.{one_kept};
+ghost use Rattle.sqlkeeper.specs.Opened.{HasOurs, OnlyLooks, IsFound};
 
 use crate::asking;
 use crate::changes::apply_change;
 use crate::creating::create;
+use crate::opening::{Finding, find};
 use boxes::{BoxRow, Change, FileRow, KeyRow, OfficeRow, ReceiptRow, Totals, law_of_changes};
 use keeper::{KeepFault, Keeper, has_room};
 use sqlite::{Alter, Connection, ErrorCode};
@@ -51,14 +53,22 @@ pub enum OpenFault {
     /// A growth was refused.
     #[error("out of memory")]
     Memory,
+    /// The tables are those of no office, or of one that breaks a rule.
+    #[error("the office file is damaged")]
+    Shape,
     /// The store refused.
     #[error("the store refused")]
     Store,
+    /// The office is of another version.
+    #[error("the office file has another version")]
+    Version,
 }
 
-// Why an office file could not be made.
+// Why an office file could not be made or read.
 fn open_fault_of(error: sqlite::Error) -> OpenFault
-    ensures { result ≢ OpenFault.Exists }
+    ensures made { result ≢ OpenFault.Exists }
+    ensures version { result ≢ OpenFault.Version }
+    ensures shape { result ≢ OpenFault.Shape }
 {
     match fault_of(error) {
         KeepFault::Memory => OpenFault::Memory,
@@ -133,6 +143,46 @@ impl<S: Alter> SqlKeeper<S> {
                 faults: 0,
                 alloc,
             }),
+            Err(error) => Err((open_fault_of(error), conn)),
+        }
+    }
+
+    /// Opens an office file, where its tables are those of an office that keeps every rule: the state of that office is what
+    /// the keeper means. Nothing is written.
+    ///
+    /// # Errors
+    ///
+    /// The fault, with the connection as it is. `Version` comes where the row of the office says another version, whatever
+    /// else is broken; `Shape` where the tables are those of no office that keeps every rule.
+    pub fn open(
+        alloc: Global,
+        mut conn: Connection<S>,
+    ) -> Result<SqlKeeper<S>, (OpenFault, Connection<S>)>
+        ensures accepts { HasOurs (state S.Store conn) → IfOk result (λ k. ⟦<SqlKeeper<S> as Keeper>⟧.is_honest k → (s : State) × ⟦<SqlKeeper<S> as Keeper>⟧.means k s) }
+        ensures means { (s : State) → KeepsState (state S.Store conn) s → IfOk result (λ k. ⟦<SqlKeeper<S> as Keeper>⟧.means k s) }
+        ensures same { IfOk result (λ k. OnlyLooks (state S.Store conn) (state S.Store k.conn)) }
+        ensures honest { IfOk result (λ k. HasCleanDisk (state S.Store k.conn) → ⟦<SqlKeeper<S> as Keeper>⟧.is_honest k) }
+        ensures opened { IfOk result (λ k. ⟦<SqlKeeper<S> as Keeper>⟧.is_honest k → ⟦<SqlKeeper<S> as Keeper>⟧.is_open k) }
+        ensures none { IfOk result (λ k. ⟦<SqlKeeper<S> as Keeper>⟧.faults k ≡ 0) }
+        ensures durable { IfOk result (λ k. ⟦<SqlKeeper<S> as Keeper>⟧.is_honest k → (s : State) → ⟦<SqlKeeper<S> as Keeper>⟧.means k s
+            → LeavesAlone ⟦<SqlKeeper<S> as Keeper>⟧.leaves ⟦<SqlKeeper<S> as Keeper>⟧.leaves_whole k s) }
+        ensures crash { IfOk result (λ k. AddsNothing (state S.Store conn) (state S.Store k.conn)) }
+        ensures version { HasOurs (state S.Store conn) → IfErr result (λ e. e.0 ≡ OpenFault.Version
+            → HasCleanDisk (state S.Store e.1) → IsTrue (state S.Store conn).is_open → IsFound Finding.OtherVersion (state S.Store conn).now) }
+        ensures shape { HasOurs (state S.Store conn) → IfErr result (λ e. e.0 ≡ OpenFault.Shape
+            → HasCleanDisk (state S.Store e.1) → IsTrue (state S.Store conn).is_open → IsFound Finding.Damaged (state S.Store conn).now) }
+        ensures told { IfErr result (λ e. e.0 ≢ OpenFault.Exists) }
+        ensures kept { IfErr result (λ e. OnlyLooks (state S.Store conn) (state S.Store e.1)) }
+        ensures unharmed { IfErr result (λ e. AddsNothing (state S.Store conn) (state S.Store e.1)) }
+    {
+        match find(&mut conn, alloc) {
+            Ok(Finding::Sound) => Ok(SqlKeeper {
+                conn,
+                faults: 0,
+                alloc,
+            }),
+            Ok(Finding::OtherVersion) => Err((OpenFault::Version, conn)),
+            Ok(Finding::Damaged) => Err((OpenFault::Shape, conn)),
             Err(error) => Err((open_fault_of(error), conn)),
         }
     }

@@ -14,6 +14,7 @@ mod file_rules;
 mod key_rules;
 mod lines;
 mod listing;
+mod opening;
 mod piece_rules;
 mod pieces;
 mod questions;

@@ -1,0 +1,114 @@
+-- What is found in an office file that is opened.
+use Rattle.std.specs.Prelude.{◌≡◌, ◌≢◌, ◌⊎◌, ℕ, ℤ, pos, List, [], ◌∷◌, length, slice_get, Some, Contains, IsTrue}
+use Rattle.sqlite_value.specs.declared.value.Value.TheVariants.{Int}
+use Rattle.sqlite_value.specs.Order.{Row, column}
+use Rattle.sqlite_rules.specs.Lists.{Has}
+use Rattle.sqlite_schema.specs.declared.schema.Schema.{Schema}
+use Rattle.sqlite_schema.specs.declared.schema.Table.{Table}
+use Rattle.sqlite.specs.Effect.{Database}
+use Rattle.sqlite.specs.State.{State, HasCleanDisk}
+use Rattle.sigtext.specs.Bytes.{AreBytes}
+use Rattle.sigv4.specs.Hmac.{sha256}
+use Rattle.boxes.specs.State.{State as Office, Place}
+use Rattle.boxes.specs.Sound.{IsSound}
+use Rattle.sqlkeeper.specs.Schema.{v1, s0, s1, s2, s3, s4, s5, s6, office_table}
+use Rattle.sqlkeeper.specs.Tables.{tables_of}
+use Rattle.sqlkeeper.specs.Means.{Holds}
+use Rattle.sqlkeeper.specs.Lines.{AreLines, AreBytesOf, HaveRowids, IsOfficeLine, IsKeyLine, IsBoxLine, IsReceiptLine, IsFileLine, IsPieceLine}
+use Rattle.sqlkeeper.specs.declared.lines.FileLine.{FileLine}
+use Rattle.sqlkeeper.specs.declared.lines.ReceiptLine.{ReceiptLine}
+use Rattle.sqlkeeper.specs.declared.rules.Lines.{Lines}
+use Rattle.sqlkeeper.specs.declared.opening.Finding.{Finding}
+use Rattle.sqlkeeper.specs.declared.opening.Finding.TheVariants.{Sound, OtherVersion, Damaged}
+
+-- ---- which databases are looked at
+
+-- the schemas with the office's table, as the CREATE statements of an office make them
+abbrev pub begun_schemas : List Schema
+begun_schemas = s1 ∷ s2 ∷ s3 ∷ s4 ∷ s5 ∷ s6 ∷ []
+
+-- Each table that is there has our definition, and each that it refers to is there.
+abbrev pub IsOurs : Schema → Type 0
+IsOurs schema = Has (s0 ∷ begun_schemas) schema
+
+-- while the connection is open its tables are ours
+abbrev pub HasOurs : State → Type 0
+HasOurs s = IsTrue s.is_open → IsOurs s.now.schema
+
+-- The connection sees what it saw, if it is open.
+pub record SeesSame (old new : State) : Type 0 where
+  pub was_open : IsTrue new.is_open → IsTrue old.is_open
+  pub now_is : IsTrue new.is_open → new.now ≡ old.now
+  pub committed_is : IsTrue new.is_open → new.committed ≡ old.committed
+  pub mode : new.in_transaction ≡ old.in_transaction
+
+-- while the disk has returned what was written, nothing that the connection sees has changed
+abbrev pub OnlyLooks : State → State → Type 0
+OnlyLooks old new = HasCleanDisk new → SeesSame old new
+
+-- ---- what they are
+
+-- the tables are those of an office that keeps every rule
+pub record AreOffice (db : Database) (office : Office) : Type 0 where
+  pub holds : Holds v1 db (tables_of office)
+  pub sound : IsSound office
+
+-- the row of the office says this version
+pub record SaysVersion (db : Database) (version : ℤ) : Type 0 where
+  pub begun : Has begun_schemas db.schema
+  pub row : Row
+  pub there : Has (db.trees 0) row
+  pub each : (row : Row) → Has (db.trees 0) row → column row 2 ≡ Int version
+
+-- the tables are those of no office that keeps every rule, and no other version is said
+pub record AreDamaged (db : Database) : Type 0 where
+  pub none : (office : Office) → AreOffice db office → ⊥
+  pub version : (version : ℤ) → SaysVersion db version → version ≡ pos 1
+
+abbrev pub IsFound : Finding → Database → Type 0
+IsFound Sound db = (office : Office) × AreOffice db office
+IsFound OtherVersion db = (version : ℤ) × SaysVersion db version × (version ≢ pos 1)
+IsFound Damaged db = AreDamaged db
+
+-- ---- what is read of them
+
+-- the lines are those of the tables, in which no two rows have one rowid
+pub record AreListed (db : Database) (lines : Lines) : Type 0 where
+  pub office : AreLines IsOfficeLine (db.trees 0) lines.office.now
+  pub keys : AreLines IsKeyLine (db.trees 1) lines.keys.now
+  pub boxes : AreLines IsBoxLine (db.trees 3) lines.boxes.now
+  pub receipts : AreLines IsReceiptLine (db.trees 5) lines.receipts.now
+  pub files : AreLines IsFileLine (db.trees 6) lines.files.now
+  pub pieces : AreLines IsPieceLine (db.trees 9) lines.pieces.now
+  pub office_rowids : HaveRowids (db.trees 0)
+  pub keys_rowids : HaveRowids (db.trees 1)
+  pub boxes_rowids : HaveRowids (db.trees 3)
+  pub receipts_rowids : HaveRowids (db.trees 5)
+  pub files_rowids : HaveRowids (db.trees 6)
+  pub pieces_rowids : HaveRowids (db.trees 9)
+
+abbrev pub place_in : FileLine → Place
+place_in file = record { box = file.in_box.items; name = file.name.items }
+
+-- the line is that of the file's receipt
+pub record IsGivenFor (receipts : List ReceiptLine) (file : FileLine) (given : ReceiptLine) : Type 0 where
+  pub there : Contains receipts given
+  pub number : given.number ≡ file.receipt
+
+-- the pieces of the file are bytes of the length and the digest that its receipt tells
+pub record HasBytes (rows : List Row) (receipts : List ReceiptLine) (file : FileLine) : Type 0 where
+  pub given : ReceiptLine
+  pub is : IsGivenFor receipts file given
+  pub bytes : List ℕ
+  pub are : AreBytesOf rows (place_in file) (length bytes) bytes
+  pub octets : AreBytes bytes
+  pub size : given.length ≡ pos (length bytes)
+  pub digest : sha256 bytes ≡ given.digest.items
+
+-- the pieces of the file are no bytes of the length that its receipt tells, or bytes of another digest
+pub record LacksBytes (rows : List Row) (receipts : List ReceiptLine) (file : FileLine) : Type 0 where
+  pub given : ReceiptLine
+  pub is : IsGivenFor receipts file given
+  pub size : ℕ
+  pub size_is : given.length ≡ pos size
+  pub lacks : ((bytes : List ℕ) → AreBytesOf rows (place_in file) size bytes → ⊥) ⊎ ((bytes : List ℕ) × AreBytesOf rows (place_in file) size bytes × (sha256 bytes ≢ given.digest.items))
