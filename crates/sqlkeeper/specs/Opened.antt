@@ -1,5 +1,5 @@
 -- What is found in an office file that is opened.
-use Rattle.std.specs.Prelude.{◌≡◌, ◌≢◌, ◌⊎◌, ℕ, ℤ, pos, List, [], ◌∷◌, length, slice_get, Some, Contains, IsTrue}
+use Rattle.std.specs.Prelude.{◌≡◌, ◌≢◌, ◌⊎◌, ℕ, ℤ, pos, List, [], ◌∷◌, length, slice_get, Some, Contains, IsTrue, false}
 use Rattle.sqlite_value.specs.declared.value.Value.TheVariants.{Int}
 use Rattle.sqlite_value.specs.Order.{Row, column}
 use Rattle.sqlite_rules.specs.Lists.{Has}
@@ -45,6 +45,11 @@ pub record SeesSame (old new : State) : Type 0 where
 -- while the disk has returned what was written, nothing that the connection sees has changed
 abbrev pub OnlyLooks : State → State → Type 0
 OnlyLooks old new = HasCleanDisk new → SeesSame old new
+
+-- no transaction is pending
+pub record IsAtRest (s : State) : Type 0 where
+  pub autocommit : s.in_transaction ≡ false
+  pub settled : IsTrue s.is_open → s.now ≡ s.committed
 
 -- ---- what they are
 
