@@ -1,13 +1,14 @@
 -- What the question for a piece shows, whatever the database means.
-use Rattle.std.proofs.Common.{◌≡◌, ◌&&◌, ℕ, ℤ, pos, List, [], ◌∷◌, true, int_cmp, sym, ap, subst, ◌∙◌}
+use Rattle.std.proofs.Common.{◌≡◌, ◌&&◌, ℕ, ℤ, pos, List, [], ◌∷◌, true, int_cmp, refl, sym, ap, subst, ◌∙◌}
 use Rattle.std.specs.List.{list_all}
 use Rattle.std.specs.Ordering.{is_eq}
+use Rattle.std.specs.Cmp.{tied_itself, int_cmp_total}
 use Rattle.std.specs.FinMap.{int_cmp-IsAntisymmetric}
 use Rattle.std.proofs.lemmas.Bool.{and_parts}
 use Rattle.sigtext.specs.Bytes.{same_bytes}
 use Rattle.sqlite_value.specs.declared.value.Value.TheVariants.{Null, Int, Text, Blob}
 use Rattle.sqlite_value.specs.Order.{Row, column}
-use Rattle.sqlite_sql.specs.Term.{Term, col, holds}
+use Rattle.sqlite_sql.specs.Term.{Term, col, holds, eval_all}
 use Rattle.sqlite_sql.specs.Program.{overlay}
 use Rattle.sqlite_rules.specs.Lists.{Has}
 use Rattle.sqlite.specs.State.{State, Shown}
@@ -51,6 +52,12 @@ piece_row box name at row c passes =
       bytes_is = c.bytes.1;
     }
 
+row_passes : (box name : List ℕ) (at : ℕ) (row : Row) (bytes : List ℕ) → IsPieceRow row (record { place = record { box = box; name = name }; at = at }) bytes
+    → list_all (holds (given box name at ∷ row ∷ [])) filter ≡ true
+row_passes box name at row bytes is =
+    passes_part box name at row (record { box = (box, is.box_is); name = (name, is.name_is); part = (pos at, is.part_is); bytes = (bytes, is.bytes_is) })
+    ∙ rw (tells_bytes.itself box, tells_bytes.itself name, tied_itself int_cmp_total (pos at)) refl
+
 module _ (v : Version) (ours : IsVersion v) (old new : State) (has : old.now.schema ≡ v.schema) (whole : IsWhole old.now) (box name : List ℕ) (at : ℕ) (rows : List Row)
     (shown : Shown select_piece (given box name at) old new rows) where
   pub piece_shown : (row : Row) (bytes : List ℕ) → Has rows row → column row 0 ≡ Blob bytes → HasPiece (old.now.trees 9) (record { box = box; name = name }) at bytes
@@ -63,3 +70,10 @@ module _ (v : Version) (ours : IsVersion v) (old new : State) (has : old.now.sch
       let both : Blob c.bytes.0 ≡ Blob bytes = sym c.bytes.1 ∙ sym (ap (λ (x : Row). column x 0) r.3) ∙ is in
       let same : c.bytes.0 ≡ bytes = cc in
       record { row = r.0; there = r.1; is = subst (IsPieceRow r.0 (record { place = record { box = box; name = name }; at = at })) same (piece_row box name at r.0 c r.2) }
+
+  pub no_piece_shown : rows ≡ [] → (bytes : List ℕ) → HasPiece (old.now.trees 9) (record { box = box; name = name }) at bytes → ⊥
+  no_piece_shown none bytes has_piece =
+      let asks = asks_of v ours select_piece select_piece_command select_piece_is in
+      let read = reads_as select_piece (given box name at) old new v.schema has select_piece_command asks.says.is asks.says.plain asks.unlisted rows shown in
+      let found = answered 9 filter (col 1 4 ∷ []) (overlay old.now.trees []) (given box name at) rows (read.answer Null) in
+      subst (λ l. Has l (eval_all (col 1 4 ∷ []) (given box name at ∷ has_piece.row ∷ []))) none (found.complete has_piece.row has_piece.there (row_passes box name at has_piece.row bytes has_piece.is))

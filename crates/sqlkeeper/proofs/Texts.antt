@@ -1,5 +1,6 @@
 -- What the texts mean under the schema of version 1.
 use Rattle.std.proofs.Common.{codes, List, ℕ, [], ◌∷◌, refl}
+use Rattle.std.specs.List.{AllByRecursion}
 use Rattle.sqlite_value.specs.declared.value.Value.TheVariants.{Null}
 use Rattle.sqlite_value.specs.declared.keys.Collation.TheVariants.{Binary}
 use Rattle.sqlite_sql.specs.declared.ops.BinaryOp.TheVariants.{Compare}
@@ -9,7 +10,10 @@ use Rattle.sqlite_schema.specs.declared.command.Command.{Command}
 use Rattle.sqlite.specs.Term.{lit, col, op1, op2}
 use Rattle.sqlite_tied.specs.Compute.{everything}
 use Rattle.sqlite.specs.Listing.{understood}
-use Rattle.sqlkeeper.specs.Schema.{s6}
+use Rattle.sqlite_schema.specs.declared.schema.Schema.{Schema}
+use Rattle.sqlite_rules.specs.Lists.{Has}
+use Rattle.sqlite_rules.proofs.ListLemmas.{all_has}
+use Rattle.sqlkeeper.specs.Schema.{s6, begun_schemas}
 use Rattle.sqlkeeper.proofs.Forms.{query, some_rows, no_limit, is, rising, falling, whole_number, select, update, delete, insert}
 use Rattle.sqlkeeper.proofs.Says.{Says, Asks}
 
@@ -232,6 +236,26 @@ list_office_command = select (query 0 ([]) (col 1 0 ∷ col 1 0 ∷ col 1 2 ∷ 
 pub list_office_is : Asks s6 list_office list_office_command
 unfolding understood everything
 list_office_is = record { says = record { is = refl; plain = (refl, refl) }; unlisted = refl }
+
+-- also where the tables behind the first are not there yet
+list_office_all : AllByRecursion (λ s. Asks s list_office list_office_command) begun_schemas
+unfolding understood everything
+list_office_all = (
+  record { says = record { is = refl; plain = (refl, refl) }; unlisted = refl },
+  (
+    record { says = record { is = refl; plain = (refl, refl) }; unlisted = refl },
+    (
+      record { says = record { is = refl; plain = (refl, refl) }; unlisted = refl },
+      (
+        record { says = record { is = refl; plain = (refl, refl) }; unlisted = refl },
+        (record { says = record { is = refl; plain = (refl, refl) }; unlisted = refl }, (list_office_is, tt)),
+      ),
+    ),
+  ),
+)
+
+pub list_office_begun : (schema : Schema) → Has begun_schemas schema → Asks schema list_office list_office_command
+list_office_begun schema = all_has (λ s. Asks s list_office list_office_command) begun_schemas schema list_office_all
 
 abbrev pub list_keys : List ℕ
 list_keys = codes "SELECT rowid, id, role, secret, revoked FROM keys ORDER BY id"

@@ -1,6 +1,7 @@
 -- The rows of each table, read as values.
-use Rattle.std.specs.Prelude.{◌≡◌, ℕ, ℤ, pos, List, [], length, map, Some}
+use Rattle.std.specs.Prelude.{◌≡◌, ℕ, ℤ, pos, List, [], length, map, Option, Some, MatchOption, Vec}
 use Rattle.std.specs.List.{AllZip}
+use Rattle.std.specs.declared.alloc.Global.{Global}
 use Rattle.std.specs.List.Sorted.{IsPermutation}
 use Rattle.std.specs.Ordering.{int_cmp}
 use Rattle.std.specs.declared.cmp.Ordering.TheVariants.{Less}
@@ -94,6 +95,14 @@ pub record HasPiece (rows : List Row) (place : Place) (at : ℕ) (bytes : List �
 pub record AreBytesOf (rows : List Row) (place : Place) (size : ℕ) (bytes : List ℕ) : Type 0 where
   pub size_is : length bytes ≡ size
   pub pieces : (at : ℕ) (piece : List ℕ) → piece_of bytes at ≡ Some piece → HasPiece rows place at piece
+
+-- the bytes of that piece, or that there is no such piece
+abbrev pub IsPieceAt : List Row → Place → ℕ → Option (Vec ℕ Global) → Type 0
+IsPieceAt rows place at piece = MatchOption piece ((bytes : List ℕ) → HasPiece rows place at bytes → ⊥) (λ p. HasPiece rows place at p.items)
+
+-- these bytes, or that no bytes of this size have each of their pieces
+abbrev pub AreFound : List Row → Place → ℕ → Option (Vec ℕ Global) → Type 0
+AreFound rows place size found = MatchOption found ((bytes : List ℕ) → AreBytesOf rows place size bytes → ⊥) (λ b. AreBytesOf rows place size b.items)
 
 -- The first columns are numbers that rise, in some order of the rows.
 pub record AreNumbered (rows : List Row) : Type 0 where

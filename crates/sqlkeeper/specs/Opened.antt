@@ -1,5 +1,5 @@
 -- What is found in an office file that is opened.
-use Rattle.std.specs.Prelude.{◌≡◌, ◌≢◌, ◌⊎◌, ℕ, ℤ, pos, List, [], ◌∷◌, length, slice_get, Some, Contains, IsTrue, false}
+use Rattle.std.specs.Prelude.{◌≡◌, ◌≢◌, ◌⊎◌, ℕ, ℤ, ◌<◌, pos, codes, List, [], ◌∷◌, length, slice_get, Some, Contains, IsTrue, false}
 use Rattle.sqlite_value.specs.declared.value.Value.TheVariants.{Int}
 use Rattle.sqlite_value.specs.Order.{Row, column}
 use Rattle.sqlite_rules.specs.Lists.{Has}
@@ -11,21 +11,21 @@ use Rattle.sigtext.specs.Bytes.{AreBytes}
 use Rattle.sigv4.specs.Hmac.{sha256}
 use Rattle.boxes.specs.State.{State as Office, Place}
 use Rattle.boxes.specs.Sound.{IsSound}
-use Rattle.sqlkeeper.specs.Schema.{v1, s0, s1, s2, s3, s4, s5, s6, office_table}
+use Rattle.sqlkeeper.specs.Schema.{v1, s0, s6, begun_schemas}
 use Rattle.sqlkeeper.specs.Tables.{tables_of}
 use Rattle.sqlkeeper.specs.Means.{Holds}
 use Rattle.sqlkeeper.specs.Lines.{AreLines, AreBytesOf, HaveRowids, IsOfficeLine, IsKeyLine, IsBoxLine, IsReceiptLine, IsFileLine, IsPieceLine}
 use Rattle.sqlkeeper.specs.declared.lines.FileLine.{FileLine}
 use Rattle.sqlkeeper.specs.declared.lines.ReceiptLine.{ReceiptLine}
 use Rattle.sqlkeeper.specs.declared.rules.Lines.{Lines}
+use Rattle.sqlkeeper.specs.declared.lines.OfficeLine.{OfficeLine}
+use Rattle.sqlkeeper.specs.declared.listing.Listed.{Listed}
+use Rattle.sqlkeeper.specs.declared.opening.Extent.{Extent}
+use Rattle.sqlkeeper.specs.declared.opening.Extent.TheVariants.{Nothing, Begun, Whole}
 use Rattle.sqlkeeper.specs.declared.opening.Finding.{Finding}
 use Rattle.sqlkeeper.specs.declared.opening.Finding.TheVariants.{Sound, OtherVersion, Damaged}
 
 -- ---- which databases are looked at
-
--- the schemas with the office's table, as the CREATE statements of an office make them
-abbrev pub begun_schemas : List Schema
-begun_schemas = s1 ∷ s2 ∷ s3 ∷ s4 ∷ s5 ∷ s6 ∷ []
 
 -- Each table that is there has our definition, and each that it refers to is there.
 abbrev pub IsOurs : Schema → Type 0
@@ -50,6 +50,28 @@ OnlyLooks old new = HasCleanDisk new → SeesSame old new
 pub record IsAtRest (s : State) : Type 0 where
   pub autocommit : s.in_transaction ≡ false
   pub settled : IsTrue s.is_open → s.now ≡ s.committed
+
+-- the table in this place has this name and so many columns
+pub record IsTableAt (tables : List Table) (at : ℕ) (name : List ℕ) (columns : ℕ) : Type 0 where
+  pub table : Table
+  pub there : slice_get tables at ≡ Some table
+  pub name_is : table.name ≡ name
+  pub columns_are : length table.columns ≡ columns
+
+-- an office's tables, by their names
+pub record AreNamed (tables : List Table) : Type 0 where
+  pub six : length tables ≡ 6
+  pub office : IsTableAt tables 0 (codes "office") 3
+  pub keys : IsTableAt tables 1 (codes "keys") 4
+  pub boxes : IsTableAt tables 2 (codes "boxes") 13
+  pub receipts : IsTableAt tables 3 (codes "receipts") 7
+  pub files : IsTableAt tables 4 (codes "files") 3
+  pub pieces : IsTableAt tables 5 (codes "pieces") 4
+
+abbrev pub IsExtent : Extent → Schema → Type 0
+IsExtent Nothing schema = schema ≡ s0
+IsExtent Begun schema = Has begun_schemas schema × (schema ≢ s6)
+IsExtent Whole schema = schema ≡ s6
 
 -- ---- what they are
 
@@ -91,6 +113,24 @@ pub record AreListed (db : Database) (lines : Lines) : Type 0 where
   pub receipts_rowids : HaveRowids (db.trees 5)
   pub files_rowids : HaveRowids (db.trees 6)
   pub pieces_rowids : HaveRowids (db.trees 9)
+
+-- the same of all tables but the first
+pub record AreTables (db : Database) (listed : Listed) : Type 0 where
+  pub keys : AreLines IsKeyLine (db.trees 1) listed.keys.items
+  pub boxes : AreLines IsBoxLine (db.trees 3) listed.boxes.items
+  pub receipts : AreLines IsReceiptLine (db.trees 5) listed.receipts.items
+  pub files : AreLines IsFileLine (db.trees 6) listed.files.items
+  pub pieces : AreLines IsPieceLine (db.trees 9) listed.pieces.items
+  pub keys_rowids : HaveRowids (db.trees 1)
+  pub boxes_rowids : HaveRowids (db.trees 3)
+  pub receipts_rowids : HaveRowids (db.trees 5)
+  pub files_rowids : HaveRowids (db.trees 6)
+  pub pieces_rowids : HaveRowids (db.trees 9)
+
+-- one line or more, each of this version
+pub record AreOfVersion (lines : List OfficeLine) (version : ℤ) : Type 0 where
+  pub some : 0 < length lines
+  pub each : (line : OfficeLine) → Contains lines line → line.version ≡ version
 
 abbrev pub place_in : FileLine → Place
 place_in file = record { box = file.in_box.items; name = file.name.items }

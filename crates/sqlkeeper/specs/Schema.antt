@@ -112,6 +112,10 @@ s5 = created s4 files_table
 abbrev pub s6 : Schema
 s6 = created s5 pieces_table
 
+-- the schemas with the table of the office itself, as the CREATE statements make them one after another
+abbrev pub begun_schemas : List Schema
+begun_schemas = s1 ∷ s2 ∷ s3 ∷ s4 ∷ s5 ∷ s6 ∷ []
+
 -- what `version` in the office's row says, and the tables that go with it
 pub record Version : Type 0 where
   pub number : ℤ

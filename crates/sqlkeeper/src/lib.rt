@@ -9,6 +9,7 @@ mod box_rows;
 mod box_rules;
 mod changes;
 mod creating;
+mod digests;
 mod file_keeper;
 mod file_rules;
 mod key_rules;

@@ -3,8 +3,10 @@
 ghost use Rattle.std.specs.Prelude.{◌≡◌, IsTrue, OnOk, IfOk};
 ghost use Rattle.sqlite.specs.State.{HasCleanDisk, KeepsCommit, Survives};
 ghost use Rattle.sqlite.specs.Held.{state};
-ghost use Rattle.sqlkeeper.specs.Schema.{Version, IsVersion};
+ghost use Rattle.sqlite_rules.specs.Lists.{Has};
+ghost use Rattle.sqlkeeper.specs.Schema.{Version, IsVersion, begun_schemas};
 ghost use Rattle.sqlkeeper.specs.Means.{IsWhole, IsRunning};
+ghost use Rattle.sqlkeeper.specs.Opened.{AreTables};
 ghost use Rattle.sqlkeeper.specs.Lines.{IsOfficeLine, IsKeyLine, IsBoxLine, IsReceiptLine, IsFileLine, IsPieceLine, AreLines, AreRead, HaveRowids};
 
 use crate::lines::{
@@ -28,14 +30,14 @@ fn list<S: Alter, L: Line + Drop>(tx: &mut Transaction<'_, S>, sql: &str) -> Res
     lines_of(alloc, &rows)
 }
 
-/// The row of the office.
+/// The row of the office, where the tables behind its own may not be there yet.
 pub(crate) fn list_office<S: Alter>(tx: &mut Transaction<'_, S>) -> Result<Vec<OfficeLine>, Error>
     ensures same_reference { tx.new.conn.ghost_name ≡ tx.old.conn.ghost_name }
-    ensures listed { (v : Version) → IsVersion v → (IsTrue (state S.Store tx.old.conn.now).is_open → (state S.Store tx.old.conn.now).now.schema ≡ v.schema)
+    ensures listed { (v : Version) → Has begun_schemas v.schema → (IsTrue (state S.Store tx.old.conn.now).is_open → (state S.Store tx.old.conn.now).now.schema ≡ v.schema)
         → IsTrue (state S.Store tx.old.conn.now).in_transaction → HasCleanDisk (state S.Store tx.new.conn.now) → IfOk result (λ lines. AreLines IsOfficeLine ((state S.Store tx.old.conn.now).now.trees 0) lines.items) }
-    ensures rowids { (v : Version) → IsVersion v → (IsTrue (state S.Store tx.old.conn.now).is_open → (state S.Store tx.old.conn.now).now.schema ≡ v.schema)
+    ensures rowids { (v : Version) → Has begun_schemas v.schema → (IsTrue (state S.Store tx.old.conn.now).is_open → (state S.Store tx.old.conn.now).now.schema ≡ v.schema)
         → IsTrue (state S.Store tx.old.conn.now).in_transaction → HasCleanDisk (state S.Store tx.new.conn.now) → OnOk result (HaveRowids ((state S.Store tx.old.conn.now).now.trees 0)) }
-    ensures same { (v : Version) → IsVersion v → (IsTrue (state S.Store tx.old.conn.now).is_open → (state S.Store tx.old.conn.now).now.schema ≡ v.schema)
+    ensures same { (v : Version) → Has begun_schemas v.schema → (IsTrue (state S.Store tx.old.conn.now).is_open → (state S.Store tx.old.conn.now).now.schema ≡ v.schema)
         → IsTrue (state S.Store tx.old.conn.now).in_transaction → HasCleanDisk (state S.Store tx.new.conn.now) → OnOk result ((state S.Store tx.new.conn.now).now ≡ (state S.Store tx.old.conn.now).now) }
     ensures running { HasCleanDisk (state S.Store tx.new.conn.now) → IsTrue (state S.Store tx.old.conn.now).in_transaction → OnOk result (IsRunning (state S.Store tx.new.conn.now)) }
     ensures uncommitted { HasCleanDisk (state S.Store tx.new.conn.now) → IsTrue (state S.Store tx.old.conn.now).in_transaction → KeepsCommit (state S.Store tx.old.conn.now) (state S.Store tx.new.conn.now) }
@@ -142,4 +144,34 @@ pub(crate) fn list_pieces<S: Alter>(tx: &mut Transaction<'_, S>) -> Result<Vec<P
         tx,
         "SELECT rowid, box, name, part, length(bytes) FROM pieces ORDER BY box, name, part",
     )
+}
+
+/// The rows of each table but the office's own.
+#[derive(Drop)]
+pub(crate) struct Listed {
+    pub(crate) keys: Vec<KeyLine>,
+    pub(crate) boxes: Vec<BoxLine>,
+    pub(crate) receipts: Vec<ReceiptLine>,
+    pub(crate) files: Vec<FileLine>,
+    pub(crate) pieces: Vec<PieceLine>,
+}
+
+/// Each table but the office's own.
+pub(crate) fn list_all<S: Alter>(tx: &mut Transaction<'_, S>) -> Result<Listed, Error>
+    ensures same_reference { tx.new.conn.ghost_name ≡ tx.old.conn.ghost_name }
+    ensures listed { (v : Version) → IsVersion v → (IsTrue (state S.Store tx.old.conn.now).is_open → (state S.Store tx.old.conn.now).now.schema ≡ v.schema) → (IsTrue (state S.Store tx.old.conn.now).is_open → IsWhole (state S.Store tx.old.conn.now).now)
+        → IsTrue (state S.Store tx.old.conn.now).in_transaction → HasCleanDisk (state S.Store tx.new.conn.now) → IfOk result (AreTables (state S.Store tx.old.conn.now).now) }
+    ensures same { (v : Version) → IsVersion v → (IsTrue (state S.Store tx.old.conn.now).is_open → (state S.Store tx.old.conn.now).now.schema ≡ v.schema)
+        → IsTrue (state S.Store tx.old.conn.now).in_transaction → HasCleanDisk (state S.Store tx.new.conn.now) → OnOk result ((state S.Store tx.new.conn.now).now ≡ (state S.Store tx.old.conn.now).now) }
+    ensures running { HasCleanDisk (state S.Store tx.new.conn.now) → IsTrue (state S.Store tx.old.conn.now).in_transaction → OnOk result (IsRunning (state S.Store tx.new.conn.now)) }
+    ensures uncommitted { HasCleanDisk (state S.Store tx.new.conn.now) → IsTrue (state S.Store tx.old.conn.now).in_transaction → KeepsCommit (state S.Store tx.old.conn.now) (state S.Store tx.new.conn.now) }
+    ensures survives { Survives (state S.Store tx.old.conn.now) (state S.Store tx.new.conn.now) (λ _. ⊥) }
+{
+    Ok(Listed {
+        keys: list_keys(tx)?,
+        boxes: list_boxes(tx)?,
+        receipts: list_receipts(tx)?,
+        files: list_files(tx)?,
+        pieces: list_pieces(tx)?,
+    })
 }

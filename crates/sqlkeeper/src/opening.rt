@@ -1,12 +1,23 @@
 //! What is found in an office file that is opened.
 
-ghost use Rattle.std.specs.Prelude.{◌≡◌, IsTrue, IfOk, OnOk};
-ghost use Rattle.sqlite.specs.State.{HasCleanDisk, Survives};
+ghost use Rattle.std.specs.Prelude.{◌↔◌, ◌≡◌, ℤ, pos, length, slice_get, Contains, MatchBool, MatchOption, None, Some, IsTrue, IfOk, OnOk};
+ghost use Rattle.sqlite_schema.specs.declared.schema.Table.{Table};
+ghost use Rattle.sqlite_rules.specs.Lists.{Has};
+ghost use Rattle.sqlite.specs.State.{HasCleanDisk, KeepsCommit, Survives};
 ghost use Rattle.sqlite.specs.Held.{state};
-ghost use Rattle.sqlkeeper.specs.Opened.{HasOurs, OnlyLooks, IsAtRest, IsFound};
+ghost use Rattle.boxes.specs.State.{State as Office};
+ghost use Rattle.sqlkeeper.specs.Schema.{Version, IsVersion, begun_schemas};
+ghost use Rattle.sqlkeeper.specs.Means.{IsWhole, IsRunning};
+ghost use Rattle.sqlkeeper.specs.Lines.{AreLines, HaveRowids, IsOfficeLine};
+ghost use Rattle.sqlkeeper.specs.Opened.{HasOurs, IsOurs, AreTables, IsExtent, IsTableAt, AreNamed, OnlyLooks, IsAtRest, IsFound, AreOffice, AreOfVersion};
 
-use sqlite::{Alter, Connection, Error, ErrorCode};
-use std::alloc::Global;
+use crate::digests::have_bytes;
+use crate::lines::OfficeLine;
+use crate::listing::{Listed, list_all, list_office};
+use crate::rules::{Lines, are_sound};
+use sqlite::{Alter, Connection, Error, ErrorCode, Transaction};
+use sqlite_schema::schema::{Schema, Table};
+use std::alloc::{AllocError, Global};
 
 /// What an office file is found to be.
 #[derive(Clone, Copy, Debug, PartialEq, Eq)]
@@ -19,6 +30,129 @@ pub(crate) enum Finding {
     Damaged,
 }
 
+/// How many of an office's tables are there.
+#[derive(Clone, Copy, Debug, PartialEq, Eq)]
+pub(crate) enum Extent {
+    /// Not the first.
+    Nothing,
+    /// The first.
+    Begun,
+    /// All, and no others.
+    Whole,
+}
+
+/// Whether the table in this place has this name and so many columns.
+fn is_table(tables: &[Table], at: usize, name: &str, columns: usize) -> bool
+    ensures { IsTrue result ↔ IsTableAt tables.now at name.now columns }
+{
+    let Some(table) = tables.get(at) else {
+        return false;
+    };
+    table.name.as_slice() == name.as_bytes() && table.columns.len() == columns
+}
+
+/// Whether these are an office's tables, by their names and the number of their columns.
+fn are_named(tables: &[Table]) -> bool
+    ensures { IsTrue result ↔ AreNamed tables.now }
+{
+    tables.len() == 6
+        && is_table(tables, 0, "office", 3)
+        && is_table(tables, 1, "keys", 4)
+        && is_table(tables, 2, "boxes", 13)
+        && is_table(tables, 3, "receipts", 7)
+        && is_table(tables, 4, "files", 3)
+        && is_table(tables, 5, "pieces", 4)
+}
+
+/// How many of an office's tables a database has.
+fn extent_of(schema: &Schema) -> Extent
+    ensures { IsOurs schema.now → IsExtent result schema.now }
+{
+    let tables = schema.tables.as_slice();
+    if !is_table(tables, 0, "office", 3) {
+        return Extent::Nothing;
+    }
+    if are_named(tables) && schema.indexes.is_empty() && schema.views.is_empty() {
+        return Extent::Whole;
+    }
+    Extent::Begun
+}
+
+/// The version that the office's one row says.
+fn version_of(lines: &[OfficeLine]) -> Option<i64>
+    ensures { MatchOption result ((version : ℤ) → AreOfVersion lines.now version → ⊥) (AreOfVersion lines.now) }
+{
+    match lines {
+        [line] => Some(line.version),
+        _ => None,
+    }
+}
+
+// Want of memory is the database's.
+fn of_memory(error: AllocError) -> Error {
+    Error::SqliteFailure(ErrorCode::OutOfMemory)
+}
+
+/// Whether the lines are those of an office, and its files have their bytes.
+fn is_sound<S: Alter>(
+    tx: &mut Transaction<'_, S>,
+    alloc: Global,
+    office: &[OfficeLine],
+    listed: &Listed,
+) -> Result<bool, Error>
+    ensures same_reference { tx.new.conn.ghost_name ≡ tx.old.conn.ghost_name }
+    ensures found { (v : Version) → IsVersion v → (IsTrue (state S.Store tx.old.conn.now).is_open → (state S.Store tx.old.conn.now).now.schema ≡ v.schema) → (IsTrue (state S.Store tx.old.conn.now).is_open → IsWhole (state S.Store tx.old.conn.now).now)
+        → IsTrue (state S.Store tx.old.conn.now).in_transaction → HasCleanDisk (state S.Store tx.new.conn.now) → AreLines IsOfficeLine ((state S.Store tx.old.conn.now).now.trees 0) office.now → HaveRowids ((state S.Store tx.old.conn.now).now.trees 0)
+        → AreOfVersion office.now (pos 1) → AreTables (state S.Store tx.old.conn.now).now listed.now
+        → IfOk result (λ sound. MatchBool sound ((office : Office) × AreOffice (state S.Store tx.old.conn.now).now office) ((office : Office) → AreOffice (state S.Store tx.old.conn.now).now office → ⊥)) }
+    ensures running { HasCleanDisk (state S.Store tx.new.conn.now) → IsRunning (state S.Store tx.old.conn.now) → OnOk result (IsRunning (state S.Store tx.new.conn.now)) }
+    ensures uncommitted { HasCleanDisk (state S.Store tx.new.conn.now) → IsTrue (state S.Store tx.old.conn.now).in_transaction → KeepsCommit (state S.Store tx.old.conn.now) (state S.Store tx.new.conn.now) }
+    ensures survives { Survives (state S.Store tx.old.conn.now) (state S.Store tx.new.conn.now) (λ _. ⊥) }
+{
+    let lines = Lines {
+        office,
+        keys: &listed.keys,
+        boxes: &listed.boxes,
+        receipts: &listed.receipts,
+        files: &listed.files,
+        pieces: &listed.pieces,
+    };
+    if !are_sound(alloc, &lines).map_err(of_memory)? {
+        return Ok(false);
+    }
+    have_bytes(tx, alloc, &listed.receipts, &listed.files)
+}
+
+/// Tests the tables of an office, the version first.
+fn look<S: Alter>(
+    tx: &mut Transaction<'_, S>,
+    alloc: Global,
+    extent: Extent,
+) -> Result<Finding, Error>
+    ensures same_reference { tx.new.conn.ghost_name ≡ tx.old.conn.ghost_name }
+    ensures found { (IsTrue (state S.Store tx.old.conn.now).is_open → Has begun_schemas (state S.Store tx.old.conn.now).now.schema × IsExtent extent (state S.Store tx.old.conn.now).now.schema × IsWhole (state S.Store tx.old.conn.now).now)
+        → IsTrue (state S.Store tx.old.conn.now).in_transaction → HasCleanDisk (state S.Store tx.new.conn.now) → IfOk result (λ finding. IsFound finding (state S.Store tx.old.conn.now).now) }
+    ensures running { HasCleanDisk (state S.Store tx.new.conn.now) → IsTrue (state S.Store tx.old.conn.now).in_transaction → OnOk result (IsRunning (state S.Store tx.new.conn.now)) }
+    ensures uncommitted { HasCleanDisk (state S.Store tx.new.conn.now) → IsTrue (state S.Store tx.old.conn.now).in_transaction → KeepsCommit (state S.Store tx.old.conn.now) (state S.Store tx.new.conn.now) }
+    ensures survives { Survives (state S.Store tx.old.conn.now) (state S.Store tx.new.conn.now) (λ _. ⊥) }
+{
+    let office = list_office(tx)?;
+    match version_of(&office) {
+        None => return Ok(Finding::Damaged),
+        Some(1) => {}
+        Some(_) => return Ok(Finding::OtherVersion),
+    }
+    if extent != Extent::Whole {
+        return Ok(Finding::Damaged);
+    }
+    let listed = list_all(tx)?;
+    if is_sound(tx, alloc, &office, &listed)? {
+        Ok(Finding::Sound)
+    } else {
+        Ok(Finding::Damaged)
+    }
+}
+
 /// Tests the whole file, in a transaction that is rolled back.
 pub(crate) fn find<S: Alter>(conn: &mut Connection<S>, alloc: Global) -> Result<Finding, Error>
     ensures found { HasOurs (state S.Store conn.old) → HasCleanDisk (state S.Store conn.new) → IsTrue (state S.Store conn.old).is_open → IfOk result (λ finding. IsFound finding (state S.Store conn.old).now) }
@@ -27,5 +161,13 @@ pub(crate) fn find<S: Alter>(conn: &mut Connection<S>, alloc: Global) -> Result<
     ensures same { OnlyLooks (state S.Store conn.old) (state S.Store conn.new) }
     ensures survives { Survives (state S.Store conn.old) (state S.Store conn.new) (λ _. ⊥) }
 {
-    Err(Error::SqliteFailure(ErrorCode::TransactionState))
+    if !conn.is_autocommit() {
+        return Err(Error::SqliteFailure(ErrorCode::TransactionState));
+    }
+    let extent = extent_of(conn.schema());
+    if extent == Extent::Nothing {
+        return Ok(Finding::Damaged);
+    }
+    let mut tx = conn.transaction();
+    look(&mut tx, alloc, extent)
 }

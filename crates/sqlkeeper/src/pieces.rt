@@ -6,22 +6,22 @@ ghost use Rattle.sqlite.specs.Held.{state};
 ghost use Rattle.boxes.specs.State.{Place};
 ghost use Rattle.sqlkeeper.specs.Schema.{Version, IsVersion};
 ghost use Rattle.sqlkeeper.specs.Means.{IsWhole, IsRunning};
-ghost use Rattle.sqlkeeper.specs.Lines.{HasPiece, AreBytesOf};
+ghost use Rattle.sqlkeeper.specs.Lines.{IsPieceAt, AreFound};
 
 use crate::statements::PIECE;
 use sqlite::{Alter, Error, ErrorCode, Transaction, params};
 use std::alloc::Global;
 
-/// One piece of a file; where it is not there, `QueryReturnedNoRows`.
+/// One piece of a file, if it is there.
 fn read_piece<S: Alter>(
     tx: &mut Transaction<'_, S>,
     in_box: &str,
     name: &str,
     part: u32,
-) -> Result<Vec<u8>, Error>
+) -> Result<Option<Vec<u8>>, Error>
     ensures same_reference { tx.new.conn.ghost_name ≡ tx.old.conn.ghost_name }
     ensures read { (v : Version) → IsVersion v → (IsTrue (state S.Store tx.old.conn.now).is_open → (state S.Store tx.old.conn.now).now.schema ≡ v.schema) → (IsTrue (state S.Store tx.old.conn.now).is_open → IsWhole (state S.Store tx.old.conn.now).now)
-        → IsTrue (state S.Store tx.old.conn.now).in_transaction → HasCleanDisk (state S.Store tx.new.conn.now) → IfOk result (λ piece. HasPiece ((state S.Store tx.old.conn.now).now.trees 9) (record { box = in_box.now; name = name.now }) part piece.items) }
+        → IsTrue (state S.Store tx.old.conn.now).in_transaction → HasCleanDisk (state S.Store tx.new.conn.now) → IfOk result (IsPieceAt ((state S.Store tx.old.conn.now).now.trees 9) (record { box = in_box.now; name = name.now }) part) }
     ensures same { (v : Version) → IsVersion v → (IsTrue (state S.Store tx.old.conn.now).is_open → (state S.Store tx.old.conn.now).now.schema ≡ v.schema)
         → IsTrue (state S.Store tx.old.conn.now).in_transaction → HasCleanDisk (state S.Store tx.new.conn.now) → OnOk result ((state S.Store tx.new.conn.now).now ≡ (state S.Store tx.old.conn.now).now) }
     ensures running { HasCleanDisk (state S.Store tx.new.conn.now) → IsTrue (state S.Store tx.old.conn.now).in_transaction → OnOk result (IsRunning (state S.Store tx.new.conn.now)) }
@@ -33,23 +33,23 @@ fn read_piece<S: Alter>(
         params![in_box, name, part],
     )?;
     let Some(row) = rows.first() else {
-        return Err(Error::QueryReturnedNoRows);
+        return Ok(None);
     };
-    row.get(0)
+    let piece: Vec<u8> = row.get(0)?;
+    Ok(Some(piece))
 }
 
-/// The bytes of a file of this size. A piece that is not there is `QueryReturnedNoRows`, one of another length
-/// `DatabaseCorrupt`.
+/// The bytes of a file of this size, if each of its pieces is there. A piece of another length is `DatabaseCorrupt`.
 pub(crate) fn read_file<S: Alter>(
     tx: &mut Transaction<'_, S>,
     alloc: Global,
     in_box: &str,
     name: &str,
     size: u64,
-) -> Result<Vec<u8>, Error>
+) -> Result<Option<Vec<u8>>, Error>
     ensures same_reference { tx.new.conn.ghost_name ≡ tx.old.conn.ghost_name }
     ensures read { (v : Version) → IsVersion v → (IsTrue (state S.Store tx.old.conn.now).is_open → (state S.Store tx.old.conn.now).now.schema ≡ v.schema) → (IsTrue (state S.Store tx.old.conn.now).is_open → IsWhole (state S.Store tx.old.conn.now).now)
-        → IsTrue (state S.Store tx.old.conn.now).in_transaction → HasCleanDisk (state S.Store tx.new.conn.now) → IfOk result (λ bytes. AreBytesOf ((state S.Store tx.old.conn.now).now.trees 9) (record { box = in_box.now; name = name.now }) size bytes.items) }
+        → IsTrue (state S.Store tx.old.conn.now).in_transaction → HasCleanDisk (state S.Store tx.new.conn.now) → IfOk result (AreFound ((state S.Store tx.old.conn.now).now.trees 9) (record { box = in_box.now; name = name.now }) size) }
     ensures same { (v : Version) → IsVersion v → (IsTrue (state S.Store tx.old.conn.now).is_open → (state S.Store tx.old.conn.now).now.schema ≡ v.schema)
         → IsTrue (state S.Store tx.old.conn.now).in_transaction → HasCleanDisk (state S.Store tx.new.conn.now) → OnOk result ((state S.Store tx.new.conn.now).now ≡ (state S.Store tx.old.conn.now).now) }
     ensures running { HasCleanDisk (state S.Store tx.new.conn.now) → IsRunning (state S.Store tx.old.conn.now) → OnOk result (IsRunning (state S.Store tx.new.conn.now)) }
@@ -59,7 +59,9 @@ pub(crate) fn read_file<S: Alter>(
     let mut bytes = Vec::new(alloc);
     let mut part: u32 = 0;
     while (bytes.len() as u64) < size {
-        let piece = read_piece(tx, in_box, name, part)?;
+        let Some(piece) = read_piece(tx, in_box, name, part)? else {
+            return Ok(None);
+        };
         let rest = size - bytes.len() as u64;
         if piece.len() as u64 != rest.min(PIECE as u64) {
             return Err(Error::SqliteFailure(ErrorCode::DatabaseCorrupt));
@@ -70,5 +72,5 @@ pub(crate) fn read_file<S: Alter>(
             None => return Err(Error::SqliteFailure(ErrorCode::TooBig)),
         }
     }
-    Ok(bytes)
+    Ok(Some(bytes))
 }

@@ -1,4 +1,4 @@
-use Rattle.std.proofs.Common.{◌≡◌, Some, slice_get, sym, ap, ◌∙◌}
+use Rattle.std.proofs.Common.{◌≡◌, [], rules, Some, slice_get, sym, ap, ◌∙◌}
 use Rattle.sqlite_rules.proofs.ListLemmas.{has_got}
 use Rattle.sqlite.specs.Held.{state}
 use Rattle.boxes.specs.State.{Place}
@@ -9,7 +9,7 @@ use Rattle.sqlkeeper.proofs.Ours.{asks_of}
 use Rattle.sqlkeeper.proofs.Texts.{select_piece, select_piece_command, select_piece_is}
 use Rattle.sqlkeeper.proofs.StandingFiles.{if_ok_more}
 use Rattle.sqlkeeper.proofs.Listed.{at_ok, shown_open, shown_runs, shown_unchanged}
-use Rattle.sqlkeeper.proofs.PieceAt.{given, piece_shown}
+use Rattle.sqlkeeper.proofs.PieceAt.{given, piece_shown, no_piece_shown}
 use Rattle.sqlkeeper.proofs.pieces.read_piece.Goals as goal
 
 pub returns-clause-read : goal.returns-clause-read
@@ -21,9 +21,16 @@ returns-clause-read g c v ours has whole inside clean =
     let is_open = shown_open select_piece (given c.args.in_box.now c.args.name.now c.args.part) old new c.in_ok-rows.rows.items shown in
     let first : slice_get c.in_ok-rows.rows.items 0 ≡ Some c.in-Some.row.now = ap (λ l. slice_get l 0) (sym c.deref.ensures.value) ∙ sym c.in-Some.ensures.value in
     let there = has_got c.in_ok-rows.rows.items 0 c.in-Some.row.now first in
-    if_ok_more _ (λ piece. HasPiece (old.now.trees 9) place c.args.part piece.items) c.get.result
-    (λ piece is. piece_shown v ours old new (has is_open) (whole is_open) c.args.in_box.now c.args.name.now c.args.part c.in_ok-rows.rows.items shown c.in-Some.row.now piece.items there is.1)
-    c.get.ensures.ok
+    piece_shown v ours old new (has is_open) (whole is_open) c.args.in_box.now c.args.name.now c.args.part c.in_ok-rows.rows.items shown c.in-Some.row.now c.in_ok-piece.piece.items there c.in_ok-piece.ensures.ok.1
+
+pub returns-in_default-clause-read : goal.returns-in_default-clause-read
+returns-in_default-clause-read g c v ours has whole inside clean =
+    let old = state g.S.Store c.args.tx.now.conn.now in
+    let new = state g.S.Store c.query_all.new.self.conn.now in
+    let shown = rw (c.params-to_sql.ensures, c.params-to_sql-2.ensures, c.params-to_sql-3.ensures) at (c.in_ok-rows.ensures.ok clean) in
+    let is_open = shown_open select_piece (given c.args.in_box.now c.args.name.now c.args.part) old new c.in_ok-rows.rows.items shown in
+    let none : c.in_ok-rows.rows.items ≡ [] = search rules in
+    no_piece_shown v ours old new (has is_open) (whole is_open) c.args.in_box.now c.args.name.now c.args.part c.in_ok-rows.rows.items shown none
 
 pub returns-clause-same : goal.returns-clause-same
 returns-clause-same g c v ours has inside clean =

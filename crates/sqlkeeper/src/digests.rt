@@ -1,0 +1,97 @@
+//! The bytes of the files against the digests of their receipts. The database may mean no office.
+
+ghost use Rattle.std.specs.Prelude.{◌↔◌, ◌≡◌, Contains, MatchBool, IsTrue, OnOk, IfOk, IfSome};
+ghost use Rattle.sigv4.specs.Hmac.{sha256};
+ghost use Rattle.sqlite.specs.State.{HasCleanDisk, KeepsCommit, Survives};
+ghost use Rattle.sqlite.specs.Held.{state};
+ghost use Rattle.sqlkeeper.specs.declared.lines.FileLine.{FileLine};
+ghost use Rattle.sqlkeeper.specs.Schema.{Version, IsVersion};
+ghost use Rattle.sqlkeeper.specs.Means.{IsWhole, IsRunning};
+ghost use Rattle.sqlkeeper.specs.Opened.{IsGivenFor, HasBytes, LacksBytes};
+
+use crate::lines::{FileLine, ReceiptLine};
+use crate::pieces::read_file;
+use sigv4::Sha;
+use sqlite::{Alter, Error, ErrorCode, Transaction};
+use std::alloc::Global;
+use std::str;
+
+/// The receipt of the file, where the first has number 1 and none is missing.
+fn receipt_for<'a>(receipts: &'a [ReceiptLine], file: &FileLine) -> Option<&'a ReceiptLine>
+    ensures { IfSome result (λ given. IsGivenFor receipts.now file.now given.now) }
+{
+    let at = usize::try_from(file.receipt.checked_sub(1)?).ok()?;
+    let given = receipts.get(at)?;
+    if given.number == file.receipt {
+        Some(given)
+    } else {
+        None
+    }
+}
+
+/// Whether the bytes are of the digest that the receipt tells.
+fn have_digest(bytes: &[u8], given: &ReceiptLine) -> bool
+    ensures { IsTrue result ↔ sha256 bytes.now ≡ given.now.digest.items }
+{
+    let mut sha = Sha::new();
+    sha.update(bytes);
+    sha.finish().as_slice() == given.digest.as_slice()
+}
+
+/// Whether the file's pieces are bytes of the length and the digest that its receipt tells. A receipt that is not found
+/// is `DatabaseCorrupt`.
+fn has_bytes<S: Alter>(
+    tx: &mut Transaction<'_, S>,
+    alloc: Global,
+    receipts: &[ReceiptLine],
+    file: &FileLine,
+) -> Result<bool, Error>
+    ensures same_reference { tx.new.conn.ghost_name ≡ tx.old.conn.ghost_name }
+    ensures read { (v : Version) → IsVersion v → (IsTrue (state S.Store tx.old.conn.now).is_open → (state S.Store tx.old.conn.now).now.schema ≡ v.schema) → (IsTrue (state S.Store tx.old.conn.now).is_open → IsWhole (state S.Store tx.old.conn.now).now)
+        → IsTrue (state S.Store tx.old.conn.now).in_transaction → HasCleanDisk (state S.Store tx.new.conn.now) → IfOk result (λ has. MatchBool has (HasBytes ((state S.Store tx.old.conn.now).now.trees 9) receipts.now file.now) (LacksBytes ((state S.Store tx.old.conn.now).now.trees 9) receipts.now file.now)) }
+    ensures same { (v : Version) → IsVersion v → (IsTrue (state S.Store tx.old.conn.now).is_open → (state S.Store tx.old.conn.now).now.schema ≡ v.schema)
+        → IsTrue (state S.Store tx.old.conn.now).in_transaction → HasCleanDisk (state S.Store tx.new.conn.now) → OnOk result ((state S.Store tx.new.conn.now).now ≡ (state S.Store tx.old.conn.now).now) }
+    ensures running { HasCleanDisk (state S.Store tx.new.conn.now) → IsRunning (state S.Store tx.old.conn.now) → OnOk result (IsRunning (state S.Store tx.new.conn.now)) }
+    ensures uncommitted { HasCleanDisk (state S.Store tx.new.conn.now) → IsTrue (state S.Store tx.old.conn.now).in_transaction → KeepsCommit (state S.Store tx.old.conn.now) (state S.Store tx.new.conn.now) }
+    ensures survives { Survives (state S.Store tx.old.conn.now) (state S.Store tx.new.conn.now) (λ _. ⊥) }
+{
+    let Some(given) = receipt_for(receipts, file) else {
+        return Err(Error::SqliteFailure(ErrorCode::DatabaseCorrupt));
+    };
+    let (Ok(in_box), Ok(name)) = (str::from_utf8(&file.in_box), str::from_utf8(&file.name)) else {
+        return Err(Error::SqliteFailure(ErrorCode::DatabaseCorrupt));
+    };
+    let Ok(size) = u64::try_from(given.length) else {
+        return Err(Error::SqliteFailure(ErrorCode::DatabaseCorrupt));
+    };
+    let Some(bytes) = read_file(tx, alloc, in_box, name, size)? else {
+        return Ok(false);
+    };
+    Ok(have_digest(&bytes, given))
+}
+
+/// Whether each file's pieces are bytes of the length and the digest that its receipt tells. One file is read at a time.
+pub(crate) fn have_bytes<S: Alter>(
+    tx: &mut Transaction<'_, S>,
+    alloc: Global,
+    receipts: &[ReceiptLine],
+    files: &[FileLine],
+) -> Result<bool, Error>
+    ensures same_reference { tx.new.conn.ghost_name ≡ tx.old.conn.ghost_name }
+    ensures read { (v : Version) → IsVersion v → (IsTrue (state S.Store tx.old.conn.now).is_open → (state S.Store tx.old.conn.now).now.schema ≡ v.schema) → (IsTrue (state S.Store tx.old.conn.now).is_open → IsWhole (state S.Store tx.old.conn.now).now)
+        → IsTrue (state S.Store tx.old.conn.now).in_transaction → HasCleanDisk (state S.Store tx.new.conn.now) → IfOk result (λ have. MatchBool have
+        ((file : FileLine) → Contains files.now file → HasBytes ((state S.Store tx.old.conn.now).now.trees 9) receipts.now file)
+        ((file : FileLine) × Contains files.now file × LacksBytes ((state S.Store tx.old.conn.now).now.trees 9) receipts.now file)) }
+    ensures same { (v : Version) → IsVersion v → (IsTrue (state S.Store tx.old.conn.now).is_open → (state S.Store tx.old.conn.now).now.schema ≡ v.schema)
+        → IsTrue (state S.Store tx.old.conn.now).in_transaction → HasCleanDisk (state S.Store tx.new.conn.now) → OnOk result ((state S.Store tx.new.conn.now).now ≡ (state S.Store tx.old.conn.now).now) }
+    ensures running { HasCleanDisk (state S.Store tx.new.conn.now) → IsRunning (state S.Store tx.old.conn.now) → OnOk result (IsRunning (state S.Store tx.new.conn.now)) }
+    ensures uncommitted { HasCleanDisk (state S.Store tx.new.conn.now) → IsTrue (state S.Store tx.old.conn.now).in_transaction → KeepsCommit (state S.Store tx.old.conn.now) (state S.Store tx.new.conn.now) }
+    ensures survives { Survives (state S.Store tx.old.conn.now) (state S.Store tx.new.conn.now) (λ _. ⊥) }
+{
+    for file in files {
+        if !has_bytes(tx, alloc, receipts, file)? {
+            return Ok(false);
+        }
+    }
+    Ok(true)
+}
