@@ -55,3 +55,4 @@ pub mod BoxEntries
 pub mod SameTexts
 pub mod OfficeEntries
 pub mod Mapped
+pub mod PieceKeys
