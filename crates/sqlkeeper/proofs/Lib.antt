@@ -56,3 +56,4 @@ pub mod SameTexts
 pub mod OfficeEntries
 pub mod Mapped
 pub mod PieceKeys
+pub mod AcceptedTables
