@@ -57,3 +57,4 @@ pub mod OfficeEntries
 pub mod Mapped
 pub mod PieceKeys
 pub mod AcceptedTables
+pub mod MappedSums
