@@ -58,3 +58,4 @@ pub mod Mapped
 pub mod PieceKeys
 pub mod AcceptedTables
 pub mod MappedSums
+pub mod AcceptedFiles
