@@ -59,3 +59,4 @@ pub mod PieceKeys
 pub mod AcceptedTables
 pub mod MappedSums
 pub mod AcceptedFiles
+pub mod AcceptedOffice
