@@ -60,3 +60,4 @@ pub mod AcceptedTables
 pub mod MappedSums
 pub mod AcceptedFiles
 pub mod AcceptedOffice
+pub mod Accepting
