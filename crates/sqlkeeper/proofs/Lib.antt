@@ -56,3 +56,9 @@ pub mod SameTexts
 pub mod OfficeEntries
 pub mod Mapped
 pub mod AtRest
+pub mod PieceKeys
+pub mod AcceptedTables
+pub mod MappedSums
+pub mod AcceptedFiles
+pub mod AcceptedOffice
+pub mod Accepting
