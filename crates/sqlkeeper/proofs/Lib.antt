@@ -55,3 +55,6 @@ pub mod BoxEntries
 pub mod SameTexts
 pub mod OfficeEntries
 pub mod Mapped
+pub mod MappedSums
+pub mod Contained
+pub mod OutlineOf

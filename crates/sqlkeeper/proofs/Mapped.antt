@@ -1,5 +1,5 @@
 -- A finite map with each value replaced by one made of its key and itself.
-use Rattle.std.proofs.Common.{◌≡◌, Bool, true, false, List, [], ◌∷◌, map, Option, None, Some, option_map, refl, sym, ap, subst, ◌∙◌, T}
+use Rattle.std.proofs.Common.{◌≡◌, Bool, true, false, List, [], ◌∷◌, map, Some, option_map, refl, sym, ap, subst, ◌∙◌, T}
 use Rattle.std.specs.declared.cmp.Ordering.{Ordering}
 use Rattle.std.specs.declared.cmp.Ordering.TheVariants.{Less, Equal, Greater}
 use Rattle.std.specs.Prelude.{cond, ◌&&◌}
@@ -33,11 +33,12 @@ module _ {K V W : Type 0} (R : K → K → Ordering) (f : K → V → W) where
 
   find_mapped : IsAntisymmetric R → (q : K) (es : List (K × V)) → find R q (with_values es) ≡ option_map (f q) (find R q es)
   find_mapped same q [] = refl
-  find_mapped same q (e ∷ es) = go (eq_by_cmp R q e.0) refl
+  find_mapped same q (e ∷ es) = go (eq_by_cmp R q e.0) refl (find_mapped same q es)
     where
-      go : (b : Bool) → eq_by_cmp R q e.0 ≡ b → cond b (Some (f e.0 e.1)) (find R q (with_values es)) ≡ option_map (f q) (cond b (Some e.1) (find R q es))
-      go true is = ap (λ k. Some (f k e.1)) (sym (same q e.0 (is_equal (R q e.0) is)))
-      go false is = find_mapped same q es
+      go : (b : Bool) → eq_by_cmp R q e.0 ≡ b → find R q (with_values es) ≡ option_map (f q) (find R q es)
+          → cond b (Some (f e.0 e.1)) (find R q (with_values es)) ≡ option_map (f q) (cond b (Some e.1) (find R q es))
+      go true is later = ap (λ k. Some (f k e.1)) (sym (same q e.0 (is_equal (R q e.0) is)))
+      go false is later = later
 
   pub get_mapped : IsAntisymmetric R → (m : FinMap R V) (q : K) → get (mapped m) q ≡ option_map (f q) (get m q)
   get_mapped same m q = get-entries (mapped m) q ∙ ap (find R q) (entries_mapped m) ∙ find_mapped same q (entries m) ∙ ap (option_map (f q)) (sym (get-entries m q))
