@@ -58,3 +58,4 @@ pub mod Mapped
 pub mod MappedSums
 pub mod Contained
 pub mod OutlineOf
+pub mod Refusing
