@@ -27,7 +27,7 @@ last_piece bytes more at ends some short =
     let long : nat_lt (65536 * at) (length (bytes ++ more)) ≡ true = lt-ltb (65536 * at) (length (bytes ++ more)) (let e = length-append bytes more in omega (arith, ends, some, e)) in
     rw long (ap (λ l. Some (take 65536 l)) (ap (λ n. drop n (bytes ++ more)) (sym ends) ∙ drop-append_seam bytes more) ∙ ap Some (take_all 65536 more short))
 
-no_piece : (bytes : List ℕ) (at : ℕ) → length bytes ≤ 65536 * at → piece_of bytes at ≡ None
+pub no_piece : (bytes : List ℕ) (at : ℕ) → length bytes ≤ 65536 * at → piece_of bytes at ≡ None
 no_piece bytes at all = elim (cases_Bool (nat_lt (65536 * at) (length bytes))) [
   | inl within ↦ absurd (let e = ltb-true (65536 * at) (length bytes) within in omega (arith, e, all))
   | inr beyond ↦ rw beyond

@@ -62,3 +62,5 @@ pub mod MappedSums
 pub mod AcceptedFiles
 pub mod AcceptedOffice
 pub mod Accepting
+pub mod OutlineOf
+pub mod Refusing
