@@ -64,3 +64,5 @@ pub mod AcceptedOffice
 pub mod Accepting
 pub mod OutlineOf
 pub mod Refusing
+pub mod Extents
+pub mod StillReads

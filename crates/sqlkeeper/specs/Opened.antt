@@ -58,15 +58,17 @@ pub record IsTableAt (tables : List Table) (at : ℕ) (name : List ℕ) (columns
   pub name_is : table.name ≡ name
   pub columns_are : length table.columns ≡ columns
 
--- an office's tables, by their names
-pub record AreNamed (tables : List Table) : Type 0 where
-  pub six : length tables ≡ 6
-  pub office : IsTableAt tables 0 (codes "office") 3
-  pub keys : IsTableAt tables 1 (codes "keys") 4
-  pub boxes : IsTableAt tables 2 (codes "boxes") 13
-  pub receipts : IsTableAt tables 3 (codes "receipts") 7
-  pub files : IsTableAt tables 4 (codes "files") 3
-  pub pieces : IsTableAt tables 5 (codes "pieces") 4
+-- an office's tables, by their names, with the indexes of their keys
+pub record AreNamed (schema : Schema) : Type 0 where
+  pub six : length schema.tables ≡ 6
+  pub office : IsTableAt schema.tables 0 (codes "office") 3
+  pub keys : IsTableAt schema.tables 1 (codes "keys") 4
+  pub boxes : IsTableAt schema.tables 2 (codes "boxes") 13
+  pub receipts : IsTableAt schema.tables 3 (codes "receipts") 7
+  pub files : IsTableAt schema.tables 4 (codes "files") 3
+  pub pieces : IsTableAt schema.tables 5 (codes "pieces") 4
+  pub indexes : length schema.indexes ≡ 5
+  pub views : schema.views ≡ []
 
 abbrev pub IsExtent : Extent → Schema → Type 0
 IsExtent Nothing schema = schema ≡ s0

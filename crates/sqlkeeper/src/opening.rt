@@ -6,6 +6,7 @@ ghost use Rattle.sqlite_rules.specs.Lists.{Has};
 ghost use Rattle.sqlite.specs.State.{HasCleanDisk, KeepsCommit, Survives};
 ghost use Rattle.sqlite.specs.Held.{state};
 ghost use Rattle.boxes.specs.State.{State as Office};
+ghost use Rattle.sqlkeeper.specs.declared.lines.OfficeLine.{OfficeLine};
 ghost use Rattle.sqlkeeper.specs.Schema.{Version, IsVersion, begun_schemas};
 ghost use Rattle.sqlkeeper.specs.Means.{IsWhole, IsRunning};
 ghost use Rattle.sqlkeeper.specs.Lines.{AreLines, HaveRowids, IsOfficeLine};
@@ -51,10 +52,12 @@ fn is_table(tables: &[Table], at: usize, name: &str, columns: usize) -> bool
     table.name.as_slice() == name.as_bytes() && table.columns.len() == columns
 }
 
-/// Whether these are an office's tables, by their names and the number of their columns.
-fn are_named(tables: &[Table]) -> bool
-    ensures { IsTrue result ↔ AreNamed tables.now }
+/// Whether these are an office's tables, by their names and the number of their columns, with the indexes of their keys
+/// and no others.
+fn are_named(schema: &Schema) -> bool
+    ensures { IsTrue result ↔ AreNamed schema.now }
 {
+    let tables = schema.tables.as_slice();
     tables.len() == 6
         && is_table(tables, 0, "office", 3)
         && is_table(tables, 1, "keys", 4)
@@ -62,29 +65,44 @@ fn are_named(tables: &[Table]) -> bool
         && is_table(tables, 3, "receipts", 7)
         && is_table(tables, 4, "files", 3)
         && is_table(tables, 5, "pieces", 4)
+        && schema.indexes.len() == 5
+        && schema.views.is_empty()
 }
 
 /// How many of an office's tables a database has.
 fn extent_of(schema: &Schema) -> Extent
     ensures { IsOurs schema.now → IsExtent result schema.now }
 {
-    let tables = schema.tables.as_slice();
-    if !is_table(tables, 0, "office", 3) {
-        return Extent::Nothing;
+    if !is_table(schema.tables.as_slice(), 0, "office", 3) {
+        Extent::Nothing
+    } else if are_named(schema) {
+        Extent::Whole
+    } else {
+        Extent::Begun
     }
-    if are_named(tables) && schema.indexes.is_empty() && schema.views.is_empty() {
-        return Extent::Whole;
-    }
-    Extent::Begun
 }
 
-/// The version that the office's one row says.
+/// Whether each line is of this version.
+fn are_of_version(lines: &[OfficeLine], version: i64) -> bool
+    ensures { IsTrue result ↔ ((line : OfficeLine) → Contains lines.now line → line.version ≡ version) }
+{
+    for line in lines {
+        if line.version != version {
+            return false;
+        }
+    }
+    true
+}
+
+/// The version that the row of the office says.
 fn version_of(lines: &[OfficeLine]) -> Option<i64>
     ensures { MatchOption result ((version : ℤ) → AreOfVersion lines.now version → ⊥) (AreOfVersion lines.now) }
 {
-    match lines {
-        [line] => Some(line.version),
-        _ => None,
+    let version = lines.first()?.version;
+    if are_of_version(lines, version) {
+        Some(version)
+    } else {
+        None
     }
 }
 

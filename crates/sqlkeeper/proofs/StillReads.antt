@@ -1,0 +1,23 @@
+-- A transaction that goes on, and sees what it saw at first.
+use Rattle.std.proofs.Common.{◌≡◌, IsTrue, refl, sym, ap, subst, ◌∙◌}
+use Rattle.sqlite.specs.Effect.{Database}
+use Rattle.sqlite.specs.State.{State, KeepsCommit}
+use Rattle.sqlkeeper.specs.Schema.{Version}
+use Rattle.sqlkeeper.specs.Means.{IsWhole, IsRunning}
+
+pub record StillReads (v : Version) (entry now : State) : Type 0 where
+  pub schema : IsTrue now.is_open → now.now.schema ≡ v.schema
+  pub whole : IsTrue now.is_open → IsWhole now.now
+  pub inside : IsTrue now.in_transaction
+  pub same : now.now ≡ entry.now
+
+pub begins : (v : Version) (s : State) → (IsTrue s.is_open → s.now.schema ≡ v.schema) → (IsTrue s.is_open → IsWhole s.now) → IsTrue s.in_transaction → StillReads v s s
+begins v s schema whole inside = record { schema = schema; whole = whole; inside = inside; same = refl }
+
+pub goes_on : (v : Version) (entry mid now : State) → StillReads v entry mid → now.now ≡ mid.now → IsRunning now → KeepsCommit mid now → StillReads v entry now
+goes_on v entry mid now still same running keeps = record {
+  schema = λ is_open. ap (λ (d : Database). d.schema) same ∙ still.schema (keeps.was_open is_open);
+  whole = λ is_open. subst IsWhole (sym same) (still.whole (keeps.was_open is_open));
+  inside = running.0;
+  same = same ∙ still.same;
+}
