@@ -66,3 +66,4 @@ pub mod OutlineOf
 pub mod Refusing
 pub mod Extents
 pub mod StillReads
+pub mod Digested

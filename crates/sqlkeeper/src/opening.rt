@@ -42,6 +42,9 @@ pub(crate) enum Extent {
     Whole,
 }
 
+// The version of the tables.
+const VERSION: i64 = 1;
+
 /// Whether the table in this place has this name and so many columns.
 fn is_table(tables: &[Table], at: usize, name: &str, columns: usize) -> bool
     ensures { IsTrue result ↔ IsTableAt tables.now at name.now columns }
@@ -82,25 +85,32 @@ fn extent_of(schema: &Schema) -> Extent
     }
 }
 
-/// Whether each line is of this version.
-fn are_of_version(lines: &[OfficeLine], version: i64) -> bool
-    ensures { IsTrue result ↔ ((line : OfficeLine) → Contains lines.now line → line.version ≡ version) }
+/// Whether the line is of the version of the other.
+fn is_of_version(line: &OfficeLine, first: &OfficeLine) -> bool
+    ensures { IsTrue result ↔ line.now.version ≡ first.now.version }
+{
+    line.version == first.version
+}
+
+/// Whether each line is of the version of this one.
+fn are_of_version(lines: &[OfficeLine], first: &OfficeLine) -> bool
+    ensures { IsTrue result ↔ ((line : OfficeLine) → Contains lines.now line → line.version ≡ first.now.version) }
 {
     for line in lines {
-        if line.version != version {
+        if !is_of_version(line, first) {
             return false;
         }
     }
     true
 }
 
-/// The version that the row of the office says.
-fn version_of(lines: &[OfficeLine]) -> Option<i64>
-    ensures { MatchOption result ((version : ℤ) → AreOfVersion lines.now version → ⊥) (AreOfVersion lines.now) }
+/// The row of the office, by whose version all go.
+fn versioned(lines: &[OfficeLine]) -> Option<&OfficeLine>
+    ensures { MatchOption result ((version : ℤ) → AreOfVersion lines.now version → ⊥) (λ line. AreOfVersion lines.now line.now.version) }
 {
-    let version = lines.first()?.version;
-    if are_of_version(lines, version) {
-        Some(version)
+    let first = lines.first()?;
+    if are_of_version(lines, first) {
+        Some(first)
     } else {
         None
     }
@@ -120,11 +130,11 @@ fn is_sound<S: Alter>(
 ) -> Result<bool, Error>
     ensures same_reference { tx.new.conn.ghost_name ≡ tx.old.conn.ghost_name }
     ensures found { (v : Version) → IsVersion v → (IsTrue (state S.Store tx.old.conn.now).is_open → (state S.Store tx.old.conn.now).now.schema ≡ v.schema) → (IsTrue (state S.Store tx.old.conn.now).is_open → IsWhole (state S.Store tx.old.conn.now).now)
-        → IsTrue (state S.Store tx.old.conn.now).in_transaction → HasCleanDisk (state S.Store tx.new.conn.now) → AreLines IsOfficeLine ((state S.Store tx.old.conn.now).now.trees 0) office.now → HaveRowids ((state S.Store tx.old.conn.now).now.trees 0)
+        → IsRunning (state S.Store tx.old.conn.now) → HasCleanDisk (state S.Store tx.new.conn.now) → AreLines IsOfficeLine ((state S.Store tx.old.conn.now).now.trees 0) office.now → HaveRowids ((state S.Store tx.old.conn.now).now.trees 0)
         → AreOfVersion office.now (pos 1) → AreTables (state S.Store tx.old.conn.now).now listed.now
         → IfOk result (λ sound. MatchBool sound ((office : Office) × AreOffice (state S.Store tx.old.conn.now).now office) ((office : Office) → AreOffice (state S.Store tx.old.conn.now).now office → ⊥)) }
     ensures running { HasCleanDisk (state S.Store tx.new.conn.now) → IsRunning (state S.Store tx.old.conn.now) → OnOk result (IsRunning (state S.Store tx.new.conn.now)) }
-    ensures uncommitted { HasCleanDisk (state S.Store tx.new.conn.now) → IsTrue (state S.Store tx.old.conn.now).in_transaction → KeepsCommit (state S.Store tx.old.conn.now) (state S.Store tx.new.conn.now) }
+    ensures uncommitted { HasCleanDisk (state S.Store tx.new.conn.now) → IsRunning (state S.Store tx.old.conn.now) → KeepsCommit (state S.Store tx.old.conn.now) (state S.Store tx.new.conn.now) }
     ensures survives { Survives (state S.Store tx.old.conn.now) (state S.Store tx.new.conn.now) (λ _. ⊥) }
 {
     let lines = Lines {
@@ -155,10 +165,11 @@ fn look<S: Alter>(
     ensures survives { Survives (state S.Store tx.old.conn.now) (state S.Store tx.new.conn.now) (λ _. ⊥) }
 {
     let office = list_office(tx)?;
-    match version_of(&office) {
-        None => return Ok(Finding::Damaged),
-        Some(1) => {}
-        Some(_) => return Ok(Finding::OtherVersion),
+    let Some(line) = versioned(&office) else {
+        return Ok(Finding::Damaged);
+    };
+    if line.version != VERSION {
+        return Ok(Finding::OtherVersion);
     }
     if extent != Extent::Whole {
         return Ok(Finding::Damaged);
