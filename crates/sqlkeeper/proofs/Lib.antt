@@ -67,3 +67,4 @@ pub mod Refusing
 pub mod Extents
 pub mod StillReads
 pub mod Digested
+pub mod Tested

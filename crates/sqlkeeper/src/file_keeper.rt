@@ -160,20 +160,20 @@ impl<S: Alter> SqlKeeper<S> {
     ) -> Result<SqlKeeper<S>, (OpenFault, Connection<S>)>
         ensures accepts { HasOurs (state S.Store conn) → IfOk result (λ k. ⟦<SqlKeeper<S> as Keeper>⟧.is_honest k → (s : State) × ⟦<SqlKeeper<S> as Keeper>⟧.means k s) }
         ensures means { (s : State) → KeepsState (state S.Store conn) s → IfOk result (λ k. ⟦<SqlKeeper<S> as Keeper>⟧.means k s) }
-        ensures same { IfOk result (λ k. OnlyLooks (state S.Store conn) (state S.Store k.conn)) }
+        ensures same { HasOurs (state S.Store conn) → IfOk result (λ k. OnlyLooks (state S.Store conn) (state S.Store k.conn)) }
         ensures honest { IfOk result (λ k. HasCleanDisk (state S.Store k.conn) → ⟦<SqlKeeper<S> as Keeper>⟧.is_honest k) }
         ensures opened { IfOk result (λ k. ⟦<SqlKeeper<S> as Keeper>⟧.is_honest k → ⟦<SqlKeeper<S> as Keeper>⟧.is_open k) }
         ensures none { IfOk result (λ k. ⟦<SqlKeeper<S> as Keeper>⟧.faults k ≡ 0) }
         ensures durable { IfOk result (λ k. ⟦<SqlKeeper<S> as Keeper>⟧.is_honest k → (s : State) → ⟦<SqlKeeper<S> as Keeper>⟧.means k s
             → LeavesAlone ⟦<SqlKeeper<S> as Keeper>⟧.leaves ⟦<SqlKeeper<S> as Keeper>⟧.leaves_whole k s) }
-        ensures crash { IfOk result (λ k. AddsNothing (state S.Store conn) (state S.Store k.conn)) }
+        ensures crash { HasOurs (state S.Store conn) → IfOk result (λ k. AddsNothing (state S.Store conn) (state S.Store k.conn)) }
         ensures version { HasOurs (state S.Store conn) → IfErr result (λ e. e.0 ≡ OpenFault.Version
             → HasCleanDisk (state S.Store e.1) → IsTrue (state S.Store conn).is_open → IsFound Finding.OtherVersion (state S.Store conn).now) }
         ensures shape { HasOurs (state S.Store conn) → IfErr result (λ e. e.0 ≡ OpenFault.Shape
             → HasCleanDisk (state S.Store e.1) → IsTrue (state S.Store conn).is_open → IsFound Finding.Damaged (state S.Store conn).now) }
         ensures told { IfErr result (λ e. e.0 ≢ OpenFault.Exists) }
-        ensures kept { IfErr result (λ e. OnlyLooks (state S.Store conn) (state S.Store e.1)) }
-        ensures unharmed { IfErr result (λ e. AddsNothing (state S.Store conn) (state S.Store e.1)) }
+        ensures kept { HasOurs (state S.Store conn) → IfErr result (λ e. OnlyLooks (state S.Store conn) (state S.Store e.1)) }
+        ensures unharmed { HasOurs (state S.Store conn) → IfErr result (λ e. AddsNothing (state S.Store conn) (state S.Store e.1)) }
     {
         match find(&mut conn, alloc) {
             Ok(Finding::Sound) => Ok(SqlKeeper {
