@@ -68,3 +68,4 @@ pub mod Extents
 pub mod StillReads
 pub mod Digested
 pub mod Tested
+pub mod Looking

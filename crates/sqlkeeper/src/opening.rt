@@ -229,8 +229,9 @@ pub(crate) fn find<S: Alter>(conn: &mut Connection<S>, alloc: Global) -> Result<
     }
     let mut tx = conn.transaction();
     let finding = look(&mut tx, alloc, extent)?;
-    if finding == Finding::Sound {
-        tx.commit()?;
+    if finding != Finding::Sound {
+        return Ok(finding);
     }
-    Ok(finding)
+    tx.commit()?;
+    Ok(Finding::Sound)
 }
