@@ -1,14 +1,17 @@
 -- Which steps the bytes may show that await more, and those that announce a body.
-use Rattle.std.proofs.Common.{◌≡◌, ◌≢◌, ◌<◌, ◌≤◌, ℕ, Bool, List, [], ◌++◌, length, arith, lit<, sym, ap, subst, refl, length-append, true, codes}
+use Rattle.std.proofs.Common.{◌≡◌, ◌≢◌, ◌<◌, ◌≤◌, ℕ, Bool, List, [], ◌++◌, length, arith, lit<, sym, ap, subst, refl, length-append, append_assoc, ◌∙◌, replicate, true, codes}
+use Rattle.std.proofs.lemmas.List.{append-nil, length-replicate}
 use Rattle.httparse.specs.Grammar.{RequestHead, ReadsRequest}
 use Rattle.httparse.proofs.GrammarLemmas.{request_unique}
+use Rattle.sigtext.specs.declared.refusal.Refusal.{Refusal}
 use Rattle.sigtext.specs.declared.refusal.Refusal.TheVariants as rule
 use Rattle.sigtext.specs.SignedHeaders.{named}
 use Rattle.std.specs.Prelude.{⊤}
 use Rattle.wire.specs.Framing.{Announces, IsFront, IsHead, headers_of, HasHead, Next, Step, Message, Refused, Ended, Truncated}
 use Rattle.wire.specs.Framing as next
-use Rattle.wire.specs.Feeding.{AnnouncesBody, Awaits, a_head, a_body}
+use Rattle.wire.specs.Feeding.{AnnouncesBody, Awaits, AwaitsHead, a_head, a_body}
 use Rattle.wire.proofs.Fronts.{same_front, same_length, same_rest}
+use Rattle.wire.proofs.FramingEdges.{incomplete_lacks}
 use Rattle.wire.proofs.Heads.{no_end_in_nothing}
 use Rattle.wire.proofs.WaitingFronts.{front_further, has_head, no_front_short}
 
@@ -73,3 +76,31 @@ awaited bytes _ _ (a_head h) (next.no_length front rest head f is_head uncoded n
 awaited bytes _ _ (a_head h) (next.too_large head n rest k large) = absurd (h.1 k.front rest k.is_front)
 awaited bytes _ _ (a_head h) (next.incomplete head n rest k small few) = refl
 awaited bytes _ _ (a_head h) (next.whole head b n body rest k small size) = h.1 k.front (body ++ rest) k.is_front
+
+-- no refusal is told of all streams that begin with these bytes
+pub undecided : (bytes : List ℕ) (q : Refusal) → Awaits bytes → ((more : List ℕ) → Next (bytes ++ more) (Refused q) []) → ⊥
+undecided bytes q (a_head h) all = no_refusal bytes q h (subst (λ (t : List ℕ). Next t (Refused q) []) (append-nil bytes) (all []))
+  where
+    no_refusal : (bytes : List ℕ) (q : Refusal) → AwaitsHead bytes → Next bytes (Refused q) [] → ⊥
+    no_refusal bytes _ h (next.too_long long none) = omega (arith, long, h.0)
+    no_refusal bytes _ h (next.malformed front rest f none) = h.1 front rest f
+    no_refusal bytes _ h (next.coded front rest head f is_head coded) = h.1 front rest f
+    no_refusal bytes _ h (next.no_length front rest head f is_head uncoded none) = h.1 front rest f
+    no_refusal bytes _ h (next.too_large head n rest k large) = h.1 k.front rest k.is_front
+    no_refusal bytes _ h (next.incomplete head n rest k small few) = h.1 k.front rest k.is_front
+undecided bytes q (a_body a few) all =
+    let more = replicate a.size 0 in
+    let grown : AnnouncesBody (bytes ++ more) = record {
+      text = a.text;
+      given = a.given ++ more;
+      has_length = a.has_length;
+      size = a.size;
+      whole = ap (λ (t : List ℕ). t ++ more) a.whole ∙ append_assoc a.text a.given more;
+      opens = a.opens;
+      some = a.some;
+    } in
+    let step = all more in
+    let lacks = incomplete_lacks (bytes ++ more) [] (subst (λ (r : Refusal). Next (bytes ++ more) (Refused r) []) (announced (bytes ++ more) [] (Refused q) grown step) step) in
+    let sizes = same_length (bytes ++ more) a.opens.head lacks.0 a.has_length true a.size lacks.1 (a.given ++ more) lacks.2 (has_of (bytes ++ more) grown) lacks.3 in
+    let rests = same_rest (bytes ++ more) a.text (a.given ++ more) lacks.3.front lacks.2 (front_of (bytes ++ more) grown) lacks.3.is_front in
+    omega (arith, sizes, ap length rests, length-append a.given more, length-replicate {A = ℕ} a.size 0, lacks.4)
