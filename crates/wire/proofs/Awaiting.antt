@@ -1,5 +1,5 @@
 -- Which steps the bytes may show that await more, and those that announce a body.
-use Rattle.std.proofs.Common.{◌≡◌, ◌≢◌, ◌<◌, ◌≤◌, ℕ, Bool, List, [], ◌++◌, length, arith, lit<, sym, ap, subst, refl, length-append, append_assoc, ◌∙◌, replicate, true, codes}
+use Rattle.std.proofs.Common.{◌≡◌, ◌≢◌, ◌<◌, ℕ, List, [], ◌++◌, length, arith, lit<, sym, ap, subst, refl, length-append, append_assoc, ◌∙◌, replicate, true, codes}
 use Rattle.std.proofs.lemmas.List.{append-nil, length-replicate}
 use Rattle.httparse.specs.Grammar.{RequestHead, ReadsRequest}
 use Rattle.httparse.proofs.GrammarLemmas.{request_unique}
