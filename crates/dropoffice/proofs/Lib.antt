@@ -17,3 +17,4 @@ pub mod Forming
 pub mod Placing
 pub mod Replies
 pub mod SessionSteps
+pub mod SessionEdges
