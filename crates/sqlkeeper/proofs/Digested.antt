@@ -1,5 +1,5 @@
 -- What the bytes that were read tell of a file.
-use Rattle.std.proofs.Common.{◌≡◌, ◌≢◌, ◌<◌, ◌+◌, inl, inr, Bool, true, false, IsTrue, length, ℤ, pos, List, [], ◌∷◌, ℕ, suc, take, get_or, Fits, w8, arith, refl, sym, ap, subst, ◌∙◌}
+use Rattle.std.proofs.Common.{◌≡◌, ◌<◌, ◌+◌, inl, inr, Bool, true, false, IsTrue, length, pos, List, [], ℕ, take, get_or, Fits, w8, arith, refl, sym, ap, subst, ◌∙◌}
 use Rattle.std.specs.Prelude.{MatchBool, Contains}
 use Rattle.std.proofs.lemmas.List.Elements.{All-from_get_or, recursion_from_All}
 use Rattle.sqlite.specs.State.{State, HasCleanDisk, KeepsCommit, Survives}

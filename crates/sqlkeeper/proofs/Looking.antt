@@ -1,9 +1,9 @@
 -- A file that was only looked at, in a transaction that commits nothing new.
-use Rattle.std.proofs.Common.{◌≡◌, ◌⊎◌, inl, inr, Bool, true, false, IsTrue, arith, refl, sym, ap, subst, ◌∙◌}
+use Rattle.std.proofs.Common.{◌≡◌, inl, inr, false, IsTrue, arith, refl, sym, ap, subst, ◌∙◌}
 use Rattle.sqlite_trees.specs.Tree.{Trees}
 use Rattle.sqlite_rules.specs.Lists.{Has}
 use Rattle.sqlite.specs.Effect.{Database}
-use Rattle.sqlite.specs.State.{State, HasCleanDisk, IsLive, Shows, KeepsCommit, Survives}
+use Rattle.sqlite.specs.State.{State, IsLive, Shows, KeepsCommit, Survives}
 use Rattle.sqlkeeper.specs.Schema.{begun_schemas}
 use Rattle.sqlkeeper.specs.Means.{IsWhole, IsRunning, AddsNothing}
 use Rattle.sqlkeeper.specs.declared.opening.Extent.{Extent}

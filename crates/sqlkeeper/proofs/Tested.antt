@@ -1,14 +1,14 @@
 -- What the tests of a file tell of its database.
-use Rattle.std.proofs.Common.{◌≡◌, ◌≢◌, ◌<◌, inl, inr, Bool, true, false, IsTrue, length, ℤ, pos, List, [], ◌∷◌, ℕ, arith, refl, sym, ap, subst, ◌∙◌}
+use Rattle.std.proofs.Common.{◌≡◌, ◌≢◌, ◌<◌, inl, inr, Bool, true, false, length, ℤ, pos, List, [], ◌∷◌, arith, refl, sym, ap, subst, ◌∙◌}
 use Rattle.std.specs.Prelude.{MatchBool, Contains}
 use Rattle.sqlite_value.specs.declared.value.Value.TheVariants.{Int}
-use Rattle.sqlite_value.specs.Order.{Row, column}
+use Rattle.sqlite_value.specs.Order.{Row}
 use Rattle.sqlite_rules.specs.Lists.{Has}
 use Rattle.sqlite_rules.proofs.ListLemmas.{has_contained, contains_had}
 use Rattle.sqlite_schema.specs.declared.schema.Schema.{Schema}
 use Rattle.sqlite.specs.Effect.{Database}
 use Rattle.boxes.specs.State.{State as Office}
-use Rattle.sqlkeeper.specs.Schema.{v1, s0, s6, begun_schemas}
+use Rattle.sqlkeeper.specs.Schema.{s0, s6, begun_schemas}
 use Rattle.sqlkeeper.specs.Means.{IsWhole}
 use Rattle.sqlkeeper.specs.Lines.{AreLines, HaveRowids, IsOfficeLine, IsKeyLine, IsBoxLine, IsReceiptLine, IsFileLine, IsPieceLine}
 use Rattle.sqlkeeper.specs.Outlines.{AreSoundLines}

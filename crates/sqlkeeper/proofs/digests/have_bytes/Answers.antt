@@ -1,14 +1,11 @@
-use Rattle.std.proofs.Common.{◌≡◌, Bool, true, false, refl, sym, subst, ◌∙◌}
+use Rattle.std.proofs.Common.{refl, sym, subst, ◌∙◌}
 use Rattle.std.specs.Prelude.{MatchBool, Contains}
 use Rattle.std.proofs.lemmas.List.{take_all}
-use Rattle.sqlite.specs.State.{State}
 use Rattle.sqlite.specs.Held.{state}
-use Rattle.sqlkeeper.specs.Schema.{Version, IsVersion}
 use Rattle.sqlkeeper.specs.Opened.{HasBytes, LacksBytes}
 use Rattle.sqlkeeper.proofs.Entries.{has_at}
 use Rattle.sqlkeeper.proofs.Gathering.{OpensOurs}
-use Rattle.sqlkeeper.proofs.Digested.{Looked, LooksOn, none_looked, looked_on, one_more}
-use Rattle.sqlkeeper.proofs.digests.have_bytes.Given as given
+use Rattle.sqlkeeper.proofs.Digested.{LooksOn, none_looked, looked_on, one_more}
 use Rattle.sqlkeeper.proofs.digests.have_bytes.Goals as goal
 
 pub loop-file-init : goal.loop-file-init
@@ -25,8 +22,7 @@ loop-file-preserved g c =
       running = c.in_ok-has_bytes.ensures.running;
       uncommitted = c.has_bytes.ensures.uncommitted;
       survives = c.has_bytes.ensures.survives;
-    } in
-    (
+    } in (
       c.has_bytes.ensures.same_reference ∙ c.loop-file.invariant.0,
       one_more entry mid now c.args.receipts.now c.args.files.now c.loop-file.file-index c.file-item.result c.in_ok-has_bytes.field-0 c.loop-file.invariant.1 next c.if-not-branch.false c.loop-file-test.true (sym c.file-item.is),
     )
@@ -45,8 +41,7 @@ returns-then-not-branch-clause-read g c v ours has whole running clean =
       survives = c.has_bytes.ensures.survives;
     } in
     let first : OpensOurs v entry = record { version = ours; schema = has; inside = running.0 } in
-    let told = looked_on entry mid now c.args.receipts.now c.args.files.now c.loop-file.file-index c.file-item.result c.in_ok-has_bytes.field-0 c.loop-file.invariant.1 next v first running clean whole in
-    (
+    let told = looked_on entry mid now c.args.receipts.now c.args.files.now c.loop-file.file-index c.file-item.result c.in_ok-has_bytes.field-0 c.loop-file.invariant.1 next v first running clean whole in (
       c.file-item.result,
       has_at c.args.files.now c.loop-file.file-index c.file-item.result c.loop-file-test.true (sym c.file-item.is),
       subst (λ b. MatchBool b (HasBytes rows c.args.receipts.now c.file-item.result) (LacksBytes rows c.args.receipts.now c.file-item.result)) c.if-not-branch.true told,

@@ -20,7 +20,7 @@ returns-clause-found g c v ours has whole running clean lines rowids of =
     let back : entry.now ≡ mid.now = sym still.same in
     let tables = subst (λ d. AreTables d c.in_ok-listed.listed) back (c.in_ok-listed.ensures.listed v ours has whole running.0 early) in
     let sound = c.in_ok-sound.ensures.found v ours still.schema (whole_still v entry mid still whole) on clean (subst (λ (d : Database). AreLines IsOfficeLine (d.trees 0) c.args.office.now) back lines)
-        (subst (λ (d : Database). HaveRowids (d.trees 0)) back rowids) of tables in
+    (subst (λ (d : Database). HaveRowids (d.trees 0)) back rowids) of tables in
     found_of entry.now c.finding_of.result c.in_ok-sound.sound c.finding_of.ensures (damaged entry.now c.args.office.now lines of)
     (subst (λ d. MatchBool c.in_ok-sound.sound ((o : Office) × AreOffice d o) ((o : Office) → AreOffice d o → ⊥)) still.same sound)
 

@@ -1,4 +1,4 @@
-use Rattle.std.proofs.Common.{◌≡◌, Some, slice_get, length, rules, arith, sym, ap, ◌∙◌}
+use Rattle.std.proofs.Common.{◌≡◌, Some, slice_get, rules, arith, sym, ◌∙◌}
 use Rattle.std.specs.Prelude.{Contains}
 use Rattle.sqlkeeper.specs.declared.lines.OfficeLine.{OfficeLine}
 use Rattle.sqlkeeper.proofs.OfficeEntries.{first_there}

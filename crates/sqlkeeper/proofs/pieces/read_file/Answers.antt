@@ -37,5 +37,5 @@ returns-in_default-clause-read g c v ours has whole inside clean =
     let early : HasCleanDisk mid = omega (arith, clean, c.read_piece.ensures.survives.clean) in
     let now = ours_at entry mid place c.args.size bytes c.loop-tx.part c.loop-tx.invariant.1 v first early in
     let none = subst (IsPieceAt (mid.now.trees 9) place c.loop-tx.part) c.in_default.is
-        (c.in_ok-piece.ensures.read v now.version now.schema (whole_at entry mid place c.args.size bytes c.loop-tx.part c.loop-tx.invariant.1 v first early whole) now.inside clean) in
+    (c.in_ok-piece.ensures.read v now.version now.schema (whole_at entry mid place c.args.size bytes c.loop-tx.part c.loop-tx.invariant.1 v first early whole) now.inside clean) in
     no_bytes entry mid place c.args.size bytes c.loop-tx.part c.loop-tx.invariant.1 v first early (search rules) none

@@ -2,8 +2,6 @@ use Rattle.std.proofs.Common.{◌≡◌, Some, slice_get, sym, ap, ◌∙◌}
 use Rattle.sqlite_rules.proofs.ListLemmas.{has_got}
 use Rattle.sqlite.specs.Held.{state}
 use Rattle.boxes.specs.State.{Place}
-use Rattle.sqlkeeper.specs.Means.{IsRunning}
-use Rattle.sqlkeeper.specs.Lines.{HasPiece}
 use Rattle.sqlkeeper.proofs.Runs.{query_keeps}
 use Rattle.sqlkeeper.proofs.Ours.{asks_of}
 use Rattle.sqlkeeper.proofs.Texts.{select_piece, select_piece_command, select_piece_is}

@@ -1,4 +1,4 @@
-use Rattle.std.proofs.Common.{◌≡◌, IsTrue, subst}
+use Rattle.std.proofs.Common.{IsTrue, subst}
 use Rattle.sqlite.specs.Held.{state}
 use Rattle.sqlkeeper.specs.Opened.{IsFound}
 use Rattle.sqlkeeper.proofs.AtRest.{keeps_found, keeps_same, leaves_kept}
