@@ -4,6 +4,7 @@ pub mod Handlings
 pub mod ToldMoments
 pub mod ReplayLemmas
 pub mod RunSoFar
+pub mod Defaulted
 pub mod FaultFree
 pub mod FullRows
 pub mod TaskExamples
