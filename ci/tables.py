@@ -30,6 +30,7 @@ def opened(file, *, unchecked=False):
 def dump(file):
     """All that the tables hold, and how they were made."""
     with opened(file) as db:
+        db.text_factory = lambda text: text.decode(errors="surrogateescape")
         return list(db.iterdump())
 
 
