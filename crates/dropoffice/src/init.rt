@@ -98,7 +98,13 @@ fn create_over<S: Alter + Drop>(
     office: OfficeRow,
     words: &Init<'_>,
 ) -> Result<Connection<S>, Fault<'static>> {
-    match SqlKeeper::create(alloc, conn, office, words.clerk.as_bytes(), words.secret.as_bytes()) {
+    match SqlKeeper::create(
+        alloc,
+        conn,
+        office,
+        words.clerk.as_bytes(),
+        words.secret.as_bytes(),
+    ) {
         Ok(keeper) => Ok(keeper.close()),
         Err((fault, _)) => Err(Fault::from(fault)),
     }

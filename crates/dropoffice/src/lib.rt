@@ -26,7 +26,7 @@ mod words;
 pub use clocks::{Clock, FixedClock, ListedClock};
 pub use office::Office;
 pub use program::perform;
-pub use replay::{Replayed, replay_bytes};
+pub use replay::{Replayed, replay_bytes, replay_in_memory, replay_over};
 pub use session::SessionEnd;
 pub use task::{Init, Link, Replay, Task};
 pub use wire::{Answer, Counted, Message};

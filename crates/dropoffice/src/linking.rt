@@ -53,7 +53,10 @@ fn read_order(words: &Link<'_>) -> Result<Order, Fault<'static>> {
     if !is_region(words.region.as_bytes()) {
         return Err(Fault::MalformedValue("region"));
     }
-    let expires = words.expires.parse::<u64>().map_err(|_| Fault::MalformedValue("expires"))?;
+    let expires = words
+        .expires
+        .parse::<u64>()
+        .map_err(|_| Fault::MalformedValue("expires"))?;
     Ok(Order {
         method,
         start,
@@ -115,4 +118,3 @@ fn unwritten(fault: LinkFault) -> Fault<'static> {
         LinkFault::Key => Fault::UnknownKey,
     }
 }
-

@@ -2,15 +2,12 @@
 ghost use Rattle.std.specs.Prelude.{IfSome};
 ghost use Rattle.sigv4.specs.Credential.{IsKeyId, IsSecret};
 
-use crate::clocks::FixedClock;
 use crate::faults::Fault;
 use crate::office::Office;
 use crate::opening::{connect, disconnect, keeper_over, require_file};
+use crate::replay::{replay_in_memory, replay_over};
 use crate::task::Replay;
-use boxes::OfficeRow;
-use keeper::{Keeper, Shelf};
 use sigv4::{Moment, is_key_id, is_secret};
-use std::fs;
 use std::fs::Files;
 use std::io::Write;
 use wire::Counted;
@@ -38,11 +35,10 @@ fn replay_memory<'a, R: Files + AllocGlobal>(
         return Err(Fault::MalformedValue("file"));
     };
     let moment = read_moment(words.at).ok_or(Fault::MalformedValue("at"))?;
-    let Ok(keeper) = Shelf::new(rt.alloc(), OfficeRow { east: 0 }, id, secret) else {
-        return Err(Fault::OutOfMemory);
-    };
-    let mut office = Office::new(rt.alloc(), keeper);
-    answer_all(rt, &mut office, words, moment, out)
+    let mut writer = Counted::new(out);
+    let streams = words.streams.as_slice();
+    let served = replay_in_memory(rt.alloc(), rt, id, secret, streams, moment, &mut writer)?;
+    told(served, writer.flush().is_ok())
 }
 
 // Over the office in a file that is there. Its log goes into the file at the end, however the streams ended.
@@ -55,9 +51,12 @@ fn replay_file<'a>(
     require_file(rt, words.file)?;
     let keeper = keeper_over(rt.alloc(), connect(rt, words.file)?)?;
     let mut office = Office::new(rt.alloc(), keeper);
-    let answered = answer_all(rt, &mut office, words, moment, out);
+    let mut writer = Counted::new(out);
+    let streams = words.streams.as_slice();
+    let served = replay_over(rt, &mut office, streams, moment, &mut writer);
+    let went_out = writer.flush().is_ok();
     let closed = disconnect(office.keeper.close());
-    answered?;
+    told(served, went_out)?;
     closed
 }
 
@@ -78,42 +77,11 @@ pub(crate) fn read_moment(text: &str) -> Option<Moment> {
     Moment::read(text.as_bytes().try_into().ok()?)
 }
 
-// Answers each stream of the words. Where one cannot be read, those before it were answered.
-fn answer_all<'a, K: Keeper, R: Files>(
-    rt: &R,
-    office: &mut Office<K>,
-    words: &Replay<'a>,
-    moment: Moment,
-    out: impl Write + Drop,
-) -> Result<(), Fault<'a>> {
-    let mut writer = Counted::new(out);
-    let answered = answer_streams(rt, office, words.streams.as_slice(), moment, &mut writer);
-    let flushed = writer.flush();
-    match answered {
+// What is told of streams that were served, where their answers went out or not.
+fn told(served: Result<u64, &str>, went_out: bool) -> Result<(), Fault<'_>> {
+    match served {
         Err(name) => Err(Fault::CannotRead(name)),
-        Ok(0) if flushed.is_ok() => Ok(()),
+        Ok(0) if went_out => Ok(()),
         Ok(_) => Err(Fault::ConnectionFailed),
     }
-}
-
-// The number of sessions that ended by a read or a write that failed; or the first stream that could not be opened.
-fn answer_streams<'a, K: Keeper, R: Files, W: Write>(
-    rt: &R,
-    office: &mut Office<K>,
-    streams: &[&'a str],
-    moment: Moment,
-    writer: &mut Counted<W>,
-) -> Result<u64, &'a str> {
-    let mut faulty: u64 = 0;
-    for name in streams {
-        let Ok(stream) = fs::open(rt, *name) else {
-            return Err(*name);
-        };
-        let mut reader = Counted::new(stream);
-        let end = office.session(&mut reader, writer, &mut FixedClock::new(moment));
-        if end.is_fault() {
-            faulty = faulty.saturating_add(1);
-        }
-    }
-    Ok(faulty)
 }

@@ -89,10 +89,7 @@ impl<'a> Task<'a> {
     }
 
     // The task that the words named.
-    fn of_matches(
-        alloc: Global,
-        matches: &ArgMatches<'a>,
-    ) -> Result<Option<Task<'a>>, AllocError>
+    fn of_matches(alloc: Global, matches: &ArgMatches<'a>) -> Result<Option<Task<'a>>, AllocError>
         ensures task { IfOk result (λ found. IfSome found (IsTaskIn (subcommand_rows_of matches.now))) }
         ensures named { NamesTask (subcommand_rows_of matches.now) → IfOk result (λ found. IsSome found) }
     {
@@ -121,10 +118,7 @@ impl<'a> Task<'a> {
         Some(Task::Link(Link::of_matches(values)?))
     }
 
-    fn replay_in(
-        alloc: Global,
-        matches: &ArgMatches<'a>,
-    ) -> Result<Option<Task<'a>>, AllocError>
+    fn replay_in(alloc: Global, matches: &ArgMatches<'a>) -> Result<Option<Task<'a>>, AllocError>
         ensures task { IfOk result (λ found. IfSome found (IsTaskIn (subcommand_rows_of matches.now))) }
         ensures named { NamesReplay (subcommand_rows_of matches.now) → IfOk result (λ found. IsSome found) }
     {
@@ -172,10 +166,7 @@ impl<'a> Link<'a> {
 }
 
 impl<'a> Replay<'a> {
-    fn of_matches(
-        alloc: Global,
-        values: &ArgMatches<'a>,
-    ) -> Result<Option<Replay<'a>>, AllocError>
+    fn of_matches(alloc: Global, values: &ArgMatches<'a>) -> Result<Option<Replay<'a>>, AllocError>
         ensures values { IfOk result (λ found. IfSome found (IsReplayOf (rows_of (found_of values.now)))) }
         ensures given { HasReplay (rows_of (found_of values.now)) → IfOk result (λ found. IsSome found) }
     {
