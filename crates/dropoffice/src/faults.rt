@@ -13,6 +13,9 @@ pub(crate) enum Fault<'a> {
     /// The office file is not there, or is none that can be opened.
     #[error("cannot open the office file")]
     CannotOpen,
+    /// Another program has the office file open.
+    #[error("cannot open the office file")]
+    Held,
     /// What the file was found to be, or a refusal of its store.
     #[error("{0}")]
     Office(OpenFault),

@@ -7,7 +7,7 @@ use crate::task::Init;
 use boxes::OfficeRow;
 use sigv4::{is_key_id, is_secret};
 use sqlite::{Alter, Connection};
-use sqlkeeper::SqlKeeper;
+use sqlkeeper::{OpenFault, SqlKeeper};
 use std::alloc::Global;
 use std::fs;
 use std::fs::{Files, OpenFile, OpenOptions, Permissions};
@@ -24,10 +24,18 @@ pub(crate) fn do_init(rt: &HostRuntime, words: &Init<'_>) -> Result<(), Fault<'s
     let had_log = fs::symlink_metadata(rt, log.as_str()).is_ok();
     let is_new = make_file(rt, words.file)?;
     let made = make_office(rt, words, office);
-    if is_new && made.is_err() {
+    if is_new && is_unmade(&made) {
         remove_made(rt, words.file, log.as_str(), had_log);
     }
     made
+}
+
+// Whether what was made of the file may be taken away: it is no office, and no other program has it open.
+fn is_unmade(made: &Result<(), Fault<'_>>) -> bool {
+    match made {
+        Ok(()) | Err(Fault::Held | Fault::Office(OpenFault::Exists)) => false,
+        Err(_) => true,
+    }
 }
 
 // The office that the words ask for, where each value of theirs has its form.

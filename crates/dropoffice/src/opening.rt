@@ -13,6 +13,7 @@ pub(crate) type Store = FileStore<File>;
 fn unopened(error: Error) -> Fault<'static> {
     match error {
         Error::SqliteFailure(ErrorCode::OutOfMemory) => Fault::OutOfMemory,
+        Error::SqliteFailure(ErrorCode::DatabaseBusy) => Fault::Held,
         _ => Fault::CannotOpen,
     }
 }
