@@ -4,6 +4,8 @@ pub mod Handlings
 pub mod ToldMoments
 pub mod ReplayLemmas
 pub mod RunSoFar
+pub mod Turns
+pub mod Defaulted
 pub mod FaultFree
 pub mod FullRows
 pub mod TaskExamples
