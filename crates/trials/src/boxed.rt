@@ -114,17 +114,27 @@ pub fn bare<'a>(alloc: Global, method: &'a [u8], path: &'a [u8]) -> Result<Vec<u
     asked.message(alloc)
 }
 
+/// What a session at a moment writes, and how it ends.
+pub fn sent<K: Keeper>(
+    office: &mut Office<K>,
+    stream: &[u8],
+    at: &[u8; 16],
+) -> Result<(Vec<u8>, SessionEnd), Fail> {
+    let moment = Moment::read(at).ok_or("no moment")?;
+    let mut reader = Counted::new(Source::whole(stream));
+    let mut writer = Counted::new(Sink::new(office.alloc, 4096, 4096));
+    let end = office.session(&mut reader, &mut writer, &mut FixedClock::new(moment));
+    Ok((writer.inner.text, end))
+}
+
 /// What a session at a moment writes that reads the stream to its end.
 pub fn reply<K: Keeper>(
     office: &mut Office<K>,
     stream: &[u8],
     at: &[u8; 16],
 ) -> Result<Vec<u8>, Fail> {
-    let moment = Moment::read(at).ok_or("no moment")?;
-    let mut reader = Counted::new(Source::whole(stream));
-    let mut writer = Counted::new(Sink::new(office.alloc, 4096, 4096));
-    match office.session(&mut reader, &mut writer, &mut FixedClock::new(moment)) {
-        SessionEnd::Ended => Ok(writer.inner.text),
+    match sent(office, stream, at)? {
+        (text, SessionEnd::Ended) => Ok(text),
         _ => Err("another end".into()),
     }
 }
