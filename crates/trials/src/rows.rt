@@ -185,10 +185,10 @@ fn quota<K: Keeper>(office: &mut Office<K>) -> Result<(), Fail> {
 }
 
 // An upload by a link that begins a day before.
-fn upload_early<K: Keeper>(
+fn upload_early<'a, K: Keeper>(
     office: &mut Office<K>,
-    path: &[u8],
-    body: &[u8],
+    path: &'a [u8],
+    body: &'a [u8],
     at: &[u8; 16],
     want: &[u8],
 ) -> Result<(), Fail> {
@@ -243,11 +243,11 @@ fn names<K: Keeper>(office: &mut Office<K>) -> Result<(), Fail> {
 }
 
 // A request by the key `k2`.
-fn by_link(
+fn by_link<'a>(
     alloc: Global,
-    method: &[u8],
-    path: &[u8],
-    body: Option<&[u8]>,
+    method: &'a [u8],
+    path: &'a [u8],
+    body: Option<&'a [u8]>,
 ) -> Result<Vec<u8>, Fail> {
     let asked = Asked {
         key: LinkKey {
