@@ -10,12 +10,15 @@ there; and never anything else. One number is tried by `rt try --fail-alloc` too
 import itertools
 import os
 import pathlib
+import shutil
 import subprocess
 import tempfile
 
 import kit
-from expected import answer
-from replays import MOMENT, OFFICE, answered, fault
+import office
+import tables
+from expected import SECRET, answer
+from replays import ID, MOMENT, OFFICE, answered, fault
 
 STREAM = "data/row1.http"
 DROP = kit.ROOT / "crates" / "drop"
@@ -84,7 +87,7 @@ def test_drop(program, count):
         ([*replay, "20130525T000000Z"], answered(23)),
         ([*replay, "now"], fault("malformed value: at")),
         (["--help"], kit.Run(0, help_of("drop"), b"")),
-        (["replay", "--help"], kit.Run(0, help_of("replay"), b"")),
+        *(([name, "--help"], kit.Run(0, help_of(name), b"")) for name in ["init", "link", "replay"]),
         (["replay"], kit.run([program, "replay"])),
     ]:
         name = f"drop {' '.join(words)}"
@@ -100,6 +103,55 @@ def test_drop(program, count):
         others = f"{len(came[OUT_OF_MEMORY])} times out of memory, {len(again)} refusal 40"
         print(f"{name}: {others}, {len(came[right])} its answer")
     return numbers
+
+
+def each_office(program, name, words, prepare, right, others, count):
+    """As `each_refusal`, over an office file. `prepare` sets it up before each run, and gives what tells, of a run that was
+    right or was not, whether the file is then wrong."""
+    came = {it: [] for it in [right, *others]}
+    for number in itertools.count(1):
+        wrong_file = prepare()
+        run, is_refused = refusing(number, [program, *words])
+        wrong = wrong_file(run == right) if run in came else f"{run}"
+        if wrong or not is_refused:
+            break
+        came[run].append(number)
+    if not is_refused and run != right:
+        wrong = f"{run}"
+    count.add(name, wrong and f"with allocation {number} refused: {wrong}")
+    print(f"{name}: {', '.join(f'{len(numbers)} times {it.out or it.err}'[:60] for it, numbers in came.items())}")
+
+
+def test_offices(program, folder, count):
+    """`init`, `link`, and `replay` over a file. Memory that is refused makes no file, changes none, and takes no upload."""
+    file, whole, stream = folder / "office", folder / "whole", folder / "put.http"
+    init = ["--clerk", ID, "--secret", SECRET.decode()]
+    done = kit.Run(0, b"", b"")
+    made = kit.run([program, "init", whole, *init])
+    if made != done:
+        count.add("an office file", f"{made}")
+        return
+    tables.add_box(whole, tables.Box("in"))
+    stream.write_bytes(office.put(b"/in/a.txt", b"abc"))
+
+    def gone():
+        for it in folder.glob("office*"):
+            it.unlink()
+        return lambda is_made: None if is_made == bool(list(folder.glob("office*"))) else "a file is left, or none was made"
+
+    def copied():
+        gone()
+        shutil.copy(whole, file)
+        before = tables.dump(file)
+        return lambda is_right: None if is_right or tables.dump(file) == before else "the tables were changed"
+
+    link = ["link", file, "GET", "in/a.txt", *itertools.chain(*((f"--{k}", v) for k, v in office.LINK.items()))]
+    replay = ["replay", file, stream, "--at", MOMENT]
+    line = kit.Run(0, office.python_link("GET", "in/a.txt"), b"")
+    receipt = office.answered(office.receipt(1, b"abc"))
+    each_office(program, "drop init", ["init", file, *init], gone, done, [OUT_OF_MEMORY], count)
+    each_office(program, "drop link", link, copied, line, [OUT_OF_MEMORY], count)
+    each_office(program, "drop replay FILE", replay, copied, receipt, [OUT_OF_MEMORY, TRY_AGAIN], count)
 
 
 def test_sample(numbers, count):
@@ -156,7 +208,9 @@ def main():
     count = kit.Count()
     with tempfile.TemporaryDirectory(prefix="drop-memory-") as room:
         folder = pathlib.Path(room)
-        numbers = test_drop(linked("drop", folder), count)
+        drop = linked("drop", folder)
+        numbers = test_drop(drop, count)
+        test_offices(drop, folder, count)
         test_rows(linked("rows", folder), count)
         test_keeper(linked("keeper", folder, "_tests"), count)
         test_sample(numbers, count)

@@ -343,10 +343,13 @@ def test_streams(program, folder, count):
 def words_of_values(stream):
     """Words with values of another form, and what is owed for them."""
     for office in [
-        "office.db", "memory:", "memory:id", "memory:/secret", "memory:id/", "memory:i.d/secret", "memory:id/two words",
-        "Memory:id/secret", f"memory:{'k' * 65}/s", f"memory:k/{'s' * 129}", "",
+        "memory:", "memory:id", "memory:/secret", "memory:id/", "memory:i.d/secret", "memory:id/two words",
+        f"memory:{'k' * 65}/s", f"memory:k/{'s' * 129}",
     ]:
         yield ["replay", office, "no such file", "--at", "now"], fault("malformed value: file")
+    for office in ["no such office", "Memory:id/secret", " memory:id/secret", ""]:
+        yield ["replay", office, "no such file", "--at", "now"], fault("malformed value: at")
+        yield ["replay", office, "no such file", "--at", MOMENT], fault("cannot open the office file")
     for at in [
         "now", "", "20130524T000000", "20130532T000000Z", "19691231T235959Z", f" {MOMENT}", f"{MOMENT} ", f"{MOMENT}\n",
         "20130524t000000z", "20130524T000000Z0",
@@ -366,7 +369,7 @@ def words_of_values(stream):
 NO_TASK = [
     (["restore"], "error: unrecognized subcommand 'restore'"),
     (["--version"], "error: unexpected argument '--version' found"),
-    (["replay", "f", "s", "t", "--at", "m"], "error: unexpected argument 't' found"),
+    (["replay", "f", "s", "t", "--to", "m"], "error: unexpected argument '--to' found"),
     (["replay", "f", "-s", "--at", "m"], "error: unexpected argument '-s' found"),
     (["replay", "f", "s", "--at", "m", "--until", "n"], "error: unexpected argument '--until' found"),
     (["replay", "f", "s", "--at"], "error: a value is required for '--at <MOMENT>' but none was supplied"),
@@ -375,7 +378,7 @@ NO_TASK = [
     (["replay"], "error: the following required arguments were not provided:"),
     (["replay", "f", "--at", "m"], "error: the following required arguments were not provided:"),
     (["replay", "f", "s"], "error: the following required arguments were not provided:"),
-    ([], "Answers requests that carry signed links to an office's files"),
+    ([], "A file drop for offices: makes an office, writes links to its files, and answers requests that carry them"),
 ]
 
 

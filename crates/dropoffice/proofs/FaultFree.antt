@@ -18,7 +18,7 @@ use Rattle.dropoffice.proofs.FullRows.{Full, fills, free_steps, full_level, or_n
 
 -- ---- what is required has a value
 
-first_some : (values : List Text) → 0 < length values → is_some (slice_get values 0) ≡ true
+pub first_some : (values : List Text) → 0 < length values → is_some (slice_get values 0) ≡ true
 first_some [] lt = absurd (omega arith)
 first_some (v ∷ vs) lt = refl
 

@@ -4,6 +4,8 @@ pub mod Handlings
 pub mod ToldMoments
 pub mod ReplayLemmas
 pub mod RunSoFar
+pub mod Turns
+pub mod Defaulted
 pub mod FaultFree
 pub mod FullRows
 pub mod TaskExamples
@@ -17,3 +19,4 @@ pub mod Forming
 pub mod Placing
 pub mod Replies
 pub mod SessionSteps
+pub mod SessionEdges

@@ -28,14 +28,14 @@ served_more remaining contents old new c (x ∷ olds) [] cs h read written risen
 served_more remaining contents old new c (x ∷ olds) (y ∷ news) [] h read written risen = absurd h
 served_more remaining contents old new c (x ∷ olds) (y ∷ news) (d ∷ cs) h read written risen = (h.0, h.1, h.2, served_more remaining contents old new c olds news cs h.3 read written risen)
 
-run_more : (s mid after : State) (c : Connection) (cs : List Connection) (moments more : List ℕ) → Run s cs moments mid → Session most_messages c.stream mid more c.answers c.end c.gave_up after
+pub run_more : (s mid after : State) (c : Connection) (cs : List Connection) (moments more : List ℕ) → Run s cs moments mid → Session most_messages c.stream mid more c.answers c.end c.gave_up after
     → Run s (cs ++ c ∷ []) (moments ++ more) after
 run_more s mid after c [] moments more h session =
     (more, [], after, ap (λ (t : List ℕ). t ++ more) h.0 ∙ sym (append-nil more), subst (λ x. Session most_messages c.stream x more c.answers c.end c.gave_up after) h.1 session, (refl, refl))
 run_more s mid after c (d ∷ cs) moments more h session =
     (h.0, h.1 ++ more, h.2, ap (λ (t : List ℕ). t ++ more) h.3 ∙ append_assoc h.0 h.1 more, h.4, run_more h.2 mid after c cs h.1 more h.5 session)
 
-count_more : (cs : List Connection) (c : Connection) → count_by (λ d. is_fault d.end) (cs ++ c ∷ []) ≡ count_by (λ d. is_fault d.end) cs + cond (is_fault c.end) 1 0
+pub count_more : (cs : List Connection) (c : Connection) → count_by (λ d. is_fault d.end) (cs ++ c ∷ []) ≡ count_by (λ d. is_fault d.end) cs + cond (is_fault c.end) 1 0
 count_more cs c =
     let one : sum_by (λ d. cond (is_fault d.end) 1 0) (c ∷ []) ≡ cond (is_fault c.end) 1 0 = omega arith in
     sum_by-append (λ d. cond (is_fault d.end) 1 0) cs (c ∷ []) ∙ ap (λ n. count_by (λ d. is_fault d.end) cs + n) one

@@ -1,18 +1,19 @@
 -- What one step of a session gives, and a step before the steps that follow.
-use Rattle.std.proofs.Common.{◌≡◌, ◌<◌, ◌+◌, ◌-◌, ℕ, suc, Bool, true, false, List, [], ◌∷◌, ◌++◌, Option, Some, None, refl, sym, ap, subst, ◌∙◌, append_assoc, arith}
+use Rattle.std.proofs.Common.{◌≡◌, ◌<◌, ◌+◌, ◌-◌, ℕ, suc, Bool, true, false, List, [], ◌∷◌, ◌++◌, Option, Some, None, ◌⊎◌, inl, inr, refl, sym, ap, subst, ◌∙◌, append_assoc, arith}
 use Rattle.std.proofs.lemmas.List.{append-nil}
 use Rattle.std.specs.Io.KnownBytes.{Appends, Consumes, IsAtEnd, prepend_known}
 use Rattle.sigtext.specs.declared.refusal.Refusal.{Refusal}
 use Rattle.sigtext.specs.declared.refusal.Refusal.TheVariants as rule
 use Rattle.sigtext.specs.Request.{Request}
 use Rattle.boxes.specs.State.{State}
-use Rattle.wire.specs.Feeding.{OfStream, HoldsNoMessage}
+use Rattle.wire.specs.Feeding.{AnnouncesBody, Awaits, OfStream}
 use Rattle.wire.specs.Framing.{IsHead, Next, Message, request_of}
 use Rattle.wire.specs.Framing as frame
 use Rattle.wire.specs.declared.fault.WireFault.{WireFault}
 use Rattle.wire.specs.declared.feed.Place.{Place}
+use Rattle.wire.specs.declared.feed.Place.TheVariants as place
 use Rattle.wire.specs.declared.joining.Came.{Came}
-use Rattle.wire.specs.Whole.{BreaksOff, Brings, IsNextMessage, HoldsNoBareMessage}
+use Rattle.wire.specs.Whole.{BreaksOff, Brings, IsNextMessage}
 use Rattle.wire.proofs.Halves.{message_stands}
 use Rattle.dropoffice.specs.declared.session.SessionEnd.{SessionEnd}
 use Rattle.dropoffice.specs.declared.session.SessionEnd.TheVariants.{Ended, Truncated, Refused, Limit, ReadFault, WriteFault}
@@ -21,9 +22,9 @@ use Rattle.dropoffice.specs.declared.handling.Handled.TheVariants.{Answered, Gav
 use Rattle.dropoffice.specs.Connections.{IsKnown, IsStream, KeepsCount, Serves}
 use Rattle.dropoffice.specs.Handling.{Handles, answered, gave_up_at, broke, broke_giving_up_at}
 use Rattle.dropoffice.specs.Kept.{IsLeft}
-use Rattle.dropoffice.specs.Sessions.{Session}
+use Rattle.dropoffice.specs.Sessions.{Session, MayGiveUpReading}
 use Rattle.dropoffice.specs.Sessions as session
-use Rattle.dropoffice.specs.Stepping.{Goes, IsClosed, Steps}
+use Rattle.dropoffice.specs.Stepping.{Goes, IsClosed, Steps, ToCome}
 
 -- ---- known bytes, one part after another
 
@@ -76,8 +77,8 @@ is_stream (Some p) Holds o = sym o.is
 pub brought_by : (text body : List ℕ) (old new reader : Option (List ℕ)) (p : Place) (x y : Came) → x ≡ y → Brings x text body old new reader p → Brings y text body old new reader p
 brought_by text body old new reader p x y is h = subst (λ (z : Came). Brings z text body old new reader p) is h
 
-pub broke_off_by : (old reader : Option (List ℕ)) (x y : WireFault) → x ≡ y → BreaksOff x old reader → BreaksOff y old reader
-broke_off_by old reader x y is h = subst (λ (z : WireFault). BreaksOff z old reader) is h
+pub broke_off_by : (p : Place) (old reader : Option (List ℕ)) (x y : WireFault) → x ≡ y → BreaksOff x p old reader → BreaksOff y p old reader
+broke_off_by p old reader x y is h = subst (λ (z : WireFault). BreaksOff z p old reader) is h
 
 -- ---- a step, and those that follow
 
@@ -120,7 +121,7 @@ serves_none gives left reader output clock count s = record {
 
 -- ---- steps with a message
 
-module _ {C : Type 0} (gives : C → ℕ → C → Type 0) (left reader output output' : Option (List ℕ)) (clock clock' : C) (count count' : ℕ) (means : State → Type 0) (s : State)
+module _ {C : Type 0} (gives : C → ℕ → C → Type 0) (p : Place) (left reader output output' : Option (List ℕ)) (clock clock' : C) (count count' : ℕ) (means : State → Type 0) (s : State)
     (text : List ℕ) (has_length : Bool) (body waits : List ℕ) (m : IsNextMessage text has_length body left (prepend_known waits reader)) (given : List ℕ) (same_body : given ≡ body) where
   abbrev r : Request
   r = request_of m.opens.head has_length body
@@ -135,15 +136,15 @@ module _ {C : Type 0} (gives : C → ℕ → C → Type 0) (left reader output o
   all_read : Consumes left reader ((text ++ body) ++ waits)
   all_read = consumes_more left (prepend_known waits reader) reader (text ++ body) waits m.taken (all_taken reader waits)
 
-  answered_done : Handles gives clock clock' output output' count count' means s r Answered → Steps gives left (prepend_known waits reader) reader output output' clock clock' count count' means s None
+  answered_done : Handles gives clock clock' output output' count count' means s r Answered → Steps gives p left (prepend_known waits reader) reader output output' clock clock' count count' means s None
   answered_done (answered now written after told appends same keeps answers) =
       (after, keeps, record { front = text ++ body; request = r; moment = now; text = written; taken = m.taken; message = stands; told = told; written = appends; answers = answers; counted = same })
 
-  gave_up_done : Handles gives clock clock' output output' count count' means s r GaveUp → Steps gives left (prepend_known waits reader) reader output output' clock clock' count count' means s (Some (Refused 40))
+  gave_up_done : Handles gives clock clock' output output' count count' means s r GaveUp → Steps gives p left (prepend_known waits reader) reader output output' clock clock' count count' means s (Some (Refused 40))
   gave_up_done (gave_up_at now told appends less readable keeps) = (
     s,
     keeps,
-    λ n. record {
+    λ n _. record {
       stream = (text ++ body) ++ waits;
       moments = now ∷ [];
       answers = session.closing rule.TryAgain;
@@ -156,12 +157,12 @@ module _ {C : Type 0} (gives : C → ℕ → C → Type 0) (left reader output o
     },
   )
 
-  broken_done : Handles gives clock clock' output output' count count' means s r Broken → Steps gives left (prepend_known waits reader) reader output output' clock clock' count count' means s (Some WriteFault)
+  broken_done : Handles gives clock clock' output output' count count' means s r Broken → Steps gives p left (prepend_known waits reader) reader output output' clock clock' count count' means s (Some WriteFault)
   broken_done (broke now written front after told appends begins same keeps answers) =
       let rest = rest_of (prepend_known waits reader) in (
         after,
         keeps,
-        λ n. record {
+        λ n _. record {
           stream = (text ++ body) ++ rest;
           moments = now ∷ [];
           answers = front;
@@ -176,7 +177,7 @@ module _ {C : Type 0} (gives : C → ℕ → C → Type 0) (left reader output o
   broken_done (broke_giving_up_at now front told appends begins less readable keeps) = (
     s,
     keeps,
-    λ n. record {
+    λ n _. record {
       stream = (text ++ body) ++ waits;
       moments = now ∷ [];
       answers = front;
@@ -190,69 +191,73 @@ module _ {C : Type 0} (gives : C → ℕ → C → Type 0) (left reader output o
   )
 
   pub answered_step : Handles gives clock clock' output output' count count' means s (request_of m.opens.head has_length given) Answered
-      → Steps gives left (prepend_known waits reader) reader output output' clock clock' count count' means s None
+      → Steps gives p left (prepend_known waits reader) reader output output' clock clock' count count' means s None
   answered_step handles = answered_done (of_body Answered handles)
 
   pub gave_up_step : Handles gives clock clock' output output' count count' means s (request_of m.opens.head has_length given) GaveUp
-      → Steps gives left (prepend_known waits reader) reader output output' clock clock' count count' means s (Some (Refused 40))
+      → Steps gives p left (prepend_known waits reader) reader output output' clock clock' count count' means s (Some (Refused 40))
   gave_up_step handles = gave_up_done (of_body GaveUp handles)
 
   pub broken_step : Handles gives clock clock' output output' count count' means s (request_of m.opens.head has_length given) Broken
-      → Steps gives left (prepend_known waits reader) reader output output' clock clock' count count' means s (Some WriteFault)
+      → Steps gives p left (prepend_known waits reader) reader output output' clock clock' count count' means s (Some WriteFault)
   broken_step handles = broken_done (of_body Broken handles)
 
 -- ---- steps without a message
 
-module _ {C : Type 0} (gives : C → ℕ → C → Type 0) (left left' reader output output' : Option (List ℕ)) (clock : C) (count : ℕ) (means : State → Type 0) (s : State) (keeps : IsLeft means s) where
+module _ {C : Type 0} (gives : C → ℕ → C → Type 0) (p : Place) (left left' reader output output' : Option (List ℕ)) (clock : C) (count : ℕ) (means : State → Type 0) (s : State) (keeps : IsLeft means s) where
   -- the session ends, and the state stays
   ends : (e : SessionEnd) (gave_up : Bool) (stream text : List ℕ) → IsStream gave_up e left reader stream → Appends output output' text → KeepsCount gave_up count count
-      → ((n : ℕ) → Session (suc n) stream s [] text e gave_up s) → Steps gives left left' reader output output' clock clock count count means s (Some e)
+      → ((n : ℕ) → ToCome p (suc n) → Session (suc n) stream s [] text e gave_up s) → Steps gives p left left' reader output output' clock clock count count means s (Some e)
   ends e gave_up stream text read written counted whole = (
     s,
     keeps,
-    λ n. record { stream = stream; moments = []; answers = text; gave_up = gave_up; read = read; told = refl; written = written; counted = counted; session = whole n },
+    λ n all. record { stream = stream; moments = []; answers = text; gave_up = gave_up; read = read; told = refl; written = written; counted = counted; session = whole n all },
   )
 
   pub closed_step : (q : Refusal) (e : SessionEnd) → OfStream left (λ stream. Next stream (frame.Refused q) []) → IsClosed output output' q e
-      → Steps gives left left' reader output output' clock clock count count means s (Some e)
+      → Steps gives p left left' reader output output' clock clock count count means s (Some e)
   closed_step q (Refused number) o closed =
       ends (Refused number) false o.stream (session.closing q) (is_stream left (λ stream. Next stream (frame.Refused q) []) o) closed.1 refl
-      (λ n. subst (λ (k : ℕ). Session (suc n) o.stream s [] (session.closing q) (Refused k) false s) (sym closed.0) (session.unframed n o.stream s q o.holds))
+      (λ n _. subst (λ (k : ℕ). Session (suc n) o.stream s [] (session.closing q) (Refused k) false s) (sym closed.0) (session.unframed n o.stream s q o.holds))
   closed_step q WriteFault o closed =
       ends WriteFault false o.stream closed.0 (is_stream left (λ stream. Next stream (frame.Refused q) []) o) closed.1 refl
-      (λ n. session.write_failed_unframed n o.stream s q closed.0 o.holds closed.2)
+      (λ n _. session.write_failed_unframed n o.stream s q closed.0 o.holds closed.2)
   closed_step q Ended o closed = absurd closed
   closed_step q Truncated o closed = absurd closed
   closed_step q Limit o closed = absurd closed
   closed_step q ReadFault o closed = absurd closed
 
-  pub no_memory_step : (e : SessionEnd) (front : List ℕ) → Consumes left reader front → HoldsNoBareMessage front → IsClosed output output' rule.TryAgain e
-      → Steps gives left left' reader output output' clock clock count count means s (Some e)
-  no_memory_step (Refused number) front taken none closed =
+  why_reading : (n : ℕ) (front : List ℕ) → ((p ≡ place.Fresh) × (front ≡ [])) ⊎ AnnouncesBody front → ToCome p (suc n) → MayGiveUpReading (suc n) front
+  why_reading n front (inl (fresh, none)) all = inl (all fresh, none)
+  why_reading n front (inr a) all = inr a
+
+  pub no_memory_step : (e : SessionEnd) (front : List ℕ) → Consumes left reader front → ((p ≡ place.Fresh) × (front ≡ [])) ⊎ AnnouncesBody front → IsClosed output output' rule.TryAgain e
+      → Steps gives p left left' reader output output' clock clock count count means s (Some e)
+  no_memory_step (Refused number) front taken why closed =
       ends (Refused number) true front (session.closing rule.TryAgain) taken closed.1 (omega arith)
-      (λ n. subst (λ (k : ℕ). Session (suc n) front s [] (session.closing rule.TryAgain) (Refused k) true s) (sym closed.0) (session.gave_up_reading n front s none))
-  no_memory_step WriteFault front taken none closed =
-      ends WriteFault true front closed.0 taken closed.1 (omega arith) (λ n. session.write_failed_giving_up_reading n front s closed.0 none closed.2)
+      (λ n all. subst (λ (k : ℕ). Session (suc n) front s [] (session.closing rule.TryAgain) (Refused k) true s) (sym closed.0) (session.gave_up_reading n front s (why_reading n front why all)))
+  no_memory_step WriteFault front taken why closed =
+      ends WriteFault true front closed.0 taken closed.1 (omega arith) (λ n all. session.write_failed_giving_up_reading n front s closed.0 (why_reading n front why all) closed.2)
   no_memory_step Ended front taken none closed = absurd closed
   no_memory_step Truncated front taken none closed = absurd closed
   no_memory_step Limit front taken none closed = absurd closed
   no_memory_step ReadFault front taken none closed = absurd closed
 
-module _ {C : Type 0} (gives : C → ℕ → C → Type 0) (left left' reader output : Option (List ℕ)) (clock : C) (count : ℕ) (means : State → Type 0) (s : State) (keeps : IsLeft means s) where
-  pub ended_step : IsAtEnd reader → OfStream left (λ stream. Next stream frame.Ended []) → Steps gives left left' reader output output clock clock count count means s (Some Ended)
+module _ {C : Type 0} (gives : C → ℕ → C → Type 0) (p : Place) (left left' reader output : Option (List ℕ)) (clock : C) (count : ℕ) (means : State → Type 0) (s : State) (keeps : IsLeft means s) where
+  pub ended_step : IsAtEnd reader → OfStream left (λ stream. Next stream frame.Ended []) → Steps gives p left left' reader output output clock clock count count means s (Some Ended)
   ended_step at_end o =
-      ends gives left left' reader output output clock count means s keeps Ended false o.stream [] (is_stream left (λ stream. Next stream frame.Ended []) o, at_end) (nothing_written output) refl
-      (λ n. session.ended n o.stream s o.holds)
+      ends gives p left left' reader output output clock count means s keeps Ended false o.stream [] (is_stream left (λ stream. Next stream frame.Ended []) o, at_end) (nothing_written output) refl
+      (λ n _. session.ended n o.stream s o.holds)
 
-  pub truncated_step : IsAtEnd reader → OfStream left (λ stream. Next stream frame.Truncated []) → Steps gives left left' reader output output clock clock count count means s (Some Truncated)
+  pub truncated_step : IsAtEnd reader → OfStream left (λ stream. Next stream frame.Truncated []) → Steps gives p left left' reader output output clock clock count count means s (Some Truncated)
   truncated_step at_end o =
-      ends gives left left' reader output output clock count means s keeps Truncated false o.stream [] (is_stream left (λ stream. Next stream frame.Truncated []) o, at_end) (nothing_written output) refl
-      (λ n. session.truncated n o.stream s o.holds)
+      ends gives p left left' reader output output clock count means s keeps Truncated false o.stream [] (is_stream left (λ stream. Next stream frame.Truncated []) o, at_end) (nothing_written output) refl
+      (λ n _. session.truncated n o.stream s o.holds)
 
-  pub read_failed_step : (front : List ℕ) → Consumes left reader front → HoldsNoMessage front → Steps gives left left' reader output output clock clock count count means s (Some ReadFault)
+  pub read_failed_step : (front : List ℕ) → Consumes left reader front → Awaits front → Steps gives p left left' reader output output clock clock count count means s (Some ReadFault)
   read_failed_step front taken none =
-      ends gives left left' reader output output clock count means s keeps ReadFault false front [] taken (nothing_written output) refl
-      (λ n. session.read_failed n front s none)
+      ends gives p left left' reader output output clock count means s keeps ReadFault false front [] taken (nothing_written output) refl
+      (λ n _. session.read_failed n front s none)
 
 -- ---- the messages so far
 
@@ -278,10 +283,10 @@ module _ {C : Type 0} (gives : C → ℕ → C → Type 0) (counter : ℕ) (left
         (serves_more gives n left' left'' reader output' output'' last clock' clock'' end count' count'' sum mid next after e goes serves);
   }
 
-  pub follows_end : (reader last : Option (List ℕ)) (end : C) (sum : ℕ) (after : State) (e : SessionEnd) → counter < session.most_messages
-      → ((n : ℕ) → Serves (suc n) gives left' reader output' last clock' end count' sum mid after e) → Serves session.most_messages gives left reader output last clock end count sum s after e
-  follows_end reader last end sum after e lt serves =
-      f.whole (suc (999 - counter)) reader last end sum after e (omega (arith, lt)) (serves (999 - counter))
+  pub follows_end : (p : Place) (reader last : Option (List ℕ)) (end : C) (sum : ℕ) (after : State) (e : SessionEnd) → counter < session.most_messages → (p ≡ place.Fresh → counter ≡ 0)
+      → ((n : ℕ) → ToCome p (suc n) → Serves (suc n) gives left' reader output' last clock' end count' sum mid after e) → Serves session.most_messages gives left reader output last clock end count sum s after e
+  follows_end p reader last end sum after e lt first serves =
+      f.whole (suc (999 - counter)) reader last end sum after e (omega (arith, lt)) (serves (999 - counter) (λ fresh. omega (arith, first fresh)))
 
   pub follows_limit : (reader : Option (List ℕ)) → counter ≡ session.most_messages → Serves session.most_messages gives left reader output output' clock clock' count count' s mid Limit
   follows_limit reader all = f.whole 0 reader output' clock' count' mid Limit (omega (arith, all)) (serves_none gives left' reader output' clock' count' mid)
@@ -292,3 +297,6 @@ module _ {C : Type 0} (gives : C → ℕ → C → Type 0) (counter : ℕ) (left
 pub fresh_left : (waits : List ℕ) (known : Option (List ℕ)) → waits ≡ [] → prepend_known waits known ≡ known
 fresh_left waits None empty = refl
 fresh_left waits (Some xs) empty = ap (λ (t : List ℕ). Some (t ++ xs)) empty
+
+pub not_fresh : (p : Place) → p ≡ place.Between → p ≡ place.Fresh → ⊥
+not_fresh p between fresh = let both : place.Between ≡ place.Fresh = sym between ∙ fresh in absurd cc

@@ -1,5 +1,5 @@
 -- Words at which the program's command line has no fault name a task.
-use Rattle.std.proofs.Common.{◌≡◌, ◌∙◌, ◌||◌, Bool, cond, true, false, refl, sym, ap, subst, List, [], ◌∷◌, Option, Some, None, codes}
+use Rattle.std.proofs.Common.{◌≡◌, ◌⊎◌, inl, inr, ◌∙◌, ◌||◌, Bool, cond, true, false, refl, sym, ap, subst, List, [], ◌∷◌, Option, Some, None, codes}
 use Rattle.std.specs.List.{find, list_all}
 use Rattle.std.specs.Str.{bytes_eq}
 use Rattle.std.proofs.lemmas.Slice.Eq.{bytes_eq-Decides}
@@ -8,16 +8,17 @@ use Rattle.clap.specs.Faults.{fault_of, is_simple_and_free, level_fault}
 use Rattle.clap.specs.Walk.{Row, Text, answers_to, nothing_held, rows_after}
 use Rattle.clap.specs.Words.{App, subcommand_of}
 use Rattle.clap.proofs.OnLiterals.{clap_on_literals}
-use Rattle.dropoffice.specs.Tasks.{HasReplay, NamesTask, at_rule, drop_app, file_rule, replay_app, stream_rule}
+use Rattle.dropoffice.specs.Tasks.{HasInit, HasLink, HasReplay, NamesTask, at_rule, clerk_rule, drop_app, east_rule, expires_rule, file_rule, host_rule, init_app, key_rule, link_app, method_rule, region_rule, replay_app, secret_rule, start_rule, streams_rule, target_app, target_rule, west_rule}
 use Rattle.dropoffice.proofs.FullRows.{fills}
-use Rattle.dropoffice.proofs.FaultFree.{enters, needed_value, needs}
+use Rattle.dropoffice.proofs.Defaulted.{all_given, default_value, has_default}
+use Rattle.dropoffice.proofs.FaultFree.{Enters, enters, needed_value, needs}
 
 pub simple : is_simple drop_app ≡ true
-unfolding drop_app replay_app file_rule stream_rule at_rule clap_on_literals
+unfolding drop_app init_app link_app target_app replay_app file_rule streams_rule at_rule method_rule target_rule clerk_rule secret_rule key_rule host_rule region_rule start_rule expires_rule east_rule west_rule clap_on_literals
 simple = refl
 
 pub simple_and_free : is_simple_and_free drop_app ≡ true
-unfolding drop_app replay_app file_rule stream_rule at_rule clap_on_literals
+unfolding drop_app init_app link_app target_app replay_app file_rule streams_rule at_rule method_rule target_rule clerk_rule secret_rule key_rule host_rule region_rule start_rule expires_rule east_rule west_rule clap_on_literals
 simple_and_free = refl
 
 -- ---- the commands as clap builds them
@@ -27,14 +28,20 @@ settings : Shape
 unfolding drop_app
 settings = (on_top with_leaf_noted (on_top marked_built drop_app)).top
 
+init_built : Shape
+init_built = built_leaf (inherited settings init_app.top)
+
+link_built : Shape
+link_built = built_leaf (inherited settings link_app.top)
+
 replay_built : Shape
 replay_built = built_leaf (inherited settings replay_app.top)
 
 help_built : Shape
 help_built = built_leaf help_shape
 
-commands : (built drop_app).subs ≡ replay_built ∷ help_built ∷ []
-unfolding drop_app settings replay_built help_built
+commands : (built drop_app).subs ≡ init_built ∷ link_built ∷ replay_built ∷ help_built ∷ []
+unfolding drop_app settings init_built link_built replay_built help_built
 commands = refl
 
 has_help : (built drop_app).top.disable_help_subcommand ≡ false
@@ -45,6 +52,109 @@ needs_command : (built drop_app).top.subcommand_required ≡ true
 unfolding drop_app
 needs_command = refl
 
+-- ---- init
+
+init_name : init_built.name ≡ codes "init"
+unfolding init_built settings drop_app init_app
+init_name = refl
+
+init_fills : list_all fills init_built.rules ≡ true
+unfolding init_built settings drop_app init_app file_rule clerk_rule secret_rule east_rule west_rule
+init_fills = refl
+
+init_asks : init_built.subcommand_negates_reqs ≡ false
+unfolding init_built settings drop_app init_app
+init_asks = refl
+
+init_needs_file : needs (codes "file") init_built.rules ≡ true
+unfolding init_built settings drop_app init_app file_rule clerk_rule secret_rule east_rule west_rule
+init_needs_file = refl
+
+init_needs_clerk : needs (codes "clerk") init_built.rules ≡ true
+unfolding init_built settings drop_app init_app file_rule clerk_rule secret_rule east_rule west_rule
+init_needs_clerk = refl
+
+init_needs_secret : needs (codes "secret") init_built.rules ≡ true
+unfolding init_built settings drop_app init_app file_rule clerk_rule secret_rule east_rule west_rule
+init_needs_secret = refl
+
+init_has_east : has_default (codes "east") init_built.rules ≡ true
+unfolding init_built settings drop_app init_app file_rule clerk_rule secret_rule east_rule west_rule
+init_has_east = refl
+
+init_has_west : has_default (codes "west") init_built.rules ≡ true
+unfolding init_built settings drop_app init_app file_rule clerk_rule secret_rule east_rule west_rule
+init_has_west = refl
+
+init_values : (words : List Text) → level_fault init_built [] nothing_held words false [] ≡ [] → HasInit (rows_after init_built.rules [] words)
+init_values words free =
+    let given = needed_value init_built words init_fills init_asks free in (
+      given (codes "file") init_needs_file,
+      given (codes "clerk") init_needs_clerk,
+      given (codes "secret") init_needs_secret,
+      default_value init_built words init_fills free (codes "east") init_has_east,
+      default_value init_built words init_fills free (codes "west") init_has_west,
+    )
+
+-- ---- link
+
+link_name : link_built.name ≡ codes "link"
+unfolding link_built settings drop_app link_app target_app
+link_name = refl
+
+link_fills : list_all fills link_built.rules ≡ true
+unfolding link_built settings drop_app link_app target_app file_rule method_rule target_rule key_rule host_rule region_rule start_rule expires_rule
+link_fills = refl
+
+link_asks : link_built.subcommand_negates_reqs ≡ false
+unfolding link_built settings drop_app link_app target_app
+link_asks = refl
+
+link_needs_file : needs (codes "file") link_built.rules ≡ true
+unfolding link_built settings drop_app link_app target_app file_rule method_rule target_rule key_rule host_rule region_rule start_rule expires_rule
+link_needs_file = refl
+
+link_needs_method : needs (codes "method") link_built.rules ≡ true
+unfolding link_built settings drop_app link_app target_app file_rule method_rule target_rule key_rule host_rule region_rule start_rule expires_rule
+link_needs_method = refl
+
+link_needs_target : needs (codes "target") link_built.rules ≡ true
+unfolding link_built settings drop_app link_app target_app file_rule method_rule target_rule key_rule host_rule region_rule start_rule expires_rule
+link_needs_target = refl
+
+link_needs_key : needs (codes "key") link_built.rules ≡ true
+unfolding link_built settings drop_app link_app target_app file_rule method_rule target_rule key_rule host_rule region_rule start_rule expires_rule
+link_needs_key = refl
+
+link_needs_host : needs (codes "host") link_built.rules ≡ true
+unfolding link_built settings drop_app link_app target_app file_rule method_rule target_rule key_rule host_rule region_rule start_rule expires_rule
+link_needs_host = refl
+
+link_needs_region : needs (codes "region") link_built.rules ≡ true
+unfolding link_built settings drop_app link_app target_app file_rule method_rule target_rule key_rule host_rule region_rule start_rule expires_rule
+link_needs_region = refl
+
+link_needs_start : needs (codes "start") link_built.rules ≡ true
+unfolding link_built settings drop_app link_app target_app file_rule method_rule target_rule key_rule host_rule region_rule start_rule expires_rule
+link_needs_start = refl
+
+link_needs_expires : needs (codes "expires") link_built.rules ≡ true
+unfolding link_built settings drop_app link_app target_app file_rule method_rule target_rule key_rule host_rule region_rule start_rule expires_rule
+link_needs_expires = refl
+
+link_values : (words : List Text) → level_fault link_built [] nothing_held words false [] ≡ [] → HasLink (rows_after link_built.rules [] words)
+link_values words free =
+    let given = needed_value link_built words link_fills link_asks free in (
+      given (codes "file") link_needs_file,
+      given (codes "method") link_needs_method,
+      given (codes "target") link_needs_target,
+      given (codes "key") link_needs_key,
+      given (codes "host") link_needs_host,
+      given (codes "region") link_needs_region,
+      given (codes "start") link_needs_start,
+      given (codes "expires") link_needs_expires,
+    )
+
 -- ---- replay
 
 replay_name : replay_built.name ≡ codes "replay"
@@ -52,7 +162,7 @@ unfolding replay_built settings drop_app replay_app
 replay_name = refl
 
 replay_fills : list_all fills replay_built.rules ≡ true
-unfolding replay_built settings drop_app replay_app file_rule stream_rule at_rule
+unfolding replay_built settings drop_app replay_app file_rule streams_rule at_rule
 replay_fills = refl
 
 replay_asks : replay_built.subcommand_negates_reqs ≡ false
@@ -60,23 +170,24 @@ unfolding replay_built settings drop_app replay_app
 replay_asks = refl
 
 replay_needs_file : needs (codes "file") replay_built.rules ≡ true
-unfolding replay_built settings drop_app replay_app file_rule stream_rule at_rule
+unfolding replay_built settings drop_app replay_app file_rule streams_rule at_rule
 replay_needs_file = refl
 
-replay_needs_moment : needs (codes "at") replay_built.rules ≡ true
-unfolding replay_built settings drop_app replay_app file_rule stream_rule at_rule
-replay_needs_moment = refl
+replay_needs_at : needs (codes "at") replay_built.rules ≡ true
+unfolding replay_built settings drop_app replay_app file_rule streams_rule at_rule
+replay_needs_at = refl
 
 replay_needs_stream : needs (codes "stream") replay_built.rules ≡ true
-unfolding replay_built settings drop_app replay_app file_rule stream_rule at_rule
+unfolding replay_built settings drop_app replay_app file_rule streams_rule at_rule
 replay_needs_stream = refl
 
 replay_values : (words : List Text) → level_fault replay_built [] nothing_held words false [] ≡ [] → HasReplay (rows_after replay_built.rules [] words)
-replay_values words free = (
-  needed_value replay_built words replay_fills replay_asks free (codes "file") replay_needs_file,
-  needed_value replay_built words replay_fills replay_asks free (codes "at") replay_needs_moment,
-  needed_value replay_built words replay_fills replay_asks free (codes "stream") replay_needs_stream,
-)
+replay_values words free =
+    let given = needed_value replay_built words replay_fills replay_asks free in (
+      given (codes "file") replay_needs_file,
+      given (codes "at") replay_needs_at,
+      all_given (codes "stream") (rows_after replay_built.rules [] words) (given (codes "stream") replay_needs_stream),
+    )
 
 -- ---- the command that words without a fault name
 
@@ -91,24 +202,39 @@ help_named name elsewhere = go (bytes_eq (codes "help") name) (bytes_eq-Decides 
         let bad : ⊥ = cc in
         absurd bad
 
-found_replay : (name : Text) (s : Shape) → bytes_eq name (codes "help") ≡ false → find (λ x. answers_to name (label_of x)) (replay_built ∷ help_built ∷ []) ≡ Some s
-    → replay_built ≡ s
-found_replay name s elsewhere found = go (answers_to name (label_of replay_built)) (answers_to name (label_of help_built)) (help_named name elsewhere) found
+found_task : (name : Text) (s : Shape) → bytes_eq name (codes "help") ≡ false
+    → find (λ x. answers_to name (label_of x)) (init_built ∷ link_built ∷ replay_built ∷ help_built ∷ []) ≡ Some s
+    → (init_built ≡ s) ⊎ ((link_built ≡ s) ⊎ (replay_built ≡ s))
+found_task name s elsewhere found =
+    go (answers_to name (label_of init_built)) (answers_to name (label_of link_built)) (answers_to name (label_of replay_built)) (answers_to name (label_of help_built)) (help_named name elsewhere) found
   where
-    go : (b c : Bool) → c ≡ false → cond b (Some replay_built) (cond c (Some help_built) None) ≡ Some s → replay_built ≡ s
-    go true c e at = cc
-    go false true e at = let bad : ⊥ = cc in absurd bad
-    go false false e at = let bad : ⊥ = cc in absurd bad
+    go : (a b c d : Bool) → d ≡ false
+        → cond a (Some init_built) (cond b (Some link_built) (cond c (Some replay_built) (cond d (Some help_built) None))) ≡ Some s
+        → (init_built ≡ s) ⊎ ((link_built ≡ s) ⊎ (replay_built ≡ s))
+    go true b c d e at = inl cc
+    go false true c d e at = inr (inl cc)
+    go false false true d e at = inr (inr cc)
+    go false false false true e at = let bad : ⊥ = cc in absurd bad
+    go false false false false e at = let bad : ⊥ = cc in absurd bad
+
+-- the words name the command of this shape, and have no fault in it
+module _ (words : List Text) (e : Enters (built drop_app) (argument_words drop_app words)) (s : Shape) (is : s ≡ e.shape) where
+  rows_named : (name : Text) → s.name ≡ name → subcommand_of drop_app words ≡ Some (name, rows_after s.rules [] e.rest)
+  rows_named name called = e.entered ∙ ap (λ x. Some (rows_at x e.rest)) (sym is) ∙ ap (λ (n : Text). Some (n, rows_after s.rules [] e.rest)) called
+
+  free_here : level_fault s [] nothing_held e.rest false [] ≡ []
+  free_here = subst (λ x. level_fault x [] nothing_held e.rest false [] ≡ []) (sym is) e.fault_free
 
 pub task_named : (words : List Text) → fault_of drop_app words ≡ [] → NamesTask (subcommand_of drop_app words)
 task_named words free =
     let e = enters (built drop_app) (argument_words drop_app words) has_help needs_command free in
-    let found : find (λ s. answers_to e.name (label_of s)) (replay_built ∷ help_built ∷ []) ≡ Some e.shape = ap (find (λ s. answers_to e.name (label_of s))) (sym commands) ∙ e.found in
-    let is = found_replay e.name e.shape e.not_help found in
-    let rows = rows_after replay_built.rules [] e.rest in
-    let named : subcommand_of drop_app words ≡ Some (codes "replay", rows) =
-    e.entered ∙ ap (λ s. Some (rows_at s e.rest)) (sym is) ∙ ap (λ (name : Text). Some (name, rows)) replay_name in
-    (rows, named, replay_values e.rest (subst (λ s. level_fault s [] nothing_held e.rest false [] ≡ []) (sym is) e.fault_free))
+    let found : find (λ s. answers_to e.name (label_of s)) (init_built ∷ link_built ∷ replay_built ∷ help_built ∷ []) ≡ Some e.shape =
+    ap (find (λ s. answers_to e.name (label_of s))) (sym commands) ∙ e.found in
+    elim (found_task e.name e.shape e.not_help found) [
+      | inl is ↦ inl (rows_after init_built.rules [] e.rest, rows_named words e init_built is (codes "init") init_name, init_values e.rest (free_here words e init_built is))
+      | inr (inl is) ↦ inr (inl (rows_after link_built.rules [] e.rest, rows_named words e link_built is (codes "link") link_name, link_values e.rest (free_here words e link_built is)))
+      | inr (inr is) ↦ inr (inr (rows_after replay_built.rules [] e.rest, rows_named words e replay_built is (codes "replay") replay_name, replay_values e.rest (free_here words e replay_built is)))
+    ]
 
 -- ---- of a command that reads as the program's own
 

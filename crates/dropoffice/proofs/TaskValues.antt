@@ -1,17 +1,47 @@
--- The text that a getter of the matches gives, by the rows of the matches.
-use Rattle.std.proofs.Common.{◌≡◌, ◌∙◌, ap, sym, false, true, Option, Some, None, is_some, Bor}
-use Rattle.std.specs.Prelude.{option_map}
-use Rattle.clap.specs.Words.{Text, first_of, first_value, rows_of}
+-- The texts that the getters of the matches give, by the rows of the matches.
+use Rattle.std.proofs.Common.{rules, ◌≡◌, ◌∙◌, ap, subst, sym, false, true, List, map, Option, Some, None, is_some, Bor}
+use Rattle.std.specs.Prelude.{option_map, IfSome, IsSome}
+use Rattle.clap.specs.Words.{Text, all_of, first_of, first_value, matched_of, raw_values, rows_of}
 use Rattle.clap.specs.declared.parser.matches.Found.{Found}
-use Rattle.clap.proofs.WalkLemmas.{first_value-rows}
+use Rattle.clap.proofs.WalkLemmas.{first_value-rows, raw_values-rows}
 
-pub value_given : (name : Text) (f : Found) (given : Option (Bor Text)) (v : Bor Text) → option_map (λ s. s.now) given ≡ first_value f name → given ≡ Some v
-    → first_of name (rows_of f) ≡ Some v.now
-value_given name f given v text some = sym (first_value-rows f name) ∙ sym text ∙ ap (option_map (λ s. s.now)) some
+pub value_given : (name : Text) (f : Found) (given : Option (Bor Text)) → option_map (λ s. s.now) given ≡ first_value f name
+    → IfSome given (λ s. first_of name (rows_of f) ≡ Some s.now)
+value_given name f None text = tt
+value_given name f (Some v) text = sym (first_value-rows f name) ∙ sym text
 
-pub no_value_given : (name : Text) (f : Found) (given : Option (Bor Text)) → option_map (λ s. s.now) given ≡ first_value f name → given ≡ None
-    → is_some (first_of name (rows_of f)) ≡ true → ⊥
-no_value_given name f given text none has =
-    let missing : first_of name (rows_of f) ≡ None = sym (first_value-rows f name) ∙ sym text ∙ ap (option_map (λ s. s.now)) none in
+pub some_given : (name : Text) (f : Found) (given : Option (Bor Text)) → option_map (λ s. s.now) given ≡ first_value f name → is_some (first_of name (rows_of f)) ≡ true → IsSome given
+some_given name f None text has =
+    let missing : first_of name (rows_of f) ≡ None = sym (first_value-rows f name) ∙ sym text in
     let bad : false ≡ true = rw missing at has in
+    cc
+some_given name f (Some v) text has = search rules
+
+abbrev Texts : Type 0
+Texts = Bor (List (Bor Text))
+
+pub values_given : (name : Text) (f : Found) (given : Option Texts) (v : Texts) (items : List (Bor Text))
+    → option_map (λ s. map (λ t. t.now) s.now) given ≡ option_map raw_values (matched_of f name) → given ≡ Some v → items ≡ v.now
+    → all_of name (rows_of f) ≡ Some (map (λ t. t.now) items)
+values_given name f given v items text some same =
+    sym (raw_values-rows f name) ∙ sym text ∙ ap (option_map (λ s. map (λ t. t.now) s.now)) some ∙ ap (λ (xs : List (Bor Text)). Some (map (λ t. t.now) xs)) (sym same)
+
+pub no_values_given : (name : Text) (f : Found) (given : Option Texts) → option_map (λ s. map (λ t. t.now) s.now) given ≡ option_map raw_values (matched_of f name) → given ≡ None
+    → is_some (all_of name (rows_of f)) ≡ true → ⊥
+no_values_given name f given text none has =
+    let missing : all_of name (rows_of f) ≡ None = sym (raw_values-rows f name) ∙ sym text ∙ ap (option_map (λ s. map (λ t. t.now) s.now)) none in
+    let bad : false ≡ true = rw missing at has in
+    cc
+
+-- ---- what was found
+
+pub found_is : {X : Type 0} (found : Option X) (x : X) (P : X → Type 0) → IfSome found P → found ≡ Some x → P x
+found_is found x P holds is =
+    let h : IfSome (Some x) P = subst (λ o. IfSome o P) is holds in
+    h
+
+pub not_none : {X : Type 0} (found : Option X) → IsSome found → found ≡ None → ⊥
+not_none {X} found some is =
+    let none : Option X = None in
+    let bad : IsSome none = subst (λ o. IsSome o) is some in
     cc

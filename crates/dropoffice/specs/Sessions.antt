@@ -1,5 +1,5 @@
 -- A connection, and a list of connections.
-use Rattle.std.specs.Prelude.{◌≡◌, ℕ, zero, suc, Bool, true, false, List, [], ◌∷◌, ◌++◌}
+use Rattle.std.specs.Prelude.{◌≡◌, ◌⊎◌, ℕ, zero, suc, Bool, true, false, List, [], ◌∷◌, ◌++◌}
 use Rattle.sigtext.specs.declared.refusal.Refusal.{Refusal}
 use Rattle.sigtext.specs.declared.refusal.Refusal.TheVariants as rule
 use Rattle.sigtext.specs.Refusals.{number_of}
@@ -9,8 +9,7 @@ use Rattle.wire.specs.Answers.{answer_text}
 use Rattle.wire.specs.Answers as answer
 use Rattle.wire.specs.Framing.{Next}
 use Rattle.wire.specs.Framing as frame
-use Rattle.wire.specs.Feeding.{HoldsNoMessage}
-use Rattle.wire.specs.Whole.{HoldsNoBareMessage}
+use Rattle.wire.specs.Feeding.{AnnouncesBody, Awaits}
 use Rattle.sigtext.specs.Bytes.{IsBeginning}
 use Rattle.dropoffice.specs.declared.session.SessionEnd.{SessionEnd}
 use Rattle.dropoffice.specs.declared.session.SessionEnd.TheVariants.{Ended, Truncated, Refused, Limit, ReadFault, WriteFault}
@@ -24,6 +23,11 @@ closing q = answer_text false (answer.Refused q)
 -- how many messages a connection is served
 abbrev pub most_messages : ℕ
 most_messages = 1000
+
+-- Where a session may give up before a message was read whole, if up to n are to come. For the first buffer: as the first
+-- thing of a connection, before anything was read. Or for a body: where a head announces it.
+abbrev pub MayGiveUpReading : ℕ → List ℕ → Type 0
+MayGiveUpReading n stream = ((n ≡ most_messages) × (stream ≡ [])) ⊎ AnnouncesBody stream
 
 -- Up to n further messages of a stream are served from a state. This takes the moments, one for each
 -- message that was read whole, writes the bytes, ends so, and leaves the last state. The mark says
@@ -40,10 +44,11 @@ pub data Session : ℕ → List ℕ → State → List ℕ → List ℕ → Sess
   -- memory was refused, or the keeper counted a fault, at a message
   gave_up_at : (n : ℕ) (stream rest : List ℕ) (s : State) (r : Request) (now : ℕ) → Next stream (frame.Message r) rest → IsReadable r
       → Session (suc n) stream s (now ∷ []) (closing rule.TryAgain) (Refused 40) true s
-  -- memory was refused where a message is read: for the first buffer, or for a body that is not empty
-  gave_up_reading : (n : ℕ) (stream : List ℕ) (s : State) → HoldsNoBareMessage stream → Session (suc n) stream s [] (closing rule.TryAgain) (Refused 40) true s
-  -- a read failed, and no further message stands whole in the bytes read before it
-  read_failed : (n : ℕ) (stream : List ℕ) (s : State) → HoldsNoMessage stream → Session (suc n) stream s [] [] ReadFault false s
+  -- memory was refused where a message is read
+  gave_up_reading : (n : ℕ) (stream : List ℕ) (s : State) → MayGiveUpReading (suc n) stream
+      → Session (suc n) stream s [] (closing rule.TryAgain) (Refused 40) true s
+  -- a read failed, and the bytes read before it don't tell the next step
+  read_failed : (n : ℕ) (stream : List ℕ) (s : State) → Awaits stream → Session (suc n) stream s [] [] ReadFault false s
   -- a write failed, and a beginning of the answer was written; the request has taken effect, or was refused
   write_failed : (n : ℕ) (stream rest : List ℕ) (s after : State) (r : Request) (now : ℕ) (text front : List ℕ)
       → Next stream (frame.Message r) rest → Answers s r now text after → IsBeginning front text
@@ -52,7 +57,7 @@ pub data Session : ℕ → List ℕ → State → List ℕ → List ℕ → Sess
       → IsBeginning front (closing q) → Session (suc n) stream s [] front WriteFault false s
   write_failed_giving_up_at : (n : ℕ) (stream rest : List ℕ) (s : State) (r : Request) (now : ℕ) (front : List ℕ) → Next stream (frame.Message r) rest
       → IsReadable r → IsBeginning front (closing rule.TryAgain) → Session (suc n) stream s (now ∷ []) front WriteFault true s
-  write_failed_giving_up_reading : (n : ℕ) (stream : List ℕ) (s : State) (front : List ℕ) → HoldsNoBareMessage stream
+  write_failed_giving_up_reading : (n : ℕ) (stream : List ℕ) (s : State) (front : List ℕ) → MayGiveUpReading (suc n) stream
       → IsBeginning front (closing rule.TryAgain) → Session (suc n) stream s [] front WriteFault true s
 
 -- a connection as it was served

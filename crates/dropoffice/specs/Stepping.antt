@@ -8,11 +8,13 @@ use Rattle.sigtext.specs.Request.{Request}
 use Rattle.boxes.specs.State.{State}
 use Rattle.wire.specs.Framing.{Next, Message}
 use Rattle.wire.specs.declared.counted.Counted.{Counted}
+use Rattle.wire.specs.declared.feed.Place.{Place}
+use Rattle.wire.specs.declared.feed.Place.TheVariants as place
 use Rattle.dropoffice.specs.declared.session.SessionEnd.{SessionEnd}
 use Rattle.dropoffice.specs.declared.session.SessionEnd.TheVariants.{Refused, WriteFault}
 use Rattle.dropoffice.specs.Answering.{Answers}
 use Rattle.dropoffice.specs.Connections.{Serves, TellsFaults}
-use Rattle.dropoffice.specs.Sessions.{closing}
+use Rattle.dropoffice.specs.Sessions.{closing, most_messages}
 use Rattle.dropoffice.specs.Kept.{IsLeft}
 
 -- One message was answered, and the session goes on. left and left': what is left of the stream before and after.
@@ -28,12 +30,17 @@ pub record Goes {C : Type 0} (gives : C → ℕ → C → Type 0) (left left' ou
   pub answers : Answers s request moment text after
   pub counted : count' ≡ count
 
--- A step goes on, or it ends the session, however many messages were to come. reader: what the reader has now.
-abbrev pub Steps : {C : Type 0} → (C → ℕ → C → Type 0) → Option (List ℕ) → Option (List ℕ) → Option (List ℕ) → Option (List ℕ) → Option (List ℕ) → C → C → ℕ → ℕ → (State → Type 0) → State → Option SessionEnd → Type 0
-Steps gives left left' reader output output' clock clock' count count' means s None =
+-- up to n messages are to come of a feed that stands there: all of a connection's, where it is fresh
+abbrev pub ToCome : Place → ℕ → Type 0
+ToCome p n = p ≡ place.Fresh → n ≡ most_messages
+
+-- A step goes on, or it ends the session, however many messages were to come. p: where the feed stood before; reader: what the
+-- reader has now.
+abbrev pub Steps : {C : Type 0} → (C → ℕ → C → Type 0) → Place → Option (List ℕ) → Option (List ℕ) → Option (List ℕ) → Option (List ℕ) → Option (List ℕ) → C → C → ℕ → ℕ → (State → Type 0) → State → Option SessionEnd → Type 0
+Steps gives p left left' reader output output' clock clock' count count' means s None =
     (after : State) × IsLeft means after × Goes gives left left' output output' clock clock' count count' s after
-Steps gives left left' reader output output' clock clock' count count' means s (Some e) =
-    (after : State) × IsLeft means after × ((n : ℕ) → Serves (suc n) gives left reader output output' clock clock' count count' s after e)
+Steps gives p left left' reader output output' clock clock' count count' means s (Some e) =
+    (after : State) × IsLeft means after × ((n : ℕ) → ToCome p (suc n) → Serves (suc n) gives left reader output output' clock clock' count count' s after e)
 
 -- the faults that were counted in a step
 abbrev pub TellsStep : {R W : Type 0} → Option SessionEnd → Counted R → Counted R → Counted W → Counted W → Type 0

@@ -1,54 +1,167 @@
 -- The command line of the program, as clap reads it, and the task that its words name.
-use Rattle.std.specs.Prelude.{◌≡◌, List, codes, Option, Some, is_some, true}
-use Rattle.clap.specs.Words.{App, Row, Rule, Text, first_of, new_app, new_rule, subcommand_of, with_rule, with_subcommand}
+use Rattle.std.specs.Prelude.{◌≡◌, ◌⊎◌, [], ◌∷◌, List, codes, map, Option, Some, is_some, true}
+use Rattle.clap.specs.Lexer.{usize_max}
+use Rattle.clap.specs.Words.{App, Row, Rule, Text, all_of, first_of, new_app, new_rule, subcommand_of, with_rule, with_subcommand}
 use Rattle.clap.specs.Simple.{on_top}
+use Rattle.clap.specs.declared.builder.value_parser.ValueParser.TheVariants.{Unsigned}
+use Rattle.dropoffice.specs.declared.task.Init.{Init}
+use Rattle.dropoffice.specs.declared.task.Link.{Link}
 use Rattle.dropoffice.specs.declared.task.Replay.{Replay}
 use Rattle.dropoffice.specs.declared.task.Task.{Task}
 use Rattle.dropoffice.specs.declared.task.Task.TheVariants as task
 
--- FILE, which help calls by one name, as the next two
-unfoldable pub file_rule : Rule
-file_rule = record (new_rule (codes "file")) { value_names = 1; required = true }
+-- ---- the words of the commands; help calls each value by one name
 
--- STREAM
-unfoldable pub stream_rule : Rule
-stream_rule = record (new_rule (codes "stream")) { value_names = 1; required = true }
+-- FILE and the like
+abbrev pub word_rule : Text → Rule
+word_rule id = record (new_rule id) { value_names = 1; required = true }
+
+-- --at MOMENT and the like
+abbrev pub option_rule : Text → Rule
+option_rule id = record (new_rule id) { long = Some id; value_names = 1; required = true }
+
+-- FILE
+unfoldable pub file_rule : Rule
+file_rule = word_rule (codes "file")
+
+-- STREAM.., one or more
+unfoldable pub streams_rule : Rule
+streams_rule = record (word_rule (codes "stream")) { range = Some (record { start_inclusive = 1; end_inclusive = usize_max }) }
 
 -- --at MOMENT
 unfoldable pub at_rule : Rule
-at_rule = record (new_rule (codes "at")) { long = Some (codes "at"); value_names = 1; required = true }
+at_rule = option_rule (codes "at")
 
--- replay FILE STREAM --at MOMENT
+-- METHOD, TARGET
+unfoldable pub method_rule : Rule
+method_rule = word_rule (codes "method")
+
+unfoldable pub target_rule : Rule
+target_rule = word_rule (codes "target")
+
+-- --clerk ID, --secret SECRET, --key ID, --host H, --region R, --start MOMENT
+unfoldable pub clerk_rule : Rule
+clerk_rule = option_rule (codes "clerk")
+
+unfoldable pub secret_rule : Rule
+secret_rule = option_rule (codes "secret")
+
+unfoldable pub key_rule : Rule
+key_rule = option_rule (codes "key")
+
+unfoldable pub host_rule : Rule
+host_rule = option_rule (codes "host")
+
+unfoldable pub region_rule : Rule
+region_rule = option_rule (codes "region")
+
+unfoldable pub start_rule : Rule
+start_rule = option_rule (codes "start")
+
+-- --expires N, a whole number from 1 to 604800
+unfoldable pub expires_rule : Rule
+expires_rule = record (option_rule (codes "expires")) { parser = Some (Unsigned 1 604800) }
+
+-- --east M and --west M, whole numbers from 0 to 840, and 0 where they are left out
+abbrev pub minutes_rule : Text → Rule
+minutes_rule id = record (new_rule id) { long = Some id; value_names = 1; defaults = codes "0" ∷ []; parser = Some (Unsigned 0 840) }
+
+unfoldable pub east_rule : Rule
+east_rule = minutes_rule (codes "east")
+
+unfoldable pub west_rule : Rule
+west_rule = minutes_rule (codes "west")
+
+-- ---- the commands
+
+-- init FILE --clerk ID --secret SECRET --east M --west M
+unfoldable pub init_app : App
+init_app = with_rule (with_rule (with_rule (with_rule (with_rule (new_app (codes "init")) file_rule) clerk_rule) secret_rule) east_rule) west_rule
+
+-- FILE METHOD TARGET
+unfoldable pub target_app : App
+target_app = with_rule (with_rule (with_rule (new_app (codes "link")) file_rule) method_rule) target_rule
+
+-- link FILE METHOD TARGET --key ID --host H --region R --start MOMENT --expires N
+unfoldable pub link_app : App
+link_app = with_rule (with_rule (with_rule (with_rule (with_rule target_app key_rule) host_rule) region_rule) start_rule) expires_rule
+
+-- replay FILE STREAM.. --at MOMENT
 unfoldable pub replay_app : App
-replay_app = with_rule (with_rule (with_rule (new_app (codes "replay")) file_rule) stream_rule) at_rule
+replay_app = with_rule (with_rule (with_rule (new_app (codes "replay")) file_rule) streams_rule) at_rule
 
 -- drop COMMAND, which answers with help where no word follows
 unfoldable pub drop_app : App
 drop_app =
     let needs_command = on_top (λ s. record s { subcommand_required = true; arg_required_else_help = true }) (new_app (codes "drop")) in
-    with_subcommand needs_command replay_app.top
+    with_subcommand (with_subcommand (with_subcommand needs_command init_app.top) link_app.top) replay_app.top
+
+-- ---- the values that the matches give
 
 -- the matches give these values
+abbrev pub IsInitOf : List Row → Init → Type 0
+IsInitOf rows i =
+    (first_of (codes "file") rows ≡ Some i.file.now)
+    × (first_of (codes "clerk") rows ≡ Some i.clerk.now)
+    × (first_of (codes "secret") rows ≡ Some i.secret.now)
+    × (first_of (codes "east") rows ≡ Some i.east.now)
+    × (first_of (codes "west") rows ≡ Some i.west.now)
+
+abbrev pub IsLinkIn : List Row → Link → Type 0
+IsLinkIn rows l =
+    (first_of (codes "file") rows ≡ Some l.file.now)
+    × (first_of (codes "method") rows ≡ Some l.method.now)
+    × (first_of (codes "target") rows ≡ Some l.target.now)
+    × (first_of (codes "key") rows ≡ Some l.key.now)
+    × (first_of (codes "host") rows ≡ Some l.host.now)
+    × (first_of (codes "region") rows ≡ Some l.region.now)
+    × (first_of (codes "start") rows ≡ Some l.start.now)
+    × (first_of (codes "expires") rows ≡ Some l.expires.now)
+
 abbrev pub IsReplayOf : List Row → Replay → Type 0
 IsReplayOf rows r =
     (first_of (codes "file") rows ≡ Some r.file.now)
     × (first_of (codes "at") rows ≡ Some r.at.now)
-    × (first_of (codes "stream") rows ≡ Some r.stream.now)
+    × (all_of (codes "stream") rows ≡ Some (map (λ s. s.now) r.streams.items))
+
+-- the matches give this argument a value
+abbrev pub HasValue : Text → List Row → Type 0
+HasValue id rows = is_some (first_of id rows) ≡ true
 
 -- the matches give each value
+abbrev pub HasInit : List Row → Type 0
+HasInit rows =
+    HasValue (codes "file") rows × HasValue (codes "clerk") rows × HasValue (codes "secret") rows × HasValue (codes "east") rows × HasValue (codes "west") rows
+
+abbrev pub HasLink : List Row → Type 0
+HasLink rows =
+    HasValue (codes "file") rows × HasValue (codes "method") rows × HasValue (codes "target") rows × HasValue (codes "key") rows
+    × HasValue (codes "host") rows × HasValue (codes "region") rows × HasValue (codes "start") rows × HasValue (codes "expires") rows
+
 abbrev pub HasReplay : List Row → Type 0
 HasReplay rows =
-    (is_some (first_of (codes "file") rows) ≡ true)
-    × (is_some (first_of (codes "at") rows) ≡ true)
-    × (is_some (first_of (codes "stream") rows) ≡ true)
+    HasValue (codes "file") rows × HasValue (codes "at") rows × (is_some (all_of (codes "stream") rows) ≡ true)
+
+-- ---- the task
 
 -- the command that the words name, with its matches, is this task
 abbrev pub IsTaskIn : Option (Text × List Row) → Task → Type 0
+IsTaskIn named (task.Init i) = (rows : List Row) × (named ≡ Some (codes "init", rows)) × IsInitOf rows i
+IsTaskIn named (task.Link l) = (rows : List Row) × (named ≡ Some (codes "link", rows)) × IsLinkIn rows l
 IsTaskIn named (task.Replay r) = (rows : List Row) × (named ≡ Some (codes "replay", rows)) × IsReplayOf rows r
+
+abbrev pub NamesInit : Option (Text × List Row) → Type 0
+NamesInit named = (rows : List Row) × (named ≡ Some (codes "init", rows)) × HasInit rows
+
+abbrev pub NamesLink : Option (Text × List Row) → Type 0
+NamesLink named = (rows : List Row) × (named ≡ Some (codes "link", rows)) × HasLink rows
+
+abbrev pub NamesReplay : Option (Text × List Row) → Type 0
+NamesReplay named = (rows : List Row) × (named ≡ Some (codes "replay", rows)) × HasReplay rows
 
 -- the command that the words name, with its matches, is a task
 abbrev pub NamesTask : Option (Text × List Row) → Type 0
-NamesTask named = (rows : List Row) × (named ≡ Some (codes "replay", rows)) × HasReplay rows
+NamesTask named = NamesInit named ⊎ (NamesLink named ⊎ NamesReplay named)
 
 -- the words name this task
 abbrev pub IsTaskOf : List Text → Task → Type 0

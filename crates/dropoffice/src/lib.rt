@@ -3,24 +3,30 @@
 
 mod admitting;
 pub mod clocks;
+mod faults;
 mod fetching;
 mod forms;
 mod handling;
+mod init;
+mod linking;
 pub mod office;
+mod opening;
 mod places;
 mod program;
 mod putting;
 mod reading;
 pub mod replay;
+mod replaying;
 pub mod run;
 pub mod session;
 mod stepping;
 pub mod task;
+mod words;
 
 pub use clocks::{Clock, FixedClock, ListedClock};
 pub use office::Office;
 pub use program::perform;
-pub use replay::{Replayed, replay_bytes};
+pub use replay::{Replayed, replay_bytes, replay_in_memory, replay_over};
 pub use session::SessionEnd;
-pub use task::{Replay, Task};
+pub use task::{Init, Link, Replay, Task};
 pub use wire::{Answer, Counted, Message};

@@ -1,17 +1,21 @@
-//! A connection over an office in memory, at one moment.
+//! Connections at one moment: one over an office in memory, and a list over any office.
 ghost use Rattle.std.specs.Prelude.{◌≡◌, pos, IfOk, OnErr};
 ghost use Rattle.sigv4.specs.Credential.{IsKeyId, IsSecret};
 ghost use Rattle.boxes.specs.FirstState.{first_state};
+ghost use Rattle.boxes.specs.State.{State};
 ghost use Rattle.dropoffice.specs.Connections.{TellsFaults};
-ghost use Rattle.dropoffice.specs.Replays.{IsReplay, Replays};
+ghost use Rattle.dropoffice.specs.Kept.{IsKept, IsLeft};
+ghost use Rattle.dropoffice.specs.Replays.{IsReplay, Replays, TakesTurns};
 
 use crate::clocks::FixedClock;
 use crate::office::Office;
 use crate::session::SessionEnd;
 use boxes::OfficeRow;
-use keeper::Shelf;
+use keeper::{Keeper, Shelf};
 use sigv4::Moment;
 use std::alloc::{AllocError, Global};
+use std::fs;
+use std::fs::Files;
 use std::io::{Read, Write};
 use wire::Counted;
 
@@ -65,4 +69,60 @@ pub fn replay_bytes(
         answers: writer.inner,
         end,
     })
+}
+
+/// Serves connections over an office, one after another, on one writer, every message at the moment; and answers how many
+/// sessions ended by a read or a write that failed. The streams are the names of files: each is opened when its turn comes.
+/// What is written, and the state after, are those of sessions of the machine in turn. The error is the first name whose
+/// file could not be opened: the connections before it were served, and none after it.
+pub fn replay_over<'a, F: Files, K: Keeper, W: Write>(
+    files: &F,
+    office: &mut Office<K>,
+    streams: &[&'a str],
+    moment: Moment,
+    writer: &mut Counted<W>,
+) -> Result<u64, &'a str>
+    ensures turns { (s : State) → IsKept (K.means office.old.keeper) (K.is_honest office.new.keeper) s
+        → (after : State) × IsLeft (K.means office.new.keeper) after
+        × TakesTurns (W.contents writer.old.inner) (W.contents writer.new.inner) s after moment streams.now result }
+    ensures honest { K.is_honest office.new.keeper → K.is_honest office.old.keeper }
+{
+    let mut faulty = 0;
+    'streams: for name in streams {
+        let Ok(stream) = fs::open(files, *name) else {
+            return Err(*name);
+        };
+        let mut reader = Counted::new(stream);
+        let mut clock = FixedClock::new(moment);
+        let end = office.session(&mut reader, writer, &mut clock);
+        if end.is_fault() {
+            faulty += 1;
+        }
+    }
+    Ok(faulty)
+}
+
+/// As `replay_over`, over a new office in memory, which has offset 0, this clerk's key and no boxes. The error is that memory
+/// was refused for the office; nothing was served then.
+pub fn replay_in_memory<'a, F: Files, W: Write>(
+    alloc: Global,
+    files: &F,
+    id: &[u8],
+    secret: &[u8],
+    streams: &[&'a str],
+    moment: Moment,
+    writer: &mut Counted<W>,
+) -> Result<Result<u64, &'a str>, AllocError>
+    requires id { IsKeyId id.now }
+    requires secret { IsSecret secret.now }
+    ensures turns { IfOk result (λ served. (after : State)
+        × TakesTurns (W.contents writer.old.inner) (W.contents writer.new.inner) (first_state (pos 0) id.now secret.now) after moment streams.now served) }
+    ensures err { OnErr result (writer.new ≡ writer.old) }
+{
+    let first = OfficeRow { east: 0 };
+    let Ok(keeper) = Shelf::new(alloc, first, id, secret) else {
+        return Err(AllocError);
+    };
+    let mut office = Office::new(alloc, keeper);
+    Ok(replay_over(files, &mut office, streams, moment, writer))
 }

@@ -38,6 +38,7 @@ impl<K: Keeper> Office<K> {
     ghost use Rattle.wire.specs.Framing.{IsHead, request_of};
     ghost use Rattle.wire.specs.Messages.{request_in};
     ghost use Rattle.wire.specs.Whole.{MayBegin};
+    ghost use Rattle.wire.specs.declared.feed.Place.TheVariants as stands;
     ghost use Rattle.dropoffice.specs.Handling.{Handles};
     ghost use Rattle.dropoffice.specs.Connections.{TellsFaults};
     ghost use Rattle.dropoffice.specs.Kept.{IsKept};
@@ -111,9 +112,9 @@ impl<K: Keeper> Office<K> {
     ) -> Option<SessionEnd>
         requires { MayBegin (place_of feed.old) }
         ensures same { SameReader feed.old feed.new }
-        ensures goes_on { IfNone result (MayBegin (place_of feed.new)) }
+        ensures goes_on { IfNone result (place_of feed.new ≡ stands.Between) }
         ensures steps { (s : State) → IsKept (K.means self.old.keeper) (K.is_honest self.new.keeper) s
-            → Steps C.now_gives (left R.remaining feed.old) (left R.remaining feed.new) (R.remaining (reader_of feed.new).inner)
+            → Steps C.now_gives (place_of feed.old) (left R.remaining feed.old) (left R.remaining feed.new) (R.remaining (reader_of feed.new).inner)
             (W.contents writer.old.inner) (W.contents writer.new.inner) clock.old clock.new
             (K.faults self.old.keeper) (K.faults self.new.keeper) (K.means self.new.keeper) s result }
         ensures faults { TellsStep result (reader_of feed.old) (reader_of feed.new) writer.old writer.new }

@@ -1,29 +1,71 @@
-//! The program's words, as clap reads them.
-ghost use Rattle.std.specs.Prelude.{◌≡◌, IfOk, IfErr, IfSome, IsSome, false, true, map};
-ghost use Rattle.clap.specs.Words.{app_of, fault_of, found_of, kind_of, rows_of, rule_of, subcommand_rows_of, takes, FailsBy};
-ghost use Rattle.clap.specs.declared.builder.command.Command.TheViews.{out-Command};
-ghost use Rattle.dropoffice.specs.Tasks.{drop_app, file_rule, at_rule, replay_app, stream_rule, HasReplay, IsReplayOf, IsTaskIn, IsTaskOf, NamesTask};
+//! What the program's words ask for.
+ghost use Rattle.std.specs.Prelude.{◌≡◌, IfOk, IfErr, IfSome, IsSome, Some, is_some, true, map};
+ghost use Rattle.clap.specs.Words.{all_of, fault_of, first_of, found_of, kind_of, rows_of, subcommand_rows_of, takes, FailsBy};
+ghost use Rattle.dropoffice.specs.Tasks.{drop_app, HasInit, HasLink, HasReplay, HasValue, IsInitOf, IsLinkIn, IsReplayOf, IsTaskIn, IsTaskOf, NamesInit, NamesLink, NamesReplay, NamesTask};
 
+use crate::words::command_line;
 use clap::error::ErrorKind;
-use clap::{Arg, ArgMatches, Command, Error};
+use clap::{ArgMatches, Error};
 use std::alloc::{AllocError, Global};
 
-/// What the program is asked to do.
-#[derive(Debug, Clone, Copy)]
+/// What the program is asked to do. It has no `Debug`, so that no secret gets into a log by it.
+#[derive(Drop)]
 pub enum Task<'a> {
-    /// Answer one recorded connection.
+    /// Make an office file.
+    Init(Init<'a>),
+    /// Write a link.
+    Link(Link<'a>),
+    /// Answer recorded connections.
     Replay(Replay<'a>),
 }
 
-/// The words of `drop replay FILE STREAM --at MOMENT`, each as it was given: no form is asked of them here.
+/// The words of `drop init FILE --clerk ID --secret SECRET --east M --west M`, each as it was given, and the two numbers
+/// `0` where they were left out. The numbers are from 0 to 840; of the others no form is asked here.
+#[derive(Clone, Copy)]
+pub struct Init<'a> {
+    /// The office file.
+    pub file: &'a str,
+    /// The id of the clerk's key.
+    pub clerk: &'a str,
+    /// Its secret.
+    pub secret: &'a str,
+    /// How many minutes the office's clock is ahead of UTC.
+    pub east: &'a str,
+    /// How many minutes it is behind UTC.
+    pub west: &'a str,
+}
+
+/// The words of `drop link FILE METHOD TARGET --key ID --host H --region R --start MOMENT --expires N`, each as it was given.
+/// N is from 1 to 604800; of the others no form is asked here.
 #[derive(Debug, Clone, Copy)]
+pub struct Link<'a> {
+    /// The office file.
+    pub file: &'a str,
+    /// The method.
+    pub method: &'a str,
+    /// The box and the name.
+    pub target: &'a str,
+    /// The id of the key that signs.
+    pub key: &'a str,
+    /// The host.
+    pub host: &'a str,
+    /// The region.
+    pub region: &'a str,
+    /// The first moment at which the link is good.
+    pub start: &'a str,
+    /// For how many seconds it is good.
+    pub expires: &'a str,
+}
+
+/// The words of `drop replay FILE STREAM.. --at MOMENT`, each as it was given: no form is asked of them here.
+#[derive(Drop)]
 pub struct Replay<'a> {
     /// The office.
     pub file: &'a str,
     /// The moment at which the requests are answered.
     pub at: &'a str,
-    /// The name of the file that holds the bytes of the connection.
-    pub stream: &'a str,
+    /// The names of the files that hold the bytes of the connections: one or more.
+    pub streams: Vec<&'a str>,
 }
 
 impl<'a> Task<'a> {
@@ -39,7 +81,7 @@ impl<'a> Task<'a> {
     {
         let mut command = command_line(alloc)?;
         let matches = command.try_get_matches_from_mut(words)?;
-        match Task::of_matches(&matches) {
+        match Task::of_matches(alloc, &matches)? {
             Some(task) => Ok(task),
             // The contract says that it does not come to this: clap has refused such words.
             None => Err(command.error(ErrorKind::MissingSubcommand, "a command is missing")?),
@@ -47,78 +89,119 @@ impl<'a> Task<'a> {
     }
 
     // The task that the words named.
-    fn of_matches(matches: &ArgMatches<'a>) -> Option<Task<'a>>
-        ensures task { IfSome result (IsTaskIn (subcommand_rows_of matches.now)) }
-        ensures named { NamesTask (subcommand_rows_of matches.now) → IsSome result }
+    fn of_matches(alloc: Global, matches: &ArgMatches<'a>) -> Result<Option<Task<'a>>, AllocError>
+        ensures task { IfOk result (λ found. IfSome found (IsTaskIn (subcommand_rows_of matches.now))) }
+        ensures named { NamesTask (subcommand_rows_of matches.now) → IfOk result (λ found. IsSome found) }
     {
-        let values = matches.subcommand_matches("replay")?;
-        Some(Task::Replay(Replay::of_matches(values)?))
+        if let Some(task) = Task::init_in(matches) {
+            return Ok(Some(task));
+        }
+        if let Some(task) = Task::link_in(matches) {
+            return Ok(Some(task));
+        }
+        Task::replay_in(alloc, matches)
+    }
+
+    fn init_in(matches: &ArgMatches<'a>) -> Option<Task<'a>>
+        ensures task { IfSome result (IsTaskIn (subcommand_rows_of matches.now)) }
+        ensures named { NamesInit (subcommand_rows_of matches.now) → IsSome result }
+    {
+        let values = matches.subcommand_matches("init")?;
+        Some(Task::Init(Init::of_matches(values)?))
+    }
+
+    fn link_in(matches: &ArgMatches<'a>) -> Option<Task<'a>>
+        ensures task { IfSome result (IsTaskIn (subcommand_rows_of matches.now)) }
+        ensures named { NamesLink (subcommand_rows_of matches.now) → IsSome result }
+    {
+        let values = matches.subcommand_matches("link")?;
+        Some(Task::Link(Link::of_matches(values)?))
+    }
+
+    fn replay_in(alloc: Global, matches: &ArgMatches<'a>) -> Result<Option<Task<'a>>, AllocError>
+        ensures task { IfOk result (λ found. IfSome found (IsTaskIn (subcommand_rows_of matches.now))) }
+        ensures named { NamesReplay (subcommand_rows_of matches.now) → IfOk result (λ found. IsSome found) }
+    {
+        let Some(values) = matches.subcommand_matches("replay") else {
+            return Ok(None);
+        };
+        match Replay::of_matches(alloc, values)? {
+            Some(replay) => Ok(Some(Task::Replay(replay))),
+            None => Ok(None),
+        }
     }
 }
 
-impl<'a> Replay<'a> {
-    fn of_matches(values: &ArgMatches<'a>) -> Option<Replay<'a>>
-        ensures values { IfSome result (IsReplayOf (rows_of (found_of values.now))) }
-        ensures given { HasReplay (rows_of (found_of values.now)) → IsSome result }
+impl<'a> Init<'a> {
+    fn of_matches(values: &ArgMatches<'a>) -> Option<Init<'a>>
+        ensures values { IfSome result (IsInitOf (rows_of (found_of values.now))) }
+        ensures given { HasInit (rows_of (found_of values.now)) → IsSome result }
     {
-        Some(Replay {
-            file: values.get_str("file")?,
-            at: values.get_str("at")?,
-            stream: values.get_str("stream")?,
+        Some(Init {
+            file: value_of(values, "file")?,
+            clerk: value_of(values, "clerk")?,
+            secret: value_of(values, "secret")?,
+            east: value_of(values, "east")?,
+            west: value_of(values, "west")?,
         })
     }
 }
 
-// `drop COMMAND`.
-fn command_line<'a>(alloc: Global) -> Result<Command<'a>, AllocError>
-    ensures { IfOk result (λ c. app_of c ≡ drop_app) }
-{
-    Command::new(alloc, "drop")
-        .about("Answers requests that carry signed links to an office's files")
-        .subcommand_required(true)
-        .arg_required_else_help(true)
-        .subcommand(replay_command(alloc)?)
+impl<'a> Link<'a> {
+    fn of_matches(values: &ArgMatches<'a>) -> Option<Link<'a>>
+        ensures values { IfSome result (IsLinkIn (rows_of (found_of values.now))) }
+        ensures given { HasLink (rows_of (found_of values.now)) → IsSome result }
+    {
+        Some(Link {
+            file: value_of(values, "file")?,
+            method: value_of(values, "method")?,
+            target: value_of(values, "target")?,
+            key: value_of(values, "key")?,
+            host: value_of(values, "host")?,
+            region: value_of(values, "region")?,
+            start: value_of(values, "start")?,
+            expires: value_of(values, "expires")?,
+        })
+    }
 }
 
-// `replay FILE STREAM --at MOMENT`.
-fn replay_command<'a>(alloc: Global) -> Result<Command<'a>, AllocError>
-    ensures app { IfOk result (λ c. app_of c ≡ replay_app) }
-    ensures local { IfOk result (λ c. (out-Command c).has_globals ≡ false) }
-{
-    Command::new(alloc, "replay")
-        .about("Answers one recorded request and prints the answer")
-        .arg(file_argument(alloc))?
-        .arg(stream_argument(alloc))?
-        .arg(at_option(alloc))
+impl<'a> Replay<'a> {
+    fn of_matches(alloc: Global, values: &ArgMatches<'a>) -> Result<Option<Replay<'a>>, AllocError>
+        ensures values { IfOk result (λ found. IfSome found (IsReplayOf (rows_of (found_of values.now)))) }
+        ensures given { HasReplay (rows_of (found_of values.now)) → IfOk result (λ found. IsSome found) }
+    {
+        let Some(file) = value_of(values, "file") else {
+            return Ok(None);
+        };
+        let Some(at) = value_of(values, "at") else {
+            return Ok(None);
+        };
+        match values_of(alloc, values, "stream")? {
+            Some(streams) => Ok(Some(Replay { file, at, streams })),
+            None => Ok(None),
+        }
+    }
 }
 
-fn file_argument<'a>(alloc: Global) -> Arg<'a>
-    ensures rule { rule_of result ≡ file_rule }
-    ensures local { result.global ≡ false }
+// The value of an argument that has one value.
+fn value_of<'a>(values: &ArgMatches<'a>, id: &str) -> Option<&'a str>
+    ensures value { IfSome result (λ s. first_of id.now (rows_of (found_of values.now)) ≡ Some s.now) }
+    ensures given { HasValue id.now (rows_of (found_of values.now)) → IsSome result }
 {
-    Arg::new(alloc, "file")
-        .value_name("FILE")
-        .required(true)
-        .help("The office. memory:ID/SECRET makes an empty one for this run, with one clerk's key")
+    values.get_str(id)
 }
 
-fn stream_argument<'a>(alloc: Global) -> Arg<'a>
-    ensures rule { rule_of result ≡ stream_rule }
-    ensures local { result.global ≡ false }
+// The values of an argument that has several.
+fn values_of<'a>(
+    alloc: Global,
+    values: &ArgMatches<'a>,
+    id: &str,
+) -> Result<Option<Vec<&'a str>>, AllocError>
+    ensures values { IfOk result (λ found. IfSome found (λ v. all_of id.now (rows_of (found_of values.now)) ≡ Some (map (λ s. s.now) v.items))) }
+    ensures given { is_some (all_of id.now (rows_of (found_of values.now))) ≡ true → IfOk result (λ found. IsSome found) }
 {
-    Arg::new(alloc, "stream")
-        .value_name("STREAM")
-        .required(true)
-        .help("The file with the bytes that the caller sent")
-}
-
-fn at_option<'a>(alloc: Global) -> Arg<'a>
-    ensures rule { rule_of result ≡ at_rule }
-    ensures local { result.global ≡ false }
-{
-    Arg::new(alloc, "at")
-        .long("at")
-        .value_name("MOMENT")
-        .required(true)
-        .help("The time to answer at, in UTC: 20130524T000000Z is 24 May 2013, 00:00:00")
+    match values.get_strs(id) {
+        Some(texts) => Ok(Some(Vec::from_slice(alloc, texts)?)),
+        None => Ok(None),
+    }
 }

@@ -1,30 +1,56 @@
 -- A connection that was looked at, and holds an office.
-use Rattle.std.proofs.Common.{◌≡◌, IsTrue, sym, subst}
+use Rattle.std.proofs.Common.{◌≡◌, inl, inr, false, IsTrue, sym, subst, ◌∙◌}
 use Rattle.sqlite_trees.specs.Tree.{Trees}
-use Rattle.sqlite.specs.State.{State}
+use Rattle.sqlite.specs.State.{State, HasCleanDisk}
 use Rattle.boxes.specs.State.{State as Office}
-use Rattle.sqlkeeper.specs.Schema.{v1}
+use Rattle.sqlkeeper.specs.Schema.{v1, s0}
 use Rattle.sqlkeeper.specs.Tables.{tables_of}
-use Rattle.sqlkeeper.specs.Means.{Means, Holds, OfficeMeans, LeavesOnly}
+use Rattle.sqlkeeper.specs.Means.{Means, Holds, OfficeMeans, LeavesOnly, IsBare}
 use Rattle.sqlkeeper.specs.Kept.{KeepsState}
 use Rattle.sqlkeeper.proofs.Taken.{by_rows}
-use Rattle.sqlkeeper.specs.Opened.{SeesSame, IsAtRest, AreOffice}
+use Rattle.sqlkeeper.specs.Opened.{HasOurs, OnlyLooks, SeesSame, IsAtRest, AreOffice}
 
 -- what was found of the old one is kept by the new one
 pub keeps_found : (old new : State) → IsTrue new.is_open → SeesSame old new → IsAtRest new → (office : Office) × AreOffice old.now office → (office : Office) × KeepsState new office
-keeps_found old new is_open same rest (office, found) = (office, record {
-  means = λ clean. record {
-    autocommit = rest.autocommit;
-    tables = λ open_now. record {
-      holds = subst (λ db. Holds v1 db (tables_of office)) (sym (same.now_is open_now)) found.holds;
-      settled = rest.settled open_now;
+keeps_found old new is_open same rest (office, found) = (
+  office,
+  record {
+    means = λ clean. record {
+      autocommit = rest.autocommit;
+      tables = λ open_now. record {
+        holds = subst (λ db. Holds v1 db (tables_of office)) (sym (same.now_is open_now)) found.holds;
+        settled = rest.settled open_now;
+      };
     };
-  };
-  sound = found.sound;
-})
+    sound = found.sound;
+  },
+)
 
 -- a crash leaves what was committed, which is what the connection sees
 pub leaves_kept : (s : State) (office : Office) → IsTrue s.is_open → ((trees : Trees) → s.may_leave trees → trees ≡ s.committed.trees) → Means v1 s office → LeavesOnly v1 s office
 leaves_kept s office is_open only means clean trees left =
     let kept = (means clean).tables is_open in
     subst (λ t. OfficeMeans v1 t office) (sym (only trees left)) (by_rows v1 s.committed office (subst (λ db. Holds v1 db (tables_of office)) kept.settled kept.holds))
+
+-- an office that was looked at is kept
+pub keeps_same : (old new : State) → (HasCleanDisk new → HasCleanDisk old) → (HasOurs old → OnlyLooks old new) → (office : Office) → KeepsState old office → KeepsState new office
+keeps_same old new honest looks office keeps = record {
+  means = λ clean.
+      let was = keeps.means (honest clean) in
+      let ours : HasOurs old = λ is_open. inr (inr (inr (inr (inr (inr (inl (was.tables is_open).holds.schema)))))) in
+      let same = looks ours clean in
+      record {
+        autocommit = same.mode ∙ was.autocommit;
+        tables = λ is_open.
+            let kept = was.tables (same.was_open is_open) in
+            record {
+              holds = subst (λ db. Holds v1 db (tables_of office)) (sym (same.now_is is_open)) kept.holds;
+              settled = same.now_is is_open ∙ kept.settled ∙ sym (same.committed_is is_open);
+            };
+      };
+  sound = keeps.sound;
+}
+
+-- nothing is there, and no transaction is pending
+pub bare_of : (s : State) → s.now.schema ≡ s0 → s.in_transaction ≡ false → (IsTrue s.is_open → s.now ≡ s.committed) → IsBare s
+bare_of s schema mode settled clean = record { autocommit = mode; bare = λ is_open. record { schema = schema; settled = settled is_open } }

@@ -1,6 +1,5 @@
 -- How many of an office's tables a schema of ours has.
-use Rattle.std.proofs.Common.{◌≡◌, ◌≢◌, inl, inr, codes, List, [], ◌∷◌, length, Option, None, Some, slice_get, arith, refl, sym, ap, subst, ◌∙◌}
-use Rattle.std.specs.List.{AllByRecursion}
+use Rattle.std.proofs.Common.{◌≡◌, ◌≢◌, inl, inr, codes, List, length, Some, slice_get, arith, refl, sym, subst, ◌∙◌}
 use Rattle.sqlite_rules.specs.Lists.{Has}
 use Rattle.sqlite_rules.proofs.ListLemmas.{all_has}
 use Rattle.sqlite_schema.specs.declared.schema.Schema.{Schema}

@@ -9,7 +9,7 @@ use Rattle.boxes.specs.State.{Place}
 use Rattle.sqlkeeper.specs.Schema.{Version, IsVersion}
 use Rattle.sqlkeeper.specs.Tables.{piece_of}
 use Rattle.sqlkeeper.specs.Means.{IsWhole, IsRunning}
-use Rattle.sqlkeeper.specs.Lines.{HasPiece}
+use Rattle.sqlkeeper.specs.Lines.{HasPiece, AreBytesOf}
 use Rattle.sqlkeeper.proofs.Building.{survives_then, survives_itself, keeps_then}
 use Rattle.sqlkeeper.proofs.Runs.{itself_keeps}
 
@@ -64,6 +64,28 @@ none_gathered s place size = record {
   pieces = λ v ours whole clean at piece is. absurd (let e = sym (no_piece [] at (omega arith)) ∙ is in cc);
 }
 
+module _ (entry mid : State) (place : Place) (size : ℕ) (bytes : List ℕ) (count : ℕ) (g : Gathered entry mid place size bytes count) (v : Version) (ours : OpensOurs v entry) (clean : HasCleanDisk mid) where
+  was_open : IsTrue mid.is_open → IsTrue entry.is_open
+  was_open is_open = (g.uncommitted clean ours.inside).was_open is_open
+
+  pub ours_at : OpensOurs v mid
+  ours_at = record {
+    version = ours.version;
+    schema = λ is_open. ap (λ db. db.schema) (g.same v ours clean) ∙ ours.schema (was_open is_open);
+    inside = g.inside clean ours.inside;
+  }
+
+  pub whole_at : (IsTrue entry.is_open → IsWhole entry.now) → IsTrue mid.is_open → IsWhole mid.now
+  whole_at whole is_open = subst IsWhole (sym (g.same v ours clean)) (whole (was_open is_open))
+
+  -- without the next piece there are no bytes of this size
+  pub no_bytes : length bytes < size → ((piece : List ℕ) → HasPiece (mid.now.trees 9) place count piece → ⊥) → (other : List ℕ) → AreBytesOf (entry.now.trees 9) place size other → ⊥
+  no_bytes less none other are =
+      let ends : length bytes ≡ 65536 * count = elim g.long [ inl e ↦ e | inr e ↦ absurd (omega (arith, e, less)) ] in
+      let long : nat_lt (65536 * count) (length other) ≡ true = let e = are.size_is in lt-ltb (65536 * count) (length other) (omega (arith, ends, less, e)) in
+      none (take 65536 (drop (65536 * count) other))
+      (subst (λ db. HasPiece (db.trees 9) place count (take 65536 (drop (65536 * count) other))) (sym (g.same v ours clean)) (are.pieces count (take 65536 (drop (65536 * count) other)) (rw long refl)))
+
 -- what the question for the next piece says
 pub record ReadsNext (mid now : State) (place : Place) (at : ℕ) (piece : List ℕ) : Type 0 where
   pub read : (v : Version) → OpensOurs v mid → (IsTrue mid.is_open → IsWhole mid.now) → HasCleanDisk now → HasPiece (mid.now.trees 9) place at piece
@@ -81,11 +103,7 @@ module _ (entry mid now : State) (place : Place) (size : ℕ) (bytes piece : Lis
   ends = elim g.long [ inl e ↦ e | inr e ↦ absurd (omega (arith, e, less)) ]
 
   ours_still : (v : Version) → OpensOurs v entry → HasCleanDisk now → OpensOurs v mid
-  ours_still v ours clean = record {
-    version = ours.version;
-    schema = λ is_open. ap (λ db. db.schema) (g.same v ours (early clean)) ∙ ours.schema ((g.uncommitted (early clean) ours.inside).was_open is_open);
-    inside = g.inside (early clean) ours.inside;
-  }
+  ours_still v ours clean = ours_at entry mid place size bytes count g v ours (early clean)
 
   total : length (bytes ++ piece) ≡ length bytes + min (size - length bytes) 65536
   total = length-append bytes piece ∙ ap (◌+◌ (length bytes)) fits
@@ -102,7 +120,7 @@ module _ (entry mid now : State) (place : Place) (size : ℕ) (bytes piece : Lis
 
     last : HasPiece (entry.now.trees 9) place count piece
     last = subst (λ db. HasPiece (db.trees 9) place count piece) still
-        (next.read v (ours_still v ours clean) (λ is_open. subst IsWhole (sym still) (whole ((g.uncommitted (early clean) ours.inside).was_open is_open))) clean)
+        (next.read v (ours_still v ours clean) (whole_at entry mid place size bytes count g v ours (early clean) whole) clean)
 
     pieces : (at : ℕ) (q : List ℕ) → piece_of (bytes ++ piece) at ≡ Some q → HasPiece (entry.now.trees 9) place at q
     pieces at q is = elim (cases_Bool (nat_lt at count)) [

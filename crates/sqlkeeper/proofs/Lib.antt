@@ -66,3 +66,6 @@ pub mod OutlineOf
 pub mod Refusing
 pub mod Extents
 pub mod StillReads
+pub mod Digested
+pub mod Tested
+pub mod Looking

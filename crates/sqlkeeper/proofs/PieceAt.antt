@@ -1,5 +1,6 @@
 -- What the question for a piece shows, whatever the database means.
-use Rattle.std.proofs.Common.{◌≡◌, ◌&&◌, ℕ, ℤ, pos, List, [], ◌∷◌, true, int_cmp, refl, sym, ap, subst, ◌∙◌}
+use Rattle.std.proofs.Common.{◌≡◌, ◌&&◌, ℕ, ℤ, pos, List, [], ◌∷◌, true, Option, None, Some, option_map, slice_get, int_cmp, refl, sym, ap, subst, ◌∙◌}
+use denote.Bor.{Bor}
 use Rattle.std.specs.List.{list_all}
 use Rattle.std.specs.Ordering.{is_eq}
 use Rattle.std.specs.Cmp.{tied_itself, int_cmp_total}
@@ -24,6 +25,12 @@ use Rattle.sqlkeeper.proofs.Queries.{answered}
 use Rattle.sqlkeeper.proofs.Rows.{equal_texts, equal_integers}
 use Rattle.sqlkeeper.proofs.Keys.{tells_bytes, by_order, is_equal}
 use Rattle.sqlkeeper.proofs.PieceColumns.{PieceColumns, piece_columns}
+
+-- a list without a first item
+pub nothing_first : {X : Type 0} (first : Option (Bor X)) (xs : List X) → option_map (λ x. x.now) first ≡ slice_get xs 0 → ((x : Bor X) → first ≡ Some x → ⊥) → xs ≡ []
+nothing_first None [] e none = refl
+nothing_first None (x ∷ xs) e none = cc
+nothing_first (Some x) xs e none = absurd (none x refl)
 
 same_integer : (a b : ℤ) → is_eq (int_cmp a b) ≡ true → a ≡ b
 same_integer a b h = int_cmp-IsAntisymmetric a b (is_equal (int_cmp a b) h)

@@ -1,6 +1,7 @@
 //! The bytes of the files against the digests of their receipts. The database may mean no office.
 
 ghost use Rattle.std.specs.Prelude.{◌↔◌, ◌≡◌, Contains, MatchBool, IsTrue, OnOk, IfOk, IfSome};
+ghost use Rattle.sigtext.specs.Bytes.{AreBytes};
 ghost use Rattle.sigv4.specs.Hmac.{sha256};
 ghost use Rattle.sqlite.specs.State.{HasCleanDisk, KeepsCommit, Survives};
 ghost use Rattle.sqlite.specs.Held.{state};
@@ -31,7 +32,8 @@ fn receipt_for<'a>(receipts: &'a [ReceiptLine], file: &FileLine) -> Option<&'a R
 
 /// Whether the bytes are of the digest that the receipt tells.
 fn have_digest(bytes: &[u8], given: &ReceiptLine) -> bool
-    ensures { IsTrue result ↔ sha256 bytes.now ≡ given.now.digest.items }
+    ensures told { IsTrue result ↔ sha256 bytes.now ≡ given.now.digest.items }
+    ensures octets { AreBytes bytes.now }
 {
     let mut sha = Sha::new();
     sha.update(bytes);
@@ -79,13 +81,13 @@ pub(crate) fn have_bytes<S: Alter>(
 ) -> Result<bool, Error>
     ensures same_reference { tx.new.conn.ghost_name ≡ tx.old.conn.ghost_name }
     ensures read { (v : Version) → IsVersion v → (IsTrue (state S.Store tx.old.conn.now).is_open → (state S.Store tx.old.conn.now).now.schema ≡ v.schema) → (IsTrue (state S.Store tx.old.conn.now).is_open → IsWhole (state S.Store tx.old.conn.now).now)
-        → IsTrue (state S.Store tx.old.conn.now).in_transaction → HasCleanDisk (state S.Store tx.new.conn.now) → IfOk result (λ have. MatchBool have
+        → IsRunning (state S.Store tx.old.conn.now) → HasCleanDisk (state S.Store tx.new.conn.now) → IfOk result (λ have. MatchBool have
         ((file : FileLine) → Contains files.now file → HasBytes ((state S.Store tx.old.conn.now).now.trees 9) receipts.now file)
         ((file : FileLine) × Contains files.now file × LacksBytes ((state S.Store tx.old.conn.now).now.trees 9) receipts.now file)) }
     ensures same { (v : Version) → IsVersion v → (IsTrue (state S.Store tx.old.conn.now).is_open → (state S.Store tx.old.conn.now).now.schema ≡ v.schema)
-        → IsTrue (state S.Store tx.old.conn.now).in_transaction → HasCleanDisk (state S.Store tx.new.conn.now) → OnOk result ((state S.Store tx.new.conn.now).now ≡ (state S.Store tx.old.conn.now).now) }
+        → IsRunning (state S.Store tx.old.conn.now) → HasCleanDisk (state S.Store tx.new.conn.now) → OnOk result ((state S.Store tx.new.conn.now).now ≡ (state S.Store tx.old.conn.now).now) }
     ensures running { HasCleanDisk (state S.Store tx.new.conn.now) → IsRunning (state S.Store tx.old.conn.now) → OnOk result (IsRunning (state S.Store tx.new.conn.now)) }
-    ensures uncommitted { HasCleanDisk (state S.Store tx.new.conn.now) → IsTrue (state S.Store tx.old.conn.now).in_transaction → KeepsCommit (state S.Store tx.old.conn.now) (state S.Store tx.new.conn.now) }
+    ensures uncommitted { HasCleanDisk (state S.Store tx.new.conn.now) → IsRunning (state S.Store tx.old.conn.now) → KeepsCommit (state S.Store tx.old.conn.now) (state S.Store tx.new.conn.now) }
     ensures survives { Survives (state S.Store tx.old.conn.now) (state S.Store tx.new.conn.now) (λ _. ⊥) }
 {
     for file in files {

@@ -10,7 +10,7 @@ ghost use Rattle.sqlite.specs.State.{HasCleanDisk};
 ghost use Rattle.sqlite.specs.Held.{state};
 ghost use Rattle.keeper.specs.Keeping.{LeavesAlone};
 ghost use Rattle.sqlkeeper.specs.Means.{IsBare, AddsOnly, AddsNothing};
-ghost use Rattle.sqlkeeper.specs.Schema.{v1};
+ghost use Rattle.sqlkeeper.specs.Schema.{v1, s0};
 ghost use Rattle.sqlkeeper.specs.Kept.{KeepsState, MayLeave, LeavesStates};
 ghost use Rattle.sqlkeeper.specs.OneState.{one_kept};
 ghost use Rattle.sqlkeeper.specs.Opened.{HasOurs, OnlyLooks, IsFound};
@@ -22,6 +22,7 @@ use crate::opening::{Finding, find};
 use boxes::{BoxRow, Change, FileRow, KeyRow, OfficeRow, ReceiptRow, Totals, law_of_changes};
 use keeper::{KeepFault, Keeper, has_room};
 use sqlite::{Alter, Connection, ErrorCode};
+use sqlite_schema::schema::Schema;
 use std::alloc::Global;
 use std::str;
 use thiserror::Error;
@@ -76,6 +77,13 @@ fn open_fault_of(error: sqlite::Error) -> OpenFault
     }
 }
 
+// Whether nothing is there.
+fn is_empty(schema: &Schema) -> bool
+    ensures { IsTrue result ↔ schema.now ≡ s0 }
+{
+    schema.tables.is_empty() && schema.indexes.is_empty() && schema.views.is_empty()
+}
+
 // What the file answered, where an error is counted.
 fn counted<T>(faults: &mut u64, answer: Result<T, sqlite::Error>) -> Result<T, KeepFault>
     ensures value { IfOk result (λ value. answer ≡ Ok value) }
@@ -103,13 +111,13 @@ fn is_past_full(change: &Change<'_>) -> bool
 }
 
 impl<S: Alter> SqlKeeper<S> {
-    /// Makes an office file in a database without a table: an office that begins, with one clerk's key of this id and
-    /// secret. It is made in one transaction.
+    /// Makes an office file in an empty database: an office that begins, with one clerk's key of this id and secret. It is
+    /// made in one transaction.
     ///
     /// # Errors
     ///
-    /// The fault, with the connection as it is. `Exists` comes exactly where a table is there; then nothing was tried.
-    /// After any other fault a database that was empty is empty still.
+    /// The fault, with the connection as it is. `Exists` comes exactly where a table, an index or a view is there; then
+    /// nothing was tried. After any other fault a database that was empty is empty still.
     pub fn create(
         alloc: Global,
         mut conn: Connection<S>,
@@ -117,22 +125,25 @@ impl<S: Alter> SqlKeeper<S> {
         id: &[u8],
         secret: &[u8],
     ) -> Result<SqlKeeper<S>, (OpenFault, Connection<S>)>
-        ensures made { IsBare (state S.Store conn) → neg_ℤ (pos 840) ≤ℤ office.east → office.east ≤ℤ pos 840 → IsKeyId id.now → IsSecret secret.now
+        ensures made { neg_ℤ (pos 840) ≤ℤ office.east → office.east ≤ℤ pos 840 → IsKeyId id.now → IsSecret secret.now
             → IfOk result (λ k. ⟦<SqlKeeper<S> as Keeper>⟧.means k (first_state office.east id.now secret.now)) }
         ensures honest { IfOk result (λ k. HasCleanDisk (state S.Store k.conn) → ⟦<SqlKeeper<S> as Keeper>⟧.is_honest k) }
         ensures opened { IfOk result (λ k. ⟦<SqlKeeper<S> as Keeper>⟧.is_honest k → ⟦<SqlKeeper<S> as Keeper>⟧.is_open k) }
         ensures none { IfOk result (λ k. ⟦<SqlKeeper<S> as Keeper>⟧.faults k ≡ 0) }
-        ensures durable { IsBare (state S.Store conn) → neg_ℤ (pos 840) ≤ℤ office.east → office.east ≤ℤ pos 840 → IsKeyId id.now → IsSecret secret.now
+        ensures durable { neg_ℤ (pos 840) ≤ℤ office.east → office.east ≤ℤ pos 840 → IsKeyId id.now → IsSecret secret.now
             → IfOk result (λ k. ⟦<SqlKeeper<S> as Keeper>⟧.is_honest k
             → LeavesAlone ⟦<SqlKeeper<S> as Keeper>⟧.leaves ⟦<SqlKeeper<S> as Keeper>⟧.leaves_whole k (first_state office.east id.now secret.now)) }
-        ensures crash { IsBare (state S.Store conn) → IfErr result (λ e. AddsOnly v1 (state S.Store conn) (state S.Store e.1) (first_state office.east id.now secret.now)) }
-        ensures exists { (state S.Store conn).now.schema.tables ≢ [] → IfErr result (λ e. e.0 ≡ OpenFault.Exists) × IsErr result }
-        ensures told { IfErr result (λ e. e.0 ≡ OpenFault.Exists → (state S.Store conn).now.schema.tables ≢ []) }
+        ensures crash { IfErr result (λ e. AddsOnly v1 (state S.Store conn) (state S.Store e.1) (first_state office.east id.now secret.now)) }
+        ensures exists { (state S.Store conn).now.schema ≢ s0 → IfErr result (λ e. e.0 ≡ OpenFault.Exists) × IsErr result }
+        ensures told { IfErr result (λ e. e.0 ≡ OpenFault.Exists → (state S.Store conn).now.schema ≢ s0) }
         ensures untouched { IfErr result (λ e. e.0 ≡ OpenFault.Exists → e.1 ≡ conn) }
         ensures kept { IsBare (state S.Store conn) → IfErr result (λ e. IsBare (state S.Store e.1)) }
     {
-        if !conn.schema().tables.is_empty() {
+        if !is_empty(conn.schema()) {
             return Err((OpenFault::Exists, conn));
+        }
+        if !conn.is_autocommit() {
+            return Err((OpenFault::Store, conn));
         }
         let Ok(id) = str::from_utf8(id) else {
             return Err((OpenFault::Store, conn));
@@ -160,20 +171,20 @@ impl<S: Alter> SqlKeeper<S> {
     ) -> Result<SqlKeeper<S>, (OpenFault, Connection<S>)>
         ensures accepts { HasOurs (state S.Store conn) → IfOk result (λ k. ⟦<SqlKeeper<S> as Keeper>⟧.is_honest k → (s : State) × ⟦<SqlKeeper<S> as Keeper>⟧.means k s) }
         ensures means { (s : State) → KeepsState (state S.Store conn) s → IfOk result (λ k. ⟦<SqlKeeper<S> as Keeper>⟧.means k s) }
-        ensures same { IfOk result (λ k. OnlyLooks (state S.Store conn) (state S.Store k.conn)) }
+        ensures same { HasOurs (state S.Store conn) → IfOk result (λ k. OnlyLooks (state S.Store conn) (state S.Store k.conn)) }
         ensures honest { IfOk result (λ k. HasCleanDisk (state S.Store k.conn) → ⟦<SqlKeeper<S> as Keeper>⟧.is_honest k) }
         ensures opened { IfOk result (λ k. ⟦<SqlKeeper<S> as Keeper>⟧.is_honest k → ⟦<SqlKeeper<S> as Keeper>⟧.is_open k) }
         ensures none { IfOk result (λ k. ⟦<SqlKeeper<S> as Keeper>⟧.faults k ≡ 0) }
         ensures durable { IfOk result (λ k. ⟦<SqlKeeper<S> as Keeper>⟧.is_honest k → (s : State) → ⟦<SqlKeeper<S> as Keeper>⟧.means k s
             → LeavesAlone ⟦<SqlKeeper<S> as Keeper>⟧.leaves ⟦<SqlKeeper<S> as Keeper>⟧.leaves_whole k s) }
-        ensures crash { IfOk result (λ k. AddsNothing (state S.Store conn) (state S.Store k.conn)) }
+        ensures crash { HasOurs (state S.Store conn) → IfOk result (λ k. AddsNothing (state S.Store conn) (state S.Store k.conn)) }
         ensures version { HasOurs (state S.Store conn) → IfErr result (λ e. e.0 ≡ OpenFault.Version
             → HasCleanDisk (state S.Store e.1) → IsTrue (state S.Store conn).is_open → IsFound Finding.OtherVersion (state S.Store conn).now) }
         ensures shape { HasOurs (state S.Store conn) → IfErr result (λ e. e.0 ≡ OpenFault.Shape
             → HasCleanDisk (state S.Store e.1) → IsTrue (state S.Store conn).is_open → IsFound Finding.Damaged (state S.Store conn).now) }
         ensures told { IfErr result (λ e. e.0 ≢ OpenFault.Exists) }
-        ensures kept { IfErr result (λ e. OnlyLooks (state S.Store conn) (state S.Store e.1)) }
-        ensures unharmed { IfErr result (λ e. AddsNothing (state S.Store conn) (state S.Store e.1)) }
+        ensures kept { HasOurs (state S.Store conn) → IfErr result (λ e. OnlyLooks (state S.Store conn) (state S.Store e.1)) }
+        ensures unharmed { HasOurs (state S.Store conn) → IfErr result (λ e. AddsNothing (state S.Store conn) (state S.Store e.1)) }
     {
         match find(&mut conn, alloc) {
             Ok(Finding::Sound) => Ok(SqlKeeper {

@@ -1,7 +1,4 @@
-//! The office file: its tables, and a keeper over them.
-//!
-//! To open a file that was made is to come. `lines`, `listing`, `pieces` and the modules of rules are what it will stand
-//! on: they are proved, and nothing calls them yet.
+//! The office file: its tables, a keeper over them, and the tests of a file that is opened.
 #![tactic(auto)]
 
 mod asking;

@@ -8,7 +8,7 @@ ghost use Rattle.sqlite.specs.Held.{state};
 ghost use Rattle.boxes.specs.State.{State as Office};
 ghost use Rattle.sqlkeeper.specs.declared.lines.OfficeLine.{OfficeLine};
 ghost use Rattle.sqlkeeper.specs.Schema.{Version, IsVersion, begun_schemas};
-ghost use Rattle.sqlkeeper.specs.Means.{IsWhole, IsRunning};
+ghost use Rattle.sqlkeeper.specs.Means.{IsWhole, IsRunning, AddsNothing};
 ghost use Rattle.sqlkeeper.specs.Lines.{AreLines, HaveRowids, IsOfficeLine};
 ghost use Rattle.sqlkeeper.specs.Opened.{HasOurs, IsOurs, AreTables, IsExtent, IsTableAt, AreNamed, OnlyLooks, IsAtRest, IsFound, AreOffice, AreOfVersion};
 
@@ -18,7 +18,7 @@ use crate::listing::{Listed, list_all, list_office};
 use crate::rules::{Lines, are_sound};
 use sqlite::{Alter, Connection, Error, ErrorCode, Transaction};
 use sqlite_schema::schema::{Schema, Table};
-use std::alloc::{AllocError, Global};
+use std::alloc::Global;
 
 /// What an office file is found to be.
 #[derive(Clone, Copy, Debug, PartialEq, Eq)]
@@ -41,6 +41,9 @@ pub(crate) enum Extent {
     /// All, and no others.
     Whole,
 }
+
+// The version of the tables.
+const VERSION: i64 = 1;
 
 /// Whether the table in this place has this name and so many columns.
 fn is_table(tables: &[Table], at: usize, name: &str, columns: usize) -> bool
@@ -82,33 +85,35 @@ fn extent_of(schema: &Schema) -> Extent
     }
 }
 
-/// Whether each line is of this version.
-fn are_of_version(lines: &[OfficeLine], version: i64) -> bool
-    ensures { IsTrue result ↔ ((line : OfficeLine) → Contains lines.now line → line.version ≡ version) }
+/// Whether the line is of the version of the other.
+fn is_of_version(line: &OfficeLine, first: &OfficeLine) -> bool
+    ensures { IsTrue result ↔ line.now.version ≡ first.now.version }
+{
+    line.version == first.version
+}
+
+/// Whether each line is of the version of this one.
+fn are_of_version(lines: &[OfficeLine], first: &OfficeLine) -> bool
+    ensures { IsTrue result ↔ ((line : OfficeLine) → Contains lines.now line → line.version ≡ first.now.version) }
 {
     for line in lines {
-        if line.version != version {
+        if !is_of_version(line, first) {
             return false;
         }
     }
     true
 }
 
-/// The version that the row of the office says.
-fn version_of(lines: &[OfficeLine]) -> Option<i64>
-    ensures { MatchOption result ((version : ℤ) → AreOfVersion lines.now version → ⊥) (AreOfVersion lines.now) }
+/// The row of the office, by whose version all go.
+fn versioned(lines: &[OfficeLine]) -> Option<&OfficeLine>
+    ensures { MatchOption result ((version : ℤ) → AreOfVersion lines.now version → ⊥) (λ line. AreOfVersion lines.now line.now.version) }
 {
-    let version = lines.first()?.version;
-    if are_of_version(lines, version) {
-        Some(version)
+    let first = lines.first()?;
+    if are_of_version(lines, first) {
+        Some(first)
     } else {
         None
     }
-}
-
-// Want of memory is the database's.
-fn of_memory(error: AllocError) -> Error {
-    Error::SqliteFailure(ErrorCode::OutOfMemory)
 }
 
 /// Whether the lines are those of an office, and its files have their bytes.
@@ -120,11 +125,13 @@ fn is_sound<S: Alter>(
 ) -> Result<bool, Error>
     ensures same_reference { tx.new.conn.ghost_name ≡ tx.old.conn.ghost_name }
     ensures found { (v : Version) → IsVersion v → (IsTrue (state S.Store tx.old.conn.now).is_open → (state S.Store tx.old.conn.now).now.schema ≡ v.schema) → (IsTrue (state S.Store tx.old.conn.now).is_open → IsWhole (state S.Store tx.old.conn.now).now)
-        → IsTrue (state S.Store tx.old.conn.now).in_transaction → HasCleanDisk (state S.Store tx.new.conn.now) → AreLines IsOfficeLine ((state S.Store tx.old.conn.now).now.trees 0) office.now → HaveRowids ((state S.Store tx.old.conn.now).now.trees 0)
+        → IsRunning (state S.Store tx.old.conn.now) → HasCleanDisk (state S.Store tx.new.conn.now) → AreLines IsOfficeLine ((state S.Store tx.old.conn.now).now.trees 0) office.now → HaveRowids ((state S.Store tx.old.conn.now).now.trees 0)
         → AreOfVersion office.now (pos 1) → AreTables (state S.Store tx.old.conn.now).now listed.now
         → IfOk result (λ sound. MatchBool sound ((office : Office) × AreOffice (state S.Store tx.old.conn.now).now office) ((office : Office) → AreOffice (state S.Store tx.old.conn.now).now office → ⊥)) }
+    ensures same { (v : Version) → IsVersion v → (IsTrue (state S.Store tx.old.conn.now).is_open → (state S.Store tx.old.conn.now).now.schema ≡ v.schema)
+        → IsRunning (state S.Store tx.old.conn.now) → HasCleanDisk (state S.Store tx.new.conn.now) → OnOk result ((state S.Store tx.new.conn.now).now ≡ (state S.Store tx.old.conn.now).now) }
     ensures running { HasCleanDisk (state S.Store tx.new.conn.now) → IsRunning (state S.Store tx.old.conn.now) → OnOk result (IsRunning (state S.Store tx.new.conn.now)) }
-    ensures uncommitted { HasCleanDisk (state S.Store tx.new.conn.now) → IsTrue (state S.Store tx.old.conn.now).in_transaction → KeepsCommit (state S.Store tx.old.conn.now) (state S.Store tx.new.conn.now) }
+    ensures uncommitted { HasCleanDisk (state S.Store tx.new.conn.now) → IsRunning (state S.Store tx.old.conn.now) → KeepsCommit (state S.Store tx.old.conn.now) (state S.Store tx.new.conn.now) }
     ensures survives { Survives (state S.Store tx.old.conn.now) (state S.Store tx.new.conn.now) (λ _. ⊥) }
 {
     let lines = Lines {
@@ -135,10 +142,45 @@ fn is_sound<S: Alter>(
         files: &listed.files,
         pieces: &listed.pieces,
     };
-    if !are_sound(alloc, &lines).map_err(of_memory)? {
+    let Ok(sound) = are_sound(alloc, &lines) else {
+        return Err(Error::SqliteFailure(ErrorCode::OutOfMemory));
+    };
+    if !sound {
         return Ok(false);
     }
     have_bytes(tx, alloc, &listed.receipts, &listed.files)
+}
+
+// What is found where the version is ours.
+fn finding_of(sound: bool) -> Finding
+    ensures { MatchBool sound (result ≡ Finding.Sound) (result ≡ Finding.Damaged) }
+{
+    if sound {
+        Finding::Sound
+    } else {
+        Finding::Damaged
+    }
+}
+
+/// Tests the whole tables of an office of this version.
+fn look_at_all<S: Alter>(
+    tx: &mut Transaction<'_, S>,
+    alloc: Global,
+    office: &[OfficeLine],
+) -> Result<Finding, Error>
+    ensures same_reference { tx.new.conn.ghost_name ≡ tx.old.conn.ghost_name }
+    ensures found { (v : Version) → IsVersion v → (IsTrue (state S.Store tx.old.conn.now).is_open → (state S.Store tx.old.conn.now).now.schema ≡ v.schema) → (IsTrue (state S.Store tx.old.conn.now).is_open → IsWhole (state S.Store tx.old.conn.now).now)
+        → IsRunning (state S.Store tx.old.conn.now) → HasCleanDisk (state S.Store tx.new.conn.now) → AreLines IsOfficeLine ((state S.Store tx.old.conn.now).now.trees 0) office.now → HaveRowids ((state S.Store tx.old.conn.now).now.trees 0)
+        → AreOfVersion office.now (pos 1) → IfOk result (λ finding. IsFound finding (state S.Store tx.old.conn.now).now) }
+    ensures same { (v : Version) → IsVersion v → (IsTrue (state S.Store tx.old.conn.now).is_open → (state S.Store tx.old.conn.now).now.schema ≡ v.schema)
+        → IsRunning (state S.Store tx.old.conn.now) → HasCleanDisk (state S.Store tx.new.conn.now) → OnOk result ((state S.Store tx.new.conn.now).now ≡ (state S.Store tx.old.conn.now).now) }
+    ensures running { HasCleanDisk (state S.Store tx.new.conn.now) → IsRunning (state S.Store tx.old.conn.now) → OnOk result (IsRunning (state S.Store tx.new.conn.now)) }
+    ensures uncommitted { HasCleanDisk (state S.Store tx.new.conn.now) → IsRunning (state S.Store tx.old.conn.now) → KeepsCommit (state S.Store tx.old.conn.now) (state S.Store tx.new.conn.now) }
+    ensures survives { Survives (state S.Store tx.old.conn.now) (state S.Store tx.new.conn.now) (λ _. ⊥) }
+{
+    let listed = list_all(tx)?;
+    let sound = is_sound(tx, alloc, office, &listed)?;
+    Ok(finding_of(sound))
 }
 
 /// Tests the tables of an office, the version first.
@@ -150,34 +192,33 @@ fn look<S: Alter>(
     ensures same_reference { tx.new.conn.ghost_name ≡ tx.old.conn.ghost_name }
     ensures found { (IsTrue (state S.Store tx.old.conn.now).is_open → Has begun_schemas (state S.Store tx.old.conn.now).now.schema × IsExtent extent (state S.Store tx.old.conn.now).now.schema × IsWhole (state S.Store tx.old.conn.now).now)
         → IsTrue (state S.Store tx.old.conn.now).in_transaction → HasCleanDisk (state S.Store tx.new.conn.now) → IfOk result (λ finding. IsFound finding (state S.Store tx.old.conn.now).now) }
+    ensures same { (IsTrue (state S.Store tx.old.conn.now).is_open → Has begun_schemas (state S.Store tx.old.conn.now).now.schema × IsExtent extent (state S.Store tx.old.conn.now).now.schema × IsWhole (state S.Store tx.old.conn.now).now)
+        → IsTrue (state S.Store tx.old.conn.now).in_transaction → HasCleanDisk (state S.Store tx.new.conn.now) → OnOk result ((state S.Store tx.new.conn.now).now ≡ (state S.Store tx.old.conn.now).now) }
     ensures running { HasCleanDisk (state S.Store tx.new.conn.now) → IsTrue (state S.Store tx.old.conn.now).in_transaction → OnOk result (IsRunning (state S.Store tx.new.conn.now)) }
     ensures uncommitted { HasCleanDisk (state S.Store tx.new.conn.now) → IsTrue (state S.Store tx.old.conn.now).in_transaction → KeepsCommit (state S.Store tx.old.conn.now) (state S.Store tx.new.conn.now) }
     ensures survives { Survives (state S.Store tx.old.conn.now) (state S.Store tx.new.conn.now) (λ _. ⊥) }
 {
     let office = list_office(tx)?;
-    match version_of(&office) {
-        None => return Ok(Finding::Damaged),
-        Some(1) => {}
-        Some(_) => return Ok(Finding::OtherVersion),
+    let Some(line) = versioned(&office) else {
+        return Ok(Finding::Damaged);
+    };
+    if line.version != VERSION {
+        return Ok(Finding::OtherVersion);
     }
     if extent != Extent::Whole {
         return Ok(Finding::Damaged);
     }
-    let listed = list_all(tx)?;
-    if is_sound(tx, alloc, &office, &listed)? {
-        Ok(Finding::Sound)
-    } else {
-        Ok(Finding::Damaged)
-    }
+    look_at_all(tx, alloc, &office)
 }
 
-/// Tests the whole file, in a transaction that is rolled back.
+/// Tests the whole file. Nothing is written; an office's file is found to be open still.
 pub(crate) fn find<S: Alter>(conn: &mut Connection<S>, alloc: Global) -> Result<Finding, Error>
     ensures found { HasOurs (state S.Store conn.old) → HasCleanDisk (state S.Store conn.new) → IsTrue (state S.Store conn.old).is_open → IfOk result (λ finding. IsFound finding (state S.Store conn.old).now) }
     ensures opened { HasCleanDisk (state S.Store conn.new) → IfOk result (λ finding. finding ≡ Finding.Sound → IsTrue (state S.Store conn.new).is_open) }
     ensures rest { HasCleanDisk (state S.Store conn.new) → OnOk result (IsAtRest (state S.Store conn.new)) }
-    ensures same { OnlyLooks (state S.Store conn.old) (state S.Store conn.new) }
-    ensures survives { Survives (state S.Store conn.old) (state S.Store conn.new) (λ _. ⊥) }
+    ensures same { HasOurs (state S.Store conn.old) → OnlyLooks (state S.Store conn.old) (state S.Store conn.new) }
+    ensures crash { HasOurs (state S.Store conn.old) → AddsNothing (state S.Store conn.old) (state S.Store conn.new) }
+    ensures honest { HasCleanDisk (state S.Store conn.new) → HasCleanDisk (state S.Store conn.old) }
 {
     if !conn.is_autocommit() {
         return Err(Error::SqliteFailure(ErrorCode::TransactionState));
@@ -187,5 +228,10 @@ pub(crate) fn find<S: Alter>(conn: &mut Connection<S>, alloc: Global) -> Result<
         return Ok(Finding::Damaged);
     }
     let mut tx = conn.transaction();
-    look(&mut tx, alloc, extent)
+    let finding = look(&mut tx, alloc, extent)?;
+    if finding != Finding::Sound {
+        return Ok(finding);
+    }
+    tx.commit()?;
+    Ok(Finding::Sound)
 }

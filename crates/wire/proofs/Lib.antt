@@ -12,3 +12,4 @@ pub mod WaitingFronts
 pub mod Halves
 pub mod Beginnings
 pub mod BrokenOff
+pub mod Awaiting

@@ -12,7 +12,7 @@ use Rattle.wire.specs.Framing as next
 use Rattle.wire.specs.Heads.{IsHeadEnd, HasNoHeadEnd}
 use Rattle.wire.specs.Judging.{Tells, Breaks}
 use Rattle.wire.specs.Judging as breaks
-use Rattle.wire.specs.Feeding.{HoldsNoMessage, OfStream}
+use Rattle.wire.specs.Feeding.{AwaitsHead, OfStream}
 
 -- ---- what is left is what waits, and what the reader has
 
@@ -57,8 +57,8 @@ no_front stream none head rest f =
 pub no_front_short : (stream : List ℕ) → length stream < 8192 → HasNoHeadEnd stream → HasNoFront stream
 no_front_short stream short none = no_front stream (subst HasNoHeadEnd (sym (take_all 8192 stream (omega (arith, short)))) none)
 
-pub holds_none : (stream : List ℕ) → HasNoFront stream → HoldsNoMessage stream
-holds_none stream none r rest (next.whole head has_length n body _ h small size) = none h.front _ h.is_front
+pub awaits_head : (stream : List ℕ) → length stream < 8192 → HasNoHeadEnd stream → AwaitsHead stream
+awaits_head stream short none = (short, no_front_short stream short none)
 
 -- ---- steps
 

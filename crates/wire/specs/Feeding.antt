@@ -3,12 +3,11 @@ use Rattle.std.specs.Prelude.{◌≡◌, ℕ, ◌+◌, ◌-◌, ◌<◌, ◌≤�
 use Rattle.std.specs.Io.KnownBytes.{Consumes, IsAtEnd, Keeps, prepend_known}
 use Rattle.httparse.specs.Grammar.{RequestHead}
 use Rattle.sigtext.specs.Counts.{Rose}
-use Rattle.sigtext.specs.Limits.{most_body}
+use Rattle.sigtext.specs.Limits.{most_body, most_head}
 use Rattle.sigtext.specs.Refusals.{number_of}
-use Rattle.sigtext.specs.Request.{Request}
 use Rattle.sigtext.specs.declared.refusal.Refusal.{Refusal}
 use Rattle.sigtext.specs.declared.refusal.Refusal.TheVariants as rule
-use Rattle.wire.specs.Framing.{IsFront, HasHead, Next, Message}
+use Rattle.wire.specs.Framing.{IsFront, HasNoFront, HasHead, Next}
 use Rattle.wire.specs.Framing as framing
 use Rattle.wire.specs.Judging.{Tells}
 use Rattle.wire.specs.declared.fault.WireFault.{WireFault}
@@ -47,10 +46,6 @@ part (Ok piece.Done) = Ok Done
 part (Ok (piece.Refused r)) = Ok (Lacking r)
 part (Err e) = Err e
 
--- no message stands whole at the front of the bytes
-abbrev pub HoldsNoMessage : List ℕ → Type 0
-HoldsNoMessage bytes = (r : Request) (rest : List ℕ) → Next bytes (Message r) rest → ⊥
-
 -- the greatest length of a piece, in bytes
 abbrev pub most_piece : ℕ
 most_piece = 65536
@@ -62,6 +57,26 @@ pub record Opens (text : List ℕ) (has_length : Bool) (n : ℕ) : Type 0 where
   pub small : n ≤ most_body
   pub head : RequestHead
   pub tells : Tells text head has_length n
+
+-- no head ends in the bytes, and they are fewer than a head may have
+abbrev pub AwaitsHead : List ℕ → Type 0
+AwaitsHead bytes = (length bytes < most_head) × HasNoFront bytes
+
+-- a head stands whole at the front of the bytes, keeps the rules 1 to 5, and announces a body that is not empty
+pub record AnnouncesBody (bytes : List ℕ) : Type 0 where
+  pub text : List ℕ
+  pub given : List ℕ
+  pub has_length : Bool
+  pub size : ℕ
+  pub whole : bytes ≡ text ++ given
+  pub opens : Opens text has_length size
+  pub some : 0 < size
+
+-- More bytes are needed to tell the step of a stream that begins with these: those of a head, or of the body that one
+-- announces.
+pub data Awaits (bytes : List ℕ) : Type 0 where
+  a_head : AwaitsHead bytes → Awaits bytes
+  a_body : (a : AnnouncesBody bytes) → length a.given < a.size → Awaits bytes
 
 -- of the stream that was left: of its bytes where they are known, and else of some bytes
 pub record OfStream (known : Option (List ℕ)) (Holds : List ℕ → Type 0) : Type 0 where
@@ -77,7 +92,7 @@ Finds known (Ok (Opened text has_length n)) waits reader =
 Finds known (Ok (Barred r)) waits reader = (0 < number_of r) × (number_of r ≤ 5) × OfStream known (λ stream. Next stream (framing.Refused r) [])
 Finds known (Ok Ended) waits reader = (waits ≡ []) × IsAtEnd reader × OfStream known (λ stream. Next stream framing.Ended [])
 Finds known (Ok CutShort) waits reader = IsAtEnd reader × OfStream known (λ stream. Next stream framing.Truncated [])
-Finds known (Err fault.Read) waits reader = HoldsNoMessage waits × Keeps known (prepend_known waits reader)
+Finds known (Err fault.Read) waits reader = AwaitsHead waits × Keeps known (prepend_known waits reader)
 Finds known (Err _) waits reader = ⊥
 
 -- where a feed stands behind what it told

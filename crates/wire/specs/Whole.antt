@@ -1,12 +1,11 @@
 -- Whole messages, and what was read where none came.
-use Rattle.std.specs.Prelude.{◌≡◌, ◌≢◌, ℕ, ◌<◌, ◌≤◌, ◌⊎◌, Bool, List, [], ◌++◌, length, take, Option, Some, IfSome}
+use Rattle.std.specs.Prelude.{◌≡◌, ℕ, ◌<◌, ◌≤◌, ◌⊎◌, Bool, List, [], ◌++◌, length, take, Option, Some, IfSome}
 use Rattle.std.specs.Io.KnownBytes.{Consumes, IsAtEnd}
 use Rattle.sigtext.specs.Limits.{most_head}
 use Rattle.sigtext.specs.Refusals.{number_of}
-use Rattle.sigtext.specs.Request.{Request}
 use Rattle.wire.specs.Framing.{Next, Message, request_of}
 use Rattle.wire.specs.Framing as framing
-use Rattle.wire.specs.Feeding.{HoldsNoMessage, OfStream, Opens}
+use Rattle.wire.specs.Feeding.{AnnouncesBody, Awaits, OfStream, Opens}
 use Rattle.wire.specs.declared.fault.WireFault.{WireFault}
 use Rattle.wire.specs.declared.fault.WireFault.TheVariants as fault
 use Rattle.wire.specs.declared.joining.Came.{Came}
@@ -35,16 +34,13 @@ Brings (came.Refused r) text body old new reader p =
 Brings came.End text body old new reader p = (p ≡ place.Over) × IsAtEnd reader × OfStream old (λ stream. Next stream framing.Ended [])
 Brings came.Truncated text body old new reader p = (p ≡ place.Over) × IsAtEnd reader × OfStream old (λ stream. Next stream framing.Truncated [])
 
--- each message that stands whole at the front of the bytes has a body that is not empty
-abbrev pub HoldsNoBareMessage : List ℕ → Type 0
-HoldsNoBareMessage bytes = (r : Request) (rest : List ℕ) → Next bytes (Message r) rest → r.body ≢ []
-
--- What all the bytes that came hold where reading failed: no whole message at a failed read, and at a want of memory
--- none whose body is empty. old: what was left of the stream; reader: what the reader has now.
-abbrev pub BreaksOff : WireFault → Option (List ℕ) → Option (List ℕ) → Type 0
-BreaksOff fault.Read old reader = (front : List ℕ) × Consumes old reader front × HoldsNoMessage front
-BreaksOff fault.Memory old reader = (front : List ℕ) × Consumes old reader front × HoldsNoBareMessage front
-BreaksOff fault.Write old reader = ⊥
+-- What all the bytes that came hold where reading failed. At a failed read they don't tell the step yet. Where memory
+-- was refused, this was for the feed's buffer, before anything was read; or for a body that a head announces. old: what was
+-- left of the stream; reader: what the reader has now; p: where the feed stood before.
+abbrev pub BreaksOff : WireFault → Place → Option (List ℕ) → Option (List ℕ) → Type 0
+BreaksOff fault.Read p old reader = (front : List ℕ) × Consumes old reader front × Awaits front
+BreaksOff fault.Memory p old reader = (front : List ℕ) × Consumes old reader front × (((p ≡ place.Fresh) × (front ≡ [])) ⊎ AnnouncesBody front)
+BreaksOff fault.Write p old reader = ⊥
 
 -- the same of a body of which n bytes are to come: fewer came, or some are to come
 abbrev pub BreaksOffWithin : ℕ → WireFault → Option (List ℕ) → Option (List ℕ) → Type 0

@@ -38,8 +38,8 @@ enum Joined {
 
 /// Reads a whole message: the text of its head, of at most 8192 bytes, to the front of the array, and its body, of
 /// at most 1048576 bytes, into the vector, in the place of what that held. The vector grows at most once, by what
-/// the head announces. At a fault no whole message came, or memory was refused: in the feed's first message for its
-/// buffer, and else for a body that is not empty.
+/// the head announces. Where a read failed, more bytes were needed to tell what comes. Where memory was refused, it was
+/// for the feed's buffer, before anything was read, or for a body that a head announces.
 pub fn read_message<R: Read>(
     feed: &mut Feed<'_, R>,
     text: &mut [u8; MOST_HEAD],
@@ -49,7 +49,7 @@ pub fn read_message<R: Read>(
     ensures same { SameReader feed.old feed.new }
     ensures brings { IfOk result (λ came. Brings came text.new body.new.items (left R.remaining feed.old) (left R.remaining feed.new)
         (R.remaining (reader_of feed.new).inner) (place_of feed.new)) }
-    ensures fault { IfErr result (λ f. BreaksOff f (left R.remaining feed.old) (R.remaining (reader_of feed.new).inner)) }
+    ensures fault { IfErr result (λ f. BreaksOff f (place_of feed.old) (left R.remaining feed.old) (R.remaining (reader_of feed.new).inner)) }
     ensures count { CountsReads result (reader_of feed.old).faults (reader_of feed.new).faults }
 {
     let (size, has_length, length) = match feed.next() {

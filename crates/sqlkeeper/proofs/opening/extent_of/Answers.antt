@@ -1,4 +1,4 @@
-use Rattle.std.proofs.Common.{◌≡◌, rules, codes}
+use Rattle.std.proofs.Common.{rules, codes}
 use Rattle.sqlkeeper.specs.Opened.{IsTableAt, AreNamed}
 use Rattle.sqlkeeper.proofs.Extents.{is_nothing, is_begun, is_less, is_whole}
 use Rattle.sqlkeeper.proofs.opening.extent_of.Goals as goal

@@ -1,15 +1,12 @@
-use Rattle.std.proofs.Common.{◌≡◌, [], rules, Some, slice_get, sym, ap, ◌∙◌}
+use Rattle.std.proofs.Common.{◌≡◌, Some, slice_get, sym, ap, ◌∙◌}
 use Rattle.sqlite_rules.proofs.ListLemmas.{has_got}
 use Rattle.sqlite.specs.Held.{state}
 use Rattle.boxes.specs.State.{Place}
-use Rattle.sqlkeeper.specs.Means.{IsRunning}
-use Rattle.sqlkeeper.specs.Lines.{HasPiece}
 use Rattle.sqlkeeper.proofs.Runs.{query_keeps}
 use Rattle.sqlkeeper.proofs.Ours.{asks_of}
 use Rattle.sqlkeeper.proofs.Texts.{select_piece, select_piece_command, select_piece_is}
-use Rattle.sqlkeeper.proofs.StandingFiles.{if_ok_more}
-use Rattle.sqlkeeper.proofs.Listed.{at_ok, shown_open, shown_runs, shown_unchanged}
-use Rattle.sqlkeeper.proofs.PieceAt.{given, piece_shown, no_piece_shown}
+use Rattle.sqlkeeper.proofs.Listed.{shown_open, shown_runs, shown_unchanged}
+use Rattle.sqlkeeper.proofs.PieceAt.{given, piece_shown, no_piece_shown, nothing_first}
 use Rattle.sqlkeeper.proofs.pieces.read_piece.Goals as goal
 
 pub returns-clause-read : goal.returns-clause-read
@@ -29,7 +26,7 @@ returns-in_default-clause-read g c v ours has whole inside clean =
     let new = state g.S.Store c.query_all.new.self.conn.now in
     let shown = rw (c.params-to_sql.ensures, c.params-to_sql-2.ensures, c.params-to_sql-3.ensures) at (c.in_ok-rows.ensures.ok clean) in
     let is_open = shown_open select_piece (given c.args.in_box.now c.args.name.now c.args.part) old new c.in_ok-rows.rows.items shown in
-    let none : c.in_ok-rows.rows.items ≡ [] = search rules in
+    let none = nothing_first c.first.result c.in_ok-rows.rows.items (c.first.ensures.value ∙ ap (λ l. slice_get l 0) c.deref.ensures.value) c.in_default.not-Some in
     no_piece_shown v ours old new (has is_open) (whole is_open) c.args.in_box.now c.args.name.now c.args.part c.in_ok-rows.rows.items shown none
 
 pub returns-clause-same : goal.returns-clause-same
@@ -38,13 +35,27 @@ returns-clause-same g c v ours has inside clean =
     let new = state g.S.Store c.query_all.new.self.conn.now in
     let shown = c.in_ok-rows.ensures.ok clean in
     let is_open = shown_open select_piece _ old new c.in_ok-rows.rows.items shown in
-    at_ok (new.now ≡ old.now) c.get.result (shown_unchanged v select_piece select_piece_command (asks_of v ours select_piece select_piece_command select_piece_is) _ old new (has is_open) c.in_ok-rows.rows.items shown).0.now_is
+    (shown_unchanged v select_piece select_piece_command (asks_of v ours select_piece select_piece_command select_piece_is) _ old new (has is_open) c.in_ok-rows.rows.items shown).0.now_is
+
+pub returns-in_default-clause-same : goal.returns-in_default-clause-same
+returns-in_default-clause-same g c v ours has inside clean =
+    let old = state g.S.Store c.args.tx.now.conn.now in
+    let new = state g.S.Store c.query_all.new.self.conn.now in
+    let shown = c.in_ok-rows.ensures.ok clean in
+    let is_open = shown_open select_piece _ old new c.in_ok-rows.rows.items shown in
+    (shown_unchanged v select_piece select_piece_command (asks_of v ours select_piece select_piece_command select_piece_is) _ old new (has is_open) c.in_ok-rows.rows.items shown).0.now_is
 
 pub returns-clause-running : goal.returns-clause-running
 returns-clause-running g c clean inside =
-    let old = state g.S.Store c.args.tx.now.conn.now in
-    let new = state g.S.Store c.query_all.new.self.conn.now in
-    at_ok (IsRunning new) c.get.result (shown_runs select_piece _ old new c.in_ok-rows.rows.items inside (c.in_ok-rows.ensures.ok clean))
+    shown_runs select_piece _ (state g.S.Store c.args.tx.now.conn.now) (state g.S.Store c.query_all.new.self.conn.now) c.in_ok-rows.rows.items inside (c.in_ok-rows.ensures.ok clean)
+
+pub returns-in_default-clause-running : goal.returns-in_default-clause-running
+returns-in_default-clause-running g c clean inside =
+    shown_runs select_piece _ (state g.S.Store c.args.tx.now.conn.now) (state g.S.Store c.query_all.new.self.conn.now) c.in_ok-rows.rows.items inside (c.in_ok-rows.ensures.ok clean)
+
+pub returns-in_err-piece-clause-uncommitted : goal.returns-in_err-piece-clause-uncommitted
+returns-in_err-piece-clause-uncommitted g c clean inside =
+    query_keeps (λ v. v.items) _ _ (state g.S.Store c.args.tx.now.conn.now) (state g.S.Store c.query_all.new.self.conn.now) c.query_all.result inside (c.query_all.ensures.ok clean) (c.query_all.ensures.err clean)
 
 pub returns-in_err-rows-clause-uncommitted : goal.returns-in_err-rows-clause-uncommitted
 returns-in_err-rows-clause-uncommitted g c clean inside =

@@ -5,7 +5,7 @@ use Rattle.wire.specs.Framing.{IsFront, Next, Refused, Ended, Truncated}
 use Rattle.wire.specs.Framing as next
 use Rattle.wire.specs.Judging.{Tells}
 use Rattle.wire.specs.Waiting.{waiting}
-use Rattle.wire.proofs.WaitingFronts.{of_whole, of_end, text_alone, opened, barred, next_too_long, next_truncated, breaks_early}
+use Rattle.wire.proofs.WaitingFronts.{of_whole, of_end, awaits_head, text_alone, opened, barred, next_too_long, next_truncated, breaks_early}
 use Rattle.wire.proofs.cutting.find.Goals as goal
 
 pub take-requires : goal.take-requires
@@ -47,3 +47,8 @@ pub returns-in-Truncated-clause-finds : goal.returns-in-Truncated-clause-finds
 returns-in-Truncated-clause-finds g c =
     let shows = c.in-Truncated.ensures.shows in
     (shows.3, of_end _ _ (waiting c.read_head.new.self) (λ s. Next s Truncated []) c.in-Truncated.ensures.kept shows.3 (next_truncated _ shows.0 shows.1 shows.2))
+
+pub returns-in-Fault-clause-finds : goal.returns-in-Fault-clause-finds
+returns-in-Fault-clause-finds g c =
+    let shows = c.in-Fault.ensures.shows in
+    (awaits_head _ shows.0 shows.1, c.in-Fault.ensures.kept)

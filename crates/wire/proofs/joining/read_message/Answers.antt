@@ -42,7 +42,7 @@ returns-in-Err-join_body-clause-fault g c =
     let h = c.in-Ok-Head.head in
     let is = c.in-Ok-Head.is ∙ ap Ok c.in-Ok-Head.field-0-is in
     let f = opened_by old.place mid.place (left remaining old) (remaining mid.reader.now.inner) (waiting mid.backlog) _ h is c.requires c.next.follows.holds-at-none.1 in
-    broken_in_body _ (left remaining old) (left remaining mid) _ h.text.now h.has_length h.length f.0 f.1 c.in-Err-join_body.ensures.fault
+    broken_in_body _ old.place (left remaining old) (left remaining mid) _ h.text.now h.has_length h.length f.0 f.1 c.in-Err-join_body.ensures.fault
 
 pub returns-in-Err-clause-fault : goal.returns-in-Err-clause-fault
 returns-in-Err-clause-fault g c =

@@ -1,12 +1,12 @@
-use Rattle.std.proofs.Common.{◌∙◌, ℕ, refl, subst, arith}
+use Rattle.std.proofs.Common.{◌∙◌, ℕ, inr, refl, subst, arith}
 use Rattle.sigtext.specs.Counts.{Rose}
-use Rattle.wire.specs.Feeds.{left, reader_of}
-use Rattle.dropoffice.proofs.SessionSteps.{follows_first, follows_more, follows_end, follows_limit}
+use Rattle.wire.specs.Feeds.{left, place_of, reader_of}
+use Rattle.dropoffice.proofs.SessionSteps.{follows_first, follows_more, follows_end, follows_limit, not_fresh}
 use Rattle.dropoffice.proofs.office.Office.serve_feed.Goals as goal
 
 pub messages-init : goal.messages-init
 messages-init g c = (
-  c.requires,
+  (c.requires, λ fresh. refl),
   refl,
   refl,
   refl,
@@ -20,7 +20,7 @@ messages-init g c = (
 )
 
 pub step-requires : goal.step-requires
-step-requires g c = c.messages.invariant.0
+step-requires g c = c.messages.invariant.0.0
 
 pub returns-in-Some-clause-same : goal.returns-in-Some-clause-same
 returns-in-Some-clause-same g c = c.step.ensures.same ∙ c.messages.invariant.1
@@ -32,7 +32,7 @@ returns-in-Some-clause-serves g c s kept =
       h.0,
       h.1,
       follows_end g.C.Clock.now_gives c.messages.counter (left g.R.Read.remaining c.args.feed.now) (left g.R.Read.remaining c.messages.feed) (g.W.Write.contents c.args.writer.now.inner) (g.W.Write.contents c.messages.writer.inner) c.args.clock.now c.messages.clock (g.K.Keeper.faults c.args.self.now.keeper) (g.K.Keeper.faults c.messages.self.keeper) s x.0 x.2
-          (g.R.Read.remaining (reader_of c.step.new.feed).inner) (g.W.Write.contents c.step.new.writer.inner) c.step.new.clock (g.K.Keeper.faults c.step.new.self.keeper) h.0 c.in-Some.end c.messages-test.true h.2,
+          (place_of c.messages.feed) (g.R.Read.remaining (reader_of c.step.new.feed).inner) (g.W.Write.contents c.step.new.writer.inner) c.step.new.clock (g.K.Keeper.faults c.step.new.self.keeper) h.0 c.in-Some.end c.messages-test.true c.messages.invariant.0.1 h.2,
     )
 
 pub returns-in-Some-clause-faults : goal.returns-in-Some-clause-faults
@@ -57,7 +57,7 @@ returns-in-Some-clause-never_less g c = omega (arith, c.messages.invariant.4, c.
 pub messages-preserved : goal.messages-preserved
 messages-preserved g c =
     let counted = c.in-None.ensures.counted (λ e. cc) (λ e. cc) in (
-      c.in-None.ensures.goes_on,
+      (inr c.in-None.ensures.goes_on, λ fresh. absurd (not_fresh _ c.in-None.ensures.goes_on fresh)),
       c.step.ensures.same ∙ c.messages.invariant.1,
       c.in-None.ensures.faults.0 ∙ c.messages.invariant.2,
       c.in-None.ensures.faults.1 ∙ c.messages.invariant.3,

@@ -2,13 +2,14 @@ use Rattle.std.proofs.Common.{◌≡◌}
 use Rattle.boxes.specs.State.{State}
 use Rattle.wire.specs.Feeds.{SameReader, left, place_of, reader_of}
 use Rattle.wire.specs.Whole.{MayBegin}
+use Rattle.wire.specs.declared.feed.Place.TheVariants as place
 use Rattle.dropoffice.specs.Kept.{IsKept, IsLeft}
 use Rattle.dropoffice.proofs.SessionSteps.{Follows}
 use Rattle.dropoffice.proofs.office.Office.serve_feed.Given as goal
 
 abbrev pub invariant-messages : goal.invariant-messages
 invariant-messages g l =
-    MayBegin (place_of l.feed) × SameReader l.fn.feed l.feed
+    (MayBegin (place_of l.feed) × (place_of l.feed ≡ place.Fresh → l.counter ≡ 0)) × SameReader l.fn.feed l.feed
     × ((reader_of l.feed).faults ≡ (reader_of l.fn.feed).faults)
     × (l.writer.faults ≡ l.fn.writer.faults)
     × (g.K.Keeper.faults l.self.keeper ≡ g.K.Keeper.faults l.fn.self.keeper)

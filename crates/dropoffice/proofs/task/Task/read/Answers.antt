@@ -1,10 +1,11 @@
-use Rattle.std.proofs.Common.{◌∙◌, ap, map, subst, sym, true≢false}
+use Rattle.std.proofs.Common.{◌∙◌, ap, map, subst}
 use Rattle.clap.specs.Faults.{fault_of, is_simple_and_free}
 use Rattle.clap.specs.Kinds.{HasKind}
 use Rattle.clap.specs.Words.{App, takes}
 use Rattle.clap.proofs.FaultLemmas.{failed_up}
 use Rattle.clap.proofs.TakesLemmas.{passed_up}
 use Rattle.dropoffice.specs.Tasks.{IsTaskIn}
+use Rattle.dropoffice.proofs.TaskValues.{found_is, not_none}
 use Rattle.dropoffice.proofs.TaskNames.{free_of, named_by, names_task, simple_and_free}
 use Rattle.dropoffice.proofs.task.Task.read.Goals as goal
 
@@ -22,7 +23,8 @@ returns-in_err-matches-clause-kinds c =
 
 pub returns-in-Some-clause-task : goal.returns-in-Some-clause-task
 returns-in-Some-clause-task c =
-    subst (λ n. IsTaskIn n c.in-Some.task) (named_by _ _ _ c.in_ok-command.ensures (λ s. (c.in_ok-matches.ensures.ok.2 s).1)) c.in-Some.ensures.task
+    subst (λ n. IsTaskIn n c.in-Some.task) (named_by _ _ _ c.in_ok-command.ensures (λ s. (c.in_ok-matches.ensures.ok.2 s).1))
+    (found_is c.in_ok-task.field-0 c.in-Some.task _ c.in_ok-task.ensures.task c.in-Some.is)
 
 pub returns-in-Some-clause-kinds : goal.returns-in-Some-clause-kinds
 returns-in-Some-clause-kinds c = free_of _ _ c.in_ok-command.ensures c.in_ok-matches.ensures.kinds
@@ -30,9 +32,9 @@ returns-in-Some-clause-kinds c = free_of _ _ c.in_ok-command.ensures c.in_ok-mat
 pub returns-clause-passes : goal.returns-clause-passes
 returns-clause-passes c =
     let named = names_task _ _ _ c.in_ok-command.ensures c.in_ok-matches.ensures.kinds (λ s. (c.in_ok-matches.ensures.ok.2 s).1) in
-    absurd (true≢false (sym (c.in-None.ensures.named named)))
+    absurd (not_none c.in_ok-task.field-0 (c.in_ok-task.ensures.named named) c.in-None.is)
 
 pub returns-clause-kinds : goal.returns-clause-kinds
 returns-clause-kinds c =
     let named = names_task _ _ _ c.in_ok-command.ensures c.in_ok-matches.ensures.kinds (λ s. (c.in_ok-matches.ensures.ok.2 s).1) in
-    absurd (true≢false (sym (c.in-None.ensures.named named)))
+    absurd (not_none c.in_ok-task.field-0 (c.in_ok-task.ensures.named named) c.in-None.is)

@@ -1,0 +1,22 @@
+use Rattle.std.proofs.Common.{◌∙◌, ap, ap₂, true}
+use Rattle.std.proofs.lemmas.Result.{IfOk-weaker}
+use Rattle.clap.specs.Simple.{app_of_fields, on_top}
+use Rattle.clap.specs.Words.{App, with_subcommand}
+use Rattle.dropoffice.specs.Tasks.{drop_app}
+use Rattle.dropoffice.proofs.words.command_line.Goals as goal
+
+needing_a_command : App → App
+needing_a_command a = on_top (λ s. record s { subcommand_required = true }) a
+
+helping : App → App
+helping a = on_top (λ s. record s { arg_required_else_help = true }) a
+
+pub returns : goal.returns
+unfolding drop_app needing_a_command helping
+returns c =
+    let required = ap app_of_fields c.subcommand_required.ensures ∙ ap needing_a_command (ap app_of_fields c.about.ensures ∙ c.new.ensures.app) in
+    let start = ap app_of_fields c.arg_required_else_help.ensures ∙ ap helping required in
+    let with_init = c.in_ok-subcommand.ensures.shape c.in_ok-init_command.ensures.local ∙ ap₂ with_subcommand start (ap (λ (a : App). a.top) c.in_ok-init_command.ensures.app) in
+    let with_link = c.in_ok-subcommand-2.ensures.shape c.in_ok-link_command.ensures.local ∙ ap₂ with_subcommand with_init (ap (λ (a : App). a.top) c.in_ok-link_command.ensures.app) in
+    IfOk-weaker c.subcommand-3.result _ _ (λ r added. added.shape c.in_ok-replay_command.ensures.local
+    ∙ ap₂ with_subcommand with_link (ap (λ (a : App). a.top) c.in_ok-replay_command.ensures.app)) c.subcommand-3.ensures

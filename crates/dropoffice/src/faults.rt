@@ -1,0 +1,61 @@
+//! What keeps the program from its task, and the line that tells it.
+use keeper::KeepFault;
+use sqlkeeper::OpenFault;
+use std::alloc::AllocError;
+use thiserror::Error;
+
+/// What kept the program from its task: the line after `drop: `.
+#[derive(Clone, Copy, Debug, PartialEq, Eq, Error)]
+pub(crate) enum Fault<'a> {
+    /// A value, which the program's words name so, has another form.
+    #[error("malformed value: {0}")]
+    MalformedValue(&'a str),
+    /// The office file is not there, or is none that can be opened.
+    #[error("cannot open the office file")]
+    CannotOpen,
+    /// Another program has the office file open.
+    #[error("cannot open the office file")]
+    Held,
+    /// What the file was found to be, or a refusal of its store.
+    #[error("{0}")]
+    Office(OpenFault),
+    /// The office has no key of this id.
+    #[error("the key is unknown")]
+    UnknownKey,
+    /// A file of this name could not be opened.
+    #[error("cannot read {0}")]
+    CannotRead(&'a str),
+    /// A session ended by a failed read or write.
+    #[error("a connection failed")]
+    ConnectionFailed,
+    /// Memory was refused.
+    #[error("out of memory")]
+    OutOfMemory,
+    /// Standard output failed.
+    #[error("cannot write")]
+    CannotWrite,
+}
+
+impl From<AllocError> for Fault<'_> {
+    fn from(_error: AllocError) -> Self {
+        Fault::OutOfMemory
+    }
+}
+
+impl From<OpenFault> for Fault<'_> {
+    fn from(fault: OpenFault) -> Self {
+        match fault {
+            OpenFault::Memory => Fault::OutOfMemory,
+            other => Fault::Office(other),
+        }
+    }
+}
+
+impl From<KeepFault> for Fault<'_> {
+    fn from(fault: KeepFault) -> Self {
+        match fault {
+            KeepFault::Memory => Fault::OutOfMemory,
+            KeepFault::Store | KeepFault::Full => Fault::Office(OpenFault::Store),
+        }
+    }
+}

@@ -1,0 +1,119 @@
+//! `drop init`: an office file is made.
+ghost use Rattle.std.specs.Prelude.{pos, ◌≤ℤ◌, IfSome};
+
+use crate::faults::Fault;
+use crate::opening::{connect, disconnect};
+use crate::task::Init;
+use boxes::OfficeRow;
+use sigv4::{is_key_id, is_secret};
+use sqlite::{Alter, Connection};
+use sqlkeeper::{OpenFault, SqlKeeper};
+use std::alloc::Global;
+use std::fs;
+use std::fs::{Files, OpenFile, OpenOptions, Permissions};
+use std::io::ErrorKind;
+use std::os::unix::fs::{OpenOptionsExt, PermissionsExt};
+
+/// Readable and writable by its owner alone.
+const OWNERS: u32 = 0o600;
+
+/// Makes an office file: of a file that is not there, or of one without a byte.
+pub(crate) fn do_init(rt: &HostRuntime, words: &Init<'_>) -> Result<(), Fault<'static>> {
+    let office = read_office(words)?;
+    let log = format!(in rt.alloc(); "{}-wal", words.file)?;
+    let had_log = fs::symlink_metadata(rt, log.as_str()).is_ok();
+    let is_new = make_file(rt, words.file)?;
+    let made = make_office(rt, words, office);
+    if is_new && is_unmade(&made) {
+        remove_made(rt, words.file, log.as_str(), had_log);
+    }
+    made
+}
+
+// Whether what was made of the file may be taken away: it is no office, and no other program has it open.
+fn is_unmade(made: &Result<(), Fault<'_>>) -> bool {
+    match made {
+        Ok(()) | Err(Fault::Held | Fault::Office(OpenFault::Exists)) => false,
+        Err(_) => true,
+    }
+}
+
+// The office that the words ask for, where each value of theirs has its form.
+fn read_office(words: &Init<'_>) -> Result<OfficeRow, Fault<'static>> {
+    if !is_key_id(words.clerk.as_bytes()) {
+        return Err(Fault::MalformedValue("clerk"));
+    }
+    if !is_secret(words.secret.as_bytes()) {
+        return Err(Fault::MalformedValue("secret"));
+    }
+    let east = minutes_of(words.east).ok_or(Fault::MalformedValue("east"))?;
+    let west = minutes_of(words.west).ok_or(Fault::MalformedValue("west"))?;
+    Ok(OfficeRow { east: east - west })
+}
+
+// A whole number of minutes, from 0 to 840. The program's words hold no other.
+fn minutes_of(text: &str) -> Option<i16>
+    ensures { IfSome result (λ m. (pos 0 ≤ℤ m) × (m ≤ℤ pos 840)) }
+{
+    let minutes = text.parse::<i16>().ok()?;
+    if 0 <= minutes && minutes <= 840 {
+        Some(minutes)
+    } else {
+        None
+    }
+}
+
+// Makes the file, without a byte and for its owner alone, where there is none. Whether it did.
+fn make_file<R: Files>(rt: &R, file: &str) -> Result<bool, Fault<'static>> {
+    let mut how = OpenOptions::new();
+    how.read(true).write(true).create_new(true).mode(OWNERS);
+    match how.open(rt, file) {
+        // The umask may have taken away what its owner needs.
+        Ok(made) => match made.set_permissions(Permissions::from_mode(OWNERS)) {
+            Ok(()) => Ok(true),
+            Err(_) => {
+                let _ = fs::remove_file(rt, file);
+                Err(Fault::CannotOpen)
+            }
+        },
+        Err(error) if error.kind() == ErrorKind::AlreadyExists => Ok(false),
+        Err(_) => Err(Fault::CannotOpen),
+    }
+}
+
+// Takes away the file that was made, and its log where that was made with it.
+fn remove_made<R: Files>(rt: &R, file: &str, log: &str, had_log: bool) {
+    let _ = fs::remove_file(rt, file);
+    if !had_log {
+        let _ = fs::remove_file(rt, log);
+    }
+}
+
+// Makes an office of the database in the file.
+fn make_office(
+    rt: &HostRuntime,
+    words: &Init<'_>,
+    office: OfficeRow,
+) -> Result<(), Fault<'static>> {
+    let conn = connect(rt, words.file)?;
+    disconnect(create_over(rt.alloc(), conn, office, words)?)
+}
+
+// Makes an office of a database without a table.
+fn create_over<S: Alter + Drop>(
+    alloc: Global,
+    conn: Connection<S>,
+    office: OfficeRow,
+    words: &Init<'_>,
+) -> Result<Connection<S>, Fault<'static>> {
+    match SqlKeeper::create(
+        alloc,
+        conn,
+        office,
+        words.clerk.as_bytes(),
+        words.secret.as_bytes(),
+    ) {
+        Ok(keeper) => Ok(keeper.close()),
+        Err((fault, _)) => Err(Fault::from(fault)),
+    }
+}

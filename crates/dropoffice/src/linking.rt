@@ -1,0 +1,120 @@
+//! `drop link`: a link is written, signed by a key of the office.
+use crate::faults::Fault;
+use crate::opening::{connect, keeper_over, require_file};
+use crate::replaying::read_moment;
+use crate::task::Link;
+use boxes::{Command, has_form};
+use keeper::Keeper;
+use links::{LinkFault, LinkKey, LinkOrder, Method, write_link};
+use sigtext::{cut, is_visible, is_word};
+use sigv4::{Moment, is_region};
+use std::alloc::Global;
+use std::io::Write;
+
+/// The greatest number of bytes of a host.
+const MOST_HOST_BYTES: usize = 255;
+
+/// Writes `http://`, the host and a link to `out`, on one line.
+pub(crate) fn do_link(
+    rt: &HostRuntime,
+    words: &Link<'_>,
+    out: &mut impl Write,
+) -> Result<(), Fault<'static>> {
+    let order = read_order(words)?;
+    require_file(rt, words.file)?;
+    let mut keeper = keeper_over(rt.alloc(), connect(rt, words.file)?)?;
+    let line = line_of(rt.alloc(), &mut keeper, &order, words)?;
+    let Ok(()) = out.write_all(&line) else {
+        return Err(Fault::CannotWrite);
+    };
+    out.flush().map_err(|_| Fault::CannotWrite)
+}
+
+// What a link is to say, beside its path.
+#[derive(Clone, Copy, Debug)]
+struct Order {
+    method: Method,
+    start: Moment,
+    expires: u64,
+}
+
+// The order of the words, where each value of theirs has its form.
+fn read_order(words: &Link<'_>) -> Result<Order, Fault<'static>> {
+    let Some(method) = Method::read(words.method.as_bytes()) else {
+        return Err(Fault::MalformedValue("method"));
+    };
+    if !is_target(method, words.target.as_bytes()) {
+        return Err(Fault::MalformedValue("target"));
+    }
+    let start = read_moment(words.start).ok_or(Fault::MalformedValue("start"))?;
+    if !is_word(words.host.as_bytes(), MOST_HOST_BYTES, is_visible) {
+        return Err(Fault::MalformedValue("host"));
+    }
+    if !is_region(words.region.as_bytes()) {
+        return Err(Fault::MalformedValue("region"));
+    }
+    let expires = words
+        .expires
+        .parse::<u64>()
+        .map_err(|_| Fault::MalformedValue("expires"))?;
+    Ok(Order {
+        method,
+        start,
+        expires,
+    })
+}
+
+// Whether the text is a box's name, `/` and a file's name. No command of the desk has a form yet.
+fn is_target(method: Method, target: &[u8]) -> bool {
+    if method == Method::Post {
+        return false;
+    }
+    match cut(target, b'/') {
+        Some((in_box, name)) => has_form(&Command::DropFile { in_box, name }),
+        None => false,
+    }
+}
+
+// The line of an order's link, signed by the key that the words name.
+fn line_of<K: Keeper>(
+    alloc: Global,
+    keeper: &mut K,
+    order: &Order,
+    words: &Link<'_>,
+) -> Result<Vec<u8>, Fault<'static>> {
+    let Some(row) = keeper.key(words.key.as_bytes())? else {
+        return Err(Fault::UnknownKey);
+    };
+    let key = LinkKey {
+        id: words.key.as_bytes(),
+        secret: row.secret.as_slice(),
+    };
+    let path = format!(in alloc; "/{}", words.target)?;
+    let order = LinkOrder {
+        method: order.method.text(),
+        path: path.as_bytes(),
+        params: &[],
+        headers: &[],
+        start: order.start,
+        expires: order.expires,
+    };
+    let (host, region) = (words.host.as_bytes(), words.region.as_bytes());
+    let mut line = Vec::from_slice(alloc, b"http://")?;
+    line.extend_from_slice(host)?;
+    write_link(alloc, &order, &key, host, region, &mut line).map_err(unwritten)?;
+    line.extend_from_slice(b"\n")?;
+    Ok(line)
+}
+
+// Why no link was written.
+fn unwritten(fault: LinkFault) -> Fault<'static> {
+    match fault {
+        LinkFault::Memory => Fault::OutOfMemory,
+        LinkFault::Method => Fault::MalformedValue("method"),
+        LinkFault::Path | LinkFault::Params | LinkFault::Headers => Fault::MalformedValue("target"),
+        LinkFault::Host => Fault::MalformedValue("host"),
+        LinkFault::Region => Fault::MalformedValue("region"),
+        LinkFault::Expires => Fault::MalformedValue("expires"),
+        LinkFault::Key => Fault::UnknownKey,
+    }
+}

@@ -1,0 +1,87 @@
+//! `drop replay`: recorded connections are answered, one after another.
+ghost use Rattle.std.specs.Prelude.{IfSome};
+ghost use Rattle.sigv4.specs.Credential.{IsKeyId, IsSecret};
+
+use crate::faults::Fault;
+use crate::office::Office;
+use crate::opening::{connect, disconnect, keeper_over, require_file};
+use crate::replay::{replay_in_memory, replay_over};
+use crate::task::Replay;
+use sigv4::{Moment, is_key_id, is_secret};
+use std::fs::Files;
+use std::io::Write;
+use wire::Counted;
+
+/// Answers the streams over the office that the words name: one in memory, or one in a file.
+pub(crate) fn do_replay<'a>(
+    rt: &HostRuntime,
+    words: &Replay<'a>,
+    out: impl Write + Drop,
+) -> Result<(), Fault<'a>> {
+    if words.file.starts_with("memory:") {
+        return replay_memory(rt, words, out);
+    }
+    let moment = read_moment(words.at).ok_or(Fault::MalformedValue("at"))?;
+    replay_file(rt, words, moment, out)
+}
+
+// Over a new office in memory.
+fn replay_memory<'a, R: Files + AllocGlobal>(
+    rt: &R,
+    words: &Replay<'a>,
+    out: impl Write + Drop,
+) -> Result<(), Fault<'a>> {
+    let Some((id, secret)) = read_key(words.file) else {
+        return Err(Fault::MalformedValue("file"));
+    };
+    let moment = read_moment(words.at).ok_or(Fault::MalformedValue("at"))?;
+    let mut writer = Counted::new(out);
+    let streams = words.streams.as_slice();
+    let served = replay_in_memory(rt.alloc(), rt, id, secret, streams, moment, &mut writer)?;
+    told(served, writer.flush().is_ok())
+}
+
+// Over the office in a file that is there. Its log goes into the file at the end, however the streams ended.
+fn replay_file<'a>(
+    rt: &HostRuntime,
+    words: &Replay<'a>,
+    moment: Moment,
+    out: impl Write + Drop,
+) -> Result<(), Fault<'a>> {
+    require_file(rt, words.file)?;
+    let keeper = keeper_over(rt.alloc(), connect(rt, words.file)?)?;
+    let mut office = Office::new(rt.alloc(), keeper);
+    let mut writer = Counted::new(out);
+    let streams = words.streams.as_slice();
+    let served = replay_over(rt, &mut office, streams, moment, &mut writer);
+    let went_out = writer.flush().is_ok();
+    let closed = disconnect(office.keeper.close());
+    told(served, went_out)?;
+    closed
+}
+
+// The clerk's key of an office in memory, `memory:ID/SECRET`.
+fn read_key(file: &str) -> Option<(&[u8], &[u8])>
+    ensures { IfSome result (λ key. IsKeyId key.0.now × IsSecret key.1.now) }
+{
+    let (id, secret) = file.strip_prefix("memory:")?.split_once('/')?;
+    if is_key_id(id.as_bytes()) && is_secret(secret.as_bytes()) {
+        Some((id.as_bytes(), secret.as_bytes()))
+    } else {
+        None
+    }
+}
+
+/// A moment as `20130524T000000Z`.
+pub(crate) fn read_moment(text: &str) -> Option<Moment> {
+    Moment::read(text.as_bytes().try_into().ok()?)
+}
+
+// What is told of streams that were served, where their answers went out or not.
+fn told(served: Result<u64, &str>, went_out: bool) -> Result<(), Fault<'_>> {
+    match served {
+        Err(name) => Err(Fault::CannotRead(name)),
+        Ok(0) if went_out => Ok(()),
+        Ok(_) => Err(Fault::ConnectionFailed),
+    }
+}

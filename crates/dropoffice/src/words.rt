@@ -1,0 +1,193 @@
+//! The program's command line, as clap reads it.
+ghost use Rattle.std.specs.Prelude.{◌≡◌, IfOk, false};
+ghost use Rattle.clap.specs.Words.{app_of, rule_of};
+ghost use Rattle.clap.specs.declared.builder.command.Command.TheViews.{out-Command};
+ghost use Rattle.dropoffice.specs.Tasks.{drop_app, init_app, link_app, replay_app, target_app, expires_rule, minutes_rule, option_rule, streams_rule, word_rule};
+
+use clap::builder::ValueParser;
+use clap::{Arg, Command};
+use std::alloc::{AllocError, Global};
+
+/// `drop COMMAND`.
+pub(crate) fn command_line<'a>(alloc: Global) -> Result<Command<'a>, AllocError>
+    ensures { IfOk result (λ c. app_of c ≡ drop_app) }
+{
+    Command::new(alloc, "drop")
+        .about(
+            "A file drop for offices: makes an office, writes links to its files, and answers requests that carry them",
+        )
+        .subcommand_required(true)
+        .arg_required_else_help(true)
+        .subcommand(init_command(alloc)?)?
+        .subcommand(link_command(alloc)?)?
+        .subcommand(replay_command(alloc)?)
+}
+
+// `init FILE --clerk ID --secret SECRET --east M --west M`.
+fn init_command<'a>(alloc: Global) -> Result<Command<'a>, AllocError>
+    ensures app { IfOk result (λ c. app_of c ≡ init_app) }
+    ensures local { IfOk result (λ c. (out-Command c).has_globals ≡ false) }
+{
+    Command::new(alloc, "init")
+        .about("Makes an office file, with one clerk's key and no boxes")
+        .arg(word(
+            alloc,
+            "file",
+            "FILE",
+            "The file to make. One that is empty becomes the office",
+        ))?
+        .arg(option(
+            alloc,
+            "clerk",
+            "ID",
+            "The id of the clerk's key: 1 to 64 of A-Z a-z 0-9 - _",
+        ))?
+        .arg(option(
+            alloc,
+            "secret",
+            "SECRET",
+            "The key's secret: 1 to 128 visible ASCII characters without spaces",
+        ))?
+        .arg(minutes(
+            alloc,
+            "east",
+            "How many minutes the office's clock is ahead of UTC: 0 to 840",
+        ))?
+        .arg(minutes(alloc, "west", "How many minutes it is behind UTC: 0 to 840"))
+}
+
+// `link FILE METHOD TARGET --key ID --host H --region R --start MOMENT --expires N`.
+fn link_command<'a>(alloc: Global) -> Result<Command<'a>, AllocError>
+    ensures app { IfOk result (λ c. app_of c ≡ link_app) }
+    ensures local { IfOk result (λ c. (out-Command c).has_globals ≡ false) }
+{
+    target_command(alloc)?
+        .arg(option(alloc, "key", "ID", "The id of the key that signs"))?
+        .arg(option(
+            alloc,
+            "host",
+            "H",
+            "The host that the link is sent to: files.example, or files.example:8080",
+        ))?
+        .arg(option(
+            alloc,
+            "region",
+            "R",
+            "The region that the link names: us-east-1",
+        ))?
+        .arg(option(
+            alloc,
+            "start",
+            "MOMENT",
+            "The first second at which the link is good, in UTC: 20130524T000000Z",
+        ))?
+        .arg(expires_option(alloc))
+}
+
+// `link FILE METHOD TARGET`.
+fn target_command<'a>(alloc: Global) -> Result<Command<'a>, AllocError>
+    ensures app { IfOk result (λ c. app_of c ≡ target_app) }
+    ensures local { IfOk result (λ c. (out-Command c).has_globals ≡ false) }
+{
+    Command::new(alloc, "link")
+        .about("Writes a link to a file of an office, signed by one of its keys")
+        .arg(word(alloc, "file", "FILE", "The office file"))?
+        .arg(word(
+            alloc,
+            "method",
+            "METHOD",
+            "PUT to upload, GET or HEAD to fetch",
+        ))?
+        .arg(word(
+            alloc,
+            "target",
+            "TARGET",
+            "The box and the file's name: box/name",
+        ))
+}
+
+// `replay FILE STREAM.. --at MOMENT`.
+fn replay_command<'a>(alloc: Global) -> Result<Command<'a>, AllocError>
+    ensures app { IfOk result (λ c. app_of c ≡ replay_app) }
+    ensures local { IfOk result (λ c. (out-Command c).has_globals ≡ false) }
+{
+    Command::new(alloc, "replay")
+        .about("Answers recorded connections, one after another, and prints the answers")
+        .arg(word(
+            alloc,
+            "file",
+            "FILE",
+            "The office file. memory:ID/SECRET makes an empty office for this run, with one clerk's key",
+        ))?
+        .arg(streams(alloc))?
+        .arg(option(
+            alloc,
+            "at",
+            "MOMENT",
+            "The time to answer at, in UTC: 20130524T000000Z is 24 May 2013, 00:00:00",
+        ))
+}
+
+// A value by its place among the words, by the name that help calls it.
+fn word<'a>(alloc: Global, id: &'a str, name: &'a str, help: &'a str) -> Arg<'a>
+    ensures rule { rule_of result ≡ word_rule id.entry.now }
+    ensures local { result.global ≡ false }
+{
+    Arg::new(alloc, id)
+        .value_name(name)
+        .required(true)
+        .help(help)
+}
+
+// One stream or more.
+fn streams<'a>(alloc: Global) -> Arg<'a>
+    ensures rule { rule_of result ≡ streams_rule }
+    ensures local { result.global ≡ false }
+{
+    word(
+        alloc,
+        "stream",
+        "STREAM",
+        "The files with the bytes that each caller sent",
+    )
+    .num_args(1..)
+}
+
+// `--id VALUE`.
+fn option<'a>(alloc: Global, id: &'a str, name: &'a str, help: &'a str) -> Arg<'a>
+    ensures rule { rule_of result ≡ option_rule id.entry.now }
+    ensures local { result.global ≡ false }
+{
+    Arg::new(alloc, id)
+        .long(id)
+        .value_name(name)
+        .required(true)
+        .help(help)
+}
+
+// `--expires N`.
+fn expires_option<'a>(alloc: Global) -> Arg<'a>
+    ensures rule { rule_of result ≡ expires_rule }
+    ensures local { result.global ≡ false }
+{
+    option(
+        alloc,
+        "expires",
+        "N",
+        "For how many seconds the link is good: 1 to 604800, which is a week",
+    )
+    .value_parser(ValueParser::unsigned(1, 604_800))
+}
+
+// `--id M`, a whole number of minutes, 0 where it is left out.
+fn minutes<'a>(alloc: Global, id: &'a str, help: &'a str) -> Arg<'a>
+    ensures rule { rule_of result ≡ minutes_rule id.entry.now }
+    ensures local { result.global ≡ false }
+{
+    Arg::new(alloc, id)
+        .long(id)
+        .value_name("M")
+        .value_parser(ValueParser::unsigned(0, 840))
+        .default_value("0")
+        .help(help)
+}
