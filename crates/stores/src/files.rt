@@ -1,29 +1,44 @@
-//! An office file on disks in memory, and the keeper in memory beside it.
-use crate::days::{ID, SECRET, THAT_DAY, a_day};
+//! Office files on disks in memory, and rows and a day over them and over the keeper in memory.
+use crate::days::{THAT_DAY, a_day};
+use crate::opening::stays;
 use boxes::OfficeRow;
+use dropoffice::Office;
 use keeper::Shelf;
 use sqlite::{Connection, FileStore, Files, Options};
-use sqlite_disk::Memory;
+use sqlite_disk::{Disk, Memory};
 use sqlkeeper::SqlKeeper;
 use std::alloc::Global;
 use std::test::Fail;
+use trials::published::{ID, SECRET};
+use trials::rows::ROWS;
 
-type Store = FileStore<Memory>;
+/// A connection to files, which are of a database or empty.
+pub(crate) fn connect<D: Disk + Drop>(
+    alloc: Global,
+    files: Files<D>,
+) -> Result<Connection<FileStore<D>>, Fail> {
+    if !files.may_be_used() {
+        return Err("no disk".into());
+    }
+    match Connection::open_files(alloc, files, Options::new(7)) {
+        Ok(conn) => Ok(conn),
+        Err((error, _)) => Err(error.into()),
+    }
+}
 
-fn make(alloc: Global) -> Result<SqlKeeper<Store>, Fail> {
+/// A new office file, whose clock is so many minutes east of UTC, with the clerk's key alone.
+pub(crate) fn begun(
+    alloc: Global,
+    east: i16,
+) -> Result<Office<SqlKeeper<FileStore<Memory>>>, Fail> {
     let files = Files {
         log: Memory::new(alloc),
         db: Memory::new(alloc),
     };
-    if !files.may_be_used() {
-        return Err("no disk".into());
-    }
-    let Ok(conn) = Connection::open_files(alloc, files, Options::new(7)) else {
-        return Err("no connection".into());
-    };
-    match SqlKeeper::create(alloc, conn, OfficeRow { east: 0 }, ID, SECRET) {
-        Ok(keeper) => Ok(keeper),
-        Err(_) => Err("no office".into()),
+    let conn = connect(alloc, files)?;
+    match SqlKeeper::create(alloc, conn, OfficeRow { east }, ID, SECRET) {
+        Ok(keeper) => Ok(Office::new(alloc, keeper)),
+        Err((fault, _)) => Err(fault.into()),
     }
 }
 
@@ -36,7 +51,17 @@ fn a_day_in_memory(rt: HostRuntime) -> Result<(), Fail> {
 
 #[test]
 fn a_day_in_a_file(rt: HostRuntime) -> Result<(), Fail> {
-    let mut keeper = make(rt.alloc())?;
-    assert_eq!(rt; a_day(&mut keeper)?, THAT_DAY);
+    let mut office = begun(rt.alloc(), 0)?;
+    assert_eq!(rt; a_day(&mut office.keeper)?, THAT_DAY);
+    stays(rt.alloc(), office)
+}
+
+#[test]
+fn rows_are_answered_from_a_file(rt: HostRuntime) -> Result<(), Fail> {
+    for row in ROWS {
+        let mut office = begun(rt.alloc(), row.east())?;
+        row.run(&mut office)?;
+        stays(rt.alloc(), office)?;
+    }
     Ok(())
 }

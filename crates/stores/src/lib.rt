@@ -4,4 +4,16 @@
 #[cfg(test)]
 mod days;
 #[cfg(test)]
+mod faults;
+#[cfg(test)]
 mod files;
+#[cfg(test)]
+mod opening;
+#[cfg(test)]
+mod sizes;
+#[cfg(test)]
+mod steps;
+#[cfg(test)]
+mod stops;
+#[cfg(test)]
+mod telling;

@@ -3,20 +3,20 @@ use crate::fakes::{Sink, Source};
 use crate::published::{DATE, ID, SECRET};
 use boxes::{BoxRow, Change, Command, Mode, NameRule, OfficeRow};
 use dropoffice::{Counted, FixedClock, Office, SessionEnd};
-use keeper::{Keeper, Shelf};
+use keeper::{KeepFault, Keeper, Shelf};
 use links::{LinkKey, LinkOrder, write_link};
 use sigv4::Moment;
 use std::alloc::Global;
 use std::test::Fail;
 
 /// The clerk's key.
-pub(crate) const CLERK: LinkKey<'static> = LinkKey {
+pub const CLERK: LinkKey<'static> = LinkKey {
     id: ID,
     secret: SECRET,
 };
 
 /// The settings of a box that is open from 1 January to 1 June 2013, on all days.
-pub(crate) fn settings(mode: Mode, quota: u64, max_files: u64) -> BoxRow {
+pub fn settings(mode: Mode, quota: u64, max_files: u64) -> BoxRow {
     BoxRow {
         opens: 1_356_998_400,
         closes: 1_370_044_800,
@@ -30,26 +30,37 @@ pub(crate) fn settings(mode: Mode, quota: u64, max_files: u64) -> BoxRow {
     }
 }
 
-/// An office whose clock is so many minutes east of UTC, with the clerk's key and a box `in`.
-pub(crate) fn make_office(alloc: Global, east: i16, row: &BoxRow) -> Result<Office<Shelf>, Fail> {
-    let mut keeper = Shelf::new(alloc, OfficeRow { east }, ID, SECRET)?;
-    keeper.apply(&Change::Desk(Command::AddBox { name: b"in", row }))?;
+/// Adds a box `in`.
+pub fn add_box<K: Keeper>(keeper: &mut K, row: &BoxRow) -> Result<(), KeepFault> {
+    keeper.apply(&Change::Desk(Command::AddBox { name: b"in", row }))
+}
+
+/// An office in memory, whose clock is so many minutes east of UTC, with the clerk's key alone.
+pub fn begun(alloc: Global, east: i16) -> Result<Office<Shelf>, Fail> {
+    let keeper = Shelf::new(alloc, OfficeRow { east }, ID, SECRET)?;
     Ok(Office::new(alloc, keeper))
+}
+
+/// The same with a box `in`.
+pub fn make_office(alloc: Global, east: i16, row: &BoxRow) -> Result<Office<Shelf>, Fail> {
+    let mut office = begun(alloc, east)?;
+    add_box(&mut office.keeper, row)?;
+    Ok(office)
 }
 
 /// A request by a link of seven days; without a body it tells no length.
 #[derive(Clone, Copy)]
-pub(crate) struct Asked<'a> {
-    pub(crate) key: LinkKey<'a>,
-    pub(crate) method: &'a [u8],
-    pub(crate) path: &'a [u8],
-    pub(crate) body: Option<&'a [u8]>,
-    pub(crate) start: &'a [u8; 16],
+pub struct Asked<'a> {
+    pub key: LinkKey<'a>,
+    pub method: &'a [u8],
+    pub path: &'a [u8],
+    pub body: Option<&'a [u8]>,
+    pub start: &'a [u8; 16],
 }
 
 impl Asked<'_> {
     /// The request as a message.
-    pub(crate) fn message(&self, alloc: Global) -> Result<Vec<u8>, Fail> {
+    pub fn message(&self, alloc: Global) -> Result<Vec<u8>, Fail> {
         let order = LinkOrder {
             method: self.method,
             path: self.path,
@@ -80,7 +91,7 @@ impl Asked<'_> {
 }
 
 /// An upload by the clerk's key.
-pub(crate) fn put<'a>(alloc: Global, path: &'a [u8], body: &'a [u8]) -> Result<Vec<u8>, Fail> {
+pub fn put<'a>(alloc: Global, path: &'a [u8], body: &'a [u8]) -> Result<Vec<u8>, Fail> {
     let asked = Asked {
         key: CLERK,
         method: b"PUT",
@@ -92,7 +103,7 @@ pub(crate) fn put<'a>(alloc: Global, path: &'a [u8], body: &'a [u8]) -> Result<V
 }
 
 /// A request without a body by the clerk's key.
-pub(crate) fn bare<'a>(alloc: Global, method: &'a [u8], path: &'a [u8]) -> Result<Vec<u8>, Fail> {
+pub fn bare<'a>(alloc: Global, method: &'a [u8], path: &'a [u8]) -> Result<Vec<u8>, Fail> {
     let asked = Asked {
         key: CLERK,
         method,
@@ -103,17 +114,27 @@ pub(crate) fn bare<'a>(alloc: Global, method: &'a [u8], path: &'a [u8]) -> Resul
     asked.message(alloc)
 }
 
-/// What a session at a moment writes that reads the stream to its end.
-pub(crate) fn reply(
-    office: &mut Office<Shelf>,
+/// What a session at a moment writes, and how it ends.
+pub fn sent<K: Keeper>(
+    office: &mut Office<K>,
     stream: &[u8],
     at: &[u8; 16],
-) -> Result<Vec<u8>, Fail> {
+) -> Result<(Vec<u8>, SessionEnd), Fail> {
     let moment = Moment::read(at).ok_or("no moment")?;
     let mut reader = Counted::new(Source::whole(stream));
     let mut writer = Counted::new(Sink::new(office.alloc, 4096, 4096));
-    match office.session(&mut reader, &mut writer, &mut FixedClock::new(moment)) {
-        SessionEnd::Ended => Ok(writer.inner.text),
+    let end = office.session(&mut reader, &mut writer, &mut FixedClock::new(moment));
+    Ok((writer.inner.text, end))
+}
+
+/// What a session at a moment writes that reads the stream to its end.
+pub fn reply<K: Keeper>(
+    office: &mut Office<K>,
+    stream: &[u8],
+    at: &[u8; 16],
+) -> Result<Vec<u8>, Fail> {
+    match sent(office, stream, at)? {
+        (text, SessionEnd::Ended) => Ok(text),
         _ => Err("another end".into()),
     }
 }

@@ -1,14 +1,11 @@
 //! Uploads and fetches over streams that are cut or fail, and by other keys.
 use crate::boxed::{Asked, CLERK, bare, make_office, put, reply, settings};
 use crate::fakes::{Cut, Sink, Source};
-use crate::owed::{
-    FIRST_ABC, FOUND_ABC, HEAD_OF_ABC, NO_BODY_HERE, NO_CLERK, NO_FILE, REVOKED, SECOND_X,
-};
-use crate::published::{DATE, EXPIRED, NO_BOX};
-use boxes::{Change, Command, Mode, Role};
+use crate::owed::{FIRST_ABC, FOUND_ABC, NO_BODY_HERE, SECOND_X};
+use crate::published::{DATE, EXPIRED};
+use boxes::Mode;
 use dropoffice::{Counted, FixedClock, ListedClock, SessionEnd};
 use keeper::Keeper;
-use links::LinkKey;
 use sigv4::Moment;
 use std::alloc::Global;
 use std::io::Read;
@@ -36,77 +33,6 @@ fn exchange<R: Read + Drop>(alloc: Global, reader: R) -> Result<(Vec<u8>, Sessio
     let mut writer = Counted::new(Sink::new(alloc, 4096, 4096));
     let end = office.session(&mut reader, &mut writer, &mut FixedClock::new(moment));
     Ok((writer.inner.text, end))
-}
-
-#[test]
-fn a_file_is_fetched_with_its_receipt(rt: HostRuntime) -> Result<(), Fail> {
-    let alloc = rt.alloc();
-    let mut office = make_office(alloc, 0, &settings(Mode::Keep, 100, 2))?;
-    for (method, path, want) in [
-        (b"GET".as_slice(), b"/in/a.txt".as_slice(), NO_FILE),
-        (b"GET", b"/out/a.txt", NO_BOX),
-    ] {
-        assert_eq!(rt;
-            reply(&mut office, &bare(alloc, method, path)?, DATE)?.as_slice(),
-            want
-        );
-    }
-    let upload = put(alloc, b"/in/a.txt", b"abc")?;
-    assert_eq!(rt; reply(&mut office, &upload, DATE)?.as_slice(), FIRST_ABC);
-    for (method, path, want) in [
-        (b"GET".as_slice(), b"/in/a.txt".as_slice(), FOUND_ABC),
-        (b"HEAD", b"/in/a.txt", HEAD_OF_ABC),
-        (b"GET", b"/in/b.txt", NO_FILE),
-    ] {
-        assert_eq!(rt;
-            reply(&mut office, &bare(alloc, method, path)?, DATE)?.as_slice(),
-            want
-        );
-    }
-    Ok(())
-}
-
-// A request by the key `k2`.
-fn by_link<'a>(
-    alloc: Global,
-    method: &'a [u8],
-    path: &'a [u8],
-    body: Option<&'a [u8]>,
-) -> Result<Vec<u8>, Fail> {
-    let asked = Asked {
-        key: LinkKey {
-            id: b"k2",
-            secret: b"s3cr3t",
-        },
-        method,
-        path,
-        body,
-        start: DATE,
-    };
-    asked.message(alloc)
-}
-
-#[test]
-fn a_links_key_puts_and_fetches_until_it_is_revoked(rt: HostRuntime) -> Result<(), Fail> {
-    let alloc = rt.alloc();
-    let mut office = make_office(alloc, 0, &settings(Mode::Keep, 100, 2))?;
-    let upload = by_link(alloc, b"PUT", b"/in/a.txt", Some(b"abc"))?;
-    let fetch = by_link(alloc, b"GET", b"/in/a.txt", None)?;
-    let order = by_link(alloc, b"POST", b"/", None)?;
-    let adding = Command::AddKey {
-        id: b"k2",
-        role: Role::Link,
-        secret: b"s3cr3t",
-    };
-    office.keeper.apply(&Change::Desk(adding))?;
-    assert_eq!(rt; reply(&mut office, &upload, DATE)?.as_slice(), FIRST_ABC);
-    assert_eq!(rt; reply(&mut office, &fetch, DATE)?.as_slice(), FOUND_ABC);
-    assert_eq!(rt; reply(&mut office, &order, DATE)?.as_slice(), NO_CLERK);
-    office
-        .keeper
-        .apply(&Change::Desk(Command::RevokeKey { id: b"k2" }))?;
-    assert_eq!(rt; reply(&mut office, &fetch, DATE)?.as_slice(), REVOKED);
-    Ok(())
 }
 
 #[test]

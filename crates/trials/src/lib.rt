@@ -1,30 +1,27 @@
 //! Tests over readers, writers, sinks and keepers that are slow, fail or say something else: what no row of data can
 //! say. All other calls are tried by the rows of `crates/rows` and by the program's own runs (`ci`). The crate gives
-//! nothing.
+//! rows that are asked of any keeper, and what they stand on, to the tests of `crates/stores`.
 #![tactic(auto)]
 
 #[cfg(test)]
 mod answers;
-#[cfg(test)]
-mod boxed;
+pub mod boxed;
 #[cfg(test)]
 mod counts;
 #[cfg(test)]
 mod exchanges;
-#[cfg(test)]
-mod fakes;
+pub mod fakes;
 #[cfg(test)]
 mod feeds;
 #[cfg(test)]
 mod keepers;
 #[cfg(test)]
 mod messages;
-#[cfg(test)]
-mod owed;
+pub mod owed;
 #[cfg(test)]
 mod programs;
-#[cfg(test)]
-mod published;
+pub mod published;
+pub mod rows;
 #[cfg(test)]
 mod runs;
 #[cfg(test)]

@@ -1,55 +1,55 @@
 //! What is owed for uploads and fetches: the texts of refusals, and digests by Python's `hashlib`.
 
-pub(crate) const MALFORMED_TARGET: &[u8] =
+pub const MALFORMED_TARGET: &[u8] =
     b"HTTP/1.1 400 Bad Request\r\nContent-Type: text/plain\r\nContent-Length: 37\r\n\r\nInvalidURI 8 the target is malformed\n";
 
-pub(crate) const REVOKED: &[u8] =
+pub const REVOKED: &[u8] =
     b"HTTP/1.1 403 Forbidden\r\nContent-Type: text/plain\r\nContent-Length: 41\r\n\r\nInvalidAccessKeyId 20 the key is revoked\n";
 
-pub(crate) const NO_CLERK: &[u8] =
+pub const NO_CLERK: &[u8] =
     b"HTTP/1.1 403 Forbidden\r\nContent-Type: text/plain\r\nContent-Length: 40\r\n\r\nAccessDenied 24 the key may not do this\n";
 
-pub(crate) const NO_LENGTH: &[u8] =
+pub const NO_LENGTH: &[u8] =
     b"HTTP/1.1 411 Length Required\r\nContent-Type: text/plain\r\nContent-Length: 50\r\n\r\nMissingContentLength 25 Content-Length is missing\n";
 
-pub(crate) const NO_BODY_HERE: &[u8] =
+pub const NO_BODY_HERE: &[u8] =
     b"HTTP/1.1 400 Bad Request\r\nContent-Type: text/plain\r\nContent-Length: 43\r\n\r\nInvalidRequest 26 a body is not taken here\n";
 
-pub(crate) const LONG_NAME: &[u8] =
+pub const LONG_NAME: &[u8] =
     b"HTTP/1.1 400 Bad Request\r\nContent-Type: text/plain\r\nContent-Length: 40\r\n\r\nKeyTooLongError 28 the name is too long\n";
 
-pub(crate) const CLOSED: &[u8] =
+pub const CLOSED: &[u8] =
     b"HTTP/1.1 403 Forbidden\r\nContent-Type: text/plain\r\nContent-Length: 34\r\n\r\nAccessDenied 30 the box is closed\n";
 
-pub(crate) const OTHER_BYTES: &[u8] =
+pub const OTHER_BYTES: &[u8] =
     b"HTTP/1.1 412 Precondition Failed\r\nContent-Type: text/plain\r\nContent-Length: 59\r\n\r\nPreconditionFailed 31 other bytes are kept under this name\n";
 
-pub(crate) const TOO_MANY_FILES: &[u8] =
+pub const TOO_MANY_FILES: &[u8] =
     b"HTTP/1.1 403 Forbidden\r\nContent-Type: text/plain\r\nContent-Length: 57\r\n\r\nAccessDenied 32 the box has its greatest number of files\n";
 
-pub(crate) const PAST_QUOTA: &[u8] =
+pub const PAST_QUOTA: &[u8] =
     b"HTTP/1.1 403 Forbidden\r\nContent-Type: text/plain\r\nContent-Length: 48\r\n\r\nAccessDenied 33 the box's quota would be passed\n";
 
-pub(crate) const NO_FILE: &[u8] =
+pub const NO_FILE: &[u8] =
     b"HTTP/1.1 404 Not Found\r\nContent-Type: text/plain\r\nContent-Length: 26\r\n\r\nNoSuchKey 34 no such file\n";
 
-pub(crate) const FIRST_ABC: &[u8] =
+pub const FIRST_ABC: &[u8] =
     b"HTTP/1.1 200 OK\r\nContent-Type: text/plain\r\nContent-Length: 77\r\n\r\nreceipt 1 3 ba7816bf8f01cfea414140de5dae2223b00361a396177a9cb410ff61f20015ad\n";
 
-pub(crate) const SECOND_X: &[u8] =
+pub const SECOND_X: &[u8] =
     b"HTTP/1.1 200 OK\r\nContent-Type: text/plain\r\nContent-Length: 77\r\n\r\nreceipt 2 1 2d711642b726b04401627ca9fbac32f5c8530fb1903cc4db02258717921a4881\n";
 
-pub(crate) const SECOND_ABD: &[u8] =
+pub const SECOND_ABD: &[u8] =
     b"HTTP/1.1 200 OK\r\nContent-Type: text/plain\r\nContent-Length: 77\r\n\r\nreceipt 2 3 a52d159f262b2c6ddb724a61840befc36eb30c88877a4030b65cbe86298449c9\n";
 
-pub(crate) const FIRST_EMPTY: &[u8] =
+pub const FIRST_EMPTY: &[u8] =
     b"HTTP/1.1 200 OK\r\nContent-Type: text/plain\r\nContent-Length: 77\r\n\r\nreceipt 1 0 e3b0c44298fc1c149afbf4c8996fb92427ae41e4649b934ca495991b7852b855\n";
 
-pub(crate) const SECOND_EMPTY: &[u8] =
+pub const SECOND_EMPTY: &[u8] =
     b"HTTP/1.1 200 OK\r\nContent-Type: text/plain\r\nContent-Length: 77\r\n\r\nreceipt 2 0 e3b0c44298fc1c149afbf4c8996fb92427ae41e4649b934ca495991b7852b855\n";
 
-pub(crate) const HEAD_OF_ABC: &[u8] =
+pub const HEAD_OF_ABC: &[u8] =
     b"HTTP/1.1 200 OK\r\nContent-Type: application/octet-stream\r\nContent-Length: 3\r\nX-Drop-Receipt: 1\r\nX-Drop-Sha256: ba7816bf8f01cfea414140de5dae2223b00361a396177a9cb410ff61f20015ad\r\n\r\n";
 
-pub(crate) const FOUND_ABC: &[u8] =
+pub const FOUND_ABC: &[u8] =
     b"HTTP/1.1 200 OK\r\nContent-Type: application/octet-stream\r\nContent-Length: 3\r\nX-Drop-Receipt: 1\r\nX-Drop-Sha256: ba7816bf8f01cfea414140de5dae2223b00361a396177a9cb410ff61f20015ad\r\n\r\nabc";

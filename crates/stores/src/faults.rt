@@ -1,0 +1,148 @@
+//! Office files that are damaged by SQL, and mended.
+use crate::days::a_day;
+use crate::files::begun;
+use crate::opening::open;
+use boxes::OfficeRow;
+use keeper::Keeper;
+use sqlite::{Alter, Connection};
+use sqlkeeper::{OpenFault, SqlKeeper};
+use std::alloc::Global;
+use std::test::Fail;
+use trials::published::{ID, SECRET};
+use trials::rows::holds;
+
+// What breaks an office of `a_day`, how it is refused, and what mends it.
+const DAMAGES: [(&str, OpenFault, &str); 11] = [
+    (
+        "UPDATE office SET version = 7",
+        OpenFault::Version,
+        "UPDATE office SET version = 1",
+    ),
+    (
+        "UPDATE office SET version = 7; UPDATE boxes SET used = used + 1",
+        OpenFault::Version,
+        "UPDATE office SET version = 1; UPDATE boxes SET used = used - 1",
+    ),
+    (
+        "UPDATE receipts SET number = 9 WHERE number = 4",
+        OpenFault::Shape,
+        "UPDATE receipts SET number = 4 WHERE number = 9",
+    ),
+    (
+        "UPDATE pieces SET bytes = x'616264' WHERE name = 'a2.txt'",
+        OpenFault::Shape,
+        "UPDATE pieces SET bytes = x'616263' WHERE name = 'a2.txt'",
+    ),
+    (
+        "UPDATE boxes SET used = used + 1",
+        OpenFault::Shape,
+        "UPDATE boxes SET used = used - 1",
+    ),
+    (
+        "UPDATE boxes SET count = count + 1",
+        OpenFault::Shape,
+        "UPDATE boxes SET count = count - 1",
+    ),
+    (
+        "UPDATE keys SET revoked = 1 WHERE role = 1",
+        OpenFault::Shape,
+        "UPDATE keys SET revoked = 0 WHERE role = 1",
+    ),
+    (
+        "DELETE FROM pieces WHERE name = 'a2.txt'",
+        OpenFault::Shape,
+        "INSERT INTO pieces VALUES ('in', 'a2.txt', 0, x'616263')",
+    ),
+    (
+        "UPDATE pieces SET part = 2 WHERE part = 1",
+        OpenFault::Shape,
+        "UPDATE pieces SET part = 1 WHERE part = 2",
+    ),
+    (
+        "UPDATE keys SET id = 'k/2' WHERE id = 'k2'",
+        OpenFault::Shape,
+        "UPDATE keys SET id = 'k2' WHERE id = 'k/2'",
+    ),
+    (
+        "UPDATE boxes SET rule_kind = 2, rule_text = 'a'",
+        OpenFault::Shape,
+        "UPDATE boxes SET rule_kind = 0, rule_text = ''",
+    ),
+];
+
+// The last table of an office, as it is made.
+const PIECES: &str =
+    "CREATE TABLE pieces (box TEXT NOT NULL, name TEXT NOT NULL, part INTEGER NOT NULL, bytes BLOB NOT NULL, PRIMARY KEY (box, name, part), FOREIGN KEY (box, name) REFERENCES files (box, name) ON DELETE RESTRICT ON UPDATE RESTRICT) STRICT";
+
+// The connection, after the office was broken and so refused.
+fn refused<S: Alter + Drop>(
+    alloc: Global,
+    mut conn: Connection<S>,
+    damage: &str,
+    want: OpenFault,
+) -> Result<Connection<S>, Fail> {
+    conn.execute_batch(damage)?;
+    match SqlKeeper::open(alloc, conn) {
+        Ok(_) => Err(("opened after", damage).into()),
+        Err((fault, conn)) => {
+            if fault == want {
+                Ok(conn)
+            } else {
+                Err((fault, damage).into())
+            }
+        }
+    }
+}
+
+// The same, after it was mended and opened.
+fn mended<S: Alter + Drop>(
+    alloc: Global,
+    conn: Connection<S>,
+    damage: &str,
+    want: OpenFault,
+    mend: &str,
+) -> Result<Connection<S>, Fail> {
+    let mut conn = refused(alloc, conn, damage, want)?;
+    conn.execute_batch(mend)?;
+    Ok(open(alloc, conn)?.close())
+}
+
+fn each_damage<S: Alter + Drop>(alloc: Global, conn: Connection<S>) -> Result<(), Fail> {
+    let mut conn = conn;
+    for (damage, want, mend) in DAMAGES {
+        conn = mended(alloc, conn, damage, want, mend)?;
+    }
+    Ok(())
+}
+
+// Making an office where one is.
+fn made_twice<S: Alter + Drop>(alloc: Global, conn: Connection<S>) -> Result<(), Fail> {
+    match SqlKeeper::create(alloc, conn, OfficeRow { east: 1 }, ID, SECRET) {
+        Ok(_) => Err("made twice".into()),
+        Err((fault, conn)) => {
+            holds(fault == OpenFault::Exists, "another fault")?;
+            let mut keeper = open(alloc, conn)?;
+            holds(keeper.settings()?.east == 0, "another office")
+        }
+    }
+}
+
+#[test]
+fn damage_is_found_and_what_is_mended_opens(rt: HostRuntime) -> Result<(), Fail> {
+    let mut office = begun(rt.alloc(), 0)?;
+    a_day(&mut office.keeper)?;
+    each_damage(rt.alloc(), office.keeper.close())
+}
+
+#[test]
+fn a_table_is_missed(rt: HostRuntime) -> Result<(), Fail> {
+    let alloc = rt.alloc();
+    let conn = begun(alloc, 0)?.keeper.close();
+    mended(alloc, conn, "DROP TABLE pieces", OpenFault::Shape, PIECES)?;
+    Ok(())
+}
+
+#[test]
+fn an_office_is_not_made_twice(rt: HostRuntime) -> Result<(), Fail> {
+    made_twice(rt.alloc(), begun(rt.alloc(), 0)?.keeper.close())
+}

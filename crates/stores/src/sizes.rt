@@ -1,0 +1,111 @@
+//! Files of many sizes, and their pieces. The digests are by `sha256sum`.
+use crate::days::ROOMY;
+use crate::files::begun;
+use crate::opening::{open, stays};
+use dropoffice::Office;
+use keeper::Keeper;
+use sqlite::{Alter, Connection, params};
+use std::alloc::Global;
+use std::test::Fail;
+use trials::boxed::add_box;
+use trials::published::DATE;
+use trials::rows::{Row, holds, upload};
+
+// Files of so many bytes `a`: their paths and receipts.
+const FILES: [(usize, &[u8], &[u8]); 5] = [
+    (
+        1_000_000,
+        b"/in/1",
+        b"HTTP/1.1 200 OK\r\nContent-Type: text/plain\r\nContent-Length: 83\r\n\r\nreceipt 1 1000000 cdc76e5c9914fb9281a1c7e284d73e67f1809a48a497200e046d39ccc7112cd0\n",
+    ),
+    (
+        65_536,
+        b"/in/2",
+        b"HTTP/1.1 200 OK\r\nContent-Type: text/plain\r\nContent-Length: 81\r\n\r\nreceipt 2 65536 bf718b6f653bebc184e1479f1935b8da974d701b893afcf49e701f3e2f9f9c5a\n",
+    ),
+    (
+        65_537,
+        b"/in/3",
+        b"HTTP/1.1 200 OK\r\nContent-Type: text/plain\r\nContent-Length: 81\r\n\r\nreceipt 3 65537 008ffc88d3c96a9f307524eb361e47c5222a887fc45fa0c1fb8d429c5c23b430\n",
+    ),
+    (
+        1_048_576,
+        b"/in/4",
+        b"HTTP/1.1 200 OK\r\nContent-Type: text/plain\r\nContent-Length: 83\r\n\r\nreceipt 4 1048576 9bc1b2a288b26af7257a36277ae3816a7d4f16e89c1e7e77d0a5c48bad62b360\n",
+    ),
+    (
+        0,
+        b"/in/5",
+        b"HTTP/1.1 200 OK\r\nContent-Type: text/plain\r\nContent-Length: 77\r\n\r\nreceipt 5 0 e3b0c44298fc1c149afbf4c8996fb92427ae41e4649b934ca495991b7852b855\n",
+    ),
+];
+
+// How many pieces each has, and how long the shortest one is; 0 where there is none.
+const PIECES: [(&str, i64, i64); 5] = [
+    ("1", 16, 16_960),
+    ("2", 1, 65_536),
+    ("3", 2, 1),
+    ("4", 16, 65_536),
+    ("5", 0, 0),
+];
+
+fn upload_all<K: Keeper>(office: &mut Office<K>) -> Result<(), Fail> {
+    add_box(&mut office.keeper, &ROOMY)?;
+    for (size, path, receipt) in FILES {
+        let bytes = vec![in office.alloc; b'a'; size]?;
+        upload(office, path, &bytes, DATE, receipt)?;
+    }
+    Ok(())
+}
+
+// The number that SQL asks of a file.
+fn number<S: Alter>(conn: &mut Connection<S>, sql: &str, name: &str) -> Result<i64, Fail> {
+    Ok(conn.query_row(sql, params![name])?.get(0)?)
+}
+
+fn cut_as_owed<S: Alter>(conn: &mut Connection<S>) -> Result<(), Fail> {
+    for (name, count, least) in PIECES {
+        let found = number(conn, "SELECT COUNT(*) FROM pieces WHERE name = ?1", name)?;
+        holds(found == count, "other pieces")?;
+        let found = number(
+            conn,
+            "SELECT COALESCE(MIN(length(bytes)), 0) FROM pieces WHERE name = ?1",
+            name,
+        )?;
+        holds(found == least, "another shortest piece")?;
+    }
+    Ok(())
+}
+
+// A number of the one box.
+fn total<S: Alter>(conn: &mut Connection<S>, sql: &str) -> Result<i64, Fail> {
+    Ok(conn.query_row(sql, &[])?.get(0)?)
+}
+
+fn has_totals<S: Alter>(conn: &mut Connection<S>, used: i64, count: i64) -> Result<(), Fail> {
+    holds(
+        total(conn, "SELECT used FROM boxes")? == used,
+        "other bytes",
+    )?;
+    holds(
+        total(conn, "SELECT count FROM boxes")? == count,
+        "other files",
+    )
+}
+
+#[test]
+fn files_are_cut_into_pieces(rt: HostRuntime) -> Result<(), Fail> {
+    let mut office = begun(rt.alloc(), 0)?;
+    upload_all(&mut office)?;
+    let mut conn = office.keeper.close();
+    cut_as_owed(&mut conn)?;
+    has_totals(&mut conn, 2_179_649, 5)?;
+    stays(rt.alloc(), Office::new(rt.alloc(), open(rt.alloc(), conn)?))
+}
+
+#[test]
+fn what_is_replaced_is_not_counted(rt: HostRuntime) -> Result<(), Fail> {
+    let mut office = begun(rt.alloc(), 0)?;
+    Row::Replacing.run(&mut office)?;
+    has_totals(&mut office.keeper.close(), 3, 1)
+}

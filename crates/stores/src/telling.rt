@@ -1,0 +1,97 @@
+//! What a keeper answers to every question, as one text.
+use boxes::{FileRow, KeyRow, ReceiptRow};
+use keeper::Keeper;
+use std::alloc::Global;
+use std::test::Fail;
+use trials::published::ID;
+
+// Every key, box and file that a test here names, and one of each that none adds.
+const KEYS: [&[u8]; 4] = [ID, b"k2", b"k3", b"k4"];
+
+const BOXES: [&[u8]; 3] = [b"in", b"out", b"none"];
+
+const FILES: [&[u8]; 6] = [
+    b"a.txt",
+    b"a2.txt",
+    b"b.txt",
+    b"c.txt",
+    b"a/../b c",
+    &[b'a'; 1024],
+];
+
+fn put_key(text: &mut Vec<u8>, alloc: Global, key: Option<KeyRow>) -> Result<(), Fail> {
+    if let Some(key) = key {
+        let line = format!(in alloc; "key {:?} {} ", key.role, key.revoked)?;
+        text.extend_from_slice(line.as_bytes())?;
+        text.extend_from_slice(&key.secret)?;
+    }
+    text.push(b'\n')?;
+    Ok(())
+}
+
+fn put_receipt(text: &mut Vec<u8>, alloc: Global, receipt: &ReceiptRow) -> Result<(), Fail> {
+    let line = format!(in alloc; "{receipt:?}\n")?;
+    text.extend_from_slice(line.as_bytes())?;
+    Ok(())
+}
+
+fn put_file(text: &mut Vec<u8>, alloc: Global, file: Option<FileRow>) -> Result<(), Fail> {
+    if let Some(file) = file {
+        put_receipt(text, alloc, &file.receipt)?;
+        text.extend_from_slice(&file.bytes)?;
+    }
+    text.push(b'\n')?;
+    Ok(())
+}
+
+fn put_keys<K: Keeper>(text: &mut Vec<u8>, alloc: Global, keeper: &mut K) -> Result<(), Fail> {
+    for id in KEYS {
+        put_key(text, alloc, keeper.key(id)?)?;
+    }
+    Ok(())
+}
+
+fn put_boxes<K: Keeper>(text: &mut Vec<u8>, alloc: Global, keeper: &mut K) -> Result<(), Fail> {
+    for name in BOXES {
+        let row = keeper.box_row(name)?;
+        let sizes = keeper.sizes(name)?;
+        let line = format!(in alloc; "{row:?} {} {}\n", sizes.used, sizes.count)?;
+        text.extend_from_slice(line.as_bytes())?;
+    }
+    Ok(())
+}
+
+fn put_files<K: Keeper>(text: &mut Vec<u8>, alloc: Global, keeper: &mut K) -> Result<(), Fail> {
+    for name in FILES {
+        put_file(text, alloc, keeper.file(b"in", name)?)?;
+    }
+    put_file(text, alloc, keeper.file(b"out", b"a.txt")?)
+}
+
+fn put_receipts<K: Keeper>(
+    text: &mut Vec<u8>,
+    alloc: Global,
+    keeper: &mut K,
+    from: u64,
+    most: usize,
+) -> Result<(), Fail> {
+    for receipt in &keeper.receipts(from, most)? {
+        put_receipt(text, alloc, receipt)?;
+    }
+    Ok(())
+}
+
+/// All answers, one behind another.
+pub(crate) fn told<K: Keeper>(alloc: Global, keeper: &mut K) -> Result<Vec<u8>, Fail> {
+    let east = keeper.settings()?.east;
+    let clerks = keeper.clerks()?;
+    let next = keeper.next_number()?;
+    let line = format!(in alloc; "{east} {clerks} {next}\n")?;
+    let mut text = Vec::from_slice(alloc, line.as_bytes())?;
+    put_keys(&mut text, alloc, keeper)?;
+    put_boxes(&mut text, alloc, keeper)?;
+    put_files(&mut text, alloc, keeper)?;
+    put_receipts(&mut text, alloc, keeper, 0, 100)?;
+    put_receipts(&mut text, alloc, keeper, 2, 1)?;
+    Ok(text)
+}

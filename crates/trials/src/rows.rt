@@ -1,0 +1,292 @@
+//! Worked rows: what is asked of an office that begins, and what is owed for it, over any keeper.
+use crate::boxed::{Asked, CLERK, add_box, bare, put, reply, settings};
+use crate::owed::{
+    CLOSED, FIRST_ABC, FIRST_EMPTY, FOUND_ABC, HEAD_OF_ABC, LONG_NAME, MALFORMED_TARGET, NO_CLERK,
+    NO_FILE, NO_LENGTH, OTHER_BYTES, PAST_QUOTA, REVOKED, SECOND_ABD, SECOND_EMPTY, SECOND_X,
+    TOO_MANY_FILES,
+};
+use crate::published::{DATE, NO_BOX};
+use boxes::{Change, Command, Mode, Role};
+use dropoffice::Office;
+use keeper::Keeper;
+use links::LinkKey;
+use std::alloc::Global;
+use std::str;
+use std::test::Fail;
+
+// One second after the moment of the links, as a text and in seconds.
+const LATER: &[u8; 16] = b"20130524T000001Z";
+
+const LATER_SECONDS: u64 = 1_369_353_601;
+
+/// A row: an office without boxes, whose clerk has the published key, takes a box and is asked.
+#[derive(Clone, Copy, Debug, PartialEq, Eq)]
+pub enum Row {
+    /// Uploads get receipts until the box is full; a repeat gets its receipt after closing time.
+    Closing,
+    /// Other bytes don't take a name.
+    Keeping,
+    /// Other bytes take a name.
+    Replacing,
+    /// An upload tells its length, which may be none.
+    Lengths,
+    /// A quota is of all bytes.
+    Quota,
+    /// Hours are those of the office's clock.
+    Hours,
+    /// A path is taken as it is.
+    Paths,
+    /// A name has 1024 bytes at most.
+    Names,
+    /// A link's key puts and fetches until it is revoked.
+    Keys,
+    /// A file is fetched with its receipt.
+    Fetches,
+}
+
+/// All rows.
+pub const ROWS: [Row; 10] = [
+    Row::Closing,
+    Row::Keeping,
+    Row::Replacing,
+    Row::Lengths,
+    Row::Quota,
+    Row::Hours,
+    Row::Paths,
+    Row::Names,
+    Row::Keys,
+    Row::Fetches,
+];
+
+impl Row {
+    /// How many minutes east of UTC the office's clock is.
+    pub fn east(self) -> i16 {
+        match self {
+            Row::Hours => 60,
+            _ => 0,
+        }
+    }
+
+    /// Asks the office; fails where it answers something else than what is owed.
+    pub fn run<K: Keeper>(self, office: &mut Office<K>) -> Result<(), Fail> {
+        match self {
+            Row::Closing => closing(office),
+            Row::Keeping => keeping(office),
+            Row::Replacing => replacing(office),
+            Row::Lengths => lengths(office),
+            Row::Quota => quota(office),
+            Row::Hours => hours(office),
+            Row::Paths => paths(office),
+            Row::Names => names(office),
+            Row::Keys => keys(office),
+            Row::Fetches => fetches(office),
+        }
+    }
+}
+
+/// Fails where something does not hold.
+pub fn holds(what: bool, name: &'static str) -> Result<(), Fail> {
+    if what { Ok(()) } else { Err(name.into()) }
+}
+
+/// The office answers a stream at a moment with these bytes.
+pub fn expect<K: Keeper>(
+    office: &mut Office<K>,
+    stream: &[u8],
+    at: &[u8; 16],
+    want: &[u8],
+) -> Result<(), Fail> {
+    let text = reply(office, stream, at)?;
+    if text.as_slice() == want {
+        Ok(())
+    } else {
+        Err(("owed", str::from_utf8(want), "not", str::from_utf8(&text)).into())
+    }
+}
+
+/// It answers so to an upload by the clerk's key at a moment.
+pub fn upload<K: Keeper>(
+    office: &mut Office<K>,
+    path: &[u8],
+    body: &[u8],
+    at: &[u8; 16],
+    want: &[u8],
+) -> Result<(), Fail> {
+    let stream = put(office.alloc, path, body)?;
+    expect(office, &stream, at, want)
+}
+
+/// It answers so to a request without a body by the clerk's key.
+pub fn ask<K: Keeper>(
+    office: &mut Office<K>,
+    method: &[u8],
+    path: &[u8],
+    want: &[u8],
+) -> Result<(), Fail> {
+    let stream = bare(office.alloc, method, path)?;
+    expect(office, &stream, DATE, want)
+}
+
+// The next receipt has this number, and the box so many bytes and files.
+fn counts<K: Keeper>(keeper: &mut K, next: u64, used: u64, count: u64) -> Result<(), Fail> {
+    let sizes = keeper.sizes(b"in")?;
+    holds(sizes.used == used && sizes.count == count, "other sizes")?;
+    holds(keeper.next_number()? == next, "another number")
+}
+
+// A file stands under this name.
+fn stands<K: Keeper>(keeper: &mut K, name: &[u8]) -> Result<(), Fail> {
+    holds(keeper.file(b"in", name)?.is_some(), "no file")
+}
+
+fn closing<K: Keeper>(office: &mut Office<K>) -> Result<(), Fail> {
+    add_box(&mut office.keeper, &settings(Mode::Keep, 100, 2))?;
+    upload(office, b"/in/a.txt", b"abc", DATE, FIRST_ABC)?;
+    upload(office, b"/in/b.txt", b"x", DATE, SECOND_X)?;
+    upload(office, b"/in/c.txt", b"y", DATE, TOO_MANY_FILES)?;
+    let closing = Command::CloseBox {
+        name: b"in",
+        moment: LATER_SECONDS,
+    };
+    office.keeper.apply(&Change::Desk(closing))?;
+    upload(office, b"/in/a.txt", b"abc", LATER, FIRST_ABC)?;
+    upload(office, b"/in/c.txt", b"y", LATER, CLOSED)?;
+    counts(&mut office.keeper, 3, 4, 2)
+}
+
+fn keeping<K: Keeper>(office: &mut Office<K>) -> Result<(), Fail> {
+    add_box(&mut office.keeper, &settings(Mode::Keep, 100, 2))?;
+    upload(office, b"/in/a.txt", b"abc", DATE, FIRST_ABC)?;
+    upload(office, b"/in/a.txt", b"abd", DATE, OTHER_BYTES)?;
+    counts(&mut office.keeper, 2, 3, 1)
+}
+
+fn replacing<K: Keeper>(office: &mut Office<K>) -> Result<(), Fail> {
+    add_box(&mut office.keeper, &settings(Mode::Replace, 100, 2))?;
+    upload(office, b"/in/a.txt", b"abc", DATE, FIRST_ABC)?;
+    upload(office, b"/in/a.txt", b"abd", DATE, SECOND_ABD)?;
+    counts(&mut office.keeper, 3, 3, 1)
+}
+
+fn lengths<K: Keeper>(office: &mut Office<K>) -> Result<(), Fail> {
+    add_box(&mut office.keeper, &settings(Mode::Keep, 100, 2))?;
+    ask(office, b"PUT", b"/in/a.txt", NO_LENGTH)?;
+    upload(office, b"/in/a.txt", b"", DATE, FIRST_EMPTY)?;
+    upload(office, b"/out/a.txt", b"abc", DATE, NO_BOX)?;
+    counts(&mut office.keeper, 2, 0, 1)
+}
+
+fn quota<K: Keeper>(office: &mut Office<K>) -> Result<(), Fail> {
+    add_box(&mut office.keeper, &settings(Mode::Replace, 3, 5))?;
+    upload(office, b"/in/a.txt", b"abc", DATE, FIRST_ABC)?;
+    upload(office, b"/in/b.txt", b"x", DATE, PAST_QUOTA)?;
+    upload(office, b"/in/b.txt", b"", DATE, SECOND_EMPTY)?;
+    counts(&mut office.keeper, 3, 3, 2)
+}
+
+// An upload by a link that begins a day before.
+fn upload_early<'a, K: Keeper>(
+    office: &mut Office<K>,
+    path: &'a [u8],
+    body: &'a [u8],
+    at: &[u8; 16],
+    want: &[u8],
+) -> Result<(), Fail> {
+    let asked = Asked {
+        key: CLERK,
+        method: b"PUT",
+        path,
+        body: Some(body),
+        start: b"20130523T000000Z",
+    };
+    let stream = asked.message(office.alloc)?;
+    expect(office, &stream, at, want)
+}
+
+fn hours<K: Keeper>(office: &mut Office<K>) -> Result<(), Fail> {
+    let mut row = settings(Mode::Keep, 100, 2);
+    // On Fridays, from 01:00 to 02:00.
+    row.days = [false, false, false, false, true, false, false];
+    row.from_minute = 60;
+    row.to_minute = 120;
+    add_box(&mut office.keeper, &row)?;
+    upload_early(office, b"/in/a.txt", b"abc", b"20130523T235959Z", CLOSED)?;
+    upload_early(office, b"/in/a.txt", b"abc", b"20130524T010000Z", CLOSED)?;
+    upload_early(office, b"/in/a.txt", b"abc", DATE, FIRST_ABC)?;
+    upload_early(office, b"/in/b.txt", b"x", b"20130524T010000Z", CLOSED)?;
+    upload_early(office, b"/in/b.txt", b"x", b"20130524T005959Z", SECOND_X)?;
+    counts(&mut office.keeper, 3, 4, 2)
+}
+
+fn paths<K: Keeper>(office: &mut Office<K>) -> Result<(), Fail> {
+    add_box(&mut office.keeper, &settings(Mode::Keep, 100, 2))?;
+    let stream = put(office.alloc, b"/in/a/../b c", b"abc")?;
+    holds(
+        stream.starts_with(b"PUT /in/a/../b%20c?"),
+        "another path in the link",
+    )?;
+    expect(office, &stream, DATE, FIRST_ABC)?;
+    stands(&mut office.keeper, b"a/../b c")?;
+    let plus = b"PUT /in/a+b HTTP/1.1\r\nHost: files.example\r\nContent-Length: 0\r\n\r\n";
+    expect(office, plus, DATE, MALFORMED_TARGET)
+}
+
+fn names<K: Keeper>(office: &mut Office<K>) -> Result<(), Fail> {
+    add_box(&mut office.keeper, &settings(Mode::Keep, 100, 2))?;
+    let letters = [b'a'; 1025];
+    let mut path = Vec::from_slice(office.alloc, b"/in/")?;
+    path.extend_from_slice(&letters)?;
+    upload(office, &path, b"abc", DATE, LONG_NAME)?;
+    path.pop();
+    upload(office, &path, b"abc", DATE, FIRST_ABC)?;
+    stands(&mut office.keeper, &letters[..1024])
+}
+
+// A request by the key `k2`.
+fn by_link<'a>(
+    alloc: Global,
+    method: &'a [u8],
+    path: &'a [u8],
+    body: Option<&'a [u8]>,
+) -> Result<Vec<u8>, Fail> {
+    let asked = Asked {
+        key: LinkKey {
+            id: b"k2",
+            secret: b"s3cr3t",
+        },
+        method,
+        path,
+        body,
+        start: DATE,
+    };
+    asked.message(alloc)
+}
+
+fn keys<K: Keeper>(office: &mut Office<K>) -> Result<(), Fail> {
+    add_box(&mut office.keeper, &settings(Mode::Keep, 100, 2))?;
+    let put = by_link(office.alloc, b"PUT", b"/in/a.txt", Some(b"abc"))?;
+    let get = by_link(office.alloc, b"GET", b"/in/a.txt", None)?;
+    let order = by_link(office.alloc, b"POST", b"/", None)?;
+    office.keeper.apply(&Change::Desk(Command::AddKey {
+        id: b"k2",
+        role: Role::Link,
+        secret: b"s3cr3t",
+    }))?;
+    expect(office, &put, DATE, FIRST_ABC)?;
+    expect(office, &get, DATE, FOUND_ABC)?;
+    expect(office, &order, DATE, NO_CLERK)?;
+    office
+        .keeper
+        .apply(&Change::Desk(Command::RevokeKey { id: b"k2" }))?;
+    expect(office, &get, DATE, REVOKED)
+}
+
+fn fetches<K: Keeper>(office: &mut Office<K>) -> Result<(), Fail> {
+    add_box(&mut office.keeper, &settings(Mode::Keep, 100, 2))?;
+    ask(office, b"GET", b"/in/a.txt", NO_FILE)?;
+    ask(office, b"GET", b"/out/a.txt", NO_BOX)?;
+    upload(office, b"/in/a.txt", b"abc", DATE, FIRST_ABC)?;
+    ask(office, b"GET", b"/in/a.txt", FOUND_ABC)?;
+    ask(office, b"HEAD", b"/in/a.txt", HEAD_OF_ABC)?;
+    ask(office, b"GET", b"/in/b.txt", NO_FILE)
+}
