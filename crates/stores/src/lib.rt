@@ -12,8 +12,4 @@ mod opening;
 #[cfg(test)]
 mod sizes;
 #[cfg(test)]
-mod steps;
-#[cfg(test)]
-mod stops;
-#[cfg(test)]
 mod telling;
