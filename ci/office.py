@@ -58,8 +58,7 @@ class Drop:
         return self.run("init", file, *CLERK, *more, **umasked(umask))
 
     def link(self, file, method, target, **values):
-        options = itertools.chain(*((f"--{name}", value) for name, value in (LINK | values).items()))
-        return self.run("link", file, method, target, *options)
+        return self.run("link", file, method, target, *(f"--{name}={value}" for name, value in (LINK | values).items()))
 
     def replay(self, file, *streams, at=MOMENT):
         """Answers these streams, each in a file of its own."""

@@ -252,16 +252,20 @@ def run(file, statements):
             db.execute(statement)
 
 
+def write_text(file, table, text):
+    """Sets the text of a table in the schema."""
+    with opened(file, unchecked=True) as db:
+        db.execute("PRAGMA writable_schema = ON")
+        db.execute("UPDATE sqlite_schema SET sql = ? WHERE name = ?", (text, table))
+
+
 def loosened(file, table, old, new, statement):
     """Breaks a rule of the columns of a table, by way of a looser text of the table, which is put back."""
-    for before, after, then in [(old, new, statement), (new, old, None)]:
-        with opened(file, unchecked=True) as db:
-            db.execute("PRAGMA writable_schema = ON")
-            text = db.execute("SELECT sql FROM sqlite_schema WHERE name = ?", (table,)).fetchone()[0]
-            assert before in text, (before, text)
-            db.execute("UPDATE sqlite_schema SET sql = ? WHERE name = ?", (text.replace(before, after, 1), table))
-        if then:
-            run(file, [then])
+    text = rows(file, "SELECT sql FROM sqlite_schema WHERE name = ?", table)[0][0]
+    assert old in text, (old, text)
+    write_text(file, table, text.replace(old, new, 1))
+    run(file, [statement])
+    write_text(file, table, text)
 
 
 # Of columns: a table, what its text is for a moment, and a statement that breaks the rule.
