@@ -8,7 +8,8 @@ ghost use Rattle.sqlite_value.specs.declared.value.Value.TheVariants.{Int, Text}
 ghost use Rattle.sqlite_value.specs.Order.{Row as Values, column};
 ghost use Rattle.sqlkeeper.specs.Lines.{IsOfficeLine, IsKeyLine, IsBoxLine, IsReceiptLine, IsFileLine, ShowsPiece, AreNumbered};
 
-use sqlite::{Error, Row};
+use sqlite::types::ValueRef;
+use sqlite::{Error, ErrorCode, Row};
 use std::alloc::Global;
 
 /// The row of the office.
@@ -100,23 +101,27 @@ pub(crate) struct PieceLine {
 pub(crate) trait Line: Sized {
     ghost reads: { Values → Self → Type 0 };
 
-    /// A value of another type is refused, and want of memory.
-    fn of_row(row: &Row) -> Result<Self, Error>
+    /// A value of another type is refused, and want of memory. Texts are taken as they are.
+    fn of_row(alloc: Global, row: &Row) -> Result<Self, Error>
         ensures { IfOk result (reads row.now) };
 }
 
-/// The bytes of a text.
-fn text(row: &Row, at: usize) -> Result<Vec<u8>, Error>
+/// The bytes of a text, which may be no UTF-8.
+fn text(alloc: Global, row: &Row, at: usize) -> Result<Vec<u8>, Error>
     ensures { IfOk result (λ bytes. column row.now at ≡ Text bytes.items) }
 {
-    let text: String = row.get(at)?;
-    Ok(text.into_bytes())
+    let ValueRef::Text(text) = row.get_ref(at)? else {
+        return Err(Error::SqliteFailure(ErrorCode::TypeMismatch));
+    };
+    let mut bytes = Vec::new(alloc);
+    bytes.extend_from_slice(text)?;
+    Ok(bytes)
 }
 
 impl Line for OfficeLine {
     ghost reads = { IsOfficeLine };
 
-    fn of_row(row: &Row) -> Result<OfficeLine, Error> {
+    fn of_row(_alloc: Global, row: &Row) -> Result<OfficeLine, Error> {
         Ok(OfficeLine {
             id: row.get(0)?,
             version: row.get(2)?,
@@ -128,9 +133,9 @@ impl Line for OfficeLine {
 impl Line for KeyLine {
     ghost reads = { IsKeyLine };
 
-    fn of_row(row: &Row) -> Result<KeyLine, Error> {
+    fn of_row(alloc: Global, row: &Row) -> Result<KeyLine, Error> {
         Ok(KeyLine {
-            id: text(row, 1)?,
+            id: text(alloc, row, 1)?,
             role: row.get(2)?,
             secret: row.get(3)?,
             revoked: row.get(4)?,
@@ -141,19 +146,19 @@ impl Line for KeyLine {
 impl Line for BoxLine {
     ghost reads = { IsBoxLine };
 
-    fn of_row(row: &Row) -> Result<BoxLine, Error> {
+    fn of_row(alloc: Global, row: &Row) -> Result<BoxLine, Error> {
         Ok(BoxLine {
-            name: text(row, 1)?,
+            name: text(alloc, row, 1)?,
             opens: row.get(2)?,
             closes: row.get(3)?,
-            days: text(row, 4)?,
+            days: text(alloc, row, 4)?,
             from_minute: row.get(5)?,
             to_minute: row.get(6)?,
             quota: row.get(7)?,
             max_files: row.get(8)?,
             mode: row.get(9)?,
             rule_kind: row.get(10)?,
-            rule_text: text(row, 11)?,
+            rule_text: text(alloc, row, 11)?,
             used: row.get(12)?,
             count: row.get(13)?,
         })
@@ -163,15 +168,15 @@ impl Line for BoxLine {
 impl Line for ReceiptLine {
     ghost reads = { IsReceiptLine };
 
-    fn of_row(row: &Row) -> Result<ReceiptLine, Error> {
+    fn of_row(alloc: Global, row: &Row) -> Result<ReceiptLine, Error> {
         Ok(ReceiptLine {
             number: row.get(0)?,
-            in_box: text(row, 2)?,
-            name: text(row, 3)?,
+            in_box: text(alloc, row, 2)?,
+            name: text(alloc, row, 3)?,
             length: row.get(4)?,
             digest: row.get(5)?,
             moment: row.get(6)?,
-            key: text(row, 7)?,
+            key: text(alloc, row, 7)?,
         })
     }
 }
@@ -179,10 +184,10 @@ impl Line for ReceiptLine {
 impl Line for FileLine {
     ghost reads = { IsFileLine };
 
-    fn of_row(row: &Row) -> Result<FileLine, Error> {
+    fn of_row(alloc: Global, row: &Row) -> Result<FileLine, Error> {
         Ok(FileLine {
-            in_box: text(row, 1)?,
-            name: text(row, 2)?,
+            in_box: text(alloc, row, 1)?,
+            name: text(alloc, row, 2)?,
             receipt: row.get(3)?,
         })
     }
@@ -191,10 +196,10 @@ impl Line for FileLine {
 impl Line for PieceLine {
     ghost reads = { ShowsPiece };
 
-    fn of_row(row: &Row) -> Result<PieceLine, Error> {
+    fn of_row(alloc: Global, row: &Row) -> Result<PieceLine, Error> {
         Ok(PieceLine {
-            in_box: text(row, 1)?,
-            name: text(row, 2)?,
+            in_box: text(alloc, row, 1)?,
+            name: text(alloc, row, 2)?,
             part: row.get(3)?,
             length: row.get(4)?,
         })
@@ -207,7 +212,7 @@ pub(crate) fn lines_of<L: Line + Drop>(alloc: Global, rows: &[Row]) -> Result<Ve
 {
     let mut lines = Vec::new(alloc);
     for row in rows {
-        let line = L::of_row(row)?;
+        let line = L::of_row(alloc, row)?;
         lines.push(line)?;
     }
     Ok(lines)
