@@ -2,7 +2,7 @@
 
 The objects that `rt ci` leaves of crates/drop, crates/rows and the tests of crates/keeper are linked again, with
 ci/heap.c in the place of the heap of the kit's C library. Then each number from 1 on is refused, up to the first at
-which there is no allocation left to refuse. The program must give its whole right answer, or say that memory was refused, in the way that is owed
+which there is no allocation left to refuse; over an office file a sample of them. The program must give its whole right answer, or say that memory was refused, in the way that is owed
 there; and never anything else. One number is tried by `rt try --fail-alloc` too. The last line is
 `N passed, M failed`: each words of `drop` are a test, each row is one, and so is the keeper's.
 """
@@ -105,11 +105,16 @@ def test_drop(program, count):
     return numbers
 
 
+def sampled():
+    """The first hundred numbers, and then one of each seventeen: a run over an office file asks for thousands."""
+    return itertools.chain(range(1, 101), itertools.count(101, 17))
+
+
 def each_office(program, name, words, prepare, right, others, count):
-    """As `each_refusal`, over an office file. `prepare` sets it up before each run, and gives what tells, of a run that was
-    right or was not, whether the file is then wrong."""
+    """As `each_refusal`, over an office file, of a sample of the numbers. `prepare` sets the file up before each run, and gives
+    what tells, of a run that was right or was not, whether the file is then wrong."""
     came = {it: [] for it in [right, *others]}
-    for number in itertools.count(1):
+    for number in sampled():
         wrong_file = prepare()
         run, is_refused = refusing(number, [program, *words])
         wrong = wrong_file(run == right) if run in came else f"{run}"

@@ -30,7 +30,8 @@ VERSION = fault("the office file has another version")
 EXISTS = fault("the office file exists already")
 UNKNOWN = fault("the key is unknown")
 FAILED = fault("a connection failed")
-FILE_FAULTS = [CANNOT_OPEN, DAMAGED, VERSION, fault("the store refused")]
+REFUSED = fault("the store refused")
+FILE_FAULTS = [CANNOT_OPEN, DAMAGED, VERSION, REFUSED]
 OPENS, CLOSES = 1356998400, 1370044800  # 20130101T000000Z and 20130601T000000Z
 LINK = {"key": ID, "host": "files.example", "region": "us-east-1", "start": MOMENT, "expires": "604800"}
 
@@ -580,7 +581,8 @@ def test_broken(drop, count):
         before = tables.dump(file)
         if before == tables.dump(whole):
             return f"{name}: nothing was broken"
-        owed = [DAMAGED] + [CANNOT_OPEN] * own
+        # Tables are known by the number of their columns: under another name a column is one that no query finds.
+        owed = [DAMAGED] + [CANNOT_OPEN] * own + [REFUSED] * ("RENAME COLUMN" in name)
         wrong = [difference(found, *owed) for found in refusals(drop, file)]
         if tables.dump(file) != before:
             wrong.append("the tables were changed")
