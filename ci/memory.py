@@ -3,7 +3,7 @@
 The objects that `rt ci` leaves of crates/drop, crates/rows and the tests of crates/keeper are linked again, with
 ci/heap.c in the place of the heap of the kit's C library. Then each number from 1 on is refused, up to the first at
 which there is no allocation left to refuse; over an office file a sample of them. The program must give its whole right answer, or say that memory was refused, in the way that is owed
-there; and never anything else. One number is tried by `rt try --fail-alloc` too. The last line is
+there; and never anything else. The last line is
 `N passed, M failed`: each words of `drop` are a test, each row is one, and so is the keeper's.
 """
 
@@ -81,7 +81,6 @@ def help_of(name):
 def test_drop(program, count):
     """Words of the program: a right request, one at a wrong moment, and words for which nothing is replayed."""
     replay = ["replay", OFFICE, STREAM, "--at"]
-    numbers = []
     for words, right in [
         ([*replay, MOMENT], answered(27)),
         ([*replay, "20130525T000000Z"], answered(23)),
@@ -99,10 +98,8 @@ def test_drop(program, count):
             continue
         count.add(name, None)
         again = came.get(TRY_AGAIN, [])
-        numbers = numbers or again
         others = f"{len(came[OUT_OF_MEMORY])} times out of memory, {len(again)} refusal 40"
         print(f"{name}: {others}, {len(came[right])} its answer")
-    return numbers
 
 
 def sampled():
@@ -159,17 +156,6 @@ def test_offices(program, folder, count):
     each_office(program, "drop replay FILE", replay, copied, receipt, [OUT_OF_MEMORY, TRY_AGAIN], count)
 
 
-def test_sample(numbers, count):
-    """The toolchain's own way to refuse an allocation, at the first number at which refusal 40 came."""
-    if not numbers:
-        count.add("rt try --fail-alloc", "refusal 40 never came")
-        return
-    words = ["rt", "try", "--fail-alloc", str(numbers[0]), "--", "replay", OFFICE, "--at", MOMENT, STREAM]
-    ran = subprocess.run(words, cwd=DROP, stdin=subprocess.DEVNULL, capture_output=True, check=False)
-    is_right = ran.returncode == 0 and answer(40) in ran.stdout
-    count.add(f"rt try --fail-alloc {numbers[0]}", None if is_right else f"{ran.returncode}: {ran.stdout + ran.stderr}")
-
-
 def rows():
     """Each row with what is owed for it."""
     folder = kit.ROOT / "crates" / "rows"
@@ -214,11 +200,10 @@ def main():
     with tempfile.TemporaryDirectory(prefix="drop-memory-") as room:
         folder = pathlib.Path(room)
         drop = linked("drop", folder)
-        numbers = test_drop(drop, count)
+        test_drop(drop, count)
         test_offices(drop, folder, count)
         test_rows(linked("rows", folder), count)
         test_keeper(linked("keeper", folder, "_tests"), count)
-        test_sample(numbers, count)
     count.end()
 
 
