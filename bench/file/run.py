@@ -7,7 +7,6 @@ import argparse
 import dataclasses
 import datetime
 import hashlib
-import itertools
 import os
 import pathlib
 import shutil
@@ -28,7 +27,8 @@ KIB, MIB = 1 << 10, 1 << 20
 BOX = tables.Box("bench", quota=10**12, max_files=10**6)
 # A new process that is small itself starts the program, for a process that starts another lends it its greatest
 # memory. The program's first stream is a pipe with a name, and has no bytes: that the program opens it tells that the
-# office is open. Told are the status, the seconds of all, those since the office was open, and the greatest memory in KiB.
+# office is open. Told are the status, the seconds of all, those since the office was open, and the greatest memory in
+# KiB.
 START = """import os, signal, sys, time
 
 def ended(*_):
@@ -420,7 +420,8 @@ def main():
         sizes_table(rounds.steps, rounds.sizes)
         opens_table(rounds)
     ended = time.perf_counter()
-    print(f"{words.rounds} rounds; {filled - begun:.0f} s to fill, {ended - filled:.0f} s of rounds; {load()} at the end")
+    took = f"{filled - begun:.0f} s to fill, {ended - filled:.0f} s of rounds"
+    print(f"{words.rounds} rounds; {took}; {load()} at the end")
 
 
 if __name__ == "__main__":
