@@ -51,17 +51,24 @@ with_boto3() {
     "$python" -c 'import boto3' && echo "$python"
 }
 
-# The command `sqlite3`, which looks at office files as another program does.
-with_sqlite3() {
-    command -v sqlite3 >/dev/null && return
+# A command, which Debian has in a package of its name.
+with_command() {
+    command -v "$1" >/dev/null && return
     [ "$(id -u)" -eq 0 ] && command -v apt-get >/dev/null || return
-    (apt-get update && apt-get install -y --no-install-recommends sqlite3) >&2
-    command -v sqlite3 >/dev/null
+    (apt-get update && apt-get install -y --no-install-recommends "$1") >&2
+    command -v "$1" >/dev/null
 }
 
 office() {
-    with_sqlite3 || return 1
+    with_command sqlite3 || return 1
     python3 -B ci/office.py
+}
+
+serve() {
+    local python
+    with_command curl || return 1
+    python=$(with_boto3) || return 1
+    "$python" -B ci/serve.py
 }
 
 interop() {
@@ -74,6 +81,7 @@ count "rt ci" rt ci
 count "ci/rows.py --check" python3 -B ci/rows.py --check
 count "ci/replays.py" python3 -B ci/replays.py
 count "ci/office.py" office
+count "ci/serve.py" serve
 count "ci/memory.py" python3 -B ci/memory.py
 count "ci/interop.py" interop
 echo

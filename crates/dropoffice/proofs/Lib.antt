@@ -1,22 +1,23 @@
-pub mod Deciding
+mod Admission
+mod RuleEdges
+pub mod Acceptances
 pub mod Answered
-pub mod Handlings
-pub mod ToldMoments
-pub mod ReplayLemmas
-pub mod RunSoFar
-pub mod Turns
+pub mod Deciding
 pub mod Defaulted
 pub mod FaultFree
+pub mod Forming
 pub mod FullRows
+pub mod Handlings
+pub mod Judged
+pub mod Placing
+pub mod ReplayLemmas
+pub mod Replies
+pub mod RunSoFar
+pub mod SessionEdges
+pub mod SessionSteps
+pub mod SoundOffice
 pub mod TaskExamples
 pub mod TaskNames
 pub mod TaskValues
-mod Admission
-pub mod SoundOffice
-pub mod Judged
-mod RuleEdges
-pub mod Forming
-pub mod Placing
-pub mod Replies
-pub mod SessionSteps
-pub mod SessionEdges
+pub mod ToldMoments
+pub mod Turns

@@ -14,7 +14,7 @@ use Rattle.dropoffice.specs.Sessions.{Session, Connection, Run, most_messages}
 
 -- ---- one more at the end of each part
 
-told_more : {C : Type 0} (gives : C → ℕ → C → Type 0) (c d e : C) (moments more : List ℕ) → Told gives c moments d → Told gives d more e → Told gives c (moments ++ more) e
+pub told_more : {C : Type 0} (gives : C → ℕ → C → Type 0) (c d e : C) (moments more : List ℕ) → Told gives c moments d → Told gives d more e → Told gives c (moments ++ more) e
 told_more gives c d e [] more t u = subst (λ x. Told gives x more e) (sym t) u
 told_more gives c d e (m ∷ moments) more t u = (t.0, t.1, told_more gives t.0 d e moments more t.2 u)
 

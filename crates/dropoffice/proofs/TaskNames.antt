@@ -8,17 +8,17 @@ use Rattle.clap.specs.Faults.{fault_of, is_simple_and_free, level_fault}
 use Rattle.clap.specs.Walk.{Row, Text, answers_to, nothing_held, rows_after}
 use Rattle.clap.specs.Words.{App, subcommand_of}
 use Rattle.clap.proofs.OnLiterals.{clap_on_literals}
-use Rattle.dropoffice.specs.Tasks.{HasInit, HasLink, HasReplay, NamesTask, at_rule, clerk_rule, drop_app, east_rule, expires_rule, file_rule, host_rule, init_app, key_rule, link_app, method_rule, region_rule, replay_app, secret_rule, start_rule, streams_rule, target_app, target_rule, west_rule}
+use Rattle.dropoffice.specs.Tasks.{HasInit, HasLink, HasReplay, HasServe, NamesTask, at_rule, clerk_rule, connections_rule, drop_app, east_rule, expires_rule, file_rule, host_rule, init_app, key_rule, link_app, listen_rule, method_rule, patience_rule, region_rule, replay_app, secret_rule, serve_app, start_rule, streams_rule, target_app, target_rule, west_rule}
 use Rattle.dropoffice.proofs.FullRows.{fills}
 use Rattle.dropoffice.proofs.Defaulted.{all_given, default_value, has_default}
 use Rattle.dropoffice.proofs.FaultFree.{Enters, enters, needed_value, needs}
 
 pub simple : is_simple drop_app ≡ true
-unfolding drop_app init_app link_app target_app replay_app file_rule streams_rule at_rule method_rule target_rule clerk_rule secret_rule key_rule host_rule region_rule start_rule expires_rule east_rule west_rule clap_on_literals
+unfolding drop_app init_app link_app target_app replay_app serve_app file_rule streams_rule at_rule method_rule target_rule clerk_rule secret_rule key_rule host_rule region_rule start_rule expires_rule east_rule west_rule listen_rule connections_rule patience_rule clap_on_literals
 simple = refl
 
 pub simple_and_free : is_simple_and_free drop_app ≡ true
-unfolding drop_app init_app link_app target_app replay_app file_rule streams_rule at_rule method_rule target_rule clerk_rule secret_rule key_rule host_rule region_rule start_rule expires_rule east_rule west_rule clap_on_literals
+unfolding drop_app init_app link_app target_app replay_app serve_app file_rule streams_rule at_rule method_rule target_rule clerk_rule secret_rule key_rule host_rule region_rule start_rule expires_rule east_rule west_rule listen_rule connections_rule patience_rule clap_on_literals
 simple_and_free = refl
 
 -- ---- the commands as clap builds them
@@ -37,11 +37,14 @@ link_built = built_leaf (inherited settings link_app.top)
 replay_built : Shape
 replay_built = built_leaf (inherited settings replay_app.top)
 
+serve_built : Shape
+serve_built = built_leaf (inherited settings serve_app.top)
+
 help_built : Shape
 help_built = built_leaf help_shape
 
-commands : (built drop_app).subs ≡ init_built ∷ link_built ∷ replay_built ∷ help_built ∷ []
-unfolding drop_app settings init_built link_built replay_built help_built
+commands : (built drop_app).subs ≡ init_built ∷ link_built ∷ replay_built ∷ serve_built ∷ help_built ∷ []
+unfolding drop_app settings init_built link_built replay_built serve_built help_built
 commands = refl
 
 has_help : (built drop_app).top.disable_help_subcommand ≡ false
@@ -189,6 +192,45 @@ replay_values words free =
       all_given (codes "stream") (rows_after replay_built.rules [] words) (given (codes "stream") replay_needs_stream),
     )
 
+-- ---- serve
+
+serve_name : serve_built.name ≡ codes "serve"
+unfolding serve_built settings drop_app serve_app
+serve_name = refl
+
+serve_fills : list_all fills serve_built.rules ≡ true
+unfolding serve_built settings drop_app serve_app file_rule listen_rule connections_rule patience_rule
+serve_fills = refl
+
+serve_asks : serve_built.subcommand_negates_reqs ≡ false
+unfolding serve_built settings drop_app serve_app
+serve_asks = refl
+
+serve_needs_file : needs (codes "file") serve_built.rules ≡ true
+unfolding serve_built settings drop_app serve_app file_rule listen_rule connections_rule patience_rule
+serve_needs_file = refl
+
+serve_needs_listen : needs (codes "listen") serve_built.rules ≡ true
+unfolding serve_built settings drop_app serve_app file_rule listen_rule connections_rule patience_rule
+serve_needs_listen = refl
+
+serve_needs_connections : needs (codes "connections") serve_built.rules ≡ true
+unfolding serve_built settings drop_app serve_app file_rule listen_rule connections_rule patience_rule
+serve_needs_connections = refl
+
+serve_has_patience : has_default (codes "patience") serve_built.rules ≡ true
+unfolding serve_built settings drop_app serve_app file_rule listen_rule connections_rule patience_rule
+serve_has_patience = refl
+
+serve_values : (words : List Text) → level_fault serve_built [] nothing_held words false [] ≡ [] → HasServe (rows_after serve_built.rules [] words)
+serve_values words free =
+    let given = needed_value serve_built words serve_fills serve_asks free in (
+      given (codes "file") serve_needs_file,
+      given (codes "listen") serve_needs_listen,
+      given (codes "connections") serve_needs_connections,
+      default_value serve_built words serve_fills free (codes "patience") serve_has_patience,
+    )
+
 -- ---- the command that words without a fault name
 
 help_named : (name : Text) → bytes_eq name (codes "help") ≡ false → answers_to name (label_of help_built) ≡ false
@@ -203,19 +245,20 @@ help_named name elsewhere = go (bytes_eq (codes "help") name) (bytes_eq-Decides 
         absurd bad
 
 found_task : (name : Text) (s : Shape) → bytes_eq name (codes "help") ≡ false
-    → find (λ x. answers_to name (label_of x)) (init_built ∷ link_built ∷ replay_built ∷ help_built ∷ []) ≡ Some s
-    → (init_built ≡ s) ⊎ ((link_built ≡ s) ⊎ (replay_built ≡ s))
+    → find (λ x. answers_to name (label_of x)) (init_built ∷ link_built ∷ replay_built ∷ serve_built ∷ help_built ∷ []) ≡ Some s
+    → (init_built ≡ s) ⊎ ((link_built ≡ s) ⊎ ((replay_built ≡ s) ⊎ (serve_built ≡ s)))
 found_task name s elsewhere found =
-    go (answers_to name (label_of init_built)) (answers_to name (label_of link_built)) (answers_to name (label_of replay_built)) (answers_to name (label_of help_built)) (help_named name elsewhere) found
+    go (answers_to name (label_of init_built)) (answers_to name (label_of link_built)) (answers_to name (label_of replay_built)) (answers_to name (label_of serve_built)) (answers_to name (label_of help_built)) (help_named name elsewhere) found
   where
-    go : (a b c d : Bool) → d ≡ false
-        → cond a (Some init_built) (cond b (Some link_built) (cond c (Some replay_built) (cond d (Some help_built) None))) ≡ Some s
-        → (init_built ≡ s) ⊎ ((link_built ≡ s) ⊎ (replay_built ≡ s))
-    go true b c d e at = inl cc
-    go false true c d e at = inr (inl cc)
-    go false false true d e at = inr (inr cc)
-    go false false false true e at = let bad : ⊥ = cc in absurd bad
-    go false false false false e at = let bad : ⊥ = cc in absurd bad
+    go : (a b c v d : Bool) → d ≡ false
+        → cond a (Some init_built) (cond b (Some link_built) (cond c (Some replay_built) (cond v (Some serve_built) (cond d (Some help_built) None)))) ≡ Some s
+        → (init_built ≡ s) ⊎ ((link_built ≡ s) ⊎ ((replay_built ≡ s) ⊎ (serve_built ≡ s)))
+    go true b c v d e at = inl cc
+    go false true c v d e at = inr (inl cc)
+    go false false true v d e at = inr (inr (inl cc))
+    go false false false true d e at = inr (inr (inr cc))
+    go false false false false true e at = let bad : ⊥ = cc in absurd bad
+    go false false false false false e at = let bad : ⊥ = cc in absurd bad
 
 -- the words name the command of this shape, and have no fault in it
 module _ (words : List Text) (e : Enters (built drop_app) (argument_words drop_app words)) (s : Shape) (is : s ≡ e.shape) where
@@ -228,12 +271,13 @@ module _ (words : List Text) (e : Enters (built drop_app) (argument_words drop_a
 pub task_named : (words : List Text) → fault_of drop_app words ≡ [] → NamesTask (subcommand_of drop_app words)
 task_named words free =
     let e = enters (built drop_app) (argument_words drop_app words) has_help needs_command free in
-    let found : find (λ s. answers_to e.name (label_of s)) (init_built ∷ link_built ∷ replay_built ∷ help_built ∷ []) ≡ Some e.shape =
+    let found : find (λ s. answers_to e.name (label_of s)) (init_built ∷ link_built ∷ replay_built ∷ serve_built ∷ help_built ∷ []) ≡ Some e.shape =
     ap (find (λ s. answers_to e.name (label_of s))) (sym commands) ∙ e.found in
     elim (found_task e.name e.shape e.not_help found) [
       | inl is ↦ inl (rows_after init_built.rules [] e.rest, rows_named words e init_built is (codes "init") init_name, init_values e.rest (free_here words e init_built is))
       | inr (inl is) ↦ inr (inl (rows_after link_built.rules [] e.rest, rows_named words e link_built is (codes "link") link_name, link_values e.rest (free_here words e link_built is)))
-      | inr (inr is) ↦ inr (inr (rows_after replay_built.rules [] e.rest, rows_named words e replay_built is (codes "replay") replay_name, replay_values e.rest (free_here words e replay_built is)))
+      | inr (inr (inl is)) ↦ inr (inr (inl (rows_after replay_built.rules [] e.rest, rows_named words e replay_built is (codes "replay") replay_name, replay_values e.rest (free_here words e replay_built is))))
+      | inr (inr (inr is)) ↦ inr (inr (inr (rows_after serve_built.rules [] e.rest, rows_named words e serve_built is (codes "serve") serve_name, serve_values e.rest (free_here words e serve_built is))))
     ]
 
 -- ---- of a command that reads as the program's own

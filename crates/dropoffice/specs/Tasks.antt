@@ -7,6 +7,7 @@ use Rattle.clap.specs.declared.builder.value_parser.ValueParser.TheVariants.{Uns
 use Rattle.dropoffice.specs.declared.task.Init.{Init}
 use Rattle.dropoffice.specs.declared.task.Link.{Link}
 use Rattle.dropoffice.specs.declared.task.Replay.{Replay}
+use Rattle.dropoffice.specs.declared.task.Serve.{Serve}
 use Rattle.dropoffice.specs.declared.task.Task.{Task}
 use Rattle.dropoffice.specs.declared.task.Task.TheVariants as task
 
@@ -62,6 +63,18 @@ start_rule = option_rule (codes "start")
 unfoldable pub expires_rule : Rule
 expires_rule = record (option_rule (codes "expires")) { parser = Some (Unsigned 1 604800) }
 
+-- --listen ADDR
+unfoldable pub listen_rule : Rule
+listen_rule = option_rule (codes "listen")
+
+-- --connections N, a whole number from 1 to 1000000
+unfoldable pub connections_rule : Rule
+connections_rule = record (option_rule (codes "connections")) { parser = Some (Unsigned 1 1000000) }
+
+-- --patience SECONDS, a whole number from 0 to 3600, and 30 where it is left out
+unfoldable pub patience_rule : Rule
+patience_rule = record (new_rule (codes "patience")) { long = Some (codes "patience"); value_names = 1; defaults = codes "30" ∷ []; parser = Some (Unsigned 0 3600) }
+
 -- --east M and --west M, whole numbers from 0 to 840, and 0 where they are left out
 abbrev pub minutes_rule : Text → Rule
 minutes_rule id = record (new_rule id) { long = Some id; value_names = 1; defaults = codes "0" ∷ []; parser = Some (Unsigned 0 840) }
@@ -90,11 +103,15 @@ link_app = with_rule (with_rule (with_rule (with_rule (with_rule target_app key_
 unfoldable pub replay_app : App
 replay_app = with_rule (with_rule (with_rule (new_app (codes "replay")) file_rule) streams_rule) at_rule
 
+-- serve FILE --listen ADDR --connections N --patience SECONDS
+unfoldable pub serve_app : App
+serve_app = with_rule (with_rule (with_rule (with_rule (new_app (codes "serve")) file_rule) listen_rule) connections_rule) patience_rule
+
 -- drop COMMAND, which answers with help where no word follows
 unfoldable pub drop_app : App
 drop_app =
     let needs_command = on_top (λ s. record s { subcommand_required = true; arg_required_else_help = true }) (new_app (codes "drop")) in
-    with_subcommand (with_subcommand (with_subcommand needs_command init_app.top) link_app.top) replay_app.top
+    with_subcommand (with_subcommand (with_subcommand (with_subcommand needs_command init_app.top) link_app.top) replay_app.top) serve_app.top
 
 -- ---- the values that the matches give
 
@@ -124,6 +141,13 @@ IsReplayOf rows r =
     × (first_of (codes "at") rows ≡ Some r.at.now)
     × (all_of (codes "stream") rows ≡ Some (map (λ s. s.now) r.streams.items))
 
+abbrev pub IsServeIn : List Row → Serve → Type 0
+IsServeIn rows s =
+    (first_of (codes "file") rows ≡ Some s.file.now)
+    × (first_of (codes "listen") rows ≡ Some s.listen.now)
+    × (first_of (codes "connections") rows ≡ Some s.connections.now)
+    × (first_of (codes "patience") rows ≡ Some s.patience.now)
+
 -- the matches give this argument a value
 abbrev pub HasValue : Text → List Row → Type 0
 HasValue id rows = is_some (first_of id rows) ≡ true
@@ -142,6 +166,10 @@ abbrev pub HasReplay : List Row → Type 0
 HasReplay rows =
     HasValue (codes "file") rows × HasValue (codes "at") rows × (is_some (all_of (codes "stream") rows) ≡ true)
 
+abbrev pub HasServe : List Row → Type 0
+HasServe rows =
+    HasValue (codes "file") rows × HasValue (codes "listen") rows × HasValue (codes "connections") rows × HasValue (codes "patience") rows
+
 -- ---- the task
 
 -- the command that the words name, with its matches, is this task
@@ -149,6 +177,7 @@ abbrev pub IsTaskIn : Option (Text × List Row) → Task → Type 0
 IsTaskIn named (task.Init i) = (rows : List Row) × (named ≡ Some (codes "init", rows)) × IsInitOf rows i
 IsTaskIn named (task.Link l) = (rows : List Row) × (named ≡ Some (codes "link", rows)) × IsLinkIn rows l
 IsTaskIn named (task.Replay r) = (rows : List Row) × (named ≡ Some (codes "replay", rows)) × IsReplayOf rows r
+IsTaskIn named (task.Serve s) = (rows : List Row) × (named ≡ Some (codes "serve", rows)) × IsServeIn rows s
 
 abbrev pub NamesInit : Option (Text × List Row) → Type 0
 NamesInit named = (rows : List Row) × (named ≡ Some (codes "init", rows)) × HasInit rows
@@ -159,9 +188,12 @@ NamesLink named = (rows : List Row) × (named ≡ Some (codes "link", rows)) × 
 abbrev pub NamesReplay : Option (Text × List Row) → Type 0
 NamesReplay named = (rows : List Row) × (named ≡ Some (codes "replay", rows)) × HasReplay rows
 
+abbrev pub NamesServe : Option (Text × List Row) → Type 0
+NamesServe named = (rows : List Row) × (named ≡ Some (codes "serve", rows)) × HasServe rows
+
 -- the command that the words name, with its matches, is a task
 abbrev pub NamesTask : Option (Text × List Row) → Type 0
-NamesTask named = NamesInit named ⊎ (NamesLink named ⊎ NamesReplay named)
+NamesTask named = NamesInit named ⊎ (NamesLink named ⊎ (NamesReplay named ⊎ NamesServe named))
 
 -- the words name this task
 abbrev pub IsTaskOf : List Text → Task → Type 0

@@ -25,9 +25,12 @@ pub(crate) enum Fault<'a> {
     /// A file of this name could not be opened.
     #[error("cannot read {0}")]
     CannotRead(&'a str),
-    /// A session ended by a failed read or write.
+    /// A session ended by a failed read or write, or a connection could not be accepted.
     #[error("a connection failed")]
     ConnectionFailed,
+    /// Nobody can listen at the address.
+    #[error("cannot listen")]
+    CannotListen,
     /// Memory was refused.
     #[error("out of memory")]
     OutOfMemory,

@@ -2,6 +2,7 @@
 use crate::faults::Fault;
 use crate::init::do_init;
 use crate::linking::do_link;
+use crate::listening::do_serve;
 use crate::replaying::do_replay;
 use crate::task::Task;
 use clap::Error as WordsError;
@@ -19,8 +20,8 @@ const WORDS: u8 = 2;
 
 /// Does what the words ask for, the program's own name first among them, and gives the exit status:
 /// 0 where it was done, though requests were refused; 1 where a line `drop: <fault>` was written to
-/// `err`; 2 for words that clap refuses, whose text was written to `err`. Help that was asked for, a link, and
-/// a replay's answers are written to `out`. Nothing reads `input` so far.
+/// `err`; 2 for words that clap refuses, whose text was written to `err`. Help that was asked for, a link,
+/// a replay's answers, and where a server listens are written to `out`. Nothing reads `input` so far.
 pub fn perform(
     rt: &HostRuntime,
     words: &[&str],
@@ -31,6 +32,7 @@ pub fn perform(
     match Task::read(rt.alloc(), words) {
         Ok(Task::Init(words)) => status_of(do_init(rt, &words), &mut err),
         Ok(Task::Link(words)) => status_of(do_link(rt, &words, &mut out), &mut err),
+        Ok(Task::Serve(words)) => status_of(do_serve(rt, &words, &mut out), &mut err),
         Ok(Task::Replay(words)) => status_of(do_replay(rt, &words, out), &mut err),
         Err(error) => explain(&error, &mut out, &mut err),
     }

@@ -1,7 +1,7 @@
 //! What the program's words ask for.
 ghost use Rattle.std.specs.Prelude.{◌≡◌, IfOk, IfErr, IfSome, IsSome, Some, is_some, true, map};
 ghost use Rattle.clap.specs.Words.{all_of, fault_of, first_of, found_of, kind_of, rows_of, subcommand_rows_of, takes, FailsBy};
-ghost use Rattle.dropoffice.specs.Tasks.{drop_app, HasInit, HasLink, HasReplay, HasValue, IsInitOf, IsLinkIn, IsReplayOf, IsTaskIn, IsTaskOf, NamesInit, NamesLink, NamesReplay, NamesTask};
+ghost use Rattle.dropoffice.specs.Tasks.{drop_app, HasInit, HasLink, HasReplay, HasServe, HasValue, IsInitOf, IsLinkIn, IsReplayOf, IsServeIn, IsTaskIn, IsTaskOf, NamesInit, NamesLink, NamesReplay, NamesServe, NamesTask};
 
 use crate::words::command_line;
 use clap::error::ErrorKind;
@@ -17,6 +17,8 @@ pub enum Task<'a> {
     Link(Link<'a>),
     /// Answer recorded connections.
     Replay(Replay<'a>),
+    /// Serve connections over a socket.
+    Serve(Serve<'a>),
 }
 
 /// The words of `drop init FILE --clerk ID --secret SECRET --east M --west M`, each as it was given, and the two numbers
@@ -68,6 +70,20 @@ pub struct Replay<'a> {
     pub streams: Vec<&'a str>,
 }
 
+/// The words of `drop serve FILE --listen ADDR --connections N --patience SECONDS`, each as it was given, and the seconds `30`
+/// where they were left out. N is from 1 to 1000000 and SECONDS from 0 to 3600; of the others no form is asked here.
+#[derive(Debug, Clone, Copy)]
+pub struct Serve<'a> {
+    /// The office file.
+    pub file: &'a str,
+    /// The address to listen at.
+    pub listen: &'a str,
+    /// How many connections are served.
+    pub connections: &'a str,
+    /// For how many seconds one read or write may wait.
+    pub patience: &'a str,
+}
+
 impl<'a> Task<'a> {
     /// Reads all the words of the program, its own name first.
     ///
@@ -99,6 +115,9 @@ impl<'a> Task<'a> {
         if let Some(task) = Task::link_in(matches) {
             return Ok(Some(task));
         }
+        if let Some(task) = Task::serve_in(matches) {
+            return Ok(Some(task));
+        }
         Task::replay_in(alloc, matches)
     }
 
@@ -116,6 +135,14 @@ impl<'a> Task<'a> {
     {
         let values = matches.subcommand_matches("link")?;
         Some(Task::Link(Link::of_matches(values)?))
+    }
+
+    fn serve_in(matches: &ArgMatches<'a>) -> Option<Task<'a>>
+        ensures task { IfSome result (IsTaskIn (subcommand_rows_of matches.now)) }
+        ensures named { NamesServe (subcommand_rows_of matches.now) → IsSome result }
+    {
+        let values = matches.subcommand_matches("serve")?;
+        Some(Task::Serve(Serve::of_matches(values)?))
     }
 
     fn replay_in(alloc: Global, matches: &ArgMatches<'a>) -> Result<Option<Task<'a>>, AllocError>
@@ -161,6 +188,20 @@ impl<'a> Link<'a> {
             region: value_of(values, "region")?,
             start: value_of(values, "start")?,
             expires: value_of(values, "expires")?,
+        })
+    }
+}
+
+impl<'a> Serve<'a> {
+    fn of_matches(values: &ArgMatches<'a>) -> Option<Serve<'a>>
+        ensures values { IfSome result (IsServeIn (rows_of (found_of values.now))) }
+        ensures given { HasServe (rows_of (found_of values.now)) → IsSome result }
+    {
+        Some(Serve {
+            file: value_of(values, "file")?,
+            listen: value_of(values, "listen")?,
+            connections: value_of(values, "connections")?,
+            patience: value_of(values, "patience")?,
         })
     }
 }

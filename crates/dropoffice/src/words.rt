@@ -2,7 +2,7 @@
 ghost use Rattle.std.specs.Prelude.{◌≡◌, IfOk, false};
 ghost use Rattle.clap.specs.Words.{app_of, rule_of};
 ghost use Rattle.clap.specs.declared.builder.command.Command.TheViews.{out-Command};
-ghost use Rattle.dropoffice.specs.Tasks.{drop_app, init_app, link_app, replay_app, target_app, expires_rule, minutes_rule, option_rule, streams_rule, word_rule};
+ghost use Rattle.dropoffice.specs.Tasks.{drop_app, init_app, link_app, replay_app, serve_app, target_app, connections_rule, expires_rule, minutes_rule, option_rule, patience_rule, streams_rule, word_rule};
 
 use clap::builder::ValueParser;
 use clap::{Arg, Command};
@@ -20,7 +20,8 @@ pub(crate) fn command_line<'a>(alloc: Global) -> Result<Command<'a>, AllocError>
         .arg_required_else_help(true)
         .subcommand(init_command(alloc)?)?
         .subcommand(link_command(alloc)?)?
-        .subcommand(replay_command(alloc)?)
+        .subcommand(replay_command(alloc)?)?
+        .subcommand(serve_command(alloc)?)
 }
 
 // `init FILE --clerk ID --secret SECRET --east M --west M`.
@@ -128,6 +129,24 @@ fn replay_command<'a>(alloc: Global) -> Result<Command<'a>, AllocError>
         ))
 }
 
+// `serve FILE --listen ADDR --connections N --patience SECONDS`.
+fn serve_command<'a>(alloc: Global) -> Result<Command<'a>, AllocError>
+    ensures app { IfOk result (λ c. app_of c ≡ serve_app) }
+    ensures local { IfOk result (λ c. (out-Command c).has_globals ≡ false) }
+{
+    Command::new(alloc, "serve")
+        .about("Serves an office over HTTP, one connection after another, and ends")
+        .arg(word(alloc, "file", "FILE", "The office file"))?
+        .arg(option(
+            alloc,
+            "listen",
+            "ADDR",
+            "The address to listen at: 127.0.0.1:8080, or 0.0.0.0:8080 for all of this machine's",
+        ))?
+        .arg(connections_option(alloc))?
+        .arg(patience_option(alloc))
+}
+
 // A value by its place among the words, by the name that help calls it.
 fn word<'a>(alloc: Global, id: &'a str, name: &'a str, help: &'a str) -> Arg<'a>
     ensures rule { rule_of result ≡ word_rule id.entry.now }
@@ -177,6 +196,33 @@ fn expires_option<'a>(alloc: Global) -> Arg<'a>
         "For how many seconds the link is good: 1 to 604800, which is a week",
     )
     .value_parser(ValueParser::unsigned(1, 604_800))
+}
+
+// `--connections N`.
+fn connections_option<'a>(alloc: Global) -> Arg<'a>
+    ensures rule { rule_of result ≡ connections_rule }
+    ensures local { result.global ≡ false }
+{
+    option(
+        alloc,
+        "connections",
+        "N",
+        "How many connections are served before the program ends: 1 to 1000000",
+    )
+    .value_parser(ValueParser::unsigned(1, 1_000_000))
+}
+
+// `--patience SECONDS`, 30 where it is left out.
+fn patience_option<'a>(alloc: Global) -> Arg<'a>
+    ensures rule { rule_of result ≡ patience_rule }
+    ensures local { result.global ≡ false }
+{
+    Arg::new(alloc, "patience")
+        .long("patience")
+        .value_name("SECONDS")
+        .value_parser(ValueParser::unsigned(0, 3600))
+        .default_value("30")
+        .help("How long one read or write of a connection may wait, 0 to 3600; 0 is without end")
 }
 
 // `--id M`, a whole number of minutes, 0 where it is left out.

@@ -9,6 +9,8 @@ pub mod boxed;
 #[cfg(test)]
 mod counts;
 #[cfg(test)]
+mod cuts;
+#[cfg(test)]
 mod exchanges;
 pub mod fakes;
 #[cfg(test)]
@@ -28,6 +30,8 @@ mod runs;
 mod sessions;
 #[cfg(test)]
 mod sinks;
+#[cfg(test)]
+mod sockets;
 #[cfg(test)]
 mod texts;
 #[cfg(test)]

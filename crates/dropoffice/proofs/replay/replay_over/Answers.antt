@@ -1,7 +1,5 @@
-use Rattle.std.proofs.Common.{◌≡◌, ◌+◌, ◌<◌, ◌∙◌, cond, length, subst, sym, refl, ap, arith}
-use Rattle.boxes.specs.State.{State}
+use Rattle.std.proofs.Common.{◌≡◌, ◌+◌, ◌∙◌, cond, length, subst, sym, refl, ap, arith}
 use Rattle.dropoffice.specs.Connections.{is_fault}
-use Rattle.dropoffice.specs.Kept.{IsLeft}
 use Rattle.dropoffice.specs.Replays.{InTurn}
 use Rattle.dropoffice.proofs.Turns.{name_at, no_turn, turn_more}
 use Rattle.dropoffice.proofs.replay.replay_over.Goals as goal

@@ -1,4 +1,4 @@
-use Rattle.std.proofs.Common.{◌≡◌, ◌≤◌}
+use Rattle.std.proofs.Common.{◌≤◌}
 use Rattle.boxes.specs.State.{State}
 use Rattle.dropoffice.specs.Kept.{IsKept, IsLeft}
 use Rattle.dropoffice.specs.Replays.{InTurn}

@@ -1,0 +1,374 @@
+"""Runs the proved program `drop serve` on an office file and drives it over sockets: with curl, with links that boto3
+makes, and with bytes that stop, break off or make no sense.
+
+The office is made by `drop init` and its boxes by Python's `sqlite3` (ci/tables.py). What is owed comes from Python's
+`hashlib`, the table of refusals in docs/RULES.md and the fault lines in README.md. The last line is `N passed, M failed`.
+"""
+
+import contextlib
+import hashlib
+import pathlib
+import signal
+import socket
+import struct
+import subprocess
+import tempfile
+import time
+import urllib.error
+import urllib.parse
+import urllib.request
+
+import boto3
+import botocore.config
+
+import kit
+import tables
+from expected import SECRET, answer
+from office import CANNOT_OPEN, FAILED, Drop, difference, fetched, malformed, receipt
+from replays import ID, fault
+
+CANNOT_LISTEN = fault("cannot listen")
+SECONDS = 20
+MEBIBYTE = 1 << 20
+BREAK = struct.pack("ii", 1, 0)  # SO_LINGER: a socket that is closed is reset
+
+
+def add_boxes(file):
+    for name in ["in", "out.1-2"]:
+        tables.add_box(file, tables.Box(name, max_files=1000))
+
+
+def open_office(drop, name):
+    file = drop.office(name)
+    add_boxes(file)
+    return file
+
+
+def free_port():
+    """A port that nobody listens at."""
+    with socket.create_server(("127.0.0.1", 0)) as server:
+        return server.getsockname()[1]
+
+
+class Server:
+    """A `drop serve` that runs from `with` on, and says where it listens before it is used.
+
+    The office file is its own while it runs, so links are made before.
+    """
+
+    def __init__(self, drop, file, connections, patience=None):
+        self.drop, self.file = drop, file
+        self.address = f"127.0.0.1:{free_port()}"
+        self.words = [drop.program, "serve", file, "--listen", self.address, "--connections", str(connections)]
+        self.words += ["--patience", str(patience)] if patience is not None else []
+
+    def __enter__(self):
+        pipes = {"stdin": subprocess.DEVNULL, "stdout": subprocess.PIPE, "stderr": subprocess.PIPE}
+        self.process = subprocess.Popen(self.words, cwd=self.drop.folder, **pipes)
+        self.line = self.process.stdout.readline()
+        return self
+
+    def link(self, method, target, key=ID):
+        """The URL of a link that `drop link` writes for this server, good from a minute ago on."""
+        start = time.strftime("%Y%m%dT%H%M%SZ", time.gmtime(time.time() - 60))
+        ran = self.drop.link(self.file, method, target, key=key, host=self.address, start=start)
+        assert ran.status == 0, ran
+        return ran.out.decode().strip()
+
+    def message(self, method, target, data=None):
+        """The bytes of a request for such a link."""
+        parts = urllib.parse.urlsplit(self.link(method, target))
+        length = "" if data is None else f"Content-Length: {len(data)}\r\n"
+        head = f"{method} {parts.path}?{parts.query} HTTP/1.1\r\nHost: {parts.netloc}\r\n{length}\r\n"
+        return head.encode() + (data or b"")
+
+    def __exit__(self, *_):
+        if self.process.poll() is None:
+            self.process.kill()
+        self.process.communicate()
+
+    def connect(self):
+        host, _, port = self.address.partition(":")
+        return socket.create_connection((host, int(port)), timeout=SECONDS)
+
+    def ask(self, *parts, shut=True, pause=0.0):
+        """What a connection is answered that sends these bytes, and then closes its sending side."""
+        with self.connect() as it:
+            it.setsockopt(socket.IPPROTO_TCP, socket.TCP_NODELAY, 1)
+            for part in parts:
+                it.sendall(part)
+                time.sleep(pause)
+            if shut:
+                it.shutdown(socket.SHUT_WR)
+            return b"".join(iter(lambda: it.recv(1 << 16), b""))
+
+    def end(self):
+        """How the program ended, once its last connection was served."""
+        out, err = self.process.communicate(timeout=SECONDS)
+        return kit.Run(self.process.returncode, self.line + out, err)
+
+    def owed_end(self, failed):
+        line = f"listening on {self.address}\n".encode()
+        return kit.Run(1, line, FAILED.err) if failed else kit.Run(0, line, b"")
+
+
+# ---- what comes before a connection
+
+
+def test_words(drop, count):
+    for words, line in [
+        (["--connections", "0"], "error: invalid value '0' for '--connections <N>': 0 is not in 1..=1000000"),
+        (["--connections", "1000001"], "error: invalid value '1000001' for '--connections <N>': 1000001 is not in 1..=1000000"),
+        (["--connections", "1", "--patience", "3601"],
+         "error: invalid value '3601' for '--patience <SECONDS>': 3601 is not in 0..=3600"),
+        ([], "error: the following required arguments were not provided:"),
+    ]:
+        found = drop.run("serve", "no-file", "--listen", "none", *words)
+        well = found.status == 2 and not found.out and found.err.decode().splitlines()[0] == line
+        count.add(f"serve {words}", None if well else f"{found} and not {line!r}")
+    owed = kit.Run(0, (kit.ROOT / "ci" / "serve.help").read_bytes(), b"")
+    for words in [["serve", "--help"], ["help", "serve"]]:
+        count.add(f"drop {words}", difference(drop.run(*words), owed))
+
+
+BAD_ADDRESSES = [
+    "", ":", "127.0.0.1", "127.0.0.1:", ":8080", "127.0.0.1:08080", "127.0.0.1:00", "127.0.0.01:8080", "127.0.0.256:8080",
+    "127.0.0.1:65536", "127.0.0.1:+80", "127.0.1:8080", "127.0.0.1.1:8080", "127.0.0.1:8080 ", " 127.0.0.1:8080",
+    "localhost:8080", "[::1]:8080", "::1:8080", "127.0.0.1:http", "127.0.0.1:8080\n", "0x7f.0.0.1:80", "127.0.0.-1:80",
+]
+
+
+def test_faults(drop, count):
+    """The first fault is told: of the address, then of the file, then of listening."""
+    gone, file = drop.path("gone"), open_office(drop, "faults")
+    for address in BAD_ADDRESSES:
+        found = drop.run("serve", gone, f"--listen={address}", "--connections", "1")
+        count.add(f"listen {address!r}", difference(found, malformed("listen")))
+    found = drop.run("serve", gone, "--listen", "127.0.0.1:0", "--connections", "1")
+    count.add("a file that is not there", difference(found, CANNOT_OPEN))
+    count.add("no file is made", "there is one" if gone.exists() else None)
+    before = tables.dump(file)
+    with socket.create_server(("127.0.0.1", 0)) as other:
+        address = f"127.0.0.1:{other.getsockname()[1]}"
+        found = drop.run("serve", file, "--listen", address, "--connections", "1")
+        count.add("a port that is taken", difference(found, CANNOT_LISTEN))
+        found = drop.run("serve", gone, "--listen", address, "--connections", "1")
+        count.add("the file before the port", difference(found, CANNOT_OPEN))
+    found = drop.run("serve", file, "--listen", "192.0.2.1:8080", "--connections", "1")
+    count.add("another machine's address", difference(found, CANNOT_LISTEN))
+    with open("/dev/full", "wb", buffering=0) as full:
+        found = drop.run("serve", file, "--listen", "127.0.0.1:0", "--connections", "1", out=full)
+        count.add("a full disk", difference(found, fault("cannot write")))
+    count.add("the office stays", None if tables.dump(file) == before else "it was changed")
+
+
+# ---- clients
+
+
+def curl(*words, given=b""):
+    """What curl got: the status and the body; with -i the head too."""
+    return kit.run(["curl", "--silent", "--show-error", "--max-time", str(SECONDS), *words], given)
+
+
+def test_curl(drop, count):
+    file, data, large = open_office(drop, "curl"), bytes(range(256)) * 8, b"l" * MEBIBYTE
+    server = Server(drop, file, 8)
+    files = [("in/a.txt", data), ("out.1-2/é b+%2F..//", b""), ("in/large", large)]
+    puts = {target: server.link("PUT", target) for target, _ in files}
+    gets = {target: server.link("GET", target) for target, _ in files}
+    head, new = server.link("HEAD", "in/a.txt"), server.link("PUT", "in/b.txt")
+    with server:
+        for number, (target, body) in enumerate(files, 1):
+            found = curl("-i", "-X", "PUT", "-H", "Expect:", "--data-binary", "@-", puts[target], given=body)
+            count.add(f"curl PUT {target}", difference(found, kit.Run(0, receipt(number, body), b"")))
+        given = drop.path("given")
+        given.write_bytes(data)
+        found = curl("-i", "-T", given, puts["in/a.txt"])
+        count.add("curl PUT once more", difference(found, kit.Run(0, receipt(1, data), b"")))
+        found = curl("-i", gets["in/a.txt"], gets["in/large"])
+        count.add("curl GET of two on one connection", difference(found, kit.Run(0, fetched(1, data) + fetched(3, large), b"")))
+        count.add("curl HEAD", difference(curl("-I", head), kit.Run(0, fetched(1, data, "HEAD"), b"")))
+        found = curl("-i", "-X", "PUT", "--data-binary", "other", puts["in/a.txt"])
+        count.add("curl PUT of other bytes", difference(found, kit.Run(0, answer(31), b"")))
+        found = curl("-i", "-T", "-", new, given=data)
+        count.add("curl PUT in chunks", None if found.out.endswith(answer(3)) else f"{found}")
+        count.add("the end", difference(server.end(), server.owed_end(False)))
+
+
+def boto_client(server):
+    settings = {"signature_version": "s3v4", "s3": {"addressing_style": "path"}}
+    return boto3.client("s3", region_name="us-east-1", endpoint_url=f"http://{server.address}", aws_access_key_id=ID,
+                        aws_secret_access_key=SECRET.decode(), config=botocore.config.Config(**settings))
+
+
+def asked(url, method, data=None):
+    """The status, the fields and the body that Python's own client gets."""
+    request = urllib.request.Request(url, data=data, method=method)
+    try:
+        with urllib.request.urlopen(request, timeout=SECONDS) as it:
+            return it.status, dict(it.headers), it.read()
+    except urllib.error.HTTPError as error:
+        return error.code, dict(error.headers), error.read()
+
+
+def test_boto3(drop, count):
+    """Links that boto3 makes are taken, each on a connection of its own."""
+    file = open_office(drop, "boto3")
+    names = ["a.txt", "a b/é.txt", "x+y=z&?#%.bin", "..", "//"]
+    with Server(drop, file, 3 * len(names)) as server:
+        client = boto_client(server)
+        for number, name in enumerate(names, 1):
+            data = name.encode() * number
+            where = {"Bucket": "in", "Key": name}
+            digest = hashlib.sha256(data).hexdigest()
+            url = client.generate_presigned_url("put_object", Params=where, ExpiresIn=600)
+            status, _, body = asked(url, "PUT", data)
+            owed = f"receipt {number} {len(data)} {digest}\n".encode()
+            count.add(f"boto3 PUT {name}", difference((status, body), (200, owed)))
+            for method, call in [("GET", "get_object"), ("HEAD", "head_object")]:
+                url = client.generate_presigned_url(call, Params=where, ExpiresIn=600, HttpMethod=method)
+                status, fields, body = asked(url, method)
+                found = status, fields.get("X-Drop-Receipt"), fields.get("X-Drop-Sha256"), fields.get("Content-Length"), body
+                owed = 200, str(number), digest, str(len(data)), data if method == "GET" else b""
+                count.add(f"boto3 {method} {name}", difference(found, owed))
+        count.add("the end", difference(server.end(), server.owed_end(False)))
+
+
+# ---- bytes
+
+
+def test_bytes(drop, count):
+    """Streams that are whole, however they come in."""
+    file = open_office(drop, "bytes")
+    server = Server(drop, file, 8)
+    put, get = server.message("PUT", "in/a.txt", b"abc"), server.message("GET", "in/a.txt")
+    with server:
+        owed = receipt(1, b"abc") + fetched(1, b"abc")
+        count.add("two messages at once", difference(server.ask(put + get), owed))
+        parts = [bytes([byte]) for byte in get]
+        count.add("byte by byte", difference(server.ask(*parts), fetched(1, b"abc")))
+        cut = put.index(b"\r\n\r\n") + 2
+        count.add("a head in two pieces", difference(server.ask(put[:cut], put[cut:], pause=0.2), receipt(1, b"abc")))
+        count.add("a body in two pieces", difference(server.ask(put[:-1], put[-1:], pause=0.2), receipt(1, b"abc")))
+        count.add("nothing", difference(server.ask(), b""))
+        count.add("half a head", difference(server.ask(get[:-2]), b""))
+        count.add("half a body", difference(server.ask(put[:-1]), answer(6)))
+        found = server.ask(get * 1001)
+        count.add("a thousand messages, and one more", None if found == fetched(1, b"abc") * 1000 else f"{len(found)} bytes")
+        count.add("the end", difference(server.end(), server.owed_end(False)))
+
+
+HELLO = bytes.fromhex("16030100c8010000c40303") + bytes(189)
+PREFACE = b"PRI * HTTP/2.0\r\n\r\nSM\r\n\r\n"
+
+
+def test_nonsense(drop, count):
+    """Bytes that are no request are refused, and the refusal arrives, though more bytes were sent than were read."""
+    file = open_office(drop, "nonsense")
+    large = b"PUT /in/a HTTP/1.1\r\nContent-Length: 1048577\r\n\r\n" + b"a" * 100000
+    rows = [
+        ("a TLS hello", [HELLO], b""), ("a TLS hello that goes on", [HELLO + bytes(8192)], answer(2)),
+        ("an HTTP/2 preface", [PREFACE], answer(1)), ("line ends", [b"\r\n" * 2], answer(1)),
+        ("8192 bytes", [b"a" * 8192], answer(2)), ("8191 bytes", [b"a" * 8191], b""), ("no end", [b"a" * 200000], answer(2)),
+        ("a transfer coding", [b"PUT / HTTP/1.1\r\nTransfer-Encoding: chunked\r\n\r\n5\r\nhello\r\n0\r\n\r\n"], answer(3)),
+        ("two lengths", [b"PUT / HTTP/1.1\r\nContent-Length: 1\r\nContent-Length: 1\r\n\r\na"], answer(4)),
+        ("too large a body", [large], answer(5)), ("a request without a signature", [b"GET / HTTP/1.0\r\n\r\n"], answer(9)),
+    ]
+    before = tables.dump(file)
+    with Server(drop, file, len(rows), patience=2) as server:
+        for name, parts, owed in rows:
+            count.add(name, difference(server.ask(*parts), owed))
+        count.add("the end", difference(server.end(), server.owed_end(False)))
+    count.add("the office stays", None if tables.dump(file) == before else "it was changed")
+
+
+def broken_off(server, *parts):
+    """A connection that is reset behind these bytes."""
+    with server.connect() as it:
+        for part in parts:
+            it.sendall(part)
+        time.sleep(0.1)
+        it.setsockopt(socket.SOL_SOCKET, socket.SO_LINGER, BREAK)
+
+
+def silent_for(server, *parts):
+    """A connection that sends these bytes and nothing more: what it is answered, and after how many seconds."""
+    begun = time.monotonic()
+    found = server.ask(*parts, shut=False)
+    return found, time.monotonic() - begun
+
+
+def test_broken(drop, count):
+    """Peers that are silent or go away: each ends its own connection alone, and the last one is served."""
+    file, data = open_office(drop, "broken"), b"d" * MEBIBYTE
+    server = Server(drop, file, 10, patience=1)
+    put, get = server.message("PUT", "in/a", data), server.message("GET", "in/a")
+    with server:
+        count.add("before", difference(server.ask(put), receipt(1, data)))
+        for name, parts, owed in [("half a head and silence", [get[:-2]], b""), ("silence", [], b""),
+                                  ("an answer and silence", [get + get[:-2]], fetched(1, data))]:
+            found, seconds = silent_for(server, *parts)
+            well = found == owed and 0.9 < seconds < 5
+            count.add(name, None if well else f"{len(found)} bytes after {seconds:.1f} seconds")
+        broken_off(server)
+        broken_off(server, put[:-1])
+        broken_off(server, get[:-1])
+        broken_off(server, get * 100)
+        with server.connect() as it:  # takes no answer, and sends on
+            it.setsockopt(socket.SOL_SOCKET, socket.SO_RCVBUF, 4096)
+            it.settimeout(3)
+            with contextlib.suppress(OSError):
+                it.sendall(get * 1000)
+            time.sleep(2.5)
+        count.add("the last connection", difference(server.ask(get), fetched(1, data)))
+        count.add("the end", difference(server.end(), server.owed_end(True)))
+    count.add("the file", difference(tables.rows(file, "SELECT COUNT(*) FROM receipts"), [(1,)]))
+
+
+def test_killed(drop, count):
+    """What was acknowledged stands, though the program was killed; and the office file is whole."""
+    file = open_office(drop, "killed")
+    files = [(number, b"%d" % number) for number in range(1, 21)]
+    server = Server(drop, file, 1000)
+    puts = [server.message("PUT", f"in/{number}", data) for number, data in files]
+    with server:
+        for (number, data), put in zip(files, puts):
+            count.add(f"PUT {number}", difference(server.ask(put), receipt(number, data)))
+        server.process.send_signal(signal.SIGKILL)
+        server.process.wait()
+    server = Server(drop, file, len(files))
+    gets = [server.message("GET", f"in/{number}") for number, _ in files]
+    with server:
+        for (number, data), get in zip(files, gets):
+            count.add(f"GET {number}", difference(server.ask(get), fetched(number, data)))
+        count.add("the end", difference(server.end(), server.owed_end(False)))
+    count.add("integrity", difference(tables.rows(file, "PRAGMA integrity_check"), [("ok",)]))
+
+
+def test_closed(drop, count):
+    """At the end the log is in the file, and stock SQLite reads what was served."""
+    file = open_office(drop, "closed")
+    server = Server(drop, file, 1)
+    put = server.message("PUT", "in/a", b"abc")
+    with server:
+        count.add("PUT", difference(server.ask(put), receipt(1, b"abc")))
+        count.add("the end", difference(server.end(), server.owed_end(False)))
+    log = pathlib.Path(f"{file}-wal")
+    count.add("the log", None if not log.exists() or log.stat().st_size == 0 else "bytes are left in it")
+    count.add("the receipt", difference(tables.rows(file, "SELECT number, box, name, length FROM receipts"), [(1, "in", "a", 3)]))
+
+
+TESTS = [test_words, test_faults, test_curl, test_boto3, test_bytes, test_nonsense, test_broken, test_killed, test_closed]
+
+
+def main():
+    count = kit.Count()
+    with tempfile.TemporaryDirectory() as folder:
+        drop = Drop(kit.built("drop"), pathlib.Path(folder))
+        for test in TESTS:
+            test(drop, count)
+    count.end()
+
+
+if __name__ == "__main__":
+    main()

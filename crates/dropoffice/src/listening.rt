@@ -1,0 +1,94 @@
+//! `drop serve`: an office is served at an address.
+use crate::faults::Fault;
+use crate::machine_clock::MachineClock;
+use crate::office::Office;
+use crate::opening::{connect, disconnect, keeper_over, require_file};
+use crate::serving::serve;
+use crate::task::Serve;
+use keeper::Keeper;
+use std::io::Write;
+use std::net::{SocketAddr, SocketAddrV4, TcpListener};
+use std::time::Duration;
+
+// What the words of a service ask for.
+#[derive(Clone, Copy, Debug)]
+struct Service<'a> {
+    listen: &'a str,
+    address: SocketAddrV4,
+    connections: u64,
+    patience: Option<Duration>,
+}
+
+/// Serves the office in a file that is there. Its log goes into the file at the end, however the connections ended.
+pub(crate) fn do_serve(
+    rt: &HostRuntime,
+    words: &Serve<'_>,
+    out: &mut impl Write,
+) -> Result<(), Fault<'static>> {
+    let service = read_service(words)?;
+    require_file(rt, words.file)?;
+    let keeper = keeper_over(rt.alloc(), connect(rt, words.file)?)?;
+    let mut office = Office::new(rt.alloc(), keeper);
+    let served = serve_at(rt, &mut office, &service, out);
+    let closed = disconnect(office.keeper.close());
+    served?;
+    closed
+}
+
+// The service of the words, where each value of theirs has its form.
+fn read_service<'a>(words: &Serve<'a>) -> Result<Service<'a>, Fault<'static>> {
+    let address = read_address(words.listen).ok_or(Fault::MalformedValue("listen"))?;
+    let Ok(connections) = words.connections.parse::<u64>() else {
+        return Err(Fault::MalformedValue("connections"));
+    };
+    let Ok(seconds) = words.patience.parse::<u64>() else {
+        return Err(Fault::MalformedValue("patience"));
+    };
+    let patience = match seconds {
+        0 => None,
+        _ => Some(Duration::from_secs(seconds)),
+    };
+    Ok(Service {
+        listen: words.listen,
+        address,
+        connections,
+        patience,
+    })
+}
+
+// The address `a.b.c.d:port`, each number without leading zeros.
+fn read_address(text: &str) -> Option<SocketAddrV4> {
+    let (_, port) = text.split_once(':')?;
+    if port.len() > 1 && port.starts_with('0') {
+        return None;
+    }
+    SocketAddrV4::parse_ascii(text.as_bytes()).ok()
+}
+
+// Listens at the address, says so on `out`, and serves the connections that come.
+fn serve_at<K: Keeper>(
+    rt: &HostRuntime,
+    office: &mut Office<K>,
+    service: &Service<'_>,
+    out: &mut impl Write,
+) -> Result<(), Fault<'static>> {
+    let Ok(listener) = TcpListener::bind(rt, SocketAddr::V4(service.address)) else {
+        return Err(Fault::CannotListen);
+    };
+    if writeln!(out, "listening on {}", service.listen).is_err() || out.flush().is_err() {
+        return Err(Fault::CannotWrite);
+    }
+    let mut clock = MachineClock::new(rt);
+    let failed = serve(
+        office,
+        &listener,
+        service.connections,
+        service.patience,
+        &mut clock,
+    );
+    if failed == 0 {
+        Ok(())
+    } else {
+        Err(Fault::ConnectionFailed)
+    }
+}
