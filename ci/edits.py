@@ -1,25 +1,22 @@
 """Tries the edits `crates/*/edits/*.edit`, each of which the prover must refuse, many in one check and several checks
 side by side.
 
-It runs behind `rt ci`, over the libraries that it leaves, and is as strict as `rt`, whose own code applies an edit, runs
-a check and tells whether antt could read the edited text. Beside the lines that `rt` knows, a file has a line `fn: NAME`,
-the function that must be refused, as a check prints it.
+It runs behind `rt ci`, over the libraries that it leaves. Beside the lines that `rt` knows, a file has a line `fn: NAME`,
+the function that must be refused, as a check prints it. The code of `rt` applies the edits and runs the checks.
 
 First each crate is proved as it is, in a folder of its own. Each check starts from a copy of that folder, so nothing of
 one edit is left for the next. Edits of the bodies of different functions share a check, since callers see contracts
 alone. There an edit counts as refused only where its own function is, for its own goals; one whose function waits for
 another goes into a later check, and what else is not settled is tried alone. So are edits of constants, types and specs.
 
-The harmless edits `ci/controls/NAME/*.edit` are tried among the others, and must all be found to be proved still. Each
-edit that is not refused, and each harmless one that is, is named. The last line is `N passed, M failed`.
+The harmless edits `ci/controls/NAME/*.edit` are tried among the others, and must be found to be proved still. Each edit
+that is not refused, and each harmless one that is, is named. The last line is `N passed, M failed`.
 """
 
 import argparse
 import collections
 import concurrent.futures
 import dataclasses
-import importlib.machinery
-import importlib.util
 import math
 import os
 import pathlib
@@ -32,37 +29,40 @@ import time
 
 import kit
 
-# At least so many edits share a check, where there are so many: a check loads for longer than it tries one.
+RT = kit.rt()
+# So many edits share a check at least, where there are so many: to load what is kept costs as much as a few edits.
 FEWEST = 8
+# A check over kept work takes so much of the memory that `rt` reckons for one from nothing.
+SHARE = 0.6
 HEAD = re.compile(r"^( *)(?:pub(?:\([^)]*\))? )?(?:final )?fn (\w+)", re.M)
 VERDICT = re.compile(r"^fn (\S+): (.*)$", re.M)
 # A proof file that names what an edit took away, by the words of `rt`.
 NAMES = re.compile(r"has no field|is not in scope|has no `|was not admitted")
+# What a check says of a function whose goals wait for those of another one.
 WAITS = re.compile(r"(?:no proof: |not proved; )it (?:calls|passes|waits) ")
 STILL_PROVED = "NOT REFUSED: the crate is still proved with this edit"
 
 
-def toolchain_command():
-    """The command `rt` as a module."""
-    loader = importlib.machinery.SourceFileLoader("rt", str(kit.toolchain() / "bin" / "rt"))
-    module = importlib.util.module_from_spec(importlib.util.spec_from_loader("rt", loader))
-    loader.exec_module(module)
-    return module
-
-
-RT = toolchain_command()
-
-
 @dataclasses.dataclass(frozen=True)
 class Edit:
-    """An edit: its name, its lines, the function that must be refused (none: any), and whether it is one of that
-    function's body alone, so that it may share a check."""
+    """An edit. It may share a check where it changes the body alone of the function that must be refused."""
 
     name: str
     text: str
     function: str
     is_of_a_body: bool
     is_harmless: bool
+
+    def fault_of(self, fault):
+        """What is wrong with the edit, by what was wrong with it as a refusal."""
+        if not self.is_harmless:
+            return fault
+        if fault == STILL_PROVED:
+            return None
+        return fault or "REFUSED: it changes nothing, so the refusals of others may be as empty"
+
+    def __str__(self):
+        return f"{self.name}: {'shares a check' if self.is_of_a_body else 'alone'}, {self.function or 'any function'}"
 
 
 def function_at(source, place):
@@ -85,7 +85,7 @@ def lies_in(folder, text, function):
             file = line.removeprefix("file: ").strip()
         if line.startswith("old: "):
             source = (folder / file).read_text(encoding="utf-8")
-            if function_at(source, source.find(line.removeprefix("old: "))) not in function.split("::"):
+            if function_at(source, source.find(line.removeprefix("old: "))) != function.split("::")[-1]:
                 return False
     return True
 
@@ -93,19 +93,15 @@ def lies_in(folder, text, function):
 def edits_in(folder, crate, count, is_harmless=False):
     """The edits of a folder, by name. A file that is none, or cannot be applied, has failed."""
     edits = []
-    for path in sorted(folder.glob("*")):
+    for path in sorted(it for it in folder.glob("*") if it.suffix != ".md"):
         name = f"{crate.name}/{path.stem}"
-        if path.suffix == ".md":
-            continue
         text = path.read_text(encoding="utf-8") if path.suffix == ".edit" else ""
         fault = RT.edited(text, crate.folder)[1]
         if fault:
             count.add(name, f"BAD EDIT: {fault}")
-            continue
-        named = re.search(r"^fn: (\S+)$", text, re.M)
-        function = named[1] if named else ""
-        is_of_a_body = bool(function) and lies_in(pathlib.Path(crate.folder), text, function)
-        edits.append(Edit(name, text, function, is_of_a_body, is_harmless))
+        else:
+            function = "".join(re.findall(r"^fn: (\S+)$", text, re.M)[:1])
+            edits.append(Edit(name, text, function, lies_in(pathlib.Path(crate.folder), text, function), is_harmless))
     return edits
 
 
@@ -156,10 +152,6 @@ class Reading:
         is_wrong = said == "not proved" and bool(self.errors(function))
         return (is_open or is_wrong) and not self.lacks_names(function)
 
-    def waits(self, function):
-        """Whether the function's goals wait for those of another one."""
-        return bool(WAITS.match(self.verdict(function)))
-
     def fault_alone(self, edit):
         """Why this check of one edit doesn't count as its refusal."""
         fault = self.fault()
@@ -174,9 +166,10 @@ class Trial:
 
     def __init__(self, crate, edits, folder, lanes):
         self.crate, self.folder, self.lanes = crate, folder / crate.name, lanes
+        self.folder.mkdir(parents=True, exist_ok=True)
         self.shared = [it for it in edits if it.is_of_a_body]
         self.alone = [it for it in edits if not it.is_of_a_body]
-        self.need, self.is_begun, self.is_proved = RT.need(crate), False, False
+        self.need, self.is_begun, self.is_proved = SHARE * RT.need(crate), False, False
         self.edits, self.checks, self.seconds = len(edits), 0, 0
 
     def group(self):
@@ -190,7 +183,7 @@ class Trial:
         return group
 
     def take(self):
-        """The edits of the next check, or None where nothing can be done now. The first check has none: the crate itself."""
+        """The edits of the next check, or None where there is none now. The first check is of the crate itself."""
         if not self.is_begun:
             self.is_begun = True
             return []
@@ -207,7 +200,6 @@ class Trial:
             if group:
                 # antt puts a new file in the place of an old one, so what is linked stays as it is
                 kept = shutil.copytree(self.folder, f"{room}/kept", copy_function=os.link)
-            kept.mkdir(exist_ok=True) if not group else None
             ran = RT.checked(self.crate, texts, ["--jobs", "1"], str(kept))
         return Reading(ran.returncode, ran.stdout, texts), time.monotonic() - begin
 
@@ -219,7 +211,7 @@ class Trial:
         if len(group) == 1:
             return [(group[0], reading.fault_alone(group[0]))]
         refused = [] if reading.fault() else [it for it in group if reading.refuses(it.function)]
-        waiting = [it for it in group if refused and it not in refused and reading.waits(it.function)]
+        waiting = [it for it in group if refused and it not in refused and WAITS.match(reading.verdict(it.function))]
         self.shared += waiting
         self.alone += [it for it in group if it not in refused and it not in waiting]
         return [(it, None) for it in refused]
@@ -237,51 +229,45 @@ def settled(trials, jobs):
     """Runs the checks side by side, as many as processors and memory allow, and yields each edit with its fault."""
     memory, running = 0.85 * RT.free(), {}
     with concurrent.futures.ThreadPoolExecutor(jobs) as pool:
-        while True:
-            for trial in trials:
-                while not running or len(running) < jobs and trial.need + sum(it.need for it, _ in running.values()) <= memory:
-                    group = trial.take()
-                    if group is None:
-                        break
-                    running[pool.submit(trial.check, group)] = trial, group
-            if not running:
-                return
+        while begin_checks(trials, running, pool, jobs, memory):
             for ended in concurrent.futures.wait(running, return_when=concurrent.futures.FIRST_COMPLETED).done:
                 trial, group = running.pop(ended)
                 found = trial.heard(group, *ended.result())
-                print(told(trial, group, found, ended.result()[1]), flush=True)
+                refused = sum(fault is None for _, fault in found)
+                told = f"{refused} of {len(group)} edits refused" if group else f"proved as it is: {trial.is_proved}"
+                print(f"{trial.crate.name}: {told}, {ended.result()[1]:.0f} s", flush=True)
                 yield from found
 
 
-def told(trial, group, found, seconds):
-    """A line on a check."""
-    if not group:
-        return f"{trial.crate.name}: {'proved' if trial.is_proved else 'NOT PROVED'} as it is, {seconds:.0f} s"
-    refused = sum(fault is None for _, fault in found)
-    return f"{trial.crate.name}: {refused} of {len(group)} refused, {seconds:.0f} s"
+def begin_checks(trials, running, pool, jobs, memory):
+    """Begins the checks for which there is room, those of the first crates first. Gives whether any is running."""
+    for trial in trials:
+        while not running or len(running) < jobs and trial.need + sum(it.need for it, _ in running.values()) <= memory:
+            group = trial.take()
+            if group is None:
+                break
+            running[pool.submit(trial.check, group)] = trial, group
+    return bool(running)
 
 
-def fault_of(edit, fault):
-    """What is told of an edit that was tried."""
-    if not edit.is_harmless:
-        return fault
-    if fault == STILL_PROVED:
-        return None
-    return fault or "REFUSED: it changes nothing, so the refusals of others may be as empty"
-
-
-def trials_of(names, folder, jobs, count):
-    """The crates that have edits of these names, CRATE or CRATE/EDIT; of all where none is given. The dearest stand first."""
-    trials = []
+def edits_of_crates(names, count):
+    """The crates that have edits of these names, CRATE or CRATE/EDIT, with those; all where no name is given."""
+    of_crates = []
     for crate in RT.rtlib.crates_below(str(kit.ROOT)):
         edits = edits_in(pathlib.Path(crate.folder) / "edits", crate, count)
         edits += edits_in(kit.ROOT / "ci" / "controls" / crate.name, crate, count, is_harmless=True)
         edits = [it for it in edits if not names or it.name in names or crate.name in names]
+        of_crates += [(crate, edits)] if edits else []
+    return of_crates
+
+
+def trials_of(of_crates, folder, jobs):
+    """What is to be tried, the dearest crate first."""
+    for crate, _ in of_crates:
         lacking = [it.name for it in crate.below() if not os.path.isdir(it.rlib)]
-        if edits and lacking:
-            sys.exit(f"there is no library of {', '.join(lacking)} in crates/NAME/out/rlib: `rt ci` builds it")
-        trials += [Trial(crate, edits, folder, jobs)] if edits else []
-    return sorted(trials, key=lambda it: -it.need)
+        if lacking:
+            sys.exit(f"{crate.name}: there is no library of {', '.join(lacking)} in crates/*/out/rlib: `rt ci` builds it")
+    return sorted((Trial(*it, folder, jobs) for it in of_crates), key=lambda it: -it.need)
 
 
 def main():
@@ -289,14 +275,19 @@ def main():
     parser.add_argument("--jobs", type=int, default=RT.processors(), help="checks side by side, where memory allows")
     parser.add_argument("--only", action="append", default=[], metavar="CRATE[/EDIT]", help="these alone")
     parser.add_argument("--keep", type=pathlib.Path, metavar="FOLDER", help="keep what is proved of the crates there")
+    parser.add_argument("--list", action="store_true", help="prove nothing: tell how each edit would be tried")
     given = parser.parse_args()
+    begin, count = time.monotonic(), kit.Count()
+    of_crates = edits_of_crates(given.only, count)
+    if given.list:
+        print(*(it for _, edits in of_crates for it in edits), sep="\n")
+        sys.exit(count.failed > 0)
     # its first call sets a signal's handler, which only the main thread may
     RT.rtlib.guarded()
-    begin, count = time.monotonic(), kit.Count()
     with tempfile.TemporaryDirectory(prefix="edits-") as room:
-        trials = trials_of(given.only, given.keep or pathlib.Path(room), given.jobs, count)
+        trials = trials_of(of_crates, given.keep or pathlib.Path(room), given.jobs)
         for edit, fault in settled(trials, given.jobs):
-            count.add(edit.name, fault_of(edit, fault))
+            count.add(edit.name, edit.fault_of(fault))
     used = resource.getrusage(resource.RUSAGE_CHILDREN)
     for it in trials:
         print(f"{it.crate.name}: {it.edits} edits in {it.checks} checks, {it.seconds:.0f} s of them together")
