@@ -200,7 +200,7 @@ class Trial:
             if group:
                 # antt puts a new file in the place of an old one, so what is linked stays as it is
                 kept = shutil.copytree(self.folder, f"{room}/kept", copy_function=os.link)
-            ran = RT.checked(self.crate, texts, ["--jobs", "1"], str(kept))
+            ran = RT.checked(self.crate, texts, ["--jobs", str(1 if group else max(1, self.lanes // 2))], str(kept))
         return Reading(ran.returncode, ran.stdout, texts), time.monotonic() - begin
 
     def heard(self, group, reading, seconds):
