@@ -32,8 +32,8 @@ import kit
 RT = kit.rt()
 # So many edits share a check at least, where there are so many: to load what is kept costs as much as a few edits.
 FEWEST = 8
-# A check over kept work takes so much of the memory that `rt` reckons for one from nothing.
-SHARE = 0.6
+# A check takes less than so much of the memory that `rt` reckons for it: up to 2 GB were seen, 3.6 in `sqlkeeper`.
+SHARE = 0.5
 HEAD = re.compile(r"^( *)(?:pub(?:\([^)]*\))? )?(?:final )?fn (\w+)", re.M)
 VERDICT = re.compile(r"^fn (\S+): (.*)$", re.M)
 # A proof file that names what an edit took away, by the words of `rt`.
