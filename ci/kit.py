@@ -2,6 +2,8 @@
 
 import concurrent.futures
 import dataclasses
+import importlib.machinery
+import importlib.util
 import os
 import pathlib
 import shutil
@@ -18,6 +20,14 @@ def toolchain():
     if not command:
         sys.exit("there is no command rt")
     return pathlib.Path(command).resolve().parent.parent
+
+
+def rt():
+    """The command `rt` as a module."""
+    loader = importlib.machinery.SourceFileLoader("rt", str(toolchain() / "bin" / "rt"))
+    module = importlib.util.module_from_spec(importlib.util.spec_from_loader("rt", loader))
+    loader.exec_module(module)
+    return module
 
 
 def built(crate, ending=""):

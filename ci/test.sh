@@ -78,6 +78,7 @@ interop() {
 }
 
 count "rt ci" rt ci
+count "ci/edits.py" python3 -B ci/edits.py
 count "ci/rows.py --check" python3 -B ci/rows.py --check
 count "ci/replays.py" python3 -B ci/replays.py
 count "ci/office.py" office

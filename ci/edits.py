@@ -1,0 +1,299 @@
+"""Tries the edits `crates/*/edits/*.edit`, each of which the prover must refuse, many in one check and several checks
+side by side.
+
+It runs behind `rt ci`, over the libraries that it leaves. Beside the lines that `rt` knows, a file has a line `fn: NAME`,
+the function that must be refused, as a check prints it. The code of `rt` applies the edits and runs the checks.
+
+First each crate is proved as it is, in a folder of its own. Each check starts from a copy of that folder, so nothing of
+one edit is left for the next. Edits of the bodies of different functions share a check, since callers see contracts
+alone. There an edit counts as refused only where its own function is, for its own goals; one whose function waits for
+another goes into a later check, and what else is not settled is tried alone. So are edits of constants, types and specs.
+
+The harmless edits `ci/controls/NAME/*.edit` are tried among the others, and must be found to be proved still. Each edit
+that is not refused, and each harmless one that is, is named. The last line is `N passed, M failed`.
+"""
+
+import argparse
+import collections
+import concurrent.futures
+import dataclasses
+import math
+import os
+import pathlib
+import re
+import resource
+import shutil
+import sys
+import tempfile
+import time
+
+import kit
+
+RT = kit.rt()
+# So many edits share a check at least, where there are so many: to load what is kept costs as much as a few edits.
+FEWEST = 8
+# A check takes less than so much of the memory that `rt` reckons for it: up to 2 GB were seen, 3.6 in `sqlkeeper`.
+SHARE = 0.5
+HEAD = re.compile(r"^( *)(?:pub(?:\([^)]*\))? )?(?:final )?fn (\w+)", re.M)
+VERDICT = re.compile(r"^fn (\S+): (.*)$", re.M)
+# A proof file that names what an edit took away, by the words of `rt`.
+NAMES = re.compile(r"has no field|is not in scope|has no `|was not admitted")
+# What a check says of a function whose goals wait for those of another one.
+WAITS = re.compile(r"(?:no proof: |not proved; )it (?:calls|passes|waits) ")
+STILL_PROVED = "NOT REFUSED: the crate is still proved with this edit"
+
+
+@dataclasses.dataclass(frozen=True)
+class Edit:
+    """An edit. It may share a check where it changes the body alone of the function that must be refused."""
+
+    name: str
+    text: str
+    function: str
+    is_of_a_body: bool
+    is_harmless: bool
+
+    def fault_of(self, fault):
+        """What is wrong with the edit, by what was wrong with it as a refusal."""
+        if not self.is_harmless:
+            return fault
+        if fault == STILL_PROVED:
+            return None
+        return fault or "REFUSED: it changes nothing, so the refusals of others may be as empty"
+
+    def __str__(self):
+        return f"{self.name}: {'shares a check' if self.is_of_a_body else 'alone'}, {self.function or 'any function'}"
+
+
+def function_at(source, place):
+    """The name of the function in whose body this place of a source lies; none where it lies in no body. `rt fmt` begins
+    and ends a body at the indentation of its head. A `const fn` counts as none, since constants may depend on it."""
+    for head in reversed([*HEAD.finditer(source, 0, place)]):
+        indent = head[1]
+        begin = re.compile(rf"^{indent}(?:\S.* )?\{{$", re.M).search(source, head.start())
+        end = source.find(f"\n{indent}}}\n", head.end())
+        if begin and begin.end() <= place < end:
+            return head[2]
+    return None
+
+
+def lies_in(folder, text, function):
+    """Whether each changed text lies in the body of the function of that name."""
+    file = ""
+    for line in text.splitlines():
+        if line.startswith("file: "):
+            file = line.removeprefix("file: ").strip()
+        if line.startswith("old: "):
+            source = (folder / file).read_text(encoding="utf-8")
+            if function_at(source, source.find(line.removeprefix("old: "))) != function.split("::")[-1]:
+                return False
+    return True
+
+
+def edits_in(folder, crate, count, is_harmless=False):
+    """The edits of a folder, by name. A file that is none, or cannot be applied, has failed."""
+    edits = []
+    for path in sorted(it for it in folder.glob("*") if it.suffix != ".md"):
+        name = f"{crate.name}/{path.stem}"
+        text = path.read_text(encoding="utf-8") if path.suffix == ".edit" else ""
+        fault = RT.edited(text, crate.folder)[1]
+        if fault:
+            count.add(name, f"BAD EDIT: {fault}")
+        else:
+            function = "".join(re.findall(r"^fn: (\S+)$", text, re.M)[:1])
+            edits.append(Edit(name, text, function, lies_in(pathlib.Path(crate.folder), text, function), is_harmless))
+    return edits
+
+
+def applied(crate, group):
+    """The crate's texts with these edits, or None where one doesn't stand beside the others."""
+    return RT.edited("\n".join(it.text for it in group), crate.folder)[0] if group else {}
+
+
+@dataclasses.dataclass(frozen=True)
+class Reading:
+    """What a check said, and of which changed texts."""
+
+    status: int
+    said: str
+    texts: dict
+
+    def fault(self):
+        """Why the check refuses no edit, by the rule of `rt`; None where it refuses the crate."""
+        lines = self.said.rstrip("\n").split("\n")
+        unread = next((it for it in lines if RT.unread(it, self.texts)), None)
+        if unread:
+            return f"BAD EDIT: the prover cannot read the edited text: {unread[:200]}"
+        if RT.rtlib.STALE.search(self.said):
+            return "BAD EDIT: the kept work of a library could not be used"
+        if self.status == 0:
+            return STILL_PROVED
+        if self.status != 1 or not lines[-1].startswith("logic=not-proved"):
+            return "BAD EDIT: it did not reach the prover: " + " / ".join([*lines[:3], *lines[-3:]])
+        return None
+
+    def verdict(self, function):
+        """What the check says of the function; nothing where it doesn't name it."""
+        return dict(VERDICT.findall(self.said)).get(function, "")
+
+    def errors(self, function):
+        """The errors in the function's own proof files."""
+        folder = "/".join(["proofs", *function.split("::")[1:]])
+        return re.findall(rf"^(?:\./)?{re.escape(folder)}/\w+\.antt:\d+:\d+: error: .*$", self.said, re.M)
+
+    def lacks_names(self, function):
+        """Whether a proof file of the function names what is no longer there."""
+        return any(NAMES.search(it) for it in self.errors(function))
+
+    def refuses(self, function):
+        """Whether the prover refuses the function for its own goals: the search leaves one, or its answer is no proof."""
+        said = self.verdict(function)
+        is_open = said.startswith("no proof: expected answers in ") and "; `search` did not prove `" in said
+        is_wrong = said == "not proved" and bool(self.errors(function))
+        return (is_open or is_wrong) and not self.lacks_names(function)
+
+    def fault_alone(self, edit):
+        """Why this check of one edit doesn't count as its refusal."""
+        fault = self.fault()
+        if fault or not edit.function or self.refuses(edit.function) or self.lacks_names(edit.function):
+            return fault
+        said = self.verdict(edit.function) or "there is no such function"
+        return f"BAD EDIT: refused, but not in {edit.function}: {said[:200]}"
+
+
+class Trial:
+    """A crate's edits, those that may share a check and those that may not, and what is proved of the crate itself."""
+
+    def __init__(self, crate, edits, folder, lanes):
+        self.crate, self.folder, self.lanes = crate, folder / crate.name, lanes
+        self.folder.mkdir(parents=True, exist_ok=True)
+        self.shared = [it for it in edits if it.is_of_a_body]
+        self.alone = [it for it in edits if not it.is_of_a_body]
+        self.need, self.is_begun, self.is_proved = SHARE * RT.need(crate), False, False
+        self.edits, self.checks, self.seconds = len(edits), 0, 0
+
+    def group(self):
+        """The next edits that share a check, of functions that differ; first of those functions that have most."""
+        of_function = collections.Counter(it.function for it in self.shared)
+        most, group = max(FEWEST, math.ceil(len(self.shared) / self.lanes)), []
+        for edit in sorted(self.shared, key=lambda it: -of_function[it.function]):
+            is_new = all(edit.function != it.function for it in group)
+            if len(group) < most and is_new and applied(self.crate, [*group, edit]):
+                group.append(edit)
+        return group
+
+    def take(self):
+        """The edits of the next check, or None where there is none now. The first check is of the crate itself."""
+        if not self.is_begun:
+            self.is_begun = True
+            return []
+        group = (self.group() or self.alone[:1]) if self.is_proved else []
+        self.shared = [it for it in self.shared if it not in group]
+        self.alone = [it for it in self.alone if it not in group]
+        return group or None
+
+    def check(self, group):
+        """Checks the crate with these edits over a copy of what is proved of it; the crate itself, over the folder."""
+        begin, texts = time.monotonic(), applied(self.crate, group)
+        with tempfile.TemporaryDirectory(prefix="edits-", dir=self.folder.parent) as room:
+            kept = self.folder
+            if group:
+                # antt puts a new file in the place of an old one, so what is linked stays as it is
+                kept = shutil.copytree(self.folder, f"{room}/kept", copy_function=os.link)
+            ran = RT.checked(self.crate, texts, ["--jobs", str(1 if group else max(1, self.lanes // 2))], str(kept))
+        return Reading(ran.returncode, ran.stdout, texts), time.monotonic() - begin
+
+    def heard(self, group, reading, seconds):
+        """Sorts the edits by what their check said, and gives those that are settled, each with why it is not refused."""
+        self.checks, self.seconds = self.checks + 1, self.seconds + seconds
+        if not group:
+            return self.heard_of_the_crate(reading)
+        if len(group) == 1:
+            return [(group[0], reading.fault_alone(group[0]))]
+        refused = [] if reading.fault() else [it for it in group if reading.refuses(it.function)]
+        waiting = [it for it in group if refused and it not in refused and WAITS.match(reading.verdict(it.function))]
+        self.shared += waiting
+        self.alone += [it for it in group if it not in refused and it not in waiting]
+        return [(it, None) for it in refused]
+
+    def heard_of_the_crate(self, reading):
+        """Without a proof of the crate itself, no refusal of an edit says anything."""
+        self.is_proved = reading.status == 0
+        if self.is_proved:
+            return []
+        fault = "NOT TRIED: the crate itself is not proved: " + reading.said.rstrip("\n")[-300:]
+        return [(it, fault) for it in [*self.shared, *self.alone]]
+
+
+def settled(trials, jobs):
+    """Runs the checks side by side, as many as processors and memory allow, and yields each edit with its fault."""
+    memory, running = 0.85 * RT.free(), {}
+    with concurrent.futures.ThreadPoolExecutor(jobs) as pool:
+        while begin_checks(trials, running, pool, jobs, memory):
+            for ended in concurrent.futures.wait(running, return_when=concurrent.futures.FIRST_COMPLETED).done:
+                trial, group = running.pop(ended)
+                found = trial.heard(group, *ended.result())
+                refused = sum(fault is None for _, fault in found)
+                told = f"{refused} of {len(group)} edits refused" if group else f"proved as it is: {trial.is_proved}"
+                print(f"{trial.crate.name}: {told}, {ended.result()[1]:.0f} s", flush=True)
+                yield from found
+
+
+def begin_checks(trials, running, pool, jobs, memory):
+    """Begins the checks for which there is room, those of the first crates first. Gives whether any is running."""
+    for trial in trials:
+        while not running or len(running) < jobs and trial.need + sum(it.need for it, _ in running.values()) <= memory:
+            group = trial.take()
+            if group is None:
+                break
+            running[pool.submit(trial.check, group)] = trial, group
+    return bool(running)
+
+
+def edits_of_crates(names, count):
+    """The crates that have edits of these names, CRATE or CRATE/EDIT, with those; all where no name is given."""
+    of_crates = []
+    for crate in RT.rtlib.crates_below(str(kit.ROOT)):
+        edits = edits_in(pathlib.Path(crate.folder) / "edits", crate, count)
+        edits += edits_in(kit.ROOT / "ci" / "controls" / crate.name, crate, count, is_harmless=True)
+        edits = [it for it in edits if not names or it.name in names or crate.name in names]
+        of_crates += [(crate, edits)] if edits else []
+    return of_crates
+
+
+def trials_of(of_crates, folder, jobs):
+    """What is to be tried, the dearest crate first."""
+    for crate, _ in of_crates:
+        lacking = [it.name for it in crate.below() if not os.path.isdir(it.rlib)]
+        if lacking:
+            sys.exit(f"{crate.name}: there is no library of {', '.join(lacking)} in crates/*/out/rlib: `rt ci` builds it")
+    return sorted((Trial(*it, folder, jobs) for it in of_crates), key=lambda it: -it.need)
+
+
+def main():
+    parser = argparse.ArgumentParser(description="Tries the edits that the prover must refuse.")
+    parser.add_argument("--jobs", type=int, default=RT.processors(), help="checks side by side, where memory allows")
+    parser.add_argument("--only", action="append", default=[], metavar="CRATE[/EDIT]", help="these alone")
+    parser.add_argument("--keep", type=pathlib.Path, metavar="FOLDER", help="keep what is proved of the crates there")
+    parser.add_argument("--list", action="store_true", help="prove nothing: tell how each edit would be tried")
+    given = parser.parse_args()
+    begin, count = time.monotonic(), kit.Count()
+    of_crates = edits_of_crates(given.only, count)
+    if given.list:
+        print(*(it for _, edits in of_crates for it in edits), sep="\n")
+        sys.exit(count.failed > 0)
+    # its first call sets a signal's handler, which only the main thread may
+    RT.rtlib.guarded()
+    with tempfile.TemporaryDirectory(prefix="edits-") as room:
+        trials = trials_of(of_crates, given.keep or pathlib.Path(room), given.jobs)
+        for edit, fault in settled(trials, given.jobs):
+            count.add(edit.name, edit.fault_of(fault))
+    used = resource.getrusage(resource.RUSAGE_CHILDREN)
+    for it in trials:
+        print(f"{it.crate.name}: {it.edits} edits in {it.checks} checks, {it.seconds:.0f} s of them together")
+    print(f"{time.monotonic() - begin:.0f} s, {used.ru_utime + used.ru_stime:.0f} s of processors")
+    count.end()
+
+
+if __name__ == "__main__":
+    main()
