@@ -145,8 +145,7 @@ class Reading:
         return any(NAMES.search(it) for it in self.errors(function))
 
     def refuses(self, function):
-        """Whether the prover refuses the function for its own goals: the search leaves one, or its answer is no proof.
-        Of a function that only calls what is refused, a check says `no proof: it calls ..`."""
+        """Whether the prover refuses the function for its own goals: the search leaves one, or its answer is no proof."""
         crate, _, rest = function.replace("::", ".").partition(".")
         own = re.escape(f"Rattle.{crate}.proofs.{rest}.")
         said = self.verdict(function)
@@ -207,7 +206,7 @@ class Trial:
         return Reading(ran.returncode, ran.stdout, texts), time.monotonic() - begin
 
     def heard(self, group, reading, seconds):
-        """Sorts the edits by what their check said, and gives those that are settled, each with why it is not refused."""
+        """Gives the edits that their check settles, each with why it is not refused; the others are to be tried alone."""
         self.checks, self.seconds = self.checks + 1, self.seconds + seconds
         if not group:
             return self.heard_of_the_crate(reading)
