@@ -6,8 +6,9 @@ the function that must be refused, as a check prints it. The code of `rt` applie
 
 First each crate is proved as it is, in a folder of its own. Each check starts from a copy of that folder, so nothing of
 one edit is left for the next. Edits of the bodies of different functions share a check, since callers see contracts
-alone. There an edit counts as refused only where its own function is, for its own goals; one whose function waits for
-another goes into a later check, and what else is not settled is tried alone. So are edits of constants, types and specs.
+alone. It goes on behind what it refuses (`--allow-holes`), to the goals of callers too. There an edit counts as refused
+only where its own function is, for its own goals. What is not settled so is tried alone, by the rule of `rt`, and so are
+edits of constants, types and specs.
 
 The harmless edits `ci/controls/NAME/*.edit` are tried among the others, and must be found to be proved still. Each edit
 that is not refused, and each harmless one that is, is named. The last line is `N passed, M failed`.
@@ -38,8 +39,6 @@ HEAD = re.compile(r"^( *)(?:pub(?:\([^)]*\))? )?(?:final )?fn (\w+)", re.M)
 VERDICT = re.compile(r"^fn (\S+): (.*)$", re.M)
 # A proof file that names what an edit took away, by the words of `rt`.
 NAMES = re.compile(r"has no field|is not in scope|has no `|was not admitted")
-# What a check says of a function whose goals wait for those of another one.
-WAITS = re.compile(r"(?:no proof: |not proved; )it (?:calls|passes|waits) ")
 STILL_PROVED = "NOT REFUSED: the crate is still proved with this edit"
 
 
@@ -128,7 +127,7 @@ class Reading:
             return "BAD EDIT: the kept work of a library could not be used"
         if self.status == 0:
             return STILL_PROVED
-        if self.status != 1 or not lines[-1].startswith("logic=not-proved"):
+        if self.status != 1 or not lines[-1].startswith(("logic=not-proved", "holes=")):
             return "BAD EDIT: it did not reach the prover: " + " / ".join([*lines[:3], *lines[-3:]])
         return None
 
@@ -147,10 +146,12 @@ class Reading:
 
     def refuses(self, function):
         """Whether the prover refuses the function for its own goals: the search leaves one, or its answer is no proof."""
+        crate, _, rest = function.replace("::", ".").partition(".")
+        own = re.escape(f"Rattle.{crate}.proofs.{rest}.")
         said = self.verdict(function)
-        is_open = said.startswith("no proof: expected answers in ") and "; `search` did not prove `" in said
-        is_wrong = said == "not proved" and bool(self.errors(function))
-        return (is_open or is_wrong) and not self.lacks_names(function)
+        is_open = re.match(r"no proof: expected answers in [^ ;]+; `search` did not prove `", said)
+        is_wrong = re.match(rf"not proved(?:$|; it stands on `{own})", said) and self.errors(function)
+        return bool(is_open or is_wrong) and not self.lacks_names(function)
 
     def fault_alone(self, edit):
         """Why this check of one edit doesn't count as its refusal."""
@@ -200,20 +201,19 @@ class Trial:
             if group:
                 # antt puts a new file in the place of an old one, so what is linked stays as it is
                 kept = shutil.copytree(self.folder, f"{room}/kept", copy_function=os.link)
-            ran = RT.checked(self.crate, texts, ["--jobs", str(1 if group else max(1, self.lanes // 2))], str(kept))
+            jobs = 1 if group else max(1, self.lanes // 2)
+            ran = RT.checked(self.crate, texts, ["--jobs", str(jobs), *["--allow-holes"] * (len(group) > 1)], str(kept))
         return Reading(ran.returncode, ran.stdout, texts), time.monotonic() - begin
 
     def heard(self, group, reading, seconds):
-        """Sorts the edits by what their check said, and gives those that are settled, each with why it is not refused."""
+        """Gives the edits that their check settles, each with why it is not refused; the others are to be tried alone."""
         self.checks, self.seconds = self.checks + 1, self.seconds + seconds
         if not group:
             return self.heard_of_the_crate(reading)
         if len(group) == 1:
             return [(group[0], reading.fault_alone(group[0]))]
         refused = [] if reading.fault() else [it for it in group if reading.refuses(it.function)]
-        waiting = [it for it in group if refused and it not in refused and WAITS.match(reading.verdict(it.function))]
-        self.shared += waiting
-        self.alone += [it for it in group if it not in refused and it not in waiting]
+        self.alone += [it for it in group if it not in refused]
         return [(it, None) for it in refused]
 
     def heard_of_the_crate(self, reading):
