@@ -12,4 +12,8 @@ mod opening;
 #[cfg(test)]
 mod sizes;
 #[cfg(test)]
+mod steps;
+#[cfg(test)]
+mod stops;
+#[cfg(test)]
 mod telling;
