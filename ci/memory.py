@@ -85,8 +85,9 @@ def test_drop(program, count):
         ([*replay, MOMENT], answered(27)),
         ([*replay, "20130525T000000Z"], answered(23)),
         ([*replay, "now"], fault("malformed value: at")),
+        (["serve", "none", "--connections", "1", "--listen", "now"], fault("malformed value: listen")),
         (["--help"], kit.Run(0, help_of("drop"), b"")),
-        *(([name, "--help"], kit.Run(0, help_of(name), b"")) for name in ["init", "link", "replay"]),
+        *(([name, "--help"], kit.Run(0, help_of(name), b"")) for name in ["init", "link", "replay", "serve"]),
         (["replay"], kit.run([program, "replay"])),
     ]:
         name = f"drop {' '.join(words)}"
