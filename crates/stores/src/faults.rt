@@ -3,6 +3,7 @@ use crate::days::a_day;
 use crate::files::begun;
 use crate::opening::open;
 use boxes::OfficeRow;
+use dropoffice::Office;
 use keeper::Keeper;
 use sqlite::{Alter, Connection};
 use sqlkeeper::{OpenFault, SqlKeeper};
@@ -107,11 +108,22 @@ fn mended<S: Alter + Drop>(
     Ok(open(alloc, conn)?.close())
 }
 
-fn each_damage<S: Alter + Drop>(alloc: Global, conn: Connection<S>) -> Result<(), Fail> {
-    let mut conn = conn;
+// Each damage of an office in which a day was spent.
+fn each_damage<S: Alter + Drop>(mut office: Office<SqlKeeper<S>>) -> Result<(), Fail> {
+    a_day(&mut office.keeper)?;
+    let Office { keeper, alloc } = office;
+    let mut conn = keeper.close();
     for (damage, want, mend) in DAMAGES {
         conn = mended(alloc, conn, damage, want, mend)?;
     }
+    Ok(())
+}
+
+// Missing a table.
+fn misses_a_table<S: Alter + Drop>(office: Office<SqlKeeper<S>>) -> Result<(), Fail> {
+    let Office { keeper, alloc } = office;
+    let conn = keeper.close();
+    mended(alloc, conn, "DROP TABLE pieces", OpenFault::Shape, PIECES)?;
     Ok(())
 }
 
@@ -129,17 +141,12 @@ fn made_twice<S: Alter + Drop>(alloc: Global, conn: Connection<S>) -> Result<(),
 
 #[test]
 fn damage_is_found_and_what_is_mended_opens(rt: HostRuntime) -> Result<(), Fail> {
-    let mut office = begun(rt.alloc(), 0)?;
-    a_day(&mut office.keeper)?;
-    each_damage(rt.alloc(), office.keeper.close())
+    each_damage(begun(rt.alloc(), 0)?)
 }
 
 #[test]
 fn a_table_is_missed(rt: HostRuntime) -> Result<(), Fail> {
-    let alloc = rt.alloc();
-    let conn = begun(alloc, 0)?.keeper.close();
-    mended(alloc, conn, "DROP TABLE pieces", OpenFault::Shape, PIECES)?;
-    Ok(())
+    misses_a_table(begun(rt.alloc(), 0)?)
 }
 
 #[test]

@@ -4,7 +4,9 @@ use crate::files::begun;
 use crate::opening::{open, stays};
 use dropoffice::Office;
 use keeper::Keeper;
-use sqlite::{Alter, Connection, params};
+use sqlite::{Alter, Connection, FileStore, params};
+use sqlite_disk::Disk;
+use sqlkeeper::SqlKeeper;
 use std::alloc::Global;
 use std::test::Fail;
 use trials::boxed::add_box;
@@ -93,19 +95,28 @@ fn has_totals<S: Alter>(conn: &mut Connection<S>, used: i64, count: i64) -> Resu
     )
 }
 
-#[test]
-fn files_are_cut_into_pieces(rt: HostRuntime) -> Result<(), Fail> {
-    let mut office = begun(rt.alloc(), 0)?;
+// Files are cut into pieces, and stay so.
+fn cuts<D: Disk + Drop>(mut office: Office<SqlKeeper<FileStore<D>>>) -> Result<(), Fail> {
     upload_all(&mut office)?;
-    let mut conn = office.keeper.close();
+    let Office { keeper, alloc } = office;
+    let mut conn = keeper.close();
     cut_as_owed(&mut conn)?;
     has_totals(&mut conn, 2_179_649, 5)?;
-    stays(rt.alloc(), Office::new(rt.alloc(), open(rt.alloc(), conn)?))
+    stays(alloc, Office::new(alloc, open(alloc, conn)?))
+}
+
+// The bytes of a file that is replaced are not counted.
+fn replaces<S: Alter + Drop>(mut office: Office<SqlKeeper<S>>) -> Result<(), Fail> {
+    Row::Replacing.run(&mut office)?;
+    has_totals(&mut office.keeper.close(), 3, 1)
+}
+
+#[test]
+fn files_are_cut_into_pieces(rt: HostRuntime) -> Result<(), Fail> {
+    cuts(begun(rt.alloc(), 0)?)
 }
 
 #[test]
 fn what_is_replaced_is_not_counted(rt: HostRuntime) -> Result<(), Fail> {
-    let mut office = begun(rt.alloc(), 0)?;
-    Row::Replacing.run(&mut office)?;
-    has_totals(&mut office.keeper.close(), 3, 1)
+    replaces(begun(rt.alloc(), 0)?)
 }

@@ -17,6 +17,8 @@ use trials::rows::holds;
 pub(crate) enum Step {
     /// It is made.
     Create,
+    /// A key, a box and a file are added, which the later steps find.
+    Prepare,
     /// A file of a new name is set.
     SetNew,
     /// A file of two pieces is set in the place of another.
@@ -39,8 +41,8 @@ pub(crate) const COMMANDS: [Step; 5] = [
     Step::DropFile,
 ];
 
-/// A key, a box and a file are added, which the steps find.
-pub(crate) fn prepare<K: Keeper>(keeper: &mut K) -> Result<(), KeepFault> {
+// A key, a box and a file are added.
+fn prepare<K: Keeper>(keeper: &mut K) -> Result<(), KeepFault> {
     begin(keeper)?;
     set_file(keeper, b"a.txt", b"abc")?;
     Ok(())
@@ -89,12 +91,13 @@ fn uploads<K: Keeper>(office: &mut Office<K>) -> Result<bool, Fail> {
 }
 
 impl Step {
-    /// Does the step to an office that was prepared; tells whether that was acknowledged.
+    /// Does the step to an office; tells whether that was acknowledged.
     pub(crate) fn run<K: Keeper>(self, office: &mut Office<K>) -> Result<bool, Fail> {
         if let Some(command) = command_of(self) {
             return Ok(office.keeper.apply(&Change::Desk(command)).is_ok());
         }
         match self {
+            Step::Prepare => Ok(prepare(&mut office.keeper).is_ok()),
             Step::SetNew => Ok(set_file(&mut office.keeper, b"b.txt", b"x").is_ok()),
             Step::Replace => Ok(set_file(&mut office.keeper, b"a.txt", &[b'a'; 70_000]).is_ok()),
             Step::AddBox => Ok(add_box(&mut office.keeper).is_ok()),

@@ -1,10 +1,10 @@
 //! A disk stops at each of its calls in turn, and the office is opened again from what is left.
-use crate::files::{begun, connect};
-use crate::steps::{COMMANDS, Step, make, prepare};
+use crate::files::connect;
+use crate::steps::{COMMANDS, Step, make};
 use crate::telling::told;
 use boxes::OfficeRow;
 use dropoffice::Office;
-use keeper::Shelf;
+use keeper::{Keeper, Shelf};
 use sqlite::{Alter, Connection, FileStore, Files, Options};
 use sqlite_disk::{Crash, Disk, Fuse, Memory};
 use sqlkeeper::{OpenFault, SqlKeeper};
@@ -20,10 +20,9 @@ struct Wants {
     after: Option<Vec<u8>>,
 }
 
-// Both, as the keeper in memory has them.
-fn wants_of(alloc: Global, step: Step) -> Result<Wants, Fail> {
-    let shelf = Shelf::new(alloc, OfficeRow { east: 0 }, ID, SECRET)?;
-    let mut office = Office::new(alloc, shelf);
+// Both, as a keeper of an office that begins has them.
+fn wants_from<K: Keeper + Drop>(alloc: Global, keeper: K, step: Step) -> Result<Wants, Fail> {
+    let mut office = Office::new(alloc, keeper);
     if step == Step::Create {
         let after = Some(told(alloc, &mut office.keeper)?);
         return Ok(Wants {
@@ -31,11 +30,17 @@ fn wants_of(alloc: Global, step: Step) -> Result<Wants, Fail> {
             after,
         });
     }
-    prepare(&mut office.keeper)?;
+    holds(Step::Prepare.run(&mut office)?, "not prepared in memory")?;
     let before = Some(told(alloc, &mut office.keeper)?);
     holds(step.run(&mut office)?, "not done in memory")?;
     let after = Some(told(alloc, &mut office.keeper)?);
     Ok(Wants { before, after })
+}
+
+// Both, as the keeper in memory has them.
+fn wants_of(alloc: Global, step: Step) -> Result<Wants, Fail> {
+    let shelf = Shelf::new(alloc, OfficeRow { east: 0 }, ID, SECRET)?;
+    wants_from(alloc, shelf, step)
 }
 
 // The bytes of two files.
@@ -43,27 +48,6 @@ fn wants_of(alloc: Global, step: Step) -> Result<Wants, Fail> {
 struct Image {
     log: Vec<u8>,
     db: Vec<u8>,
-}
-
-// The connection of an office that is prepared.
-fn prepared<S: Alter + Drop>(mut keeper: SqlKeeper<S>) -> Result<Connection<S>, Fail> {
-    prepare(&mut keeper)?;
-    Ok(keeper.close())
-}
-
-// The files that a step begins with.
-fn image_for(alloc: Global, step: Step) -> Result<Image, Fail> {
-    if step == Step::Create {
-        return Ok(Image {
-            log: Vec::new(alloc),
-            db: Vec::new(alloc),
-        });
-    }
-    let disks = closed(prepared(begun(alloc, 0)?.keeper)?);
-    Ok(Image {
-        log: Vec::from_slice(alloc, disks.log.bytes())?,
-        db: Vec::from_slice(alloc, disks.db.bytes())?,
-    })
 }
 
 // One of the two files.
@@ -157,6 +141,17 @@ fn run_on<D: Disk + Drop>(alloc: Global, disks: Files<D>, step: Step) -> Result<
     }
 }
 
+// The files that a step begins with.
+fn image_for(alloc: Global, step: Step) -> Result<Image, Fail> {
+    let mut disks = disks_of(alloc, b"", b"")?;
+    if step != Step::Create {
+        for earlier in [Step::Create, Step::Prepare] {
+            disks = run_on(alloc, disks, earlier)?.disks;
+        }
+    }
+    Ok(image_of(alloc, &disks)?)
+}
+
 // There is no part of an office: one can be made.
 fn is_bare<S: Alter + Drop>(alloc: Global, conn: Connection<S>) -> Result<(), Fail> {
     let (made, _) = make(alloc, conn);
@@ -241,27 +236,35 @@ fn stops(alloc: Global, stop: Stop, image: &Image, wants: &Wants) -> Result<bool
     Ok(stopped)
 }
 
-// A stop of one disk at each count of calls, up to the first at which there is none; tells how many there were.
-fn each_stop(alloc: Global, step: Step, side: Side) -> Result<u64, Fail> {
-    let wants = wants_of(alloc, step)?;
-    let image = image_for(alloc, step)?;
+// The files hold what a step begins with.
+fn begins(alloc: Global, image: &Image, wants: &Wants) -> Result<(), Fail> {
     let first = found_on(alloc, disks_of(alloc, &image.log, &image.db)?)?;
-    holds(first == wants.before, "another office before the step")?;
+    holds(first == wants.before, "another office before the step")
+}
+
+// A stop of one disk at each count of calls, up to the first at which there is none; there are some.
+fn each_stop(
+    alloc: Global,
+    step: Step,
+    side: Side,
+    image: &Image,
+    wants: &Wants,
+) -> Result<(), Fail> {
     for calls in 0..1000u64 {
-        if !stops(alloc, Stop { step, side, calls }, &image, &wants)? {
-            return Ok(calls);
+        if !stops(alloc, Stop { step, side, calls }, image, wants)? {
+            return holds(calls > 0, "no stop");
         }
     }
     Err("stops without end".into())
 }
 
-// Stops of both disks, of which there are some.
+// Stops of both disks.
 fn stop_both(alloc: Global, step: Step) -> Result<(), Fail> {
-    holds(each_stop(alloc, step, Side::Log)? > 0, "no stop of the log")?;
-    holds(
-        each_stop(alloc, step, Side::Database)? > 0,
-        "no stop of the file",
-    )
+    let wants = wants_of(alloc, step)?;
+    let image = image_for(alloc, step)?;
+    begins(alloc, &image, &wants)?;
+    each_stop(alloc, step, Side::Log, &image, &wants)?;
+    each_stop(alloc, step, Side::Database, &image, &wants)
 }
 
 #[test]
