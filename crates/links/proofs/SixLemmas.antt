@@ -1,6 +1,6 @@
 -- The values of the six signing parameters.
-use Rattle.std.proofs.Common.{◌≡◌, ℕ, List, [], length, ap, sym, ◌∙◌, subst, None, Some, Option, arith}
-use Rattle.std.specs.Prelude.{IfNone}
+use Rattle.std.proofs.Common.{◌≡◌, ℕ, List, [], length, ap, sym, ◌∙◌, subst, None, Some, Option, Ok, Err, Result, arith}
+use Rattle.std.specs.Prelude.{IfErr, IfNone}
 use Rattle.percent_encoding.specs.Percent.{percent_decode}
 use Rattle.sigtext.specs.Target.{Param}
 use Rattle.sigtext.specs.Params.{params_named}
@@ -26,3 +26,8 @@ none_of (Some x) p = tt
 pub six_there : (raw : RawSix) (params : List Param) → AreRawSix raw params → AreThere params
 six_there raw params s =
     (ap length s.algorithm.2, (ap length s.credential.2, (ap length s.date.2, (ap length s.expires.2, (ap length s.names.2, (ap length s.signature.2, tt))))))
+
+-- what holds whatever the error is
+pub whatever_err : {T E : Type 0} {P : Type 0} (r : Result T E) → P → IfErr r (λ e. P)
+whatever_err (Ok x) p = tt
+whatever_err (Err e) p = p

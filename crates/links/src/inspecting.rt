@@ -27,7 +27,8 @@ struct Window {
     expires: u64,
 }
 
-fn read_moment(date: &[u8]) -> Option<Moment>
+/// Reads a moment as a link writes it: `20130524T000000Z` (ISO 8601, basic format, in UTC).
+pub fn read_moment(date: &[u8]) -> Option<Moment>
     ensures some { IfSome result (WritesMoment date.now) }
     ensures none { IfNone result ((m : ℕ) → WritesMoment date.now m → ⊥) }
 {

@@ -12,7 +12,7 @@ mod six;
 mod six_values;
 pub mod writing;
 
-pub use inspecting::inspect;
+pub use inspecting::{inspect, read_moment};
 pub use judging::judge;
 pub use laws::law_of_parts;
 pub use link_parts::LinkParts;

@@ -1,13 +1,14 @@
 //! What a well-formed link says.
-ghost use Rattle.std.specs.Prelude.{◌≡◌, ◌++◌, OnErr, OnOk};
+ghost use Rattle.std.specs.Prelude.{◌≡◌, ◌++◌, ℕ, List, IfErr, IfOk, MatchOption, OnErr, OnOk};
 ghost use Rattle.sigtext.specs.Request.{Request};
-ghost use Rattle.links.specs.WellFormed.{LinkValues};
+ghost use Rattle.links.specs.WellFormed.{LinkValues, HasValue};
 ghost use Rattle.links.specs.LinkReadings.{IsLinkOf};
 
 use crate::six_values::SixValues;
+use percent_encoding::percent_decode;
 use sigtext::Parts;
 use sigv4::{Moment, Scope};
-use std::alloc::AllocError;
+use std::alloc::{AllocError, Global};
 
 /// What a well-formed link says. It owns the values of the six, decoded, and the lists of parameters and
 /// signed headers; it borrows the rest from the target and the fields.
@@ -39,5 +40,22 @@ impl LinkParts<'_> {
         ensures err { OnErr result (out.new.items ≡ out.old.items) }
     {
         self.parts.target.path_into(out)
+    }
+    /// The decoded value of the parameter of this decoded name, where there is one.
+    ///
+    /// # Errors
+    ///
+    /// Memory was refused. It is asked for where the parameter is there.
+    pub fn param(&self, alloc: Global, name: &[u8]) -> Result<Option<Vec<u8>>, AllocError>
+        ensures found { IfOk result (λ found. (r : Request) (p : LinkValues) → IsLinkOf self.now r p
+            → MatchOption found ((value : List ℕ) → HasValue p.params name.now value → ⊥) (λ value. HasValue p.params name.now value.items)) }
+        ensures memory { IfErr result (λ e. (r : Request) (p : LinkValues) → IsLinkOf self.now r p → (value : List ℕ) × HasValue p.params name.now value) }
+    {
+        let Some(raw) = self.parts.params.get(name) else {
+            return Ok(None);
+        };
+        let mut value = Vec::with_capacity(alloc, raw.len())?;
+        percent_decode(raw).append_to(&mut value)?;
+        Ok(Some(value))
     }
 }

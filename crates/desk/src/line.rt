@@ -1,0 +1,58 @@
+//! A desk command as it is read.
+ghost use Rattle.std.specs.Prelude.{◌≡◌};
+ghost use Rattle.boxes.specs.Changes.{command_of};
+ghost use Rattle.desk.specs.Lines.{said};
+
+use boxes::{BoxRow, Command, Role};
+
+/// A desk command, as it was read. Its texts stand in the line; the settings of a box stand by themselves.
+#[derive(Drop)]
+pub enum DeskLine<'a> {
+    /// `key add ID ROLE SECRET`.
+    AddKey {
+        id: &'a [u8],
+        role: Role,
+        secret: &'a [u8],
+    },
+    /// `key revoke ID`.
+    RevokeKey {
+        id: &'a [u8],
+    },
+    /// `box add NAME OPENS CLOSES DAYS FROM TO QUOTA FILES MODE RULE`.
+    AddBox {
+        name: &'a [u8],
+        row: BoxRow,
+    },
+    /// `box close NAME MOMENT`, the moment in seconds since 1970-01-01T00:00:00Z.
+    CloseBox {
+        name: &'a [u8],
+        moment: u64,
+    },
+    /// `file drop BOX NAME`.
+    DropFile {
+        in_box: &'a [u8],
+        name: &'a [u8],
+    },
+}
+
+impl DeskLine<'_> {
+    /// The command, as the rules of the desk take it.
+    pub fn command(&self) -> Command<'_>
+        ensures { command_of result ≡ said self.now }
+    {
+        match self {
+            DeskLine::AddKey { id, role, secret } => Command::AddKey {
+                id,
+                role: *role,
+                secret,
+            },
+            DeskLine::RevokeKey { id } => Command::RevokeKey { id },
+            DeskLine::AddBox { name, row } => Command::AddBox { name, row },
+            DeskLine::CloseBox { name, moment } => Command::CloseBox {
+                name,
+                moment: *moment,
+            },
+            DeskLine::DropFile { in_box, name } => Command::DropFile { in_box, name },
+        }
+    }
+}
