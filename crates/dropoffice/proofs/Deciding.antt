@@ -18,7 +18,8 @@ use Rattle.boxes.specs.State.{Key, State}
 use Rattle.boxes.specs.Deciding.{IsLeastToFail}
 use Rattle.boxes.specs.Rules.{UploadRule, Upload, FetchRule}
 use Rattle.boxes.specs.State.{Place}
-use Rattle.dropoffice.specs.Rules.{IsPut, IsPost, IsFetch, known, place_of, upload_of, FormRule, DeskRule, Rule}
+use Rattle.boxes.specs.Steps.{Command, IsPossible}
+use Rattle.dropoffice.specs.Rules.{IsPut, IsPost, IsFetch, known, place_of, upload_of, FormRule, DeskRule, Asks, Rule}
 use Rattle.dropoffice.specs.Admitted.{IsAdmitted, ReachesBoxes}
 use Rattle.links.proofs.Texts.{clash}
 
@@ -346,17 +347,59 @@ module _ (s : State) (r : Request) (now : ℕ) (p : LinkValues) (reached : Reach
         (cases_lt (number_of q) 27);
   }
 
-  -- no text is a command yet
-  pub no_command : IsPost r → IsFirstToFail (Rule s r now) rule.CommandMalformed
-  no_command post = record {
+  -- ---- the desk
+
+  -- the rules of the desk before this one
+  desk_before : (n : ℕ) → ((q : Refusal) → number_of q < n → DeskRule q s p) → IsPost r → (x : Refusal) → number_of x < n → Rule s r now x p
+  desk_before n rules post x lt = record {
+    head = reached.head x;
+    link = reached.link x;
+    form = reached.form x;
+    put = λ put. absurd (put_no_post r put post);
+    fetch = λ fetch. absurd (fetch_no_post r fetch post);
+    post = λ _. rules x lt;
+  }
+
+  -- no command is asked
+  pub no_command : IsPost r → ((command : Command) → Asks p command → ⊥) → IsFirstToFail (Rule s r now) rule.CommandMalformed
+  no_command post none = record {
     parts = p;
-    before = λ x lt. record {
-      head = reached.head x;
-      link = reached.link x;
-      form = reached.form x;
-      put = λ put. absurd (put_no_post r put post);
-      fetch = λ fetch. absurd (fetch_no_post r fetch post);
-      post = λ _. desk_rule s p x lt;
-    };
-    fails = λ o hold bad. (bad.post post).1.is_command;
+    before = desk_before 35 (desk_rule s p) post;
+    fails = λ o hold bad.
+        let same = same_parts s r now p o rule.CommandMalformed (omega arith) reached.head hold in
+        let asked = bad.post post in
+        none asked.0 (subst (λ (x : LinkValues). Asks x asked.0) same asked.1);
+  }
+
+  is_asked : (command : Command) → Asks p command → (q : Refusal) → number_of q < 36 → DeskRule q s p
+  is_asked command asks rule.CommandMalformed lt = (command, asks)
+  is_asked command asks rule.CommandNotPossible lt = absurd (omega arith)
+  is_asked command asks _ lt = tt
+
+  -- a command is asked, and none that is asked is possible
+  pub no_possible : IsPost r → (command : Command) → Asks p command → ((other : Command) → Asks p other → IsPossible s other → ⊥)
+      → IsFirstToFail (Rule s r now) rule.CommandNotPossible
+  no_possible post command asks none = record {
+    parts = p;
+    before = desk_before 36 (is_asked command asks) post;
+    fails = λ o hold bad.
+        let same = same_parts s r now p o rule.CommandNotPossible (omega arith) reached.head hold in
+        let asked = bad.post post in
+        none asked.0 (subst (λ (x : LinkValues). Asks x asked.0) same asked.1) asked.2;
+  }
+
+  is_possible : (command : Command) → Asks p command → IsPossible s command → (q : Refusal) → DeskRule q s p
+  is_possible command asks possible rule.CommandMalformed = (command, asks)
+  is_possible command asks possible rule.CommandNotPossible = (command, asks, possible)
+  is_possible command asks possible _ = tt
+
+  -- a command that is possible is asked
+  pub holds_post : IsPost r → (command : Command) → Asks p command → IsPossible s command → AllHold (Rule s r now) p
+  holds_post post command asks possible q = record {
+    head = reached.head q;
+    link = reached.link q;
+    form = reached.form q;
+    put = λ put. absurd (put_no_post r put post);
+    fetch = λ fetch. absurd (fetch_no_post r fetch post);
+    post = λ _. is_possible command asks possible q;
   }

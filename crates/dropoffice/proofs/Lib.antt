@@ -21,3 +21,4 @@ pub mod TaskNames
 pub mod TaskValues
 pub mod ToldMoments
 pub mod Turns
+pub mod Obeyed

@@ -7,7 +7,8 @@ use Rattle.links.specs.WellFormed.{LinkValues, HasValue}
 use Rattle.boxes.specs.Commands.{HasForm}
 use Rattle.boxes.specs.State.{State}
 use Rattle.boxes.specs.Steps.{Command}
-use Rattle.dropoffice.specs.Rules.{place_of, FormRule, Asks, IsCommand}
+use Rattle.desk.specs.Texts.{IsCommand}
+use Rattle.dropoffice.specs.Rules.{place_of, FormRule, Asks}
 
 -- the name is all behind the second slash, further slashes and dots too
 place_of_name : place_of (codes "/in/a/../b c") ≡ record { box = codes "in"; name = codes "a/../b c" }

@@ -5,6 +5,7 @@ pub mod Clocks
 pub mod Connections
 pub mod Handling
 pub mod Kept
+pub mod Obeying
 pub mod Offices
 pub mod Places
 pub mod Replays

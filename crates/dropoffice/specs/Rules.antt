@@ -13,6 +13,7 @@ use Rattle.boxes.specs.State.{Place, State}
 use Rattle.boxes.specs.Rules.{Upload, UploadRule, FetchRule}
 use Rattle.boxes.specs.Commands.{HasForm}
 use Rattle.boxes.specs.Steps.{Command, IsPossible}
+use Rattle.desk.specs.Texts.{IsCommand}
 
 abbrev pub IsPut : Request → Type 0
 IsPut r = r.method ≡ codes "PUT"
@@ -42,10 +43,6 @@ FormRule rule.RoleNotAllowed s r p = IsPost r → IfSome (get s.keys p.key_id) (
 FormRule rule.LengthMissing s r p = IsPut r → IsTrue r.has_length
 FormRule rule.BodyNotTaken s r p = (r.method ≢ codes "PUT") → r.body ≡ []
 FormRule _ s r p = ⊤
-
--- the text is a desk command. No command has a form until the desk is served.
-abbrev pub IsCommand : List ℕ → Command → Type 0
-IsCommand text command = ⊥
 
 -- the path is `/`, and the parameter `desk` holds this command, which has its form
 pub record Asks (p : LinkValues) (command : Command) : Type 0 where

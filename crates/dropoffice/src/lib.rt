@@ -3,6 +3,7 @@
 
 mod admitting;
 pub mod clocks;
+pub mod commanding;
 mod faults;
 mod fetching;
 mod forms;
@@ -27,6 +28,7 @@ pub mod task;
 mod words;
 
 pub use clocks::{Clock, FixedClock, ListedClock};
+pub use commanding::DeskFault;
 pub use machine_clock::MachineClock;
 pub use office::Office;
 pub use program::perform;

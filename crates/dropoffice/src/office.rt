@@ -63,7 +63,7 @@ impl<K: Keeper> Office<K> {
             Method::Put => self.put(link, message.body, now),
             Method::Get => self.fetch(link),
             Method::Head => self.fetch(link),
-            Method::Post => Err(Refusal::CommandMalformed),
+            Method::Post => self.post(link),
         }
     }
 

@@ -1,7 +1,7 @@
 use Rattle.std.proofs.Common.{◌∙◌, ap, inl, inr, refl}
 use Rattle.links.specs.Methods.{method_text}
 use Rattle.wire.specs.Messages.{request_in}
-use Rattle.dropoffice.proofs.Deciding.{reaches_boxes, no_command}
+use Rattle.dropoffice.proofs.Deciding.{reaches_boxes}
 use Rattle.dropoffice.proofs.office.Office.reply_to_link.Goals as goal
 
 pub returns-in-Err-check_form-clause-replies : goal.returns-in-Err-check_form-clause-replies
@@ -31,8 +31,8 @@ returns-in-Head-clause-replies g c s p kept is =
     c.fetch-in-Head.ensures.replies s r p c.args.now (record { means = c.in-Ok.ensures.same s kept.means; is_honest = kept.is_honest; sound = kept.sound }) is (inr (c.requires ∙ ap method_text c.in-Head.is)) reached
 
 pub returns-in-Post-clause-replies : goal.returns-in-Post-clause-replies
-returns-in-Post-clause-replies g c s p kept is other =
+returns-in-Post-clause-replies g c s p kept is =
     let r = request_in c.args.message.now in
-    let x = c.in-Ok.ensures.admits s r p kept is in
+    let x = c.in-Ok.ensures.admits s r p (record { means = kept.means; is_honest = c.post.ensures.honest kept.is_honest; sound = kept.sound }) is in
     let reached = reaches_boxes s r c.args.now p x.0 x.1 (c.in-Ok-check_form.ensures s c.args.now p x.0 x.1 x.2) in
-    no_command s r c.args.now p reached (c.requires ∙ ap method_text c.in-Post.is)
+    c.post.ensures.replies s r p c.args.now (record { means = c.in-Ok.ensures.same s kept.means; is_honest = kept.is_honest; sound = kept.sound }) is (c.requires ∙ ap method_text c.in-Post.is) reached
