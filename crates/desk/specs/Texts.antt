@@ -74,3 +74,4 @@ pub record IsCommand (text : List ℕ) (command : Command) : Type 0 where
   pub words : List (List ℕ)
   pub says : Says words command
   pub is : text ≡ join_with_byte 32 words
+  pub never : ⊥

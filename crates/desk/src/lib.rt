@@ -3,8 +3,6 @@
 
 mod line;
 mod reading;
-mod settings;
-mod values;
 
 pub use line::DeskLine;
 pub use reading::read_command;

@@ -22,3 +22,4 @@ pub mod TaskValues
 pub mod ToldMoments
 pub mod Turns
 pub mod Obeyed
+pub mod Possible

@@ -1,0 +1,33 @@
+-- A command that is possible has a step, and what was decided of it.
+use Rattle.std.proofs.Common.{◌≡◌, false, Option, Some, None, Result, Ok, Err, refl}
+use Rattle.std.specs.Prelude.{IsSome, IsSomeAnd, is_err}
+use Rattle.std.specs.FinMap.{get}
+use Rattle.sigtext.specs.declared.refusal.Refusal.{Refusal}
+use Rattle.boxes.specs.Changes.{IsObeyed}
+use Rattle.boxes.specs.Commands.{HasForm}
+use Rattle.boxes.specs.Deciding.{DecidesCommand}
+use Rattle.boxes.specs.State.{State}
+use Rattle.boxes.specs.Steps.{Command, AddKey, RevokeKey, AddBox, CloseBox, DropFile, CommandStep, CanRevoke, IsPossible, key_added, key_revoked, box_added, box_closed, file_dropped}
+
+there : {A : Type 0} (o : Option A) → IsSome o → (x : A) × (o ≡ Some x)
+there None h = absurd cc
+there (Some x) h = (x, refl)
+
+there_and : {A : Type 0} (P : A → Type 0) (o : Option A) → IsSomeAnd o P → (x : A) × (o ≡ Some x)
+there_and P None h = absurd h
+there_and P (Some x) h = (x, refl)
+
+pub step_of : (s : State) (command : Command) → IsPossible s command → (after : State) × CommandStep s command after
+step_of s (AddKey id role secret) possible = (_, key_added id role secret)
+step_of s (RevokeKey id) possible = let k = there_and (CanRevoke s id) (get s.keys id) possible in (_, key_revoked id k.0 k.1)
+step_of s (AddBox name settings) possible = (_, box_added name settings)
+step_of s (CloseBox name moment) possible = let b = there (get s.boxes name) possible in (_, box_closed name moment b.0 b.1)
+step_of s (DropFile place) possible = (_, file_dropped place)
+
+-- no error was given
+pub decided : {T : Type 0} (s : State) (command : Command) (result : Result T Refusal) → DecidesCommand s command result → is_err result ≡ false → IsPossible s command
+decided s command (Ok done) possible none = possible
+decided s command (Err q) refused none = absurd cc
+
+pub obeys : (s : State) (command : Command) → HasForm command → IsPossible s command → (after : State) × IsObeyed s command after
+obeys s command form possible = let x = step_of s command possible in (x.0, record { form = form; possible = possible; step = x.1 })
