@@ -1,7 +1,4 @@
 -- What a desk command that was read means.
-use Rattle.std.specs.Prelude.{◌≡◌, ℕ, List, [], ◌∷◌}
-use Rattle.sigv4.specs.Dates.{WritesMoment}
-use Rattle.boxes.specs.State.{Settings}
 use Rattle.boxes.specs.Steps.{Command, AddKey, RevokeKey, AddBox, CloseBox, DropFile}
 use Rattle.boxes.specs.Rows.{settings_of}
 use Rattle.desk.specs.declared.line.DeskLine.{DeskLine}

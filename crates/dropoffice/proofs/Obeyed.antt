@@ -1,5 +1,5 @@
 -- What a message to the desk is replied, by what became of its line.
-use Rattle.std.proofs.Common.{◌≡◌, ℕ, List, [], ◌∷◌, codes, Ok, refl, sym, subst, ◌∙◌}
+use Rattle.std.proofs.Common.{◌≡◌, ℕ, List, [], ◌∷◌, codes, Ok, refl, sym, ap, subst, ◌∙◌}
 use Rattle.sigtext.specs.declared.refusal.Refusal.TheVariants as rule
 use Rattle.sigtext.specs.Request.{Request}
 use Rattle.sigtext.specs.Rules.{IsFirstToFail}
@@ -21,8 +21,11 @@ use Rattle.dropoffice.proofs.Deciding.{no_command, no_possible, holds_post}
 same_value : (params : List Param) (name a b : List ℕ) → HasValue params name a → HasValue params name b → b ≡ a
 same_value params name a b x y = only (sym x ∙ y)
   where
+    first : (x y : Param) → x ∷ [] ≡ y ∷ [] → y ≡ x
+    first x y e = cc
+
     only : ◌≡◌ {A = List Param} (record { name = name; value = a } ∷ []) (record { name = name; value = b } ∷ []) → b ≡ a
-    only e = cc
+    only e = ap (λ (q : Param). q.value) (first _ _ e)
 
 module _ (means : State → Type 0) (s : State) (r : Request) (now : ℕ) (p : LinkValues) (reached : ReachesBoxes s r now p) (is_post : IsPost r) where
   module _ (line : List ℕ) (at : p.path ≡ 47 ∷ []) (given : HasValue p.params (codes "desk") line) where

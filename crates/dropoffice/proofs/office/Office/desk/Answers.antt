@@ -1,0 +1,23 @@
+use Rattle.std.proofs.Common.{◌≡◌, Some, sym, subst, ◌∙◌}
+use Rattle.boxes.specs.Changes.{command_of}
+use Rattle.boxes.specs.Steps.{Command}
+use Rattle.desk.specs.Lines.{said}
+use Rattle.dropoffice.specs.Obeying.{Tells}
+use Rattle.dropoffice.proofs.Possible.{obeyed_by}
+use Rattle.dropoffice.proofs.office.Office.desk.Goals as goal
+
+some_is : (a b : Command) → Some a ≡ Some b → b ≡ a
+some_is a b e = cc
+
+pub returns-in-Ok-Some-clause-obeys : goal.returns-in-Ok-Some-clause-obeys
+returns-in-Ok-Some-clause-obeys g c s kept =
+    let line = c.args.line.now in
+    let command = command_of c.command.result in
+    let is : command ≡ said c.in-Ok-Some.read = c.command.ensures in
+    let told = rw c.in-Ok-Some.field-0-is at c.in-Ok-Some.ensures.some in
+    let tells = subst (Tells line) (sym is) (record { is_command = told.0; form = told.1 }) in
+    obeyed_by (g.K.Keeper.means c.obey.new.self.keeper) s line c.obey.result command tells
+    (λ other tells.
+        let all = rw c.in-Ok-Some.field-0-is at (c.in-Ok-Some.ensures.all other tells.is_command tells.form) in
+        some_is (said c.in-Ok-Some.read) other all ∙ sym is)
+    (c.obey.ensures.does s kept tells.form) (c.obey.ensures.refused s kept) c.obey.ensures.formed
