@@ -10,8 +10,8 @@ use sigtext::Refusal;
 use thiserror::Error;
 use wire::Reply;
 
-// The parameter that holds a command.
-const PARAMETER: &[u8] = b"desk";
+/// The name of the parameter that holds a command.
+pub(crate) const DESK: &[u8] = b"desk";
 
 /// Why a line of the desk was not done. The state is then as it was.
 #[derive(Clone, Copy, Debug, PartialEq, Eq, Error)]
@@ -139,7 +139,7 @@ impl<K: Keeper> Office<K> {
         if path.as_slice() != b"/".as_slice() {
             return Err(Refusal::CommandMalformed);
         }
-        let line = match link.param(self.alloc, PARAMETER) {
+        let line = match link.param(self.alloc, DESK) {
             Ok(Some(line)) => line,
             Ok(None) => return Err(Refusal::CommandMalformed),
             Err(_) => return Err(Refusal::TryAgain),

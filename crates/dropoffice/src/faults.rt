@@ -1,4 +1,5 @@
 //! What keeps the program from its task, and the line that tells it.
+use crate::commanding::DeskFault;
 use keeper::KeepFault;
 use sqlkeeper::OpenFault;
 use std::alloc::AllocError;
@@ -19,6 +20,9 @@ pub(crate) enum Fault<'a> {
     /// What the file was found to be, or a refusal of its store.
     #[error("{0}")]
     Office(OpenFault),
+    /// The desk refused the command.
+    #[error("{0}")]
+    Desk(DeskFault),
     /// The office has no key of this id.
     #[error("the key is unknown")]
     UnknownKey,
@@ -50,6 +54,15 @@ impl From<OpenFault> for Fault<'_> {
         match fault {
             OpenFault::Memory => Fault::OutOfMemory,
             other => Fault::Office(other),
+        }
+    }
+}
+
+impl From<DeskFault> for Fault<'_> {
+    fn from(fault: DeskFault) -> Self {
+        match fault {
+            DeskFault::Kept(fault) => Fault::from(fault),
+            other => Fault::Desk(other),
         }
     }
 }

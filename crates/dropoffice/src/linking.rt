@@ -1,11 +1,12 @@
 //! `drop link`: a link is written, signed by a key of the office.
+use crate::commanding::DESK;
 use crate::faults::Fault;
 use crate::opening::{connect, keeper_over, require_file};
-use crate::replaying::read_moment;
 use crate::task::Link;
 use boxes::{Command, has_form};
+use desk::read_command;
 use keeper::Keeper;
-use links::{LinkFault, LinkKey, LinkOrder, Method, write_link};
+use links::{LinkFault, LinkKey, LinkOrder, Method, OrderParam, read_moment, write_link};
 use sigtext::{cut, is_visible, is_word};
 use sigv4::{Moment, is_region};
 use std::alloc::Global;
@@ -20,7 +21,7 @@ pub(crate) fn do_link(
     words: &Link<'_>,
     out: &mut impl Write,
 ) -> Result<(), Fault<'static>> {
-    let order = read_order(words)?;
+    let order = read_order(rt.alloc(), words)?;
     require_file(rt, words.file)?;
     let mut keeper = keeper_over(rt.alloc(), connect(rt, words.file)?)?;
     let line = line_of(rt.alloc(), &mut keeper, &order, words)?;
@@ -39,14 +40,14 @@ struct Order {
 }
 
 // The order of the words, where each value of theirs has its form.
-fn read_order(words: &Link<'_>) -> Result<Order, Fault<'static>> {
+fn read_order(alloc: Global, words: &Link<'_>) -> Result<Order, Fault<'static>> {
     let Some(method) = Method::read(words.method.as_bytes()) else {
         return Err(Fault::MalformedValue("method"));
     };
-    if !is_target(method, words.target.as_bytes()) {
+    if !is_target(alloc, method, words.target.as_bytes())? {
         return Err(Fault::MalformedValue("target"));
     }
-    let start = read_moment(words.start).ok_or(Fault::MalformedValue("start"))?;
+    let start = read_moment(words.start.as_bytes()).ok_or(Fault::MalformedValue("start"))?;
     if !is_word(words.host.as_bytes(), MOST_HOST_BYTES, is_visible) {
         return Err(Fault::MalformedValue("host"));
     }
@@ -64,14 +65,14 @@ fn read_order(words: &Link<'_>) -> Result<Order, Fault<'static>> {
     })
 }
 
-// Whether the text is a box's name, `/` and a file's name. No command of the desk has a form yet.
-fn is_target(method: Method, target: &[u8]) -> bool {
+// Whether a link of this method may be to the text: a box's name, `/` and a file's name; for POST a desk command.
+fn is_target(alloc: Global, method: Method, target: &[u8]) -> Result<bool, Fault<'static>> {
     if method == Method::Post {
-        return false;
+        return Ok(read_command(alloc, target)?.is_some());
     }
     match cut(target, b'/') {
-        Some((in_box, name)) => has_form(&Command::DropFile { in_box, name }),
-        None => false,
+        Some((in_box, name)) => Ok(has_form(&Command::DropFile { in_box, name })),
+        None => Ok(false),
     }
 }
 
@@ -89,11 +90,16 @@ fn line_of<K: Keeper>(
         id: words.key.as_bytes(),
         secret: row.secret.as_slice(),
     };
-    let path = format!(in alloc; "/{}", words.target)?;
+    let to_desk = order.method == Method::Post;
+    let path = format!(in alloc; "/{}", if to_desk { "" } else { words.target })?;
+    let command = [OrderParam {
+        name: DESK,
+        value: words.target.as_bytes(),
+    }];
     let order = LinkOrder {
         method: order.method.text(),
         path: path.as_bytes(),
-        params: &[],
+        params: if to_desk { &command } else { &[] },
         headers: &[],
         start: order.start,
         expires: order.expires,

@@ -7,6 +7,7 @@ use crate::office::Office;
 use crate::opening::{connect, disconnect, keeper_over, require_file};
 use crate::replay::{replay_in_memory, replay_over};
 use crate::task::Replay;
+use links::read_moment;
 use sigv4::{Moment, is_key_id, is_secret};
 use std::fs::Files;
 use std::io::Write;
@@ -21,7 +22,7 @@ pub(crate) fn do_replay<'a>(
     if words.file.starts_with("memory:") {
         return replay_memory(rt, words, out);
     }
-    let moment = read_moment(words.at).ok_or(Fault::MalformedValue("at"))?;
+    let moment = read_moment(words.at.as_bytes()).ok_or(Fault::MalformedValue("at"))?;
     replay_file(rt, words, moment, out)
 }
 
@@ -34,7 +35,7 @@ fn replay_memory<'a, R: Files + AllocGlobal>(
     let Some((id, secret)) = read_key(words.file) else {
         return Err(Fault::MalformedValue("file"));
     };
-    let moment = read_moment(words.at).ok_or(Fault::MalformedValue("at"))?;
+    let moment = read_moment(words.at.as_bytes()).ok_or(Fault::MalformedValue("at"))?;
     let mut writer = Counted::new(out);
     let streams = words.streams.as_slice();
     let served = replay_in_memory(rt.alloc(), rt, id, secret, streams, moment, &mut writer)?;
@@ -70,11 +71,6 @@ fn read_key(file: &str) -> Option<(&[u8], &[u8])>
     } else {
         None
     }
-}
-
-/// A moment as `20130524T000000Z`.
-pub(crate) fn read_moment(text: &str) -> Option<Moment> {
-    Moment::read(text.as_bytes().try_into().ok()?)
 }
 
 // What is told of streams that were served, where their answers went out or not.

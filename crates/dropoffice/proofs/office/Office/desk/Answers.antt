@@ -18,6 +18,6 @@ returns-in-Ok-Some-clause-obeys g c s kept =
     let tells = subst (Tells line) (sym is) (record { is_command = told.0; form = told.1 }) in
     obeyed_by (g.K.Keeper.means c.obey.new.self.keeper) s line c.obey.result command tells
     (λ other tells.
-        let all = rw c.in-Ok-Some.field-0-is at (c.in-Ok-Some.ensures.all other tells.is_command tells.form) in
-        some_is (said c.in-Ok-Some.read) other all ∙ sym is)
+    let all = rw c.in-Ok-Some.field-0-is at (c.in-Ok-Some.ensures.all other tells.is_command tells.form) in
+    some_is (said c.in-Ok-Some.read) other all ∙ sym is)
     (c.obey.ensures.does s kept tells.form) (c.obey.ensures.refused s kept) c.obey.ensures.formed
