@@ -1,8 +1,13 @@
 -- What a desk command that was read means.
+use Rattle.std.specs.Prelude.{◌≡◌, ℕ, List, [], ◌∷◌}
+use Rattle.sigv4.specs.Dates.{WritesMoment}
+use Rattle.boxes.specs.State.{Settings}
 use Rattle.boxes.specs.Steps.{Command, AddKey, RevokeKey, AddBox, CloseBox, DropFile}
 use Rattle.boxes.specs.Rows.{settings_of}
+use Rattle.desk.specs.Texts.{days_word, minute_word, mode_word, IsNumber}
 use Rattle.desk.specs.declared.line.DeskLine.{DeskLine}
 use Rattle.desk.specs.declared.line.DeskLine.TheVariants as line
+use Rattle.desk.specs.declared.settings.SettingsWords.{SettingsWords}
 
 abbrev pub said : DeskLine → Command
 said (line.AddKey id role secret) = AddKey id.now role secret.now
@@ -11,3 +16,19 @@ said (line.AddBox name row) = AddBox name.now (settings_of row)
 said (line.CloseBox name moment) = CloseBox name.now moment
 said (line.DropFile box name) = DropFile (record { box = box.now; name = name.now })
 
+-- the nine texts of a box's settings; the rule's is of one word or two
+abbrev pub texts_of : SettingsWords → List (List ℕ)
+texts_of w =
+    w.opens.now ∷ w.closes.now ∷ w.days.now ∷ w.from.now ∷ w.to.now ∷ w.quota.now ∷ w.max_files.now ∷ w.mode.now
+    ∷ w.rule.now ∷ []
+
+-- the texts, but the rule's, say what the box is set to
+pub record SayRow (w : SettingsWords) (b : Settings) : Type 0 where
+  pub opens : WritesMoment w.opens.now b.opens
+  pub closes : WritesMoment w.closes.now b.closes
+  pub days : w.days.now ≡ days_word b.days
+  pub from_minute : w.from.now ≡ minute_word b.from_minute
+  pub to_minute : w.to.now ≡ minute_word b.to_minute
+  pub quota : IsNumber w.quota.now b.quota
+  pub max_files : IsNumber w.max_files.now b.max_files
+  pub mode : w.mode.now ≡ mode_word b.mode

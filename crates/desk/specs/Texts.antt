@@ -69,12 +69,8 @@ pub data Says : List (List ℕ) → Command → Type 0 where
       → Says (codes "box" ∷ codes "close" ∷ name ∷ text ∷ []) (CloseBox name moment)
   drops_file : (place : Place) → Says (codes "file" ∷ codes "drop" ∷ place.box ∷ place.name ∷ []) (DropFile place)
 
-unfoldable pub Never : Type 0
-Never = ⊥
-
 -- the text is the command's: its words, one space apart
 pub record IsCommand (text : List ℕ) (command : Command) : Type 0 where
   pub words : List (List ℕ)
   pub says : Says words command
   pub is : text ≡ join_with_byte 32 words
-  pub never : Never

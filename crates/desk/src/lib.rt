@@ -3,6 +3,8 @@
 
 mod line;
 mod reading;
+mod settings;
+mod values;
 
 pub use line::DeskLine;
 pub use reading::read_command;

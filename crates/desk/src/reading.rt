@@ -7,7 +7,80 @@ ghost use Rattle.desk.specs.Lines.{said};
 ghost use Rattle.desk.specs.Texts.{IsCommand};
 
 use crate::line::DeskLine;
+use crate::settings::read_settings;
+use crate::values::read_role;
+use boxes::has_form;
+use links::read_moment;
+use sigtext::cut;
 use std::alloc::{AllocError, Global};
+
+// What follows `key add `.
+fn read_key(words: &[u8]) -> Option<DeskLine<'_>>
+    ensures some { IfSome result (λ l. IsCommand (codes "key add " ++ words.now) (said l)) }
+    ensures all { (c : Command) → IsCommand (codes "key add " ++ words.now) c → HasForm c → option_map said result ≡ Some c }
+{
+    let (id, rest) = cut(words, b' ')?;
+    let (role, secret) = cut(rest, b' ')?;
+    let role = read_role(role)?;
+    Some(DeskLine::AddKey { id, role, secret })
+}
+
+// What follows `box add `.
+fn read_box(alloc: Global, words: &[u8]) -> Result<Option<DeskLine<'_>>, AllocError>
+    ensures some { IfOk result (λ found. IfSome found (λ l. IsCommand (codes "box add " ++ words.now) (said l))) }
+    ensures all { IfOk result (λ found. (c : Command) → IsCommand (codes "box add " ++ words.now) c → HasForm c → option_map said found ≡ Some c) }
+{
+    let Some((name, rest)) = cut(words, b' ') else {
+        return Ok(None);
+    };
+    match read_settings(alloc, rest)? {
+        Some(row) => Ok(Some(DeskLine::AddBox { name, row })),
+        None => Ok(None),
+    }
+}
+
+// What follows `box close `.
+fn read_closing(words: &[u8]) -> Option<DeskLine<'_>>
+    ensures some { IfSome result (λ l. IsCommand (codes "box close " ++ words.now) (said l)) }
+    ensures all { (c : Command) → IsCommand (codes "box close " ++ words.now) c → HasForm c → option_map said result ≡ Some c }
+{
+    let (name, moment) = cut(words, b' ')?;
+    let moment = read_moment(moment)?.seconds();
+    Some(DeskLine::CloseBox { name, moment })
+}
+
+// What follows `file drop `. The name is all that stands behind the box, spaces too.
+fn read_drop(words: &[u8]) -> Option<DeskLine<'_>>
+    ensures some { IfSome result (λ l. IsCommand (codes "file drop " ++ words.now) (said l)) }
+    ensures all { (c : Command) → IsCommand (codes "file drop " ++ words.now) c → HasForm c → option_map said result ≡ Some c }
+{
+    let (in_box, name) = cut(words, b' ')?;
+    Some(DeskLine::DropFile { in_box, name })
+}
+
+// One of the five forms, whatever the forms of what it names.
+fn read_line(alloc: Global, line: &[u8]) -> Result<Option<DeskLine<'_>>, AllocError>
+    ensures some { IfOk result (λ found. IfSome found (λ l. IsCommand line.now (said l))) }
+    ensures all { IfOk result (λ found. (c : Command) → IsCommand line.now c → HasForm c → option_map said found ≡ Some c) }
+    ensures memory { IfErr result (λ e. begins_with line.now (codes "box add ") ≡ true) }
+{
+    if let Some(words) = line.strip_prefix(b"key add ") {
+        return Ok(read_key(words));
+    }
+    if let Some(id) = line.strip_prefix(b"key revoke ") {
+        return Ok(Some(DeskLine::RevokeKey { id }));
+    }
+    if let Some(words) = line.strip_prefix(b"box add ") {
+        return read_box(alloc, words);
+    }
+    if let Some(words) = line.strip_prefix(b"box close ") {
+        return Ok(read_closing(words));
+    }
+    match line.strip_prefix(b"file drop ") {
+        Some(words) => Ok(read_drop(words)),
+        None => Ok(None),
+    }
+}
 
 /// Reads a desk command: words one space apart, in one of five forms. ID, SECRET and the names of boxes and files have the
 /// forms that the office asks of them (`boxes::has_form`).
@@ -30,5 +103,8 @@ pub fn read_command(alloc: Global, line: &[u8]) -> Result<Option<DeskLine<'_>>, 
     ensures all { IfOk result (λ found. (c : Command) → IsCommand line.now c → HasForm c → option_map said found ≡ Some c) }
     ensures memory { IfErr result (λ e. begins_with line.now (codes "box add ") ≡ true) }
 {
-    Ok(None)
+    match read_line(alloc, line)? {
+        Some(read) if has_form(&read.command()) => Ok(Some(read)),
+        _ => Ok(None),
+    }
 }
