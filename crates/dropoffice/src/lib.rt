@@ -3,6 +3,7 @@
 
 mod admitting;
 pub mod clocks;
+mod desking;
 mod faults;
 mod fetching;
 mod forms;
@@ -33,5 +34,5 @@ pub use program::perform;
 pub use replay::{Replayed, replay_bytes, replay_in_memory, replay_over};
 pub use serving::serve;
 pub use session::SessionEnd;
-pub use task::{Init, Link, Replay, Serve, Task};
+pub use task::{Desk, Init, Link, Replay, Serve, Task};
 pub use wire::{Answer, Counted, Message};
