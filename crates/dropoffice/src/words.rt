@@ -10,34 +10,37 @@ use std::alloc::{AllocError, Global};
 
 // What stands below the help of `desk`: the forms of its commands, each with an example.
 const DESK_FORMS: &str = "\
-The commands, each with an example of LINE that can be given as it stands:
+The commands. Each example is a LINE that can be given as it stands:
 
   key add ID ROLE SECRET
-      Adds a key. ROLE is clerk, which may also command the desk, or link, for files alone
+      Adds a key.
+        ID             1 to 64 of A-Z a-z 0-9 - _
+        ROLE           clerk, for the desk and for files, or link, for files alone
+        SECRET         1 to 128 visible ASCII characters without spaces
       Example: key add tender-2 link 3kQz7mWx0PbT
 
   key revoke ID
-      Ends a key for good: what it signed is refused from now on. One clerk's key always stays
+      Ends a key for good: its links are refused from then on. The last clerk's key cannot be revoked.
       Example: key revoke tender-2
 
   box add NAME OPENS CLOSES DAYS FROM TO QUOTA FILES MODE RULE
-      Adds a box. All these are given, in this order:
+      Adds a box. All of these are given, in this order.
         NAME           1 to 63 of a-z 0-9 - .
-        OPENS, CLOSES  When uploads begin and when they end, in UTC: 20261201T080000Z
-        DAYS           The days it is open, Monday first, 1 open, 0 shut: 1111100 is Monday to Friday
-        FROM, TO       The hours it is open on such a day, by the office's clock: 0000 to 2400
-        QUOTA          How many bytes it holds: 0 to 1000000000000
-        FILES          How many files it holds: 0 to 1000000
-        MODE           keep: a file that is there stays. replace: a new one takes its place
-        RULE           The names it takes: any, ends .pdf,.zip or begins offer-
+        OPENS, CLOSES  when uploads begin and when they end, in UTC: 20261201T080000Z
+        DAYS           the days it is open, Monday first, 1 open, 0 shut: 1111100 is Monday to Friday
+        FROM, TO       its hours on such a day by the office's clock, 0000 to 2400: 0800 1800
+        QUOTA          the most bytes it holds, 0 to 1000000000000
+        FILES          the most files it holds, 0 to 1000000
+        MODE           keep, where a file stays as it is, or replace, where another of its name takes its place
+        RULE           any for all names, ends .pdf,.zip for those that end so, begins offer- for those that begin so
       Example: box add roadworks 20261201T080000Z 20261215T110000Z 1111100 0800 1800 1000000000 500 keep ends .pdf,.zip
 
   box close NAME MOMENT
-      Sets when the box's uploads end, in UTC
+      Sets when uploads to a box end, in UTC.
       Example: box close roadworks 20261210T110000Z
 
   file drop BOX NAME
-      Takes a file out of its box. Spaces in NAME are kept. Its receipt stays
+      Takes a file out of a box. Its receipt stays. NAME may hold spaces.
       Example: file drop roadworks plan 2.pdf
 
 For an office file called office:
@@ -99,7 +102,7 @@ fn desk_command<'a>(alloc: Global) -> Result<Command<'a>, AllocError>
     ensures local { IfOk result (λ c. (out-Command c).has_globals ≡ false) }
 {
     Command::new(alloc, "desk")
-        .about("Gives the desk of an office one command, as its clerk")
+        .about("Gives the desk of an office one command, about a key, a box or a file")
         .after_help(DESK_FORMS)
         .arg(word(alloc, "file", "FILE", "The office file"))?
         .arg(word(
