@@ -261,9 +261,8 @@ def test_words(drop, count):
 
 def examples():
     """The lines that the help shows as examples."""
-    text = (kit.ROOT / "ci" / "desk.help").read_text()
-    return [line.strip() for line in text.splitlines() if line.strip().split(" ")[0] in ["key", "box", "file"] and not any(
-        word.isupper() and word.isalpha() for word in line.split())]
+    lines = (kit.ROOT / "ci" / "desk.help").read_text().splitlines()
+    return [line.partition("Example: ")[2] for line in lines if "Example: " in line]
 
 
 def test_examples(drop, count):

@@ -87,7 +87,7 @@ def test_drop(program, count):
         ([*replay, "now"], fault("malformed value: at")),
         (["serve", "none", "--connections", "1", "--listen", "now"], fault("malformed value: listen")),
         (["--help"], kit.Run(0, help_of("drop"), b"")),
-        *(([name, "--help"], kit.Run(0, help_of(name), b"")) for name in ["init", "link", "replay", "serve"]),
+        *(([name, "--help"], kit.Run(0, help_of(name), b"")) for name in ["init", "desk", "link", "replay", "serve"]),
         (["replay"], kit.run([program, "replay"])),
     ]:
         name = f"drop {' '.join(words)}"

@@ -1,8 +1,8 @@
 """Runs the proved program `drop` on streams of requests and on words, and compares all that it writes, and its status.
 
 The answers that are owed come from the table of refusals in docs/RULES.md, the signatures from Python's `hmac`
-(ci/expected.py), the lines on standard error from README.md, and the help from ci/drop.help and ci/replay.help, whose
-lines were read and found true. The last line is `N passed, M failed`.
+(ci/expected.py), the lines on standard error from README.md, and the help from ci/drop.help, ci/desk.help and
+ci/replay.help, whose lines were read and found true. The last line is `N passed, M failed`.
 """
 
 import contextlib
@@ -378,7 +378,13 @@ NO_TASK = [
     (["replay"], "error: the following required arguments were not provided:"),
     (["replay", "f", "--at", "m"], "error: the following required arguments were not provided:"),
     (["replay", "f", "s"], "error: the following required arguments were not provided:"),
-    ([], "A file drop for offices: makes an office, writes links to its files, and answers requests that carry them"),
+    (["desk"], "error: the following required arguments were not provided:"),
+    (["desk", "f"], "error: the following required arguments were not provided:"),
+    (["desk", "f", "key revoke k", "k"], "error: unexpected argument 'k' found"),
+    (["desk", "f", "key", "revoke", "k"], "error: unexpected argument 'revoke' found"),
+    (["desk", "f", "-k"], "error: unexpected argument '-k' found"),
+    (["desk", "f", "key revoke k", "--at", "m"], "error: unexpected argument '--at' found"),
+    ([], "A file drop for offices: makes an office, runs its desk, writes links to its files, and answers requests that carry them"),
 ]
 
 
@@ -394,6 +400,7 @@ def test_words(program, folder, count):
     for words in [[b"\xff"], ["replay", OFFICE, b"\xff", "--at", MOMENT], ["replay", OFFICE, stream, "--at", b"\x80"]]:
         count.add(f"drop {words}", difference(kit.run([program, *words]), fault("the words are not text")))
     for words, name in [(["--help"], "drop"), (["-h"], "drop"), (["help"], "drop"),
+                        (["desk", "--help"], "desk"), (["desk", "-h"], "desk"), (["help", "desk"], "desk"),
                         (["replay", "--help"], "replay"), (["help", "replay"], "replay")]:
         owed = kit.Run(0, (kit.ROOT / "ci" / f"{name}.help").read_bytes(), b"")
         count.add(f"drop {words}", difference(kit.run([program, *words]), owed))

@@ -8,17 +8,17 @@ use Rattle.clap.specs.Faults.{fault_of, is_simple_and_free, level_fault}
 use Rattle.clap.specs.Walk.{Row, Text, answers_to, nothing_held, rows_after}
 use Rattle.clap.specs.Words.{App, subcommand_of}
 use Rattle.clap.proofs.OnLiterals.{clap_on_literals}
-use Rattle.dropoffice.specs.Tasks.{HasInit, HasLink, HasReplay, HasServe, NamesTask, at_rule, clerk_rule, connections_rule, drop_app, east_rule, expires_rule, file_rule, host_rule, init_app, key_rule, link_app, listen_rule, method_rule, patience_rule, region_rule, replay_app, secret_rule, serve_app, start_rule, streams_rule, target_app, target_rule, west_rule}
+use Rattle.dropoffice.specs.Tasks.{HasDesk, HasInit, HasLink, HasReplay, HasServe, NamesTask, at_rule, clerk_rule, connections_rule, desk_app, drop_app, east_rule, expires_rule, file_rule, host_rule, init_app, key_rule, line_rule, link_app, listen_rule, method_rule, patience_rule, region_rule, replay_app, secret_rule, serve_app, start_rule, streams_rule, target_app, target_rule, west_rule}
 use Rattle.dropoffice.proofs.FullRows.{fills}
 use Rattle.dropoffice.proofs.Defaulted.{all_given, default_value, has_default}
 use Rattle.dropoffice.proofs.FaultFree.{Enters, enters, needed_value, needs}
 
 pub simple : is_simple drop_app ≡ true
-unfolding drop_app init_app link_app target_app replay_app serve_app file_rule streams_rule at_rule method_rule target_rule clerk_rule secret_rule key_rule host_rule region_rule start_rule expires_rule east_rule west_rule listen_rule connections_rule patience_rule clap_on_literals
+unfolding drop_app init_app desk_app link_app target_app replay_app serve_app file_rule line_rule streams_rule at_rule method_rule target_rule clerk_rule secret_rule key_rule host_rule region_rule start_rule expires_rule east_rule west_rule listen_rule connections_rule patience_rule clap_on_literals
 simple = refl
 
 pub simple_and_free : is_simple_and_free drop_app ≡ true
-unfolding drop_app init_app link_app target_app replay_app serve_app file_rule streams_rule at_rule method_rule target_rule clerk_rule secret_rule key_rule host_rule region_rule start_rule expires_rule east_rule west_rule listen_rule connections_rule patience_rule clap_on_literals
+unfolding drop_app init_app desk_app link_app target_app replay_app serve_app file_rule line_rule streams_rule at_rule method_rule target_rule clerk_rule secret_rule key_rule host_rule region_rule start_rule expires_rule east_rule west_rule listen_rule connections_rule patience_rule clap_on_literals
 simple_and_free = refl
 
 -- ---- the commands as clap builds them
@@ -30,6 +30,9 @@ settings = (on_top with_leaf_noted (on_top marked_built drop_app)).top
 
 init_built : Shape
 init_built = built_leaf (inherited settings init_app.top)
+
+desk_built : Shape
+desk_built = built_leaf (inherited settings desk_app.top)
 
 link_built : Shape
 link_built = built_leaf (inherited settings link_app.top)
@@ -43,8 +46,8 @@ serve_built = built_leaf (inherited settings serve_app.top)
 help_built : Shape
 help_built = built_leaf help_shape
 
-commands : (built drop_app).subs ≡ init_built ∷ link_built ∷ replay_built ∷ serve_built ∷ help_built ∷ []
-unfolding drop_app settings init_built link_built replay_built serve_built help_built
+commands : (built drop_app).subs ≡ init_built ∷ desk_built ∷ link_built ∷ replay_built ∷ serve_built ∷ help_built ∷ []
+unfolding drop_app settings init_built desk_built link_built replay_built serve_built help_built
 commands = refl
 
 has_help : (built drop_app).top.disable_help_subcommand ≡ false
@@ -98,6 +101,32 @@ init_values words free =
       default_value init_built words init_fills free (codes "east") init_has_east,
       default_value init_built words init_fills free (codes "west") init_has_west,
     )
+
+-- ---- desk
+
+desk_name : desk_built.name ≡ codes "desk"
+unfolding desk_built settings drop_app desk_app
+desk_name = refl
+
+desk_fills : list_all fills desk_built.rules ≡ true
+unfolding desk_built settings drop_app desk_app file_rule line_rule
+desk_fills = refl
+
+desk_asks : desk_built.subcommand_negates_reqs ≡ false
+unfolding desk_built settings drop_app desk_app
+desk_asks = refl
+
+desk_needs_file : needs (codes "file") desk_built.rules ≡ true
+unfolding desk_built settings drop_app desk_app file_rule line_rule
+desk_needs_file = refl
+
+desk_needs_line : needs (codes "line") desk_built.rules ≡ true
+unfolding desk_built settings drop_app desk_app file_rule line_rule
+desk_needs_line = refl
+
+desk_values : (words : List Text) → level_fault desk_built [] nothing_held words false [] ≡ [] → HasDesk (rows_after desk_built.rules [] words)
+desk_values words free =
+    let given = needed_value desk_built words desk_fills desk_asks free in (given (codes "file") desk_needs_file, given (codes "line") desk_needs_line)
 
 -- ---- link
 
@@ -245,20 +274,21 @@ help_named name elsewhere = go (bytes_eq (codes "help") name) (bytes_eq-Decides 
         absurd bad
 
 found_task : (name : Text) (s : Shape) → bytes_eq name (codes "help") ≡ false
-    → find (λ x. answers_to name (label_of x)) (init_built ∷ link_built ∷ replay_built ∷ serve_built ∷ help_built ∷ []) ≡ Some s
-    → (init_built ≡ s) ⊎ ((link_built ≡ s) ⊎ ((replay_built ≡ s) ⊎ (serve_built ≡ s)))
+    → find (λ x. answers_to name (label_of x)) (init_built ∷ desk_built ∷ link_built ∷ replay_built ∷ serve_built ∷ help_built ∷ []) ≡ Some s
+    → (init_built ≡ s) ⊎ ((desk_built ≡ s) ⊎ ((link_built ≡ s) ⊎ ((replay_built ≡ s) ⊎ (serve_built ≡ s))))
 found_task name s elsewhere found =
-    go (answers_to name (label_of init_built)) (answers_to name (label_of link_built)) (answers_to name (label_of replay_built)) (answers_to name (label_of serve_built)) (answers_to name (label_of help_built)) (help_named name elsewhere) found
+    go (answers_to name (label_of init_built)) (answers_to name (label_of desk_built)) (answers_to name (label_of link_built)) (answers_to name (label_of replay_built)) (answers_to name (label_of serve_built)) (answers_to name (label_of help_built)) (help_named name elsewhere) found
   where
-    go : (a b c v d : Bool) → d ≡ false
-        → cond a (Some init_built) (cond b (Some link_built) (cond c (Some replay_built) (cond v (Some serve_built) (cond d (Some help_built) None)))) ≡ Some s
-        → (init_built ≡ s) ⊎ ((link_built ≡ s) ⊎ ((replay_built ≡ s) ⊎ (serve_built ≡ s)))
-    go true b c v d e at = inl cc
-    go false true c v d e at = inr (inl cc)
-    go false false true v d e at = inr (inr (inl cc))
-    go false false false true d e at = inr (inr (inr cc))
-    go false false false false true e at = let bad : ⊥ = cc in absurd bad
-    go false false false false false e at = let bad : ⊥ = cc in absurd bad
+    go : (a k b c v d : Bool) → d ≡ false
+        → cond a (Some init_built) (cond k (Some desk_built) (cond b (Some link_built) (cond c (Some replay_built) (cond v (Some serve_built) (cond d (Some help_built) None))))) ≡ Some s
+        → (init_built ≡ s) ⊎ ((desk_built ≡ s) ⊎ ((link_built ≡ s) ⊎ ((replay_built ≡ s) ⊎ (serve_built ≡ s))))
+    go true k b c v d e at = inl cc
+    go false true b c v d e at = inr (inl cc)
+    go false false true c v d e at = inr (inr (inl cc))
+    go false false false true v d e at = inr (inr (inr (inl cc)))
+    go false false false false true d e at = inr (inr (inr (inr cc)))
+    go false false false false false true e at = let bad : ⊥ = cc in absurd bad
+    go false false false false false false e at = let bad : ⊥ = cc in absurd bad
 
 -- the words name the command of this shape, and have no fault in it
 module _ (words : List Text) (e : Enters (built drop_app) (argument_words drop_app words)) (s : Shape) (is : s ≡ e.shape) where
@@ -271,13 +301,14 @@ module _ (words : List Text) (e : Enters (built drop_app) (argument_words drop_a
 pub task_named : (words : List Text) → fault_of drop_app words ≡ [] → NamesTask (subcommand_of drop_app words)
 task_named words free =
     let e = enters (built drop_app) (argument_words drop_app words) has_help needs_command free in
-    let found : find (λ s. answers_to e.name (label_of s)) (init_built ∷ link_built ∷ replay_built ∷ serve_built ∷ help_built ∷ []) ≡ Some e.shape =
+    let found : find (λ s. answers_to e.name (label_of s)) (init_built ∷ desk_built ∷ link_built ∷ replay_built ∷ serve_built ∷ help_built ∷ []) ≡ Some e.shape =
     ap (find (λ s. answers_to e.name (label_of s))) (sym commands) ∙ e.found in
     elim (found_task e.name e.shape e.not_help found) [
       | inl is ↦ inl (rows_after init_built.rules [] e.rest, rows_named words e init_built is (codes "init") init_name, init_values e.rest (free_here words e init_built is))
-      | inr (inl is) ↦ inr (inl (rows_after link_built.rules [] e.rest, rows_named words e link_built is (codes "link") link_name, link_values e.rest (free_here words e link_built is)))
-      | inr (inr (inl is)) ↦ inr (inr (inl (rows_after replay_built.rules [] e.rest, rows_named words e replay_built is (codes "replay") replay_name, replay_values e.rest (free_here words e replay_built is))))
-      | inr (inr (inr is)) ↦ inr (inr (inr (rows_after serve_built.rules [] e.rest, rows_named words e serve_built is (codes "serve") serve_name, serve_values e.rest (free_here words e serve_built is))))
+      | inr (inl is) ↦ inr (inl (rows_after desk_built.rules [] e.rest, rows_named words e desk_built is (codes "desk") desk_name, desk_values e.rest (free_here words e desk_built is)))
+      | inr (inr (inl is)) ↦ inr (inr (inl (rows_after link_built.rules [] e.rest, rows_named words e link_built is (codes "link") link_name, link_values e.rest (free_here words e link_built is))))
+      | inr (inr (inr (inl is))) ↦ inr (inr (inr (inl (rows_after replay_built.rules [] e.rest, rows_named words e replay_built is (codes "replay") replay_name, replay_values e.rest (free_here words e replay_built is)))))
+      | inr (inr (inr (inr is))) ↦ inr (inr (inr (inr (rows_after serve_built.rules [] e.rest, rows_named words e serve_built is (codes "serve") serve_name, serve_values e.rest (free_here words e serve_built is)))))
     ]
 
 -- ---- of a command that reads as the program's own

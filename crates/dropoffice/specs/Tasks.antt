@@ -4,6 +4,7 @@ use Rattle.clap.specs.Lexer.{usize_max}
 use Rattle.clap.specs.Words.{App, Row, Rule, Text, all_of, first_of, new_app, new_rule, subcommand_of, with_rule, with_subcommand}
 use Rattle.clap.specs.Simple.{on_top}
 use Rattle.clap.specs.declared.builder.value_parser.ValueParser.TheVariants.{Unsigned}
+use Rattle.dropoffice.specs.declared.task.Desk.{Desk}
 use Rattle.dropoffice.specs.declared.task.Init.{Init}
 use Rattle.dropoffice.specs.declared.task.Link.{Link}
 use Rattle.dropoffice.specs.declared.task.Replay.{Replay}
@@ -32,6 +33,10 @@ streams_rule = record (word_rule (codes "stream")) { range = Some (record { star
 -- --at MOMENT
 unfoldable pub at_rule : Rule
 at_rule = option_rule (codes "at")
+
+-- LINE
+unfoldable pub line_rule : Rule
+line_rule = word_rule (codes "line")
 
 -- METHOD, TARGET
 unfoldable pub method_rule : Rule
@@ -91,6 +96,10 @@ west_rule = minutes_rule (codes "west")
 unfoldable pub init_app : App
 init_app = with_rule (with_rule (with_rule (with_rule (with_rule (new_app (codes "init")) file_rule) clerk_rule) secret_rule) east_rule) west_rule
 
+-- desk FILE LINE
+unfoldable pub desk_app : App
+desk_app = with_rule (with_rule (new_app (codes "desk")) file_rule) line_rule
+
 -- FILE METHOD TARGET
 unfoldable pub target_app : App
 target_app = with_rule (with_rule (with_rule (new_app (codes "link")) file_rule) method_rule) target_rule
@@ -111,7 +120,7 @@ serve_app = with_rule (with_rule (with_rule (with_rule (new_app (codes "serve"))
 unfoldable pub drop_app : App
 drop_app =
     let needs_command = on_top (λ s. record s { subcommand_required = true; arg_required_else_help = true }) (new_app (codes "drop")) in
-    with_subcommand (with_subcommand (with_subcommand (with_subcommand needs_command init_app.top) link_app.top) replay_app.top) serve_app.top
+    with_subcommand (with_subcommand (with_subcommand (with_subcommand (with_subcommand needs_command init_app.top) desk_app.top) link_app.top) replay_app.top) serve_app.top
 
 -- ---- the values that the matches give
 
@@ -123,6 +132,11 @@ IsInitOf rows i =
     × (first_of (codes "secret") rows ≡ Some i.secret.now)
     × (first_of (codes "east") rows ≡ Some i.east.now)
     × (first_of (codes "west") rows ≡ Some i.west.now)
+
+abbrev pub IsDeskIn : List Row → Desk → Type 0
+IsDeskIn rows d =
+    (first_of (codes "file") rows ≡ Some d.file.now)
+    × (first_of (codes "line") rows ≡ Some d.line.now)
 
 abbrev pub IsLinkIn : List Row → Link → Type 0
 IsLinkIn rows l =
@@ -157,6 +171,9 @@ abbrev pub HasInit : List Row → Type 0
 HasInit rows =
     HasValue (codes "file") rows × HasValue (codes "clerk") rows × HasValue (codes "secret") rows × HasValue (codes "east") rows × HasValue (codes "west") rows
 
+abbrev pub HasDesk : List Row → Type 0
+HasDesk rows = HasValue (codes "file") rows × HasValue (codes "line") rows
+
 abbrev pub HasLink : List Row → Type 0
 HasLink rows =
     HasValue (codes "file") rows × HasValue (codes "method") rows × HasValue (codes "target") rows × HasValue (codes "key") rows
@@ -175,12 +192,16 @@ HasServe rows =
 -- the command that the words name, with its matches, is this task
 abbrev pub IsTaskIn : Option (Text × List Row) → Task → Type 0
 IsTaskIn named (task.Init i) = (rows : List Row) × (named ≡ Some (codes "init", rows)) × IsInitOf rows i
+IsTaskIn named (task.Desk d) = (rows : List Row) × (named ≡ Some (codes "desk", rows)) × IsDeskIn rows d
 IsTaskIn named (task.Link l) = (rows : List Row) × (named ≡ Some (codes "link", rows)) × IsLinkIn rows l
 IsTaskIn named (task.Replay r) = (rows : List Row) × (named ≡ Some (codes "replay", rows)) × IsReplayOf rows r
 IsTaskIn named (task.Serve s) = (rows : List Row) × (named ≡ Some (codes "serve", rows)) × IsServeIn rows s
 
 abbrev pub NamesInit : Option (Text × List Row) → Type 0
 NamesInit named = (rows : List Row) × (named ≡ Some (codes "init", rows)) × HasInit rows
+
+abbrev pub NamesDesk : Option (Text × List Row) → Type 0
+NamesDesk named = (rows : List Row) × (named ≡ Some (codes "desk", rows)) × HasDesk rows
 
 abbrev pub NamesLink : Option (Text × List Row) → Type 0
 NamesLink named = (rows : List Row) × (named ≡ Some (codes "link", rows)) × HasLink rows
@@ -193,7 +214,7 @@ NamesServe named = (rows : List Row) × (named ≡ Some (codes "serve", rows)) �
 
 -- the command that the words name, with its matches, is a task
 abbrev pub NamesTask : Option (Text × List Row) → Type 0
-NamesTask named = NamesInit named ⊎ (NamesLink named ⊎ (NamesReplay named ⊎ NamesServe named))
+NamesTask named = NamesInit named ⊎ (NamesDesk named ⊎ (NamesLink named ⊎ (NamesReplay named ⊎ NamesServe named)))
 
 -- the words name this task
 abbrev pub IsTaskOf : List Text → Task → Type 0

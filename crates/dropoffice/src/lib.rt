@@ -4,6 +4,7 @@
 mod admitting;
 pub mod clocks;
 pub mod commanding;
+mod desking;
 mod faults;
 mod fetching;
 mod forms;
@@ -35,5 +36,5 @@ pub use program::perform;
 pub use replay::{Replayed, replay_bytes, replay_in_memory, replay_over};
 pub use serving::serve;
 pub use session::SessionEnd;
-pub use task::{Init, Link, Replay, Serve, Task};
+pub use task::{Desk, Init, Link, Replay, Serve, Task};
 pub use wire::{Answer, Counted, Message};

@@ -1,4 +1,5 @@
 //! The program: what its words ask for is done on the streams that it is handed.
+use crate::desking::do_desk;
 use crate::faults::Fault;
 use crate::init::do_init;
 use crate::linking::do_link;
@@ -31,6 +32,7 @@ pub fn perform(
 ) -> u8 {
     match Task::read(rt.alloc(), words) {
         Ok(Task::Init(words)) => status_of(do_init(rt, &words), &mut err),
+        Ok(Task::Desk(words)) => status_of(do_desk(rt, &words, &mut out), &mut err),
         Ok(Task::Link(words)) => status_of(do_link(rt, &words, &mut out), &mut err),
         Ok(Task::Serve(words)) => status_of(do_serve(rt, &words, &mut out), &mut err),
         Ok(Task::Replay(words)) => status_of(do_replay(rt, &words, out), &mut err),

@@ -1,7 +1,7 @@
 //! What the program's words ask for.
 ghost use Rattle.std.specs.Prelude.{◌≡◌, IfOk, IfErr, IfSome, IsSome, Some, is_some, true, map};
 ghost use Rattle.clap.specs.Words.{all_of, fault_of, first_of, found_of, kind_of, rows_of, subcommand_rows_of, takes, FailsBy};
-ghost use Rattle.dropoffice.specs.Tasks.{drop_app, HasInit, HasLink, HasReplay, HasServe, HasValue, IsInitOf, IsLinkIn, IsReplayOf, IsServeIn, IsTaskIn, IsTaskOf, NamesInit, NamesLink, NamesReplay, NamesServe, NamesTask};
+ghost use Rattle.dropoffice.specs.Tasks.{drop_app, HasDesk, HasInit, HasLink, HasReplay, HasServe, HasValue, IsDeskIn, IsInitOf, IsLinkIn, IsReplayOf, IsServeIn, IsTaskIn, IsTaskOf, NamesDesk, NamesInit, NamesLink, NamesReplay, NamesServe, NamesTask};
 
 use crate::words::command_line;
 use clap::error::ErrorKind;
@@ -13,6 +13,8 @@ use std::alloc::{AllocError, Global};
 pub enum Task<'a> {
     /// Make an office file.
     Init(Init<'a>),
+    /// Do a command of the desk.
+    Desk(Desk<'a>),
     /// Write a link.
     Link(Link<'a>),
     /// Answer recorded connections.
@@ -35,6 +37,16 @@ pub struct Init<'a> {
     pub east: &'a str,
     /// How many minutes it is behind UTC.
     pub west: &'a str,
+}
+
+/// The words of `drop desk FILE LINE`, each as it was given: no form is asked of them here. It has no `Debug`, since a line
+/// may hold a secret.
+#[derive(Clone, Copy)]
+pub struct Desk<'a> {
+    /// The office file.
+    pub file: &'a str,
+    /// The desk command.
+    pub line: &'a str,
 }
 
 /// The words of `drop link FILE METHOD TARGET --key ID --host H --region R --start MOMENT --expires N`, each as it was given.
@@ -112,6 +124,9 @@ impl<'a> Task<'a> {
         if let Some(task) = Task::init_in(matches) {
             return Ok(Some(task));
         }
+        if let Some(task) = Task::desk_in(matches) {
+            return Ok(Some(task));
+        }
         if let Some(task) = Task::link_in(matches) {
             return Ok(Some(task));
         }
@@ -127,6 +142,14 @@ impl<'a> Task<'a> {
     {
         let values = matches.subcommand_matches("init")?;
         Some(Task::Init(Init::of_matches(values)?))
+    }
+
+    fn desk_in(matches: &ArgMatches<'a>) -> Option<Task<'a>>
+        ensures task { IfSome result (IsTaskIn (subcommand_rows_of matches.now)) }
+        ensures named { NamesDesk (subcommand_rows_of matches.now) → IsSome result }
+    {
+        let values = matches.subcommand_matches("desk")?;
+        Some(Task::Desk(Desk::of_matches(values)?))
     }
 
     fn link_in(matches: &ArgMatches<'a>) -> Option<Task<'a>>
@@ -170,6 +193,18 @@ impl<'a> Init<'a> {
             secret: value_of(values, "secret")?,
             east: value_of(values, "east")?,
             west: value_of(values, "west")?,
+        })
+    }
+}
+
+impl<'a> Desk<'a> {
+    fn of_matches(values: &ArgMatches<'a>) -> Option<Desk<'a>>
+        ensures values { IfSome result (IsDeskIn (rows_of (found_of values.now))) }
+        ensures given { HasDesk (rows_of (found_of values.now)) → IsSome result }
+    {
+        Some(Desk {
+            file: value_of(values, "file")?,
+            line: value_of(values, "line")?,
         })
     }
 }

@@ -2,11 +2,49 @@
 ghost use Rattle.std.specs.Prelude.{◌≡◌, IfOk, false};
 ghost use Rattle.clap.specs.Words.{app_of, rule_of};
 ghost use Rattle.clap.specs.declared.builder.command.Command.TheViews.{out-Command};
-ghost use Rattle.dropoffice.specs.Tasks.{drop_app, init_app, link_app, replay_app, serve_app, target_app, connections_rule, expires_rule, minutes_rule, option_rule, patience_rule, streams_rule, word_rule};
+ghost use Rattle.dropoffice.specs.Tasks.{desk_app, drop_app, init_app, link_app, replay_app, serve_app, target_app, connections_rule, expires_rule, minutes_rule, option_rule, patience_rule, streams_rule, word_rule};
 
 use clap::builder::ValueParser;
 use clap::{Arg, Command};
 use std::alloc::{AllocError, Global};
+
+// What stands below the help of `desk`: the forms of its commands, each with an example.
+const DESK_FORMS: &str = "\
+The commands. Each example is a LINE that can be given as it stands:
+
+  key add ID ROLE SECRET
+      Adds a key.
+        ID             1 to 64 of A-Z a-z 0-9 - _
+        ROLE           clerk, for the desk and for files, or link, for files alone
+        SECRET         1 to 128 visible ASCII characters without spaces
+      Example: key add tender-2 link 3kQz7mWx0PbT
+
+  key revoke ID
+      Ends a key for good: its links are refused from then on. The last clerk's key cannot be revoked.
+      Example: key revoke tender-2
+
+  box add NAME OPENS CLOSES DAYS FROM TO QUOTA FILES MODE RULE
+      Adds a box. All of these are given, in this order.
+        NAME           1 to 63 of a-z 0-9 - .
+        OPENS, CLOSES  when uploads begin and when they end, in UTC: 20261201T080000Z
+        DAYS           the days it is open, Monday first, 1 open, 0 shut: 1111100 is Monday to Friday
+        FROM, TO       its hours on such a day by the office's clock, 0000 to 2400: 0800 1800
+        QUOTA          the most bytes it holds, 0 to 1000000000000
+        FILES          the most files it holds, 0 to 1000000
+        MODE           keep, where a file stays as it is, or replace, where another of its name takes its place
+        RULE           any for all names, ends .pdf,.zip for those that end so, begins offer- for those that begin so
+      Example: box add roadworks 20261201T080000Z 20261215T110000Z 1111100 0800 1800 1000000000 500 keep ends .pdf,.zip
+
+  box close NAME MOMENT
+      Sets when uploads to a box end, in UTC.
+      Example: box close roadworks 20261210T110000Z
+
+  file drop BOX NAME
+      Takes a file out of a box. Its receipt stays. NAME may hold spaces.
+      Example: file drop roadworks plan 2.pdf
+
+For an office file called office:
+  drop desk office 'key revoke tender-2'";
 
 /// `drop COMMAND`.
 pub(crate) fn command_line<'a>(alloc: Global) -> Result<Command<'a>, AllocError>
@@ -14,11 +52,12 @@ pub(crate) fn command_line<'a>(alloc: Global) -> Result<Command<'a>, AllocError>
 {
     Command::new(alloc, "drop")
         .about(
-            "A file drop for offices: makes an office, writes links to its files, and answers requests that carry them",
+            "A file drop for offices: makes an office, runs its desk, writes links to its files, and answers requests that carry them",
         )
         .subcommand_required(true)
         .arg_required_else_help(true)
         .subcommand(init_command(alloc)?)?
+        .subcommand(desk_command(alloc)?)?
         .subcommand(link_command(alloc)?)?
         .subcommand(replay_command(alloc)?)?
         .subcommand(serve_command(alloc)?)
@@ -57,6 +96,23 @@ fn init_command<'a>(alloc: Global) -> Result<Command<'a>, AllocError>
         .arg(minutes(alloc, "west", "How many minutes it is behind UTC: 0 to 840"))
 }
 
+// `desk FILE LINE`.
+fn desk_command<'a>(alloc: Global) -> Result<Command<'a>, AllocError>
+    ensures app { IfOk result (λ c. app_of c ≡ desk_app) }
+    ensures local { IfOk result (λ c. (out-Command c).has_globals ≡ false) }
+{
+    Command::new(alloc, "desk")
+        .about("Gives the desk of an office one command, about a key, a box or a file")
+        .after_help(DESK_FORMS)
+        .arg(word(alloc, "file", "FILE", "The office file"))?
+        .arg(word(
+            alloc,
+            "line",
+            "LINE",
+            "One command of the desk, in quotes, so that it is one word",
+        ))
+}
+
 // `link FILE METHOD TARGET --key ID --host H --region R --start MOMENT --expires N`.
 fn link_command<'a>(alloc: Global) -> Result<Command<'a>, AllocError>
     ensures app { IfOk result (λ c. app_of c ≡ link_app) }
@@ -91,19 +147,19 @@ fn target_command<'a>(alloc: Global) -> Result<Command<'a>, AllocError>
     ensures local { IfOk result (λ c. (out-Command c).has_globals ≡ false) }
 {
     Command::new(alloc, "link")
-        .about("Writes a link to a file of an office, signed by one of its keys")
+        .about("Writes a link to a file of an office, or to its desk, signed by one of its keys")
         .arg(word(alloc, "file", "FILE", "The office file"))?
         .arg(word(
             alloc,
             "method",
             "METHOD",
-            "PUT to upload, GET or HEAD to fetch",
+            "PUT to upload, GET or HEAD to fetch, POST for a desk command",
         ))?
         .arg(word(
             alloc,
             "target",
             "TARGET",
-            "The box and the file's name: box/name",
+            "The box and the file's name: box/name. For POST the desk command",
         ))
 }
 

@@ -17,7 +17,8 @@ returns c =
     let required = ap app_of_fields c.subcommand_required.ensures ∙ ap needing_a_command (ap app_of_fields c.about.ensures ∙ c.new.ensures.app) in
     let start = ap app_of_fields c.arg_required_else_help.ensures ∙ ap helping required in
     let with_init = c.in_ok-subcommand.ensures.shape c.in_ok-init_command.ensures.local ∙ ap₂ with_subcommand start (ap (λ (a : App). a.top) c.in_ok-init_command.ensures.app) in
-    let with_link = c.in_ok-subcommand-2.ensures.shape c.in_ok-link_command.ensures.local ∙ ap₂ with_subcommand with_init (ap (λ (a : App). a.top) c.in_ok-link_command.ensures.app) in
-    let with_replay = c.in_ok-subcommand-3.ensures.shape c.in_ok-replay_command.ensures.local ∙ ap₂ with_subcommand with_link (ap (λ (a : App). a.top) c.in_ok-replay_command.ensures.app) in
-    IfOk-weaker c.subcommand-4.result _ _ (λ r added. added.shape c.in_ok-serve_command.ensures.local
-    ∙ ap₂ with_subcommand with_replay (ap (λ (a : App). a.top) c.in_ok-serve_command.ensures.app)) c.subcommand-4.ensures
+    let with_desk = c.in_ok-subcommand-2.ensures.shape c.in_ok-desk_command.ensures.local ∙ ap₂ with_subcommand with_init (ap (λ (a : App). a.top) c.in_ok-desk_command.ensures.app) in
+    let with_link = c.in_ok-subcommand-3.ensures.shape c.in_ok-link_command.ensures.local ∙ ap₂ with_subcommand with_desk (ap (λ (a : App). a.top) c.in_ok-link_command.ensures.app) in
+    let with_replay = c.in_ok-subcommand-4.ensures.shape c.in_ok-replay_command.ensures.local ∙ ap₂ with_subcommand with_link (ap (λ (a : App). a.top) c.in_ok-replay_command.ensures.app) in
+    IfOk-weaker c.subcommand-5.result _ _ (λ r added. added.shape c.in_ok-serve_command.ensures.local
+    ∙ ap₂ with_subcommand with_replay (ap (λ (a : App). a.top) c.in_ok-serve_command.ensures.app)) c.subcommand-5.ensures
