@@ -99,7 +99,7 @@ fn line_of<K: Keeper>(
     let order = LinkOrder {
         method: order.method.text(),
         path: path.as_bytes(),
-        params: if to_desk { &command } else { &[] },
+        params: &command[..usize::from(to_desk)],
         headers: &[],
         start: order.start,
         expires: order.expires,
