@@ -71,6 +71,13 @@ serve() {
     "$python" -B ci/serve.py
 }
 
+desk() {
+    local python
+    with_command curl || return 1
+    python=$(with_boto3) || return 1
+    "$python" -B ci/desk.py
+}
+
 interop() {
     local python
     python=$(with_boto3) || return 1
@@ -83,6 +90,7 @@ count "ci/rows.py --check" python3 -B ci/rows.py --check
 count "ci/replays.py" python3 -B ci/replays.py
 count "ci/office.py" office
 count "ci/serve.py" serve
+count "ci/desk.py" desk
 count "ci/memory.py" python3 -B ci/memory.py
 count "ci/interop.py" interop
 echo
