@@ -4,7 +4,7 @@ use crate::published::{DATE, ID, SECRET};
 use boxes::{BoxRow, Change, Command, Mode, NameRule, OfficeRow};
 use dropoffice::{Counted, FixedClock, Office, SessionEnd};
 use keeper::{KeepFault, Keeper, Shelf};
-use links::{LinkKey, LinkOrder, write_link};
+use links::{LinkKey, LinkOrder, OrderParam, write_link};
 use sigv4::Moment;
 use std::alloc::Global;
 use std::test::Fail;
@@ -56,6 +56,7 @@ pub struct Asked<'a> {
     pub path: &'a [u8],
     pub body: Option<&'a [u8]>,
     pub start: &'a [u8; 16],
+    pub params: &'a [OrderParam<'a>],
 }
 
 impl Asked<'_> {
@@ -64,7 +65,7 @@ impl Asked<'_> {
         let order = LinkOrder {
             method: self.method,
             path: self.path,
-            params: &[],
+            params: self.params,
             headers: &[],
             start: Moment::read(self.start).ok_or("no moment")?,
             expires: 604_800,
@@ -98,6 +99,7 @@ pub fn put<'a>(alloc: Global, path: &'a [u8], body: &'a [u8]) -> Result<Vec<u8>,
         path,
         body: Some(body),
         start: DATE,
+        params: &[],
     };
     asked.message(alloc)
 }
@@ -110,6 +112,24 @@ pub fn bare<'a>(alloc: Global, method: &'a [u8], path: &'a [u8]) -> Result<Vec<u
         path,
         body: None,
         start: DATE,
+        params: &[],
+    };
+    asked.message(alloc)
+}
+
+/// A command of the desk by the clerk's key.
+pub fn order(alloc: Global, line: &[u8]) -> Result<Vec<u8>, Fail> {
+    let command = [OrderParam {
+        name: b"desk",
+        value: line,
+    }];
+    let asked = Asked {
+        key: CLERK,
+        method: b"POST",
+        path: b"/",
+        body: None,
+        start: DATE,
+        params: &command,
     };
     asked.message(alloc)
 }

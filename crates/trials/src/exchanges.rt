@@ -44,6 +44,7 @@ fn a_fetch_has_no_body(rt: HostRuntime) -> Result<(), Fail> {
         path: b"/in/a.txt",
         body: Some(b"x"),
         start: DATE,
+        params: &[],
     };
     let mut office = make_office(alloc, 0, &settings(Mode::Keep, 100, 2))?;
     assert_eq!(rt;

@@ -9,6 +9,15 @@ pub const REVOKED: &[u8] =
 pub const NO_CLERK: &[u8] =
     b"HTTP/1.1 403 Forbidden\r\nContent-Type: text/plain\r\nContent-Length: 40\r\n\r\nAccessDenied 24 the key may not do this\n";
 
+pub const DONE: &[u8] =
+    b"HTTP/1.1 200 OK\r\nContent-Type: text/plain\r\nContent-Length: 5\r\n\r\ndone\n";
+
+pub const NO_COMMAND: &[u8] =
+    b"HTTP/1.1 400 Bad Request\r\nContent-Type: text/plain\r\nContent-Length: 49\r\n\r\nInvalidArgument 35 the desk command is malformed\n";
+
+pub const NOT_POSSIBLE: &[u8] =
+    b"HTTP/1.1 400 Bad Request\r\nContent-Type: text/plain\r\nContent-Length: 52\r\n\r\nInvalidArgument 36 the desk command is not possible\n";
+
 pub const NO_LENGTH: &[u8] =
     b"HTTP/1.1 411 Length Required\r\nContent-Type: text/plain\r\nContent-Length: 50\r\n\r\nMissingContentLength 25 Content-Length is missing\n";
 

@@ -30,6 +30,7 @@ fn upload_at(
         path: b"/in/a.txt",
         body: Some(b"abc"),
         start,
+        params: &[],
     };
     let stream = asked.message(alloc)?;
     reply(&mut make_office(alloc, east, row)?, &stream, at)
