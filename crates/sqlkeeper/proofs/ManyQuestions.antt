@@ -13,7 +13,8 @@ use Rattle.boxes.specs.Rows.{receipt_in, numbered, numbered_receipt}
 use Rattle.sqlkeeper.specs.Schema.{Version, IsVersion}
 use Rattle.sqlkeeper.specs.Tables.{Tables, piece_of}
 use Rattle.sqlkeeper.specs.Means.{Pends, IsRunning}
-use Rattle.sqlkeeper.specs.Questions.{IsReceiptOf}
+use Rattle.sqlite_value.specs.Order.{Row}
+use Rattle.sqlkeeper.specs.Questions.{IsReceiptOf, shown_bytes}
 use Rattle.sqlkeeper.proofs.Building.{survives_then, keeps_then}
 
 -- ---- questions change nothing, however many there are
@@ -106,6 +107,11 @@ pub receipt_at : (tables : Tables) (receipts : List Receipt) (at number : ℕ) (
 receipt_at tables receipts at number found listed is = subst (λ o. IsReceiptOf number o found) (ap (λ f. f at) listed) is
 
 -- ---- the pieces of a file, one after another
+
+-- the row shows a piece
+pub shown_piece : (row : Row) (piece : Option (List ℕ)) → Some row ≡ option_map shown_bytes piece → (bytes : List ℕ) × (piece ≡ Some bytes) × (row ≡ shown_bytes bytes)
+shown_piece row None e = absurd cc
+shown_piece row (Some bytes) e = (bytes, refl, cc)
 
 pub piece_more : (bytes items piece others : List ℕ) (part next : ℕ) → items ≡ take (65536 * part) bytes → length items < length bytes → Some piece ≡ piece_of bytes part → others ≡ items ++ piece → next ≡ part + 1
     → others ≡ take (65536 * next) bytes

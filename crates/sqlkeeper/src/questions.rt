@@ -19,7 +19,7 @@ ghost use Rattle.sqlkeeper.specs.Questions.{last_rows, ShowsRow, shown_office, s
 
 use crate::reading::{read_box, read_key, read_receipt, read_text};
 use boxes::{BoxRow, KeyRow, ReceiptRow, Totals};
-use sqlite::types::ValueRef;
+use sqlite::types::{Type, ValueRef};
 use sqlite::{Alter, Error, ErrorCode, Row, Transaction, params};
 use std::alloc::Global;
 use std::collections::BTreeSet;
@@ -280,25 +280,14 @@ pub(crate) fn receipt<S: Alter>(
     Ok(Some(read_receipt(&row, number)?))
 }
 
-/// One piece of the file of this box and name, from 0 on.
-pub(crate) fn piece<S: Alter>(
-    tx: &mut Transaction<'_, S>,
-    in_box: &str,
-    name: &str,
-    part: u32,
-) -> Result<Option<Vec<u8>>, Error>
-    ensures same_reference { tx.new.conn.ghost_name ≡ tx.old.conn.ghost_name }
-    ensures found { (v : Version) (tables : Tables) → IsVersion v → Pends v (state S.Store tx.old.conn.now) tables
-        → IsTrue (state S.Store tx.old.conn.now).in_transaction → HasCleanDisk (state S.Store tx.new.conn.now) → IfOk result (λ bytes. option_map (λ b. b.items) bytes ≡ tables.piece (record { place = record { box = in_box.now; name = name.now }; at = part })) }
-    ensures still { (v : Version) (tables : Tables) → IsVersion v → Pends v (state S.Store tx.old.conn.now) tables → OnOk result (Pends v (state S.Store tx.new.conn.now) tables) }
-    ensures running { HasCleanDisk (state S.Store tx.new.conn.now) → IsTrue (state S.Store tx.old.conn.now).in_transaction → OnOk result (IsRunning (state S.Store tx.new.conn.now)) }
-    ensures uncommitted { HasCleanDisk (state S.Store tx.new.conn.now) → IsTrue (state S.Store tx.old.conn.now).in_transaction → KeepsCommit (state S.Store tx.old.conn.now) (state S.Store tx.new.conn.now) }
-    ensures survives { Survives (state S.Store tx.old.conn.now) (state S.Store tx.new.conn.now) (λ _. ⊥) }
+/// The bytes that are all that the row shows.
+fn bytes_of(row: &Row) -> Result<&[u8], Error>
+    ensures { (bytes : List ℕ) → row.now ≡ shown_bytes bytes → IfOk result (λ found. found.now ≡ bytes) }
 {
-    let Some(row) = select_piece(tx, in_box, name, part)? else {
-        return Ok(None);
-    };
-    Ok(Some(row.get(0)?))
+    match row.get_ref(0)? {
+        ValueRef::Blob(bytes) => Ok(bytes),
+        value => Err(Error::InvalidColumnType(0, Type::of(value))),
+    }
 }
 
 /// The file's bytes, so many, from its pieces.
@@ -318,13 +307,13 @@ pub(crate) fn file_bytes<S: Alter>(
     ensures uncommitted { HasCleanDisk (state S.Store tx.new.conn.now) → IsTrue (state S.Store tx.old.conn.now).in_transaction → KeepsCommit (state S.Store tx.old.conn.now) (state S.Store tx.new.conn.now) }
     ensures survives { Survives (state S.Store tx.old.conn.now) (state S.Store tx.new.conn.now) (λ _. ⊥) }
 {
-    let mut bytes = Vec::new(alloc);
+    let mut bytes = Vec::with_capacity(alloc, size as usize)?;
     let mut part: u32 = 0;
     while (bytes.len() as u64) < size {
-        let Some(more) = piece(tx, in_box, name, part)? else {
+        let Some(row) = select_piece(tx, in_box, name, part)? else {
             return Err(Error::QueryReturnedNoRows);
         };
-        bytes.extend_from_slice(&more)?;
+        bytes.extend_from_slice(bytes_of(&row)?)?;
         match part.checked_add(1) {
             Some(next) => part = next,
             None => return Err(Error::SqliteFailure(ErrorCode::TooBig)),
