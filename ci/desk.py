@@ -72,7 +72,10 @@ ODD_LINES = [
     "file drop IN a", "file drop in " + "a" * 1025, "file drop  a", "file take in a", "office allow 900", "key limit k2 in", "done",
 ]
 # These can't be given as words.
-ODD_BYTES = [b"key revoke k2\n", b"key revoke k\x002", b"file drop in a\x7f", b"file drop in \xff", b"file drop in a\tb", b"box close in 20130524T000001Z\r\n"]
+ODD_BYTES = [
+    f"box add b {ANY} 100 2 keep begins a".encode() + byte for byte in [b"\xff", b"\x7f", b"\t", b"\xc3"]
+] + [
+    b"key add k3 link s\xff", b"key add k3 link s\x7f", b"key add k3 link s\t", b"key revoke k2\n", b"key revoke k\x002", b"file drop in a\x7f", b"file drop in \xff", b"file drop in a\tb", b"box close in 20130524T000001Z\r\n"]
 MALFORMED_LINES = ODD_LINES + [WORDS.format(**RIGHT | {name: word}) for name, words in WRONG.items() for word in words] + [
     WORDS.format(**RIGHT | {"start": "0900", "end": "0900"}), WORDS.format(**RIGHT | {"start": "0901", "end": "0900"}),
     WORDS.format(**RIGHT).replace(" keep", "  keep"),
@@ -85,11 +88,11 @@ DONE_LINES = [
     f"key add {'k' * 64} clerk {'!' * 128}", "key add - link ~", "key revoke k2", f"box add {'b' * 63} {ANY} 1000000000000 1000000 replace any",
     "box add 0 19700101T000000Z 99991231T235959Z 0000000 2359 2400 0 0 keep begins " + "é" * 32,
     "box add a-.9 20130601T000000Z 20130101T000000Z 1000001 0000 0001 1 1 replace ends " + ",".join(["x" * 32] * 8),
-    "box close in 19700101T000000Z", "box close in 99991231T235959Z", "file drop in  a b", "file drop in " + "n" * 1024,
+    "box close in 19700101T000000Z", "box close in 99991231T235959Z", "file drop in  a b", "file drop in a ", "file drop in " + "n" * 1024,
 ]
 # What stands before each of these lines: a link's key, a revoked key, a box and its files.
 BEFORE = ["key add k2 link s3cr3t", "key add gone link s3cr3t", "key revoke gone", f"box add in {ANY} 100000 9 keep any"]
-FILES = [(b"/in/%20a%20b", b"spaces"), (b"/in/" + b"n" * 1024, b"long")]
+FILES = [(b"/in/%20a%20b", b"spaces"), (b"/in/a%20", b"space"), (b"/in/" + b"n" * 1024, b"long")]
 
 
 def stream_before():
@@ -140,7 +143,7 @@ def places_day():
     yield Step(post(line, unsigned=[(b"Content-Length", b"1")]) + b"x", answer(26))
     for method in ["GET", "HEAD"]:
         yield Step(signed(method, b"/", b"&desk=" + quoted(line)), answer(27, method))
-    yield Step(put(b"/in/still-open", b"1"), receipt(3, b"1"))
+    yield Step(put(b"/in/still-open", b"1"), receipt(4, b"1"))
     yield Step(signed("POST", b"/", b"&other=1&%64%65sk=" + quoted(line).replace(b"box", b"%62ox")), OBEYED)
     yield Step(put(b"/in/closed", b"1"), answer(30))
 
@@ -242,7 +245,7 @@ def test_words(drop, count):
         ("a box", "SELECT opens, closes, days, from_minute, to_minute, quota, max_files, mode, rule_text FROM boxes WHERE name = '0'",
          [(0, 253402300799, "0000000", 1439, 1440, 0, 0, 0, "é" * 32)]),
         ("endings", "SELECT rule_text FROM boxes WHERE name = 'a-.9'", [(",".join(["x" * 32] * 8),)]),
-        ("the files", "SELECT COUNT(*) FROM files", [(0,)]), ("the receipts", "SELECT COUNT(*) FROM receipts", [(2,)]),
+        ("the files", "SELECT COUNT(*) FROM files", [(0,)]), ("the receipts", "SELECT COUNT(*) FROM receipts", [(3,)]),
         ("the totals", "SELECT used, count FROM boxes WHERE name = 'in'", [(0, 0)]),
     ]:
         count.add(table, difference(tables.rows(file, query), owed))

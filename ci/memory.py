@@ -17,8 +17,8 @@ import tempfile
 import kit
 import office
 import tables
-from expected import SECRET, answer
-from replays import ID, MOMENT, OFFICE, answered, fault
+from expected import SECRET, answer, quoted
+from replays import ID, MOMENT, OFFICE, answered, fault, signed
 
 STREAM = "data/row1.http"
 DROP = kit.ROOT / "crates" / "drop"
@@ -108,14 +108,14 @@ def sampled():
     return itertools.chain(range(1, 101), itertools.count(101, 17))
 
 
-def each_office(program, name, words, prepare, right, others, count):
+def each_office(program, name, words, prepare, right, others, count, done=()):
     """As `each_refusal`, over an office file, of a sample of the numbers. `prepare` sets the file up before each run, and gives
-    what tells, of a run that was right or was not, whether the file is then wrong."""
+    what tells, of a run that was right or was not, whether the file is then wrong. The runs of `done` did what was asked too."""
     came = {it: [] for it in [right, *others]}
     for number in sampled():
         wrong_file = prepare()
         run, is_refused = refusing(number, [program, *words])
-        wrong = wrong_file(run == right) if run in came else f"{run}"
+        wrong = wrong_file(run == right or run in done) if run in came else f"{run}"
         if wrong or not is_refused:
             break
         came[run].append(number)
@@ -126,7 +126,8 @@ def each_office(program, name, words, prepare, right, others, count):
 
 
 def test_offices(program, folder, count):
-    """`init`, `link`, and `replay` over a file. Memory that is refused makes no file, changes none, and takes no upload."""
+    """`init`, `desk`, `link`, and `replay` over a file. Memory that is refused makes no file, changes none, takes no upload and
+    obeys no command."""
     file, whole, stream = folder / "office", folder / "whole", folder / "put.http"
     init = ["--clerk", ID, "--secret", SECRET.decode()]
     done = kit.Run(0, b"", b"")
@@ -155,6 +156,12 @@ def test_offices(program, folder, count):
     each_office(program, "drop init", ["init", file, *init], gone, done, [OUT_OF_MEMORY], count)
     each_office(program, "drop link", link, copied, line, [OUT_OF_MEMORY], count)
     each_office(program, "drop replay FILE", replay, copied, receipt, [OUT_OF_MEMORY, TRY_AGAIN], count)
+    box = "box add b 20130101T000000Z 20130601T000000Z 1111111 0000 2400 100 2 keep ends .pdf,.zip"
+    told, closed_badly = kit.Run(0, b"done\n", b""), kit.Run(1, b"done\n", OUT_OF_MEMORY.err)
+    each_office(program, "drop desk", ["desk", file, box], copied, told, [OUT_OF_MEMORY, closed_badly], count, [closed_badly])
+    stream.write_bytes(signed("POST", b"/", b"&desk=" + quoted(box)))
+    obeyed = office.answered(office.head("200 OK", [("Content-Type", "text/plain"), ("Content-Length", 5)]) + b"done\n")
+    each_office(program, "a command in drop replay FILE", replay, copied, obeyed, [OUT_OF_MEMORY, TRY_AGAIN], count)
 
 
 def rows():

@@ -318,7 +318,7 @@ def test_link_faults(drop, count):
     for method in ["", "get", "DELETE", "GET ", "PATCH"]:
         found = drop.link(gone, method, "", **wrong)
         count.add(f"method {method!r}", difference(found, malformed("method")))
-    for target in ["in/a", "key revoke k2"]:
+    for target in ["in/a", "key revoke", "key  revoke k2"]:
         count.add(f"POST {target}", difference(drop.link(gone, "POST", target), malformed("target")))
     for name, values in [
         ("start", ["", "20130524T000000", "20130532T000000Z", "19691231T235959Z"]),

@@ -271,7 +271,7 @@ def links():
     for method, number in [("GET", 27), ("HEAD", 27), ("PUT", 25), ("POST", 35)]:
         yield Case(f"a link to {method}", signed(method, b"/test.txt"), answered(number, method))
         yield Case(f"a link to {method} with a note", signed(method, path, **note), answered(number, method))
-    yield Case("a desk command", signed("POST", b"/", b"&desk=key%20revoke%20k2"), answered(35))
+    yield Case("a desk command", signed("POST", b"/", b"&desk=key%20revoke%20k2"), answered(36))
     for more in [b"&a-=1&a/=2", b"&%61%2f=%32&%61%2D=1", b"&a%20b=c/d", b"&b&a=", b"&x-amz-date=1&X-Amz=2"]:
         yield Case(f"parameters {more!r}", signed("GET", b"/test.txt", more), answered(27))
     for odd_path in [b"/in//a/../b%20c%c3%a9%FF%2541", b"/", b"//in/a", b"/in", b"/in/", b"/IN/./a", b"/%2f~*!"]:

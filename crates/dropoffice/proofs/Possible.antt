@@ -1,5 +1,5 @@
 -- A command that is possible has a step, and what was decided of it.
-use Rattle.std.proofs.Common.{◌≡◌, false, Option, Some, None, Result, Ok, Err, ℕ, List, refl, subst}
+use Rattle.std.proofs.Common.{◌≡◌, false, Option, Some, None, Result, Ok, Err, ℕ, List, refl, ap, subst}
 use Rattle.std.specs.Prelude.{◌≢◌, OnOk, IsSome, IsSomeAnd, is_err}
 use Rattle.std.specs.FinMap.{get}
 use Rattle.sigtext.specs.declared.refusal.Refusal.{Refusal}
@@ -8,6 +8,7 @@ use Rattle.boxes.specs.Commands.{HasForm}
 use Rattle.boxes.specs.Deciding.{DecidesCommand}
 use Rattle.boxes.specs.State.{State}
 use Rattle.boxes.specs.Steps.{Command, AddKey, RevokeKey, AddBox, CloseBox, DropFile, CommandStep, CanRevoke, IsPossible, key_added, key_revoked, box_added, box_closed, file_dropped}
+use Rattle.keeper.specs.declared.keep.KeepFault.TheVariants.{Full}
 use Rattle.dropoffice.specs.declared.commanding.DeskFault.{DeskFault}
 use Rattle.dropoffice.specs.declared.commanding.DeskFault.TheVariants as fault
 use Rattle.dropoffice.specs.Kept.{IsLeft}
@@ -39,9 +40,9 @@ obeys s command form possible = let x = step_of s command possible in (x.0, reco
 -- what became of the command that the line is
 pub obeyed_by : {T : Type 0} (means : State → Type 0) (s : State) (line : List ℕ) (result : Result T DeskFault) (command : Command) → Tells line command
     → ((other : Command) → Tells line other → other ≡ command) → OnOk result ((after : State) × IsObeyed s command after × IsLeft means after)
-    → (result ≡ Err fault.NotPossible → IsPossible s command → ⊥) → result ≢ Err fault.Malformed → IsObeyedBy means s line result
-obeyed_by means s line (Ok x) command tells only done refused formed = (command, done.0, tells, done.1, done.2)
-obeyed_by means s line (Err fault.Malformed) command tells only done refused formed = absurd (formed refl)
-obeyed_by means s line (Err fault.NotPossible) command tells only done refused formed =
+    → (result ≡ Err fault.NotPossible → IsPossible s command → ⊥) → result ≢ Err fault.Malformed → result ≢ Err (fault.Kept Full) → IsObeyedBy means s line result
+obeyed_by means s line (Ok x) command tells only done refused formed room = (command, done.0, tells, done.1, done.2)
+obeyed_by means s line (Err fault.Malformed) command tells only done refused formed room = absurd (formed refl)
+obeyed_by means s line (Err fault.NotPossible) command tells only done refused formed room =
     record { command = command; tells = tells; none = λ other told possible. refused refl (subst (IsPossible s) (only other told) possible) }
-obeyed_by means s line (Err (fault.Kept f)) command tells only done refused formed = tt
+obeyed_by means s line (Err (fault.Kept f)) command tells only done refused formed room = λ full. room (ap (λ g. Err (fault.Kept g)) full)

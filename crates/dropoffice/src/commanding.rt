@@ -28,7 +28,9 @@ pub enum DeskFault {
 }
 
 impl<K: Keeper> Office<K> {
-    ghost use Rattle.std.specs.Prelude.{◌≡◌, ◌≢◌, ◌≤◌, ℕ, Err, IfOk, OnErr, OnOk};
+    ghost use Rattle.std.specs.Prelude.{◌≡◌, ◌≢◌, ◌≤◌, ◌⊎◌, ℕ, Err, IfErr, IfOk, OnErr, OnOk, codes, true};
+    ghost use Rattle.sigtext.specs.Bytes.{begins_with};
+    ghost use Rattle.sigtext.specs.Counts.{Rose};
     ghost use Rattle.sigtext.specs.Request.{Request};
     ghost use Rattle.boxes.specs.Changes.{command_of, IsObeyed};
     ghost use Rattle.boxes.specs.Commands.{HasForm};
@@ -39,7 +41,7 @@ impl<K: Keeper> Office<K> {
     ghost use Rattle.links.specs.WellFormed.{LinkValues};
     ghost use Rattle.dropoffice.specs.Admitted.{ReachesBoxes};
     ghost use Rattle.dropoffice.specs.Kept.{IsKept, IsLeft};
-    ghost use Rattle.dropoffice.specs.Obeying.{IsObeyedBy};
+    ghost use Rattle.dropoffice.specs.Obeying.{IsKeepers, IsObeyedBy};
     ghost use Rattle.dropoffice.specs.Replying.{IsReplied, IsNoRefusal};
     ghost use Rattle.dropoffice.specs.Rules.{IsPost};
 
@@ -50,6 +52,9 @@ impl<K: Keeper> Office<K> {
         ensures same { (s : State) → K.means self.old.keeper s → K.means self.new.keeper s }
         ensures honest { K.is_honest self.new.keeper → K.is_honest self.old.keeper }
         ensures counted { OnOk result (K.faults self.new.keeper ≡ K.faults self.old.keeper) }
+        ensures rose { OnErr result (Rose (K.faults self.old.keeper) (K.faults self.new.keeper)) }
+        ensures room { IfErr result (λ f. f ≢ KeepFault.Full) }
+        ensures store { result ≡ Err KeepFault.Store → K.has_store }
         ensures never_less { K.faults self.old.keeper ≤ K.faults self.new.keeper }
     {
         let mut view = DeskView {
@@ -80,6 +85,10 @@ impl<K: Keeper> Office<K> {
         ensures refused { (s : State) → IsKept (K.means self.old.keeper) (K.is_honest self.new.keeper) s
             → result ≡ Err DeskFault.NotPossible → IsPossible s (command_of command.now) → ⊥ }
         ensures formed { result ≢ Err DeskFault.Malformed }
+        ensures room { (s : State) → IsKept (K.means self.old.keeper) (K.is_honest self.new.keeper) s → HasForm (command_of command.now)
+            → result ≢ Err (DeskFault.Kept KeepFault.Full) }
+        ensures kept { IfErr result (λ f. IsKeepers f → Rose (K.faults self.old.keeper) (K.faults self.new.keeper)) }
+        ensures store { result ≡ Err (DeskFault.Kept KeepFault.Store) → K.has_store }
         ensures same { (s : State) → K.means self.old.keeper s → OnErr result (K.means self.new.keeper s) }
         ensures honest { K.is_honest self.new.keeper → K.is_honest self.old.keeper }
         ensures counted { OnOk result (K.faults self.new.keeper ≡ K.faults self.old.keeper) }
@@ -104,10 +113,12 @@ impl<K: Keeper> Office<K> {
     ///
     /// # Errors
     ///
-    /// The state is as it was. `Malformed` comes exactly where the line is no command, and `NotPossible` where the office's
-    /// state bars the command that it is; `Kept` where the keeper failed or memory was refused.
+    /// The state is as it was. `Malformed` comes where the line is no command, and `NotPossible` where the office's state bars
+    /// the command that it is; `Kept` where the keeper failed, or memory was refused for a line that begins with `box add `.
     pub fn desk(&mut self, line: &[u8]) -> Result<(), DeskFault>
         ensures obeys { (s : State) → IsKept (K.means self.old.keeper) (K.is_honest self.new.keeper) s → IsObeyedBy (K.means self.new.keeper) s line.now result }
+        ensures kept { IfErr result (λ f. IsKeepers f → Rose (K.faults self.old.keeper) (K.faults self.new.keeper) ⊎ (begins_with line.now (codes "box add ") ≡ true)) }
+        ensures store { result ≡ Err (DeskFault.Kept KeepFault.Store) → K.has_store }
         ensures same { (s : State) → K.means self.old.keeper s → OnErr result (K.means self.new.keeper s) }
         ensures honest { K.is_honest self.new.keeper → K.is_honest self.old.keeper }
         ensures counted { OnOk result (K.faults self.new.keeper ≡ K.faults self.old.keeper) }

@@ -89,8 +89,8 @@ impl<K: Keeper> Office<K> {
 
     /// Answers a message at a moment. The answer and the state after it are those of the rules; or the
     /// answer is refusal 40, where memory was refused or the keeper counted a fault, and then the state is
-    /// as it was. Memory that an answer needs is asked for before anything is changed, so an upload that took
-    /// effect is never answered with 40. A method that is not served and a target that is malformed are
+    /// as it was. Memory that an answer needs is asked for before anything is changed, so an upload or a
+    /// command that took effect is never answered with 40. A method that is not served and a target that is malformed are
     /// refused without memory, and never with 40.
     pub fn answer(&mut self, message: &Message<'_>, now: Moment) -> Answer
         ensures answers { (s : State) → IsKept (K.means self.old.keeper) (K.is_honest self.new.keeper) s

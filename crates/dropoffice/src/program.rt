@@ -21,8 +21,8 @@ const WORDS: u8 = 2;
 
 /// Does what the words ask for, the program's own name first among them, and gives the exit status:
 /// 0 where it was done, though requests were refused; 1 where a line `drop: <fault>` was written to
-/// `err`; 2 for words that clap refuses, whose text was written to `err`. Help that was asked for, a link,
-/// a replay's answers, and where a server listens are written to `out`. Nothing reads `input` so far.
+/// `err`; 2 for words that clap refuses, whose text was written to `err`. Help that was asked for, `done` for a
+/// command of the desk, a link, a replay's answers, and where a server listens are written to `out`. Nothing reads `input` so far.
 pub fn perform(
     rt: &HostRuntime,
     words: &[&str],

@@ -51,13 +51,13 @@ pub struct Desk<'a> {
 
 /// The words of `drop link FILE METHOD TARGET --key ID --host H --region R --start MOMENT --expires N`, each as it was given.
 /// N is from 1 to 604800; of the others no form is asked here.
-#[derive(Debug, Clone, Copy)]
+#[derive(Clone, Copy)]
 pub struct Link<'a> {
     /// The office file.
     pub file: &'a str,
     /// The method.
     pub method: &'a str,
-    /// The box and the name.
+    /// The box and the name; for POST a command of the desk.
     pub target: &'a str,
     /// The id of the key that signs.
     pub key: &'a str,

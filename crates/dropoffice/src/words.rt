@@ -10,33 +10,35 @@ use std::alloc::{AllocError, Global};
 
 // What stands below the help of `desk`: the forms of its commands, each with an example.
 const DESK_FORMS: &str = "\
-The commands. Each example is a LINE that can be given as it stands:
+The commands. One space stands between two words. Each example is a LINE, in quotes, as it stands:
 
   key add ID ROLE SECRET
-      Adds a key.
+      Adds a key. An id that was ever given, also to a key that is revoked, can't be given again.
         ID             1 to 64 of A-Z a-z 0-9 - _
         ROLE           clerk, for the desk and for files, or link, for files alone
         SECRET         1 to 128 visible ASCII characters without spaces
       Example: key add tender-2 link 3kQz7mWx0PbT
 
   key revoke ID
-      Ends a key for good: its links are refused from then on. The last clerk's key cannot be revoked.
+      Ends a key for good: its links are refused from then on. The last clerk's key can't be revoked.
       Example: key revoke tender-2
 
   box add NAME OPENS CLOSES DAYS FROM TO QUOTA FILES MODE RULE
-      Adds a box. All of these are given, in this order.
+      Adds a box. All of these are given, in this order, and numbers without leading zeros.
         NAME           1 to 63 of a-z 0-9 - .
         OPENS, CLOSES  when uploads begin and when they end, in UTC: 20261201T080000Z
         DAYS           the days it is open, Monday first, 1 open, 0 shut: 1111100 is Monday to Friday
-        FROM, TO       its hours on such a day by the office's clock, 0000 to 2400: 0800 1800
+        FROM, TO       its hours on such a day by the office's clock, 0000 to 2400, FROM the earlier: 0800 1800
         QUOTA          the most bytes it holds, 0 to 1000000000000
         FILES          the most files it holds, 0 to 1000000
         MODE           keep, where a file stays as it is, or replace, where another of its name takes its place
-        RULE           any for all names, ends .pdf,.zip for those that end so, begins offer- for those that begin so
+        RULE           any for all names; ends .pdf,.zip for those that end so, with 1 to 8 endings of 1 to 32 bytes;
+                       begins offer- for those that begin so, with 1 to 64 bytes. No commas or spaces in them, and
+                       A is not a
       Example: box add roadworks 20261201T080000Z 20261215T110000Z 1111100 0800 1800 1000000000 500 keep ends .pdf,.zip
 
   box close NAME MOMENT
-      Sets when uploads to a box end, in UTC.
+      Sets when uploads to a box end, in UTC: earlier than it was, or later.
       Example: box close roadworks 20261210T110000Z
 
   file drop BOX NAME

@@ -20,4 +20,4 @@ returns-in-Ok-Some-clause-obeys g c s kept =
     (λ other tells.
     let all = rw c.in-Ok-Some.field-0-is at (c.in-Ok-Some.ensures.all other tells.is_command tells.form) in
     some_is (said c.in-Ok-Some.read) other all ∙ sym is)
-    (c.obey.ensures.does s kept tells.form) (c.obey.ensures.refused s kept) c.obey.ensures.formed
+    (c.obey.ensures.does s kept tells.form) (c.obey.ensures.refused s kept) c.obey.ensures.formed (c.obey.ensures.room s kept tells.form)

@@ -1,4 +1,8 @@
-use Rattle.std.proofs.Common.{rules}
+use Rattle.std.proofs.Common.{◌≡◌, ◌∙◌, Result, Err, ap, rules}
+use Rattle.keeper.specs.declared.keep.KeepFault.{KeepFault}
+use Rattle.keeper.specs.declared.keep.KeepFault.TheVariants.{Full}
+use Rattle.dropoffice.specs.declared.commanding.DeskFault.{DeskFault}
+use Rattle.dropoffice.specs.declared.commanding.DeskFault.TheVariants as fault
 use Rattle.boxes.specs.Changes.{command_of}
 use Rattle.boxes.specs.declared.change.Change.TheVariants as change
 use Rattle.dropoffice.proofs.Possible.{decided, obeys}
@@ -18,3 +22,20 @@ returns-in-Ok-apply-clause-does g c s kept form =
         sound = c.law_of_changes.ensures s it.0 (change.Desk c.args.command.now) kept.sound it.1;
       },
     )
+
+kept_full : {T : Type 0} (f : KeepFault) → ◌≡◌ {A = Result T DeskFault} (Err (fault.Kept f)) (Err (fault.Kept Full)) → f ≡ Full
+kept_full f e = inner (first _ _ e)
+  where
+    first : {T : Type 0} (x y : DeskFault) → ◌≡◌ {A = Result T DeskFault} (Err x) (Err y) → x ≡ y
+    first x y e = cc
+
+    inner : fault.Kept f ≡ fault.Kept Full → f ≡ Full
+    inner e = cc
+
+pub returns-clause-room : goal.returns-clause-room
+returns-clause-room g c s kept form full =
+    let command = command_of c.args.command.now in
+    let view = c.in-Ok.ensures.view s (record { means = kept.means; is_honest = c.apply.ensures.honest kept.is_honest; sound = kept.sound }) in
+    let possible = decided s command c.desk.result (c.desk.ensures s kept.sound view) (search rules) in
+    let it = obeys s command form possible in
+    c.apply.ensures.full s it.0 (c.look_at.ensures.same s kept.means) kept.sound it.1 (c.in-Err-apply.is ∙ ap Err (kept_full c.in-Err-apply.fault full))
