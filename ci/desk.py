@@ -8,14 +8,12 @@ lines in README.md, and links that botocore signs. The last line is `N passed, M
 
 import dataclasses
 import itertools
-import pathlib
-import tempfile
 import time
 
 import kit
 import tables
 from expected import SECRET, answer, quoted
-from office import CLERK, DONE, Drop, difference, fetched, head, malformed, receipt
+from office import CLERK, DONE, difference, fetched, head, malformed, receipt, run_all
 from orders import BotocoreOrder
 from replays import ID, MOMENT, fault, signed
 from serve import Server, curl
@@ -346,14 +344,5 @@ def test_from_nothing(drop, count):
 TESTS = [test_days, test_steps, test_words, test_examples, test_links, test_from_nothing]
 
 
-def main():
-    count = kit.Count()
-    with tempfile.TemporaryDirectory() as folder:
-        drop = Drop(kit.built("drop"), pathlib.Path(folder))
-        for test in TESTS:
-            test(drop, count)
-    count.end()
-
-
 if __name__ == "__main__":
-    main()
+    run_all(TESTS)

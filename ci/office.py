@@ -660,14 +660,15 @@ OPEN = [test_not_offices, test_links, test_written_links, test_uploads, test_box
         test_broken, test_versions, test_cut, test_changed]
 
 
-def main():
+def run_all(tests):
+    """Runs tests of the program, each in a folder of its own, and ends with their count."""
     program = kit.built("drop")
     count = kit.Count()
-    for test in [*CLOSED, *OPEN]:
+    for test in tests:
         with tempfile.TemporaryDirectory(prefix="drop-office-") as folder:
             test(Drop(program, pathlib.Path(folder)), count)
     count.end()
 
 
 if __name__ == "__main__":
-    main()
+    run_all([*CLOSED, *OPEN])

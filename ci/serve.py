@@ -12,7 +12,6 @@ import signal
 import socket
 import struct
 import subprocess
-import tempfile
 import time
 import urllib.error
 import urllib.parse
@@ -24,7 +23,7 @@ import botocore.config
 import kit
 import tables
 from expected import SECRET, answer
-from office import CANNOT_OPEN, FAILED, Drop, difference, fetched, malformed, receipt
+from office import CANNOT_OPEN, FAILED, difference, fetched, malformed, receipt, run_all
 from replays import ID, fault
 
 CANNOT_LISTEN = fault("cannot listen")
@@ -361,14 +360,5 @@ def test_closed(drop, count):
 TESTS = [test_words, test_faults, test_curl, test_boto3, test_bytes, test_nonsense, test_broken, test_killed, test_closed]
 
 
-def main():
-    count = kit.Count()
-    with tempfile.TemporaryDirectory() as folder:
-        drop = Drop(kit.built("drop"), pathlib.Path(folder))
-        for test in TESTS:
-            test(drop, count)
-    count.end()
-
-
 if __name__ == "__main__":
-    main()
+    run_all(TESTS)
