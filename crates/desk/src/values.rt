@@ -82,6 +82,7 @@ fn read_two(high: u8, low: u8) -> Option<u16>
 /// The minute of a day, as HHmm.
 pub(crate) fn read_minute(word: &[u8]) -> Option<u16>
     ensures some { IfSome result (λ m. word.now ≡ minute_word m) }
+    ensures bound { IfSome result (λ m. m < 6000) }
     ensures none { IfNone result ((m : ℕ) → m < 6000 → word.now ≡ minute_word m → ⊥) }
 {
     let [a, b, c, d] = word else {

@@ -1,0 +1,170 @@
+-- The texts of commands, by their kinds.
+use Rattle.std.proofs.Common.{◌≡◌, ℕ, List, [], ◌∷◌, ◌++◌, get_or, drop, refl, sym, ap, subst, ◌∙◌, arith}
+use Rattle.std.specs.Prelude.{codes}
+use Rattle.std.specs.List.{join_with_byte}
+use Rattle.sigtext.specs.Targets.{Lacks}
+use Rattle.sigv4.specs.Dates.{WritesMoment}
+use Rattle.sigv4.specs.Credential.{is_key_byte}
+use Rattle.boxes.specs.declared.rows.Role.{Role}
+use Rattle.boxes.specs.State.{Settings, Place}
+use Rattle.boxes.specs.Steps.{Command, AddKey, RevokeKey, AddBox, CloseBox, DropFile}
+use Rattle.boxes.specs.Sound.{is_box_byte, AreSettings}
+use Rattle.boxes.specs.Commands.{HasForm}
+use Rattle.desk.specs.Texts.{role_word, SaysSettings, Says, adds_key, revokes_key, adds_box, closes_box, drops_file, IsCommand}
+use Rattle.desk.proofs.Words.{word_lacks}
+
+-- the text of the command, its words written out
+abbrev pub IsTextOf : List ℕ → Command → Type 0
+IsTextOf text (AddKey id role secret) = text ≡ codes "key add " ++ (id ++ 32 ∷ (role_word role ++ 32 ∷ secret))
+IsTextOf text (RevokeKey id) = text ≡ codes "key revoke " ++ id
+IsTextOf text (AddBox name settings) =
+    (words : List (List ℕ)) × SaysSettings words settings × (text ≡ codes "box add " ++ (name ++ 32 ∷ join_with_byte 32 words))
+IsTextOf text (CloseBox name moment) = (word : List ℕ) × WritesMoment word moment × (text ≡ codes "box close " ++ (name ++ 32 ∷ word))
+IsTextOf text (DropFile place) = text ≡ codes "file drop " ++ (place.box ++ 32 ∷ place.name)
+
+-- settings are said by a word and more
+pub join_settings : (name : List ℕ) (words : List (List ℕ)) (settings : Settings) → SaysSettings words settings
+    → join_with_byte 32 (name ∷ words) ≡ name ++ 32 ∷ join_with_byte 32 words
+join_settings name words settings says =
+    subst (λ (w : List (List ℕ)). join_with_byte 32 (name ∷ w) ≡ name ++ 32 ∷ join_with_byte 32 w) (sym says.are) refl
+
+says_text : (text : List ℕ) (words : List (List ℕ)) (c : Command) → Says words c → text ≡ join_with_byte 32 words → IsTextOf text c
+says_text text words c (adds_key id role secret) is = is
+says_text text words c (revokes_key id) is = is
+says_text text words c (adds_box name more settings says) is = (more, says, is ∙ ap (λ (t : List ℕ). codes "box add " ++ t) (join_settings name more settings says))
+says_text text words c (closes_box name word moment writes) is = (word, writes, is)
+says_text text words c (drops_file place) is = is
+
+pub text_of : (text : List ℕ) (c : Command) → IsCommand text c → IsTextOf text c
+text_of text c is = says_text text is.words c is.says is.is
+
+-- two texts of different commands differ at some byte
+differ : (i : ℕ) (a b : List ℕ) (x y : ℕ) → a ≡ b → get_or a i 0 ≡ x → get_or b i 0 ≡ y → (x ≡ y → ⊥) → ⊥
+differ i a b x y same left right other = other (sym left ∙ ap (λ (t : List ℕ). get_or t i 0) same ∙ right)
+
+-- ---- what stands behind the first two words
+
+pub record IsAddedKey (words : List ℕ) (c : Command) : Type 0 where
+  pub id : List ℕ
+  pub role : Role
+  pub secret : List ℕ
+  pub command : c ≡ AddKey id role secret
+  pub text : words ≡ id ++ 32 ∷ (role_word role ++ 32 ∷ secret)
+  pub word : Lacks 32 id
+
+pub added_key : (words : List ℕ) (c : Command) → IsCommand (codes "key add " ++ words) c → HasForm c → IsAddedKey words c
+added_key words (AddKey id role secret) is form =
+    record {
+      id = id; role = role; secret = secret; command = refl;
+      text = ap (λ (t : List ℕ). drop 8 t) (text_of _ _ is);
+      word = word_lacks is_key_byte 64 id 32 refl form.0;
+    }
+added_key words (RevokeKey id) is form = absurd (differ 4 _ _ 97 114 (text_of _ _ is) refl refl (λ e. omega arith))
+added_key words (AddBox name settings) is form = let t = text_of (codes "key add " ++ words) (AddBox name settings) is in absurd (differ 0 _ _ 107 98 t.2 refl refl (λ e. omega arith))
+added_key words (CloseBox name moment) is form = let t = text_of (codes "key add " ++ words) (CloseBox name moment) is in absurd (differ 0 _ _ 107 98 t.2 refl refl (λ e. omega arith))
+added_key words (DropFile place) is form = absurd (differ 0 _ _ 107 102 (text_of _ _ is) refl refl (λ e. omega arith))
+
+pub record IsAddedBox (words : List ℕ) (c : Command) : Type 0 where
+  pub name : List ℕ
+  pub settings : Settings
+  pub more : List (List ℕ)
+  pub says : SaysSettings more settings
+  pub command : c ≡ AddBox name settings
+  pub text : words ≡ name ++ 32 ∷ join_with_byte 32 more
+  pub word : Lacks 32 name
+  pub are : AreSettings settings
+
+pub added_box : (words : List ℕ) (c : Command) → IsCommand (codes "box add " ++ words) c → HasForm c → IsAddedBox words c
+added_box words (AddKey id role secret) is form = absurd (differ 0 _ _ 98 107 (text_of _ _ is) refl refl (λ e. omega arith))
+added_box words (RevokeKey id) is form = absurd (differ 0 _ _ 98 107 (text_of _ _ is) refl refl (λ e. omega arith))
+added_box words (AddBox name settings) is form =
+    let t = text_of (codes "box add " ++ words) (AddBox name settings) is in
+    record {
+      name = name; settings = settings; more = t.0; says = t.1; command = refl;
+      text = ap (λ (t : List ℕ). drop 8 t) t.2;
+      word = word_lacks is_box_byte 63 name 32 refl form.0;
+      are = form.1;
+    }
+added_box words (CloseBox name moment) is form = let t = text_of (codes "box add " ++ words) (CloseBox name moment) is in absurd (differ 4 _ _ 97 99 t.2 refl refl (λ e. omega arith))
+added_box words (DropFile place) is form = absurd (differ 0 _ _ 98 102 (text_of _ _ is) refl refl (λ e. omega arith))
+
+pub record IsClosedBox (words : List ℕ) (c : Command) : Type 0 where
+  pub name : List ℕ
+  pub moment : ℕ
+  pub date : List ℕ
+  pub writes : WritesMoment date moment
+  pub command : c ≡ CloseBox name moment
+  pub text : words ≡ name ++ 32 ∷ date
+  pub word : Lacks 32 name
+
+pub closed_box : (words : List ℕ) (c : Command) → IsCommand (codes "box close " ++ words) c → HasForm c → IsClosedBox words c
+closed_box words (AddKey id role secret) is form = absurd (differ 0 _ _ 98 107 (text_of _ _ is) refl refl (λ e. omega arith))
+closed_box words (RevokeKey id) is form = absurd (differ 0 _ _ 98 107 (text_of _ _ is) refl refl (λ e. omega arith))
+closed_box words (AddBox name settings) is form = let t = text_of (codes "box close " ++ words) (AddBox name settings) is in absurd (differ 4 _ _ 99 97 t.2 refl refl (λ e. omega arith))
+closed_box words (CloseBox name moment) is form =
+    let t = text_of (codes "box close " ++ words) (CloseBox name moment) is in
+    record {
+      name = name; moment = moment; date = t.0; writes = t.1; command = refl;
+      text = ap (λ (t : List ℕ). drop 10 t) t.2;
+      word = word_lacks is_box_byte 63 name 32 refl form.0;
+    }
+closed_box words (DropFile place) is form = absurd (differ 0 _ _ 98 102 (text_of _ _ is) refl refl (λ e. omega arith))
+
+pub record IsDroppedFile (words : List ℕ) (c : Command) : Type 0 where
+  pub place : Place
+  pub command : c ≡ DropFile place
+  pub text : words ≡ place.box ++ 32 ∷ place.name
+  pub word : Lacks 32 place.box
+
+pub dropped_file : (words : List ℕ) (c : Command) → IsCommand (codes "file drop " ++ words) c → HasForm c → IsDroppedFile words c
+dropped_file words (AddKey id role secret) is form = absurd (differ 0 _ _ 102 107 (text_of _ _ is) refl refl (λ e. omega arith))
+dropped_file words (RevokeKey id) is form = absurd (differ 0 _ _ 102 107 (text_of _ _ is) refl refl (λ e. omega arith))
+dropped_file words (AddBox name settings) is form = let t = text_of (codes "file drop " ++ words) (AddBox name settings) is in absurd (differ 0 _ _ 102 98 t.2 refl refl (λ e. omega arith))
+dropped_file words (CloseBox name moment) is form = let t = text_of (codes "file drop " ++ words) (CloseBox name moment) is in absurd (differ 0 _ _ 102 98 t.2 refl refl (λ e. omega arith))
+dropped_file words (DropFile place) is form =
+    record {
+      place = place; command = refl;
+      text = ap (λ (t : List ℕ). drop 10 t) (text_of _ _ is);
+      word = word_lacks is_box_byte 63 place.box 32 refl form.0;
+    }
+
+-- ---- and back
+
+pub writes_key : (words id rest word secret : List ℕ) (role : Role) → words ≡ id ++ 32 ∷ rest → rest ≡ word ++ 32 ∷ secret → word ≡ role_word role
+    → IsCommand (codes "key add " ++ words) (AddKey id role secret)
+writes_key words id rest word secret role first second third =
+    record {
+      words = codes "key" ∷ codes "add" ∷ id ∷ role_word role ∷ secret ∷ [];
+      says = adds_key id role secret;
+      is = ap (λ (t : List ℕ). codes "key add " ++ t) (first ∙ ap (λ (t : List ℕ). id ++ 32 ∷ t) (second ∙ ap (λ (t : List ℕ). t ++ 32 ∷ secret) third));
+    }
+
+pub writes_revoked : (line id : List ℕ) → line ≡ codes "key revoke " ++ id → IsCommand line (RevokeKey id)
+writes_revoked line id is = record { words = codes "key" ∷ codes "revoke" ∷ id ∷ []; says = revokes_key id; is = is }
+
+pub writes_box : (words name rest : List ℕ) (more : List (List ℕ)) (settings : Settings) → words ≡ name ++ 32 ∷ rest → SaysSettings more settings → rest ≡ join_with_byte 32 more
+    → IsCommand (codes "box add " ++ words) (AddBox name settings)
+writes_box words name rest more settings first says second =
+    record {
+      words = codes "box" ∷ codes "add" ∷ name ∷ more;
+      says = adds_box name more settings says;
+      is = ap (λ (t : List ℕ). codes "box add " ++ t) (first ∙ ap (λ (t : List ℕ). name ++ 32 ∷ t) second ∙ sym (join_settings name more settings says));
+    }
+
+pub writes_closing : (words name date : List ℕ) (moment : ℕ) → words ≡ name ++ 32 ∷ date → WritesMoment date moment
+    → IsCommand (codes "box close " ++ words) (CloseBox name moment)
+writes_closing words name date moment first writes =
+    record {
+      words = codes "box" ∷ codes "close" ∷ name ∷ date ∷ [];
+      says = closes_box name date moment writes;
+      is = ap (λ (t : List ℕ). codes "box close " ++ t) first;
+    }
+
+pub writes_drop : (words box name : List ℕ) → words ≡ box ++ 32 ∷ name
+    → IsCommand (codes "file drop " ++ words) (DropFile (record { box = box; name = name }))
+writes_drop words box name first =
+    record {
+      words = codes "file" ∷ codes "drop" ∷ box ∷ name ∷ [];
+      says = drops_file (record { box = box; name = name });
+      is = ap (λ (t : List ℕ). codes "file drop " ++ t) first;
+    }

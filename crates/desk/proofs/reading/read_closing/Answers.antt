@@ -1,0 +1,29 @@
+use Rattle.std.proofs.Common.{List, ℕ, Some, sym, ap, subst, ◌∙◌}
+use Rattle.sigv4.specs.Dates.{WritesMoment}
+use Rattle.sigv4.proofs.Moments.{moment_once}
+use Rattle.boxes.specs.Steps.{CloseBox}
+use Rattle.desk.proofs.Words.{cut_once, not_cut}
+use Rattle.desk.proofs.Commands.{closed_box, writes_closing}
+use Rattle.desk.proofs.reading.read_closing.Goals as goal
+
+pub returns-in_err-name-clause-all : goal.returns-in_err-name-clause-all
+returns-in_err-name-clause-all c command is form =
+    let b = closed_box c.args.words.now command is form in
+    absurd (not_cut 32 c.args.words.now b.name b.date c.in_err-name.ensures b.word b.text)
+
+pub returns-in_err-read_moment-clause-all : goal.returns-in_err-read_moment-clause-all
+returns-in_err-read_moment-clause-all c command is form =
+    let b = closed_box c.args.words.now command is form in
+    let first = cut_once 32 c.args.words.now c.in_ok-name.name.now c.in_ok-name.moment.now b.name b.date c.in_ok-name.ensures b.word b.text in
+    absurd (c.in_err-read_moment.ensures.none b.moment (subst (λ (t : List ℕ). WritesMoment t b.moment) (sym first.1) b.writes))
+
+pub returns-clause-some : goal.returns-clause-some
+returns-clause-some c =
+    writes_closing c.args.words.now c.in_ok-name.name.now c.in_ok-name.moment.now c.seconds-moment.result c.in_ok-name.ensures.0 (rw c.seconds-moment.ensures.value c.in_ok-read_moment.ensures.some)
+
+pub returns-clause-all : goal.returns-clause-all
+returns-clause-all c command is form =
+    let b = closed_box c.args.words.now command is form in
+    let first = cut_once 32 c.args.words.now c.in_ok-name.name.now c.in_ok-name.moment.now b.name b.date c.in_ok-name.ensures b.word b.text in
+    let same = moment_once b.date b.moment c.seconds-moment.result b.writes (subst (λ (t : List ℕ). WritesMoment t c.seconds-moment.result) first.1 (rw c.seconds-moment.ensures.value c.in_ok-read_moment.ensures.some)) in
+    (λ i. Some (CloseBox (first.0 i) (same i))) ∙ ap Some (sym b.command)

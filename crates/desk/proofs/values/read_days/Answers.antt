@@ -1,0 +1,35 @@
+use Rattle.std.proofs.Common.{◌≡◌, ◌<◌, ℕ, Bool, List, length, get_or, Option, None, Some, arith}
+use Rattle.std.specs.Prelude.{IfNone}
+use Rattle.desk.specs.Texts.{day_digit, days_word}
+use Rattle.std.proofs.lemmas.Slice.Eq.{text_from_reads}
+use Rattle.desk.proofs.Words.{no_day}
+use Rattle.desk.proofs.values.read_days.Goals as goal
+
+no_days : (word : List ℕ) (r : Option (List Bool)) (i : ℕ) → i < 7 → ((day : Bool) → get_or word i 0 ≡ day_digit day → ⊥)
+    → IfNone r ((days : List Bool) → length days ≡ 7 → word ≡ days_word days → ⊥)
+no_days word None i within none = λ days week is. no_day word days i is (omega arith) none
+no_days word (Some days) i within none = tt
+
+pub returns-in_err-read_day-clause-none : goal.returns-in_err-read_day-clause-none
+returns-in_err-read_day-clause-none c = no_days c.args.word.now _ 0 (omega arith) c.in_err-read_day.ensures.none
+
+pub returns-in_err-read_day-2-clause-none : goal.returns-in_err-read_day-2-clause-none
+returns-in_err-read_day-2-clause-none c = no_days c.args.word.now _ 1 (omega arith) c.in_err-read_day-2.ensures.none
+
+pub returns-in_err-read_day-3-clause-none : goal.returns-in_err-read_day-3-clause-none
+returns-in_err-read_day-3-clause-none c = no_days c.args.word.now _ 2 (omega arith) c.in_err-read_day-3.ensures.none
+
+pub returns-in_err-read_day-4-clause-none : goal.returns-in_err-read_day-4-clause-none
+returns-in_err-read_day-4-clause-none c = no_days c.args.word.now _ 3 (omega arith) c.in_err-read_day-4.ensures.none
+
+pub returns-in_err-read_day-5-clause-none : goal.returns-in_err-read_day-5-clause-none
+returns-in_err-read_day-5-clause-none c = no_days c.args.word.now _ 4 (omega arith) c.in_err-read_day-5.ensures.none
+
+pub returns-in_err-read_day-6-clause-none : goal.returns-in_err-read_day-6-clause-none
+returns-in_err-read_day-6-clause-none c = no_days c.args.word.now _ 5 (omega arith) c.in_err-read_day-6.ensures.none
+
+pub returns-in_err-read_day-7-clause-none : goal.returns-in_err-read_day-7-clause-none
+returns-in_err-read_day-7-clause-none c = no_days c.args.word.now _ 6 (omega arith) c.in_err-read_day-7.ensures.none
+
+pub returns-clause-some : goal.returns-clause-some
+returns-clause-some c = text_from_reads c.args.word.now _ (omega arith) (c.in_ok-read_day.ensures.some, (c.in_ok-read_day-2.ensures.some, (c.in_ok-read_day-3.ensures.some, (c.in_ok-read_day-4.ensures.some, (c.in_ok-read_day-5.ensures.some, (c.in_ok-read_day-6.ensures.some, (c.in_ok-read_day-7.ensures.some, tt)))))))
