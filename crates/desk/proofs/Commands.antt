@@ -55,7 +55,10 @@ pub record IsAddedKey (words : List ℕ) (c : Command) : Type 0 where
 pub added_key : (words : List ℕ) (c : Command) → IsCommand (codes "key add " ++ words) c → HasForm c → IsAddedKey words c
 added_key words (AddKey id role secret) is form =
     record {
-      id = id; role = role; secret = secret; command = refl;
+      id = id;
+      role = role;
+      secret = secret;
+      command = refl;
       text = ap (λ (t : List ℕ). drop 8 t) (text_of _ _ is);
       word = word_lacks is_key_byte 64 id 32 refl form.0;
     }
@@ -80,7 +83,11 @@ added_box words (RevokeKey id) is form = absurd (differ 0 _ _ 98 107 (text_of _ 
 added_box words (AddBox name settings) is form =
     let t = text_of (codes "box add " ++ words) (AddBox name settings) is in
     record {
-      name = name; settings = settings; more = t.0; says = t.1; command = refl;
+      name = name;
+      settings = settings;
+      more = t.0;
+      says = t.1;
+      command = refl;
       text = ap (λ (t : List ℕ). drop 8 t) t.2;
       word = word_lacks is_box_byte 63 name 32 refl form.0;
       are = form.1;
@@ -104,7 +111,11 @@ closed_box words (AddBox name settings) is form = let t = text_of (codes "box cl
 closed_box words (CloseBox name moment) is form =
     let t = text_of (codes "box close " ++ words) (CloseBox name moment) is in
     record {
-      name = name; moment = moment; date = t.0; writes = t.1; command = refl;
+      name = name;
+      moment = moment;
+      date = t.0;
+      writes = t.1;
+      command = refl;
       text = ap (λ (t : List ℕ). drop 10 t) t.2;
       word = word_lacks is_box_byte 63 name 32 refl form.0;
     }
@@ -123,7 +134,8 @@ dropped_file words (AddBox name settings) is form = let t = text_of (codes "file
 dropped_file words (CloseBox name moment) is form = let t = text_of (codes "file drop " ++ words) (CloseBox name moment) is in absurd (differ 0 _ _ 102 98 t.2 refl refl (λ e. omega arith))
 dropped_file words (DropFile place) is form =
     record {
-      place = place; command = refl;
+      place = place;
+      command = refl;
       text = ap (λ (t : List ℕ). drop 10 t) (text_of _ _ is);
       word = word_lacks is_box_byte 63 place.box 32 refl form.0;
     }

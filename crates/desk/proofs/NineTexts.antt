@@ -1,9 +1,8 @@
 -- The words of a box's settings, and what they say.
-use Rattle.std.proofs.Common.{◌≡◌, ℕ, ◌<◌, eqb, Bool, false, List, [], ◌∷◌, ◌++◌, length, get_or, drop, refl, sym, ap, subst, ◌∙◌, None, Some, Option, arith, All}
-use Rattle.std.specs.Prelude.{codes, IfSome, option_map}
+use Rattle.std.proofs.Common.{◌≡◌, ℕ, eqb, false, List, [], ◌∷◌, ◌++◌, get_or, drop, refl, sym, ap, subst, ◌∙◌, Some, Option, arith, All}
+use Rattle.std.specs.Prelude.{codes, IfSome}
 use Rattle.std.specs.List.{AllByRecursion, join_with_byte, slice_split}
-use Rattle.std.proofs.lemmas.List.Elements.{All-from_recursion}
-use Rattle.std.proofs.lemmas.Option.{none-some, same_Some}
+use Rattle.std.proofs.lemmas.Option.{same_Some}
 use Rattle.std.specs.Char.{is_ascii_digit}
 use Rattle.sigtext.specs.Targets.{Lacks}
 use Rattle.sigtext.proofs.Cuts.{split_joined}
@@ -54,9 +53,9 @@ rule_as_one a b c d e f g h (Begins text) = refl
 -- a text that says settings is cut into these nine
 pub cut_settings : (text : List ℕ) (found : Option (List (List ℕ))) (words : List (List ℕ)) (b : Settings) (s : SaysSettings words b) → text ≡ join_with_byte 32 words
     → ((opens closes days from to quota max_files mode rule : List ℕ)
-      → Lacks 32 opens → Lacks 32 closes → Lacks 32 days → Lacks 32 from → Lacks 32 to → Lacks 32 quota → Lacks 32 max_files → Lacks 32 mode
-      → text ≡ join_with_byte 32 (opens ∷ closes ∷ days ∷ from ∷ to ∷ quota ∷ max_files ∷ mode ∷ rule ∷ [])
-      → found ≡ Some (opens ∷ closes ∷ days ∷ from ∷ to ∷ quota ∷ max_files ∷ mode ∷ rule ∷ []))
+    → Lacks 32 opens → Lacks 32 closes → Lacks 32 days → Lacks 32 from → Lacks 32 to → Lacks 32 quota → Lacks 32 max_files → Lacks 32 mode
+    → text ≡ join_with_byte 32 (opens ∷ closes ∷ days ∷ from ∷ to ∷ quota ∷ max_files ∷ mode ∷ rule ∷ [])
+    → found ≡ Some (opens ∷ closes ∷ days ∷ from ∷ to ∷ quota ∷ max_files ∷ mode ∷ rule ∷ []))
     → found ≡ Some (nine_texts words b s)
 cut_settings text found words b s is cuts =
     cuts s.opens s.closes (days_word b.days) (minute_word b.from_minute) (minute_word b.to_minute) s.quota s.max_files (mode_word b.mode) (join_with_byte 32 (rule_words b.rule))
@@ -91,13 +90,19 @@ pub say_settings : (text : List ℕ) (w : SettingsWords) (a : Settings) → text
 say_settings text w a is says r rule = (
   w.opens.now ∷ w.closes.now ∷ days_word a.days ∷ minute_word a.from_minute ∷ minute_word a.to_minute ∷ w.quota.now ∷ w.max_files.now ∷ mode_word a.mode ∷ rule_words r,
   record {
-    opens = w.opens.now; closes = w.closes.now; quota = w.quota.now; max_files = w.max_files.now;
-    is_opens = says.opens; is_closes = says.closes; is_quota = says.quota; is_max_files = says.max_files;
+    opens = w.opens.now;
+    closes = w.closes.now;
+    quota = w.quota.now;
+    max_files = w.max_files.now;
+    is_opens = says.opens;
+    is_closes = says.closes;
+    is_quota = says.quota;
+    is_max_files = says.max_files;
     are = refl;
   },
   is
-  ∙ (λ i. join_with_byte 32 (w.opens.now ∷ w.closes.now ∷ says.days i ∷ says.from_minute i ∷ says.to_minute i ∷ w.quota.now ∷ w.max_files.now ∷ says.mode i ∷ rule i ∷ []))
-  ∙ sym (rule_as_one w.opens.now w.closes.now (days_word a.days) (minute_word a.from_minute) (minute_word a.to_minute) w.quota.now w.max_files.now (mode_word a.mode) r),
+      ∙ (λ i. join_with_byte 32 (w.opens.now ∷ w.closes.now ∷ says.days i ∷ says.from_minute i ∷ says.to_minute i ∷ w.quota.now ∷ w.max_files.now ∷ says.mode i ∷ rule i ∷ []))
+      ∙ sym (rule_as_one w.opens.now w.closes.now (days_word a.days) (minute_word a.from_minute) (minute_word a.to_minute) w.quota.now w.max_files.now (mode_word a.mode) r),
 )
 
 -- settings that are the same but for the rule, with the rule
@@ -107,6 +112,13 @@ with_rule a b r same rule =
     let rest = same_Some a (record b { rule = AnyName }) same in
     let last = same_Some r b.rule rule in
     λ i. Some (record {
-      opens = (rest i).opens; closes = (rest i).closes; days = (rest i).days; from_minute = (rest i).from_minute; to_minute = (rest i).to_minute;
-      quota = (rest i).quota; max_files = (rest i).max_files; mode = (rest i).mode; rule = last i;
+      opens = (rest i).opens;
+      closes = (rest i).closes;
+      days = (rest i).days;
+      from_minute = (rest i).from_minute;
+      to_minute = (rest i).to_minute;
+      quota = (rest i).quota;
+      max_files = (rest i).max_files;
+      mode = (rest i).mode;
+      rule = last i;
     })

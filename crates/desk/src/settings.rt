@@ -35,7 +35,7 @@ fn cut_words(text: &[u8]) -> Option<SettingsWords<'_>>
     ensures all { (opens closes days from to quota max_files mode rule : List ℕ)
         → Lacks 32 opens → Lacks 32 closes → Lacks 32 days → Lacks 32 from → Lacks 32 to → Lacks 32 quota → Lacks 32 max_files → Lacks 32 mode
         → let texts = opens ∷ closes ∷ days ∷ from ∷ to ∷ quota ∷ max_files ∷ mode ∷ rule ∷ [] in
-          text.now ≡ join_with_byte 32 texts → option_map texts_of result ≡ Some texts }
+        text.now ≡ join_with_byte 32 texts → option_map texts_of result ≡ Some texts }
 {
     let (opens, rest) = cut(text, b' ')?;
     let (closes, rest) = cut(rest, b' ')?;

@@ -24,5 +24,13 @@ returns-clause-all c b says are =
     let max_files = c.in_ok-max_files.ensures.some.value ∙ sym says.max_files.value in
     let mode = mode_once c.in_ok-mode.mode b.mode (sym c.in_ok-mode.ensures.some ∙ says.mode) in
     λ i. Some (record {
-      opens = opens i; closes = closes i; days = days i; from_minute = from i; to_minute = to i; quota = quota i; max_files = max_files i; mode = mode i; rule = AnyName;
+      opens = opens i;
+      closes = closes i;
+      days = days i;
+      from_minute = from i;
+      to_minute = to i;
+      quota = quota i;
+      max_files = max_files i;
+      mode = mode i;
+      rule = AnyName;
     })

@@ -1,9 +1,7 @@
-use Rattle.std.proofs.Common.{◌≡◌, List, ℕ, None, Some, Option, sym, ap, ◌∙◌}
+use Rattle.std.proofs.Common.{None, Some, sym, ap, ◌∙◌}
 use Rattle.std.specs.Prelude.{option_map}
-use Rattle.std.specs.List.{join_with_byte}
 use Rattle.std.proofs.lemmas.Option.{none-some, same_Some}
 use Rattle.boxes.specs.Rows.{name_rule_of, settings_of}
-use Rattle.desk.specs.Texts.{rule_words}
 use Rattle.desk.specs.Lines.{texts_of}
 use Rattle.desk.proofs.NineTexts.{some_at, cut_settings, nine_texts, nine_say, say_settings, with_rule}
 use Rattle.desk.proofs.settings.read_settings.Goals as goal
