@@ -1,5 +1,5 @@
 -- The texts of commands, by their kinds.
-use Rattle.std.proofs.Common.{◌≡◌, ℕ, List, [], ◌∷◌, ◌++◌, get_or, drop, refl, sym, ap, subst, ◌∙◌, arith}
+use Rattle.std.proofs.Common.{◌≡◌, ℕ, List, [], ◌∷◌, ◌++◌, drop, refl, sym, ap, subst, ◌∙◌, arith}
 use Rattle.std.specs.Prelude.{codes}
 use Rattle.std.specs.List.{join_with_byte}
 use Rattle.sigtext.specs.Targets.{Lacks}
@@ -11,7 +11,7 @@ use Rattle.boxes.specs.Steps.{Command, AddKey, RevokeKey, AddBox, CloseBox, Drop
 use Rattle.boxes.specs.Sound.{is_box_byte, AreSettings}
 use Rattle.boxes.specs.Commands.{HasForm}
 use Rattle.desk.specs.Texts.{role_word, SaysSettings, Says, adds_key, revokes_key, adds_box, closes_box, drops_file, IsCommand}
-use Rattle.desk.proofs.Words.{word_lacks}
+use Rattle.desk.proofs.Words.{differ, word_lacks}
 
 -- the text of the command, its words written out
 abbrev pub IsTextOf : List ℕ → Command → Type 0
@@ -37,10 +37,6 @@ says_text text words c (drops_file place) is = is
 
 pub text_of : (text : List ℕ) (c : Command) → IsCommand text c → IsTextOf text c
 text_of text c is = says_text text is.words c is.says is.is
-
--- two texts of different commands differ at some byte
-differ : (i : ℕ) (a b : List ℕ) (x y : ℕ) → a ≡ b → get_or a i 0 ≡ x → get_or b i 0 ≡ y → (x ≡ y → ⊥) → ⊥
-differ i a b x y same left right other = other (sym left ∙ ap (λ (t : List ℕ). get_or t i 0) same ∙ right)
 
 -- ---- what stands behind the first two words
 

@@ -12,16 +12,13 @@ use Rattle.boxes.specs.Sound.{is_rule_byte, IsRuleText, IsNameRule}
 use Rattle.desk.specs.Texts.{days_word, minute_word, mode_word, rule_words, SaysSettings}
 use Rattle.desk.specs.Lines.{texts_of, SayRow}
 use Rattle.desk.specs.declared.settings.SettingsWords.{SettingsWords}
-use Rattle.desk.proofs.Words.{word_lacks, moment_lacks_space, days_lack_space, minute_lacks_space, mode_lacks_space}
+use Rattle.desk.proofs.Words.{differ, word_lacks, moment_lacks_space, days_lack_space, minute_lacks_space, mode_lacks_space}
 
 -- what holds of the value that is there
 pub some_at : {X : Type 0} (Q : X → Type 0) (o : Option X) (x : X) → o ≡ Some x → IfSome o Q → Q x
 some_at Q o x is holds = subst (λ (p : Option _). IfSome p Q) is holds
 
 -- ---- the rule
-
-apart : (i : ℕ) (a b : List ℕ) (x y : ℕ) → a ≡ b → get_or a i 0 ≡ x → get_or b i 0 ≡ y → (x ≡ y → ⊥) → ⊥
-apart i a b x y same left right other = other (sym left ∙ ap (λ (t : List ℕ). get_or t i 0) same ∙ right)
 
 without_commas : (texts : List (List ℕ)) → AllByRecursion (IsRuleText 32) texts → AllByRecursion (All (λ x. eqb x 44 ≡ false)) texts
 without_commas [] h = tt
@@ -30,11 +27,11 @@ without_commas (text ∷ texts) h = (tested 44 text (word_lacks is_rule_byte 32 
 -- the texts behind `ends ` are the rule's
 pub ends_once : (words list : List ℕ) (texts : List (List ℕ)) (r : NameRule) → words ≡ codes "ends " ++ list → texts ≡ slice_split (λ b. eqb b 44) list
     → IsNameRule r → words ≡ join_with_byte 32 (rule_words r) → Ends texts ≡ r
-ends_once words list texts AnyName front split form is = absurd (apart 0 _ _ 101 97 (sym front ∙ is) refl refl (λ e. omega arith))
+ends_once words list texts AnyName front split form is = absurd (differ 0 _ _ 101 97 (sym front ∙ is) refl refl (λ e. omega arith))
 ends_once words list texts (Ends given) front split form is =
     let list_is : list ≡ join_with_byte 44 given = ap (λ (t : List ℕ). drop 5 t) (sym front ∙ is) in
     ap Ends (split ∙ ap (slice_split (λ b. eqb b 44)) list_is ∙ split_joined 44 given (omega (arith, form.0)) (without_commas given form.2))
-ends_once words list texts (Begins text) front split form is = absurd (apart 0 _ _ 101 98 (sym front ∙ is) refl refl (λ e. omega arith))
+ends_once words list texts (Begins text) front split form is = absurd (differ 0 _ _ 101 98 (sym front ∙ is) refl refl (λ e. omega arith))
 
 -- ---- the settings
 

@@ -80,6 +80,10 @@ moment_lacks_space text moment w = subst (Lacks 32) (sym w.written) (All-from_re
 
 -- ---- words that tell what they say
 
+-- equal texts have equal bytes
+pub differ : (i : ℕ) (a b : List ℕ) (x y : ℕ) → a ≡ b → get_or a i 0 ≡ x → get_or b i 0 ≡ y → (x ≡ y → ⊥) → ⊥
+differ i a b x y same left right other = other (sym left ∙ ap (λ (t : List ℕ). get_or t i 0) same ∙ right)
+
 pub role_once : (r s : Role) → role_word r ≡ role_word s → r ≡ s
 role_once role.Clerk role.Clerk e = refl
 role_once role.Clerk role.Link e = absurd cc
