@@ -13,7 +13,7 @@ import time
 import kit
 import tables
 from expected import SECRET, answer, quoted
-from office import CLERK, DONE, difference, fetched, head, malformed, receipt, run_all
+from office import CLERK, DONE, difference, fetched, get, head, malformed, put, receipt, run_all
 from orders import BotocoreOrder
 from replays import ID, MOMENT, fault, signed
 from serve import Server, curl
@@ -31,14 +31,6 @@ BOX = f"box add in {ANY} 100 2 keep any"
 def post(line, path=b"/", **how):
     """A desk command as a signed request."""
     return signed("POST", path, b"&desk=" + quoted(line), **how)
-
-
-def put(path, data, **how):
-    return signed("PUT", path, unsigned=[(b"Content-Length", b"%d" % len(data))], **how) + data
-
-
-def get(path, method="GET", **how):
-    return signed(method, path, **how)
 
 
 # ---- lines

@@ -1,3 +1,4 @@
 pub mod Words
 pub mod NineTexts
 pub mod Commands
+pub mod RuleWords

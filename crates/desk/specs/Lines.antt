@@ -1,5 +1,5 @@
 -- What a desk command that was read means.
-use Rattle.std.specs.Prelude.{◌≡◌, ℕ, List, [], ◌∷◌}
+use Rattle.std.specs.Prelude.{◌≡◌, ◌⊎◌, ℕ, List, [], ◌∷◌, ◌++◌, codes}
 use Rattle.sigv4.specs.Dates.{WritesMoment}
 use Rattle.boxes.specs.State.{Settings}
 use Rattle.boxes.specs.Steps.{Command, AddKey, RevokeKey, AddBox, CloseBox, DropFile}
@@ -32,3 +32,11 @@ pub record SayRow (w : SettingsWords) (b : Settings) : Type 0 where
   pub quota : IsNumber w.quota.now b.quota
   pub max_files : IsNumber w.max_files.now b.max_files
   pub mode : w.mode.now ≡ mode_word b.mode
+
+-- ` ends ` or ` begins ` stands in the text
+abbrev pub HasRuleWord : List ℕ → Type 0
+HasRuleWord text = (front rest : List ℕ) × ((text ≡ front ++ (codes " ends " ++ rest)) ⊎ (text ≡ front ++ (codes " begins " ++ rest)))
+
+-- `box add `, and a text in which one of them stands
+abbrev pub HasListedRule : List ℕ → Type 0
+HasListedRule line = (words : List ℕ) × (line ≡ codes "box add " ++ words) × HasRuleWord words

@@ -1,9 +1,8 @@
 //! Reading a desk command.
-ghost use Rattle.std.specs.Prelude.{◌≡◌, ◌++◌, true, IfErr, IfOk, IfSome, option_map, Some, codes};
-ghost use Rattle.sigtext.specs.Bytes.{begins_with};
+ghost use Rattle.std.specs.Prelude.{◌≡◌, ◌++◌, IfErr, IfOk, IfSome, option_map, Some, codes};
 ghost use Rattle.boxes.specs.Commands.{HasForm};
 ghost use Rattle.boxes.specs.Steps.{Command};
-ghost use Rattle.desk.specs.Lines.{said};
+ghost use Rattle.desk.specs.Lines.{said, HasListedRule, HasRuleWord};
 ghost use Rattle.desk.specs.Texts.{IsCommand};
 
 use crate::line::DeskLine;
@@ -29,6 +28,7 @@ fn read_key(words: &[u8]) -> Option<DeskLine<'_>>
 fn read_box(alloc: Global, words: &[u8]) -> Result<Option<DeskLine<'_>>, AllocError>
     ensures some { IfOk result (λ found. IfSome found (λ l. IsCommand (codes "box add " ++ words.now) (said l))) }
     ensures all { IfOk result (λ found. (c : Command) → IsCommand (codes "box add " ++ words.now) c → HasForm c → option_map said found ≡ Some c) }
+    ensures memory { IfErr result (λ e. HasRuleWord words.now) }
 {
     let Some((name, rest)) = cut(words, b' ') else {
         return Ok(None);
@@ -62,7 +62,7 @@ fn read_drop(words: &[u8]) -> Option<DeskLine<'_>>
 fn read_line(alloc: Global, line: &[u8]) -> Result<Option<DeskLine<'_>>, AllocError>
     ensures some { IfOk result (λ found. IfSome found (λ l. IsCommand line.now (said l))) }
     ensures all { IfOk result (λ found. (c : Command) → IsCommand line.now c → HasForm c → option_map said found ≡ Some c) }
-    ensures memory { IfErr result (λ e. begins_with line.now (codes "box add ") ≡ true) }
+    ensures memory { IfErr result (λ e. HasListedRule line.now) }
 {
     if let Some(words) = line.strip_prefix(b"key add ") {
         return Ok(read_key(words));
@@ -82,26 +82,28 @@ fn read_line(alloc: Global, line: &[u8]) -> Result<Option<DeskLine<'_>>, AllocEr
     }
 }
 
-/// Reads a desk command: words one space apart, in one of five forms. ID, SECRET and the names of boxes and files have the
-/// forms that the office asks of them (`boxes::has_form`).
+/// Reads a desk command: words with one space between them, in one of five forms. ID, SECRET and the names of boxes and
+/// files have the forms that the office asks of them (`boxes::has_form`).
 ///
 /// - `key add ID ROLE SECRET`, where ROLE is `clerk` or `link`;
 /// - `key revoke ID`;
-/// - `box add NAME OPENS CLOSES DAYS FROM TO QUOTA FILES MODE RULE`, with OPENS and CLOSES as `20130524T000000Z`, DAYS seven
-///   digits 0 or 1, Monday first, FROM and TO as `HHmm`, QUOTA in bytes, MODE `keep` or `replace`, and RULE `any`,
-///   `ends T,T,..` or `begins T`;
-/// - `box close NAME MOMENT`;
+/// - `box add NAME OPENS CLOSES DAYS FROM TO QUOTA FILES MODE RULE`, with OPENS and CLOSES as `20130524T000000Z`, DAYS
+///   seven digits 0 or 1, Monday first, FROM and TO as `HHmm`, FROM before TO and TO up to `2400`, QUOTA in bytes, up to
+///   1000000000000, FILES up to 1000000, both without leading zeros, though `0` itself may stand, MODE `keep` or `replace`,
+///   and RULE `any`, `ends T,T,..` with 1 to 8 endings of 1 to 32 bytes, or `begins T` with a beginning of 1 to 64 bytes;
+///   a T is UTF-8 with no comma, space or control byte in it;
+/// - `box close NAME MOMENT`, with MOMENT as OPENS;
 /// - `file drop BOX NAME`, where NAME runs to the end and may hold spaces.
 ///
 /// None where the line is no command.
 ///
 /// # Errors
 ///
-/// Memory was refused. It is asked for by `box add` alone.
+/// Memory was refused. It is asked for by `box add` with a rule `ends` or `begins` alone.
 pub fn read_command(alloc: Global, line: &[u8]) -> Result<Option<DeskLine<'_>>, AllocError>
     ensures some { IfOk result (λ found. IfSome found (λ l. IsCommand line.now (said l) × HasForm (said l))) }
     ensures all { IfOk result (λ found. (c : Command) → IsCommand line.now c → HasForm c → option_map said found ≡ Some c) }
-    ensures memory { IfErr result (λ e. begins_with line.now (codes "box add ") ≡ true) }
+    ensures memory { IfErr result (λ e. HasListedRule line.now) }
 {
     match read_line(alloc, line)? {
         Some(read) if has_form(&read.command()) => Ok(Some(read)),

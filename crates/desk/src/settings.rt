@@ -1,12 +1,13 @@
 //! The words of a box's settings.
-ghost use Rattle.std.specs.Prelude.{◌≡◌, ◌∷◌, [], ◌==◌, ℕ, List, IfOk, IfSome, map, option_map, Some};
+ghost use Rattle.std.specs.Prelude.{◌≡◌, ◌∷◌, [], ◌==◌, ◌⊎◌, ℕ, List, true, IfErr, IfOk, IfSome, map, option_map, Some, codes};
 ghost use Rattle.std.specs.List.{join_with_byte, slice_split};
 ghost use Rattle.boxes.specs.Rows.{name_rule_of, settings_of};
 ghost use Rattle.boxes.specs.Sound.{AreSettings, IsNameRule};
 ghost use Rattle.boxes.specs.State as state;
 ghost use Rattle.boxes.specs.State.{AnyName, Settings};
+ghost use Rattle.sigtext.specs.Bytes.{begins_with};
 ghost use Rattle.sigtext.specs.Targets.{Lacks};
-ghost use Rattle.desk.specs.Lines.{texts_of, SayRow};
+ghost use Rattle.desk.specs.Lines.{texts_of, HasRuleWord, SayRow};
 ghost use Rattle.desk.specs.Texts.{SaysSettings, rule_words};
 
 use crate::values::{read_days, read_minute, read_mode, read_number};
@@ -73,6 +74,7 @@ fn read_texts(alloc: Global, list: &[u8]) -> Result<Vec<Vec<u8>>, AllocError>
 fn read_rule(alloc: Global, words: &[u8]) -> Result<Option<NameRule>, AllocError>
     ensures some { IfOk result (λ found. IfSome found (λ r. words.now ≡ join_with_byte 32 (rule_words (name_rule_of r)))) }
     ensures all { IfOk result (λ found. (r : state.NameRule) → IsNameRule r → words.now ≡ join_with_byte 32 (rule_words r) → option_map name_rule_of found ≡ Some r) }
+    ensures memory { IfErr result (λ e. (begins_with words.now (codes "ends ") ≡ true) ⊎ (begins_with words.now (codes "begins ") ≡ true)) }
 {
     if words == b"any".as_slice() {
         return Ok(Some(NameRule::Any));
@@ -117,6 +119,7 @@ pub(crate) fn read_settings(alloc: Global, text: &[u8]) -> Result<Option<BoxRow>
     ensures some { IfOk result (λ found. IfSome found (λ row. (words : List (List ℕ)) × SaysSettings words (settings_of row) × (text.now ≡ join_with_byte 32 words))) }
     ensures all { IfOk result (λ found. (words : List (List ℕ)) (b : Settings) → SaysSettings words b → AreSettings b → text.now ≡ join_with_byte 32 words
         → option_map settings_of found ≡ Some b) }
+    ensures memory { IfErr result (λ e. HasRuleWord text.now) }
 {
     let Some(words) = cut_words(text) else {
         return Ok(None);

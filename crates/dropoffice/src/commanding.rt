@@ -28,8 +28,7 @@ pub enum DeskFault {
 }
 
 impl<K: Keeper> Office<K> {
-    ghost use Rattle.std.specs.Prelude.{◌≡◌, ◌≢◌, ◌≤◌, ◌⊎◌, ℕ, Err, IfErr, IfOk, OnErr, OnOk, codes, true};
-    ghost use Rattle.sigtext.specs.Bytes.{begins_with};
+    ghost use Rattle.std.specs.Prelude.{◌≡◌, ◌≢◌, ◌≤◌, ◌⊎◌, ℕ, Err, IfErr, IfOk, OnErr, OnOk};
     ghost use Rattle.sigtext.specs.Counts.{Rose};
     ghost use Rattle.sigtext.specs.Request.{Request};
     ghost use Rattle.boxes.specs.Changes.{command_of, IsObeyed};
@@ -39,6 +38,7 @@ impl<K: Keeper> Office<K> {
     ghost use Rattle.boxes.specs.Views.{IsDeskViewOf};
     ghost use Rattle.links.specs.LinkReadings.{IsLinkOf};
     ghost use Rattle.links.specs.WellFormed.{LinkValues};
+    ghost use Rattle.desk.specs.Lines.{HasListedRule};
     ghost use Rattle.dropoffice.specs.Admitted.{ReachesBoxes};
     ghost use Rattle.dropoffice.specs.Kept.{IsKept, IsLeft};
     ghost use Rattle.dropoffice.specs.Obeying.{IsKeepers, IsObeyedBy};
@@ -114,10 +114,10 @@ impl<K: Keeper> Office<K> {
     /// # Errors
     ///
     /// The state is as it was. `Malformed` comes where the line is no command, and `NotPossible` where the office's state bars
-    /// the command that it is; `Kept` where the keeper failed, or memory was refused for a line that begins with `box add `.
+    /// the command that it is; `Kept` where the keeper failed, or memory was refused for the rule of a box.
     pub fn desk(&mut self, line: &[u8]) -> Result<(), DeskFault>
         ensures obeys { (s : State) → IsKept (K.means self.old.keeper) (K.is_honest self.new.keeper) s → IsObeyedBy (K.means self.new.keeper) s line.now result }
-        ensures kept { IfErr result (λ f. IsKeepers f → Rose (K.faults self.old.keeper) (K.faults self.new.keeper) ⊎ (begins_with line.now (codes "box add ") ≡ true)) }
+        ensures kept { IfErr result (λ f. IsKeepers f → Rose (K.faults self.old.keeper) (K.faults self.new.keeper) ⊎ HasListedRule line.now) }
         ensures store { result ≡ Err (DeskFault.Kept KeepFault.Store) → K.has_store }
         ensures same { (s : State) → K.means self.old.keeper s → OnErr result (K.means self.new.keeper s) }
         ensures honest { K.is_honest self.new.keeper → K.is_honest self.old.keeper }

@@ -1,12 +1,15 @@
-use Rattle.std.proofs.Common.{Some, sym, ap, ◌∙◌}
+use Rattle.std.proofs.Common.{Some, sym, ap, subst, ◌∙◌}
 use Rattle.std.specs.Prelude.{option_map}
 use Rattle.std.specs.List.{join_with_byte}
 use Rattle.std.proofs.lemmas.Option.{none-some, same_Some}
 use Rattle.boxes.specs.Rows.{settings_of}
 use Rattle.boxes.specs.Steps.{AddBox}
+use Rattle.links.proofs.SixLemmas.{whatever_err}
+use Rattle.desk.specs.Lines.{HasRuleWord}
 use Rattle.desk.proofs.Words.{cut_once, not_cut}
 use Rattle.desk.proofs.Commands.{added_box, writes_box}
 use Rattle.desk.proofs.NineTexts.{some_at}
+use Rattle.desk.proofs.RuleWords.{further}
 use Rattle.desk.proofs.reading.read_box.Goals as goal
 
 pub returns-in_default-clause-all : goal.returns-in_default-clause-all
@@ -31,3 +34,7 @@ returns-in-None-clause-all c command is form =
     let b = added_box c.args.words.now command is form in
     let first = cut_once 32 c.args.words.now c.in-Some.name.now c.in-Some.rest.now b.name (join_with_byte 32 b.more) c.in-Some.ensures b.word b.text in
     absurd (none-some _ (sym (ap (option_map settings_of) c.in-None.is) ∙ c.in_ok-row.ensures.all b.more b.settings b.says b.are first.1))
+
+pub returns-in_err-row-clause-memory : goal.returns-in_err-row-clause-memory
+returns-in_err-row-clause-memory c =
+    whatever_err c.from_residual.result (subst HasRuleWord (sym c.in-Some.ensures.0) (further c.in-Some.name.now c.in-Some.rest.now c.in_err-row.ensures.memory))

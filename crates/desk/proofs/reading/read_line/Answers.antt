@@ -1,5 +1,6 @@
 use Rattle.std.proofs.Common.{◌≡◌, List, ℕ, Some, sym, subst}
 use Rattle.std.specs.Prelude.{codes, option_map, IfOk, IfSome}
+use Rattle.std.proofs.lemmas.Result.{IfErr-weaker}
 use Rattle.boxes.specs.Steps.{Command}
 use Rattle.boxes.specs.Commands.{HasForm}
 use Rattle.desk.specs.Lines.{said}
@@ -42,3 +43,8 @@ pub returns-in-Some-strip_prefix-4-clause-all : goal.returns-in-Some-strip_prefi
 returns-in-Some-strip_prefix-4-clause-all c command is form =
     let front = behind_front c.args.line.now (codes "file drop ") c.strip_prefix-5.result c.in-Some-strip_prefix-4.words c.in-Some-strip_prefix-4.is c.strip_prefix-5.ensures.cases in
     c.read_drop.ensures.all command (subst (λ (t : List ℕ). IsCommand t command) front is) form
+
+pub returns-in-Some-strip_prefix-2-clause-memory : goal.returns-in-Some-strip_prefix-2-clause-memory
+returns-in-Some-strip_prefix-2-clause-memory c =
+    let front = behind_front c.args.line.now (codes "box add ") c.strip_prefix-3.result c.in-Some-strip_prefix-2.words c.in-Some-strip_prefix-2.is c.strip_prefix-3.ensures.cases in
+    IfErr-weaker c.read_box.result _ _ (λ e has. (c.in-Some-strip_prefix-2.words.now, front, has)) c.read_box.ensures.memory

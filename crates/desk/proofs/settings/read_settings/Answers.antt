@@ -1,9 +1,11 @@
-use Rattle.std.proofs.Common.{None, Some, sym, ap, ◌∙◌}
+use Rattle.std.proofs.Common.{None, Some, sym, ap, subst, ◌∙◌}
 use Rattle.std.specs.Prelude.{option_map}
 use Rattle.std.proofs.lemmas.Option.{none-some, same_Some}
 use Rattle.boxes.specs.Rows.{name_rule_of, settings_of}
-use Rattle.desk.specs.Lines.{texts_of}
+use Rattle.links.proofs.SixLemmas.{whatever_err}
+use Rattle.desk.specs.Lines.{texts_of, HasRuleWord}
 use Rattle.desk.proofs.NineTexts.{some_at, cut_settings, nine_texts, nine_say, say_settings, with_rule}
+use Rattle.desk.proofs.RuleWords.{in_settings}
 use Rattle.desk.proofs.settings.read_settings.Goals as goal
 
 pub returns-in_default-clause-all : goal.returns-in_default-clause-all
@@ -33,3 +35,7 @@ returns-clause-all c words b says are is =
     let texts = cut_settings c.args.text.now (Some (texts_of c.in-Some.words)) words b says is c.in-Some.ensures.all in
     let row = nine_say c.in-Some.words words b says (same_Some (texts_of c.in-Some.words) (nine_texts words b says) texts) in
     absurd (none-some _ (sym (ap (option_map name_rule_of) c.in-None.is) ∙ c.in_ok-rule.ensures.all b.rule are.rule row.1))
+
+pub returns-in_err-rule-clause-memory : goal.returns-in_err-rule-clause-memory
+returns-in_err-rule-clause-memory c =
+    whatever_err c.from_residual.result (subst HasRuleWord (sym c.in-Some.ensures.some) (in_settings c.in-Some.words c.in_err-rule.ensures.memory))
