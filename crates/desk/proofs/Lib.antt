@@ -3,3 +3,4 @@ pub mod NineTexts
 pub mod Commands
 pub mod RuleWords
 pub mod OneCommand
+pub mod Examples

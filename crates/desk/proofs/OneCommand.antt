@@ -22,7 +22,7 @@ use Rattle.desk.proofs.Commands.{text_of, IsAddedKey, added_key, revoked_key, Is
 -- ---- settings
 
 -- the texts before the first n spaces, and the text behind them
-unfoldable cut_spaces : ℕ → List ℕ → Option (List (List ℕ))
+unfoldable pub cut_spaces : ℕ → List ℕ → Option (List (List ℕ))
 cut_spaces zero text = Some (text ∷ [])
 cut_spaces (suc n) text = cut 32 text >>= (λ p. option_map (λ (t : List (List ℕ)). p.0 ∷ t) (cut_spaces n p.1))
 
@@ -39,7 +39,7 @@ cuts_joined (word ∷ words) last lack =
     ∙ ap (option_map (λ (t : List (List ℕ)). word ∷ t)) (cuts_joined words last lack.1)
 
 -- the first eight spaces cut a text that says settings into the nine texts
-cuts_settings : (text : List ℕ) (words : List (List ℕ)) (b : Settings) (s : SaysSettings words b) → text ≡ join_with_byte 32 words → cut_spaces 8 text ≡ Some (nine_texts words b s)
+pub cuts_settings : (text : List ℕ) (words : List (List ℕ)) (b : Settings) (s : SaysSettings words b) → text ≡ join_with_byte 32 words → cut_spaces 8 text ≡ Some (nine_texts words b s)
 cuts_settings text words b s is =
     cut_settings text (cut_spaces 8 text) words b s is (λ opens closes days from to quota max_files mode rule l1 l2 l3 l4 l5 l6 l7 l8 joined.
     ap (cut_spaces 8) joined
