@@ -63,6 +63,13 @@ added_key words (AddBox name settings) is form = let t = text_of (codes "key add
 added_key words (CloseBox name moment) is form = let t = text_of (codes "key add " ++ words) (CloseBox name moment) is in absurd (differ 0 _ _ 107 98 t.2 refl refl (λ e. omega arith))
 added_key words (DropFile place) is form = absurd (differ 0 _ _ 107 102 (text_of _ _ is) refl refl (λ e. omega arith))
 
+pub revoked_key : (id : List ℕ) (c : Command) → IsCommand (codes "key revoke " ++ id) c → c ≡ RevokeKey id
+revoked_key id (AddKey other role secret) is = absurd (differ 4 _ _ 114 97 (text_of _ _ is) refl refl (λ e. omega arith))
+revoked_key id (RevokeKey other) is = ap (λ (t : List ℕ). RevokeKey (drop 11 t)) (sym (text_of _ _ is))
+revoked_key id (AddBox name settings) is = let t = text_of (codes "key revoke " ++ id) (AddBox name settings) is in absurd (differ 0 _ _ 107 98 t.2 refl refl (λ e. omega arith))
+revoked_key id (CloseBox name moment) is = let t = text_of (codes "key revoke " ++ id) (CloseBox name moment) is in absurd (differ 0 _ _ 107 98 t.2 refl refl (λ e. omega arith))
+revoked_key id (DropFile place) is = absurd (differ 0 _ _ 107 102 (text_of _ _ is) refl refl (λ e. omega arith))
+
 pub record IsAddedBox (words : List ℕ) (c : Command) : Type 0 where
   pub name : List ℕ
   pub settings : Settings

@@ -2,3 +2,5 @@ pub mod Words
 pub mod NineTexts
 pub mod Commands
 pub mod RuleWords
+pub mod OneCommand
+pub mod Examples

@@ -20,7 +20,7 @@ some_at Q o x is holds = subst (λ (p : Option _). IfSome p Q) is holds
 
 -- ---- the rule
 
-without_commas : (texts : List (List ℕ)) → AllByRecursion (IsRuleText 32) texts → AllByRecursion (All (λ x. eqb x 44 ≡ false)) texts
+pub without_commas : (texts : List (List ℕ)) → AllByRecursion (IsRuleText 32) texts → AllByRecursion (All (λ x. eqb x 44 ≡ false)) texts
 without_commas [] h = tt
 without_commas (text ∷ texts) h = (tested 44 text (word_lacks is_rule_byte 32 text 44 refl h.0.word), without_commas texts h.1)
 

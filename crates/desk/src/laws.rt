@@ -1,0 +1,10 @@
+//! Laws of desk commands, for callers to cite.
+ghost use Rattle.std.specs.Prelude.{◌≡◌, ℕ, List};
+ghost use Rattle.boxes.specs.Commands.{HasForm};
+ghost use Rattle.boxes.specs.Steps.{Command};
+ghost use Rattle.desk.specs.Texts.{IsCommand};
+
+/// A text is one command at most.
+pub fn law_of_commands()
+    ensures one { (text : List ℕ) (a b : Command) → IsCommand text a → HasForm a → IsCommand text b → HasForm b → b ≡ a }
+{}
