@@ -1,0 +1,78 @@
+#!/usr/bin/env python3
+"""What the rows of an upload cost by themselves: stock SQLite, by Python's `sqlite3`, commits one row of 1 KiB in a table of its own,
+and in turn with that the rows that an upload of 1 KiB writes into the tables that `drop init` made. No HTTP, no signature, no
+program of ours: the ratio of the two bounds what a durable upload over these tables can reach beside a bare commit.
+README.md beside this says more.
+"""
+
+import argparse
+import hashlib
+import os
+import pathlib
+import sqlite3
+import sys
+import tempfile
+import time
+
+from run import connected, machine
+
+sys.path.insert(0, str(pathlib.Path(__file__).resolve().parents[2] / "ci"))
+import office  # noqa: E402
+import tables  # noqa: E402
+from replays import ID  # noqa: E402
+
+BODY = os.urandom(1024)
+DIGEST = hashlib.sha256(BODY).digest()
+
+
+def commit_row(db, number):
+    db.execute("BEGIN")
+    db.execute("INSERT INTO blobs VALUES (?, ?)", (number, BODY))
+    db.execute("COMMIT")
+
+
+def commit_upload(db, number):
+    name = f"file-{number}"
+    db.execute("BEGIN")
+    db.execute("INSERT INTO receipts VALUES (?, 'bench', ?, 1024, ?, 0, ?)", (number, name, DIGEST, ID))
+    db.execute("INSERT INTO files VALUES ('bench', ?, ?)", (name, number))
+    db.execute("INSERT INTO pieces VALUES ('bench', ?, 0, ?)", (name, BODY))
+    db.execute("UPDATE boxes SET used = ?, count = ? WHERE name = 'bench'", (number * 1024, number))
+    db.execute("COMMIT")
+
+
+def seconds(commit, db, numbers):
+    """The seconds of one commit, taken over all of these."""
+    begun = time.perf_counter()
+    for number in numbers:
+        commit(db, number)
+    return (time.perf_counter() - begun) / len(numbers)
+
+
+def main():
+    parser = argparse.ArgumentParser(description=__doc__.splitlines()[0])
+    parser.add_argument("drop", type=pathlib.Path, help="the built program")
+    parser.add_argument("--rounds", type=int, default=10)
+    parser.add_argument("--commits", type=int, default=500, help="of each kind in a round")
+    words = parser.parse_args()
+    with tempfile.TemporaryDirectory(prefix="drop-bench-") as name:
+        folder = pathlib.Path(name)
+        file = office.Drop(words.drop.resolve(), folder).office("office")
+        tables.add_box(file, tables.Box("bench", quota=10**12, max_files=10**6))
+        plain, uploads = connected(folder / "plain"), connected(file)
+        plain.execute("CREATE TABLE blobs (id INTEGER PRIMARY KEY, bytes BLOB NOT NULL) STRICT")
+        for db in (plain, uploads):
+            db.execute("PRAGMA locking_mode = EXCLUSIVE")
+        uploads.execute("PRAGMA foreign_keys = ON")
+        rows, whole = [], []
+        for number in range(words.rounds):
+            numbers = range(1 + number * words.commits, 1 + (number + 1) * words.commits)
+            rows.append(seconds(commit_row, plain, numbers))
+            whole.append(seconds(commit_upload, uploads, numbers))
+        print(f"{machine(folder)}\none row {min(rows) * 1e6:.0f} us, an upload's rows {min(whole) * 1e6:.0f} us, "
+              f"ratio {min(rows) / min(whole):.2f}")
+        print(f"check: {sqlite3.sqlite_version}, {uploads.execute('PRAGMA integrity_check').fetchone()[0]}")
+
+
+if __name__ == "__main__":
+    main()
