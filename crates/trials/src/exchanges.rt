@@ -35,20 +35,25 @@ fn exchange<R: Read + Drop>(alloc: Global, reader: R) -> Result<(Vec<u8>, Sessio
     Ok((writer.inner.text, end))
 }
 
-#[test]
-fn a_fetch_has_no_body(rt: HostRuntime) -> Result<(), Fail> {
-    let alloc = rt.alloc();
+// A fetch that has a body.
+fn get_with<'a>(alloc: Global, body: &'a [u8]) -> Result<Vec<u8>, Fail> {
     let asked = Asked {
         key: CLERK,
         method: b"GET",
         path: b"/in/a.txt",
-        body: Some(b"x"),
+        body: Some(body),
         start: DATE,
         params: &[],
     };
+    asked.message(alloc)
+}
+
+#[test]
+fn a_fetch_has_no_body(rt: HostRuntime) -> Result<(), Fail> {
+    let alloc = rt.alloc();
     let mut office = make_office(alloc, 0, &settings(Mode::Keep, 100, 2))?;
     assert_eq!(rt;
-        reply(&mut office, &asked.message(alloc)?, DATE)?.as_slice(),
+        reply(&mut office, &get_with(alloc, b"x")?, DATE)?.as_slice(),
         NO_BODY_HERE
     );
     Ok(())
