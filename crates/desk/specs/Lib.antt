@@ -1,2 +1,6 @@
 pub mod Texts
 pub mod Lines
+pub mod Lists
+pub mod Manifests
+pub mod LinkLists
+pub mod Asking

@@ -1,12 +1,23 @@
-//! The desk: what a clerk says to the office.
+//! The desk: what a clerk says to the office, and the lists that a clerk is given.
 #![tactic(auto)]
 
+mod answering;
+mod comparing;
 pub mod laws;
 mod line;
+mod lines;
+mod link_lists;
+mod list_fault;
+mod manifests;
 mod reading;
+mod records;
 mod settings;
 mod values;
 
+pub use comparing::compare;
 pub use laws::law_of_commands;
 pub use line::DeskLine;
+pub use link_lists::links_from;
+pub use list_fault::ListFault;
+pub use manifests::manifest;
 pub use reading::read_command;

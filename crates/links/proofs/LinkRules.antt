@@ -16,7 +16,7 @@ use Rattle.sigtext.specs.SignedValues.{ValueRule}
 use Rattle.sigtext.proofs.NamesOnce.{names_once}
 use Rattle.sigv4.specs.Credential.{IsCredential}
 use Rattle.sigv4.specs.Dates.{WritesMoment}
-use Rattle.links.specs.Forms.{IsExpiry, IsSignatureText}
+use Rattle.links.specs.Forms.{IsExpiry, IsHexDigest}
 use Rattle.links.specs.WellFormed.{LinkValues, HasValue, methods, is_signing_name, AreTheSix, HeadRule, IsWellFormed}
 use Rattle.links.proofs.Values.{value_same}
 use Rattle.links.specs.SixValues.{SixTexts, SixParts, SixRule, AreSixOf, AreRightParams, AreWrongParams}
@@ -164,7 +164,7 @@ six_from r params six p same v rule.Date (has, is) = subst (λ (d : List ℕ). W
 six_from r params six p same v rule.Expiry (text, has, is) = subst (λ (t : List ℕ). IsExpiry t p.expires) (value_same params p.params (codes "X-Amz-Expires") six.expires text same v.expires has) is
 six_from r params six p same v rule.SignedHeaders (text, has, are) =
     subst (λ (t : List ℕ). AreSignedNames t (map (λ s. s.name) p.signed)) (value_same params p.params (codes "X-Amz-SignedHeaders") six.names text same v.names has) are
-six_from r params six p same v rule.SignatureText (has, is) = subst IsSignatureText (value_same params p.params (codes "X-Amz-Signature") six.signature p.signature same v.signature has) is
+six_from r params six p same v rule.SignatureText (has, is) = subst IsHexDigest (value_same params p.params (codes "X-Amz-Signature") six.signature p.signature same v.signature has) is
 six_from r params six p same v _ h = tt
 
 -- a rule of the values' forms that fails has one of these numbers

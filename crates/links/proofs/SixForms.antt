@@ -8,7 +8,7 @@ use Rattle.sigtext.specs.SignedNames.{AreSignedNames}
 use Rattle.sigv4.specs.Signature.{CredentialScope}
 use Rattle.sigv4.specs.Credential.{IsCredential}
 use Rattle.sigv4.specs.Dates.{WritesMoment}
-use Rattle.links.specs.Forms.{IsExpiry, IsSignatureText}
+use Rattle.links.specs.Forms.{IsExpiry, IsHexDigest}
 use Rattle.links.specs.SixValues.{SixTexts, SixParts, SixRule}
 
 -- the rules before a number
@@ -69,7 +69,7 @@ names_fail six key_id scope start expires a c d e none = record {
 
 pub signature_fails : (six : SixTexts) (key_id : List ℕ) (scope : CredentialScope) (start expires : ℕ) (names : List (List ℕ)) → six.algorithm ≡ codes "AWS4-HMAC-SHA256"
     → IsCredential six.credential six.date key_id scope → WritesMoment six.date start → IsExpiry six.expires expires → AreSignedNames six.names names
-    → (IsSignatureText six.signature → ⊥) → IsFirstToFail (SixRule six) rule.SignatureText
+    → (IsHexDigest six.signature → ⊥) → IsFirstToFail (SixRule six) rule.SignatureText
 signature_fails six key_id scope start expires names a c d e h none = record {
   parts = parts key_id scope start expires names;
   before = before six _ 16 (λ lt. a) (λ lt. c) (λ lt. d) (λ lt. e) (λ lt. h) (λ lt. absurd (omega arith));

@@ -29,7 +29,7 @@ use Rattle.links.specs.declared.orders.LinkFault.TheVariants as fault
 use Rattle.links.specs.Moments.{Now, HasBegun, IsNotOver}
 use Rattle.links.specs.Admits.{KnownKey, IsSignedBy, Admits}
 use Rattle.links.specs.Drafts.{DraftValues, draft_params, HasBytes, target_text}
-use Rattle.links.specs.Forms.{IsExpiry, IsSignatureText}
+use Rattle.links.specs.Forms.{IsExpiry, IsHexDigest}
 use Rattle.links.specs.Orders.{Terms, AreSound, IsOwnParam, wanted, IsRequestFor, Knows, IsLinkFor}
 use Rattle.links.specs.WellFormed.{LinkValues, IsWellFormed, methods}
 use Rattle.links.proofs.Admitted.{admitted}
@@ -131,8 +131,8 @@ module _ {t : Terms} {five : DraftValues} {scope : CredentialScope} {hs : List H
   own : AllByRecursion (IsOwnParam t.params) t.params
   own = told.sound fault.Params
 
-  form : IsSignatureText sig
-  form = subst IsSignatureText (sym told.signed.same) (written_signature t.secret five.date scope told.signed.text)
+  form : IsHexDigest sig
+  form = subst IsHexDigest (sym told.signed.same) (written_signature t.secret five.date scope told.signed.text)
 
   -- the parameters as they are written
   abbrev all : List Param

@@ -14,10 +14,10 @@ pub record IsExpiry (text : List ℕ) (n : ℕ) : Type 0 where
   pub most : n ≤ 604800
 
 -- 0-9 a-f
-abbrev pub is_signature_digit : ℕ → Bool
-is_signature_digit b = is_ascii_digit b || (nat_le 97 b && nat_le b 102)
+abbrev pub is_hex_digit : ℕ → Bool
+is_hex_digit b = is_ascii_digit b || (nat_le 97 b && nat_le b 102)
 
 -- 64 lower-case hexadecimal digits
-pub record IsSignatureText (text : List ℕ) : Type 0 where
+pub record IsHexDigest (text : List ℕ) : Type 0 where
   pub long : length text ≡ 64
-  pub digits : IsTrue (list_all is_signature_digit text)
+  pub digits : IsTrue (list_all is_hex_digit text)

@@ -11,7 +11,7 @@ use Rattle.sigtext.specs.Signing.{HoldsParams}
 use Rattle.sigv4.specs.Signature.{CredentialScope}
 use Rattle.sigv4.specs.Credential.{IsCredential}
 use Rattle.sigv4.specs.Dates.{WritesMoment}
-use Rattle.links.specs.Forms.{IsExpiry, IsSignatureText}
+use Rattle.links.specs.Forms.{IsExpiry, IsHexDigest}
 use Rattle.links.specs.WellFormed.{HasValue, AreTheSix, is_signing_name, is_other_amz_name}
 use Rattle.links.specs.declared.six.RawSix.{RawSix}
 use Rattle.links.specs.declared.six_values.SixValues.{SixValues}
@@ -77,7 +77,7 @@ SixRule six rule.Credential p = IsCredential six.credential six.date p.key_id p.
 SixRule six rule.Date p = WritesMoment six.date p.start
 SixRule six rule.Expiry p = IsExpiry six.expires p.expires
 SixRule six rule.SignedHeaders p = AreSignedNames six.names p.names
-SixRule six rule.SignatureText p = IsSignatureText six.signature
+SixRule six rule.SignatureText p = IsHexDigest six.signature
 SixRule six _ p = ⊤
 
 -- the sorted parameters and the values are those of parameters of the right names

@@ -14,7 +14,7 @@ use Rattle.sigtext.specs.SignedValues.{IsFitValue, is_covered}
 use Rattle.sigv4.specs.Signature.{CredentialScope}
 use Rattle.sigv4.specs.Credential.{IsCredential}
 use Rattle.sigv4.specs.Dates.{WritesMoment}
-use Rattle.links.specs.Forms.{IsExpiry, IsSignatureText}
+use Rattle.links.specs.Forms.{IsExpiry, IsHexDigest}
 
 -- what the rules find in a request
 pub record LinkValues : Type 0 where
@@ -73,7 +73,7 @@ HeadRule rule.Date r p = HasValue p.params (codes "X-Amz-Date") p.date × Writes
 HeadRule rule.Expiry r p = (text : List ℕ) × HasValue p.params (codes "X-Amz-Expires") text × IsExpiry text p.expires
 HeadRule rule.SignedHeaders r p =
     (text : List ℕ) × HasValue p.params (codes "X-Amz-SignedHeaders") text × AreSignedNames text (map (λ s. s.name) p.signed)
-HeadRule rule.SignatureText r p = HasValue p.params (codes "X-Amz-Signature") p.signature × IsSignatureText p.signature
+HeadRule rule.SignatureText r p = HasValue p.params (codes "X-Amz-Signature") p.signature × IsHexDigest p.signature
 HeadRule rule.SignedValues r p =
     AreSignedValues r.headers (map (λ s. s.name) p.signed) p.signed × AllByRecursion (λ s. IsFitValue s.value) p.signed
 HeadRule rule.HeaderNotSigned r p = IsTrue (list_all (is_covered p.signed) r.headers)

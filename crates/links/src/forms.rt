@@ -3,7 +3,7 @@ ghost use Rattle.std.specs.Prelude.{◌≡◌, ◌↔◌, ℕ, IsTrue, IfSome, I
 ghost use Rattle.std.specs.List.{list_all};
 ghost use Rattle.std.specs.Char.{is_ascii_digit};
 ghost use Rattle.sigtext.specs.Bytes.{IsWord};
-ghost use Rattle.links.specs.Forms.{IsExpiry, IsSignatureText, is_signature_digit};
+ghost use Rattle.links.specs.Forms.{IsExpiry, IsHexDigest, is_hex_digit};
 
 use crate::orders::MOST_SECONDS;
 use sigtext::is_word;
@@ -22,7 +22,7 @@ fn is_short_number(text: &[u8]) -> bool
 }
 
 /// The seconds of an expiry: 1 to 604800, in 1 to 6 digits without a leading zero.
-pub(crate) fn read_expiry(text: &[u8]) -> Option<u64>
+pub fn read_expiry(text: &[u8]) -> Option<u64>
     ensures some { IfSome result (IsExpiry text.now) }
     ensures none { IfNone result ((n : ℕ) → IsExpiry text.now n → ⊥) }
 {
@@ -44,21 +44,21 @@ pub(crate) fn read_expiry(text: &[u8]) -> Option<u64>
     Some(seconds)
 }
 
-fn is_signature_digit(byte: u8) -> bool
-    ensures { result ≡ is_signature_digit byte }
+fn is_hex_digit(byte: u8) -> bool
+    ensures { result ≡ is_hex_digit byte }
 {
     matches!(byte, b'0'..=b'9' | b'a'..=b'f')
 }
 
-fn are_signature_digits(text: &[u8]) -> bool
-    ensures { result ≡ list_all is_signature_digit text.now }
+fn are_hex_digits(text: &[u8]) -> bool
+    ensures { result ≡ list_all is_hex_digit text.now }
 {
-    text.iter().all(|byte| is_signature_digit(*byte))
+    text.iter().all(|byte| is_hex_digit(*byte))
 }
 
 /// Whether the text is 64 lower-case hexadecimal digits.
-pub(crate) fn is_signature_text(text: &[u8]) -> bool
-    ensures { IsTrue result ↔ IsSignatureText text.now }
+pub fn is_hex_digest(text: &[u8]) -> bool
+    ensures { IsTrue result ↔ IsHexDigest text.now }
 {
-    text.len() == 64 && are_signature_digits(text)
+    text.len() == 64 && are_hex_digits(text)
 }

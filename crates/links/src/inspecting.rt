@@ -11,7 +11,7 @@ ghost use Rattle.links.specs.SixValues.{SixParts, SixRule, HaveNames, texts_of};
 ghost use Rattle.sigtext.specs.Target.{Param, IsTargetOf};
 ghost use Rattle.links.specs.LinkReadings.{IsAskedBy, IsLinkOf};
 
-use crate::forms::{is_signature_text, read_expiry};
+use crate::forms::{is_hex_digest, read_expiry};
 use crate::link_parts::LinkParts;
 use crate::methods::Method;
 use crate::six::read_six;
@@ -59,7 +59,7 @@ fn read_window(six: &SixValues) -> Result<Window, Refusal>
     if let Err(refusal) = SignedNames::read(six.names()) {
         return Err(refusal);
     }
-    if !is_signature_text(six.signature()) {
+    if !is_hex_digest(six.signature()) {
         return Err(Refusal::SignatureText);
     }
     Ok(Window { start, expires })

@@ -12,6 +12,7 @@ mod six;
 mod six_values;
 pub mod writing;
 
+pub use forms::{is_hex_digest, read_expiry};
 pub use inspecting::{inspect, read_moment};
 pub use judging::judge;
 pub use laws::law_of_parts;

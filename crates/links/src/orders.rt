@@ -16,8 +16,8 @@ use sigtext::{Field, is_fit_value, is_header_name, is_visible, is_word, only_fie
 use sigv4::{Moment, is_key_id, is_region, is_secret};
 use thiserror::Error;
 
-/// A parameter of an order, decoded.
-#[derive(Clone, Copy, Debug)]
+/// A parameter of an order, decoded. It has no `Debug`, since its value may be a desk command with a secret.
+#[derive(Clone, Copy)]
 pub struct OrderParam<'a> {
     /// One byte or more, which do not begin with `X-Amz-`.
     pub name: &'a [u8],
@@ -25,8 +25,8 @@ pub struct OrderParam<'a> {
     pub value: &'a [u8],
 }
 
-/// What a link is to say, whoever signs it.
-#[derive(Clone, Copy, Debug)]
+/// What a link is to say, whoever signs it. It has no `Debug`, for its parameters' sake.
+#[derive(Clone, Copy)]
 pub struct LinkOrder<'a> {
     /// `PUT`, `GET`, `HEAD` or `POST`.
     pub method: &'a [u8],

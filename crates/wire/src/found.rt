@@ -83,8 +83,8 @@ fn head_text(number: u64, digest: [u8; 32], bytes: &[u8], out: &mut [u8; MOST_FR
     )
 }
 
-// In lower case.
-pub(crate) fn hex_digits(digest: [u8; 32]) -> [u8; 64]
+/// The 64 hexadecimal digits of a digest, in lower case.
+pub fn hex_digits(digest: [u8; 32]) -> [u8; 64]
     ensures { result ≡ encode_lower digest }
 {
     let mut digits = [0; 64];

@@ -20,6 +20,7 @@ pub use backlog::MOST_HEAD;
 pub use counted::Counted;
 pub use fault::WireFault;
 pub use feed::{Feed, Opening, Piece, Step};
+pub use found::hex_digits;
 pub use head::{Head, MOST_FIELDS, Message, head_end, read_head};
 pub use joining::{Came, read_message};
 pub use sending::send;

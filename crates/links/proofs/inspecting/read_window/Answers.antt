@@ -5,7 +5,7 @@ use Rattle.sigv4.specs.Signature.{CredentialScope}
 use Rattle.sigv4.specs.Credential.{IsCredential}
 use Rattle.sigv4.specs.Scopes.{scope_of}
 use Rattle.sigv4.specs.Dates.{WritesMoment}
-use Rattle.links.specs.Forms.{IsExpiry, IsSignatureText}
+use Rattle.links.specs.Forms.{IsExpiry, IsHexDigest}
 use Rattle.links.specs.SixValues.{SixRule, texts_of}
 use Rattle.links.proofs.Texts.{texts_equal, texts_differ, not_true, not_false, clash}
 use Rattle.links.proofs.SixForms.{algorithm_fails, credential_fails, date_fails, expiry_fails, names_fail, signature_fails, all_hold}
@@ -55,8 +55,8 @@ returns-in-Err-read-clause-err c =
     (names_fail six c.in_default.field-0.key_id.now (scope_of c.in_default.field-0) c.in-Some.start c.in-Some-read_expiry.expires a cred date expiry
     (λ names are. e.1 names (subst (λ (t : List ℕ). AreSignedNames t names) (sym c.names.ensures) are)))
 
-pub returns-then-not-is_signature_text-clause-err : goal.returns-then-not-is_signature_text-clause-err
-returns-then-not-is_signature_text-clause-err c =
+pub returns-then-not-is_hex_digest-clause-err : goal.returns-then-not-is_hex_digest-clause-err
+returns-then-not-is_hex_digest-clause-err c =
     let six = texts_of c.args.six.now in
     let a : six.algorithm ≡ codes "AWS4-HMAC-SHA256" = sym c.algorithm.ensures ∙ texts_equal _ _ (not_false _ (sym c.if-ne.false ∙ c.ne.ensures)) ∙ c.as_slice.ensures in
     let cred = moved _ _ _ _ _ _ c.credential.ensures c.date.ensures c.in_default.ensures.ok in
@@ -65,7 +65,7 @@ returns-then-not-is_signature_text-clause-err c =
     let found = c.in_default-read.ensures.ok in
     let names = subst (λ (t : List ℕ). AreSignedNames t found.1.0) c.names.ensures found.1.1 in
     signature_fails six c.in_default.field-0.key_id.now (scope_of c.in_default.field-0) c.in-Some.start c.in-Some-read_expiry.expires found.1.0 a cred date expiry names
-    (λ is. clash c.is_signature_text.result c.if-not-is_signature_text.true (c.is_signature_text.ensures.1 (subst IsSignatureText (sym c.signature.ensures) is)))
+    (λ is. clash c.is_hex_digest.result c.if-not-is_hex_digest.true (c.is_hex_digest.ensures.1 (subst IsHexDigest (sym c.signature.ensures) is)))
 
 pub returns-clause-ok : goal.returns-clause-ok
 returns-clause-ok c =
@@ -76,7 +76,7 @@ returns-clause-ok c =
     let expiry = subst (λ (t : List ℕ). IsExpiry t c.in-Some-read_expiry.expires) c.expires.ensures c.in-Some-read_expiry.ensures.some in
     let found = c.in_default-read.ensures.ok in
     let names = subst (λ (t : List ℕ). AreSignedNames t found.1.0) c.names.ensures found.1.1 in
-    let signature = subst IsSignatureText c.signature.ensures (c.is_signature_text.ensures.0 c.if-not-is_signature_text.false) in (
+    let signature = subst IsHexDigest c.signature.ensures (c.is_hex_digest.ensures.0 c.if-not-is_hex_digest.false) in (
       record { key_id = c.in_default.field-0.key_id.now; scope = scope_of c.in_default.field-0; start = c.in-Some.start; expires = c.in-Some-read_expiry.expires; names = found.1.0 },
       refl,
       refl,

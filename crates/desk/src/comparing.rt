@@ -1,0 +1,232 @@
+//! What stands of a manifest.
+ghost use Rattle.std.specs.Prelude.{◌≡◌, ◌≢◌, ◌↔◌, ℕ, IsTrue, IfErr, IfOk, IfSome, IfNone, Err, Option, option_map, length, [], ◌∷◌};
+ghost use Rattle.std.specs.FinMap.{get};
+ghost use Rattle.csv.specs.Records.{fields_of};
+ghost use Rattle.sigtext.specs.Counts.{CountsErrors};
+ghost use Rattle.sigv4.specs.Hmac.{sha256};
+ghost use Rattle.boxes.specs.Rows.{file_of, IsFileAt};
+ghost use Rattle.boxes.specs.Sound.{IsSound};
+ghost use Rattle.boxes.specs.State.{State};
+ghost use Rattle.keeper.specs.Keeping.{Stays};
+ghost use Rattle.desk.specs.Asking.{stays_joined, stays_unasked};
+ghost use Rattle.desk.specs.Lists.{line, by_keeper, by_writer, Answers, IsOfAnswering};
+ghost use Rattle.desk.specs.Manifests as said;
+ghost use Rattle.desk.specs.Manifests.{entry_of, findings_head, manifest_head, word_of, IsEntry, IsFinding, IsFindingLine, IsManifestRow};
+
+use crate::answering::{Answerer, Heads, answer_list};
+use crate::lines::line_of;
+use crate::list_fault::ListFault;
+use crate::manifests::MANIFEST_HEAD;
+use crate::records::{are_texts, read_fields};
+use crate::values::read_number;
+use boxes::FileRow;
+use csv::ByteRecord;
+use keeper::Keeper;
+use links::is_hex_digest;
+use sigv4::Sha;
+use std::alloc::Global;
+use std::io::{Read, Write};
+use wire::{Counted, hex_digits};
+
+/// The head of what is found.
+const FINDINGS_HEAD: [&[u8]; 4] = [b"receipt", b"box", b"name", b"state"];
+
+/// The most digits of a receipt's number.
+const MOST_NUMBER_DIGITS: usize = 10;
+
+/// The most digits of a length.
+const MOST_LENGTH_DIGITS: usize = 7;
+
+/// What stands of a receipt's file.
+#[derive(Clone, Copy, Debug, PartialEq, Eq)]
+pub(crate) enum Finding {
+    /// The file stands, as the manifest says.
+    Standing,
+    /// A file stands under the receipt, of another length or digest.
+    Differs,
+    /// No file stands under the receipt.
+    Gone,
+}
+
+impl Finding {
+    fn word(self) -> &'static [u8]
+        ensures { result.now ≡ word_of self }
+    {
+        match self {
+            Finding::Standing => b"standing",
+            Finding::Differs => b"differs",
+            Finding::Gone => b"gone",
+        }
+    }
+}
+
+/// What a record of a manifest says.
+#[derive(Clone, Copy)]
+pub(crate) struct Entry<'a> {
+    number_text: &'a [u8],
+    number: u64,
+    in_box: &'a [u8],
+    name: &'a [u8],
+    size: u64,
+    /// SHA-256, in 64 digits.
+    digest: &'a [u8],
+}
+
+// What the record says, where it is of the form.
+fn read_entry(row: &ByteRecord) -> Option<Entry<'_>>
+    ensures some { IfSome result (λ e. (is : IsEntry (fields_of row.now) (entry_of e)) × (is.number ≡ e.number_text.now)) }
+    ensures none { IfNone result (IsManifestRow (fields_of row.now) → ⊥) }
+{
+    let mut texts = [b"".as_slice(); 7];
+    if !read_fields(row, &mut texts) {
+        return None;
+    }
+    let [number_text, in_box, name, size_text, digest, _, _] = texts;
+    if !are_texts(&texts) || !is_hex_digest(digest) {
+        return None;
+    }
+    if number_text.len() > MOST_NUMBER_DIGITS || size_text.len() > MOST_LENGTH_DIGITS {
+        return None;
+    }
+    let number = read_number(number_text)?;
+    let size = read_number(size_text)?;
+    if number == 0 {
+        return None;
+    }
+    Some(Entry {
+        number_text,
+        number,
+        in_box,
+        name,
+        size,
+        digest,
+    })
+}
+
+fn digest_of(bytes: &[u8]) -> [u8; 32]
+    ensures { result ≡ sha256 bytes.now }
+{
+    let mut hash = Sha::new();
+    hash.update(bytes);
+    hash.finish()
+}
+
+// Whether the file is as the manifest says.
+fn is_same(entry: &Entry<'_>, file: &FileRow) -> bool
+    ensures { IsTrue result ↔ said.IsSame (entry_of entry.now) (file_of file.now) }
+{
+    file.bytes.len() as u64 == entry.size
+        && hex_digits(digest_of(&file.bytes)).as_slice() == entry.digest
+}
+
+// What stands of an entry, where this file stands in its place.
+fn find(entry: &Entry<'_>, standing: &Option<FileRow>) -> Finding
+    ensures { (s : State) → IsFileAt s (entry_of entry.now).place standing.now → IsFinding s (entry_of entry.now) result }
+{
+    match standing {
+        Some(file) if file.receipt.number == entry.number => {
+            if is_same(entry, file) {
+                Finding::Standing
+            } else {
+                Finding::Differs
+            }
+        }
+        _ => Finding::Gone,
+    }
+}
+
+// The line that says this word of an entry.
+fn entry_line<'a>(alloc: Global, entry: &Entry<'a>, word: &'a [u8]) -> Result<Vec<u8>, ListFault>
+    ensures line { IfOk result (λ text. text.items ≡ line (entry.now.number_text.now ∷ entry.now.in_box.now ∷ entry.now.name.now ∷ word.now ∷ [])) }
+    ensures memory { IfErr result (λ f. f ≡ ListFault.Memory) }
+{
+    line_of(alloc, &[entry.number_text, entry.in_box, entry.name, word])
+}
+
+/// Tells of each entry what stands of it.
+#[derive(Drop)]
+struct Comparer<'k, K> {
+    keeper: &'k mut K,
+}
+
+impl<K: Keeper> Answerer for Comparer<'_, K> {
+    ghost World = { State };
+
+    ghost has_form = { IsManifestRow };
+
+    ghost knows = { λ c s. K.means c.keeper.now s × IsSound s };
+
+    ghost is_honest = { λ c. K.is_honest c.keeper.now };
+
+    ghost is_line = { λ c s fields text. IsFindingLine s fields text };
+
+    ghost stays = { λ c d r. Stays K.means K.is_honest K.faults K.leaves K.leaves_whole K.has_store c.keeper.now d.keeper.now r };
+
+    fn answer(&mut self, alloc: Global, row: &ByteRecord) -> Result<Option<Vec<u8>>, ListFault>
+    {
+        let Some(entry) = read_entry(row) else {
+            return Ok(None);
+        };
+        let found = match self.keeper.file(entry.in_box, entry.name) {
+            Ok(standing) => find(&entry, &standing),
+            Err(fault) => return Err(ListFault::Keep(fault)),
+        };
+        Ok(Some(entry_line(alloc, &entry, found.word())?))
+    }
+
+    ghost unasked = { λ a. stays_unasked K.means K.is_honest K.faults K.leaves K.leaves_whole K.has_store a.keeper.now };
+
+    ghost joins = { λ a b c r p q. stays_joined K.means K.is_honest K.faults K.leaves K.leaves_whole K.has_store a.keeper.now b.keeper.now c.keeper.now r p q };
+
+    ghost same = { λ a b s r p h. (p.same s h.0, h.1) };
+
+    ghost honest = { λ a b r p h. p.honest h };
+
+    ghost steady = { λ a b r s fields text p l. l };
+}
+
+impl<'k, K: Keeper> Comparer<'k, K> {
+    // Gives the keeper back.
+    fn into_keeper(self) -> &'k mut K
+        ensures same { result.ghost_name ≡ self.entry.keeper.ghost_name }
+        ensures now { result.now ≡ self.entry.keeper.now }
+    {
+        self.keeper
+    }
+}
+
+/// Compares a manifest with what stands. The list in CSV has the manifest's head; each row has the number of a receipt, of 1 to
+/// 10 digits, and a length, of 1 to 7 digits, both without leading zeros, though a length may be `0`, a digest of 64 lower-case
+/// hexadecimal digits, and texts in UTF-8. For each row, in its order, one row is written under the head
+/// `receipt,box,name,state`, where the state is
+///
+/// - `standing`: under box and name stands a file with this receipt, and its bytes are as many and have this digest;
+/// - `differs`: under box and name stands a file with this receipt, and its bytes are not as many, or have another digest;
+/// - `gone`: no file stands under box and name, or one with another receipt.
+///
+/// # Errors
+///
+/// `Head` where the first row of the list is another, or missing. `Row` with the number of the first row behind the head
+/// that is not of the form. `Keep`, `Read`, `Write` where the keeper, a read or a write failed, and `Memory` where memory was
+/// refused. What was written is then a beginning of the answers' text.
+pub fn compare<R: Read, K: Keeper, W: Write>(
+    alloc: Global,
+    input: &mut R,
+    keeper: &mut K,
+    out: &mut Counted<W>,
+) -> Result<(), ListFault>
+    ensures answers { Answers manifest_head findings_head IsManifestRow (λ s. K.means keeper.old s × IsSound s × K.is_honest keeper.new) IsFindingLine
+        (R.remaining input.old) (W.contents out.old.inner) (W.contents out.new.inner) result }
+    ensures stays { Stays K.means K.is_honest K.faults K.leaves K.leaves_whole K.has_store keeper.old keeper.new (by_keeper result) }
+    ensures count { CountsErrors out.old.faults out.new.faults (by_writer result) }
+    ensures order { result ≢ Err ListFault.Order }
+{
+    let mut comparer = Comparer { keeper };
+    let heads = Heads {
+        read: &MANIFEST_HEAD,
+        written: &FINDINGS_HEAD,
+    };
+    let compared = answer_list(alloc, input, heads, &mut comparer, out);
+    comparer.into_keeper();
+    compared
+}

@@ -1,0 +1,209 @@
+//! Many links at once.
+ghost use Rattle.std.specs.Prelude.{◌≡◌, ◌↔◌, ◌∷◌, ◌++◌, ℕ, List, ⊤, IsTrue, IfErr, IfOk, IfSome, IfNone, Ok, Err, codes, map};
+ghost use Rattle.std.proofs.Common.{refl, subst, ◌∙◌};
+ghost use Rattle.csv.specs.Records.{fields_of};
+ghost use Rattle.sigtext.specs.Counts.{CountsErrors};
+ghost use Rattle.links.specs.Orders.{IsLinkFor};
+ghost use Rattle.desk.specs.Lists.{by_keeper, by_writer, Answers};
+ghost use Rattle.desk.specs.LinkLists.{links_head, written_links_head, signing_of, terms, wish_of, CanSign, IsLinkLine, IsLinkRow, IsWish};
+
+use crate::answering::{Answerer, Heads, answer_list};
+use crate::lines::line_of;
+use crate::list_fault::ListFault;
+use crate::records::read_fields;
+use boxes::{Command, has_form};
+use csv::ByteRecord;
+use links::{LinkFault, LinkKey, LinkOrder, Method, read_expiry, read_moment, write_link};
+use sigtext::{is_visible, is_word};
+use sigv4::{Moment, is_key_id, is_region, is_secret};
+use std::alloc::{AllocError, Global};
+use std::io::{Read, Write};
+use wire::Counted;
+
+/// The head of a list of links that are asked for.
+const LINKS_HEAD: [&[u8]; 5] = [b"method", b"box", b"name", b"start", b"expires"];
+
+/// The head of a list of links that were written.
+const WRITTEN_LINKS_HEAD: [&[u8]; 6] = [b"method", b"box", b"name", b"start", b"expires", b"link"];
+
+/// The greatest number of bytes of a host.
+const MOST_HOST_BYTES: usize = 255;
+
+/// A link that is asked for.
+#[derive(Clone, Copy)]
+pub(crate) struct Wish<'a> {
+    method: Method,
+    in_box: &'a [u8],
+    name: &'a [u8],
+    start: Moment,
+    expires: u64,
+}
+
+// The link that the record asks for, where it is of the form.
+fn read_wish<'a>(texts: &[&'a [u8]; 5]) -> Option<Wish<'a>>
+    ensures some { IfSome result (λ w. IsWish (map (λ t. t.now) texts.now) (wish_of w)) }
+    ensures none { IfNone result (IsLinkRow (map (λ t. t.now) texts.now) → ⊥) }
+{
+    let [method, in_box, name, start, expires] = *texts;
+    let method = Method::read(method)?;
+    if method == Method::Post || !has_form(&Command::DropFile { in_box, name }) {
+        return None;
+    }
+    let start = read_moment(start)?;
+    let expires = read_expiry(expires)?;
+    Some(Wish {
+        method,
+        in_box,
+        name,
+        start,
+        expires,
+    })
+}
+
+// The path of a file.
+fn path_of(alloc: Global, in_box: &[u8], name: &[u8]) -> Result<Vec<u8>, AllocError>
+    ensures { IfOk result (λ path. path.items ≡ 47 ∷ in_box.now ++ 47 ∷ name.now) }
+{
+    let mut path = Vec::from_slice(alloc, b"/")?;
+    path.extend_from_slice(in_box)?;
+    path.push(b'/')?;
+    path.extend_from_slice(name)?;
+    Ok(path)
+}
+
+// Whether links can be signed so.
+fn can_sign(key: &LinkKey<'_>, host: &[u8], region: &[u8]) -> bool
+    ensures { IsTrue result ↔ CanSign (signing_of key.now host.now region.now) }
+{
+    is_word(host, MOST_HOST_BYTES, is_visible)
+        && is_region(region)
+        && is_key_id(key.id)
+        && is_secret(key.secret)
+}
+
+/// Writes links with a key, for a host.
+#[derive(Drop)]
+struct Signer<'a> {
+    key: LinkKey<'a>,
+    host: &'a [u8],
+    region: &'a [u8],
+    ghost can_sign: { CanSign (signing_of key host.now region.now) },
+}
+
+impl Signer<'_> {
+    // `http://`, the host and the link.
+    fn link(&self, alloc: Global, wish: &Wish<'_>) -> Result<Vec<u8>, ListFault>
+        requires { (fields : List (List ℕ)) × IsWish fields (wish_of wish.now) }
+        ensures link { IfOk result (λ text. (target : List ℕ) × IsLinkFor (terms (signing_of self.now.key self.now.host.now self.now.region.now) (wish_of wish.now)) target
+            × (text.items ≡ codes "http://" ++ self.now.host.now ++ target)) }
+        ensures memory { IfErr result (λ f. f ≡ ListFault.Memory) }
+    {
+        let Ok(path) = path_of(alloc, wish.in_box, wish.name) else {
+            return Err(ListFault::Memory);
+        };
+        let order = LinkOrder {
+            method: wish.method.text(),
+            path: &path,
+            params: &[],
+            headers: &[],
+            start: wish.start,
+            expires: wish.expires,
+        };
+        let Ok(mut text) = front_of(alloc, self.host) else {
+            return Err(ListFault::Memory);
+        };
+        match write_link(alloc, &order, &self.key, self.host, self.region, &mut text) {
+            Ok(()) => Ok(text),
+            Err(LinkFault::Memory) => Err(ListFault::Memory),
+            Err(_) => unreachable!(),
+        }
+    }
+}
+
+// What stands before a link's target.
+fn front_of(alloc: Global, host: &[u8]) -> Result<Vec<u8>, AllocError>
+    ensures { IfOk result (λ text. text.items ≡ codes "http://" ++ host.now) }
+{
+    let mut text = Vec::from_slice(alloc, b"http://")?;
+    text.extend_from_slice(host)?;
+    Ok(text)
+}
+
+impl Answerer for Signer<'_> {
+    ghost World = { ⊤ };
+
+    ghost has_form = { IsLinkRow };
+
+    ghost knows = { λ g w. ⊤ };
+
+    ghost is_honest = { λ g. ⊤ };
+
+    ghost is_line = { λ g w fields text. IsLinkLine (signing_of g.key g.host.now g.region.now) fields text };
+
+    ghost stays = { λ g h r. (h ≡ g) × (r ≡ Ok tt) };
+
+    fn answer(&mut self, alloc: Global, row: &ByteRecord) -> Result<Option<Vec<u8>>, ListFault> {
+        let mut texts = [b"".as_slice(); 5];
+        if !read_fields(row, &mut texts) {
+            return Ok(None);
+        }
+        let Some(wish) = read_wish(&texts) else {
+            return Ok(None);
+        };
+        let link = self.link(alloc, &wish)?;
+        let [method, in_box, name, start, expires] = texts;
+        let line = [method, in_box, name, start, expires, &link];
+        Ok(Some(line_of(alloc, &line)?))
+    }
+
+    ghost unasked = { λ a. (refl, refl) };
+
+    ghost joins = { λ a b c r p q. (q.0 ∙ p.0, q.1) };
+
+    ghost same = { λ a b w r p k. tt };
+
+    ghost honest = { λ a b r p h. tt };
+
+    ghost steady = { λ a b r w fields text p l. subst (λ g. IsLinkLine (signing_of g.key g.host.now g.region.now) fields text) p.0 l };
+}
+
+/// Writes a link for each row of a list in CSV, as `links::write_link` does. The list's head is `method,box,name,start,expires`;
+/// each row has `PUT`, `GET` or `HEAD`, the name of a box, a file's name, a moment as `20130524T000000Z`, and 1 to 604800 seconds
+/// without a leading zero. Whether the box is there isn't asked. For each row, in its order, the row is written again, and
+/// behind it `http://`, the host and the link's target, under a head with the column `link` more.
+///
+/// # Errors
+///
+/// `Order` where the key, the host or the region is not of the form; then nothing was read or written. `Head` where the first
+/// row of the list is another, or missing. `Row` with the number of the first row behind the head that is not of the form.
+/// `Read`, `Write` where a read or a write failed, and `Memory` where memory was refused. What was written is then a beginning
+/// of the links' text.
+pub fn links_from<R: Read, W: Write>(
+    alloc: Global,
+    input: &mut R,
+    out: &mut Counted<W>,
+    key: &LinkKey<'_>,
+    host: &[u8],
+    region: &[u8],
+) -> Result<(), ListFault>
+    ensures answers { Answers links_head written_links_head IsLinkRow (λ (w : ⊤). ⊤) (λ w. IsLinkLine (signing_of key.now host.now region.now))
+        (R.remaining input.old) (W.contents out.old.inner) (W.contents out.new.inner) result }
+    ensures order { (result ≡ Err ListFault.Order) ↔ (CanSign (signing_of key.now host.now region.now) → ⊥) }
+    ensures untouched { result ≡ Err ListFault.Order → (input.new ≡ input.old) × (out.new ≡ out.old) }
+    ensures keeper { by_keeper result ≡ Ok tt }
+    ensures count { CountsErrors out.old.faults out.new.faults (by_writer result) }
+{
+    if !can_sign(key, host, region) {
+        return Err(ListFault::Order);
+    }
+    let mut signer = Signer {
+        key: *key,
+        host,
+        region,
+    };
+    let heads = Heads {
+        read: &LINKS_HEAD,
+        written: &WRITTEN_LINKS_HEAD,
+    };
+    answer_list(alloc, input, heads, &mut signer, out)
+}
