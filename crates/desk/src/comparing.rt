@@ -1,6 +1,7 @@
 //! What stands of a manifest.
 ghost use Rattle.std.specs.Prelude.{◌≡◌, ◌≢◌, ◌↔◌, ℕ, IsTrue, IfErr, IfOk, IfSome, IfNone, Err, Option, option_map, length, [], ◌∷◌};
 ghost use Rattle.std.specs.FinMap.{get};
+ghost use Rattle.std.proofs.Common.{refl, ◌∙◌};
 ghost use Rattle.csv.specs.Records.{fields_of};
 ghost use Rattle.sigtext.specs.Counts.{CountsErrors};
 ghost use Rattle.sigv4.specs.Hmac.{sha256};
@@ -160,7 +161,7 @@ impl<K: Keeper> Answerer for Comparer<'_, K> {
 
     ghost is_line = { λ c s fields text. IsFindingLine s fields text };
 
-    ghost stays = { λ c d r. Stays K.means K.is_honest K.faults K.leaves K.leaves_whole K.has_store c.keeper.now d.keeper.now r };
+    ghost stays = { λ c d r. (d.keeper.ghost_name ≡ c.keeper.ghost_name) × Stays K.means K.is_honest K.faults K.leaves K.leaves_whole K.has_store c.keeper.now d.keeper.now r };
 
     fn answer(&mut self, alloc: Global, row: &ByteRecord) -> Result<Option<Vec<u8>>, ListFault>
     {
@@ -174,13 +175,13 @@ impl<K: Keeper> Answerer for Comparer<'_, K> {
         Ok(Some(entry_line(alloc, &entry, found.word())?))
     }
 
-    ghost unasked = { λ a. stays_unasked K.means K.is_honest K.faults K.leaves K.leaves_whole K.has_store a.keeper.now };
+    ghost unasked = { λ a. (refl, stays_unasked K.means K.is_honest K.faults K.leaves K.leaves_whole K.has_store a.keeper.now) };
 
-    ghost joins = { λ a b c r p q. stays_joined K.means K.is_honest K.faults K.leaves K.leaves_whole K.has_store a.keeper.now b.keeper.now c.keeper.now r p q };
+    ghost joins = { λ a b c r p q. (q.0 ∙ p.0, stays_joined K.means K.is_honest K.faults K.leaves K.leaves_whole K.has_store a.keeper.now b.keeper.now c.keeper.now r p.1 q.1) };
 
-    ghost same = { λ a b s r p h. (p.same s h.0, h.1) };
+    ghost same = { λ a b s r p h. (p.1.same s h.0, h.1) };
 
-    ghost honest = { λ a b r p h. p.honest h };
+    ghost honest = { λ a b r p h. p.1.honest h };
 
     ghost steady = { λ a b r s fields text p l. l };
 }

@@ -8,17 +8,17 @@ use Rattle.clap.specs.Faults.{fault_of, is_simple_and_free, level_fault}
 use Rattle.clap.specs.Walk.{Row, Text, answers_to, nothing_held, rows_after}
 use Rattle.clap.specs.Words.{App, subcommand_of}
 use Rattle.clap.proofs.OnLiterals.{clap_on_literals}
-use Rattle.dropoffice.specs.Tasks.{HasDesk, HasInit, HasLink, HasReplay, HasServe, NamesTask, at_rule, clerk_rule, connections_rule, desk_app, drop_app, east_rule, expires_rule, file_rule, host_rule, init_app, key_rule, line_rule, link_app, listen_rule, method_rule, patience_rule, region_rule, replay_app, secret_rule, serve_app, start_rule, streams_rule, target_app, target_rule, west_rule}
+use Rattle.dropoffice.specs.Tasks.{HasDesk, HasInit, HasLink, HasLinks, HasReplay, HasServe, HasValue, NamesTask, at_rule, clerk_rule, compare_app, connections_rule, desk_app, drop_app, east_rule, expires_rule, file_rule, host_rule, init_app, key_rule, line_rule, link_app, links_app, listen_rule, manifest_app, method_rule, patience_rule, region_rule, replay_app, secret_rule, serve_app, start_rule, streams_rule, target_app, target_rule, west_rule}
 use Rattle.dropoffice.proofs.FullRows.{fills}
 use Rattle.dropoffice.proofs.Defaulted.{all_given, default_value, has_default}
 use Rattle.dropoffice.proofs.FaultFree.{Enters, enters, needed_value, needs}
 
 pub simple : is_simple drop_app ≡ true
-unfolding drop_app init_app desk_app link_app target_app replay_app serve_app file_rule line_rule streams_rule at_rule method_rule target_rule clerk_rule secret_rule key_rule host_rule region_rule start_rule expires_rule east_rule west_rule listen_rule connections_rule patience_rule clap_on_literals
+unfolding drop_app init_app desk_app link_app target_app links_app manifest_app compare_app replay_app serve_app file_rule line_rule streams_rule at_rule method_rule target_rule clerk_rule secret_rule key_rule host_rule region_rule start_rule expires_rule east_rule west_rule listen_rule connections_rule patience_rule clap_on_literals
 simple = refl
 
 pub simple_and_free : is_simple_and_free drop_app ≡ true
-unfolding drop_app init_app desk_app link_app target_app replay_app serve_app file_rule line_rule streams_rule at_rule method_rule target_rule clerk_rule secret_rule key_rule host_rule region_rule start_rule expires_rule east_rule west_rule listen_rule connections_rule patience_rule clap_on_literals
+unfolding drop_app init_app desk_app link_app target_app links_app manifest_app compare_app replay_app serve_app file_rule line_rule streams_rule at_rule method_rule target_rule clerk_rule secret_rule key_rule host_rule region_rule start_rule expires_rule east_rule west_rule listen_rule connections_rule patience_rule clap_on_literals
 simple_and_free = refl
 
 -- ---- the commands as clap builds them
@@ -37,6 +37,15 @@ desk_built = built_leaf (inherited settings desk_app.top)
 link_built : Shape
 link_built = built_leaf (inherited settings link_app.top)
 
+links_built : Shape
+links_built = built_leaf (inherited settings links_app.top)
+
+manifest_built : Shape
+manifest_built = built_leaf (inherited settings manifest_app.top)
+
+compare_built : Shape
+compare_built = built_leaf (inherited settings compare_app.top)
+
 replay_built : Shape
 replay_built = built_leaf (inherited settings replay_app.top)
 
@@ -46,8 +55,8 @@ serve_built = built_leaf (inherited settings serve_app.top)
 help_built : Shape
 help_built = built_leaf help_shape
 
-commands : (built drop_app).subs ≡ init_built ∷ desk_built ∷ link_built ∷ replay_built ∷ serve_built ∷ help_built ∷ []
-unfolding drop_app settings init_built desk_built link_built replay_built serve_built help_built
+commands : (built drop_app).subs ≡ init_built ∷ desk_built ∷ link_built ∷ links_built ∷ manifest_built ∷ compare_built ∷ replay_built ∷ serve_built ∷ help_built ∷ []
+unfolding drop_app settings init_built desk_built link_built links_built manifest_built compare_built replay_built serve_built help_built
 commands = refl
 
 has_help : (built drop_app).top.disable_help_subcommand ≡ false
@@ -187,6 +196,87 @@ link_values words free =
       given (codes "expires") link_needs_expires,
     )
 
+-- ---- links
+
+links_name : links_built.name ≡ codes "links"
+unfolding links_built settings drop_app links_app
+links_name = refl
+
+links_fills : list_all fills links_built.rules ≡ true
+unfolding links_built settings drop_app links_app file_rule key_rule host_rule region_rule
+links_fills = refl
+
+links_asks : links_built.subcommand_negates_reqs ≡ false
+unfolding links_built settings drop_app links_app
+links_asks = refl
+
+links_needs_file : needs (codes "file") links_built.rules ≡ true
+unfolding links_built settings drop_app links_app file_rule key_rule host_rule region_rule
+links_needs_file = refl
+
+links_needs_key : needs (codes "key") links_built.rules ≡ true
+unfolding links_built settings drop_app links_app file_rule key_rule host_rule region_rule
+links_needs_key = refl
+
+links_needs_host : needs (codes "host") links_built.rules ≡ true
+unfolding links_built settings drop_app links_app file_rule key_rule host_rule region_rule
+links_needs_host = refl
+
+links_needs_region : needs (codes "region") links_built.rules ≡ true
+unfolding links_built settings drop_app links_app file_rule key_rule host_rule region_rule
+links_needs_region = refl
+
+links_values : (words : List Text) → level_fault links_built [] nothing_held words false [] ≡ [] → HasLinks (rows_after links_built.rules [] words)
+links_values words free =
+    let given = needed_value links_built words links_fills links_asks free in (
+      given (codes "file") links_needs_file,
+      given (codes "key") links_needs_key,
+      given (codes "host") links_needs_host,
+      given (codes "region") links_needs_region,
+    )
+
+-- ---- manifest
+
+manifest_name : manifest_built.name ≡ codes "manifest"
+unfolding manifest_built settings drop_app manifest_app
+manifest_name = refl
+
+manifest_fills : list_all fills manifest_built.rules ≡ true
+unfolding manifest_built settings drop_app manifest_app file_rule
+manifest_fills = refl
+
+manifest_asks : manifest_built.subcommand_negates_reqs ≡ false
+unfolding manifest_built settings drop_app manifest_app
+manifest_asks = refl
+
+manifest_needs_file : needs (codes "file") manifest_built.rules ≡ true
+unfolding manifest_built settings drop_app manifest_app file_rule
+manifest_needs_file = refl
+
+manifest_values : (words : List Text) → level_fault manifest_built [] nothing_held words false [] ≡ [] → HasValue (codes "file") (rows_after manifest_built.rules [] words)
+manifest_values words free = needed_value manifest_built words manifest_fills manifest_asks free (codes "file") manifest_needs_file
+
+-- ---- compare
+
+compare_name : compare_built.name ≡ codes "compare"
+unfolding compare_built settings drop_app compare_app
+compare_name = refl
+
+compare_fills : list_all fills compare_built.rules ≡ true
+unfolding compare_built settings drop_app compare_app file_rule
+compare_fills = refl
+
+compare_asks : compare_built.subcommand_negates_reqs ≡ false
+unfolding compare_built settings drop_app compare_app
+compare_asks = refl
+
+compare_needs_file : needs (codes "file") compare_built.rules ≡ true
+unfolding compare_built settings drop_app compare_app file_rule
+compare_needs_file = refl
+
+compare_values : (words : List Text) → level_fault compare_built [] nothing_held words false [] ≡ [] → HasValue (codes "file") (rows_after compare_built.rules [] words)
+compare_values words free = needed_value compare_built words compare_fills compare_asks free (codes "file") compare_needs_file
+
 -- ---- replay
 
 replay_name : replay_built.name ≡ codes "replay"
@@ -274,21 +364,25 @@ help_named name elsewhere = go (bytes_eq (codes "help") name) (bytes_eq-Decides 
         absurd bad
 
 found_task : (name : Text) (s : Shape) → bytes_eq name (codes "help") ≡ false
-    → find (λ x. answers_to name (label_of x)) (init_built ∷ desk_built ∷ link_built ∷ replay_built ∷ serve_built ∷ help_built ∷ []) ≡ Some s
-    → (init_built ≡ s) ⊎ ((desk_built ≡ s) ⊎ ((link_built ≡ s) ⊎ ((replay_built ≡ s) ⊎ (serve_built ≡ s))))
+    → find (λ x. answers_to name (label_of x)) (init_built ∷ desk_built ∷ link_built ∷ links_built ∷ manifest_built ∷ compare_built ∷ replay_built ∷ serve_built ∷ help_built ∷ []) ≡ Some s
+    → (init_built ≡ s) ⊎ ((desk_built ≡ s) ⊎ ((link_built ≡ s) ⊎ (((links_built ≡ s) ⊎ ((manifest_built ≡ s) ⊎ (compare_built ≡ s))) ⊎ ((replay_built ≡ s) ⊎ (serve_built ≡ s)))))
 found_task name s elsewhere found =
-    go (answers_to name (label_of init_built)) (answers_to name (label_of desk_built)) (answers_to name (label_of link_built)) (answers_to name (label_of replay_built)) (answers_to name (label_of serve_built)) (answers_to name (label_of help_built)) (help_named name elsewhere) found
+    go (answers_to name (label_of init_built)) (answers_to name (label_of desk_built)) (answers_to name (label_of link_built)) (answers_to name (label_of links_built)) (answers_to name (label_of manifest_built)) (answers_to name (label_of compare_built)) (answers_to name (label_of replay_built)) (answers_to name (label_of serve_built))
+        (answers_to name (label_of help_built)) (help_named name elsewhere) found
   where
-    go : (a k b c v d : Bool) → d ≡ false
-        → cond a (Some init_built) (cond k (Some desk_built) (cond b (Some link_built) (cond c (Some replay_built) (cond v (Some serve_built) (cond d (Some help_built) None))))) ≡ Some s
-        → (init_built ≡ s) ⊎ ((desk_built ≡ s) ⊎ ((link_built ≡ s) ⊎ ((replay_built ≡ s) ⊎ (serve_built ≡ s))))
-    go true k b c v d e at = inl cc
-    go false true b c v d e at = inr (inl cc)
-    go false false true c v d e at = inr (inr (inl cc))
-    go false false false true v d e at = inr (inr (inr (inl cc)))
-    go false false false false true d e at = inr (inr (inr (inr cc)))
-    go false false false false false true e at = let bad : ⊥ = cc in absurd bad
-    go false false false false false false e at = let bad : ⊥ = cc in absurd bad
+    go : (a b c d e f g h k : Bool) → k ≡ false
+        → cond a (Some init_built) (cond b (Some desk_built) (cond c (Some link_built) (cond d (Some links_built) (cond e (Some manifest_built) (cond f (Some compare_built) (cond g (Some replay_built) (cond h (Some serve_built) (cond k (Some help_built) None)))))))) ≡ Some s
+        → (init_built ≡ s) ⊎ ((desk_built ≡ s) ⊎ ((link_built ≡ s) ⊎ (((links_built ≡ s) ⊎ ((manifest_built ≡ s) ⊎ (compare_built ≡ s))) ⊎ ((replay_built ≡ s) ⊎ (serve_built ≡ s)))))
+    go true b c d e f g h k z at = inl cc
+    go false true c d e f g h k z at = inr (inl cc)
+    go false false true d e f g h k z at = inr (inr (inl cc))
+    go false false false true e f g h k z at = inr (inr (inr (inl (inl cc))))
+    go false false false false true f g h k z at = inr (inr (inr (inl (inr (inl cc)))))
+    go false false false false false true g h k z at = inr (inr (inr (inl (inr (inr cc)))))
+    go false false false false false false true h k z at = inr (inr (inr (inr (inl cc))))
+    go false false false false false false false true k z at = inr (inr (inr (inr (inr cc))))
+    go false false false false false false false false true z at = let bad : ⊥ = cc in absurd bad
+    go false false false false false false false false false z at = let bad : ⊥ = cc in absurd bad
 
 -- the words name the command of this shape, and have no fault in it
 module _ (words : List Text) (e : Enters (built drop_app) (argument_words drop_app words)) (s : Shape) (is : s ≡ e.shape) where
@@ -301,14 +395,17 @@ module _ (words : List Text) (e : Enters (built drop_app) (argument_words drop_a
 pub task_named : (words : List Text) → fault_of drop_app words ≡ [] → NamesTask (subcommand_of drop_app words)
 task_named words free =
     let e = enters (built drop_app) (argument_words drop_app words) has_help needs_command free in
-    let found : find (λ s. answers_to e.name (label_of s)) (init_built ∷ desk_built ∷ link_built ∷ replay_built ∷ serve_built ∷ help_built ∷ []) ≡ Some e.shape =
+    let found : find (λ s. answers_to e.name (label_of s)) (init_built ∷ desk_built ∷ link_built ∷ links_built ∷ manifest_built ∷ compare_built ∷ replay_built ∷ serve_built ∷ help_built ∷ []) ≡ Some e.shape =
     ap (find (λ s. answers_to e.name (label_of s))) (sym commands) ∙ e.found in
     elim (found_task e.name e.shape e.not_help found) [
       | inl is ↦ inl (rows_after init_built.rules [] e.rest, rows_named words e init_built is (codes "init") init_name, init_values e.rest (free_here words e init_built is))
       | inr (inl is) ↦ inr (inl (rows_after desk_built.rules [] e.rest, rows_named words e desk_built is (codes "desk") desk_name, desk_values e.rest (free_here words e desk_built is)))
       | inr (inr (inl is)) ↦ inr (inr (inl (rows_after link_built.rules [] e.rest, rows_named words e link_built is (codes "link") link_name, link_values e.rest (free_here words e link_built is))))
-      | inr (inr (inr (inl is))) ↦ inr (inr (inr (inl (rows_after replay_built.rules [] e.rest, rows_named words e replay_built is (codes "replay") replay_name, replay_values e.rest (free_here words e replay_built is)))))
-      | inr (inr (inr (inr is))) ↦ inr (inr (inr (inr (rows_after serve_built.rules [] e.rest, rows_named words e serve_built is (codes "serve") serve_name, serve_values e.rest (free_here words e serve_built is)))))
+      | inr (inr (inr (inl (inl is)))) ↦ inr (inr (inr (inl (inl (rows_after links_built.rules [] e.rest, rows_named words e links_built is (codes "links") links_name, links_values e.rest (free_here words e links_built is))))))
+      | inr (inr (inr (inl (inr (inl is))))) ↦ inr (inr (inr (inl (inr (inl (rows_after manifest_built.rules [] e.rest, rows_named words e manifest_built is (codes "manifest") manifest_name, manifest_values e.rest (free_here words e manifest_built is)))))))
+      | inr (inr (inr (inl (inr (inr is))))) ↦ inr (inr (inr (inl (inr (inr (rows_after compare_built.rules [] e.rest, rows_named words e compare_built is (codes "compare") compare_name, compare_values e.rest (free_here words e compare_built is)))))))
+      | inr (inr (inr (inr (inl is)))) ↦ inr (inr (inr (inr (inl (rows_after replay_built.rules [] e.rest, rows_named words e replay_built is (codes "replay") replay_name, replay_values e.rest (free_here words e replay_built is))))))
+      | inr (inr (inr (inr (inr is)))) ↦ inr (inr (inr (inr (inr (rows_after serve_built.rules [] e.rest, rows_named words e serve_built is (codes "serve") serve_name, serve_values e.rest (free_here words e serve_built is))))))
     ]
 
 -- ---- of a command that reads as the program's own

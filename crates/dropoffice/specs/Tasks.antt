@@ -7,6 +7,8 @@ use Rattle.clap.specs.declared.builder.value_parser.ValueParser.TheVariants.{Uns
 use Rattle.dropoffice.specs.declared.task.Desk.{Desk}
 use Rattle.dropoffice.specs.declared.task.Init.{Init}
 use Rattle.dropoffice.specs.declared.task.Link.{Link}
+use Rattle.dropoffice.specs.declared.task.Links.{Links}
+use Rattle.dropoffice.specs.declared.task.OfficeFile.{OfficeFile}
 use Rattle.dropoffice.specs.declared.task.Replay.{Replay}
 use Rattle.dropoffice.specs.declared.task.Serve.{Serve}
 use Rattle.dropoffice.specs.declared.task.Task.{Task}
@@ -108,6 +110,18 @@ target_app = with_rule (with_rule (with_rule (new_app (codes "link")) file_rule)
 unfoldable pub link_app : App
 link_app = with_rule (with_rule (with_rule (with_rule (with_rule target_app key_rule) host_rule) region_rule) start_rule) expires_rule
 
+-- links FILE --key ID --host H --region R
+unfoldable pub links_app : App
+links_app = with_rule (with_rule (with_rule (with_rule (new_app (codes "links")) file_rule) key_rule) host_rule) region_rule
+
+-- manifest FILE
+unfoldable pub manifest_app : App
+manifest_app = with_rule (new_app (codes "manifest")) file_rule
+
+-- compare FILE
+unfoldable pub compare_app : App
+compare_app = with_rule (new_app (codes "compare")) file_rule
+
 -- replay FILE STREAM.. --at MOMENT
 unfoldable pub replay_app : App
 replay_app = with_rule (with_rule (with_rule (new_app (codes "replay")) file_rule) streams_rule) at_rule
@@ -120,7 +134,9 @@ serve_app = with_rule (with_rule (with_rule (with_rule (new_app (codes "serve"))
 unfoldable pub drop_app : App
 drop_app =
     let needs_command = on_top (λ s. record s { subcommand_required = true; arg_required_else_help = true }) (new_app (codes "drop")) in
-    with_subcommand (with_subcommand (with_subcommand (with_subcommand (with_subcommand needs_command init_app.top) desk_app.top) link_app.top) replay_app.top) serve_app.top
+    let with_desk = with_subcommand (with_subcommand needs_command init_app.top) desk_app.top in
+    let with_lists = with_subcommand (with_subcommand (with_subcommand (with_subcommand with_desk link_app.top) links_app.top) manifest_app.top) compare_app.top in
+    with_subcommand (with_subcommand with_lists replay_app.top) serve_app.top
 
 -- ---- the values that the matches give
 
@@ -148,6 +164,16 @@ IsLinkIn rows l =
     × (first_of (codes "region") rows ≡ Some l.region.now)
     × (first_of (codes "start") rows ≡ Some l.start.now)
     × (first_of (codes "expires") rows ≡ Some l.expires.now)
+
+abbrev pub IsLinksIn : List Row → Links → Type 0
+IsLinksIn rows l =
+    (first_of (codes "file") rows ≡ Some l.file.now)
+    × (first_of (codes "key") rows ≡ Some l.key.now)
+    × (first_of (codes "host") rows ≡ Some l.host.now)
+    × (first_of (codes "region") rows ≡ Some l.region.now)
+
+abbrev pub IsOfficeIn : List Row → OfficeFile → Type 0
+IsOfficeIn rows o = first_of (codes "file") rows ≡ Some o.file.now
 
 abbrev pub IsReplayOf : List Row → Replay → Type 0
 IsReplayOf rows r =
@@ -179,6 +205,10 @@ HasLink rows =
     HasValue (codes "file") rows × HasValue (codes "method") rows × HasValue (codes "target") rows × HasValue (codes "key") rows
     × HasValue (codes "host") rows × HasValue (codes "region") rows × HasValue (codes "start") rows × HasValue (codes "expires") rows
 
+abbrev pub HasLinks : List Row → Type 0
+HasLinks rows =
+    HasValue (codes "file") rows × HasValue (codes "key") rows × HasValue (codes "host") rows × HasValue (codes "region") rows
+
 abbrev pub HasReplay : List Row → Type 0
 HasReplay rows =
     HasValue (codes "file") rows × HasValue (codes "at") rows × (is_some (all_of (codes "stream") rows) ≡ true)
@@ -194,6 +224,9 @@ abbrev pub IsTaskIn : Option (Text × List Row) → Task → Type 0
 IsTaskIn named (task.Init i) = (rows : List Row) × (named ≡ Some (codes "init", rows)) × IsInitOf rows i
 IsTaskIn named (task.Desk d) = (rows : List Row) × (named ≡ Some (codes "desk", rows)) × IsDeskIn rows d
 IsTaskIn named (task.Link l) = (rows : List Row) × (named ≡ Some (codes "link", rows)) × IsLinkIn rows l
+IsTaskIn named (task.Links l) = (rows : List Row) × (named ≡ Some (codes "links", rows)) × IsLinksIn rows l
+IsTaskIn named (task.Manifest o) = (rows : List Row) × (named ≡ Some (codes "manifest", rows)) × IsOfficeIn rows o
+IsTaskIn named (task.Compare o) = (rows : List Row) × (named ≡ Some (codes "compare", rows)) × IsOfficeIn rows o
 IsTaskIn named (task.Replay r) = (rows : List Row) × (named ≡ Some (codes "replay", rows)) × IsReplayOf rows r
 IsTaskIn named (task.Serve s) = (rows : List Row) × (named ≡ Some (codes "serve", rows)) × IsServeIn rows s
 
@@ -206,6 +239,19 @@ NamesDesk named = (rows : List Row) × (named ≡ Some (codes "desk", rows)) × 
 abbrev pub NamesLink : Option (Text × List Row) → Type 0
 NamesLink named = (rows : List Row) × (named ≡ Some (codes "link", rows)) × HasLink rows
 
+abbrev pub NamesLinks : Option (Text × List Row) → Type 0
+NamesLinks named = (rows : List Row) × (named ≡ Some (codes "links", rows)) × HasLinks rows
+
+abbrev pub NamesManifest : Option (Text × List Row) → Type 0
+NamesManifest named = (rows : List Row) × (named ≡ Some (codes "manifest", rows)) × HasValue (codes "file") rows
+
+abbrev pub NamesCompare : Option (Text × List Row) → Type 0
+NamesCompare named = (rows : List Row) × (named ≡ Some (codes "compare", rows)) × HasValue (codes "file") rows
+
+-- a list that is read or written
+abbrev pub NamesList : Option (Text × List Row) → Type 0
+NamesList named = NamesLinks named ⊎ (NamesManifest named ⊎ NamesCompare named)
+
 abbrev pub NamesReplay : Option (Text × List Row) → Type 0
 NamesReplay named = (rows : List Row) × (named ≡ Some (codes "replay", rows)) × HasReplay rows
 
@@ -214,7 +260,7 @@ NamesServe named = (rows : List Row) × (named ≡ Some (codes "serve", rows)) �
 
 -- the command that the words name, with its matches, is a task
 abbrev pub NamesTask : Option (Text × List Row) → Type 0
-NamesTask named = NamesInit named ⊎ (NamesDesk named ⊎ (NamesLink named ⊎ (NamesReplay named ⊎ NamesServe named)))
+NamesTask named = NamesInit named ⊎ (NamesDesk named ⊎ (NamesLink named ⊎ (NamesList named ⊎ (NamesReplay named ⊎ NamesServe named))))
 
 -- the words name this task
 abbrev pub IsTaskOf : List Text → Task → Type 0

@@ -1,5 +1,6 @@
 //! What keeps the program from its task, and the line that tells it.
 use crate::commanding::DeskFault;
+use desk::ListFault;
 use keeper::KeepFault;
 use sqlkeeper::OpenFault;
 use std::alloc::AllocError;
@@ -26,6 +27,15 @@ pub(crate) enum Fault<'a> {
     /// The office has no key of this id.
     #[error("the key is unknown")]
     UnknownKey,
+    /// The first row of the list is not its head, or there is none.
+    #[error("the first row is not the head")]
+    NoHead,
+    /// This row of the list, counted from 1 behind the head, is malformed.
+    #[error("row {0} is refused")]
+    RefusedRow(u64),
+    /// A read of the list failed.
+    #[error("cannot read the list")]
+    CannotReadList,
     /// A file of this name could not be opened.
     #[error("cannot read {0}")]
     CannotRead(&'a str),
@@ -63,6 +73,21 @@ impl From<DeskFault> for Fault<'_> {
         match fault {
             DeskFault::Kept(fault) => Fault::from(fault),
             other => Fault::Desk(other),
+        }
+    }
+}
+
+impl From<ListFault> for Fault<'_> {
+    fn from(fault: ListFault) -> Self {
+        match fault {
+            // Host and region are looked at before, so it is the key.
+            ListFault::Order => Fault::UnknownKey,
+            ListFault::Head => Fault::NoHead,
+            ListFault::Row(number) => Fault::RefusedRow(number),
+            ListFault::Keep(fault) => Fault::from(fault),
+            ListFault::Read => Fault::CannotReadList,
+            ListFault::Write => Fault::CannotWrite,
+            ListFault::Memory => Fault::OutOfMemory,
         }
     }
 }

@@ -48,12 +48,7 @@ fn read_order(alloc: Global, words: &Link<'_>) -> Result<Order, Fault<'static>> 
         return Err(Fault::MalformedValue("target"));
     }
     let start = read_moment(words.start.as_bytes()).ok_or(Fault::MalformedValue("start"))?;
-    if !is_word(words.host.as_bytes(), MOST_HOST_BYTES, is_visible) {
-        return Err(Fault::MalformedValue("host"));
-    }
-    if !is_region(words.region.as_bytes()) {
-        return Err(Fault::MalformedValue("region"));
-    }
+    check_place(words.host.as_bytes(), words.region.as_bytes())?;
     let expires = words
         .expires
         .parse::<u64>()
@@ -63,6 +58,17 @@ fn read_order(alloc: Global, words: &Link<'_>) -> Result<Order, Fault<'static>> 
         start,
         expires,
     })
+}
+
+/// Fails where the host or the region is malformed.
+pub(crate) fn check_place(host: &[u8], region: &[u8]) -> Result<(), Fault<'static>> {
+    if !is_word(host, MOST_HOST_BYTES, is_visible) {
+        return Err(Fault::MalformedValue("host"));
+    }
+    if !is_region(region) {
+        return Err(Fault::MalformedValue("region"));
+    }
+    Ok(())
 }
 
 // Whether a link of this method may be to the text: a box's name, `/` and a file's name; for POST a desk command.

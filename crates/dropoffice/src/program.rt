@@ -4,6 +4,7 @@ use crate::faults::Fault;
 use crate::init::do_init;
 use crate::linking::do_link;
 use crate::listening::do_serve;
+use crate::listing::{do_compare, do_links, do_manifest};
 use crate::replaying::do_replay;
 use crate::task::Task;
 use clap::Error as WordsError;
@@ -22,11 +23,12 @@ const WORDS: u8 = 2;
 /// Does what the words ask for, the program's own name first among them, and gives the exit status:
 /// 0 where it was done, though requests were refused; 1 where a line `drop: <fault>` was written to
 /// `err`; 2 for words that clap refuses, whose text was written to `err`. Help that was asked for, `done` for a
-/// command of the desk, a link, a replay's answers, and where a server listens are written to `out`. Nothing reads `input` so far.
+/// command of the desk, links, a manifest, what stands of one, a replay's answers, and where a server listens are written to
+/// `out`. Lists of links that are wanted, and manifests to compare, are read from `input`.
 pub fn perform(
     rt: &HostRuntime,
     words: &[&str],
-    _input: impl Read + Drop,
+    input: impl Read + Drop,
     mut out: impl Write + Drop,
     mut err: impl Write + Drop,
 ) -> u8 {
@@ -34,6 +36,9 @@ pub fn perform(
         Ok(Task::Init(words)) => status_of(do_init(rt, &words), &mut err),
         Ok(Task::Desk(words)) => status_of(do_desk(rt, &words, &mut out), &mut err),
         Ok(Task::Link(words)) => status_of(do_link(rt, &words, &mut out), &mut err),
+        Ok(Task::Links(words)) => status_of(do_links(rt, &words, input, out), &mut err),
+        Ok(Task::Manifest(words)) => status_of(do_manifest(rt, &words, out), &mut err),
+        Ok(Task::Compare(words)) => status_of(do_compare(rt, &words, input, out), &mut err),
         Ok(Task::Serve(words)) => status_of(do_serve(rt, &words, &mut out), &mut err),
         Ok(Task::Replay(words)) => status_of(do_replay(rt, &words, out), &mut err),
         Err(error) => explain(&error, &mut out, &mut err),

@@ -1,7 +1,7 @@
 //! What the program's words ask for.
-ghost use Rattle.std.specs.Prelude.{◌≡◌, IfOk, IfErr, IfSome, IsSome, Some, is_some, true, map};
+ghost use Rattle.std.specs.Prelude.{◌≡◌, IfOk, IfErr, IfSome, IsSome, Some, codes, is_some, true, map};
 ghost use Rattle.clap.specs.Words.{all_of, fault_of, first_of, found_of, kind_of, rows_of, subcommand_rows_of, takes, FailsBy};
-ghost use Rattle.dropoffice.specs.Tasks.{drop_app, HasDesk, HasInit, HasLink, HasReplay, HasServe, HasValue, IsDeskIn, IsInitOf, IsLinkIn, IsReplayOf, IsServeIn, IsTaskIn, IsTaskOf, NamesDesk, NamesInit, NamesLink, NamesReplay, NamesServe, NamesTask};
+ghost use Rattle.dropoffice.specs.Tasks.{drop_app, HasDesk, HasInit, HasLink, HasLinks, HasReplay, HasServe, HasValue, IsDeskIn, IsInitOf, IsLinkIn, IsLinksIn, IsOfficeIn, IsReplayOf, IsServeIn, IsTaskIn, IsTaskOf, NamesCompare, NamesDesk, NamesInit, NamesLink, NamesLinks, NamesList, NamesManifest, NamesReplay, NamesServe, NamesTask};
 
 use crate::words::command_line;
 use clap::error::ErrorKind;
@@ -17,6 +17,12 @@ pub enum Task<'a> {
     Desk(Desk<'a>),
     /// Write a link.
     Link(Link<'a>),
+    /// Write many links.
+    Links(Links<'a>),
+    /// Write the receipts.
+    Manifest(OfficeFile<'a>),
+    /// Tell what stands of a manifest.
+    Compare(OfficeFile<'a>),
     /// Answer recorded connections.
     Replay(Replay<'a>),
     /// Serve connections over a socket.
@@ -69,6 +75,26 @@ pub struct Link<'a> {
     pub start: &'a str,
     /// For how many seconds it is good.
     pub expires: &'a str,
+}
+
+/// The words of `drop links FILE --key ID --host H --region R`, each as it was given: no form is asked of them here.
+#[derive(Clone, Copy)]
+pub struct Links<'a> {
+    /// The office file.
+    pub file: &'a str,
+    /// The id of the key that signs.
+    pub key: &'a str,
+    /// The host.
+    pub host: &'a str,
+    /// The region.
+    pub region: &'a str,
+}
+
+/// The word of `drop manifest FILE` and of `drop compare FILE`, as it was given.
+#[derive(Clone, Copy)]
+pub struct OfficeFile<'a> {
+    /// The office file.
+    pub file: &'a str,
 }
 
 /// The words of `drop replay FILE STREAM.. --at MOMENT`, each as it was given: no form is asked of them here.
@@ -130,6 +156,9 @@ impl<'a> Task<'a> {
         if let Some(task) = Task::link_in(matches) {
             return Ok(Some(task));
         }
+        if let Some(task) = Task::list_in(matches) {
+            return Ok(Some(task));
+        }
         if let Some(task) = Task::serve_in(matches) {
             return Ok(Some(task));
         }
@@ -158,6 +187,44 @@ impl<'a> Task<'a> {
     {
         let values = matches.subcommand_matches("link")?;
         Some(Task::Link(Link::of_matches(values)?))
+    }
+
+    // A list that is read or written.
+    fn list_in(matches: &ArgMatches<'a>) -> Option<Task<'a>>
+        ensures task { IfSome result (IsTaskIn (subcommand_rows_of matches.now)) }
+        ensures named { NamesList (subcommand_rows_of matches.now) → IsSome result }
+    {
+        if let Some(task) = Task::links_in(matches) {
+            return Some(task);
+        }
+        if let Some(task) = Task::manifest_in(matches) {
+            return Some(task);
+        }
+        Task::compare_in(matches)
+    }
+
+    fn links_in(matches: &ArgMatches<'a>) -> Option<Task<'a>>
+        ensures task { IfSome result (IsTaskIn (subcommand_rows_of matches.now)) }
+        ensures named { NamesLinks (subcommand_rows_of matches.now) → IsSome result }
+    {
+        let values = matches.subcommand_matches("links")?;
+        Some(Task::Links(Links::of_matches(values)?))
+    }
+
+    fn manifest_in(matches: &ArgMatches<'a>) -> Option<Task<'a>>
+        ensures task { IfSome result (IsTaskIn (subcommand_rows_of matches.now)) }
+        ensures named { NamesManifest (subcommand_rows_of matches.now) → IsSome result }
+    {
+        let values = matches.subcommand_matches("manifest")?;
+        Some(Task::Manifest(OfficeFile::of_matches(values)?))
+    }
+
+    fn compare_in(matches: &ArgMatches<'a>) -> Option<Task<'a>>
+        ensures task { IfSome result (IsTaskIn (subcommand_rows_of matches.now)) }
+        ensures named { NamesCompare (subcommand_rows_of matches.now) → IsSome result }
+    {
+        let values = matches.subcommand_matches("compare")?;
+        Some(Task::Compare(OfficeFile::of_matches(values)?))
     }
 
     fn serve_in(matches: &ArgMatches<'a>) -> Option<Task<'a>>
@@ -223,6 +290,31 @@ impl<'a> Link<'a> {
             region: value_of(values, "region")?,
             start: value_of(values, "start")?,
             expires: value_of(values, "expires")?,
+        })
+    }
+}
+
+impl<'a> Links<'a> {
+    fn of_matches(values: &ArgMatches<'a>) -> Option<Links<'a>>
+        ensures values { IfSome result (IsLinksIn (rows_of (found_of values.now))) }
+        ensures given { HasLinks (rows_of (found_of values.now)) → IsSome result }
+    {
+        Some(Links {
+            file: value_of(values, "file")?,
+            key: value_of(values, "key")?,
+            host: value_of(values, "host")?,
+            region: value_of(values, "region")?,
+        })
+    }
+}
+
+impl<'a> OfficeFile<'a> {
+    fn of_matches(values: &ArgMatches<'a>) -> Option<OfficeFile<'a>>
+        ensures values { IfSome result (IsOfficeIn (rows_of (found_of values.now))) }
+        ensures given { HasValue (codes "file") (rows_of (found_of values.now)) → IsSome result }
+    {
+        Some(OfficeFile {
+            file: value_of(values, "file")?,
         })
     }
 }

@@ -2,7 +2,7 @@
 ghost use Rattle.std.specs.Prelude.{◌≡◌, IfOk, false};
 ghost use Rattle.clap.specs.Words.{app_of, rule_of};
 ghost use Rattle.clap.specs.declared.builder.command.Command.TheViews.{out-Command};
-ghost use Rattle.dropoffice.specs.Tasks.{desk_app, drop_app, init_app, link_app, replay_app, serve_app, target_app, connections_rule, expires_rule, minutes_rule, option_rule, patience_rule, streams_rule, word_rule};
+ghost use Rattle.dropoffice.specs.Tasks.{compare_app, desk_app, drop_app, init_app, link_app, links_app, manifest_app, replay_app, serve_app, target_app, connections_rule, expires_rule, host_rule, key_rule, minutes_rule, option_rule, patience_rule, region_rule, streams_rule, word_rule};
 
 use clap::builder::ValueParser;
 use clap::{Arg, Command};
@@ -48,19 +48,76 @@ The commands. One space stands between two words. Each example is a LINE, in quo
 For an office file called office:
   drop desk office 'key revoke tender-2'";
 
+// What stands below the help of `links`: the rows that it reads and those that it writes.
+const LINK_ROWS: &str = "\
+The list is CSV. Its first row is the head, and each row below asks for one link:
+
+  method,box,name,start,expires
+  PUT,roadworks,offer.pdf,20261201T080000Z,604800
+
+  method   PUT to upload, GET or HEAD to fetch
+  box      the box's name. It needn't be there yet
+  name     the file's name: 1 to 1024 bytes without control characters
+  start    the first second at which the link is good, in UTC
+  expires  for how many seconds it is good: 1 to 604800, which is a week
+
+Each row is written again with its link behind it, under a head with the column link more. A row that is malformed ends
+the list and is named by its number, the row below the head being row 1. The rows before it have been written.
+
+For an office file called office:
+  drop links office --key tender-2 --host files.example --region us-east-1 <asked.csv >links.csv";
+
+// What stands below the help of `manifest`: the rows that it writes.
+const RECEIPT_ROWS: &str = "\
+The list is CSV. Its first row is the head, and each row below is one receipt, from receipt 1 on:
+
+  receipt,box,name,length,sha256,moment,key
+
+  receipt  the receipt's number
+  box      the box that the file was put into
+  name     the file's name
+  length   how many bytes the file had
+  sha256   the SHA-256 of its bytes, in hexadecimal digits
+  moment   when it was put, in UTC: 20261203T101500Z
+  key      the id of the key whose link carried it
+
+A receipt stays, though its file was replaced or taken out: drop compare tells which files still stand.
+
+For an office file called office:
+  drop manifest office >manifest.csv";
+
+// What stands below the help of `compare`: the rows that it writes.
+const STATE_ROWS: &str = "\
+The manifest is one that drop manifest wrote. For each of its rows, in their order, a row is written as CSV:
+
+  receipt,box,name,state
+
+  standing  the file of this receipt is in its box, and its bytes have the row's length and SHA-256
+  differs   it is in its box, and its bytes have another length or SHA-256
+  gone      the box has no such file, or one that came with another receipt
+
+The bytes are read and hashed anew. A row that is malformed ends the list and is named by its number, the row below the
+head being row 1. The rows before it have been answered.
+
+For an office file called office:
+  drop compare office <manifest.csv";
+
 /// `drop COMMAND`.
 pub(crate) fn command_line<'a>(alloc: Global) -> Result<Command<'a>, AllocError>
     ensures { IfOk result (λ c. app_of c ≡ drop_app) }
 {
     Command::new(alloc, "drop")
         .about(
-            "A file drop for offices: makes an office, runs its desk, writes links to its files, and answers requests that carry them",
+            "A file drop for offices: makes an office, runs its desk, writes links to its files, answers requests that carry them, and lists what came",
         )
         .subcommand_required(true)
         .arg_required_else_help(true)
         .subcommand(init_command(alloc)?)?
         .subcommand(desk_command(alloc)?)?
         .subcommand(link_command(alloc)?)?
+        .subcommand(links_command(alloc)?)?
+        .subcommand(manifest_command(alloc)?)?
+        .subcommand(compare_command(alloc)?)?
         .subcommand(replay_command(alloc)?)?
         .subcommand(serve_command(alloc)?)
 }
@@ -121,19 +178,9 @@ fn link_command<'a>(alloc: Global) -> Result<Command<'a>, AllocError>
     ensures local { IfOk result (λ c. (out-Command c).has_globals ≡ false) }
 {
     target_command(alloc)?
-        .arg(option(alloc, "key", "ID", "The id of the key that signs"))?
-        .arg(option(
-            alloc,
-            "host",
-            "H",
-            "The host that the link is sent to: files.example, or files.example:8080",
-        ))?
-        .arg(option(
-            alloc,
-            "region",
-            "R",
-            "The region that the link names: us-east-1",
-        ))?
+        .arg(key_option(alloc))?
+        .arg(host_option(alloc))?
+        .arg(region_option(alloc))?
         .arg(option(
             alloc,
             "start",
@@ -163,6 +210,42 @@ fn target_command<'a>(alloc: Global) -> Result<Command<'a>, AllocError>
             "TARGET",
             "The box and the file's name: box/name. For POST the desk command",
         ))
+}
+
+// `links FILE --key ID --host H --region R`.
+fn links_command<'a>(alloc: Global) -> Result<Command<'a>, AllocError>
+    ensures app { IfOk result (λ c. app_of c ≡ links_app) }
+    ensures local { IfOk result (λ c. (out-Command c).has_globals ≡ false) }
+{
+    Command::new(alloc, "links")
+        .about("Reads a list of links that are wanted, and writes it with the links")
+        .after_help(LINK_ROWS)
+        .arg(word(alloc, "file", "FILE", "The office file"))?
+        .arg(key_option(alloc))?
+        .arg(host_option(alloc))?
+        .arg(region_option(alloc))
+}
+
+// `manifest FILE`.
+fn manifest_command<'a>(alloc: Global) -> Result<Command<'a>, AllocError>
+    ensures app { IfOk result (λ c. app_of c ≡ manifest_app) }
+    ensures local { IfOk result (λ c. (out-Command c).has_globals ≡ false) }
+{
+    Command::new(alloc, "manifest")
+        .about("Writes the receipts of an office as a list")
+        .after_help(RECEIPT_ROWS)
+        .arg(word(alloc, "file", "FILE", "The office file"))
+}
+
+// `compare FILE`.
+fn compare_command<'a>(alloc: Global) -> Result<Command<'a>, AllocError>
+    ensures app { IfOk result (λ c. app_of c ≡ compare_app) }
+    ensures local { IfOk result (λ c. (out-Command c).has_globals ≡ false) }
+{
+    Command::new(alloc, "compare")
+        .about("Reads a manifest, and tells of each receipt whether its file still stands")
+        .after_help(STATE_ROWS)
+        .arg(word(alloc, "file", "FILE", "The office file"))
 }
 
 // `replay FILE STREAM.. --at MOMENT`.
@@ -240,6 +323,40 @@ fn option<'a>(alloc: Global, id: &'a str, name: &'a str, help: &'a str) -> Arg<'
         .value_name(name)
         .required(true)
         .help(help)
+}
+
+// `--key ID`.
+fn key_option<'a>(alloc: Global) -> Arg<'a>
+    ensures rule { rule_of result ≡ key_rule }
+    ensures local { result.global ≡ false }
+{
+    option(alloc, "key", "ID", "The id of the key that signs")
+}
+
+// `--host H`.
+fn host_option<'a>(alloc: Global) -> Arg<'a>
+    ensures rule { rule_of result ≡ host_rule }
+    ensures local { result.global ≡ false }
+{
+    option(
+        alloc,
+        "host",
+        "H",
+        "The host that the link is sent to: files.example, or files.example:8080",
+    )
+}
+
+// `--region R`.
+fn region_option<'a>(alloc: Global) -> Arg<'a>
+    ensures rule { rule_of result ≡ region_rule }
+    ensures local { result.global ≡ false }
+{
+    option(
+        alloc,
+        "region",
+        "R",
+        "The region that the link names: us-east-1",
+    )
 }
 
 // `--expires N`.

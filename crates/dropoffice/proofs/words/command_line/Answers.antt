@@ -19,6 +19,9 @@ returns c =
     let with_init = c.in_ok-subcommand.ensures.shape c.in_ok-init_command.ensures.local ∙ ap₂ with_subcommand start (ap (λ (a : App). a.top) c.in_ok-init_command.ensures.app) in
     let with_desk = c.in_ok-subcommand-2.ensures.shape c.in_ok-desk_command.ensures.local ∙ ap₂ with_subcommand with_init (ap (λ (a : App). a.top) c.in_ok-desk_command.ensures.app) in
     let with_link = c.in_ok-subcommand-3.ensures.shape c.in_ok-link_command.ensures.local ∙ ap₂ with_subcommand with_desk (ap (λ (a : App). a.top) c.in_ok-link_command.ensures.app) in
-    let with_replay = c.in_ok-subcommand-4.ensures.shape c.in_ok-replay_command.ensures.local ∙ ap₂ with_subcommand with_link (ap (λ (a : App). a.top) c.in_ok-replay_command.ensures.app) in
-    IfOk-weaker c.subcommand-5.result _ _ (λ r added. added.shape c.in_ok-serve_command.ensures.local
-    ∙ ap₂ with_subcommand with_replay (ap (λ (a : App). a.top) c.in_ok-serve_command.ensures.app)) c.subcommand-5.ensures
+    let with_links = c.in_ok-subcommand-4.ensures.shape c.in_ok-links_command.ensures.local ∙ ap₂ with_subcommand with_link (ap (λ (a : App). a.top) c.in_ok-links_command.ensures.app) in
+    let with_manifest = c.in_ok-subcommand-5.ensures.shape c.in_ok-manifest_command.ensures.local ∙ ap₂ with_subcommand with_links (ap (λ (a : App). a.top) c.in_ok-manifest_command.ensures.app) in
+    let with_compare = c.in_ok-subcommand-6.ensures.shape c.in_ok-compare_command.ensures.local ∙ ap₂ with_subcommand with_manifest (ap (λ (a : App). a.top) c.in_ok-compare_command.ensures.app) in
+    let with_replay = c.in_ok-subcommand-7.ensures.shape c.in_ok-replay_command.ensures.local ∙ ap₂ with_subcommand with_compare (ap (λ (a : App). a.top) c.in_ok-replay_command.ensures.app) in
+    IfOk-weaker c.subcommand-8.result _ _ (λ r added. added.shape c.in_ok-serve_command.ensures.local
+    ∙ ap₂ with_subcommand with_replay (ap (λ (a : App). a.top) c.in_ok-serve_command.ensures.app)) c.subcommand-8.ensures
