@@ -1,4 +1,4 @@
-use Rattle.std.proofs.Common.{◌≡◌, ◌∙◌, ◌++◌, ◌∷◌, List, ℕ, [], ap, map, sym, subst, take}
+use Rattle.std.proofs.Common.{◌≡◌, ◌∙◌, ◌++◌, ◌∷◌, [], ap, map, sym, subst, take}
 use Rattle.boxes.specs.Rows.{numbered_receipt}
 use Rattle.desk.specs.Lists.{AreLines}
 use Rattle.desk.specs.Manifests.{HasMoment, IsReceiptLine}
