@@ -107,7 +107,7 @@ fn answer_read<R: Read, W: Write, A: Answerer>(
     requires begins { reader_state reader.old ≡ State.StartRecord }
     ensures answers { (read : Option (List ℕ)) → source_of R.remaining reader.old ≡ option_map strip_bom read
         → Answers (map (λ f. f.now) heads.entry.read.now) (map (λ f. f.now) heads.entry.written.now) A.has_form (λ w. A.knows answerer.old w × A.is_honest answerer.new) (A.is_line answerer.old)
-            read (W.contents out.old.inner) (W.contents out.new.inner) result }
+        read (W.contents out.old.inner) (W.contents out.new.inner) result }
     ensures stays { A.stays answerer.old answerer.new (by_keeper result) }
     ensures count { CountsErrors out.old.faults out.new.faults (by_writer result) }
     ensures order { result ≢ Err ListFault.Order }

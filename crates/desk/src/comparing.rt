@@ -163,8 +163,7 @@ impl<K: Keeper> Answerer for Comparer<'_, K> {
 
     ghost stays = { λ c d r. (d.keeper.ghost_name ≡ c.keeper.ghost_name) × Stays K.means K.is_honest K.faults K.leaves K.leaves_whole K.has_store c.keeper.now d.keeper.now r };
 
-    fn answer(&mut self, alloc: Global, row: &ByteRecord) -> Result<Option<Vec<u8>>, ListFault>
-    {
+    fn answer(&mut self, alloc: Global, row: &ByteRecord) -> Result<Option<Vec<u8>>, ListFault> {
         let Some(entry) = read_entry(row) else {
             return Ok(None);
         };

@@ -1,12 +1,12 @@
-use Rattle.std.proofs.Common.{rules, ◌≡◌, ◌∙◌, ◌∷◌, ◌++◌, [], ℕ, List, Option, Some, None, Ok, Err, true, false, map, sym, ap, subst, refl}
+use Rattle.std.proofs.Common.{◌≡◌, ◌∙◌, ◌∷◌, ◌++◌, [], Option, Some, None, true, false, map, sym, ap, subst, refl}
 use Rattle.std.specs.Prelude.{option_map}
 use Rattle.std.proofs.lemmas.Result.{err_from_is_err_and}
 use Rattle.csv.specs.Machine.{next_record, Read as OneRecord}
-use Rattle.csv.specs.Reading.{Reached, default_config, source_of, strip_bom}
+use Rattle.csv.specs.Reading.{Reached, default_config, strip_bom}
 use Rattle.csv.specs.Records.{fields_of}
 use Rattle.csv.specs.declared.parser.State.TheVariants.{StartRecord}
 use Rattle.csv.proofs.ReadFacts.{rows-end, rows-more}
-use Rattle.wire.proofs.Written.{sends_both, sends_no_more}
+use Rattle.wire.proofs.Written.{sends_both}
 use Rattle.desk.specs.Lists.{line}
 use Rattle.desk.proofs.AnsweredLists.{behind_tells, first_record, none_table, of_reading_tells, of_writing_tells, reached_none, sends_err, unanswered}
 use Rattle.desk.proofs.answering.answer_read.Goals as goal
@@ -20,10 +20,10 @@ pub returns-then-not-branch-clause-answers : goal.returns-then-not-branch-clause
 returns-then-not-branch-clause-answers g c =
     let read_none = rw c.if-not-branch.true at c.in_ok-next_record.ensures.reads in
     λ read source. unanswered _ _ _ _ _ read _ _ (λ text known.
-        let at = source ∙ ap (option_map strip_bom) known in
-        let none = rows-end g.R.Read.remaining c.args.reader.now c.next_record.new.reader _ default_config (strip_bom text) c.requires.reads.config at read_none in
-        let none_there = subst (λ s. next_record default_config s [] [] (strip_bom text) ≡ None) c.requires.begins none in
-        (λ p is. absurd (no_some p (sym none_there ∙ is)), refl))
+    let at = source ∙ ap (option_map strip_bom) known in
+    let none = rows-end g.R.Read.remaining c.args.reader.now c.next_record.new.reader _ default_config (strip_bom text) c.requires.reads.config at read_none in
+    let none_there = subst (λ s. next_record default_config s [] [] (strip_bom text) ≡ None) c.requires.begins none in
+    (λ p is. absurd (no_some p (sym none_there ∙ is)), refl))
   where
     no_some : (p : OneRecord) → ◌≡◌ {A = Option OneRecord} None (Some p) → ⊥
     no_some p e = cc
@@ -33,9 +33,9 @@ returns-then-not-is_record-clause-answers g c =
     let read_one = rw c.if-not-branch.false at c.in_ok-next_record.ensures.reads in
     let fields = fields_of c.next_record.new.row in
     λ read source. unanswered _ _ _ _ _ read _ _ (λ text known.
-        let at = source ∙ ap (option_map strip_bom) known in
-        let (after, at_after, more) = rows-more g.R.Read.remaining c.args.reader.now c.next_record.new.reader fields default_config StartRecord (strip_bom text) (strip_bom text) [] c.requires.reads.config at (reached_none StartRecord c.args.reader.now.state (strip_bom text) (sym c.requires.begins)) read_one in
-        (λ p is same. not_head (sym (first_record _ _ _ _ fields p more is) ∙ same), refl))
+    let at = source ∙ ap (option_map strip_bom) known in
+    let (after, at_after, more) = rows-more g.R.Read.remaining c.args.reader.now c.next_record.new.reader fields default_config StartRecord (strip_bom text) (strip_bom text) [] c.requires.reads.config at (reached_none StartRecord c.args.reader.now.state (strip_bom text) (sym c.requires.begins)) read_one in
+    (λ p is same. not_head (sym (first_record _ _ _ _ fields p more is) ∙ same), refl))
   where
     not_head : fields_of c.next_record.new.row ≡ map (λ f. f.now) c.args.heads.read.now → ⊥
     not_head same = no_truth (c.if-not-is_record.ensures.1 same)

@@ -1,5 +1,5 @@
 use Rattle.std.proofs.Common.{refl}
-use Rattle.desk.proofs.UnreadLists.{unanswered}
+use Rattle.desk.proofs.AnsweredLists.{unanswered}
 use Rattle.desk.specs.LinkLists.{links_head, written_links_head, IsLinkRow}
 use Rattle.desk.proofs.link_lists.links_from.Goals as goal
 

@@ -80,22 +80,21 @@ returns-in_err-send_text-clause-sent g c =
 
 pub portions-preserved : goal.portions-preserved
 portions-preserved g c =
-  let next = c.saturating_add-from.ensures ∙ ap (λ k. min (c.portions.from + k) 18446744073709551615) (c.from-in-portions.ensures ∙ sym c.from.ensures) in
-  record {
-  from = omega (arith, next, c.portions.invariant.from);
-  stays = stays_joined _ _ _ _ _ _ _ _ _ _ c.portions.invariant.stays (stays_ok _ _ _ _ _ _ _ _ _ (rw c.in-Ok.is at c.receipts.ensures.rest));
-  count = c.in_ok-send_text.ensures.count.ok ∙ c.portions.invariant.count;
-  sent = λ s means sound honest end.
-      let before = c.receipts.ensures.rest.honest honest in
-      let (text, lines, sent) = c.portions.invariant.sent s means sound before end in
-      let ns = numbered 1 s.receipts in
-      let known = c.portions.invariant.stays.same s means in
-      let rows = ap (map numbered_receipt) c.deref.ensures.value ∙ c.in-Ok.ensures.value s known sound honest in
-      let more = c.in_ok-text.ensures.lines (portion_moments s c.portions.from c.from.result _ sound rows) in
-      let front : take (c.portions.from - 1 + c.from.result) ns ≡ take (c.saturating_add-from.result - 1) ns = front_behind s c.portions.from c.from.result c.saturating_add-from.result c.portions.invariant.from c.from.ensures next (omega (arith, end, c.ranges.end.fits)) in
-      (
-        text ++ c.in_ok-text.text.items,
-        subst (λ xs. AreLines IsReceiptLine xs (text ++ c.in_ok-text.text.items)) front (behind_portion s c.portions.from c.from.result _ text c.in_ok-text.text.items rows lines more),
-        sends_both text c.in_ok-text.text.items _ _ _ tt _ sent (sends_same c.deref-in-portions.ensures.value c.in_ok-send_text.ensures.sent),
-      );
-}
+    let next = c.saturating_add-from.ensures ∙ ap (λ k. min (c.portions.from + k) 18446744073709551615) (c.from-in-portions.ensures ∙ sym c.from.ensures) in
+    record {
+      from = omega (arith, next, c.portions.invariant.from);
+      stays = stays_joined _ _ _ _ _ _ _ _ _ _ c.portions.invariant.stays (stays_ok _ _ _ _ _ _ _ _ _ (rw c.in-Ok.is at c.receipts.ensures.rest));
+      count = c.in_ok-send_text.ensures.count.ok ∙ c.portions.invariant.count;
+      sent = λ s means sound honest end.
+          let before = c.receipts.ensures.rest.honest honest in
+          let (text, lines, sent) = c.portions.invariant.sent s means sound before end in
+          let ns = numbered 1 s.receipts in
+          let known = c.portions.invariant.stays.same s means in
+          let rows = ap (map numbered_receipt) c.deref.ensures.value ∙ c.in-Ok.ensures.value s known sound honest in
+          let more = c.in_ok-text.ensures.lines (portion_moments s c.portions.from c.from.result _ sound rows) in
+          let front : take (c.portions.from - 1 + c.from.result) ns ≡ take (c.saturating_add-from.result - 1) ns = front_behind s c.portions.from c.from.result c.saturating_add-from.result c.portions.invariant.from c.from.ensures next (omega (arith, end, c.ranges.end.fits)) in (
+            text ++ c.in_ok-text.text.items,
+            subst (λ xs. AreLines IsReceiptLine xs (text ++ c.in_ok-text.text.items)) front (behind_portion s c.portions.from c.from.result _ text c.in_ok-text.text.items rows lines more),
+            sends_both text c.in_ok-text.text.items _ _ _ tt _ sent (sends_same c.deref-in-portions.ensures.value c.in_ok-send_text.ensures.sent),
+          );
+    }
