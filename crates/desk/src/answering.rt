@@ -81,6 +81,7 @@ fn answer_records<R: Read, W: Write, A: Answerer>(
     ensures stays { A.stays answerer.old answerer.new (by_keeper result) }
     ensures count { CountsErrors out.old.faults out.new.faults (by_writer result) }
     ensures order { result ≢ Err ListFault.Order }
+    ensures head { result ≢ Err ListFault.Head }
 {
     'records: for i in 0..u64::MAX {
         if !next_record(reader, row)? {

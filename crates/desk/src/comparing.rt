@@ -206,9 +206,10 @@ impl<'k, K: Keeper> Comparer<'k, K> {
 ///
 /// # Errors
 ///
-/// `Head` where the first row of the list is another, or missing. `Row` with the number of the first row behind the head
-/// that is not of the form. `Keep`, `Read`, `Write` where the keeper, a read or a write failed, and `Memory` where memory was
-/// refused. What was written is then a beginning of the answers' text.
+/// `Head` where the first row of the list is another, or missing; then nothing was written. `Row` with the number of the first
+/// row behind the head that is not of the form; then the head and the answers of the rows before it were written. `Keep`,
+/// `Read`, `Write` where the keeper, a read or a write failed, and `Memory` where memory was refused; what was written is then
+/// a beginning of the answers' text.
 pub fn compare<R: Read, K: Keeper, W: Write>(
     alloc: Global,
     input: &mut R,
