@@ -10,8 +10,9 @@ const KEYS: [&[u8]; 4] = [ID, b"k2", b"k3", b"k4"];
 
 const BOXES: [&[u8]; 3] = [b"in", b"out", b"none"];
 
-const FILES: [&[u8]; 6] = [
+const FILES: [&[u8]; 7] = [
     b"a.txt",
+    b"a,b.txt",
     b"a2.txt",
     b"b.txt",
     b"c.txt",

@@ -13,12 +13,23 @@ use std::test::Fail;
 
 /// Answers for every key; no state is claimed of it.
 #[derive(Drop)]
-struct Stub {
+pub(crate) struct Stub {
     role: Role,
     revoked: bool,
     fails: bool,
-    faults: u64,
+    pub(crate) faults: u64,
     alloc: Global,
+}
+
+/// One that fails at every call.
+pub(crate) fn failing(alloc: Global) -> Stub {
+    Stub {
+        role: Role::Clerk,
+        revoked: false,
+        fails: true,
+        faults: 0,
+        alloc,
+    }
 }
 
 impl Stub {

@@ -18,6 +18,11 @@ mod feeds;
 #[cfg(test)]
 mod keepers;
 #[cfg(test)]
+mod link_lists;
+#[cfg(test)]
+mod list_streams;
+pub mod lists;
+#[cfg(test)]
 mod messages;
 pub mod owed;
 #[cfg(test)]

@@ -1,5 +1,6 @@
 //! Worked rows: what is asked of an office that begins, and what is owed for it, over any keeper.
 use crate::boxed::{Asked, CLERK, add_box, bare, order, put, reply, settings};
+use crate::lists::lists;
 use crate::owed::{
     CLOSED, DONE, FIRST_ABC, FIRST_EMPTY, FOUND_ABC, HEAD_OF_ABC, LONG_NAME, MALFORMED_TARGET,
     NO_CLERK, NO_COMMAND, NO_FILE, NO_LENGTH, NOT_POSSIBLE, OTHER_BYTES, PAST_QUOTA, REVOKED,
@@ -40,10 +41,12 @@ pub enum Row {
     Keys,
     /// A file is fetched with its receipt.
     Fetches,
+    /// Receipts are listed, and of each is told what stands of it.
+    Lists,
 }
 
 /// All rows.
-pub const ROWS: [Row; 10] = [
+pub const ROWS: [Row; 11] = [
     Row::Closing,
     Row::Keeping,
     Row::Replacing,
@@ -54,6 +57,7 @@ pub const ROWS: [Row; 10] = [
     Row::Names,
     Row::Keys,
     Row::Fetches,
+    Row::Lists,
 ];
 
 impl Row {
@@ -78,6 +82,7 @@ impl Row {
             Row::Names => names(office),
             Row::Keys => keys(office),
             Row::Fetches => fetches(office),
+            Row::Lists => lists(office),
         }
     }
 }
@@ -125,8 +130,8 @@ pub fn ask<K: Keeper>(
     expect(office, &stream, DATE, want)
 }
 
-// It answers so to a command of the clerk's.
-fn obey<K: Keeper>(office: &mut Office<K>, line: &[u8], want: &[u8]) -> Result<(), Fail> {
+/// It answers so to a command of the clerk's.
+pub fn obey<K: Keeper>(office: &mut Office<K>, line: &[u8], want: &[u8]) -> Result<(), Fail> {
     let stream = order(office.alloc, line)?;
     expect(office, &stream, DATE, want)
 }
