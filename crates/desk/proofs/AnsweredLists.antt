@@ -1,12 +1,14 @@
 -- Lists that are answered record by record.
-use Rattle.std.proofs.Common.{◌≡◌, ◌∙◌, ◌≢◌, ℕ, List, [], ◌∷◌, ◌++◌, Option, Some, None, Result, Ok, Err, OnOk, inl, inr, refl, sym, ap, subst, append_assoc, append-nil}
+use Rattle.std.proofs.Common.{◌≡◌, ◌∙◌, ℕ, List, [], ◌∷◌, ◌++◌, Option, Some, Result, Ok, Err, OnOk, inl, inr, refl, sym, ap, subst, append_assoc, append-nil}
 use Rattle.std.specs.List.{AllByRecursion}
 use Rattle.std.proofs.KnownBytes.{Appends-nil}
+use Rattle.std.specs.Prelude.{⊤}
 use Rattle.wire.specs.Sending.{Sends}
+use Rattle.wire.proofs.Written.{sends_both}
 use Rattle.csv.specs.Reading.{Reached, default_config, strip_bom}
 use Rattle.csv.specs.Machine.{next_record, Read as OneRecord}
 use Rattle.csv.specs.declared.parser.State.{State as Place}
-use Rattle.desk.specs.Lists.{line, AreLines, Answers, IsOfReading, IsOfWriting, IsTable, Tells, TellsRest}
+use Rattle.desk.specs.Lists.{line, all_sent, AreLines, Answers, IsOfReading, IsOfWriting, IsTable, Tells, TellsRest}
 use Rattle.csv.specs.declared.parser.State.TheVariants.{StartRecord}
 use Rattle.desk.specs.declared.list_fault.ListFault.{ListFault}
 use Rattle.desk.specs.declared.list_fault.ListFault.TheVariants as fault
@@ -51,18 +53,56 @@ sends_nothing old {r} = record { front = []; is_front = record { rest = []; join
 pub sends_err : {T U E F : Type 0} {text : List ℕ} {old new : Option (List ℕ)} (e : E) (f : F) → Sends {T = T} text old new (Err e) → Sends {T = U} text old new (Err f)
 sends_err e f sent = record { front = sent.front; is_front = sent.is_front; written = sent.written; whole = tt }
 
+-- a text behind one that was written whole
+pub sends_then : {T E : Type 0} (front rest : List ℕ) (old mid new : Option (List ℕ)) (u : T) (last : Result ⊤ ⊤)
+    → Sends {T = T} {E = E} front old mid (Ok u) → Sends rest mid new last → Sends (front ++ rest) old new last
+sends_then front rest old mid new u last first second = sends_both front rest old mid new tt last (sends_whole u (Ok tt) first) second
+
 -- of no rows there is the head alone
 pub none_table : {A : Type 0} (head : List (List ℕ)) (IsLine : A → List ℕ → Type 0) → IsTable head IsLine [] (line head)
 none_table head IsLine = record { lines = []; are = lines_none IsLine; is = sym (append-nil (line head)) }
 
+pub of_reading_broke : (T : Type 0) (e : ListFault) → IsOfReading e → all_sent {T = T} (Err e) ≡ Err tt
+of_reading_broke T fault.Read is = refl
+of_reading_broke T fault.Memory is = refl
+of_reading_broke T fault.Order is = absurd is
+of_reading_broke T fault.Head is = absurd is
+of_reading_broke T (fault.Row n) is = absurd is
+of_reading_broke T (fault.Keep f) is = absurd is
+of_reading_broke T fault.Write is = absurd is
+
+pub of_writing_broke : (T : Type 0) (e : ListFault) → IsOfWriting e → all_sent {T = T} (Err e) ≡ Err tt
+of_writing_broke T fault.Write is = refl
+of_writing_broke T fault.Memory is = refl
+of_writing_broke T fault.Order is = absurd is
+of_writing_broke T fault.Head is = absurd is
+of_writing_broke T (fault.Row n) is = absurd is
+of_writing_broke T (fault.Keep f) is = absurd is
+of_writing_broke T fault.Read is = absurd is
+
+-- the head stood
+pub of_writing_headed : {T : Type 0} {P : Type 0} (e : ListFault) → IsOfWriting e → ◌≡◌ {A = Result T ListFault} (Err e) (Err fault.Head) → P
+of_writing_headed {T} {P} e is same = absurd (go e is (same_fault e fault.Head same))
+  where
+    same_fault : (a b : ListFault) → ◌≡◌ {A = Result T ListFault} (Err a) (Err b) → a ≡ b
+    same_fault a b p = cc
+
+    go : (f : ListFault) → IsOfWriting f → f ≡ fault.Head → ⊥
+    go f of p = subst IsOfWriting p of
+
 -- no record was answered, and nothing written
 pub unanswered : {T W : Type 0} (head out_head : List (List ℕ)) (Form : List (List ℕ) → Type 0) (Known : W → Type 0) (IsLine : W → List (List ℕ) → List ℕ → Type 0) (read old : Option (List ℕ)) (e : ListFault)
-    → ((text : List ℕ) → read ≡ Some text → Tells {T = T} head Form text [] (Err e)) → Answers {T = T} head out_head Form Known IsLine read old old (Err e)
-unanswered head out_head Form Known IsLine read old e tells = record {
+    → all_sent {T = T} (Err e) ≡ Err tt → ((text : List ℕ) → read ≡ Some text → Tells {T = T} head Form text [] (Err e)) → Answers {T = T} head out_head Form Known IsLine read old old (Err e)
+unanswered head out_head Form Known IsLine read old e broke tells = record {
   rows = [];
   formed = tt;
   tells = tells;
-  written = λ w k. (line out_head, none_table out_head (IsLine w), record { front = []; is_front = record { rest = line out_head; joined = refl }; written = Appends-nil old; whole = tt });
+  written = λ w k. (
+    line out_head,
+    none_table out_head (IsLine w),
+    record { front = []; is_front = record { rest = line out_head; joined = refl }; written = Appends-nil old; whole = rw broke tt },
+  );
+  unwritten = λ is. refl;
 }
 
 pub of_reading_tells : (T : Type 0) (head : List (List ℕ)) (Form : List (List ℕ) → Type 0) (text : List ℕ) (e : ListFault) → IsOfReading e → Tells {T = T} head Form text [] (Err e)

@@ -11,4 +11,3 @@ pub mod OneCommand
 pub mod Examples
 pub mod RecordFields
 pub mod Wishes
-pub mod UnreadLists

@@ -1,9 +1,14 @@
 -- Lists in portions.
-use Rattle.std.proofs.Common.{◌≡◌, ◌∙◌, ℕ, ◌+◌, ◌-◌, ◌≤◌, List, [], ◌∷◌, ◌++◌, length, take, drop, zero, suc, refl, sym, ap, arith}
+use Rattle.std.proofs.Common.{◌≡◌, ◌∙◌, ℕ, ◌+◌, ◌-◌, ◌≤◌, List, [], ◌∷◌, ◌++◌, ◌<◌, ◌⊎◌, inl, inr, min, length, take, drop, zero, suc, refl, sym, ap, subst, arith}
 use Rattle.std.specs.List.{AllByRecursion}
 use Rattle.std.proofs.lemmas.List.{take_all}
-use Rattle.boxes.specs.Rows.{numbered}
-use Rattle.boxes.specs.State.{Receipt}
+use Rattle.std.proofs.lemmas.Bool.{cases_lt}
+use Rattle.boxes.specs.Rows.{numbered, receipts_from}
+use Rattle.boxes.specs.Sound.{IsMoment, IsReceipt, IsSound}
+use Rattle.boxes.specs.State.{Receipt, State}
+use Rattle.desk.specs.Lists.{AreLines}
+use Rattle.desk.specs.Manifests.{HasMoment, IsReceiptLine}
+use Rattle.desk.proofs.AnsweredLists.{lines_joined}
 
 pub all_take : {X : Type 0} (P : X → Type 0) (n : ℕ) (xs : List X) → AllByRecursion P xs → AllByRecursion P (take n xs)
 all_take P zero xs all = tt
@@ -42,3 +47,30 @@ take_portion (suc n) m (x ∷ xs) = ap (λ t. x ∷ t) (take_portion n m xs) ∙
 -- fronts that are the whole list
 pub take_whole : {X : Type 0} (n m : ℕ) (xs : List X) → length xs ≤ n → length xs ≤ m → take n xs ≡ take m xs
 take_whole n m xs a b = take_all n xs a ∙ sym (take_all m xs b)
+
+-- the receipts of a portion have moments
+pub portion_moments : (s : State) (from most : ℕ) (rows : List (ℕ × Receipt)) → IsSound s → rows ≡ receipts_from s from most → AllByRecursion HasMoment rows
+portion_moments s from most rows sound are =
+    let all = all_numbered (IsReceipt s) (λ r. IsMoment r.moment) (λ r is. is.moment) 1 s.receipts sound.receipts in
+    subst (AllByRecursion HasMoment) (sym are) (all_take HasMoment most _ (all_drop HasMoment (from - 1) _ all))
+
+-- the lines of a portion behind those of the receipts before it
+pub behind_portion : (s : State) (from most : ℕ) (rows : List (ℕ × Receipt)) (text more : List ℕ) → rows ≡ receipts_from s from most
+    → AreLines IsReceiptLine (take (from - 1) (numbered 1 s.receipts)) text → AreLines IsReceiptLine rows more
+    → AreLines IsReceiptLine (take (from - 1 + most) (numbered 1 s.receipts)) (text ++ more)
+behind_portion s from most rows text more are before lines =
+    let ns = numbered 1 s.receipts in
+    let joined : take (from - 1) ns ++ rows ≡ take (from - 1 + most) ns = ap (λ r. take (from - 1) ns ++ r) are ∙ take_portion (from - 1) most ns in
+    subst (λ xs. AreLines IsReceiptLine xs (text ++ more)) joined (lines_joined IsReceiptLine (take (from - 1) ns) rows text more before lines)
+
+-- the front up to the next portion, also where that would begin past the last number
+pub front_behind : (s : State) (from most to : ℕ) → 1 ≤ from → most ≡ 256 → to ≡ min (from + most) 18446744073709551615 → length s.receipts + 1 < 18446744073709551616
+    → take (from - 1 + most) (numbered 1 s.receipts) ≡ take (to - 1) (numbered 1 s.receipts)
+front_behind s from most to first is next short = go (cases_lt (from + most) 18446744073709551616)
+  where
+    ns : List (ℕ × Receipt)
+    ns = numbered 1 s.receipts
+
+    go : (from + most < 18446744073709551616) ⊎ (18446744073709551616 ≤ from + most) → take (from - 1 + most) ns ≡ take (to - 1) ns
+    go (inl lt) = ap (λ k. take k ns) (omega (arith, first, is, next, lt))
+    go (inr ge) = take_whole (from - 1 + most) (to - 1) ns (omega (arith, length-numbered 1 s.receipts, first, ge, short)) (omega (arith, length-numbered 1 s.receipts, next, ge, short))

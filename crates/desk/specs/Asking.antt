@@ -14,7 +14,6 @@ same_error : {T : Type 0} (f g : KeepFault) → ◌≡◌ {A = Result T KeepFaul
 same_error f g e = cc
 
 module _ {K : Type 0} (means : K → State → Type 0) (is_honest : K → Type 0) (faults : K → ℕ) (leaves : K → State → Type 0) (leaves_whole : K → Type 0) (has_store : Type 0) where
-
   -- nothing was asked
   pub stays_unasked : (k : K) → Stays {T = ⊤} means is_honest faults leaves leaves_whole has_store k k (Ok tt)
   stays_unasked k = record {

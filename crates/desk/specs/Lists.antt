@@ -67,14 +67,22 @@ Tells head Form text rows (Err (fault.Row n)) = HasBadRow head Form text rows ×
 Tells head Form text rows (Err fault.Order) = rows ≡ []
 Tells head Form text rows (Err _) = BeginsList head text rows ⊎ (rows ≡ [])
 
+-- whether all answers were written: so at a success, and where a record is not of the form
+abbrev pub all_sent : {T : Type 0} → Result T ListFault → Result ⊤ ⊤
+all_sent (Ok done) = Ok tt
+all_sent (Err (fault.Row n)) = Ok tt
+all_sent (Err _) = Err tt
+
 -- Records of the form are answered, one after another. Where the text is known that was read, the result tells of it;
--- and in each world that is known here a beginning of the table of their answers was written: the whole at a success.
+-- and in each world that is known here a beginning of the table of their answers was written: the whole at a success, and
+-- where a record is not of the form. Where the head is another nothing was written.
 pub record Answers {T W : Type 0} (head out_head : List (List ℕ)) (Form : List (List ℕ) → Type 0) (Known : W → Type 0) (IsLine : W → List (List ℕ) → List ℕ → Type 0)
     (read old new : Option (List ℕ)) (result : Result T ListFault) : Type 0 where
   pub rows : List (List (List ℕ))
   pub formed : AllByRecursion Form rows
   pub tells : (text : List ℕ) → read ≡ Some text → Tells head Form text rows result
-  pub written : (w : W) → Known w → (text : List ℕ) × IsTable out_head (IsLine w) rows text × Sends text old new result
+  pub written : (w : W) → Known w → (text : List ℕ) × IsTable out_head (IsLine w) rows text × Sends text old new (all_sent result)
+  pub unwritten : result ≡ Err fault.Head → new ≡ old
 
 -- ---- a reader that has read some records
 
@@ -100,7 +108,7 @@ pub record AnswersRest {T W R : Type 0} (Form : List (List ℕ) → Type 0) (Kno
   pub rows : List (List (List ℕ))
   pub formed : AllByRecursion Form rows
   pub tells : (text : List ℕ) → source_of rem reader ≡ Some text → TellsRest Form (reader_state reader) text rows result
-  pub written : (w : W) → Known w → (text : List ℕ) × AreLines (IsLine w) rows text × Sends text old new result
+  pub written : (w : W) → Known w → (text : List ℕ) × AreLines (IsLine w) rows text × Sends text old new (all_sent result)
 
 -- ---- whose fault it was
 

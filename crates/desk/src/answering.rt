@@ -81,6 +81,7 @@ fn answer_records<R: Read, W: Write, A: Answerer>(
     ensures stays { A.stays answerer.old answerer.new (by_keeper result) }
     ensures count { CountsErrors out.old.faults out.new.faults (by_writer result) }
     ensures order { result ≢ Err ListFault.Order }
+    ensures head { result ≢ Err ListFault.Head }
 {
     'records: for i in 0..u64::MAX {
         if !next_record(reader, row)? {
@@ -107,7 +108,7 @@ fn answer_read<R: Read, W: Write, A: Answerer>(
     requires begins { reader_state reader.old ≡ State.StartRecord }
     ensures answers { (read : Option (List ℕ)) → source_of R.remaining reader.old ≡ option_map strip_bom read
         → Answers (map (λ f. f.now) heads.entry.read.now) (map (λ f. f.now) heads.entry.written.now) A.has_form (λ w. A.knows answerer.old w × A.is_honest answerer.new) (A.is_line answerer.old)
-            read (W.contents out.old.inner) (W.contents out.new.inner) result }
+        read (W.contents out.old.inner) (W.contents out.new.inner) result }
     ensures stays { A.stays answerer.old answerer.new (by_keeper result) }
     ensures count { CountsErrors out.old.faults out.new.faults (by_writer result) }
     ensures order { result ≢ Err ListFault.Order }

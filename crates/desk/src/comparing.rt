@@ -163,8 +163,7 @@ impl<K: Keeper> Answerer for Comparer<'_, K> {
 
     ghost stays = { λ c d r. (d.keeper.ghost_name ≡ c.keeper.ghost_name) × Stays K.means K.is_honest K.faults K.leaves K.leaves_whole K.has_store c.keeper.now d.keeper.now r };
 
-    fn answer(&mut self, alloc: Global, row: &ByteRecord) -> Result<Option<Vec<u8>>, ListFault>
-    {
+    fn answer(&mut self, alloc: Global, row: &ByteRecord) -> Result<Option<Vec<u8>>, ListFault> {
         let Some(entry) = read_entry(row) else {
             return Ok(None);
         };
@@ -207,9 +206,10 @@ impl<'k, K: Keeper> Comparer<'k, K> {
 ///
 /// # Errors
 ///
-/// `Head` where the first row of the list is another, or missing. `Row` with the number of the first row behind the head
-/// that is not of the form. `Keep`, `Read`, `Write` where the keeper, a read or a write failed, and `Memory` where memory was
-/// refused. What was written is then a beginning of the answers' text.
+/// `Head` where the first row of the list is another, or missing; then nothing was written. `Row` with the number of the first
+/// row behind the head that is not of the form; then the head and the answers of the rows before it were written. `Keep`,
+/// `Read`, `Write` where the keeper, a read or a write failed, and `Memory` where memory was refused; what was written is then
+/// a beginning of the answers' text.
 pub fn compare<R: Read, K: Keeper, W: Write>(
     alloc: Global,
     input: &mut R,

@@ -13,10 +13,7 @@ use std::io::Write;
 use wire::{Counted, send};
 
 /// Writes the line of a record to memory.
-pub(crate) fn write_line(
-    fields: &[&[u8]],
-    writer: &mut Writer<Vec<u8>>,
-) -> Result<(), ListFault>
+pub(crate) fn write_line(fields: &[&[u8]], writer: &mut Writer<Vec<u8>>) -> Result<(), ListFault>
     requires { IsClean writer.old }
     ensures clean { OnOk result (IsClean writer.new) }
     ensures written { OnOk result (Appends (text_written (λ v. Some v.items) writer.old) (text_written (λ v. Some v.items) writer.new) (line (map (λ f. f.now) fields.now))) }

@@ -175,9 +175,9 @@ impl Answerer for Signer<'_> {
 /// # Errors
 ///
 /// `Order` where the key, the host or the region is not of the form; then nothing was read or written. `Head` where the first
-/// row of the list is another, or missing. `Row` with the number of the first row behind the head that is not of the form.
-/// `Read`, `Write` where a read or a write failed, and `Memory` where memory was refused. What was written is then a beginning
-/// of the links' text.
+/// row of the list is another, or missing; then nothing was written. `Row` with the number of the first row behind the head
+/// that is not of the form; then the head and the links of the rows before it were written. `Read`, `Write` where a read or a
+/// write failed, and `Memory` where memory was refused; what was written is then a beginning of the links' text.
 pub fn links_from<R: Read, W: Write>(
     alloc: Global,
     input: &mut R,

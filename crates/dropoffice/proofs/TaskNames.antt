@@ -368,7 +368,7 @@ found_task : (name : Text) (s : Shape) → bytes_eq name (codes "help") ≡ fals
     → (init_built ≡ s) ⊎ ((desk_built ≡ s) ⊎ ((link_built ≡ s) ⊎ (((links_built ≡ s) ⊎ ((manifest_built ≡ s) ⊎ (compare_built ≡ s))) ⊎ ((replay_built ≡ s) ⊎ (serve_built ≡ s)))))
 found_task name s elsewhere found =
     go (answers_to name (label_of init_built)) (answers_to name (label_of desk_built)) (answers_to name (label_of link_built)) (answers_to name (label_of links_built)) (answers_to name (label_of manifest_built)) (answers_to name (label_of compare_built)) (answers_to name (label_of replay_built)) (answers_to name (label_of serve_built))
-        (answers_to name (label_of help_built)) (help_named name elsewhere) found
+    (answers_to name (label_of help_built)) (help_named name elsewhere) found
   where
     go : (a b c d e f g h k : Bool) → k ≡ false
         → cond a (Some init_built) (cond b (Some desk_built) (cond c (Some link_built) (cond d (Some links_built) (cond e (Some manifest_built) (cond f (Some compare_built) (cond g (Some replay_built) (cond h (Some serve_built) (cond k (Some help_built) None)))))))) ≡ Some s

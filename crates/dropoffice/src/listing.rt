@@ -14,7 +14,7 @@ use wire::Counted;
 pub(crate) fn do_links(
     rt: &HostRuntime,
     words: &Links<'_>,
-    mut input: impl Read,
+    mut input: impl Read + Drop,
     out: impl Write + Drop,
 ) -> Result<(), Fault<'static>> {
     let (host, region) = (words.host.as_bytes(), words.region.as_bytes());
@@ -50,7 +50,7 @@ pub(crate) fn do_manifest(
 pub(crate) fn do_compare(
     rt: &HostRuntime,
     words: &OfficeFile<'_>,
-    mut input: impl Read,
+    mut input: impl Read + Drop,
     out: impl Write + Drop,
 ) -> Result<(), Fault<'static>> {
     require_file(rt, words.file)?;

@@ -1,14 +1,11 @@
-use Rattle.std.proofs.Common.{rules, arith, ◌≡◌, ◌∙◌, ℕ, List, [], ◌∷◌, ◌++◌, Result, Ok, Err, Some, true, false, length, refl, sym, subst, length-append}
-use Rattle.std.specs.List.{AllByRecursion}
+use Rattle.std.proofs.Common.{rules, arith, ◌≡◌, ◌∙◌, [], ◌∷◌, ◌++◌, true, Err, refl, subst, length-append}
 use Rattle.std.proofs.lemmas.Result.{err_from_is_err_and}
-use Rattle.csv.specs.Reading.{Reached, default_config, source_of}
+use Rattle.csv.specs.Reading.{Reached, default_config}
 use Rattle.csv.specs.Records.{fields_of}
-use Rattle.csv.proofs.ReadFacts.{rows-end, rows-more}
-use Rattle.sigtext.specs.Counts.{CountsErrors}
-use Rattle.wire.specs.Sending.{Sends}
+use Rattle.csv.proofs.ReadFacts.{rows-more}
 use Rattle.wire.proofs.Written.{sends_both, sends_same}
-use Rattle.desk.specs.Lists.{by_keeper, by_writer, AreLines, AnswersRest, IsReading}
-use Rattle.desk.proofs.AnsweredLists.{all_push, lines_none, lines_push, sends_err, sends_nothing, sends_whole}
+use Rattle.desk.specs.Lists.{by_keeper}
+use Rattle.desk.proofs.AnsweredLists.{all_push, lines_none, lines_push, sends_err, sends_nothing, sends_then, sends_whole}
 use Rattle.desk.proofs.answering.answer_records.Goals as goal
 
 pub records-init : goal.records-init
@@ -60,8 +57,8 @@ returns-in_err-send_text-clause-answers g c =
           let known_now = g.met.A.Answerer.same _ _ w _ c.records.invariant.stays k.0 in
           let line = rw c.in-Some.is at c.in_ok-text.ensures.line w known_now k.1 in
           let one = g.met.A.Answerer.steady _ _ _ w _ _ c.records.invariant.stays line in
-          let rest = sends_same c.deref.ensures.value (sends_err c.in_err-send_text.field-0.0 told_err.0 c.in_err-send_text.ensures.sent) in
-          (text ++ c.in-Some.text.items, lines_push _ rows text row c.in-Some.text.items lines one, sends_both text c.in-Some.text.items _ _ _ tt _ sent rest);
+          let rest = sends_same c.deref.ensures.value (sends_err c.in_err-send_text.field-0.0 tt c.in_err-send_text.ensures.sent) in
+          (text ++ c.in-Some.text.items, lines_push _ rows text row c.in-Some.text.items lines one, rw (told_err.2 ∙ c.in_err-send_text.ensures.fault) (sends_then text c.in-Some.text.items _ _ _ tt (Err tt) sent rest));
     })
 
 pub records-preserved : goal.records-preserved
@@ -87,8 +84,10 @@ records-preserved g c =
             let (text, lines, sent) = written w k still in
             let known_now = g.met.A.Answerer.same _ _ w _ c.records.invariant.stays k in
             let line = rw c.in-Some.is at c.in_ok-text.ensures.line w known_now h in
-            let one = g.met.A.Answerer.steady _ _ _ w _ _ c.records.invariant.stays line in
-            (text ++ c.in-Some.text.items, lines_push _ rows text row c.in-Some.text.items lines one,
-              sends_both text c.in-Some.text.items _ _ _ tt _ sent (sends_same c.deref.ensures.value c.in_ok-send_text.ensures.sent)),
+            let one = g.met.A.Answerer.steady _ _ _ w _ _ c.records.invariant.stays line in (
+              text ++ c.in-Some.text.items,
+              lines_push _ rows text row c.in-Some.text.items lines one,
+              sends_both text c.in-Some.text.items _ _ _ tt _ sent (sends_same c.deref.ensures.value c.in_ok-send_text.ensures.sent),
+            ),
       );
     }

@@ -13,7 +13,7 @@ invariant-records g l = record {
   count : l.out.faults ≡ l.fn.out.faults;
   answered : (rows : List (List (List ℕ))) × (length rows ≡ l.i) × AllByRecursion g.A.Answerer.has_form rows
       × ((text : List ℕ) → source_of g.R.Read.remaining l.fn.reader ≡ Some text → (rest : List ℕ) × (source_of g.R.Read.remaining l.reader ≡ Some rest)
-        × Reached default_config l.fn.reader.state text rows l.reader.state rest)
+      × Reached default_config l.fn.reader.state text rows l.reader.state rest)
       × ((w : g.A.Answerer.World) → g.A.Answerer.knows l.fn.answerer w → g.A.Answerer.is_honest l.answerer
-        → (text : List ℕ) × AreLines (g.A.Answerer.is_line l.fn.answerer w) rows text × Sends {T = Unit {0}} {E = ListFault} text (g.W.Write.contents l.fn.out.inner) (g.W.Write.contents l.out.inner) (Ok tt));
+      → (text : List ℕ) × AreLines (g.A.Answerer.is_line l.fn.answerer w) rows text × Sends {T = Unit {0}} {E = ListFault} text (g.W.Write.contents l.fn.out.inner) (g.W.Write.contents l.out.inner) (Ok tt));
 }

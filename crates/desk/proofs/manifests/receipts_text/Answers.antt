@@ -1,4 +1,4 @@
-use Rattle.std.proofs.Common.{◌≡◌, ◌∙◌, ◌++◌, ◌∷◌, List, ℕ, [], ap, map, sym, subst, take}
+use Rattle.std.proofs.Common.{◌≡◌, ◌∙◌, ◌++◌, ◌∷◌, [], ap, map, sym, subst, take}
 use Rattle.boxes.specs.Rows.{numbered_receipt}
 use Rattle.desk.specs.Lists.{AreLines}
 use Rattle.desk.specs.Manifests.{HasMoment, IsReceiptLine}
@@ -27,5 +27,5 @@ receipts-preserved c =
           let (one, line, written) = c.in_ok-write_receipt.ensures.written moment in
           let lines = lines_push IsReceiptLine _ _ _ one (c.receipts.invariant.lines all) line in
           subst (λ xs. AreLines IsReceiptLine xs (c.write_receipt.new.writer.wtr.inner.items ++ c.write_receipt.new.writer.wtr.buf)) (sym more)
-            (subst (AreLines IsReceiptLine (map numbered_receipt (take at rows) ++ _ ∷ [])) (sym written) lines);
+          (subst (AreLines IsReceiptLine (map numbered_receipt (take at rows) ++ _ ∷ [])) (sym written) lines);
     }

@@ -3,7 +3,6 @@ use Rattle.boxes.specs.Rows.{numbered}
 use Rattle.boxes.specs.Sound.{IsSound}
 use Rattle.boxes.specs.State.{State}
 use Rattle.keeper.specs.Keeping.{Stays}
-use Rattle.keeper.specs.declared.keep.KeepFault.{KeepFault}
 use Rattle.wire.specs.Sending.{Sends}
 use Rattle.desk.specs.Lists.{AreLines}
 use Rattle.desk.specs.Manifests.{IsReceiptLine}

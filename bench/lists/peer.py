@@ -1,0 +1,102 @@
+#!/usr/bin/env python3
+"""peer.py manifest|compare OFFICE: what `drop manifest` and `drop compare` do, by Python's `sqlite3`, `csv` and `hashlib`.
+peer.py links OFFICE ID HOST REGION: what `drop links` does, by `sqlite3`, `csv` and botocore's own signer.
+
+A list is read from standard input, and one is written to standard output. README.md beside this says more.
+"""
+
+import csv
+import datetime
+import hashlib
+import pathlib
+import re
+import sqlite3
+import sys
+import time
+import urllib.parse
+
+MANIFEST_HEAD = ["receipt", "box", "name", "length", "sha256", "moment", "key"]
+FINDINGS_HEAD = ["receipt", "box", "name", "state"]
+LINKS_HEAD = ["method", "box", "name", "start", "expires"]
+RECEIPTS = "SELECT number, box, name, length, digest, moment, key_id FROM receipts ORDER BY number"
+FILE = """SELECT files.receipt, pieces.bytes FROM files LEFT JOIN pieces USING (box, name)
+    WHERE files.box = ? AND files.name = ? ORDER BY pieces.part"""
+NUMBER = re.compile(r"[1-9][0-9]{0,9}")
+LENGTH = re.compile(r"0|[1-9][0-9]{0,6}")
+DIGEST = re.compile(r"[0-9a-f]{64}")
+METHOD = re.compile(r"PUT|GET|HEAD")
+BOX = re.compile(r"[a-z0-9.-]{1,63}")
+NAME = re.compile(r"[^\x00-\x1f\x7f]{1,1024}")
+EXPIRES = re.compile(r"[1-9][0-9]{0,5}")
+MOMENT = "%Y%m%dT%H%M%SZ"
+
+
+def manifest(db, _, out):
+    out.writerow(MANIFEST_HEAD)
+    for number, box, name, length, digest, moment, key in db.execute(RECEIPTS):
+        out.writerow([number, box, name, length, digest.hex(), time.strftime(MOMENT, time.gmtime(moment)), key])
+
+
+def state(db, number, box, name, length, digest):
+    """What stands of a receipt's file."""
+    found = db.execute(FILE, (box, name)).fetchall()
+    if not found or found[0][0] != int(number):
+        return "gone"
+    data = b"".join(piece or b"" for _, piece in found)
+    is_same = len(data) == int(length) and hashlib.sha256(data).hexdigest() == digest
+    return "standing" if is_same else "differs"
+
+
+def compare(db, given, out):
+    check_head(given, MANIFEST_HEAD)
+    out.writerow(FINDINGS_HEAD)
+    for number, box, name, length, digest, _, _ in given:
+        if not (NUMBER.fullmatch(number) and LENGTH.fullmatch(length) and DIGEST.fullmatch(digest)):
+            raise SystemExit(f"receipt {number} is malformed")
+        out.writerow([number, box, name, state(db, number, box, name, length, digest)])
+
+
+def is_wish(method, box, name, expires):
+    """The row asks for a link, if its moment is one."""
+    forms = METHOD.fullmatch(method) and BOX.fullmatch(box) and NAME.fullmatch(name) and EXPIRES.fullmatch(expires)
+    return forms and len(name.encode()) <= 1024 and int(expires) <= 604800
+
+
+def links(db, given, out, key, host, region):
+    import botocore.auth
+    from botocore.awsrequest import AWSRequest
+    from botocore.credentials import Credentials
+
+    sys.path.insert(0, str(pathlib.Path(__file__).resolve().parents[2] / "ci"))
+    from samples import stop_the_clock
+
+    secret = db.execute("SELECT secret FROM keys WHERE id = ?", (key,)).fetchone()[0].decode()
+    credentials = Credentials(key, secret)
+    check_head(given, LINKS_HEAD)
+    out.writerow([*LINKS_HEAD, "link"])
+    for method, box, name, start, expires in given:
+        if not is_wish(method, box, name, expires):
+            raise SystemExit(f"{name} is malformed")
+        stop_the_clock(datetime.datetime.strptime(start, "%Y%m%dT%H%M%S%z"))
+        request = AWSRequest(method, f"http://{host}/{box}/{urllib.parse.quote(name)}")
+        botocore.auth.S3SigV4QueryAuth(credentials, "s3", region, int(expires)).add_auth(request)
+        out.writerow([method, box, name, start, expires, request.url])
+
+
+def check_head(given, head):
+    if next(given, None) != head:
+        raise SystemExit("the first row is not the head")
+
+
+def main():
+    task, office, *more = sys.argv[1:]
+    db = sqlite3.connect(office)
+    reader = open(0, encoding="utf-8", newline="")
+    with open(1, "w", encoding="utf-8", newline="") as writer:
+        given, out = csv.reader(reader, strict=True), csv.writer(writer, lineterminator="\n")
+        {"manifest": manifest, "compare": compare, "links": links}[task](db, given, out, *more)
+    db.close()
+
+
+if __name__ == "__main__":
+    main()

@@ -1,0 +1,304 @@
+#!/usr/bin/env python3
+"""What lists cost: `drop manifest`, `drop compare` and `drop links`, and beside them, in the same rounds, a peer in Python
+(peer.py) that does the same from the same office file. Prints tables in Markdown. README.md beside this says more.
+"""
+
+import argparse
+import csv
+import dataclasses
+import datetime
+import hashlib
+import importlib.util
+import itertools
+import os
+import pathlib
+import sqlite3
+import statistics
+import subprocess
+import sys
+import tempfile
+
+HERE = pathlib.Path(__file__).resolve().parent
+sys.path.insert(0, str(HERE.parents[1] / "ci"))
+import office  # noqa: E402
+import tables  # noqa: E402
+from peer import FINDINGS_HEAD, LINKS_HEAD, MANIFEST_HEAD  # noqa: E402
+from replays import ID  # noqa: E402
+
+FEW = 1000  # receipts of the small office
+BOX = tables.Box("in", quota=10**12, max_files=10**6, mode=1)
+HOST, REGION = "files.example", "us-east-1"
+STARTS = ["20130524T000000Z", "19700101T000000Z", "20380119T031408Z"]
+EXPIRIES = ["604800", "1", "86400"]
+METHODS = ["PUT", "GET", "HEAD"]
+# Two of eight names are as plain as most are, and the others hold what CSV quotes or links encode.
+NAMES = [
+    "plan-{}.pdf", "offer, part {}.pdf", 'the "last" {}.txt', " {} ", "Angebot Müller {}", "報告書 {}", "{}%20+&=?#;", "{}",
+]
+SECONDS = 600
+# A new process that is small itself starts the program, for a process that starts another lends it its greatest memory.
+# Told are the status, the seconds from the start to the end, and the greatest memory in KiB.
+START = """import os, sys, time
+
+os.set_inheritable(told := int(sys.argv[1]), False)
+begun = time.perf_counter()
+_, status, used = os.wait4(os.posix_spawn(sys.argv[2], sys.argv[2:], os.environ), 0)
+os.write(told, b"%d %.9f %d" % (os.waitstatus_to_exitcode(status), time.perf_counter() - begun, used.ru_maxrss))
+"""
+
+
+class Wrong(Exception):
+    """A program failed, or said something else than the other."""
+
+
+# ---- offices and lists that Python makes
+
+
+def body_of(number):
+    """64 bytes, others for each receipt."""
+    return hashlib.sha512(b"%d" % number).digest()
+
+
+def name_of(number):
+    """The name of a receipt's file. Receipt 7 of ten has that of the receipt before it, whose file it replaced."""
+    number -= number % 10 == 7
+    return NAMES[number % len(NAMES)].format(number)
+
+
+def stands(number, most):
+    """Whether the file of a receipt is still there: the third of ten was taken out, and the sixth was replaced."""
+    return number % 10 != 3 and (number % 10 != 6 or number == most)
+
+
+def fill(file, most):
+    """What so many uploads leave, of which some were replaced or taken out, straight into the tables."""
+    receipts = ((number, BOX.name, name_of(number), 64, hashlib.sha256(body_of(number)).digest(), tables.M + number, ID)
+                for number in range(1, most + 1))
+    standing = [number for number in range(1, most + 1) if stands(number, most)]
+    tables.add_box(file, BOX)
+    with tables.opened(file) as db:
+        db.executemany("INSERT INTO receipts VALUES (?, ?, ?, ?, ?, ?, ?)", receipts)
+        db.executemany("INSERT INTO files VALUES (?, ?, ?)", ((BOX.name, name_of(it), it) for it in standing))
+        db.executemany("INSERT INTO pieces VALUES (?, ?, 0, ?)", ((BOX.name, name_of(it), body_of(it)) for it in standing))
+        db.execute("UPDATE boxes SET used = ?, count = ?", (64 * len(standing), len(standing)))
+
+
+def told_row(number):
+    """A row of the manifest that is compared: the ninth of ten tells another length or digest than the receipt."""
+    digest = hashlib.sha256(body_of(number - (number % 20 == 19))).hexdigest()
+    moment = datetime.datetime.fromtimestamp(tables.M + number, datetime.timezone.utc).strftime("%Y%m%dT%H%M%SZ")
+    return [number, BOX.name, name_of(number), 64 + (number % 20 == 9), digest, moment, ID]
+
+
+def wish(number):
+    return [METHODS[number % 3], BOX.name, name_of(number), STARTS[number % 7 % 3], EXPIRIES[number % 5 % 3]]
+
+
+def state_of(number, most):
+    """What is owed of a row of `told_row`."""
+    if not stands(number, most):
+        return "gone"
+    return "differs" if number % 10 == 9 else "standing"
+
+
+def write_list(file, head, rows):
+    with open(file, "w", encoding="utf-8", newline="") as writer:
+        csv.writer(writer, lineterminator="\n").writerows([head, *rows])
+    return file
+
+
+# ---- runs
+
+
+@dataclasses.dataclass(frozen=True)
+class Run:
+    seconds: float
+    memory: int  # the greatest, in KiB
+
+
+def timed(words, given, out):
+    """A run of these words, which reads one file and writes another."""
+    heard, told = os.pipe()
+    with open(given, "rb") as reader, open(out, "wb") as writer:
+        ran = subprocess.run([sys.executable, "-IS", "-c", START, str(told), *words], stdin=reader, stdout=writer,
+                             stderr=subprocess.PIPE, pass_fds=[told], check=False, timeout=SECONDS)
+    os.close(told)
+    found = os.read(heard, 100).split()
+    os.close(heard)
+    if ran.returncode or ran.stderr or found[:1] != [b"0"]:
+        raise Wrong(f"{words}: {found} {ran.stderr}")
+    return Run(float(found[1]), int(found[2]))
+
+
+@dataclasses.dataclass(frozen=True)
+class Step:
+    """A list of an office. One of no rows reads a head alone, and tells what opening costs."""
+
+    task: str
+    receipts: int
+    rows: int
+    file: pathlib.Path
+    given: pathlib.Path
+
+    def words(self, program):
+        more = ["--key", ID, "--host", HOST, "--region", REGION] if self.task == "links" else []
+        return [program, self.task, self.file, *more]
+
+    def peer_words(self):
+        more = [ID, HOST, REGION] if self.task == "links" else []
+        return [sys.executable, "-B", HERE / "peer.py", self.task, self.file, *more]
+
+
+def rows_of(file):
+    with open(file, encoding="utf-8", newline="") as reader:
+        yield from csv.reader(reader, strict=True)
+
+
+def owed_rows(step):
+    """The rows of a comparison, where they are known beforehand; of another list none."""
+    known = step.rows if step.task == "compare" else 0
+    return ([str(it), BOX.name, name_of(it), state_of(it, step.receipts)] for it in range(1, known + 1))
+
+
+def check(step, ours, theirs):
+    """Both wrote the same rows, a head and as many as are owed; of a comparison those that are owed."""
+    count = -1
+    for number, (one, other) in enumerate(itertools.zip_longest(rows_of(ours), rows_of(theirs))):
+        count = number
+        if one != other:
+            raise Wrong(f"{step.task}, row {number}: {one} and {other}")
+    found = itertools.islice(rows_of(ours), 1, None) if step.task == "compare" else ()
+    if count != step.rows or list(found) != list(owed_rows(step)):
+        raise Wrong(f"{step.task}: {count} rows and not {step.rows}, or others than are owed")
+
+
+@dataclasses.dataclass(frozen=True)
+class Bench:
+    program: pathlib.Path
+    folder: pathlib.Path
+    steps: list
+    runs: dict = dataclasses.field(default_factory=dict)  # of each step those of the program, and those of the peer
+
+    def run(self, step, is_first):
+        """One run of each, the program's first or second."""
+        ours, theirs = self.folder / "ours.csv", self.folder / "theirs.csv"
+        pair = {}
+        for is_peer in [not is_first, is_first]:
+            words = step.peer_words() if is_peer else step.words(self.program)
+            pair[is_peer] = timed(words, step.given, theirs if is_peer else ours)
+        check(step, ours, theirs)
+        self.runs.setdefault(step, []).append((pair[False], pair[True]))
+
+    def go(self, number):
+        """One round."""
+        for place, step in enumerate(self.steps):
+            self.run(step, (number + place) % 2 == 0)
+
+
+def steps_of(file, receipts, folder):
+    """The opening of an office, its manifest, and a comparison with it."""
+    head = write_list(folder / "head.csv", MANIFEST_HEAD, [])
+    told = write_list(folder / f"told-{receipts}.csv", MANIFEST_HEAD, map(told_row, range(1, receipts + 1)))
+    nothing = pathlib.Path(os.devnull)
+    return [Step("compare", receipts, 0, file, head), Step("manifest", receipts, receipts, file, nothing),
+            Step("compare", receipts, receipts, file, told)]
+
+
+def link_steps(file, rows, folder):
+    if not importlib.util.find_spec("botocore"):
+        print("there is no botocore: links are left out\n")
+        return []
+    head = write_list(folder / "asked-head.csv", LINKS_HEAD, [])
+    asked = write_list(folder / "asked.csv", LINKS_HEAD, map(wish, range(1, rows + 1)))
+    return [Step("links", FEW, 0, file, head), Step("links", FEW, rows, file, asked)]
+
+
+def steps_in(folder, words):
+    """The steps of a round, over offices that are made for them."""
+    drop, steps = office.Drop(words.drop.resolve(), folder), []
+    for receipts in [FEW, words.receipts]:
+        file = drop.office(f"office-{receipts}")
+        fill(file, receipts)
+        steps += steps_of(file, receipts, folder)
+    return steps + link_steps(folder / f"office-{FEW}", words.links, folder)
+
+
+# ---- tables
+
+
+def print_table(head, rows):
+    for cells in [head, ["---"] * len(head), *rows]:
+        print("| " + " | ".join(cells) + " |")
+    print()
+
+
+def opening_of(step, steps):
+    """The step that reads a head alone: the last one before this, over the same office."""
+    return [it for it in steps[:steps.index(step)] if not it.rows and it.file == step.file][-1]
+
+
+def times(whole, empty, rows):
+    """The seconds, in brackets those of the opening; and rows a second, in brackets those behind the opening."""
+    behind = [a - b for a, b in zip(whole, empty)]
+    median = statistics.median
+    return [f"{median(whole):.2f} ({median(empty):.2f})", f"{rows / median(whole):.0f} ({rows / median(behind):.0f})"]
+
+
+def time_row(bench, step):
+    runs, empties = bench.runs[step], bench.runs[opening_of(step, bench.steps)]
+    ours, theirs = [[pair[who].seconds for pair in runs] for who in (0, 1)]
+    our_empty, their_empty = [[pair[who].seconds for pair in empties] for who in (0, 1)]
+    whole = statistics.median(b / a for a, b in zip(ours, theirs))
+    behind = statistics.median((b - d) / (a - c) for a, b, c, d in zip(ours, theirs, our_empty, their_empty))
+    return [step.task, str(step.receipts), str(step.rows), *times(ours, our_empty, step.rows),
+            *times(theirs, their_empty, step.rows), f"{whole:.2f} ({behind:.2f})"]
+
+
+def memory_row(bench, step):
+    ours, theirs = [max(pair[who].memory for pair in bench.runs[step]) * 1024 / 1e6 for who in (0, 1)]
+    name = step.task if step.rows else f"{step.task} of a head alone"
+    return [name, str(step.receipts), str(step.rows), f"{ours:.0f}", f"{theirs:.0f}"]
+
+
+def print_tables(bench):
+    listed = [step for step in bench.steps if step.rows and (step.task == "links" or step.receipts > FEW)]
+    head = ["List", "Receipts of the office", "Rows"]
+    times_head = ["`drop`: seconds", "rows a second", "Python: seconds", "rows a second", "Ratio"]
+    print_table([*head, *times_head], [time_row(bench, step) for step in listed])
+    memory_head = ["`drop`: greatest memory, MB", "Python: greatest memory, MB"]
+    print_table([*head, *memory_head], [memory_row(bench, step) for step in bench.steps])
+
+
+def machine():
+    lines = pathlib.Path("/proc/cpuinfo").read_text().splitlines()
+    model = next((line.partition(": ")[2] for line in lines if line.startswith("model name")), "unknown")
+    return (f"{datetime.date.today()}, {os.cpu_count()} cores ({model}), SQLite {sqlite3.sqlite_version}, "
+            f"Python {sys.version.split()[0]}")
+
+
+def load():
+    return "load " + " ".join(f"{it:.1f}" for it in os.getloadavg())
+
+
+def main():
+    parser = argparse.ArgumentParser(description=__doc__.splitlines()[0])
+    parser.add_argument("drop", type=pathlib.Path, help="the built program")
+    parser.add_argument("--receipts", type=int, default=100_000, help=f"of the great office; the small one has {FEW}")
+    parser.add_argument("--links", type=int, default=10_000, help="rows of the list of links")
+    parser.add_argument("--rounds", type=int, default=5)
+    parser.add_argument("--folder", help="where the offices are made")
+    words = parser.parse_args()
+    if words.rounds < 1 or words.links < 1 or not FEW < words.receipts <= BOX.max_files:
+        parser.error("there is no round, no link, or no great office")
+    with tempfile.TemporaryDirectory(prefix="drop-bench-", dir=words.folder) as name:
+        folder = pathlib.Path(name)
+        print(f"{machine()}; {load()} as it began\n")
+        bench = Bench(words.drop.resolve(), folder, steps_in(folder, words))
+        for number in range(words.rounds):
+            bench.go(number)
+        print_tables(bench)
+    print(f"{words.rounds} rounds; {load()} at the end")
+
+
+if __name__ == "__main__":
+    main()
