@@ -8,7 +8,7 @@ use Rattle.wire.proofs.Written.{sends_both}
 use Rattle.csv.specs.Reading.{Reached, default_config, strip_bom}
 use Rattle.csv.specs.Machine.{next_record, Read as OneRecord}
 use Rattle.csv.specs.declared.parser.State.{State as Place}
-use Rattle.desk.specs.Lists.{line, all_sent, AreLines, Answers, IsOfReading, IsOfWriting, IsTable, Tells, TellsRest}
+use Rattle.desk.specs.Lists.{line, all_sent, AreLines, Answers, BeginsList, IsOfReading, IsOfWriting, IsTable, Tells, TellsRest}
 use Rattle.csv.specs.declared.parser.State.TheVariants.{StartRecord}
 use Rattle.desk.specs.declared.list_fault.ListFault.{ListFault}
 use Rattle.desk.specs.declared.list_fault.ListFault.TheVariants as fault
@@ -114,14 +114,14 @@ of_reading_tells T head Form text (fault.Row n) is = absurd is
 of_reading_tells T head Form text (fault.Keep f) is = absurd is
 of_reading_tells T head Form text fault.Write is = absurd is
 
-pub of_writing_tells : (T : Type 0) (head : List (List ℕ)) (Form : List (List ℕ) → Type 0) (text : List ℕ) (e : ListFault) → IsOfWriting e → Tells {T = T} head Form text [] (Err e)
-of_writing_tells T head Form text fault.Write is = inr refl
-of_writing_tells T head Form text fault.Memory is = inr refl
-of_writing_tells T head Form text fault.Order is = absurd is
-of_writing_tells T head Form text fault.Head is = absurd is
-of_writing_tells T head Form text (fault.Row n) is = absurd is
-of_writing_tells T head Form text (fault.Keep f) is = absurd is
-of_writing_tells T head Form text fault.Read is = absurd is
+pub of_writing_tells : (T : Type 0) (head : List (List ℕ)) (Form : List (List ℕ) → Type 0) (text : List ℕ) (e : ListFault) → IsOfWriting e → BeginsList head text [] → Tells {T = T} head Form text [] (Err e)
+of_writing_tells T head Form text fault.Write is begins = begins
+of_writing_tells T head Form text fault.Memory is begins = inl begins
+of_writing_tells T head Form text fault.Order is begins = absurd is
+of_writing_tells T head Form text fault.Head is begins = absurd is
+of_writing_tells T head Form text (fault.Row n) is begins = absurd is
+of_writing_tells T head Form text (fault.Keep f) is begins = absurd is
+of_writing_tells T head Form text fault.Read is begins = absurd is
 
 -- the first record of a text is one alone
 pub first_record : (s t : Place) (xs ys : List ℕ) (f : List (List ℕ)) (p : OneRecord) → Reached default_config s xs (f ∷ []) t ys → next_record default_config s [] [] xs ≡ Some p → p.0 ≡ f
@@ -146,9 +146,9 @@ behind_tells head Form text t ys rows (Err (fault.Row n)) first (bad, is_bad, n_
     (record { bad = bad; begins = (u, zs, reached_behind _ _ _ _ _ _ _ _ first more); is_bad = is_bad }, n_is)
 behind_tells head Form text t ys rows (Err fault.Head) first told = absurd told
 behind_tells head Form text t ys rows (Err fault.Order) first told = absurd told
-behind_tells head Form text t ys rows (Err (fault.Keep f)) first (u, zs, more) = inl (u, zs, reached_behind _ _ _ _ _ _ _ _ first more)
+behind_tells head Form text t ys rows (Err (fault.Keep f)) first (u, zs, more) = (u, zs, reached_behind _ _ _ _ _ _ _ _ first more)
 behind_tells head Form text t ys rows (Err fault.Read) first (u, zs, more) = inl (u, zs, reached_behind _ _ _ _ _ _ _ _ first more)
-behind_tells head Form text t ys rows (Err fault.Write) first (u, zs, more) = inl (u, zs, reached_behind _ _ _ _ _ _ _ _ first more)
+behind_tells head Form text t ys rows (Err fault.Write) first (u, zs, more) = (u, zs, reached_behind _ _ _ _ _ _ _ _ first more)
 behind_tells head Form text t ys rows (Err fault.Memory) first (u, zs, more) = inl (u, zs, reached_behind _ _ _ _ _ _ _ _ first more)
 
 -- before the first record

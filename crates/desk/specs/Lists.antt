@@ -65,6 +65,8 @@ Tells head Form text rows (Ok done) = IsList head text rows
 Tells head Form text rows (Err fault.Head) = HasOtherHead head text × (rows ≡ [])
 Tells head Form text rows (Err (fault.Row n)) = HasBadRow head Form text rows × (n ≡ length rows + 1)
 Tells head Form text rows (Err fault.Order) = rows ≡ []
+Tells head Form text rows (Err (fault.Keep f)) = BeginsList head text rows
+Tells head Form text rows (Err fault.Write) = BeginsList head text rows
 Tells head Form text rows (Err _) = BeginsList head text rows ⊎ (rows ≡ [])
 
 -- whether all answers were written: so at a success, and where a record is not of the form

@@ -13,8 +13,7 @@ use crate::list_fault::ListFault;
 use crate::records::read_fields;
 use boxes::{Command, has_form};
 use csv::ByteRecord;
-use links::{LinkFault, LinkKey, LinkOrder, Method, read_expiry, read_moment, write_link};
-use sigtext::{is_visible, is_word};
+use links::{LinkFault, LinkKey, LinkOrder, Method, is_host, read_expiry, read_moment, write_link};
 use sigv4::{Moment, is_key_id, is_region, is_secret};
 use std::alloc::{AllocError, Global};
 use std::io::{Read, Write};
@@ -25,9 +24,6 @@ const LINKS_HEAD: [&[u8]; 5] = [b"method", b"box", b"name", b"start", b"expires"
 
 /// The head of a list of links that were written.
 const WRITTEN_LINKS_HEAD: [&[u8]; 6] = [b"method", b"box", b"name", b"start", b"expires", b"link"];
-
-/// The greatest number of bytes of a host.
-const MOST_HOST_BYTES: usize = 255;
 
 /// A link that is asked for.
 #[derive(Clone, Copy)]
@@ -75,10 +71,7 @@ fn path_of(alloc: Global, in_box: &[u8], name: &[u8]) -> Result<Vec<u8>, AllocEr
 fn can_sign(key: &LinkKey<'_>, host: &[u8], region: &[u8]) -> bool
     ensures { IsTrue result ↔ CanSign (signing_of key.now host.now region.now) }
 {
-    is_word(host, MOST_HOST_BYTES, is_visible)
-        && is_region(region)
-        && is_key_id(key.id)
-        && is_secret(key.secret)
+    is_host(host) && is_region(region) && is_key_id(key.id) && is_secret(key.secret)
 }
 
 /// Writes links with a key, for a host.

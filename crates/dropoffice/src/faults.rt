@@ -27,15 +27,9 @@ pub(crate) enum Fault<'a> {
     /// The office has no key of this id.
     #[error("the key is unknown")]
     UnknownKey,
-    /// The first row of the list is not its head, or there is none.
-    #[error("the first row is not the head")]
-    NoHead,
-    /// This row of the list, counted from 1 behind the head, is malformed.
-    #[error("row {0} is refused")]
-    RefusedRow(u64),
-    /// A read of the list failed.
-    #[error("cannot read the list")]
-    CannotReadList,
+    /// The list has another head or a malformed row, or could not be read.
+    #[error("{0}")]
+    List(ListFault),
     /// A file of this name could not be opened.
     #[error("cannot read {0}")]
     CannotRead(&'a str),
@@ -82,12 +76,10 @@ impl From<ListFault> for Fault<'_> {
         match fault {
             // Host and region are looked at before, so it is the key.
             ListFault::Order => Fault::UnknownKey,
-            ListFault::Head => Fault::NoHead,
-            ListFault::Row(number) => Fault::RefusedRow(number),
             ListFault::Keep(fault) => Fault::from(fault),
-            ListFault::Read => Fault::CannotReadList,
             ListFault::Write => Fault::CannotWrite,
             ListFault::Memory => Fault::OutOfMemory,
+            ListFault::Head | ListFault::Row(_) | ListFault::Read => Fault::List(fault),
         }
     }
 }

@@ -6,14 +6,11 @@ use crate::task::Link;
 use boxes::{Command, has_form};
 use desk::read_command;
 use keeper::Keeper;
-use links::{LinkFault, LinkKey, LinkOrder, Method, OrderParam, read_moment, write_link};
-use sigtext::{cut, is_visible, is_word};
+use links::{LinkFault, LinkKey, LinkOrder, Method, OrderParam, is_host, read_moment, write_link};
+use sigtext::cut;
 use sigv4::{Moment, is_region};
 use std::alloc::Global;
 use std::io::Write;
-
-/// The greatest number of bytes of a host.
-const MOST_HOST_BYTES: usize = 255;
 
 /// Writes `http://`, the host and a link to `out`, on one line.
 pub(crate) fn do_link(
@@ -62,7 +59,7 @@ fn read_order(alloc: Global, words: &Link<'_>) -> Result<Order, Fault<'static>> 
 
 /// Fails where the host or the region is malformed.
 pub(crate) fn check_place(host: &[u8], region: &[u8]) -> Result<(), Fault<'static>> {
-    if !is_word(host, MOST_HOST_BYTES, is_visible) {
+    if !is_host(host) {
         return Err(Fault::MalformedValue("host"));
     }
     if !is_region(region) {

@@ -18,5 +18,5 @@ pub use judging::judge;
 pub use laws::law_of_parts;
 pub use link_parts::LinkParts;
 pub use methods::Method;
-pub use orders::{LinkFault, LinkKey, LinkOrder, OrderParam};
+pub use orders::{LinkFault, LinkKey, LinkOrder, OrderParam, is_host};
 pub use writing::write_link;

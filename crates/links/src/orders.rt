@@ -148,7 +148,8 @@ fn are_own_headers(headers: &[Field<'_>]) -> bool
     headers.iter().all(|header| is_own_header(headers, header))
 }
 
-fn is_host(host: &[u8]) -> bool
+/// Whether links can be for the host: 1 to 255 visible ASCII characters, none of them a space.
+pub fn is_host(host: &[u8]) -> bool
     ensures { IsTrue result ↔ IsWord is_visible 255 host.now }
 {
     is_word(host, 255, is_visible)

@@ -45,10 +45,17 @@ returns-then-not-is_record-clause-answers g c =
 pub returns-in_err-send_line-clause-answers : goal.returns-in_err-send_line-clause-answers
 returns-in_err-send_line-clause-answers g c =
     let told = err_from_is_err_and c.from_residual-in_err-send_line.result c.from_residual-in_err-send_line.ensures.1 in
+    let read_one = rw c.if-not-branch.false at c.in_ok-next_record.ensures.reads in
+    let fields = fields_of c.next_record.new.row in
+    let is_head = c.if-not-is_record.ensures.0 refl in
     λ read source. rw told.1 (record {
       rows = [];
       formed = tt;
-      tells = λ text known. rw told.2 (of_writing_tells (Unit {0}) _ _ text c.in_err-send_line.field-0.0 c.in_err-send_line.ensures.fault);
+      tells = λ text known.
+          let at = source ∙ ap (option_map strip_bom) known in
+          let (after, at_after, more) = rows-more g.R.Read.remaining c.args.reader.now c.next_record.new.reader fields default_config StartRecord (strip_bom text) (strip_bom text) [] c.requires.reads.config at (reached_none StartRecord c.args.reader.now.state (strip_bom text) (sym c.requires.begins)) read_one in
+          let headed = subst (λ f. Reached default_config StartRecord (strip_bom text) (f ∷ []) c.next_record.new.reader.state after) is_head more in
+          rw told.2 (of_writing_tells (Unit {0}) _ _ text c.in_err-send_line.field-0.0 c.in_err-send_line.ensures.fault (c.next_record.new.reader.state, after, headed));
       written = λ w k. (
         line (map (λ f. f.now) c.args.heads.written.now),
         none_table _ _,
