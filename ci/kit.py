@@ -48,9 +48,10 @@ class Run:
 
 
 def run(words, given=b"", out=subprocess.PIPE, err=subprocess.PIPE, **how):
-    """Runs the words on these bytes. What went to an `out` or `err` of the caller's own is not told."""
+    """Runs the words on these bytes, or on an open file. What went to an `out` or `err` of the caller's own is not told."""
     how |= {"stdout": out, "stderr": err, "timeout": SECONDS, "check": False}
-    ended = subprocess.run(words, input=given, **how)
+    how |= {"input": given} if isinstance(given, bytes) else {"stdin": given}
+    ended = subprocess.run(words, **how)
     return Run(ended.returncode, ended.stdout or b"", ended.stderr or b"")
 
 

@@ -15,6 +15,7 @@ import subprocess
 import tempfile
 
 import kit
+import listed
 import office
 import tables
 from expected import SECRET, answer, quoted
@@ -24,6 +25,7 @@ STREAM = "data/row1.http"
 DROP = kit.ROOT / "crates" / "drop"
 TRY_AGAIN = kit.Run(0, answer(40), b"")
 OUT_OF_MEMORY = fault("out of memory")
+HELPED = ["init", "desk", "link", "links", "manifest", "compare", "replay", "serve"]
 # What a program says whose table cannot be read; nothing was answered then.
 UNREAD = kit.Run(1, b"", b"Error: Kind(OutOfMemory)\n")
 
@@ -87,7 +89,7 @@ def test_drop(program, count):
         ([*replay, "now"], fault("malformed value: at")),
         (["serve", "none", "--connections", "1", "--listen", "now"], fault("malformed value: listen")),
         (["--help"], kit.Run(0, help_of("drop"), b"")),
-        *(([name, "--help"], kit.Run(0, help_of(name), b"")) for name in ["init", "desk", "link", "replay", "serve"]),
+        *(([name, "--help"], kit.Run(0, help_of(name), b"")) for name in HELPED),
         (["replay"], kit.run([program, "replay"])),
     ]:
         name = f"drop {' '.join(words)}"
@@ -108,13 +110,13 @@ def sampled():
     return itertools.chain(range(1, 101), itertools.count(101, 17))
 
 
-def each_office(program, name, words, prepare, right, others, count, done=()):
+def each_office(program, name, words, prepare, right, others, count, done=(), given=b""):
     """As `each_refusal`, over an office file, of a sample of the numbers. `prepare` sets the file up before each run, and gives
     what tells, of a run that was right or was not, whether the file is then wrong. The runs of `done` did what was asked too."""
     came = {it: [] for it in [right, *others]}
     for number in sampled():
         wrong_file = prepare()
-        run, is_refused = refusing(number, [program, *words])
+        run, is_refused = refusing(number, [program, *words], given)
         wrong = wrong_file(run == right or run in done) if run in came else f"{run}"
         if wrong or not is_refused:
             break
@@ -164,6 +166,42 @@ def test_offices(program, folder, count):
     each_office(program, "a command in drop replay FILE", replay, copied, obeyed, [OUT_OF_MEMORY, TRY_AGAIN], count)
 
 
+def broken_off(right):
+    """The runs that wrote a beginning of the right list, of some rows or of none, and then lacked memory."""
+    lines = right.out.splitlines(True)
+    return [kit.Run(1, b"".join(lines[:number]), OUT_OF_MEMORY.err) for number in range(len(lines) + 1)]
+
+
+def test_lists(program, folder, count):
+    """`manifest`, `compare` and `links` change no file, and where memory is refused they write a beginning of the list."""
+    file, whole = folder / "lists", folder / "whole-lists"
+    made = kit.run([program, "init", whole, "--clerk", ID, "--secret", SECRET.decode()])
+    if made != kit.Run(0, b"", b""):
+        count.add("an office file for lists", f"{made}")
+        return
+    tables.add_box(whole, tables.Box("in"))
+    for name, data in [("a,b.txt", b"abc"), ("é", b""), ("b.txt", b"x" * 70_000)]:
+        tables.add_file(whole, "in", name, data, ID)
+
+    def copied():
+        for it in folder.glob("lists*"):
+            it.unlink()
+        shutil.copy(whole, file)
+        before = tables.dump(file)
+        return lambda _: None if tables.dump(file) == before else "the tables were changed"
+
+    receipts = list(listed.receipts(whole))
+    place = {name: office.LINK[name] for name in ["key", "host", "region"]}
+    wishes = [[method, "in", "a,b.txt", MOMENT, "604800"] for method in ["PUT", "GET", "HEAD"]]
+    links = [[*wish, office.python_link(wish[0], "in/a,b.txt").decode().strip()] for wish in wishes]
+    for words, given, owed in [
+        (["manifest", file], [], receipts), (["compare", file], receipts, listed.states(whole, receipts)),
+        (["links", file, *(f"--{name}={value}" for name, value in place.items())], [listed.WISH_HEAD, *wishes], [listed.LINK_HEAD, *links]),
+    ]:
+        right = kit.Run(0, listed.written(owed), b"")
+        each_office(program, f"drop {words[0]}", words, copied, right, broken_off(right), count, given=listed.written(given))
+
+
 def rows():
     """Each row with what is owed for it."""
     folder = kit.ROOT / "crates" / "rows"
@@ -210,6 +248,7 @@ def main():
         drop = linked("drop", folder)
         test_drop(drop, count)
         test_offices(drop, folder, count)
+        test_lists(drop, folder, count)
         test_rows(linked("rows", folder), count)
         test_keeper(linked("keeper", folder, "_tests"), count)
     count.end()

@@ -68,17 +68,21 @@ def add_key(file, name, secret, role=0, revoked=0):
         db.execute("INSERT INTO keys VALUES (?, ?, ?, ?)", (name, role, secret, revoked))
 
 
-def add_file(file, in_box, name, data, key, moment=M):
-    """What an upload writes: a receipt, the file, its pieces, and the totals of its box."""
+def put_file(db, in_box, name, data, key, moment=M):
+    """What an upload under a new name writes: a receipt, the file, its pieces, and the totals of its box."""
+    number = db.execute("SELECT COUNT(*) + 1 FROM receipts").fetchone()[0]
+    digest = hashlib.sha256(data).digest()
+    db.execute("INSERT INTO receipts VALUES (?, ?, ?, ?, ?, ?, ?)",
+               (number, in_box, name, len(data), digest, moment, key))
+    db.execute("INSERT INTO files VALUES (?, ?, ?)", (in_box, name, number))
+    for part, at in enumerate(range(0, len(data), PIECE)):
+        db.execute("INSERT INTO pieces VALUES (?, ?, ?, ?)", (in_box, name, part, data[at:at + PIECE]))
+    db.execute("UPDATE boxes SET used = used + ?, count = count + 1 WHERE name = ?", (len(data), in_box))
+
+
+def add_file(file, *words, **how):
     with opened(file) as db:
-        number = db.execute("SELECT COUNT(*) + 1 FROM receipts").fetchone()[0]
-        digest = hashlib.sha256(data).digest()
-        db.execute("INSERT INTO receipts VALUES (?, ?, ?, ?, ?, ?, ?)",
-                   (number, in_box, name, len(data), digest, moment, key))
-        db.execute("INSERT INTO files VALUES (?, ?, ?)", (in_box, name, number))
-        for part, at in enumerate(range(0, len(data), PIECE)):
-            db.execute("INSERT INTO pieces VALUES (?, ?, ?, ?)", (in_box, name, part, data[at:at + PIECE]))
-        db.execute("UPDATE boxes SET used = used + ?, count = count + 1 WHERE name = ?", (len(data), in_box))
+        put_file(db, *words, **how)
 
 
 def fill(file, clerk):

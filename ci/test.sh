@@ -78,6 +78,12 @@ desk() {
     "$python" -B ci/desk.py
 }
 
+lists() {
+    local python
+    python=$(with_boto3) || return 1
+    "$python" -B ci/lists.py
+}
+
 interop() {
     local python
     python=$(with_boto3) || return 1
@@ -91,6 +97,7 @@ count "ci/replays.py" python3 -B ci/replays.py
 count "ci/office.py" office
 count "ci/serve.py" serve
 count "ci/desk.py" desk
+count "ci/lists.py" lists
 count "ci/memory.py" python3 -B ci/memory.py
 count "ci/interop.py" interop
 echo

@@ -1,0 +1,494 @@
+"""Runs the lists of the proved program `drop`: `manifest`, `compare` and `links`, over an office of two thousand receipts,
+and on lists of every form.
+
+The office is made by `drop init` and filled by Python's `sqlite3` (ci/tables.py); files are then dropped and set anew by
+requests. What is owed comes from the tables as `sqlite3` reads them and from Python's `csv` and `hashlib` (ci/listed.py),
+from links that botocore signs, and from the fault lines in README.md. The last line is `N passed, M failed`.
+"""
+
+import contextlib
+import csv
+import dataclasses
+import functools
+import hashlib
+import os
+import random
+
+import kit
+import tables
+from desk import OBEYED, post
+from expected import SECRET, quoted
+from listed import LINK_HEAD, RECEIPT_HEAD, STATE_HEAD, WISH_HEAD, read, receipts, standing, states, written
+from office import CANNOT_OPEN, UNKNOWN, VERSION, answered, difference, malformed, not_offices, put, receipt, run_all, sent
+from orders import BotocoreOrder
+from replays import ID, MOMENT, fault
+from samples import LETTERS, NAMES
+
+RECEIPTS = 2000
+NO_HEAD = fault("the first row is not the head")
+CANNOT_READ = fault("cannot read the list")
+CANNOT_WRITE = fault("cannot write")
+BOXES = ["in", "out.1-2", "b" * 63]
+KEYS = {ID: SECRET, "k2": b"s3cr3t", "-_" * 32: b"%2F+/" * 25 + b"=&?"}
+PLACE = {"key": ID, "host": "files.example", "region": "us-east-1"}
+# How a name may begin and end, and what stands between.
+FRONTS = ["", "=", "+", "-", "@", " ", ",", '"', '""', "'", "#", ";", "\\", "\ufeff", "\u2028", "\u00a0"]
+ODD_LETTERS = LETTERS + '",,""\\;|\u00a0\u2028\ufeff'
+MEGABYTES = 10_000_000
+
+
+# ---- lists
+
+
+def first_difference(found, owed):
+    """The first rows that are not the same."""
+    if found == owed:
+        return None
+    pairs = [(number, *pair) for number, pair in enumerate(zip(found, owed)) if pair[0] != pair[1]]
+    rows = f"{len(found)} rows and not {len(owed)}"
+    return f"{rows}; row {pairs[0][0]}: {pairs[0][1]} and not {pairs[0][2]}"[:1000] if pairs else rows
+
+
+def unlike(found, owed):
+    """Why a run did not write these rows and nothing else, in the rows as they are read and in their bytes."""
+    if found.status or found.err:
+        return f"status {found.status}, {found.err}"
+    return first_difference(read(found.out), owed) or (None if found.out == written(owed) else "other quotes or row ends")
+
+
+def forms(rows):
+    """The same list in other forms: quotes, row ends, empty rows, a byte order mark."""
+    for how in [{}, {"quoting": csv.QUOTE_ALL}, {"lineterminator": "\r\n"}, {"lineterminator": "\r"},
+                {"lineterminator": "\n\r\n\r\r"}, {"quoting": csv.QUOTE_ALL, "lineterminator": "\r\n\n"}]:
+        yield f"{how}", written(rows, **how)
+    plain = written(rows)
+    yield "a byte order mark", b"\xef\xbb\xbf" + plain
+    yield "empty rows in front", b"\n\r\n\r" + plain
+    yield "no end of the last row", plain.removesuffix(b"\n")
+
+
+# ---- an office of many receipts
+
+
+def odd_name(source, number):
+    """A name of letters that a list may have to quote, or that other programs take for something else."""
+    text = "".join(source.choices(ODD_LETTERS, k=source.randint(0, 30)))
+    return f"{source.choice(FRONTS)}{text}{number}{source.choice(FRONTS)}"
+
+
+def sizes(source):
+    """Sizes of files: most of them small, some of several pieces."""
+    return source.choice([0, 1, 3, 300, 2000]) if source.random() < 0.99 else source.choice([65536, 65537, 200_000])
+
+
+def opened(drop, name):
+    """An office with three keys, one of them revoked, and three boxes."""
+    file = drop.office(name)
+    tables.add_key(file, "k2", KEYS["k2"])
+    tables.add_key(file, "-_" * 32, KEYS["-_" * 32], revoked=1)
+    for box in BOXES:
+        tables.add_box(file, tables.Box(box, max_files=10**6, mode=1))
+    return file
+
+
+def fill(file):
+    """Receipts of as many files, each of which stands."""
+    source = random.Random(20130524)
+    names = [*NAMES, "n" * 1024, "é" * 512, '"', ",", " ", "=", *FRONTS[1:7]]
+    names += [odd_name(source, number) for number in range(len(set(names)), RECEIPTS)]
+    with tables.opened(file) as db:
+        for name in dict.fromkeys(names):
+            moment = source.choice([0, tables.M, tables.LAST, source.randint(0, tables.LAST)])
+            tables.put_file(db, source.choice(BOXES), name, source.randbytes(sizes(source)), source.choice(list(KEYS)), moment)
+
+
+def filled(drop, name):
+    file = opened(drop, name)
+    fill(file)
+    count = tables.rows(file, "SELECT COUNT(*) FROM receipts")
+    assert count == [(RECEIPTS,)], count
+    return file
+
+
+def change(drop, file, source):
+    """Has the office drop an eighth of its files and set an eighth anew: the answers' fault, if there is one."""
+    places = source.sample(sorted(standing(file)), RECEIPTS // 4)
+    dropped, replaced = places[::2], places[1::2]
+    number = tables.rows(file, "SELECT MAX(number) FROM receipts")[0][0]
+    asked, owed = [], []
+    for in_box, name in dropped:
+        asked.append(post(f"file drop {in_box} {name}"))
+        owed.append(OBEYED)
+    for number, (in_box, name) in enumerate(replaced, number + 1):
+        data = b"another %d" % number
+        asked.append(put(b"/%s/%s" % (in_box.encode(), quoted(name, "/")), data))
+        owed.append(receipt(number, data))
+    return difference(drop.replay(file, b"".join(asked)), answered(*owed))
+
+
+# ---- manifests and what stands of them
+
+
+def compared(drop, file, rows, **how):
+    return drop.run("compare", file, given=written(rows, **how))
+
+
+def test_manifest(drop, count):
+    """Each receipt as the tables have it, before and behind changes, which leave the receipts that were there."""
+    empty = drop.office("empty")
+    count.add("no receipts", unlike(drop.run("manifest", empty), [RECEIPT_HEAD]))
+    file = filled(drop, "manifest")
+    before = list(receipts(file))
+    count.add("the receipts", unlike(drop.run("manifest", file), before))
+    count.add("changes", change(drop, file, random.Random(1)))
+    dump = tables.dump(file)
+    behind = list(receipts(file))
+    count.add("the receipts behind changes", unlike(drop.run("manifest", file), behind))
+    count.add("those before them", first_difference(behind[:len(before)], before))
+    count.add("the office stays", None if tables.dump(file) == dump else "it was changed")
+
+
+def altered(rows, source):
+    """Rows that say another number, box, name, length or digest."""
+    for number, in_box, name, length, digest, *rest in source.sample(rows, RECEIPTS // 10):
+        other = hashlib.sha256(digest.encode()).hexdigest()
+        yield [number, in_box, name, length, other, *rest]
+        yield [number, in_box, name, str(int(length) + 1), digest, *rest]
+        yield [number, in_box, name, "9999999", digest, *rest]
+        yield [str(int(number) % RECEIPTS + 1), in_box, name, length, digest, *rest]
+        yield ["9999999999", in_box, name, length, digest, *rest]
+        yield [number, source.choice(BOXES), name, length, digest, *rest]
+        yield [number, in_box.upper(), name, length, digest, *rest]
+        yield [number, in_box, name + " ", length, digest, *rest]
+        yield [number, in_box, source.choice(["", "a\nb", "a\r\nb", "\x7f", "=1,2"]), length, digest, *rest]
+        yield [number, in_box, name, length, digest, "", source.choice(["", "no key, and\nnone", "\t"])]
+
+
+def test_compare(drop, count):
+    """Each state, as the tables tell it."""
+    file = filled(drop, "compare")
+    manifest = drop.run("manifest", file).out
+    rows = read(manifest)
+    count.add("all stands", unlike(drop.run("compare", file, given=manifest), states(file, rows)))
+    found = {row[3] for row in states(file, rows)[1:]}
+    count.add("what is owed", None if found == {"standing"} else f"{found}")
+    count.add("changes", change(drop, file, random.Random(2)))
+    owed = states(file, rows)
+    found = [sum(row[3] == word for row in owed) for word in ["standing", "differs", "gone"]]
+    count.add("what is owed behind changes", None if found == [RECEIPTS * 3 // 4, 0, RECEIPTS // 4] else f"{found}")
+    dump = tables.dump(file)
+    for name, data in forms(rows):
+        count.add(f"compare, {name}", unlike(drop.run("compare", file, given=data), owed))
+    for name, others in [
+        ("the head alone", []), ("the newest receipts", read(drop.run("manifest", file).out)[1:]), ("backwards", rows[:0:-1]),
+        ("twice", [row for row in rows[1:] for _ in range(2)]),
+    ]:
+        others = [RECEIPT_HEAD, *others]
+        count.add(f"compare, {name}", unlike(compared(drop, file, others), states(file, others)))
+    count.add("the office stays", None if tables.dump(file) == dump else "it was changed")
+
+
+def test_altered(drop, count):
+    """Manifests that say something else, which may need other quotes."""
+    file = filled(drop, "altered")
+    rows = [RECEIPT_HEAD, *altered(list(receipts(file))[1:], random.Random(3))]
+    owed = states(file, rows)
+    found = {word: sum(row[3] == word for row in owed) for word in ["standing", "differs", "gone"]}
+    count.add("what is owed", None if min(found.values()) >= RECEIPTS // 10 else f"{found}")
+    for how in [{}, {"quoting": csv.QUOTE_ALL}]:
+        ran = compared(drop, file, rows, **how)
+        well = ran.status == 0 and not ran.err
+        count.add(f"altered, {how}", first_difference(read(ran.out), owed) if well else f"{ran.status}, {ran.err}")
+
+
+# ---- links
+
+
+@dataclasses.dataclass(frozen=True)
+class Wish:
+    """A row of a list of links, and who signs it for which host and region."""
+
+    method: str
+    in_box: str
+    name: str
+    start: str = MOMENT
+    expires: str = "604800"
+
+    def row(self):
+        return list(dataclasses.astuple(self))
+
+    def link(self, key, host, region):
+        order = BotocoreOrder(self.method, f"/{self.in_box}/{self.name}", {}, {}, region=region, expires=int(self.expires),
+                              start=self.start, host=host, key=(key, KEYS[key].decode()))
+        return f"http://{host}{order.link()}"
+
+
+def wishes(source):
+    """Five hundred rows of every form."""
+    starts = ["19700101T000000Z", "20000229T235959Z", MOMENT, "20380119T031408Z", "99991231T235959Z"]
+    names = [*NAMES, "n" * 1024, "é" * 512, '"', ",", " ", "=", "\ufeff"]
+    names += [odd_name(source, number) for number in range(500 - len(names))]
+    for number, name in enumerate(names):
+        expires = source.choice([1, 60, 86400, 604800, source.randint(1, 604800)])
+        in_box = source.choice([*BOXES, "0", "no-box", "-.-"])
+        yield Wish(["PUT", "GET", "HEAD"][number % 3], in_box, name, source.choice(starts), str(expires))
+
+
+def wished(those):
+    return [WISH_HEAD, *(wish.row() for wish in those)]
+
+
+def linked(drop, file, data, **place):
+    return drop.run("links", file, *(f"--{name}={value}" for name, value in (PLACE | place).items()), given=data)
+
+
+def owed_links(those, **place):
+    place = PLACE | place
+    return [LINK_HEAD, *([*wish.row(), wish.link(**place)] for wish in those)]
+
+
+def test_links(drop, count):
+    """Botocore's own links, byte for byte, by each key and for many hosts; those of a revoked key too."""
+    file = opened(drop, "links")
+    those = list(wishes(random.Random(4)))
+    before = tables.dump(file)
+    owed = owed_links(those)
+    for name, data in forms(wished(those)):
+        count.add(f"{len(those)} links, {name}", unlike(linked(drop, file, data), owed))
+    for place in [
+        *({"key": key} for key in KEYS), {"region": "r"}, {"region": "-" + "9" * 31}, {"host": "h"}, {"host": "h" * 255},
+        {"host": "files.example:8080"}, {"host": "Files.Example"}, {"host": "[2001:db8::1]:80"}, {"host": 'a,"b'},
+    ]:
+        found = linked(drop, file, written(wished(those[:60])), **place)
+        count.add(f"links, {place}", unlike(found, owed_links(those[:60], **place)))
+    count.add("no links", unlike(linked(drop, file, written([WISH_HEAD])), [LINK_HEAD]))
+    count.add("the office stays", None if tables.dump(file) == before else "it was changed")
+
+
+def test_used_links(drop, count):
+    """Links of a list are taken by the office that they were written for."""
+    file = opened(drop, "used")
+    source = random.Random(5)
+    puts = [Wish("PUT", source.choice(BOXES), odd_name(source, f"new {number} ")) for number in range(50)]
+    ran = linked(drop, file, written(wished(puts)), key="k2")
+    urls = [row[5].encode() for row in read(ran.out)[1:]]
+    asked = b"".join(sent(url, "PUT", b"%d" % number) for number, url in enumerate(urls))
+    owed = [receipt(number + 1, b"%d" % number) for number in range(50)]
+    count.add("fifty uploads", difference(drop.replay(file, asked), answered(*owed)))
+    count.add("their receipts", unlike(drop.run("manifest", file), list(receipts(file))))
+
+
+# ---- faults
+
+
+GOOD_WISH = Wish("PUT", "in", "b.txt").row()
+BAD_WISHES = {
+    0: ["", "DELETE", "POST", "put", "PUT ", "PATCH"],
+    1: ["", "In", "a_b", "in/a", "in ", "b" * 64, "é"],
+    2: ["", "n" * 1025, "a\nb", "a\rb", "\0", "a\x1f", "a\x7f", "\t"],
+    3: ["", "now", "20130532T000000Z", "20130229T000000Z", "20130524T000060Z", "20130524t000000z", "19691231T235959Z",
+        "100000101T000000Z", "20130524T000000", " 20130524T000000Z"],
+    4: ["", "0", "01", "604801", "99999999999999999999", "-1", "+1", "1.0", "1e3", " 1", "²", "0x1"],
+}
+BAD_RECEIPTS = {
+    0: ["", "0", "01", "00", "-1", "+1", "1.0", "0x1", " 1", "1 ", "²", "１", "10000000000", "99999999999999999999"],
+    3: ["", "00", "03", "-3", "+3", " 3", "3 ", "3.0", "10000000", "²"],
+    4: ["", "a" * 63, "a" * 65, "A" * 64, "g" * 64, "a" * 63 + " ", "é" * 32],
+}
+# Bytes in the place of a name that are no text, and rows that are none of the list.
+NO_TEXTS = [b"\xff", b"a\xc3", b"\xed\xa0\x80", b"\xc0\x80", b"\xf4\x90\x80\x80", b'"\xe9"']
+
+
+def changed(row, place, value):
+    return [*row[:place], value, *row[place + 1:]]
+
+
+def bad_rows(row, values):
+    """Rows that are refused, as bytes."""
+    for place, texts in values.items():
+        for text in texts:
+            yield written([changed(row, place, text)])
+    marked = written([changed(row, 2, "MARK")])
+    for data in NO_TEXTS:
+        yield marked.replace(b"MARK", data)
+    for others in [row[:-1], row[:1], [*row, ""], [*row, "more"], [" "], [""], row * 2]:
+        yield written([others])
+    # Quotes that have no end, and one row that is cut in two.
+    yield marked.replace(b"MARK", b'"a')
+    yield marked.replace(b"MARK", b"a\rb")
+
+
+def bad_heads(head):
+    """Lists without their head."""
+    row = written([head])
+    for names in [head[:-1], [*head, ""], [*head, "more"], head[::-1], [it.upper() for it in head], [f" {head[0]}", *head[1:]]]:
+        yield written([names])
+    yield from [b"", b"\n", b"\r\n\r\n", b"\xef\xbb\xbf", b"\xef\xbb\xbf\xef\xbb\xbf" + row, b"\n\xef\xbb\xbf" + row, b" \n" + row]
+    yield from [row.replace(b",", b";"), row.replace(b",", b"\t"), row.replace(b"\n", b"\0\n"), row.replace(b"\n", b"\xff\n")]
+    yield b'"' + row
+    yield row.rstrip() + b'"\n'
+
+
+def refused(number, rows):
+    """What is owed where this row is refused, and these were written before."""
+    return kit.Run(1, written(rows), fault(f"row {number} is refused").err)
+
+
+def test_bad_links(drop, count):
+    """A row that is malformed, as the first and as the third; a list without its head."""
+    file = drop.filled("bad-links")
+    run = functools.partial(linked, drop, file)
+    good = [Wish("PUT", "in", "b.txt"), Wish("GET", "no-box", "a,b")]
+    front = written([WISH_HEAD, *(wish.row() for wish in good)])
+    for data in bad_rows(GOOD_WISH, BAD_WISHES):
+        count.add(f"links, row 1: {data[:80]}", difference(run(written([WISH_HEAD]) + data), refused(1, [LINK_HEAD])))
+        count.add(f"links, row 3: {data[:80]}", difference(run(front + data + data), refused(3, owed_links(good))))
+    for data in bad_heads(WISH_HEAD):
+        for rows in [b"", written([GOOD_WISH])]:
+            count.add(f"links, head {data}, {len(rows)}", difference(run(data + rows), NO_HEAD))
+
+
+def test_bad_manifests(drop, count):
+    """The same of manifests."""
+    file = drop.filled("bad-manifests")
+    rows = list(receipts(file))
+
+    def run(data):
+        return drop.run("compare", file, given=data)
+
+    for data in bad_rows(rows[1], BAD_RECEIPTS):
+        count.add(f"compare, row 1: {data[:80]}", difference(run(written(rows[:1]) + data), refused(1, [STATE_HEAD])))
+        found = run(written(rows[:3]) + data + written(rows[1:]))
+        count.add(f"compare, row 3: {data[:80]}", difference(found, refused(3, states(file, rows[:3]))))
+    for data in bad_heads(RECEIPT_HEAD):
+        for more in [b"", written(rows[1:])]:
+            count.add(f"compare, head {data}, {len(more)}", difference(run(data + more), NO_HEAD))
+    number = len(rows)
+    found = run(written([*rows, *rows[1:], changed(rows[1], 0, "01")]))
+    count.add("compare, a late row", difference(found, refused(2 * number - 1, states(file, [*rows, *rows[1:]]))))
+
+
+def each_list(drop, file):
+    """A good run of each of the three, by what is given and the words."""
+    wish = written([WISH_HEAD, GOOD_WISH])
+    return [(b"", ["manifest", file]), (written(list(receipts(file))), ["compare", file]),
+            (wish, ["links", file, *(f"--{name}={value}" for name, value in PLACE.items())])]
+
+
+def test_faults(drop, count):
+    """The first fault of the words is told: a malformed value, then the file, then the key, then the list."""
+    gone, file = drop.path("gone"), drop.filled("faults")
+    for place in [{"host": "two words", "region": "US"}, {"host": ""}, {"host": "h" * 256}, {"host": "é"}, {"host": "a\n"}]:
+        count.add(f"links, {place}", difference(linked(drop, gone, b"", key="k 2", **place), malformed("host")))
+    for region in ["", "US", "us_east", "r" * 33, "é"]:
+        count.add(f"links, region {region!r}", difference(linked(drop, gone, b"", region=region), malformed("region")))
+    for key in ["", "k9", "K2", "k 2", "k" * 65, "é"]:
+        count.add(f"links, no file and key {key!r}", difference(linked(drop, gone, b"", key=key), CANNOT_OPEN))
+        count.add(f"links, key {key!r}", difference(linked(drop, file, b"", key=key), UNKNOWN))
+    for command in ["manifest", "compare"]:
+        count.add(f"{command}, no file", difference(drop.run(command, gone), CANNOT_OPEN))
+    count.add("no file is made", "there is one" if gone.exists() else None)
+    others = not_offices(drop)
+    version = drop.filled("version")
+    tables.run(version, ["UPDATE office SET version = 7"])
+    for other, owed in [*others, (version, VERSION)]:
+        for found in [drop.run("manifest", other), drop.run("compare", other), linked(drop, other, b"")]:
+            count.add(f"lists of {other.name}", difference(found, owed))
+    with tables.opened(file) as db:
+        db.execute("BEGIN EXCLUSIVE")
+        for found in [drop.run("manifest", file), drop.run("compare", file), linked(drop, file, b"")]:
+            count.add("a file that is held", difference(found, CANNOT_OPEN))
+
+
+@contextlib.contextmanager
+def folder_opened(drop):
+    handle = os.open(drop.folder, os.O_RDONLY)
+    try:
+        yield handle
+    finally:
+        os.close(handle)
+
+
+def test_streams(drop, count):
+    """A list that cannot be read, and one that cannot be written."""
+    file = drop.filled("streams")
+    before = tables.dump(file)
+    with folder_opened(drop) as folder:
+        for given, words in each_list(drop, file):
+            found, right = drop.run(*words, given=folder), drop.run(*words, given=given)
+            owed = CANNOT_READ if given else right
+            count.add(f"{words[0]} of a folder", difference(found, owed))
+            count.add(f"{words[0]}, a good list", None if right.status == 0 and right.out else f"{right}")
+        found = linked(drop, file, folder, key="k9")
+        count.add("the key before the list", difference(found, UNKNOWN))
+    for given, words in each_list(drop, file):
+        with open("/dev/full", "wb", buffering=0) as full:
+            count.add(f"{words[0]} to a full disk", difference(drop.run(*words, given=given, out=full), CANNOT_WRITE))
+    many = filled(drop, "many")
+    for given, words in each_list(drop, many)[:2]:
+        with open("/dev/full", "wb", buffering=0) as full:
+            found = drop.run(*words, given=given, out=full)
+            count.add(f"{words[0]} of many receipts to a full disk", difference(found, CANNOT_WRITE))
+    count.add("the office stays", None if tables.dump(file) == before else "it was changed")
+
+
+# ---- words and great fields
+
+
+def test_words(drop, count):
+    """Words that name no task come before all else, and help."""
+    missing = "error: the following required arguments were not provided:"
+    for words, line in [
+        (["manifest"], missing), (["compare"], missing), (["links", "no-file"], missing), (["links", "no-file", "--key", ID], missing),
+        (["manifest", "no-file", "more"], "error: unexpected argument 'more' found"),
+        (["compare", "no-file", "more"], "error: unexpected argument 'more' found"),
+        (["manifest", "no-file", "--key", ID], "error: unexpected argument '--key' found"),
+        (["links", "no-file", "--key=1", "--key=2", "--host=h", "--region=r"],
+         "error: the argument '--key <ID>' cannot be used multiple times"),
+    ]:
+        found = drop.run(*words)
+        well = found.status == 2 and not found.out and found.err.decode().splitlines()[0] == line
+        count.add(f"drop {words}", None if well else f"{found} and not {line!r}")
+    count.add("no file is made", "there is one" if drop.path("no-file").exists() else None)
+    for command in ["links", "manifest", "compare"]:
+        owed = kit.Run(0, (kit.ROOT / "ci" / f"{command}.help").read_bytes(), b"")
+        for words in [[command, "--help"], ["help", command]]:
+            count.add(f"drop {words}", difference(drop.run(*words), owed))
+
+
+def shortened(found, owed):
+    """The difference without its megabytes."""
+    if found == owed:
+        return None
+    parts = (found.status, len(found.out), found.out[:80], found.err[:80])
+    return f"{parts} and not {(owed.status, len(owed.out), owed.out[:80], owed.err[:80])}"
+
+
+def test_great_fields(drop, count):
+    """Ten megabytes in one field: as the head, and in each field of a row."""
+    file = drop.filled("great")
+    rows = list(receipts(file))[:2]
+    for head, run in [(WISH_HEAD, functools.partial(linked, drop, file)), (RECEIPT_HEAD, lambda data: drop.run("compare", file, given=data))]:
+        for great in ["1" * MEGABYTES, ",", '"' * MEGABYTES]:
+            count.add(f"a head of {great[:3]}", shortened(run(written([[great * (MEGABYTES // len(great)), *head[1:]]])), NO_HEAD))
+    for place in range(7):
+        row = changed(rows[1], place, "1" * MEGABYTES)
+        found = compared(drop, file, [rows[0], row])
+        well = kit.Run(0, written(states(file, [rows[0], row])), b"") if place in (1, 2, 5, 6) else refused(1, [STATE_HEAD])
+        count.add(f"compare, a great field {place}", shortened(found, well))
+    for place in range(5):
+        row = changed(GOOD_WISH, place, "1" * MEGABYTES)
+        count.add(f"links, a great field {place}", shortened(linked(drop, file, written([WISH_HEAD, row])), refused(1, [LINK_HEAD])))
+    quoted_name = changed(rows[1], 2, '",\n' * (MEGABYTES // 3))
+    owed = kit.Run(0, written(states(file, [rows[0], quoted_name])), b"")
+    count.add("compare, a great field of quotes", shortened(compared(drop, file, [rows[0], quoted_name]), owed))
+    endless = written(rows) + b'1,"' + b"1" * MEGABYTES
+    count.add("compare, quotes without end", shortened(drop.run("compare", file, given=endless), refused(2, states(file, rows))))
+
+
+TESTS = [test_manifest, test_compare, test_altered, test_links, test_used_links, test_bad_links, test_bad_manifests, test_faults,
+         test_streams, test_words, test_great_fields]
+
+
+if __name__ == "__main__":
+    run_all(TESTS)
