@@ -190,13 +190,24 @@ fn rows_of_other_forms_are_refused(rt: HostRuntime) -> Result<(), Fail> {
     Ok(())
 }
 
+// The list has another head.
+fn has_no_head(alloc: Global, list: &[u8]) -> Result<(), Fail> {
+    listed(alloc, list).comes_to(Err(ListFault::Head), b"")
+}
+
+// So has what begins so, before nothing and before a row.
+fn refuses_head(alloc: Global, head: &[u8], row: &[u8]) -> Result<(), Fail> {
+    let list = joined(alloc, &[head, row])?;
+    has_no_head(alloc, &list)?;
+    has_no_head(alloc, head)
+}
+
 #[test]
 fn links_have_their_head(rt: HostRuntime) -> Result<(), Fail> {
     let alloc = rt.alloc();
+    let row = record_with(alloc, &FIELDS, 0, b"PUT")?;
     for head in OTHER_HEADS {
-        listed(alloc, head).comes_to(Err(ListFault::Head), b"")?;
-        let row = record_with(alloc, &FIELDS, 0, b"PUT")?;
-        listed(alloc, &joined(alloc, &[head, &row])?).comes_to(Err(ListFault::Head), b"")?;
+        refuses_head(alloc, head, &row)?;
     }
     Ok(())
 }
