@@ -19,9 +19,11 @@ import tables
 from desk import OBEYED, post
 from expected import SECRET, quoted
 from listed import LINK_HEAD, RECEIPT_HEAD, STATE_HEAD, WISH_HEAD, read, receipts, standing, states, written
-from office import CANNOT_OPEN, UNKNOWN, VERSION, answered, difference, malformed, not_offices, put, receipt, run_all, sent
+from office import (
+    CANNOT_OPEN, UNKNOWN, VERSION, answered, difference, malformed, not_offices, put, python_link, receipt, run_all, sent,
+)
 from orders import BotocoreOrder
-from replays import ID, MOMENT, fault
+from replays import ID, MOMENT, closed_pipe, fault, full_disk
 from samples import LETTERS, NAMES
 
 RECEIPTS = 2000
@@ -81,7 +83,7 @@ def sizes(source):
     return source.choice([0, 1, 3, 300, 2000]) if source.random() < 0.99 else source.choice([65536, 65537, 200_000])
 
 
-def opened(drop, name):
+def begun(drop, name):
     """An office with three keys, one of them revoked, and three boxes."""
     file = drop.office(name)
     tables.add_key(file, "k2", KEYS["k2"])
@@ -103,10 +105,18 @@ def fill(file):
 
 
 def filled(drop, name):
-    file = opened(drop, name)
+    file = begun(drop, name)
     fill(file)
     count = tables.rows(file, "SELECT COUNT(*) FROM receipts")
     assert count == [(RECEIPTS,)], count
+    return file
+
+
+def few(drop, name):
+    """An office of three receipts."""
+    file = begun(drop, name)
+    for in_box, text, data in [("in", "a,b.txt", b"abc"), ("in", "é", b""), (BOXES[1], '"', b"x" * 300)]:
+        tables.add_file(file, in_box, text, data, ID)
     return file
 
 
@@ -249,7 +259,7 @@ def owed_links(those, **place):
 
 def test_links(drop, count):
     """Botocore's own links, byte for byte, by each key and for many hosts; those of a revoked key too."""
-    file = opened(drop, "links")
+    file = begun(drop, "links")
     those = list(wishes(random.Random(4)))
     before = tables.dump(file)
     owed = owed_links(those)
@@ -267,7 +277,7 @@ def test_links(drop, count):
 
 def test_used_links(drop, count):
     """Links of a list are taken by the office that they were written for."""
-    file = opened(drop, "used")
+    file = begun(drop, "used")
     source = random.Random(5)
     puts = [Wish("PUT", source.choice(BOXES), odd_name(source, f"new {number} ")) for number in range(50)]
     ran = linked(drop, file, written(wished(puts)), key="k2")
@@ -336,7 +346,7 @@ def refused(number, rows):
 
 def test_bad_links(drop, count):
     """A row that is malformed, as the first and as the third; a list without its head."""
-    file = drop.filled("bad-links")
+    file = begun(drop, "bad-links")
     run = functools.partial(linked, drop, file)
     good = [Wish("PUT", "in", "b.txt"), Wish("GET", "no-box", "a,b")]
     front = written([WISH_HEAD, *(wish.row() for wish in good)])
@@ -350,7 +360,7 @@ def test_bad_links(drop, count):
 
 def test_bad_manifests(drop, count):
     """The same of manifests."""
-    file = drop.filled("bad-manifests")
+    file = few(drop, "bad-manifests")
     rows = list(receipts(file))
 
     def run(data):
@@ -377,7 +387,7 @@ def each_list(drop, file):
 
 def test_faults(drop, count):
     """The first fault of the words is told: a malformed value, then the file, then the key, then the list."""
-    gone, file = drop.path("gone"), drop.filled("faults")
+    gone, file = drop.path("gone"), few(drop, "faults")
     for place in [{"host": "two words", "region": "US"}, {"host": ""}, {"host": "h" * 256}, {"host": "é"}, {"host": "a\n"}]:
         count.add(f"links, {place}", difference(linked(drop, gone, b"", key="k 2", **place), malformed("host")))
     for region in ["", "US", "us_east", "r" * 33, "é"]:
@@ -389,7 +399,7 @@ def test_faults(drop, count):
         count.add(f"{command}, no file", difference(drop.run(command, gone), CANNOT_OPEN))
     count.add("no file is made", "there is one" if gone.exists() else None)
     others = not_offices(drop)
-    version = drop.filled("version")
+    version = few(drop, "version")
     tables.run(version, ["UPDATE office SET version = 7"])
     for other, owed in [*others, (version, VERSION)]:
         for found in [drop.run("manifest", other), drop.run("compare", other), linked(drop, other, b"")]:
@@ -411,7 +421,7 @@ def folder_opened(drop):
 
 def test_streams(drop, count):
     """A list that cannot be read, and one that cannot be written."""
-    file = drop.filled("streams")
+    file = few(drop, "streams")
     before = tables.dump(file)
     with folder_opened(drop) as folder:
         for given, words in each_list(drop, file):
@@ -421,14 +431,12 @@ def test_streams(drop, count):
             count.add(f"{words[0]}, a good list", None if right.status == 0 and right.out else f"{right}")
         found = linked(drop, file, folder, key="k9")
         count.add("the key before the list", difference(found, UNKNOWN))
-    for given, words in each_list(drop, file):
-        with open("/dev/full", "wb", buffering=0) as full:
-            count.add(f"{words[0]} to a full disk", difference(drop.run(*words, given=given, out=full), CANNOT_WRITE))
-    many = filled(drop, "many")
-    for given, words in each_list(drop, many)[:2]:
-        with open("/dev/full", "wb", buffering=0) as full:
-            found = drop.run(*words, given=given, out=full)
-            count.add(f"{words[0]} of many receipts to a full disk", difference(found, CANNOT_WRITE))
+    many = each_list(drop, filled(drop, "many"))[:2]
+    for failing in [full_disk, closed_pipe]:
+        for given, words in [*each_list(drop, file), *many]:
+            with failing() as out:
+                found = drop.run(*words, given=given, out=out)
+            count.add(f"{words[0]} to a {failing.__name__}", difference(found, CANNOT_WRITE))
     count.add("the office stays", None if tables.dump(file) == before else "it was changed")
 
 
@@ -456,6 +464,25 @@ def test_words(drop, count):
             count.add(f"drop {words}", difference(drop.run(*words), owed))
 
 
+def help_lines(command):
+    return [line.strip() for line in (kit.ROOT / "ci" / f"{command}.help").read_text().splitlines()]
+
+
+def test_examples(drop, count):
+    """The example of the help does what it says, as it stands; the heads that the help shows are those that are written."""
+    file, secret = drop.office("office"), b"3kQz7mWx0PbT"
+    tables.add_key(file, "tender-2", secret)
+    lines = help_lines("links")
+    first = lines.index(",".join(WISH_HEAD))
+    words = next(line for line in lines if line.startswith("drop links office")).partition(" <")[0].split()[1:]
+    method, in_box, name, start, expires = row = lines[first + 1].split(",")
+    link = python_link(method, f"{in_box}/{name}", "tender-2", secret, start=start, expires=expires).decode().strip()
+    found = drop.run(*words, given="".join(f"{line}\n" for line in lines[first:first + 2]).encode())
+    count.add("the example's link", unlike(found, [LINK_HEAD, [*row, link]]))
+    for command, head in [("manifest", RECEIPT_HEAD), ("compare", STATE_HEAD)]:
+        count.add(f"the head of {command}", None if ",".join(head) in help_lines(command) else "it is not shown")
+
+
 def shortened(found, owed):
     """The difference without its megabytes."""
     if found == owed:
@@ -466,7 +493,7 @@ def shortened(found, owed):
 
 def test_great_fields(drop, count):
     """Ten megabytes in one field: as the head, and in each field of a row."""
-    file = drop.filled("great")
+    file = few(drop, "great")
     rows = list(receipts(file))[:2]
     for head, run in [(WISH_HEAD, functools.partial(linked, drop, file)), (RECEIPT_HEAD, lambda data: drop.run("compare", file, given=data))]:
         for great in ["1" * MEGABYTES, ",", '"' * MEGABYTES]:
@@ -487,7 +514,7 @@ def test_great_fields(drop, count):
 
 
 TESTS = [test_manifest, test_compare, test_altered, test_links, test_used_links, test_bad_links, test_bad_manifests, test_faults,
-         test_streams, test_words, test_great_fields]
+         test_streams, test_words, test_examples, test_great_fields]
 
 
 if __name__ == "__main__":
