@@ -9,6 +9,7 @@ pub mod Forming
 pub mod FullRows
 pub mod Handlings
 pub mod Judged
+pub mod Marked
 pub mod Placing
 pub mod ReplayLemmas
 pub mod Replies
@@ -21,5 +22,6 @@ pub mod TaskNames
 pub mod TaskValues
 pub mod ToldMoments
 pub mod Turns
+pub mod Without
 pub mod Obeyed
 pub mod Possible

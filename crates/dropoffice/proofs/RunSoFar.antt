@@ -11,6 +11,7 @@ use Rattle.dropoffice.specs.declared.session.SessionEnd.{SessionEnd}
 use Rattle.dropoffice.specs.Connections.{Told, IsStream, Serves, TellsFaults, KeepsCount, KeepsCounts, AreServed, is_fault, Runs}
 use Rattle.dropoffice.specs.Kept.{IsLeft}
 use Rattle.dropoffice.specs.Sessions.{Session, Connection, Run, most_messages}
+use Rattle.dropoffice.proofs.Without.{runs_without}
 
 -- ---- one more at the end of each part
 
@@ -50,13 +51,15 @@ runs_more : {C R W : Type 0} (gives : C → ℕ → C → Type 0) (remaining : R
     → Runs gives remaining contents first clock' (olds ++ old ∷ []) (news ++ new ∷ []) count count'' s after faults'
 runs_more gives remaining contents first clock clock' olds news old new count count' count'' s mid after faults faults' e r served risen counted =
     let c : Connection = record { stream = served.stream; answers = served.answers; end = e; gave_up = served.gave_up } in
+    let run = run_more s mid after c r.connections r.moments served.moments r.run served.session in
     record {
       connections = r.connections ++ c ∷ [];
       moments = r.moments ++ served.moments;
       told = told_more gives first clock clock' r.moments served.moments r.told served.told;
       served = served_more remaining contents old new c olds news r.connections r.served served.read served.written risen;
       counted = counts_more r.connections c count count' count'' r.counted served.counted;
-      run = run_more s mid after c r.connections r.moments served.moments r.run served.session;
+      run = run;
+      without = runs_without s after (r.connections ++ c ∷ []) (r.moments ++ served.moments) run;
       faulty = counted ∙ ap (λ n. n + cond (is_fault e) 1 0) r.faulty ∙ sym (count_more r.connections c);
     }
 
@@ -74,7 +77,7 @@ pub starts : {C R W : Type 0} (means : State → Type 0) (gives : C → ℕ → 
 starts means gives remaining contents clock old count s same = record {
   state = s;
   same = same;
-  runs = record { connections = []; moments = []; told = refl; served = tt; counted = refl; run = (refl, refl); faulty = refl };
+  runs = record { connections = []; moments = []; told = refl; served = tt; counted = refl; run = (refl, refl); without = runs_without s s [] [] (refl, refl); faulty = refl };
 }
 
 -- at the end of the list

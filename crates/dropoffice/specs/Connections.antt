@@ -7,6 +7,7 @@ use Rattle.wire.specs.declared.counted.Counted.{Counted}
 use Rattle.dropoffice.specs.declared.session.SessionEnd.{SessionEnd}
 use Rattle.dropoffice.specs.declared.session.SessionEnd.TheVariants.{Ended, Truncated, Refused, Limit, ReadFault, WriteFault}
 use Rattle.dropoffice.specs.Sessions.{Session, Connection, Run}
+use Rattle.dropoffice.specs.Without.{RunsWithout}
 
 -- the clock told these moments, one after another
 abbrev pub Told : {C : Type 0} → (C → ℕ → C → Type 0) → C → List ℕ → C → Type 0
@@ -78,7 +79,7 @@ is_fault (Refused number) = false
 is_fault Limit = false
 
 -- the whole run: the connections in order, their moments, the state after, what the keeper counted, and how
--- many connections ended by a fault
+-- many connections ended by a fault; and that it is a run without what was answered with refusal 40, too
 pub record Runs {C R W : Type 0} (gives : C → ℕ → C → Type 0) (remaining : R → Option (List ℕ)) (contents : W → Option (List ℕ)) (clock clock' : C) (old new : List (Counted R × Counted W)) (count count' : ℕ) (s after : State) (faults : ℕ) : Type 0 where
   pub connections : List Connection
   pub moments : List ℕ
@@ -86,4 +87,5 @@ pub record Runs {C R W : Type 0} (gives : C → ℕ → C → Type 0) (remaining
   pub served : AreServed remaining contents old new connections
   pub counted : KeepsCounts connections count count'
   pub run : Run s connections moments after
+  pub without : RunsWithout s connections moments after
   pub faulty : faults ≡ count_by (λ c. is_fault c.end) connections

@@ -16,3 +16,4 @@ pub mod Serving
 pub mod Sessions
 pub mod Stepping
 pub mod Tasks
+pub mod Without

@@ -12,7 +12,8 @@ impl<K: Keeper> Office<K> {
     ghost use Rattle.dropoffice.specs.Kept.{IsKept, IsLeft};
 
     /// Serves the connections one after another, each by a session, and answers how many sessions ended
-    /// by a read or a write that failed.
+    /// by a read or a write that failed. A run in which messages are answered with refusal 40 is one without
+    /// these messages, too: the others are answered as they are there, and the state after is the same.
     pub fn run<R: Read, W: Write, C: Clock>(
         &mut self,
         connections: &mut [(Counted<R>, Counted<W>)],
