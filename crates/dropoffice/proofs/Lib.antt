@@ -4,6 +4,7 @@ pub mod Acceptances
 pub mod Answered
 pub mod Deciding
 pub mod Defaulted
+pub mod Endurance
 pub mod FaultFree
 pub mod Forming
 pub mod FullRows

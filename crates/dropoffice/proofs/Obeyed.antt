@@ -12,6 +12,7 @@ use Rattle.boxes.specs.Steps as step
 use Rattle.wire.specs.declared.answer.Reply.TheVariants as reply
 use Rattle.dropoffice.specs.Admitted.{ReachesBoxes}
 use Rattle.dropoffice.specs.Answering.{post}
+use Rattle.dropoffice.specs.Enduring.{IsAsked, IsToldBy}
 use Rattle.dropoffice.specs.Kept.{IsLeft}
 use Rattle.dropoffice.specs.Obeying.{Tells, TellsNone, TellsNonePossible}
 use Rattle.dropoffice.specs.Replying.{IsReplied}
@@ -37,10 +38,17 @@ module _ (means : State → Type 0) (s : State) (r : Request) (now : ℕ) (p : L
         subst (λ (t : List ℕ). Tells t command) (same_value p.params (codes "desk") line asked.text given asked.given)
         (record { is_command = asked.is_command; form = asked.form })
 
+    -- the state after the line
+    pub asked_by : (after : State) → IsToldBy s line after → IsAsked s r now after
+    asked_by after told =
+        let asked = asks told.command told.tells in
+        record { reply = step.Done; accepts = post p told.command after (holds_post s r now p reached is_post told.command asked told.obeyed.possible) is_post asked told.obeyed.step }
+
     pub obeyed : (command : Command) (after : State) → Tells line command → IsObeyed s command after → IsLeft means after → IsReplied means s r now (Ok reply.Done)
+    unfolding asked_by
     obeyed command after told does left =
-        let asked = asks command told in
-        (step.Done, after, post p command after (holds_post s r now p reached is_post command asked does.possible) is_post asked does.step, left, refl)
+        let asked = asked_by after (record { command = command; tells = told; obeyed = does }) in
+        (asked.reply, after, asked.accepts, left, refl)
 
     pub no_line : TellsNone line → IsFirstToFail (Rule s r now) rule.CommandMalformed
     no_line none = no_command s r now p reached is_post (λ command asked. none command (tells command asked))

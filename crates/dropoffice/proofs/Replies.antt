@@ -28,6 +28,7 @@ use Rattle.wire.specs.declared.answer.Reply.{Reply}
 use Rattle.wire.specs.declared.answer.Reply.TheVariants as reply
 use Rattle.dropoffice.specs.Answering.{put, fetch}
 use Rattle.dropoffice.specs.Admitted.{ReachesBoxes}
+use Rattle.dropoffice.specs.Enduring.{IsAsked}
 use Rattle.dropoffice.specs.Kept.{IsLeft}
 use Rattle.dropoffice.specs.Replying.{IsReceiptFor, IsReplied}
 use Rattle.dropoffice.specs.Rules.{IsPut, IsFetch, Rule, known, place_of, upload_of}
@@ -75,14 +76,20 @@ module _ (means : State → Type 0) (s : State) (r : Request) (now : ℕ) (p : L
         sets = ap (after_upload s) same;
       }
 
+  -- the state in which it is set
+  pub asks : (f : NewFile) → IsPut r → DecidesUpload s (upload_of r now p) (uploading.Taken f) → IsAsked s r now (after_upload s (upload_of r now p))
+  asks f is_put decided =
+      record { reply = step.Kept (length s.receipts + 1) (receipt_of (upload_of r now p)); accepts = put p _ _ (holds_put s r now p reached is_put decided.0) is_put (taken decided.1) }
+
   pub kept : (f : NewFile) → IsPut r → IsLeft means (after_upload s (upload_of r now p)) → DecidesUpload s (upload_of r now p) (uploading.Taken f)
       → IsReplied means s r now (Ok (reply.Kept f.number f.size f.digest))
+  unfolding asks
   kept f is_put left decided =
-      let u = upload_of r now p in
+      let asked = asks f is_put decided in
       let file = decided.3 in (
-        step.Kept (length s.receipts + 1) (receipt_of u),
-        after_upload s u,
-        put p _ _ (holds_put s r now p reached is_put decided.0) is_put (taken decided.1),
+        asked.reply,
+        after_upload s (upload_of r now p),
+        asked.accepts,
         left,
         ap (λ (n : ℕ). said.Kept n f.size (encode_lower f.digest)) file.number
             ∙ ap (λ (n : ℕ). said.Kept (length s.receipts + 1) n (encode_lower f.digest)) file.size

@@ -3,6 +3,7 @@ pub mod Answering
 pub mod Asked
 pub mod Clocks
 pub mod Connections
+pub mod Enduring
 pub mod Handling
 pub mod Kept
 pub mod Obeying

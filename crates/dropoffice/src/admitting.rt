@@ -14,6 +14,7 @@ impl<K: Keeper> Office<K> {
     ghost use Rattle.links.specs.LinkReadings.{IsLinkOf};
     ghost use Rattle.links.specs.WellFormed.{LinkValues};
     ghost use Rattle.dropoffice.specs.Admitted.{IsAdmitted};
+    ghost use Rattle.dropoffice.specs.Enduring.{AddsStanding};
     ghost use Rattle.dropoffice.specs.Kept.{IsKept};
     ghost use Rattle.dropoffice.specs.Rules.{Rule};
 
@@ -26,6 +27,8 @@ impl<K: Keeper> Office<K> {
             (λ q. (q ≢ Refusal.TryAgain) → IsFirstToFail (Rule s r now) q) }
         ensures same { (s : State) → K.means self.old.keeper s → K.means self.new.keeper s }
         ensures honest { K.is_honest self.new.keeper → K.is_honest self.old.keeper }
+        ensures crash { (s : State) → K.means self.old.keeper s → K.is_honest self.new.keeper
+            → AddsStanding K.leaves K.leaves_whole self.old.keeper self.new.keeper s }
         ensures counted { (result ≢ Err Refusal.TryAgain) → K.faults self.new.keeper ≡ K.faults self.old.keeper }
         ensures never_less { K.faults self.old.keeper ≤ K.faults self.new.keeper }
     {

@@ -40,6 +40,7 @@ impl<K: Keeper> Office<K> {
     ghost use Rattle.links.specs.WellFormed.{LinkValues};
     ghost use Rattle.desk.specs.Lines.{HasListedRule};
     ghost use Rattle.dropoffice.specs.Admitted.{ReachesBoxes};
+    ghost use Rattle.dropoffice.specs.Enduring.{AddsStanding, Endures, IsToldBy, RefusedLasts, UndoneLasts};
     ghost use Rattle.dropoffice.specs.Kept.{IsKept, IsLeft};
     ghost use Rattle.dropoffice.specs.Obeying.{IsKeepers, IsObeyedBy};
     ghost use Rattle.dropoffice.specs.Replying.{IsReplied, IsNoRefusal};
@@ -51,6 +52,8 @@ impl<K: Keeper> Office<K> {
             → IfOk result (IsDeskViewOf s (command_of command.now)) }
         ensures same { (s : State) → K.means self.old.keeper s → K.means self.new.keeper s }
         ensures honest { K.is_honest self.new.keeper → K.is_honest self.old.keeper }
+        ensures crash { (s : State) → K.means self.old.keeper s → K.is_honest self.new.keeper
+            → AddsStanding K.leaves K.leaves_whole self.old.keeper self.new.keeper s }
         ensures counted { OnOk result (K.faults self.new.keeper ≡ K.faults self.old.keeper) }
         ensures rose { OnErr result (Rose (K.faults self.old.keeper) (K.faults self.new.keeper)) }
         ensures room { IfErr result (λ f. f ≢ KeepFault.Full) }
@@ -81,7 +84,8 @@ impl<K: Keeper> Office<K> {
     // Does a command that has its form, where it is possible.
     fn obey(&mut self, command: &Command<'_>) -> Result<(), DeskFault>
         ensures does { (s : State) → IsKept (K.means self.old.keeper) (K.is_honest self.new.keeper) s → HasForm (command_of command.now)
-            → OnOk result ((after : State) × IsObeyed s (command_of command.now) after × IsLeft (K.means self.new.keeper) after) }
+            → OnOk result ((after : State) × IsObeyed s (command_of command.now) after 
+            × IsLeft (Endures K.means K.leaves K.leaves_whole self.old.keeper self.new.keeper s) after) }
         ensures refused { (s : State) → IsKept (K.means self.old.keeper) (K.is_honest self.new.keeper) s
             → result ≡ Err DeskFault.NotPossible → IsPossible s (command_of command.now) → ⊥ }
         ensures formed { result ≢ Err DeskFault.Malformed }
@@ -91,6 +95,8 @@ impl<K: Keeper> Office<K> {
         ensures store { result ≡ Err (DeskFault.Kept KeepFault.Store) → K.has_store }
         ensures same { (s : State) → K.means self.old.keeper s → OnErr result (K.means self.new.keeper s) }
         ensures honest { K.is_honest self.new.keeper → K.is_honest self.old.keeper }
+        ensures crash { (s : State) → IsKept (K.means self.old.keeper) (K.is_honest self.new.keeper) s → HasForm (command_of command.now)
+            → UndoneLasts K.leaves K.leaves_whole self.old.keeper self.new.keeper s (IsObeyed s (command_of command.now)) result }
         ensures counted { OnOk result (K.faults self.new.keeper ≡ K.faults self.old.keeper) }
         ensures uncounted { result ≡ Err DeskFault.NotPossible → K.faults self.new.keeper ≡ K.faults self.old.keeper }
         ensures never_less { K.faults self.old.keeper ≤ K.faults self.new.keeper }
@@ -116,11 +122,14 @@ impl<K: Keeper> Office<K> {
     /// The state is as it was. `Malformed` comes where the line is no command, and `NotPossible` where the office's state bars
     /// the command that it is; `Kept` where the keeper failed, or memory was refused for the rule of a box.
     pub fn desk(&mut self, line: &[u8]) -> Result<(), DeskFault>
-        ensures obeys { (s : State) → IsKept (K.means self.old.keeper) (K.is_honest self.new.keeper) s → IsObeyedBy (K.means self.new.keeper) s line.now result }
+        ensures obeys { (s : State) → IsKept (K.means self.old.keeper) (K.is_honest self.new.keeper) s 
+            → IsObeyedBy (Endures K.means K.leaves K.leaves_whole self.old.keeper self.new.keeper s) s line.now result }
         ensures kept { IfErr result (λ f. IsKeepers f → Rose (K.faults self.old.keeper) (K.faults self.new.keeper) ⊎ HasListedRule line.now) }
         ensures store { result ≡ Err (DeskFault.Kept KeepFault.Store) → K.has_store }
         ensures same { (s : State) → K.means self.old.keeper s → OnErr result (K.means self.new.keeper s) }
         ensures honest { K.is_honest self.new.keeper → K.is_honest self.old.keeper }
+        ensures crash { (s : State) → IsKept (K.means self.old.keeper) (K.is_honest self.new.keeper) s
+            → UndoneLasts K.leaves K.leaves_whole self.old.keeper self.new.keeper s (IsToldBy s line.now) result }
         ensures counted { OnOk result (K.faults self.new.keeper ≡ K.faults self.old.keeper) }
         ensures malformed { result ≡ Err DeskFault.Malformed → K.faults self.new.keeper ≡ K.faults self.old.keeper }
         ensures not_possible { result ≡ Err DeskFault.NotPossible → K.faults self.new.keeper ≡ K.faults self.old.keeper }
@@ -137,10 +146,13 @@ impl<K: Keeper> Office<K> {
     pub(crate) fn post(&mut self, link: &LinkParts<'_>) -> Result<Reply, Refusal>
         ensures replies { (s : State) (r : Request) (p : LinkValues) (now : ℕ) → IsKept (K.means self.old.keeper) (K.is_honest self.new.keeper) s
             → IsLinkOf link.now r p → IsPost r → ReachesBoxes s r now p
-            → IsReplied (K.means self.new.keeper) s r now result }
+            → IsReplied (Endures K.means K.leaves K.leaves_whole self.old.keeper self.new.keeper s) s r now result }
         ensures same { (s : State) → K.means self.old.keeper s → OnErr result (K.means self.new.keeper s) }
         ensures plain { IfOk result IsNoRefusal }
         ensures honest { K.is_honest self.new.keeper → K.is_honest self.old.keeper }
+        ensures crash { (s : State) (r : Request) (p : LinkValues) (now : ℕ) → IsKept (K.means self.old.keeper) (K.is_honest self.new.keeper) s
+            → IsLinkOf link.now r p → IsPost r → ReachesBoxes s r now p
+            → RefusedLasts K.leaves K.leaves_whole self.old.keeper self.new.keeper s r now result }
         ensures counted { (result ≢ Err Refusal.TryAgain) → K.faults self.new.keeper ≡ K.faults self.old.keeper }
         ensures never_less { K.faults self.old.keeper ≤ K.faults self.new.keeper }
     {

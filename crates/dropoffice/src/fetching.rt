@@ -15,6 +15,7 @@ impl<K: Keeper> Office<K> {
     ghost use Rattle.links.specs.LinkReadings.{IsLinkOf};
     ghost use Rattle.links.specs.WellFormed.{LinkValues};
     ghost use Rattle.dropoffice.specs.Admitted.{ReachesBoxes};
+    ghost use Rattle.dropoffice.specs.Enduring.{AddsStanding, Endures};
     ghost use Rattle.dropoffice.specs.Kept.{IsKept};
     ghost use Rattle.dropoffice.specs.Places.{place_at};
     ghost use Rattle.dropoffice.specs.Replying.{IsReplied, IsNoRefusal};
@@ -26,6 +27,8 @@ impl<K: Keeper> Office<K> {
             → IfOk result (IsFetchViewOf s (place_at place.entry)) }
         ensures same { (s : State) → K.means self.old.keeper s → K.means self.new.keeper s }
         ensures honest { K.is_honest self.new.keeper → K.is_honest self.old.keeper }
+        ensures crash { (s : State) → K.means self.old.keeper s → K.is_honest self.new.keeper
+            → AddsStanding K.leaves K.leaves_whole self.old.keeper self.new.keeper s }
         ensures counted { OnOk result (K.faults self.new.keeper ≡ K.faults self.old.keeper) }
         ensures never_less { K.faults self.old.keeper ≤ K.faults self.new.keeper }
     {
@@ -38,10 +41,12 @@ impl<K: Keeper> Office<K> {
     pub(crate) fn fetch(&mut self, link: &LinkParts<'_>) -> Result<Reply, Refusal>
         ensures replies { (s : State) (r : Request) (p : LinkValues) (now : ℕ) → IsKept (K.means self.old.keeper) (K.is_honest self.new.keeper) s
             → IsLinkOf link.now r p → IsFetch r → ReachesBoxes s r now p
-            → IsReplied (K.means self.new.keeper) s r now result }
+            → IsReplied (Endures K.means K.leaves K.leaves_whole self.old.keeper self.new.keeper s) s r now result }
         ensures same { (s : State) → K.means self.old.keeper s → K.means self.new.keeper s }
         ensures plain { IfOk result IsNoRefusal }
         ensures honest { K.is_honest self.new.keeper → K.is_honest self.old.keeper }
+        ensures crash { (s : State) → K.means self.old.keeper s → K.is_honest self.new.keeper
+            → AddsStanding K.leaves K.leaves_whole self.old.keeper self.new.keeper s }
         ensures counted { (result ≢ Err Refusal.TryAgain) → K.faults self.new.keeper ≡ K.faults self.old.keeper }
         ensures never_less { K.faults self.old.keeper ≤ K.faults self.new.keeper }
     {

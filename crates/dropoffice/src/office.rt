@@ -23,6 +23,7 @@ impl<K: Keeper> Office<K> {
     ghost use Rattle.links.specs.WellFormed.{LinkValues};
     ghost use Rattle.wire.specs.Messages.{request_in};
     ghost use Rattle.dropoffice.specs.Asked.{IsReadable};
+    ghost use Rattle.dropoffice.specs.Enduring.{AddsAsked, Endures, IsAsked, RefusedLasts};
     ghost use Rattle.dropoffice.specs.Kept.{IsKept};
     ghost use Rattle.dropoffice.specs.Offices.{IsTryAgain, IsAnswered};
     ghost use Rattle.dropoffice.specs.Replying.{IsReplied, IsNoRefusal};
@@ -44,10 +45,12 @@ impl<K: Keeper> Office<K> {
     ) -> Result<Reply, Refusal>
         requires { message.now.method.now ≡ method_text method }
         ensures replies { (s : State) (p : LinkValues) → IsKept (K.means self.old.keeper) (K.is_honest self.new.keeper) s
-            → IsLinkOf link.now (request_in message.now) p → IsReplied (K.means self.new.keeper) s (request_in message.now) now result }
+            → IsLinkOf link.now (request_in message.now) p → IsReplied (Endures K.means K.leaves K.leaves_whole self.old.keeper self.new.keeper s) s (request_in message.now) now result }
         ensures same { (s : State) → K.means self.old.keeper s → IfErr result (λ q. K.means self.new.keeper s) }
         ensures plain { IfOk result IsNoRefusal }
         ensures honest { K.is_honest self.new.keeper → K.is_honest self.old.keeper }
+        ensures crash { (s : State) (p : LinkValues) → IsKept (K.means self.old.keeper) (K.is_honest self.new.keeper) s → IsLinkOf link.now (request_in message.now) p
+            → RefusedLasts K.leaves K.leaves_whole self.old.keeper self.new.keeper s (request_in message.now) now result }
         ensures counted { (result ≢ Err Refusal.TryAgain) → K.faults self.new.keeper ≡ K.faults self.old.keeper }
         ensures never_less { K.faults self.old.keeper ≤ K.faults self.new.keeper }
     {
@@ -70,11 +73,13 @@ impl<K: Keeper> Office<K> {
     // What a message is replied.
     fn reply_to(&mut self, message: &Message<'_>, now: Moment) -> Result<Reply, Refusal>
         ensures replies { (s : State) → IsKept (K.means self.old.keeper) (K.is_honest self.new.keeper) s
-            → IsReplied (K.means self.new.keeper) s (request_in message.now) now result }
+            → IsReplied (Endures K.means K.leaves K.leaves_whole self.old.keeper self.new.keeper s) s (request_in message.now) now result }
         ensures readable { IfErr result (λ q. q ≡ Refusal.TryAgain → IsReadable (request_in message.now)) }
         ensures same { (s : State) → K.means self.old.keeper s → IfErr result (λ q. K.means self.new.keeper s) }
         ensures plain { IfOk result IsNoRefusal }
         ensures honest { K.is_honest self.new.keeper → K.is_honest self.old.keeper }
+        ensures crash { (s : State) → IsKept (K.means self.old.keeper) (K.is_honest self.new.keeper) s
+            → RefusedLasts K.leaves K.leaves_whole self.old.keeper self.new.keeper s (request_in message.now) now result }
         ensures counted { (result ≢ Err Refusal.TryAgain) → K.faults self.new.keeper ≡ K.faults self.old.keeper }
         ensures never_less { K.faults self.old.keeper ≤ K.faults self.new.keeper }
     {
@@ -94,12 +99,14 @@ impl<K: Keeper> Office<K> {
     /// refused without memory, and never with 40.
     pub fn answer(&mut self, message: &Message<'_>, now: Moment) -> Answer
         ensures answers { (s : State) → IsKept (K.means self.old.keeper) (K.is_honest self.new.keeper) s
-            → IsAnswered (K.means self.new.keeper) s (request_in message.now) now result }
+            → IsAnswered (Endures K.means K.leaves K.leaves_whole self.old.keeper self.new.keeper s) s (request_in message.now) now result }
         ensures again { IsTryAgain result → (s : State) → K.means self.old.keeper s → K.means self.new.keeper s }
         ensures readable { IsTryAgain result → IsReadable (request_in message.now) }
         ensures counted { (IsTryAgain result → ⊥) → K.faults self.new.keeper ≡ K.faults self.old.keeper }
         ensures never_less { K.faults self.old.keeper ≤ K.faults self.new.keeper }
         ensures honest { K.is_honest self.new.keeper → K.is_honest self.old.keeper }
+        ensures crash { (s : State) → IsKept (K.means self.old.keeper) (K.is_honest self.new.keeper) s → IsTryAgain result
+            → AddsAsked K.leaves K.leaves_whole self.old.keeper self.new.keeper s (IsAsked s (request_in message.now) now) }
     {
         let is_head = message.method == Method::Head.text();
         match self.reply_to(message, now) {

@@ -47,9 +47,11 @@ impl<K: Keeper> Office<K> {
     ghost use Rattle.boxes.specs.Sound.{IsSound};
     ghost use Rattle.boxes.specs.State.{State};
     ghost use Rattle.boxes.specs.Views.{IsUploadViewOf};
+    ghost use Rattle.keeper.specs.Keeping.{LeavesEither};
     ghost use Rattle.links.specs.LinkReadings.{IsLinkOf};
     ghost use Rattle.links.specs.WellFormed.{LinkValues};
     ghost use Rattle.dropoffice.specs.Admitted.{ReachesBoxes};
+    ghost use Rattle.dropoffice.specs.Enduring.{AddsStanding, Endures, RefusedLasts};
     ghost use Rattle.dropoffice.specs.Kept.{IsKept, IsLeft};
     ghost use Rattle.dropoffice.specs.Places.{place_at};
     ghost use Rattle.dropoffice.specs.Replying.{IsReplied, IsNoRefusal, IsReceiptFor};
@@ -63,6 +65,8 @@ impl<K: Keeper> Office<K> {
             → u.place ≡ place_at place.entry → u.bytes ≡ body.now → IfOk result (λ l. IsTrue l.stand ↔ Stands s u) }
         ensures same { (s : State) → K.means self.old.keeper s → K.means self.new.keeper s }
         ensures honest { K.is_honest self.new.keeper → K.is_honest self.old.keeper }
+        ensures crash { (s : State) → K.means self.old.keeper s → K.is_honest self.new.keeper
+            → AddsStanding K.leaves K.leaves_whole self.old.keeper self.new.keeper s }
         ensures counted { OnOk result (K.faults self.new.keeper ≡ K.faults self.old.keeper) }
         ensures never_less { K.faults self.old.keeper ≤ K.faults self.new.keeper }
     {
@@ -90,11 +94,13 @@ impl<K: Keeper> Office<K> {
     // Sets a file to its bytes. Nothing that is answered takes memory afterwards.
     fn set_file(&mut self, file: NewFile<'_>, body: &[u8]) -> Result<Reply, Refusal>
         ensures sets { (s after : State) → IsKept (K.means self.old.keeper) (K.is_honest self.new.keeper) s → IsFileSet s file.entry body.now after
-            → OnOk result (IsLeft (K.means self.new.keeper) after) }
+            → OnOk result (IsLeft (Endures K.means K.leaves K.leaves_whole self.old.keeper self.new.keeper s) after) }
         ensures receipt { IfOk result (IsReceiptFor file.entry) }
         ensures again { IfErr result (λ q. q ≡ Refusal.TryAgain) }
         ensures same { (s : State) → K.means self.old.keeper s → OnErr result (K.means self.new.keeper s) }
         ensures honest { K.is_honest self.new.keeper → K.is_honest self.old.keeper }
+        ensures crash { (s after : State) → IsKept (K.means self.old.keeper) (K.is_honest self.new.keeper) s → IsFileSet s file.entry body.now after
+            → OnErr result (LeavesEither K.leaves K.leaves_whole self.old.keeper self.new.keeper s after) }
         ensures counted { OnOk result (K.faults self.new.keeper ≡ K.faults self.old.keeper) }
         ensures never_less { K.faults self.old.keeper ≤ K.faults self.new.keeper }
     {
@@ -121,10 +127,13 @@ impl<K: Keeper> Office<K> {
         requires { length body.now ≤ most_body }
         ensures replies { (s : State) (r : Request) (p : LinkValues) → IsKept (K.means self.old.keeper) (K.is_honest self.new.keeper) s
             → IsLinkOf link.now r p → IsPut r → r.body ≡ body.now → ReachesBoxes s r now p
-            → IsReplied (K.means self.new.keeper) s r now result }
+            → IsReplied (Endures K.means K.leaves K.leaves_whole self.old.keeper self.new.keeper s) s r now result }
         ensures same { (s : State) → K.means self.old.keeper s → OnErr result (K.means self.new.keeper s) }
         ensures plain { IfOk result IsNoRefusal }
         ensures honest { K.is_honest self.new.keeper → K.is_honest self.old.keeper }
+        ensures crash { (s : State) (r : Request) (p : LinkValues) → IsKept (K.means self.old.keeper) (K.is_honest self.new.keeper) s
+            → IsLinkOf link.now r p → IsPut r → r.body ≡ body.now → ReachesBoxes s r now p
+            → RefusedLasts K.leaves K.leaves_whole self.old.keeper self.new.keeper s r now result }
         ensures counted { (result ≢ Err Refusal.TryAgain) → K.faults self.new.keeper ≡ K.faults self.old.keeper }
         ensures never_less { K.faults self.old.keeper ≤ K.faults self.new.keeper }
     {

@@ -1,10 +1,11 @@
-use Rattle.std.proofs.Common.{◌≡◌, ◌∙◌, Bool, ap, codes}
+use Rattle.std.proofs.Common.{◌≡◌, ◌∙◌, Bool, ap, codes, refl}
 use Rattle.sigtext.specs.Bytes.{same_bytes}
 use Rattle.wire.specs.Answers.{answer_text}
 use Rattle.wire.specs.Answers as said
 use Rattle.wire.specs.Messages.{request_in}
 use Rattle.wire.specs.Shown.{said_of}
 use Rattle.dropoffice.specs.Answering.{accepts, shown}
+use Rattle.dropoffice.specs.Enduring.{unchanged}
 use Rattle.dropoffice.proofs.Answered.{is_again, refused_text}
 use Rattle.dropoffice.proofs.office.Office.answer.Goals as goal
 
@@ -27,4 +28,8 @@ returns-in-Err-clause-answers g c s kept other =
     let fails = c.in-Err.ensures.replies s kept (λ again. other (is_again c.refused.result q c.refused.ensures.reply again)) in
     let head : c.eq-is_head.result ≡ same_bytes c.args.message.now.method.now (codes "HEAD") = c.eq-is_head.ensures ∙ ap (same_bytes c.args.message.now.method.now) c.text.ensures in
     let text = c.refused.ensures.text ∙ ap (λ (b : Bool). answer_text b (said.Refused q)) head in
-    (s, record { means = c.in-Err.ensures.same s kept.means; sound = kept.sound }, refused_text s (request_in c.args.message.now) c.args.now c.refused.result q text fails)
+    let lasts = unchanged refl ((c.in-Err.ensures.crash s kept).1 (λ again. other (is_again c.refused.result q c.refused.ensures.reply again))) in
+    (s, record { means = record { meant = c.in-Err.ensures.same s kept.means; lasts = lasts }; sound = kept.sound }, refused_text s (request_in c.args.message.now) c.args.now c.refused.result q text fails)
+
+pub returns-in-Err-clause-crash : goal.returns-in-Err-clause-crash
+returns-in-Err-clause-crash g c s kept again = (c.in-Err.ensures.crash s kept).0

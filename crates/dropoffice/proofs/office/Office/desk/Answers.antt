@@ -3,6 +3,8 @@ use Rattle.boxes.specs.Changes.{command_of}
 use Rattle.boxes.specs.Steps.{Command}
 use Rattle.desk.specs.Lines.{said}
 use Rattle.dropoffice.specs.Obeying.{Tells}
+use Rattle.dropoffice.specs.Enduring.{Endures}
+use Rattle.dropoffice.proofs.Endurance.{undone_more}
 use Rattle.dropoffice.proofs.Possible.{obeyed_by}
 use Rattle.dropoffice.proofs.office.Office.desk.Goals as goal
 
@@ -16,8 +18,16 @@ returns-in-Ok-Some-clause-obeys g c s kept =
     let is : command ≡ said c.in-Ok-Some.read = c.command.ensures in
     let told = rw c.in-Ok-Some.field-0-is at c.in-Ok-Some.ensures.some in
     let tells = subst (Tells line) (sym is) (record { is_command = told.0; form = told.1 }) in
-    obeyed_by (g.K.Keeper.means c.obey.new.self.keeper) s line c.obey.result command tells
+    obeyed_by (Endures g.K.Keeper.means g.K.Keeper.leaves g.K.Keeper.leaves_whole c.args.self.now.keeper c.obey.new.self.keeper s) s line c.obey.result command tells
     (λ other tells.
     let all = rw c.in-Ok-Some.field-0-is at (c.in-Ok-Some.ensures.all other tells.is_command tells.form) in
     some_is (said c.in-Ok-Some.read) other all ∙ sym is)
     (c.obey.ensures.does s kept tells.form) (c.obey.ensures.refused s kept) c.obey.ensures.formed (c.obey.ensures.room s kept tells.form)
+
+pub returns-in-Ok-Some-clause-crash : goal.returns-in-Ok-Some-clause-crash
+returns-in-Ok-Some-clause-crash g c s kept =
+    let line = c.args.line.now in
+    let command = command_of c.command.result in
+    let told = rw c.in-Ok-Some.field-0-is at c.in-Ok-Some.ensures.some in
+    let tells = subst (Tells line) (sym c.command.ensures) (record { is_command = told.0; form = told.1 }) in
+    undone_more g.K.Keeper.leaves g.K.Keeper.leaves_whole c.args.self.now.keeper c.obey.new.self.keeper s _ _ c.obey.result (λ t obeyed. record { command = command; tells = tells; obeyed = obeyed }) (c.obey.ensures.crash s kept tells.form)

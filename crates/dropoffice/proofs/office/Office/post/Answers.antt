@@ -1,7 +1,10 @@
 use Rattle.std.proofs.Common.{◌∙◌, codes, sym, subst, rules}
+use Rattle.sigtext.specs.declared.refusal.Refusal.TheVariants as rule
 use Rattle.links.specs.WellFormed.{HasValue}
 use Rattle.links.proofs.Texts.{texts_differ, texts_equal}
-use Rattle.dropoffice.proofs.Obeyed.{elsewhere, no_line, not_given, not_obeyed, obeyed}
+use Rattle.dropoffice.specs.Enduring.{Endures}
+use Rattle.dropoffice.proofs.Endurance.{more_asked, refused_asked, refused_same}
+use Rattle.dropoffice.proofs.Obeyed.{asked_by, elsewhere, no_line, not_given, not_obeyed, obeyed}
 use Rattle.dropoffice.proofs.office.Office.post.Goals as goal
 
 pub returns-then-ne-clause-replies : goal.returns-then-ne-clause-replies
@@ -15,7 +18,7 @@ returns-in-Ok-None-clause-replies g c s r p now kept is is_post reached other =
 
 pub returns-in-Ok-desk-clause-replies : goal.returns-in-Ok-desk-clause-replies
 returns-in-Ok-desk-clause-replies g c s r p now kept is is_post reached =
-    let means = g.K.Keeper.means c.desk.new.self.keeper in
+    let means = Endures g.K.Keeper.means g.K.Keeper.leaves g.K.Keeper.leaves_whole c.args.self.now.keeper c.desk.new.self.keeper s in
     let at = sym (c.in-Ok.ensures r p is) ∙ sym c.as_slice.ensures.value ∙ texts_equal c.as_slice.result.now c.as_slice-2.result.now (search rules) ∙ c.as_slice-2.ensures in
     let given = subst (HasValue p.params (codes "desk")) (sym c.deref.ensures.value) (rw c.in-Ok-Some.field-0-is at (c.in-Ok-Some.ensures.found r p is)) in
     let done = c.in-Ok-desk.ensures.obeys s kept in
@@ -23,14 +26,30 @@ returns-in-Ok-desk-clause-replies g c s r p now kept is is_post reached =
 
 pub returns-in-Err-Malformed-clause-replies : goal.returns-in-Err-Malformed-clause-replies
 returns-in-Err-Malformed-clause-replies g c s r p now kept is is_post reached other =
-    let means = g.K.Keeper.means c.desk.new.self.keeper in
+    let means = Endures g.K.Keeper.means g.K.Keeper.leaves g.K.Keeper.leaves_whole c.args.self.now.keeper c.desk.new.self.keeper s in
     let at = sym (c.in-Ok.ensures r p is) ∙ sym c.as_slice.ensures.value ∙ texts_equal c.as_slice.result.now c.as_slice-2.result.now (search rules) ∙ c.as_slice-2.ensures in
     let given = subst (HasValue p.params (codes "desk")) (sym c.deref.ensures.value) (rw c.in-Ok-Some.field-0-is at (c.in-Ok-Some.ensures.found r p is)) in
     no_line means s r now p reached is_post c.deref.result.now at given (rw c.in-Err-Malformed.field-0-is at (c.in-Err-Malformed.ensures.obeys s kept))
 
 pub returns-in-Err-NotPossible-clause-replies : goal.returns-in-Err-NotPossible-clause-replies
 returns-in-Err-NotPossible-clause-replies g c s r p now kept is is_post reached other =
-    let means = g.K.Keeper.means c.desk.new.self.keeper in
+    let means = Endures g.K.Keeper.means g.K.Keeper.leaves g.K.Keeper.leaves_whole c.args.self.now.keeper c.desk.new.self.keeper s in
     let at = sym (c.in-Ok.ensures r p is) ∙ sym c.as_slice.ensures.value ∙ texts_equal c.as_slice.result.now c.as_slice-2.result.now (search rules) ∙ c.as_slice-2.ensures in
     let given = subst (HasValue p.params (codes "desk")) (sym c.deref.ensures.value) (rw c.in-Ok-Some.field-0-is at (c.in-Ok-Some.ensures.found r p is)) in
     not_obeyed means s r now p reached is_post c.deref.result.now at given (rw c.in-Err-NotPossible.field-0-is at (c.in-Err-NotPossible.ensures.obeys s kept))
+
+pub returns-in-Err-Malformed-clause-crash : goal.returns-in-Err-Malformed-clause-crash
+returns-in-Err-Malformed-clause-crash g c s r p now kept is is_post reached =
+    refused_same rule.CommandMalformed (rw c.in-Err-Malformed.field-0-is at (c.in-Err-Malformed.ensures.crash s kept))
+
+pub returns-in-Err-NotPossible-clause-crash : goal.returns-in-Err-NotPossible-clause-crash
+returns-in-Err-NotPossible-clause-crash g c s r p now kept is is_post reached =
+    refused_same rule.CommandNotPossible (rw c.in-Err-NotPossible.field-0-is at (c.in-Err-NotPossible.ensures.crash s kept))
+
+pub returns-clause-crash : goal.returns-clause-crash
+returns-clause-crash g c s r p now kept is is_post reached =
+    let means = Endures g.K.Keeper.means g.K.Keeper.leaves g.K.Keeper.leaves_whole c.args.self.now.keeper c.desk.new.self.keeper s in
+    let at = sym (c.in-Ok.ensures r p is) ∙ sym c.as_slice.ensures.value ∙ texts_equal c.as_slice.result.now c.as_slice-2.result.now (search rules) ∙ c.as_slice-2.ensures in
+    let given = subst (HasValue p.params (codes "desk")) (sym c.deref.ensures.value) (rw c.in-Ok-Some.field-0-is at (c.in-Ok-Some.ensures.found r p is)) in
+    refused_asked
+    (more_asked (asked_by means s r now p reached is_post c.deref.result.now at given) (rw c.in-Err-Kept.field-0-is at (c.in-Err-Kept.ensures.crash s kept)))

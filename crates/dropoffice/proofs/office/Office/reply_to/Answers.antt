@@ -3,6 +3,7 @@ use Rattle.wire.specs.Messages.{request_in}
 use Rattle.links.proofs.LinkRules.{method_first}
 use Rattle.links.proofs.Texts.{clash}
 use Rattle.dropoffice.proofs.Deciding.{head_first}
+use Rattle.dropoffice.proofs.Endurance.{refused_same, still}
 use Rattle.dropoffice.proofs.Answered.{read_readable}
 use Rattle.dropoffice.proofs.office.Office.reply_to.Goals as goal
 
@@ -22,3 +23,14 @@ returns-in-Ok-clause-readable g c =
 
 pub returns-in-Err-clause-replies : goal.returns-in-Err-clause-replies
 returns-in-Err-clause-replies g c s kept other = head_first s (request_in c.args.message.now) c.args.now c.in-Err.refusal (c.in-Err.ensures.err other)
+
+pub returns-in-Ok-clause-crash : goal.returns-in-Ok-clause-crash
+returns-in-Ok-clause-crash g c s kept =
+    let is = c.in-Ok.ensures.ok in
+    c.reply_to_link.ensures.crash s is.0 kept is.1
+
+pub returns-in_default-clause-crash : goal.returns-in_default-clause-crash
+returns-in_default-clause-crash g c s kept = refused_same rule.Method still
+
+pub returns-in-Err-clause-crash : goal.returns-in-Err-clause-crash
+returns-in-Err-clause-crash g c s kept = refused_same c.in-Err.refusal still
