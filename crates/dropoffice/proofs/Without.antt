@@ -1,15 +1,18 @@
 -- A run is one without the messages that were answered with refusal 40, too.
 use Rattle.std.proofs.Common.{◌≡◌, ◌<◌, ◌≤◌, ℕ, suc, Bool, true, false, List, [], ◌∷◌, ◌++◌, inl, inr, refl, sym, ap, ◌∙◌, append_assoc, arith}
 use Rattle.sigtext.specs.Request.{Request}
+use Rattle.sigtext.specs.declared.refusal.Refusal.TheVariants as rule
 use Rattle.boxes.specs.State.{State}
 use Rattle.wire.specs.Framing.{HasHead, Next}
 use Rattle.wire.specs.Framing as frame
+use Rattle.dropoffice.specs.Answering.{Answers}
+use Rattle.dropoffice.specs.Asked.{IsReadable}
 use Rattle.dropoffice.specs.Sessions.{Session, Connection, Run, MayGiveUpReading, closing, most_messages}
 use Rattle.dropoffice.specs.Sessions as session
-use Rattle.dropoffice.specs.Without.{GivesUp, IsLastRefusal, IsCut, IsWithout, RunsWithout}
+use Rattle.dropoffice.specs.Without.{GivesUp, IsLastRefusal, IsCut, RunsWithout}
 use Rattle.dropoffice.specs.Without as without
 use Rattle.dropoffice.specs.declared.session.SessionEnd.{SessionEnd}
-use Rattle.dropoffice.specs.declared.session.SessionEnd.TheVariants.{Ended}
+use Rattle.dropoffice.specs.declared.session.SessionEnd.TheVariants.{Ended, Refused}
 
 -- ---- a message does not depend on what follows it
 
@@ -123,7 +126,7 @@ one_more : (s mid after : State) (c : Connection) (cs : List Connection) (first 
 one_more s mid after c cs first others false is here w = record {
   connections = c ∷ w.connections;
   told = first ++ w.told;
-  without = without.stays c cs w.connections first others w.told is w.without;
+  without = without.stays s mid after c cs w.connections first others w.told is (rw is here) w.without;
   run = (first, w.told, mid, refl, rw is here, w.run);
 }
 one_more s mid after c cs first others true is here w =
@@ -145,11 +148,41 @@ one_more s mid after c cs first others true is here w =
     record {
       connections = d ∷ w.connections;
       told = k.told ++ w.told;
-      without = without.cut c d cs w.connections first k.told others w.told is_cut w.without;
+      without = without.cut s mid after c d cs w.connections first k.told others w.told is_cut (rw is here) k.before w.without;
       run = (k.told, w.told, mid, refl, k.before, w.run);
     }
 
 pub runs_without : (s after : State) (cs : List Connection) (moments : List ℕ) → Run s cs moments after → RunsWithout s cs moments after
-runs_without s after [] moments h = rw h.0 (record { connections = []; told = []; without = without.none; run = (refl, h.1) })
+runs_without s after [] moments h = record { connections = []; told = []; without = rw (h.0, h.1) (without.none s); run = (refl, h.1) }
 runs_without s after (c ∷ cs) moments (first, others, mid, joined, here, more) =
-    rw joined (one_more s mid after c cs first others c.gave_up refl here (runs_without mid after cs others more))
+    let w = one_more s mid after c cs first others c.gave_up refl here (runs_without mid after cs others more) in
+    record { connections = w.connections; told = w.told; without = rw joined w.without; run = w.run }
+
+-- ---- an example: of two messages the first was answered, and at the second the session gave up
+
+module _ (s mid : State) (stream rest more text : List ℕ) (q r : Request) (now later : ℕ) (first : Next stream (frame.Message q) rest) (answered : Answers s q now text mid)
+    (second : Next rest (frame.Message r) more) (readable : IsReadable r) where
+  abbrev both : Connection
+  both = record { stream = stream; answers = text ++ closing rule.TryAgain; end = Refused 40; gave_up = true }
+
+  abbrev run_of_both : Run s (both ∷ []) (now ∷ later ∷ []) mid
+  run_of_both = (
+    now ∷ later ∷ [],
+    [],
+    mid,
+    refl,
+    session.served 999 stream rest s mid mid q now (later ∷ []) text (closing rule.TryAgain) (Refused 40) true first answered
+        (session.gave_up_at 998 rest more mid r later second readable),
+    (refl, refl),
+  )
+
+  abbrev left : RunsWithout s (both ∷ []) (now ∷ later ∷ []) mid
+  left = runs_without s mid (both ∷ []) (now ∷ later ∷ []) run_of_both
+
+  pub one_moment : left.told ≡ now ∷ []
+  unfolding at_once session_cut one_more runs_without
+  one_moment = refl
+
+  pub one_message : left.connections ≡ record { stream = (message_text stream rest q first).text ++ []; answers = text ++ []; end = Ended; gave_up = false } ∷ []
+  unfolding at_once session_cut one_more runs_without
+  one_message = refl

@@ -8,12 +8,12 @@ use Rattle.wire.specs.Feeding.{AnnouncesBody}
 use Rattle.wire.specs.Framing.{Next}
 use Rattle.wire.specs.Framing as frame
 use Rattle.dropoffice.specs.Asked.{IsReadable}
-use Rattle.dropoffice.specs.Sessions.{Connection, Run, closing}
+use Rattle.dropoffice.specs.Sessions.{Session, Connection, Run, closing, most_messages}
 use Rattle.dropoffice.specs.declared.session.SessionEnd.{SessionEnd}
 use Rattle.dropoffice.specs.declared.session.SessionEnd.TheVariants.{Ended, Refused, WriteFault}
 
--- Where a connection gave up: what it had answered of its stream, what was left, and the moments that it took there. This was at
--- a readable message, at one moment; or within a message with a body, or before anything was read, at none.
+-- Where a connection gave up: what of its stream was answered, what was left, and the moments that it took there. This
+-- was at a readable message, at one moment; or within a message with a body, or before anything was read, at none.
 pub data GivesUp (front rest : List ℕ) : List ℕ → Type 0 where
   at_message : (r : Request) (now : ℕ) (more : List ℕ) → Next rest (frame.Message r) more → IsReadable r → GivesUp front rest (now ∷ [])
   within_message : AnnouncesBody rest → GivesUp front rest []
@@ -25,8 +25,8 @@ IsLastRefusal last (Refused number) = (number ≡ 40) × (last ≡ closing rule.
 IsLastRefusal last WriteFault = IsBeginning last (closing rule.TryAgain)
 IsLastRefusal last _ = ⊥
 
--- d is the connection c, which gave up, as it would have been if its stream had ended before the message at which c gave up:
--- all before is answered as it was, and refusal 40 is not. moments and told: those of c and of d.
+-- d is the connection c, which gave up, as it is where its stream ends before the message at which c gave up: all
+-- before that is answered as it was, and refusal 40 is not written. moments and told: those of c and of d.
 pub record IsCut (c d : Connection) (moments told : List ℕ) : Type 0 where
   pub rest : List ℕ
   pub others : List ℕ
@@ -40,18 +40,22 @@ pub record IsCut (c d : Connection) (moments told : List ℕ) : Type 0 where
   pub ended : d.end ≡ Ended
   pub unmarked : d.gave_up ≡ false
 
--- The connections and their moments, and the same without what was answered with refusal 40: a connection that did not give
--- up stays as it is, and one that did is cut.
-pub data IsWithout : List Connection → List ℕ → List Connection → List ℕ → Type 0 where
-  none : IsWithout [] [] [] []
-  stays : (c : Connection) (cs ds : List Connection) (first ms ns : List ℕ) → c.gave_up ≡ false → IsWithout cs ms ds ns
-      → IsWithout (c ∷ cs) (first ++ ms) (c ∷ ds) (first ++ ns)
-  cut : (c d : Connection) (cs ds : List Connection) (first told ms ns : List ℕ) → IsCut c d first told → IsWithout cs ms ds ns
-      → IsWithout (c ∷ cs) (first ++ ms) (d ∷ ds) (told ++ ns)
+-- the connection is served so from a state, at these moments, and leaves this state
+abbrev pub IsServed : State → Connection → List ℕ → State → Type 0
+IsServed s c moments after = Session most_messages c.stream s moments c.answers c.end c.gave_up after
+
+-- A run, and the same without what was answered with refusal 40: a connection that did not give up stays as it is, and
+-- one that did is cut. Each is served from the same state as before, and leaves the same state.
+pub data IsWithout : State → List Connection → List ℕ → List Connection → List ℕ → State → Type 0 where
+  none : (s : State) → IsWithout s [] [] [] [] s
+  stays : (s mid after : State) (c : Connection) (cs ds : List Connection) (first ms ns : List ℕ) → c.gave_up ≡ false → IsServed s c first mid
+      → IsWithout mid cs ms ds ns after → IsWithout s (c ∷ cs) (first ++ ms) (c ∷ ds) (first ++ ns) after
+  cut : (s mid after : State) (c d : Connection) (cs ds : List Connection) (first told ms ns : List ℕ) → IsCut c d first told → IsServed s c first mid → IsServed s d told mid
+      → IsWithout mid cs ms ds ns after → IsWithout s (c ∷ cs) (first ++ ms) (d ∷ ds) (told ++ ns) after
 
 -- the connections without what was answered with refusal 40 are a run too, from the same state and to the same state
 pub record RunsWithout (s : State) (cs : List Connection) (moments : List ℕ) (after : State) : Type 0 where
   pub connections : List Connection
   pub told : List ℕ
-  pub without : IsWithout cs moments connections told
+  pub without : IsWithout s cs moments connections told after
   pub run : Run s connections told after
