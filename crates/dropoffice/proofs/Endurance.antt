@@ -5,13 +5,15 @@ use Rattle.sigtext.specs.declared.refusal.Refusal.{Refusal}
 use Rattle.sigtext.specs.declared.refusal.Refusal.TheVariants as rule
 use Rattle.sigtext.specs.Request.{Request}
 use Rattle.boxes.specs.State.{State}
+use Rattle.wire.specs.declared.answer.Answer.{Answer}
+use Rattle.wire.specs.declared.answer.Reply.{Reply}
 use Rattle.keeper.specs.Keeping.{LeavesEither}
 use Rattle.dropoffice.specs.declared.commanding.DeskFault.{DeskFault}
 use Rattle.dropoffice.specs.declared.commanding.DeskFault.TheVariants as fault
 use Rattle.dropoffice.specs.Enduring.{AddsStanding, AddsAsked, Lasts, changed, unchanged, Endures, IsAsked, RefusedLasts, UndoneLasts}
 use Rattle.dropoffice.specs.Kept.{IsLeft}
+use Rattle.dropoffice.specs.Offices.{IsAnswered}
 use Rattle.dropoffice.specs.Replying.{IsReplied}
-use Rattle.wire.specs.declared.answer.Reply.{Reply}
 
 joined : {A B C : Type 0} → (A → B ⊎ C) → A ⊎ C → B ⊎ C
 joined f (inl a) = f a
@@ -63,6 +65,10 @@ module _ {K : Type 0} {leaves : K → State → Type 0} {leaves_whole : K → Ty
       let left = is.3 in
       (is.0, is.1, is.2, record { means = record { meant = left.means.meant; lasts = then_lasts adds left.means.lasts }; sound = left.sound }, is.4)
   then_replied means c s r now (Err q) adds is = is
+
+  -- a state that endures is meant
+  pub meant_only : (means : K → State → Type 0) {a b : K} (s : State) (r : Request) (now : ℕ) (answer : Answer) → IsAnswered (Endures means leaves leaves_whole a b s) s r now answer → IsAnswered (means b) s r now answer
+  meant_only means s r now answer is = λ other. let x = is other in (x.0, record { means = x.1.means.meant; sound = x.1.sound }, x.2)
 
   pub then_refused : {T : Type 0} {a b : K} (c : K) (s : State) (r : Request) (now : ℕ) (result : Result T Refusal) → AddsStanding leaves leaves_whole a b s
       → RefusedLasts leaves leaves_whole b c s r now result → RefusedLasts leaves leaves_whole a c s r now result
