@@ -13,24 +13,18 @@ import time
 import kit
 import tables
 from expected import SECRET, answer, quoted
-from office import CLERK, DONE, difference, fetched, get, head, malformed, put, receipt, run_all
+from office import CLERK, DONE, OBEYED, difference, fetched, get, malformed, post, put, receipt, run_all
 from orders import BotocoreOrder
 from replays import ID, MOMENT, fault, signed
 from serve import Server, curl
 
 LATER = "20130524T000001Z"
-OBEYED = head("200 OK", [("Content-Type", "text/plain"), ("Content-Length", 5)]) + b"done\n"
 SAID_DONE = kit.Run(0, b"done\n", b"")
 MALFORMED = fault("the desk command is malformed")
 NOT_POSSIBLE = fault("the desk command is not possible")
 IN_MEMORY = f"memory:{ID}/{SECRET.decode()}"
 ANY = "20130101T000000Z 20130601T000000Z 1111111 0000 2400"
 BOX = f"box add in {ANY} 100 2 keep any"
-
-
-def post(line, path=b"/", **how):
-    """A desk command as a signed request."""
-    return signed("POST", path, b"&desk=" + quoted(line), **how)
 
 
 # ---- lines

@@ -16,11 +16,11 @@ import random
 
 import kit
 import tables
-from desk import OBEYED, post
 from expected import SECRET, quoted
 from listed import LINK_HEAD, RECEIPT_HEAD, STATE_HEAD, WISH_HEAD, read, receipts, standing, states, written
 from office import (
-    CANNOT_OPEN, UNKNOWN, VERSION, answered, difference, malformed, not_offices, put, python_link, receipt, run_all, sent,
+    CANNOT_OPEN, OBEYED, UNKNOWN, VERSION, answered, difference, malformed, not_offices, post, put, python_link, receipt, run_all,
+    sent,
 )
 from orders import BotocoreOrder
 from replays import ID, MOMENT, closed_pipe, fault, full_disk

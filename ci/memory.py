@@ -2,11 +2,17 @@
 
 The objects that `rt ci` leaves of crates/drop, crates/rows and the tests of crates/keeper are linked again, with
 ci/heap.c in the place of the heap of the kit's C library. Then each number from 1 on is refused, up to the first at
-which there is no allocation left to refuse; over an office file a sample of them. The program must give its whole right answer, or say that memory was refused, in the way that is owed
-there; and never anything else. The last line is
-`N passed, M failed`: each words of `drop` are a test, each row is one, and so is the keeper's.
+which there is no allocation left to refuse; of `init`, `desk`, `link` and lists over an office file a sample of them. The program
+must give its whole right answer, or say that memory was refused, in the way that is owed there; and never anything else. What
+an office keeps then is looked at too: by further requests where it lives in memory, and in the tables of its file.
+
+The last line is `N passed, M failed`: each words of `drop` are a test, each session is one in memory and one over a file, each
+row is one, and so is the keeper's.
 """
 
+import collections
+import dataclasses
+import functools
 import itertools
 import os
 import pathlib
@@ -18,8 +24,9 @@ import kit
 import listed
 import office
 import tables
-from expected import SECRET, answer, quoted
-from replays import ID, MOMENT, OFFICE, answered, fault, signed
+from expected import SECRET, answer
+from office import OBEYED, fetched, get, post, put, receipt
+from replays import CUT_UPLOAD, ID, MOMENT, OFFICE, REQUEST, answered, fault
 
 STREAM = "data/row1.http"
 DROP = kit.ROOT / "crates" / "drop"
@@ -28,6 +35,7 @@ OUT_OF_MEMORY = fault("out of memory")
 HELPED = ["init", "desk", "link", "links", "manifest", "compare", "replay", "serve"]
 # What a program says whose table cannot be read; nothing was answered then.
 UNREAD = kit.Run(1, b"", b"Error: Kind(OutOfMemory)\n")
+LEAST_REFUSALS = 2000  # of all sessions
 
 
 def linked(crate, folder, tests=""):
@@ -128,9 +136,8 @@ def each_office(program, name, words, prepare, right, others, count, done=(), gi
 
 
 def test_offices(program, folder, count):
-    """`init`, `desk`, `link`, and `replay` over a file. Memory that is refused makes no file, changes none, takes no upload and
-    obeys no command."""
-    file, whole, stream = folder / "office", folder / "whole", folder / "put.http"
+    """`init`, `desk` and `link`. Memory that is refused makes no file, changes none and obeys no command."""
+    file, whole = folder / "office", folder / "whole"
     init = ["--clerk", ID, "--secret", SECRET.decode()]
     done = kit.Run(0, b"", b"")
     made = kit.run([program, "init", whole, *init])
@@ -138,7 +145,6 @@ def test_offices(program, folder, count):
         count.add("an office file", f"{made}")
         return
     tables.add_box(whole, tables.Box("in"))
-    stream.write_bytes(office.put(b"/in/a.txt", b"abc"))
 
     def gone():
         for it in folder.glob("office*"):
@@ -152,18 +158,216 @@ def test_offices(program, folder, count):
         return lambda is_right: None if is_right or tables.dump(file) == before else "the tables were changed"
 
     link = ["link", file, "GET", "in/a.txt", *itertools.chain(*((f"--{k}", v) for k, v in office.LINK.items()))]
-    replay = ["replay", file, stream, "--at", MOMENT]
     line = kit.Run(0, office.python_link("GET", "in/a.txt"), b"")
-    receipt = office.answered(office.receipt(1, b"abc"))
     each_office(program, "drop init", ["init", file, *init], gone, done, [OUT_OF_MEMORY], count)
     each_office(program, "drop link", link, copied, line, [OUT_OF_MEMORY], count)
-    each_office(program, "drop replay FILE", replay, copied, receipt, [OUT_OF_MEMORY, TRY_AGAIN], count)
     box = "box add b 20130101T000000Z 20130601T000000Z 1111111 0000 2400 100 2 keep ends .pdf,.zip"
     told, closed_badly = kit.Run(0, b"done\n", b""), kit.Run(1, b"done\n", OUT_OF_MEMORY.err)
     each_office(program, "drop desk", ["desk", file, box], copied, told, [OUT_OF_MEMORY, closed_badly], count, [closed_badly])
-    stream.write_bytes(signed("POST", b"/", b"&desk=" + quoted(box)))
-    obeyed = office.answered(office.head("200 OK", [("Content-Type", "text/plain"), ("Content-Length", 5)]) + b"done\n")
-    each_office(program, "a command in drop replay FILE", replay, copied, obeyed, [OUT_OF_MEMORY, TRY_AGAIN], count)
+
+
+# ---- sessions: each allocation, in memory and over a file
+
+
+@dataclasses.dataclass(frozen=True)
+class Step:
+    """A request, its answer, and what it does to the tables of an office file."""
+
+    asked: bytes
+    owed: bytes
+    does: object = None
+
+
+@dataclasses.dataclass(frozen=True)
+class Probe:
+    """A request that tells what an office keeps: its answers, each from so many steps on that were done."""
+
+    asked: bytes
+    answers: tuple
+
+    def owed(self, done):
+        return [owed for least, owed in self.answers if least <= done][-1]
+
+
+@dataclasses.dataclass(frozen=True)
+class Session:
+    """A connection of these steps; where the office lives in memory, another one follows with the probes."""
+
+    name: str
+    steps: tuple
+    probes: tuple = ()
+
+
+def opens(name, quota=100, files=2, mode="keep"):
+    box = dataclasses.replace(office.BOX, name=name, quota=quota, max_files=files, mode=int(mode == "replace"))
+    line = f"box add {name} 20130101T000000Z 20130601T000000Z 1111111 0000 2400 {quota} {files} {mode} any"
+    return Step(post(line), OBEYED, functools.partial(tables.add_box, box=box))
+
+
+def take_out(file, box, name, length):
+    """What a file that is dropped leaves."""
+    where = f"WHERE box = '{box}' AND name = '{name}'"
+    tables.run(file, [f"DELETE FROM pieces {where}", f"DELETE FROM files {where}",
+                      f"UPDATE boxes SET used = used - {length}, count = count - 1 WHERE name = '{box}'"])
+
+
+def uploads(number, box, name, data, instead_of=None):
+    """An upload that is taken, of a new file or in the place of another."""
+    def does(file):
+        if instead_of is not None:
+            take_out(file, box, name, len(instead_of))
+        tables.add_file(file, box, name, data, ID)
+
+    return Step(put(f"/{box}/{name}".encode(), data), receipt(number, data), does)
+
+
+def commands(line, *statements):
+    """A command of the desk, and what it does in SQL."""
+    return Step(post(line), OBEYED, functools.partial(tables.run, statements=statements))
+
+
+A, LARGE = b"/in/a.txt", bytes(range(256)) * 274
+OPENED, UPLOADED = opens("in"), uploads(1, "in", "a.txt", b"abc")
+REFUSED = Step(put(A, b"abd"), answer(31))
+FETCHED = [Step(get(A, method), fetched(1, b"abc", method)) for method in ["GET", "HEAD"]]
+DROPPED = Step(post("file drop in a.txt"), OBEYED, functools.partial(take_out, box="in", name="a.txt", length=3))
+GONE = Step(get(A, "HEAD"), answer(34, "HEAD"))
+K2 = {"key": ("k2", b"s3cr3t")}
+
+
+def every_kind():
+    """One connection that asks all that can be asked, and what an office keeps behind each of its steps."""
+    steps = [
+        opens("in", 10**6, 3), UPLOADED, Step(UPLOADED.asked, UPLOADED.owed), REFUSED, opens("out", mode="replace"),
+        uploads(2, "out", "b", b"abc"), uploads(3, "out", "b", b"abd", b"abc"), *FETCHED, uploads(4, "in", "large", LARGE),
+        Step(get(b"/in/large"), fetched(4, LARGE)),
+        commands("key add k2 link s3cr3t", "INSERT INTO keys VALUES ('k2', 0, CAST('s3cr3t' AS BLOB), 0)"),
+        Step(get(A, **K2), fetched(1, b"abc")), commands("key revoke k2", "UPDATE keys SET revoked = 1 WHERE id = 'k2'"),
+        Step(get(A, **K2), answer(20)), DROPPED, GONE,
+        commands(f"box close in {MOMENT}", f"UPDATE boxes SET closes = {tables.M} WHERE name = 'in'"),
+        Step(put(b"/in/z", b"z"), answer(30)),
+    ]
+    numbers = [(least, receipt(number, b"z")) for least, number in [(1, 1), (2, 2), (6, 3), (7, 4), (10, 5)]]
+    probes = [
+        Probe(get(A), ((0, answer(27)), (1, answer(34)), (2, fetched(1, b"abc")), (16, answer(34)))),
+        Probe(get(b"/out/b"), ((0, answer(27)), (5, answer(34)), (6, fetched(2, b"abc")), (7, fetched(3, b"abd")))),
+        Probe(get(A, **K2), ((0, answer(19)), (12, fetched(1, b"abc")), (14, answer(20)))),
+        Probe(get(b"/in/large"), ((0, answer(27)), (1, answer(34)), (10, fetched(4, LARGE)))),
+        Probe(put(b"/in/z", b"z"), ((0, answer(27)), *numbers, (18, answer(30)))),
+    ]
+    return Session("every kind of request", steps, probes)
+
+
+def sessions():
+    """The published request, alone and before an upload that is cut off; an upload; two to one name; a file's life; and all."""
+    published = Step(REQUEST, answer(27))
+    uploaded = ((0, answer(27)), (1, answer(34)), (2, fetched(1, b"abc")))
+    replaced = [opens("out", mode="replace"), uploads(1, "out", "b", b"abc"), uploads(2, "out", "b", b"abd", b"abc")]
+    yield Session("the published request", [published])
+    yield Session("two requests and half an upload", [published, published, Step(CUT_UPLOAD, answer(6))])
+    yield Session("an upload", [OPENED, UPLOADED], [Probe(get(A), uploaded)])
+    yield Session("other bytes in a box that keeps", [OPENED, UPLOADED, REFUSED], [Probe(get(A), uploaded)])
+    probe = Probe(get(b"/out/b"), (*uploaded, (3, fetched(2, b"abd"))))
+    yield Session("other bytes in a box that replaces", replaced, [probe])
+    probe = Probe(get(A), (*uploaded, (5, answer(34))))
+    yield Session("a file that is dropped", [OPENED, UPLOADED, *FETCHED, DROPPED, GONE], [probe])
+    yield every_kind()
+
+
+def right_run(session, probes):
+    owed = [step.owed for step in session.steps] + [probe.owed(len(session.steps)) for probe in probes]
+    return kit.Run(0, b"".join(owed), b"")
+
+
+def bearable(session, probes):
+    """The runs that may come where memory is refused once, and how many steps are done then. The answers are right up to a
+    refusal 40, which ends its connection, or up to the fault line, which ends them all."""
+    again, total, runs = answer(40), len(session.steps), {}
+    for done in range(total + 1):
+        front = b"".join(step.owed for step in session.steps[:done])
+        later = [probe.owed(done) for probe in probes]
+        runs[kit.Run(1, front, OUT_OF_MEMORY.err)] = done
+        if done < total:
+            runs[kit.Run(0, front + again + b"".join(later), b"")] = done
+    for number in range(len(later)):
+        runs[kit.Run(0, front + b"".join(later[:number]) + again, b"")] = total
+        runs[kit.Run(1, front + b"".join(later[:number + 1]), OUT_OF_MEMORY.err)] = total
+    return runs | {right_run(session, probes): total}
+
+
+def in_memory(program, streams, runs):
+    """The run of a number, whether there was such an allocation, and what is wrong."""
+    def one(number):
+        run, is_refused = refusing(number, [program, "replay", OFFICE, *streams, "--at", MOMENT])
+        return run, is_refused, None if run in runs else f"{run}"
+
+    return one
+
+
+def over_file(program, stream, runs, whole, states):
+    """As `in_memory`, over a copy of an office file: its tables are those behind the steps that are done."""
+    def one(number):
+        with tempfile.TemporaryDirectory(dir=whole.parent) as room:
+            file = shutil.copy(whole, room)
+            run, is_refused = refusing(number, [program, "replay", file, stream, "--at", MOMENT])
+            done = runs.get(run)
+            well = done is not None and sorted(tables.dump(file)) == states[done]
+        wrong = f"{run}" if done is None else f"the tables are not those behind {done} requests"
+        return run, is_refused, None if well else wrong
+
+    return one
+
+
+def states_of(session, whole, file):
+    """The tables behind each number of steps, by Python's `sqlite3`."""
+    shutil.copy(whole, file)
+    states = [sorted(tables.dump(file))]
+    for step in session.steps:
+        if step.does:
+            step.does(file)
+        states.append(sorted(tables.dump(file)))
+    return states
+
+
+def each_number(one):
+    """What each number gives, from 1 up to the first at which there is no allocation left, many side by side."""
+    for first in itertools.count(1, 128):
+        for number, (run, is_refused, wrong) in enumerate(kit.side_by_side(one, range(first, first + 128)), first):
+            yield number, run, is_refused, wrong
+            if not is_refused:
+                return
+
+
+def swept(name, one, right, count):
+    """Refuses every allocation in turn, and tells how many there were."""
+    kinds = collections.Counter()
+    for number, run, is_refused, wrong in each_number(one):
+        if wrong or not is_refused and run != right:
+            count.add(name, f"with allocation {number} refused: {wrong or run}"[:1000])
+            return number
+        kinds["its answers" if run == right else "out of memory" if run.status else "refusal 40"] += is_refused
+    print(f"{name}: {number - 1} refused, {', '.join(f'{many} times {kind}' for kind, many in kinds.items())}")
+    count.add(name, None if kinds["refusal 40"] else "no allocation that was refused was answered with 40")
+    return number - 1
+
+
+def test_sessions(program, folder, count):
+    """Each session, in memory and over a file."""
+    whole, total = folder / "swept", 0
+    made = kit.run([program, "init", whole, "--clerk", ID, "--secret", SECRET.decode()])
+    count.add("an office file for sessions", None if made == kit.Run(0, b"", b"") else f"{made}")
+    for number, session in enumerate(sessions()):
+        stream, second = folder / f"session-{number}.http", folder / f"probes-{number}.http"
+        stream.write_bytes(b"".join(step.asked for step in session.steps))
+        second.write_bytes(b"".join(probe.asked for probe in session.probes))
+        streams = [stream, second] if session.probes else [stream]
+        one = in_memory(program, streams, bearable(session, session.probes))
+        total += swept(f"{session.name}, in memory", one, right_run(session, session.probes), count)
+        states = states_of(session, whole, folder / f"states-{number}")
+        one = over_file(program, stream, bearable(session, ()), whole, states)
+        total += swept(f"{session.name}, over a file", one, right_run(session, ()), count)
+    print(f"sessions: {total} allocations refused in all")
+    count.add("allocations refused in sessions", None if total >= LEAST_REFUSALS else f"{total} are too few")
 
 
 def broken_off(right):
@@ -248,6 +452,7 @@ def main():
         drop = linked("drop", folder)
         test_drop(drop, count)
         test_offices(drop, folder, count)
+        test_sessions(drop, folder, count)
         test_lists(drop, folder, count)
         test_rows(linked("rows", folder), count)
         test_keeper(linked("keeper", folder, "_tests"), count)

@@ -116,6 +116,9 @@ def fetched(number, data, method="GET"):
     return head("200 OK", fields) + (data if method == "GET" else b"")
 
 
+OBEYED = head("200 OK", [("Content-Type", "text/plain"), ("Content-Length", 5)]) + b"done\n"
+
+
 def answered(*answers):
     return kit.Run(0, b"".join(answers), b"")
 
@@ -129,6 +132,11 @@ def put(path, data, **how):
 
 def get(path, method="GET", **how):
     return signed(method, path, expires=604800, **how)
+
+
+def post(line, path=b"/", **how):
+    """A desk command as a signed request."""
+    return signed("POST", path, b"&desk=" + quoted(line), **how)
 
 
 def sent(url, method, data=None):

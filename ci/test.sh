@@ -84,6 +84,13 @@ lists() {
     "$python" -B ci/lists.py
 }
 
+kills() {
+    local python
+    with_command sqlite3 || return 1
+    python=$(with_boto3) || return 1
+    "$python" -B ci/kills.py
+}
+
 interop() {
     local python
     python=$(with_boto3) || return 1
@@ -98,6 +105,7 @@ count "ci/office.py" office
 count "ci/serve.py" serve
 count "ci/desk.py" desk
 count "ci/lists.py" lists
+count "ci/kills.py" kills
 count "ci/memory.py" python3 -B ci/memory.py
 count "ci/interop.py" interop
 echo

@@ -1,0 +1,365 @@
+"""Kills the proved program `drop serve` in the midst of its work, fifty times over one office file.
+
+Clients ask side by side, until the program is killed behind a random number of answers and a random part of a request. Then
+`drop manifest` and Python's `sqlite3`, on a copy, must tell the same of the file as the kill left it; what a client was told
+stands; and what stands beyond that was sent whole by a client that waited for its answer. Then the program goes on, and each
+client asks again what it got no answer to.
+
+What is owed comes from what the clients sent and were told, and from Python's `hashlib` and `hmac` (ci/expected.py,
+ci/listed.py). The seed is told, and `--seed` gives it. The last line is `N passed, M failed`.
+"""
+
+import argparse
+import collections
+import concurrent.futures
+import dataclasses
+import functools
+import hashlib
+import random
+import re
+import shutil
+import signal
+import threading
+import time
+
+import kit
+import tables
+from expected import SECRET, answer, quoted
+from listed import read, receipts
+from lists import unlike
+from office import OBEYED, difference, fetched, get, post, put, receipt, run_all, stock
+from replays import ID
+from serve import SECONDS, Server
+
+KILLS = 50
+CLIENTS = 6
+MOST_ANSWERS = 160  # from the start of the program on
+LONGEST_PAUSE = 0.004  # seconds from an answer to the kill
+MOST_ON_A_CONNECTION = 8
+LEAST_RECEIPTS = 20  # for each kill, that clients were told
+KEEPS, REPLACES = "in", "out.1-2"
+PIECES = [tables.PIECE, tables.PIECE + 1, 2 * tables.PIECE, 300_000]
+SHARED = 200
+# What clients ask, and how often.
+KINDS = {"new": 40, "large": 4, "shared": 8, "repeat": 10, "replace": 12, "other": 4, "fetch": 10, "head": 4, "key": 4,
+         "drop": 4}
+
+
+# ---- clients
+
+
+@dataclasses.dataclass(frozen=True)
+class Wish:
+    """A request, and the answer that is owed: that of an upload has a number, which the office gives."""
+
+    kind: str
+    message: bytes
+    owed: bytes | None = None
+    place: tuple = ()
+    data: bytes | None = None
+    key: tuple = ()
+
+    @functools.cached_property
+    def row(self):
+        """The box, the name, the length and the digest that a receipt of this upload has."""
+        return *self.place, str(len(self.data)), hashlib.sha256(self.data).hexdigest()
+
+
+def whole_answer(stream, method):
+    """The next answer."""
+    head = b""
+    while not head.endswith(b"\r\n\r\n"):
+        line = stream.readline()
+        if not line:
+            raise ConnectionError("the connection ended in a head, or before it")
+        head += line
+    length = 0 if method == "HEAD" else int(re.search(rb"Content-Length: (\d+)", head)[1])
+    body = stream.read(length)
+    if len(body) < length:
+        raise ConnectionError("the connection ended in a body")
+    return head + body
+
+
+class Client:
+    """Asks one request after another, each once its answer was read, and remembers the one that was not answered."""
+
+    def __init__(self, name, seed, ledger):
+        self.name, self.ledger = name, ledger
+        self.source = random.Random(f"{seed} {name}")
+        self.start = time.strftime("%Y%m%dT%H%M%SZ", time.gmtime(time.time() - 60))
+        self.places = []
+        self.wish, self.is_sent = None, False
+
+    def work(self, server, killed):
+        """Asks until the server is killed; why, if it could not as long."""
+        while True:
+            try:
+                self.ask_some(server, self.source.randint(1, MOST_ON_A_CONNECTION))
+            except OSError as error:
+                return None if killed.is_set() else f"{self.name}: {error}"
+
+    def ask_some(self, server, most):
+        with server.connect() as it, it.makefile("rb") as answers:
+            for _ in range(most):
+                self.ask(it, answers)
+
+    def ask(self, it, answers):
+        """Asks something new, or once more what was not answered."""
+        self.wish = self.wish or self.next()
+        self.is_sent = False
+        it.sendall(self.wish.message)
+        self.is_sent = True
+        self.ledger.take(self.wish, whole_answer(answers, "HEAD" if self.wish.kind == "head" else "GET"))
+        self.wish = None
+
+    def next(self):
+        kind = self.source.choices(list(KINDS), KINDS.values())[0]
+        return getattr(self, kind)()
+
+    # -- what is asked
+
+    def upload(self, kind, place, data, owed=None):
+        return Wish(kind, put(path_of(place), data, date=self.start), owed, place, data)
+
+    def placed(self):
+        """A new place of this client's own."""
+        self.places.append((KEEPS, f"{self.name}, é {len(self.places)}"))
+        return self.places[-1]
+
+    def standing(self):
+        """A place of this client's own and the file there, if there is one."""
+        place = self.source.choice(self.places or [()])
+        return place, self.ledger.standing.get(place)
+
+    def new(self):
+        return self.upload("new", self.placed(), self.source.randbytes(self.source.choice([0, 1, 100, 1000, 5000])))
+
+    def large(self):
+        return self.upload("large", self.placed(), self.source.randbytes(self.source.choice(PIECES)))
+
+    def shared(self):
+        """A file that every client puts."""
+        number = self.source.randrange(SHARED)
+        return self.upload("shared", (KEEPS, f"shared-{number}"), b"%d" % number * 99)
+
+    def repeat(self):
+        place, file = self.standing()
+        return self.upload("repeat", place, file[1]) if file else self.new()
+
+    def replace(self):
+        place = REPLACES, f"{self.name}-{self.source.randrange(5)}"
+        return self.upload("replace", place, self.source.randbytes(self.source.choice([10, 1000, 70_000])))
+
+    def other(self):
+        place, file = self.standing()
+        return self.upload("other", place, file[1] + b"+", answer(31)) if file else self.new()
+
+    def fetch(self):
+        place, file = self.standing()
+        return Wish("fetch", get(path_of(place), date=self.start), fetched(*file)) if file else self.new()
+
+    def head(self):
+        place, file = self.standing()
+        return Wish("head", get(path_of(place), "HEAD", date=self.start), fetched(*file, "HEAD")) if file else self.new()
+
+    def key(self):
+        secret = f"{self.source.getrandbits(64):016x}"
+        line = f"key add k-{secret} link {secret}"
+        return Wish("key", post(line, date=self.start), OBEYED, key=(f"k-{secret}", 0, secret.encode(), 0))
+
+    def drop(self):
+        place, file = self.standing()
+        return Wish("drop", post(f"file drop {' '.join(place)}", date=self.start), OBEYED, place) if file else self.new()
+
+
+def path_of(place):
+    return b"/" + quoted("/".join(place), "/")
+
+
+# ---- what clients were told
+
+
+class Ledger:
+    """What clients were told by the office, over all kills; and what stood behind a kill though nobody was told."""
+
+    def __init__(self):
+        self.changed = threading.Condition()
+        self.receipts = {}  # of each number what its receipt says
+        self.standing = {}  # of each place the number and the bytes of its file
+        self.keys = {(ID, 1, SECRET, 0)}
+        self.last = 0  # the greatest number behind the last kill
+        self.answers = collections.Counter()
+        self.told = self.untold = 0
+        self.faults = []
+
+    def wait_for(self, total):
+        """Whether so many answers came."""
+        with self.changed:
+            return self.changed.wait_for(lambda: self.answers.total() >= total, 3 * SECONDS)
+
+    def take(self, wish, found):
+        """A client was answered so."""
+        with self.changed:
+            fault = self.upload(wish, found) if wish.owed is None else difference(found, wish.owed)
+            self.faults += [f"{wish.kind} {wish.place}: {fault}"[:500]] if fault else []
+            if wish.kind == "key":
+                self.keys.add(wish.key)
+            if wish.kind == "drop":
+                self.standing.pop(wish.place, None)
+            self.answers[wish.kind] += 1
+            self.changed.notify_all()
+
+    def upload(self, wish, found):
+        """What is wrong with the answer to an upload."""
+        digits = re.search(rb"receipt (\d+) ", found)
+        number = int(digits[1]) if digits else 0
+        if found != receipt(number, wish.data):
+            return f"{found}"
+        if not self.may_add(wish):
+            return difference(number, self.standing[wish.place][0])
+        if number <= self.last or number in self.receipts:
+            return f"the number {number} was given before"
+        self.told += 1
+        self.add(wish, number)
+        return None
+
+    def may_add(self, wish):
+        """Whether other bytes stand at the place of this upload, or none."""
+        return wish.owed is None and self.standing.get(wish.place, (0, None))[1] != wish.data
+
+    def add(self, wish, number):
+        self.receipts[number] = wish.row
+        self.standing[wish.place] = number, wish.data
+
+    # -- what a kill left
+
+    def compare_receipts(self, rows, sent):
+        """The rows of a manifest: those that clients were told, and those of uploads that were sent and not answered."""
+        found = {int(row[0]): tuple(row[1:5]) for row in rows}
+        if [int(row[0]) for row in rows] != list(range(1, len(rows) + 1)):
+            yield f"the numbers are not 1 to {len(rows)}"
+        for number in [number for number, row in self.receipts.items() if found.get(number) != row]:
+            yield f"receipt {number} says {found.get(number)}, and a client was told {self.receipts[number]}"
+        waiting = {wish.row: wish for wish in sent if self.may_add(wish)}
+        for number in sorted(found.keys() - self.receipts.keys()):
+            wish = waiting.pop(found[number], None)
+            if wish is None:
+                yield f"receipt {number} is of no upload that was sent: {found[number]}"
+                continue
+            self.untold += 1
+            self.add(wish, number)
+        self.last = len(rows)
+
+    def compare_files(self, files, sent):
+        """The number at each place: each receipt's file stands, but for one that a client may have dropped."""
+        for wish in sent:
+            if wish.kind == "drop" and wish.place not in files:
+                self.standing.pop(wish.place, None)
+        owed = {(place, number) for place, (number, _) in self.standing.items()}
+        wrong = sorted(owed ^ set(files.items()))
+        if wrong:
+            yield f"{len(wrong)} files were lost, or stand too many: {wrong[:3]}"
+
+    def compare_keys(self, keys, sent):
+        asked = {wish.key for wish in sent if wish.kind == "key"}
+        wrong = (self.keys - keys) | (keys - self.keys - asked)
+        if wrong:
+            yield f"{len(wrong)} keys were lost, or stand too many: {sorted(wrong)[:3]}"
+        self.keys |= keys & asked
+
+
+# ---- kills
+
+
+def copied(drop, file):
+    """A copy of the office file and what stands beside it."""
+    folder = drop.path("copy")
+    shutil.rmtree(folder, ignore_errors=True)
+    folder.mkdir()
+    for it in drop.folder.glob(f"{file.name}*"):
+        shutil.copy(it, folder)
+    return folder / file.name
+
+
+def compared(drop, file, ledger, clients):
+    """What is wrong with the office file as it is now. The clients then know what is owed when they ask again."""
+    copy = copied(drop, file)
+    sent = [client.wish for client in clients if client.wish and client.is_sent]
+    integrity = stock(copy, "PRAGMA integrity_check")
+    found = drop.run("manifest", file)
+    files = {row[:2]: row[2] for row in tables.rows(copy, "SELECT box, name, receipt FROM files")}
+    keys = set(tables.rows(copy, "SELECT id, role, secret, revoked FROM keys"))
+    faults = [difference(integrity, "ok"), unlike(found, list(receipts(copy)))]
+    faults += ledger.compare_receipts(read(found.out)[1:], sent)
+    faults += ledger.compare_files(files, sent)
+    faults += ledger.compare_keys(keys, sent)
+    for client in clients:
+        client.wish = again(client.wish, files, keys)
+    return faults
+
+
+def again(wish, files, keys):
+    """The same request, which a command of the desk bars that was done."""
+    is_done = wish and (wish.kind == "key" and wish.key in keys or wish.kind == "drop" and wish.place not in files)
+    return dataclasses.replace(wish, owed=answer(36)) if is_done else wish
+
+
+def kill_once(drop, file, ledger, clients, source):
+    """Serves the clients up to a random moment. What is wrong then."""
+    killed, total = threading.Event(), ledger.answers.total() + source.randrange(MOST_ANSWERS)
+    with Server(drop, file, 10**6) as server, concurrent.futures.ThreadPoolExecutor(len(clients)) as pool:
+        works = [pool.submit(client.work, server, killed) for client in clients]
+        came = ledger.wait_for(total)
+        time.sleep(source.uniform(0, LONGEST_PAUSE))
+        killed.set()
+        server.process.send_signal(signal.SIGKILL)
+        owed = dataclasses.replace(server.owed_end(False), status=-signal.SIGKILL)
+        faults = [None if came else "the answers did not come", difference(server.end(), owed)]
+        faults += [work.result() for work in works]
+    faults += [*ledger.faults, *compared(drop, file, ledger, clients)]
+    ledger.faults.clear()
+    return "; ".join(filter(None, faults)) or None
+
+
+def served_on(drop, file, ledger, clients, count):
+    """The program goes on once more and ends: each client asks again what it got no answer to, or something new."""
+    server = Server(drop, file, len(clients))
+    with server:
+        for client in clients:
+            client.ask_some(server, 1)
+        count.add("the end", difference(server.end(), server.owed_end(False)))
+    faults = [*ledger.faults, *compared(drop, file, ledger, clients)]
+    count.add("the office at the end", "; ".join(filter(None, faults)) or None)
+
+
+def test_kills(drop, count, kills, seed):
+    """One office file over all kills, up to the first that something is wrong behind."""
+    print(f"the seed is {seed}")
+    file, ledger, source, waiting = drop.office("killed"), Ledger(), random.Random(seed), 0
+    for name, mode in [(KEEPS, 0), (REPLACES, 1)]:
+        tables.add_box(file, tables.Box(name, max_files=10**6, mode=mode))
+    clients = [Client(f"client {number}", seed, ledger) for number in range(CLIENTS)]
+    for number in range(1, kills + 1):
+        fault = kill_once(drop, file, ledger, clients, source)
+        waiting += sum(client.wish is not None for client in clients)
+        count.add(f"kill {number} of seed {seed}", fault)
+        if fault:
+            return
+    served_on(drop, file, ledger, clients, count)
+    print(f"{kills} kills: {ledger.answers.total()} answers, {ledger.told} new receipts that clients were told, {ledger.untold} that "
+          f"stood untold, {waiting} requests cut off")
+    count.add("receipts that were told", None if ledger.told >= kills * LEAST_RECEIPTS else f"{ledger.told} are too few")
+    count.add("requests that were cut off", None if waiting >= kills else f"{waiting} are too few")
+    count.add("each kind of request", difference(sorted(ledger.answers), sorted(KINDS)))
+
+
+def main():
+    parser = argparse.ArgumentParser(description=__doc__.splitlines()[0])
+    parser.add_argument("--kills", type=int, default=KILLS)
+    parser.add_argument("--seed", type=int, default=random.SystemRandom().randrange(10**9))
+    words = parser.parse_args()
+    run_all([functools.partial(test_kills, kills=words.kills, seed=words.seed)])
+
+
+if __name__ == "__main__":
+    main()
