@@ -331,8 +331,8 @@ def states_of(session, whole, file):
 
 def each_number(one):
     """What each number gives, from 1 up to the first at which there is no allocation left, many side by side."""
-    for first in itertools.count(1, 128):
-        for number, (run, is_refused, wrong) in enumerate(kit.side_by_side(one, range(first, first + 128)), first):
+    for first in itertools.count(1, 32):
+        for number, (run, is_refused, wrong) in enumerate(kit.side_by_side(one, range(first, first + 32)), first):
             yield number, run, is_refused, wrong
             if not is_refused:
                 return
