@@ -329,31 +329,35 @@ def states_of(session, whole, file):
     return states
 
 
-def each_number(one):
-    """What each number gives, from 1 up to the first at which there is no allocation left, many side by side."""
-    for first in itertools.count(1, 32):
+def each_number(one, begin):
+    """What each number gives, up to the first at which there is no allocation left, many side by side."""
+    for first in itertools.count(begin, 32):
         for number, (run, is_refused, wrong) in enumerate(kit.side_by_side(one, range(first, first + 32)), first):
             yield number, run, is_refused, wrong
             if not is_refused:
                 return
 
 
-def swept(name, one, right, count):
-    """Refuses every allocation in turn, and tells how many there were."""
-    kinds = collections.Counter()
-    for number, run, is_refused, wrong in each_number(one):
+def swept(name, one, right, count, begin=1):
+    """Refuses every allocation in turn, from this number on, and tells how many there were, and at which one 40 came first."""
+    kinds, first = collections.Counter(), 0
+    for number, run, is_refused, wrong in each_number(one, begin):
         if wrong or not is_refused and run != right:
             count.add(name, f"with allocation {number} refused: {wrong or run}"[:1000])
-            return number
-        kinds["its answers" if run == right else "out of memory" if run.status else "refusal 40"] += is_refused
-    print(f"{name}: {number - 1} refused, {', '.join(f'{many} times {kind}' for kind, many in kinds.items())}")
+            return 0, begin
+        kind = "its answers" if run == right else "out of memory" if run.status else "refusal 40"
+        kinds[kind] += is_refused
+        first = first or (number if kind == "refusal 40" else 0)
+    refused = number - begin
+    print(f"{name}: {refused} refused, {', '.join(f'{many} times {kind}' for kind, many in kinds.items())}")
     count.add(name, None if kinds["refusal 40"] else "no allocation that was refused was answered with 40")
-    return number - 1
+    return refused, first
 
 
 def test_sessions(program, folder, count):
-    """Each session, in memory and over a file."""
-    whole, total = folder / "swept", 0
+    """Each session, in memory and over a file. What the opening of the file asks for is refused in the first session alone; the
+    others begin a little before the first number at which that one was answered."""
+    whole, total, begin = folder / "swept", 0, 1
     made = kit.run([program, "init", whole, "--clerk", ID, "--secret", SECRET.decode()])
     count.add("an office file for sessions", None if made == kit.Run(0, b"", b"") else f"{made}")
     for number, session in enumerate(sessions()):
@@ -362,10 +366,11 @@ def test_sessions(program, folder, count):
         second.write_bytes(b"".join(probe.asked for probe in session.probes))
         streams = [stream, second] if session.probes else [stream]
         one = in_memory(program, streams, bearable(session, session.probes))
-        total += swept(f"{session.name}, in memory", one, right_run(session, session.probes), count)
+        total += swept(f"{session.name}, in memory", one, right_run(session, session.probes), count)[0]
         states = states_of(session, whole, folder / f"states-{number}")
         one = over_file(program, stream, bearable(session, ()), whole, states)
-        total += swept(f"{session.name}, over a file", one, right_run(session, ()), count)
+        refused, answered = swept(f"{session.name}, over a file", one, right_run(session, ()), count, begin)
+        total, begin = total + refused, begin if number else max(1, answered - 32)
     print(f"sessions: {total} allocations refused in all")
     count.add("allocations refused in sessions", None if total >= LEAST_REFUSALS else f"{total} are too few")
 
