@@ -11,7 +11,6 @@ use Rattle.keeper.specs.Keeping.{LeavesEither}
 use Rattle.dropoffice.specs.declared.commanding.DeskFault.{DeskFault}
 use Rattle.dropoffice.specs.declared.commanding.DeskFault.TheVariants as fault
 use Rattle.dropoffice.specs.Enduring.{AddsStanding, AddsAsked, Lasts, changed, unchanged, Endures, IsAsked, RefusedLasts, UndoneLasts}
-use Rattle.dropoffice.specs.Kept.{IsLeft}
 use Rattle.dropoffice.specs.Offices.{IsAnswered}
 use Rattle.dropoffice.specs.Replying.{IsReplied}
 

@@ -84,7 +84,7 @@ impl<K: Keeper> Office<K> {
     // Does a command that has its form, where it is possible.
     fn obey(&mut self, command: &Command<'_>) -> Result<(), DeskFault>
         ensures does { (s : State) → IsKept (K.means self.old.keeper) (K.is_honest self.new.keeper) s → HasForm (command_of command.now)
-            → OnOk result ((after : State) × IsObeyed s (command_of command.now) after 
+            → OnOk result ((after : State) × IsObeyed s (command_of command.now) after
             × IsLeft (Endures K.means K.leaves K.leaves_whole self.old.keeper self.new.keeper s) after) }
         ensures refused { (s : State) → IsKept (K.means self.old.keeper) (K.is_honest self.new.keeper) s
             → result ≡ Err DeskFault.NotPossible → IsPossible s (command_of command.now) → ⊥ }
@@ -115,14 +115,15 @@ impl<K: Keeper> Office<K> {
         }
     }
 
-    /// Does what a line of the desk says; `desk::read_command` tells its forms.
+    /// Does what a line of the desk says; `desk::read_command` tells its forms. What was done outlasts a crash.
     ///
     /// # Errors
     ///
     /// The state is as it was. `Malformed` comes where the line is no command, and `NotPossible` where the office's state bars
     /// the command that it is; `Kept` where the keeper failed, or memory was refused for the rule of a box.
+    /// After `Kept` a crash may leave the state with the line done, whole.
     pub fn desk(&mut self, line: &[u8]) -> Result<(), DeskFault>
-        ensures obeys { (s : State) → IsKept (K.means self.old.keeper) (K.is_honest self.new.keeper) s 
+        ensures obeys { (s : State) → IsKept (K.means self.old.keeper) (K.is_honest self.new.keeper) s
             → IsObeyedBy (Endures K.means K.leaves K.leaves_whole self.old.keeper self.new.keeper s) s line.now result }
         ensures kept { IfErr result (λ f. IsKeepers f → Rose (K.faults self.old.keeper) (K.faults self.new.keeper) ⊎ HasListedRule line.now) }
         ensures store { result ≡ Err (DeskFault.Kept KeepFault.Store) → K.has_store }

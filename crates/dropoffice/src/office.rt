@@ -97,6 +97,9 @@ impl<K: Keeper> Office<K> {
     /// as it was. Memory that an answer needs is asked for before anything is changed, so an upload or a
     /// command that took effect is never answered with 40. A method that is not served and a target that is malformed are
     /// refused without memory, and never with 40.
+    ///
+    /// What was answered outlasts a crash: one that follows leaves the state after, and nothing else; or, where nothing was
+    /// changed, nothing new but the standing state. After a 40 it may also leave the state with this request, whole.
     pub fn answer(&mut self, message: &Message<'_>, now: Moment) -> Answer
         ensures answers { (s : State) → IsKept (K.means self.old.keeper) (K.is_honest self.new.keeper) s
             → IsAnswered (Endures K.means K.leaves K.leaves_whole self.old.keeper self.new.keeper s) s (request_in message.now) now result }
