@@ -1,54 +1,7 @@
 //! What an office does in a day, over any keeper.
-use boxes::{BoxRow, Change, Command, Mode, NameRule, NewFile, Role};
+use boxes::{Change, Command};
 use keeper::{KeepFault, Keeper};
-use sigv4::Sha;
-use trials::boxed::add_box;
-use trials::published::ID;
-
-/// A box that takes other bytes, always open, of so many bytes and files at most.
-pub(crate) const ROOMY: BoxRow = BoxRow {
-    opens: 0,
-    closes: 253_402_300_799,
-    days: [true; 7],
-    from_minute: 0,
-    to_minute: 1440,
-    quota: 1_000_000_000_000,
-    max_files: 9,
-    mode: Mode::Replace,
-    rule: NameRule::Any,
-};
-
-/// Sets a file of the box `in`, by the next receipt.
-pub(crate) fn set_file<K: Keeper>(
-    keeper: &mut K,
-    name: &[u8],
-    bytes: &[u8],
-) -> Result<u64, KeepFault> {
-    let number = keeper.next_number()?;
-    let mut sha = Sha::new();
-    sha.update(bytes);
-    let file = NewFile {
-        number,
-        in_box: b"in",
-        name,
-        size: bytes.len() as u64,
-        digest: sha.finish(),
-        moment: 1_369_353_600,
-        key: ID,
-    };
-    keeper.apply(&Change::SetFile(file, bytes))?;
-    Ok(number)
-}
-
-/// A key `k2` and a box `in` are added.
-pub(crate) fn begin<K: Keeper>(keeper: &mut K) -> Result<(), KeepFault> {
-    keeper.apply(&Change::Desk(Command::AddKey {
-        id: b"k2",
-        role: Role::Link,
-        secret: b"s3cr3t",
-    }))?;
-    add_box(keeper, &ROOMY)
-}
+use trials::errands::{begin, set_file};
 
 /// The box is closed at a moment, a file dropped, and the key `k2` revoked.
 fn end<K: Keeper>(keeper: &mut K) -> Result<(), KeepFault> {

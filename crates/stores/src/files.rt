@@ -1,4 +1,4 @@
-//! Office files on disks in memory, and rows and a day over them and over the keeper in memory.
+//! Office files on disks in memory, and rows and a day over them, also where a call is refused.
 use crate::days::{THAT_DAY, a_day};
 use crate::opening::stays;
 use boxes::OfficeRow;
@@ -9,8 +9,10 @@ use sqlite_disk::{Disk, Memory};
 use sqlkeeper::SqlKeeper;
 use std::alloc::Global;
 use std::test::Fail;
+use trials::errands::{ERRANDS, Errand};
 use trials::published::{ID, SECRET};
 use trials::rows::ROWS;
+use trials::watched::Watched;
 
 /// A connection to files, which are of a database or empty.
 pub(crate) fn connect<D: Disk + Drop>(
@@ -59,9 +61,35 @@ fn a_day_in_a_file(rt: HostRuntime) -> Result<(), Fail> {
 #[test]
 fn rows_are_answered_from_a_file(rt: HostRuntime) -> Result<(), Fail> {
     for row in ROWS {
-        let mut office = begun(rt.alloc(), row.east())?;
+        let Office { keeper, alloc } = begun(rt.alloc(), row.east())?;
+        let mut office = Office::new(alloc, Watched::new(keeper));
         row.run(&mut office)?;
-        stays(rt.alloc(), office)?;
+        assert!(rt; office.keeper.calls > 0);
+        assert_eq!(rt; office.keeper.faults, 0);
+        stays(alloc, Office::new(alloc, office.keeper.inner))?;
     }
+    Ok(())
+}
+
+// How many calls an errand makes; each is refused in turn.
+fn calls_of(alloc: Global, errand: Errand) -> Result<u64, Fail> {
+    for call in 1..20u64 {
+        let office = begun(alloc, 0)?;
+        if !errand.is_refused_at(alloc, office.keeper, call)? {
+            return Ok(call - 1);
+        }
+    }
+    Err("calls without end".into())
+}
+
+#[test]
+fn each_call_is_refused_in_turn(rt: HostRuntime) -> Result<(), Fail> {
+    let mut refused = 0u64;
+    for errand in ERRANDS {
+        let calls = calls_of(rt.alloc(), errand)?;
+        assert!(rt; calls >= 3, "{errand:?}");
+        refused = refused.saturating_add(calls);
+    }
+    println!(rt; "{refused} refused")?;
     Ok(())
 }

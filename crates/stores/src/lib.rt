@@ -15,5 +15,3 @@ mod sizes;
 mod steps;
 #[cfg(test)]
 mod stops;
-#[cfg(test)]
-mod telling;

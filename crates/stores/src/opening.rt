@@ -1,6 +1,5 @@
 //! Office files that are closed and opened again.
 use crate::files::connect;
-use crate::telling::told;
 use dropoffice::Office;
 use sqlite::{Alter, Connection, FileStore};
 use sqlite_disk::Disk;
@@ -8,6 +7,7 @@ use sqlkeeper::SqlKeeper;
 use std::alloc::Global;
 use std::test::Fail;
 use trials::rows::holds;
+use trials::telling::told;
 
 /// Opens an office by its connection.
 pub(crate) fn open<S: Alter + Drop>(

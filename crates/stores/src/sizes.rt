@@ -1,5 +1,4 @@
 //! Files of many sizes, and their pieces. The digests are by `sha256sum`.
-use crate::days::ROOMY;
 use crate::files::begun;
 use crate::opening::{open, stays};
 use dropoffice::Office;
@@ -10,6 +9,7 @@ use sqlkeeper::SqlKeeper;
 use std::alloc::Global;
 use std::test::Fail;
 use trials::boxed::add_box;
+use trials::errands::ROOMY;
 use trials::published::DATE;
 use trials::rows::{Row, holds, upload};
 

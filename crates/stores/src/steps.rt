@@ -1,15 +1,13 @@
-//! What is done to an office file at one time: it is made, changed once, or takes one upload.
-use crate::days::{ROOMY, begin, set_file};
+//! What is done to an office file: it is made, changed, or asked by a connection.
 use boxes::{Change, Command, OfficeRow, Role};
-use dropoffice::{Office, SessionEnd};
+use dropoffice::Office;
 use keeper::{KeepFault, Keeper};
 use sqlite::{Alter, Connection};
 use sqlkeeper::{OpenFault, SqlKeeper};
 use std::alloc::Global;
 use std::test::Fail;
-use trials::boxed::{put, sent};
-use trials::owed::SECOND_X;
-use trials::published::{DATE, ID, SECRET, TRY_AGAIN};
+use trials::errands::{Errand, ROOMY, begin, set_file};
+use trials::published::{ID, SECRET};
 use trials::rows::holds;
 
 /// What is done to an office.
@@ -17,8 +15,10 @@ use trials::rows::holds;
 pub(crate) enum Step {
     /// It is made.
     Create,
-    /// A key, a box and a file are added, which the later steps find.
-    Prepare,
+    /// A key and a box are added.
+    Begin,
+    /// A file of the bytes `abc` is set.
+    SetFirst,
     /// A file of a new name is set.
     SetNew,
     /// A file of two pieces is set in the place of another.
@@ -28,8 +28,8 @@ pub(crate) enum Step {
     AddBox,
     CloseBox,
     DropFile,
-    /// An upload by a good link comes.
-    Upload,
+    /// A request by a good link comes.
+    Ask(Errand),
 }
 
 /// The steps that are commands of the desk.
@@ -41,12 +41,22 @@ pub(crate) const COMMANDS: [Step; 5] = [
     Step::DropFile,
 ];
 
-// A key, a box and a file are added.
-fn prepare<K: Keeper>(keeper: &mut K) -> Result<(), KeepFault> {
-    begin(keeper)?;
-    set_file(keeper, b"a.txt", b"abc")?;
-    Ok(())
-}
+/// A day of requests.
+pub(crate) const REQUESTS: [Step; 9] = [
+    Step::Ask(Errand::First),
+    Step::Ask(Errand::AddKey),
+    Step::Ask(Errand::Upload),
+    Step::Ask(Errand::Fetch),
+    Step::Ask(Errand::Repeat),
+    Step::Ask(Errand::AddBox),
+    Step::Ask(Errand::RevokeKey),
+    Step::Ask(Errand::DropFile),
+    Step::Ask(Errand::CloseBox),
+];
+
+const EMPTY: [Step; 1] = [Step::Begin];
+
+const WITH_A_FILE: [Step; 2] = [Step::Begin, Step::SetFirst];
 
 // The command of a step that is one.
 fn command_of(step: Step) -> Option<Command<'static>> {
@@ -76,18 +86,18 @@ fn add_box<K: Keeper>(keeper: &mut K) -> Result<(), KeepFault> {
     }))
 }
 
-// Whether an upload is answered with its receipt; else it is answered with 40.
-fn uploads<K: Keeper>(office: &mut Office<K>) -> Result<bool, Fail> {
-    let stream = put(office.alloc, b"/in/b.txt", b"x")?;
-    let (text, end) = sent(office, &stream, DATE)?;
-    if text.as_slice() == SECOND_X && end == SessionEnd::Ended {
-        return Ok(true);
+/// Whether an office is made, and no more.
+pub(crate) fn is_making(steps: &[Step]) -> bool {
+    matches!(steps, [Step::Create])
+}
+
+/// The steps before these, in an office that was made.
+pub(crate) fn earlier_of(steps: &[Step]) -> &'static [Step] {
+    match steps.first() {
+        None | Some(Step::Create) => &[],
+        Some(Step::Ask(Errand::First)) => &EMPTY,
+        Some(_) => &WITH_A_FILE,
     }
-    holds(
-        text.as_slice() == TRY_AGAIN && end == SessionEnd::Refused(40),
-        "another answer",
-    )?;
-    Ok(false)
 }
 
 impl Step {
@@ -96,34 +106,50 @@ impl Step {
         if let Some(command) = command_of(self) {
             return Ok(office.keeper.apply(&Change::Desk(command)).is_ok());
         }
+        let keeper = &mut office.keeper;
         match self {
-            Step::Prepare => Ok(prepare(&mut office.keeper).is_ok()),
-            Step::SetNew => Ok(set_file(&mut office.keeper, b"b.txt", b"x").is_ok()),
-            Step::Replace => Ok(set_file(&mut office.keeper, b"a.txt", &[b'a'; 70_000]).is_ok()),
-            Step::AddBox => Ok(add_box(&mut office.keeper).is_ok()),
-            _ => uploads(office),
+            Step::Begin => Ok(begin(keeper).is_ok()),
+            Step::SetFirst => Ok(set_file(keeper, b"a.txt", b"abc").is_ok()),
+            Step::SetNew => Ok(set_file(keeper, b"b.txt", b"x").is_ok()),
+            Step::Replace => Ok(set_file(keeper, b"a.txt", &[b'a'; 70_000]).is_ok()),
+            Step::AddBox => Ok(add_box(keeper).is_ok()),
+            Step::Ask(errand) => errand.run(office),
+            _ => Err("no step of an office that is made".into()),
         }
     }
+}
 
-    /// Does the step by a connection, to an office that is opened for it or made.
-    pub(crate) fn run_over<S: Alter + Drop>(
-        self,
-        alloc: Global,
-        conn: Connection<S>,
-    ) -> Result<(bool, Connection<S>), Fail> {
-        if self == Step::Create {
-            return Ok(make(alloc, conn));
+/// How many steps an office acknowledges: the first that it does not is the last.
+pub(crate) fn run_each<K: Keeper>(office: &mut Office<K>, steps: &[Step]) -> Result<usize, Fail> {
+    let mut done = 0usize;
+    for step in steps {
+        if !step.run(office)? {
+            break;
         }
-        match SqlKeeper::open(alloc, conn) {
-            Ok(keeper) => {
-                let mut office = Office::new(alloc, keeper);
-                let done = self.run(&mut office)?;
-                Ok((done, office.keeper.close()))
-            }
-            Err((fault, conn)) => {
-                holds(fault == OpenFault::Store, "another fault")?;
-                Ok((false, conn))
-            }
+        done = done.saturating_add(1);
+    }
+    Ok(done)
+}
+
+/// Does the steps by a connection, to an office that is opened for them or made; tells how many were acknowledged.
+pub(crate) fn run_over<S: Alter + Drop>(
+    alloc: Global,
+    conn: Connection<S>,
+    steps: &[Step],
+) -> Result<(usize, Connection<S>), Fail> {
+    if is_making(steps) {
+        let (made, conn) = make(alloc, conn);
+        return Ok((usize::from(made), conn));
+    }
+    match SqlKeeper::open(alloc, conn) {
+        Ok(keeper) => {
+            let mut office = Office::new(alloc, keeper);
+            let done = run_each(&mut office, steps)?;
+            Ok((done, office.keeper.close()))
+        }
+        Err((fault, conn)) => {
+            holds(fault == OpenFault::Store, "another fault")?;
+            Ok((0, conn))
         }
     }
 }

@@ -1,46 +1,40 @@
 //! A disk stops at each of its calls in turn, and the office is opened again from what is left.
 use crate::files::connect;
-use crate::steps::{COMMANDS, Step, make};
-use crate::telling::told;
+use crate::steps::{COMMANDS, REQUESTS, Step, earlier_of, is_making, make, run_each, run_over};
 use boxes::OfficeRow;
 use dropoffice::Office;
-use keeper::{Keeper, Shelf};
+use keeper::Shelf;
 use sqlite::{Alter, Connection, FileStore, Files, Options};
 use sqlite_disk::{Crash, Disk, Fuse, Memory};
 use sqlkeeper::{OpenFault, SqlKeeper};
 use std::alloc::{AllocError, Global};
 use std::test::Fail;
+use trials::errands::Errand;
 use trials::published::{ID, SECRET};
 use trials::rows::holds;
+use trials::telling::told;
 
-// What every question is answered before a step and after it; nothing where nothing is there.
-#[derive(Drop)]
-struct Wants {
-    before: Option<Vec<u8>>,
-    after: Option<Vec<u8>>,
-}
+// What every question is answered at one time; nothing where nothing is there.
+type Told = Option<Vec<u8>>;
 
-// Both, as a keeper of an office that begins has them.
-fn wants_from<K: Keeper + Drop>(alloc: Global, keeper: K, step: Step) -> Result<Wants, Fail> {
-    let mut office = Office::new(alloc, keeper);
-    if step == Step::Create {
-        let after = Some(told(alloc, &mut office.keeper)?);
-        return Ok(Wants {
-            before: None,
-            after,
-        });
+// What is told before the first of these steps and after each, by the keeper in memory.
+fn states_of(alloc: Global, steps: &[Step]) -> Result<Vec<Told>, Fail> {
+    let mut office = Office::new(alloc, Shelf::new(alloc, OfficeRow { east: 0 }, ID, SECRET)?);
+    let mut states = Vec::new(alloc);
+    if is_making(steps) {
+        states.push(None)?;
+        states.push(Some(told(alloc, &mut office.keeper)?))?;
+        return Ok(states);
     }
-    holds(Step::Prepare.run(&mut office)?, "not prepared in memory")?;
-    let before = Some(told(alloc, &mut office.keeper)?);
-    holds(step.run(&mut office)?, "not done in memory")?;
-    let after = Some(told(alloc, &mut office.keeper)?);
-    Ok(Wants { before, after })
-}
-
-// Both, as the keeper in memory has them.
-fn wants_of(alloc: Global, step: Step) -> Result<Wants, Fail> {
-    let shelf = Shelf::new(alloc, OfficeRow { east: 0 }, ID, SECRET)?;
-    wants_from(alloc, shelf, step)
+    let earlier = earlier_of(steps);
+    let done = run_each(&mut office, earlier)?;
+    holds(done == earlier.len(), "not prepared in memory")?;
+    states.push(Some(told(alloc, &mut office.keeper)?))?;
+    for step in steps {
+        holds(step.run(&mut office)?, "not done in memory")?;
+        states.push(Some(told(alloc, &mut office.keeper)?))?;
+    }
+    Ok(states)
 }
 
 // The bytes of two files.
@@ -57,10 +51,9 @@ enum Side {
     Database,
 }
 
-// A step, in which one disk takes so many calls and no more.
+// One disk takes so many calls and no more.
 #[derive(Clone, Copy, Debug)]
 struct Stop {
-    step: Step,
     side: Side,
     calls: u64,
 }
@@ -108,10 +101,10 @@ fn image_of(alloc: Global, disks: &Files<Fuse<Memory>>) -> Result<Image, AllocEr
     })
 }
 
-// Whether a step was acknowledged, and the disks after it.
+// How many steps were acknowledged, and the disks after them.
 #[derive(Drop)]
 struct Run<D: Disk + Drop> {
-    done: bool,
+    done: usize,
     disks: Files<D>,
 }
 
@@ -123,31 +116,30 @@ fn closed<D: Disk + Drop>(conn: Connection<FileStore<D>>) -> Files<D> {
     }
 }
 
-// Opens the files, does the step, and closes them.
-fn run_on<D: Disk + Drop>(alloc: Global, disks: Files<D>, step: Step) -> Result<Run<D>, Fail> {
+// Opens the files, does the steps, and closes them.
+fn run_on<D: Disk + Drop>(alloc: Global, disks: Files<D>, steps: &[Step]) -> Result<Run<D>, Fail> {
     if !disks.may_be_used() {
         return Err("no disk".into());
     }
     match Connection::open_files(alloc, disks, Options::new(7)) {
         Ok(conn) => {
-            let (done, conn) = step.run_over(alloc, conn)?;
+            let (done, conn) = run_over(alloc, conn, steps)?;
             let disks = closed(conn);
             Ok(Run { done, disks })
         }
         Err((_, rest)) => Ok(Run {
-            done: false,
+            done: 0,
             disks: rest.into_files(),
         }),
     }
 }
 
-// The files that a step begins with.
-fn image_for(alloc: Global, step: Step) -> Result<Image, Fail> {
+// The files that these steps begin with.
+fn image_for(alloc: Global, steps: &[Step]) -> Result<Image, Fail> {
     let mut disks = disks_of(alloc, b"", b"")?;
-    if step != Step::Create {
-        for earlier in [Step::Create, Step::Prepare] {
-            disks = run_on(alloc, disks, earlier)?.disks;
-        }
+    if !is_making(steps) {
+        disks = run_on(alloc, disks, &[Step::Create])?.disks;
+        disks = run_on(alloc, disks, earlier_of(steps))?.disks;
     }
     Ok(image_of(alloc, &disks)?)
 }
@@ -158,8 +150,8 @@ fn is_bare<S: Alter + Drop>(alloc: Global, conn: Connection<S>) -> Result<(), Fa
     holds(made, "a part of an office")
 }
 
-// What the office of a connection answers to every question; nothing where nothing is there.
-fn found<S: Alter + Drop>(alloc: Global, conn: Connection<S>) -> Result<Option<Vec<u8>>, Fail> {
+// What the office of a connection tells; nothing where nothing is there.
+fn found<S: Alter + Drop>(alloc: Global, conn: Connection<S>) -> Result<Told, Fail> {
     match SqlKeeper::open(alloc, conn) {
         Ok(keeper) => {
             let mut keeper = keeper;
@@ -173,9 +165,9 @@ fn found<S: Alter + Drop>(alloc: Global, conn: Connection<S>) -> Result<Option<V
     }
 }
 
-// What is found on disks.
-fn found_on<D: Disk + Drop>(alloc: Global, disks: Files<D>) -> Result<Option<Vec<u8>>, Fail> {
-    found(alloc, connect(alloc, disks)?)
+// What is found in two files.
+fn found_in(alloc: Global, log: &[u8], db: &[u8]) -> Result<Told, Fail> {
+    found(alloc, connect(alloc, disks_of(alloc, log, db)?)?)
 }
 
 // Whether a disk takes no more calls.
@@ -183,110 +175,245 @@ fn has_stopped<D: Disk>(disk: &mut D) -> bool {
     !disk.may_be_used() || disk.len().is_err()
 }
 
-// What must be found after a stop: the office after the step, or, where the step was not acknowledged, the one before it.
-#[derive(Clone, Copy)]
-struct Verdict<'a> {
+// What a run leaves, of which one disk stopped, or none: how many steps were acknowledged, and the files, as they were
+// written, and without what was not synced.
+#[derive(Drop)]
+struct Left {
     stop: Stop,
-    done: bool,
-    wants: &'a Wants,
+    done: usize,
+    stopped: bool,
+    written: Image,
+    synced: Image,
 }
 
-impl Verdict<'_> {
-    // Opens the office from these two files.
-    fn pass(&self, alloc: Global, log: &[u8], db: &[u8]) -> Result<(), Fail> {
-        let found = found_on(alloc, disks_of(alloc, log, db)?)?;
-        if found == self.wants.after || !self.done && found == self.wants.before {
+impl Left {
+    // The bytes of the file whose disk stops.
+    fn stopping(&self) -> &[u8] {
+        match self.stop.side {
+            Side::Log => &self.written.log,
+            Side::Database => &self.written.db,
+        }
+    }
+}
+
+// Where two texts differ first, and how many bytes there are from there to where they differ last.
+fn change(before: &[u8], after: &[u8]) -> (usize, usize) {
+    let same = before.iter().zip(after).take_while(|(a, b)| a == b).count();
+    let ends = before.iter().rev().zip(after.iter().rev());
+    let tail = if before.len() == after.len() {
+        ends.take_while(|(a, b)| a == b).count()
+    } else {
+        0
+    };
+    (same, after.len().saturating_sub(same).saturating_sub(tail))
+}
+
+// A write that broke off: the first of its bytes are those after it, and the others those before it.
+fn torn(alloc: Global, before: &[u8], after: &[u8], len: usize) -> Result<Vec<u8>, AllocError> {
+    let (new, _) = after.split_at(len.min(after.len()));
+    let mut bytes = Vec::from_slice(alloc, new)?;
+    bytes.extend_from_slice(before.get(len..).unwrap_or(b""))?;
+    Ok(bytes)
+}
+
+// How many stops there were, and in how many states of the files the office was opened.
+#[derive(Clone, Copy)]
+struct Count {
+    stops: u64,
+    states: u64,
+}
+
+impl Count {
+    fn plus(self, other: Count) -> Count {
+        Count {
+            stops: self.stops.saturating_add(other.stops),
+            states: self.states.saturating_add(other.states),
+        }
+    }
+}
+
+const NONE: Count = Count {
+    stops: 0,
+    states: 0,
+};
+
+// Steps, the files that they begin with, and what is told before them and after each.
+#[derive(Drop)]
+struct Plan<'a> {
+    steps: &'a [Step],
+    image: Image,
+    states: Vec<Told>,
+}
+
+impl Plan<'_> {
+    // Does the steps on disks of which one may stop.
+    fn left(&self, alloc: Global, stop: Stop) -> Result<Left, Fail> {
+        let disks = stopping(alloc, &self.image, stop)?;
+        let Run { done, mut disks } = run_on(alloc, disks, self.steps)?;
+        let stopped = has_stopped(&mut disks.log) || has_stopped(&mut disks.db);
+        if done < self.steps.len() && !stopped {
+            return Err(("not done, and no stop", self.steps.get(done), stop).into());
+        }
+        let written = image_of(alloc, &disks)?;
+        disks.log.crash();
+        disks.db.crash();
+        let synced = image_of(alloc, &disks)?;
+        Ok(Left {
+            stop,
+            done,
+            stopped,
+            written,
+            synced,
+        })
+    }
+
+    // The office of these files is the one after the steps that were acknowledged, or after the next one.
+    fn pass(&self, alloc: Global, left: &Left, log: &[u8], db: &[u8]) -> Result<(), Fail> {
+        let found = found_in(alloc, log, db)?;
+        let next = left.done.saturating_add(1);
+        if self.states.get(left.done) == Some(&found) || self.states.get(next) == Some(&found) {
             return Ok(());
         }
-        Err(("another office", self.stop, self.done).into())
+        Err(("another office", self.steps.get(left.done), left.stop).into())
     }
 
-    // Each file is as it was written, or has lost what was not synced.
-    fn pass_each(&self, alloc: Global, written: &Image, synced: &Image) -> Result<(), Fail> {
+    // Each file is as it was written, or has lost what was not synced; in how many states that is.
+    fn pass_each(&self, alloc: Global, left: &Left) -> Result<u64, Fail> {
+        let Left {
+            written,
+            synced,
+            ..
+        } = left;
         let logs_differ = written.log != synced.log;
         let dbs_differ = written.db != synced.db;
-        self.pass(alloc, &written.log, &written.db)?;
+        self.pass(alloc, left, &written.log, &written.db)?;
         if logs_differ {
-            self.pass(alloc, &synced.log, &written.db)?;
+            self.pass(alloc, left, &synced.log, &written.db)?;
         }
         if dbs_differ {
-            self.pass(alloc, &written.log, &synced.db)?;
+            self.pass(alloc, left, &written.log, &synced.db)?;
         }
         if logs_differ && dbs_differ {
-            self.pass(alloc, &synced.log, &synced.db)?;
+            self.pass(alloc, left, &synced.log, &synced.db)?;
         }
-        Ok(())
+        Ok(u64::from(1 + u8::from(logs_differ)) * u64::from(1 + u8::from(dbs_differ)))
     }
-}
 
-// Does a step on disks of which one may stop, and judges what is left; tells whether there was a stop.
-fn stops(alloc: Global, stop: Stop, image: &Image, wants: &Wants) -> Result<bool, Fail> {
-    let disks = stopping(alloc, image, stop)?;
-    let Run { done, mut disks } = run_on(alloc, disks, stop.step)?;
-    let stopped = has_stopped(&mut disks.log) || has_stopped(&mut disks.db);
-    if !done && !stopped {
-        return Err(("not done, and no stop", stop).into());
-    }
-    let written = image_of(alloc, &disks)?;
-    disks.log.crash();
-    disks.db.crash();
-    let synced = image_of(alloc, &disks)?;
-    let verdict = Verdict { stop, done, wants };
-    verdict.pass_each(alloc, &written, &synced)?;
-    Ok(stopped)
-}
-
-// The files hold what a step begins with.
-fn begins(alloc: Global, image: &Image, wants: &Wants) -> Result<(), Fail> {
-    let first = found_on(alloc, disks_of(alloc, &image.log, &image.db)?)?;
-    holds(first == wants.before, "another office before the step")
-}
-
-// A stop of one disk at each count of calls, up to the first at which there is none; there are some.
-fn each_stop(
-    alloc: Global,
-    step: Step,
-    side: Side,
-    image: &Image,
-    wants: &Wants,
-) -> Result<(), Fail> {
-    for calls in 0..1000u64 {
-        if !stops(alloc, Stop { step, side, calls }, image, wants)? {
-            return holds(calls > 0, "no stop");
+    // The call at which the disk stopped is a write that broke off after each eighth of its bytes; in how many states
+    // that is. The next stop is one call later, and shows what the whole write leaves.
+    fn pass_torn(&self, alloc: Global, left: &Left, next: &Left) -> Result<u64, Fail> {
+        let (first, len) = change(left.stopping(), next.stopping());
+        if len == 0 {
+            return Ok(0);
         }
+        for eighth in 1..8usize {
+            let part = first.saturating_add(len / 8 * eighth);
+            let bytes = torn(alloc, left.stopping(), next.stopping(), part)?;
+            match left.stop.side {
+                Side::Log => self.pass(alloc, left, &bytes, &left.written.db)?,
+                Side::Database => self.pass(alloc, left, &left.written.log, &bytes)?,
+            }
+        }
+        Ok(7)
     }
-    Err("stops without end".into())
+
+    // A stop of one disk at each count of calls, up to the first at which there is none; there are some.
+    fn each_stop(&self, alloc: Global, side: Side) -> Result<Count, Fail> {
+        let mut last = self.left(alloc, Stop { side, calls: 0 })?;
+        let mut states = self.pass_each(alloc, &last)?;
+        for calls in 1..2000u64 {
+            holds(last.stopped, "no stop")?;
+            let next = self.left(alloc, Stop { side, calls })?;
+            states = states.saturating_add(self.pass_each(alloc, &next)?);
+            if !next.stopped {
+                return Ok(Count {
+                    stops: calls,
+                    states,
+                });
+            }
+            states = states.saturating_add(self.pass_torn(alloc, &last, &next)?);
+            last = next;
+        }
+        Err("stops without end".into())
+    }
 }
 
-// Stops of both disks.
-fn stop_both(alloc: Global, step: Step) -> Result<(), Fail> {
-    let wants = wants_of(alloc, step)?;
-    let image = image_for(alloc, step)?;
-    begins(alloc, &image, &wants)?;
-    each_stop(alloc, step, Side::Log, &image, &wants)?;
-    each_stop(alloc, step, Side::Database, &image, &wants)
+// Stops of each of the two disks.
+fn stop_each(alloc: Global, steps: &[Step]) -> Result<Count, Fail> {
+    let plan = Plan {
+        steps,
+        image: image_for(alloc, steps)?,
+        states: states_of(alloc, steps)?,
+    };
+    let first = found_in(alloc, &plan.image.log, &plan.image.db)?;
+    holds(
+        plan.states.first() == Some(&first),
+        "another office before the steps",
+    )?;
+    let logs = plan.each_stop(alloc, Side::Log)?;
+    Ok(logs.plus(plan.each_stop(alloc, Side::Database)?))
+}
+
+// The same of each step alone.
+fn stop_alone(alloc: Global, steps: &[Step]) -> Result<Count, Fail> {
+    let mut count = NONE;
+    for step in steps {
+        count = count.plus(stop_each(alloc, &[*step])?);
+    }
+    Ok(count)
 }
 
 #[test]
 fn making_an_office_stops(rt: HostRuntime) -> Result<(), Fail> {
-    stop_both(rt.alloc(), Step::Create)
-}
-
-#[test]
-fn setting_files_stops(rt: HostRuntime) -> Result<(), Fail> {
-    stop_both(rt.alloc(), Step::SetNew)?;
-    stop_both(rt.alloc(), Step::Replace)
-}
-
-#[test]
-fn commands_stop(rt: HostRuntime) -> Result<(), Fail> {
-    for step in COMMANDS {
-        stop_both(rt.alloc(), step)?;
-    }
+    let Count { stops, states } = stop_each(rt.alloc(), &[Step::Create])?;
+    println!(rt; "{stops} stops, {states} states")?;
     Ok(())
 }
 
 #[test]
-fn an_upload_stops(rt: HostRuntime) -> Result<(), Fail> {
-    stop_both(rt.alloc(), Step::Upload)
+fn setting_files_stops(rt: HostRuntime) -> Result<(), Fail> {
+    let Count { stops, states } = stop_alone(rt.alloc(), &[Step::SetNew, Step::Replace])?;
+    println!(rt; "{stops} stops, {states} states")?;
+    Ok(())
+}
+
+#[test]
+fn commands_stop(rt: HostRuntime) -> Result<(), Fail> {
+    let Count { stops, states } = stop_alone(rt.alloc(), &COMMANDS)?;
+    println!(rt; "{stops} stops, {states} states")?;
+    Ok(())
+}
+
+#[test]
+fn requests_stop(rt: HostRuntime) -> Result<(), Fail> {
+    let steps = [
+        Step::Ask(Errand::Upload),
+        Step::Ask(Errand::Replace),
+        Step::Ask(Errand::Repeat),
+        Step::Ask(Errand::Fetch),
+    ];
+    let Count { stops, states } = stop_alone(rt.alloc(), &steps)?;
+    println!(rt; "{stops} stops, {states} states")?;
+    Ok(())
+}
+
+#[test]
+fn commands_by_request_stop(rt: HostRuntime) -> Result<(), Fail> {
+    let steps = [
+        Step::Ask(Errand::AddKey),
+        Step::Ask(Errand::RevokeKey),
+        Step::Ask(Errand::AddBox),
+        Step::Ask(Errand::CloseBox),
+        Step::Ask(Errand::DropFile),
+    ];
+    let Count { stops, states } = stop_alone(rt.alloc(), &steps)?;
+    println!(rt; "{stops} stops, {states} states")?;
+    Ok(())
+}
+
+#[test]
+fn a_day_of_requests_stops(rt: HostRuntime) -> Result<(), Fail> {
+    let Count { stops, states } = stop_each(rt.alloc(), &REQUESTS)?;
+    println!(rt; "{stops} stops, {states} states")?;
+    Ok(())
 }

@@ -1,30 +1,16 @@
 //! Streams that are cut at every place, over an office without boxes: answers and ends stay the same.
 use crate::fakes::{Cut, Sink, Source};
-use crate::published::{DATE, NO_BOX, REQUEST, given};
+use crate::published::{DATE, REQUEST, broken_off, broken_off_answers, given, joined};
 use dropoffice::SessionEnd;
 use sigv4::Moment;
 use std::alloc::Global;
 use std::test::Fail;
-
-const LACKING: &[u8] = b"PUT /in/x HTTP/1.1\r\nHost: a\r\nContent-Length: 3\r\n\r\nab";
-
-const NO_WHOLE_BODY: &[u8] =
-    b"HTTP/1.1 400 Bad Request\r\nContent-Type: text/plain\r\nContent-Length: 45\r\nConnection: close\r\n\r\nIncompleteBody 6 the input ended in the body\n";
 
 const NO_LENGTH: &[u8] =
     b"HTTP/1.1 400 Bad Request\r\nContent-Type: text/plain\r\nContent-Length: 45\r\nConnection: close\r\n\r\nInvalidRequest 4 Content-Length is malformed\n";
 
 const TOO_LARGE: &[u8] =
     b"HTTP/1.1 400 Bad Request\r\nContent-Type: text/plain\r\nContent-Length: 39\r\nConnection: close\r\n\r\nEntityTooLarge 5 the body is too large\n";
-
-// The parts, one behind the other.
-fn joined(alloc: Global, parts: &[&[u8]]) -> Result<Vec<u8>, Fail> {
-    let mut whole = Vec::new(alloc);
-    for part in parts {
-        whole.extend_from_slice(part)?;
-    }
-    Ok(whole)
-}
 
 // Whether the stream is answered so and ends so, read byte by byte and cut once at each place.
 fn is_answered(alloc: Global, stream: &[u8], want: &[u8], end: SessionEnd) -> Result<bool, Fail> {
@@ -52,8 +38,8 @@ fn is_answered(alloc: Global, stream: &[u8], want: &[u8], end: SessionEnd) -> Re
 #[test]
 fn a_body_that_lacks_behind_two_requests(rt: HostRuntime) -> Result<(), Fail> {
     let alloc = rt.alloc();
-    let stream = joined(alloc, &[REQUEST, REQUEST, LACKING])?;
-    let want = joined(alloc, &[NO_BOX, NO_BOX, NO_WHOLE_BODY])?;
+    let stream = broken_off(alloc)?;
+    let want = broken_off_answers(alloc)?;
     assert!(rt; is_answered(alloc, &stream, &want, SessionEnd::Refused(6))?);
     Ok(())
 }

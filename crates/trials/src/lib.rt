@@ -7,9 +7,12 @@
 mod answers;
 pub mod boxed;
 #[cfg(test)]
+mod connections;
+#[cfg(test)]
 mod counts;
 #[cfg(test)]
 mod cuts;
+pub mod errands;
 #[cfg(test)]
 mod exchanges;
 pub mod fakes;
@@ -37,7 +40,9 @@ mod sessions;
 mod sinks;
 #[cfg(test)]
 mod sockets;
+pub mod telling;
 #[cfg(test)]
 mod texts;
 #[cfg(test)]
 mod uploads;
+pub mod watched;

@@ -24,6 +24,9 @@ pub const NO_LENGTH: &[u8] =
 pub const NO_BODY_HERE: &[u8] =
     b"HTTP/1.1 400 Bad Request\r\nContent-Type: text/plain\r\nContent-Length: 43\r\n\r\nInvalidRequest 26 a body is not taken here\n";
 
+pub const NO_WHOLE_BODY: &[u8] =
+    b"HTTP/1.1 400 Bad Request\r\nContent-Type: text/plain\r\nContent-Length: 45\r\nConnection: close\r\n\r\nIncompleteBody 6 the input ended in the body\n";
+
 pub const LONG_NAME: &[u8] =
     b"HTTP/1.1 400 Bad Request\r\nContent-Type: text/plain\r\nContent-Length: 40\r\n\r\nKeyTooLongError 28 the name is too long\n";
 

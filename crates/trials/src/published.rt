@@ -1,6 +1,7 @@
 //! The published example of the Amazon S3 API Reference, "Authenticating Requests: Using Query Parameters", and what
 //! an office without boxes answers to it.
 use crate::fakes::{Sink, Source};
+use crate::owed::NO_WHOLE_BODY;
 use boxes::OfficeRow;
 use dropoffice::{Counted, FixedClock, Office, SessionEnd};
 use keeper::Shelf;
@@ -27,6 +28,28 @@ pub const EXPIRED: &[u8] =
 
 pub const TRY_AGAIN: &[u8] =
     b"HTTP/1.1 500 Internal Server Error\r\nContent-Type: text/plain\r\nContent-Length: 27\r\nConnection: close\r\n\r\nInternalError 40 try again\n";
+
+/// An upload whose body breaks off.
+pub const LACKING: &[u8] = b"PUT /in/x HTTP/1.1\r\nHost: a\r\nContent-Length: 3\r\n\r\nab";
+
+/// The parts, one behind the other.
+pub fn joined(alloc: Global, parts: &[&[u8]]) -> Result<Vec<u8>, AllocError> {
+    let mut whole = Vec::new(alloc);
+    for part in parts {
+        whole.extend_from_slice(part)?;
+    }
+    Ok(whole)
+}
+
+/// The request twice, and then that upload.
+pub fn broken_off(alloc: Global) -> Result<Vec<u8>, AllocError> {
+    joined(alloc, &[REQUEST, REQUEST, LACKING])
+}
+
+/// What an office without boxes answers to it.
+pub fn broken_off_answers(alloc: Global) -> Result<Vec<u8>, AllocError> {
+    joined(alloc, &[NO_BOX, NO_BOX, NO_WHOLE_BODY])
+}
 
 /// An office without boxes that has the example's key.
 pub fn make_office(alloc: Global) -> Result<Office<Shelf>, AllocError> {

@@ -1,14 +1,14 @@
 //! Worked rows: what is asked of an office that begins, and what is owed for it, over any keeper.
-use crate::boxed::{Asked, CLERK, add_box, bare, order, put, reply, settings};
+use crate::boxed::{Asked, CLERK, add_box, bare, order, put, reply, sent, settings};
 use crate::lists::lists;
 use crate::owed::{
     CLOSED, DONE, FIRST_ABC, FIRST_EMPTY, FOUND_ABC, HEAD_OF_ABC, LONG_NAME, MALFORMED_TARGET,
     NO_CLERK, NO_COMMAND, NO_FILE, NO_LENGTH, NOT_POSSIBLE, OTHER_BYTES, PAST_QUOTA, REVOKED,
     SECOND_ABD, SECOND_EMPTY, SECOND_X, TOO_MANY_FILES,
 };
-use crate::published::{DATE, NO_BOX};
+use crate::published::{DATE, NO_BOX, REQUEST, broken_off, broken_off_answers};
 use boxes::Mode;
-use dropoffice::Office;
+use dropoffice::{Office, SessionEnd};
 use keeper::Keeper;
 use links::LinkKey;
 use std::alloc::Global;
@@ -21,6 +21,10 @@ const LATER: &[u8; 16] = b"20130524T000001Z";
 /// A row: an office without boxes, whose clerk has the published key, takes a box and is asked.
 #[derive(Clone, Copy, Debug, PartialEq, Eq)]
 pub enum Row {
+    /// The published request finds no box.
+    Published,
+    /// A body breaks off behind two requests.
+    BreakingOff,
     /// Uploads get receipts until the box is full; a repeat gets its receipt after closing time.
     Closing,
     /// Other bytes don't take a name.
@@ -46,7 +50,9 @@ pub enum Row {
 }
 
 /// All rows.
-pub const ROWS: [Row; 11] = [
+pub const ROWS: [Row; 13] = [
+    Row::Published,
+    Row::BreakingOff,
     Row::Closing,
     Row::Keeping,
     Row::Replacing,
@@ -72,6 +78,8 @@ impl Row {
     /// Asks the office; fails where it answers something else than what is owed.
     pub fn run<K: Keeper>(self, office: &mut Office<K>) -> Result<(), Fail> {
         match self {
+            Row::Published => expect(office, REQUEST, DATE, NO_BOX),
+            Row::BreakingOff => breaking_off(office),
             Row::Closing => closing(office),
             Row::Keeping => keeping(office),
             Row::Replacing => replacing(office),
@@ -146,6 +154,14 @@ fn counts<K: Keeper>(keeper: &mut K, next: u64, used: u64, count: u64) -> Result
 // A file stands under this name.
 fn stands<K: Keeper>(keeper: &mut K, name: &[u8]) -> Result<(), Fail> {
     holds(keeper.file(b"in", name)?.is_some(), "no file")
+}
+
+fn breaking_off<K: Keeper>(office: &mut Office<K>) -> Result<(), Fail> {
+    let stream = broken_off(office.alloc)?;
+    let want = broken_off_answers(office.alloc)?;
+    let (text, end) = sent(office, &stream, DATE)?;
+    holds(text == want, "another answer")?;
+    holds(end == SessionEnd::Refused(6), "another end")
 }
 
 fn closing<K: Keeper>(office: &mut Office<K>) -> Result<(), Fail> {

@@ -19,9 +19,17 @@ fn reads_in_any_pieces(rt: HostRuntime) -> Result<(), Fail> {
 #[test]
 fn ends_at_a_failed_read(rt: HostRuntime) -> Result<(), Fail> {
     let moment = Moment::read(DATE).ok_or("no moment")?;
-    for len in [0, 1, 100, 331, REQUEST.len()] {
-        let want = if len == REQUEST.len() { NO_BOX } else { b"" };
-        let got = given_by(rt.alloc(), len, 100, true, moment)?;
+    let whole = REQUEST.len();
+    for (len, at_once) in [
+        (0, 100),
+        (1, 100),
+        (100, 100),
+        (331, 100),
+        (whole, 100),
+        (whole, whole),
+    ] {
+        let want = if len == whole { NO_BOX } else { b"" };
+        let got = given_by(rt.alloc(), len, at_once, true, moment)?;
         assert_eq!(rt; got.end, SessionEnd::ReadFault, "after {len} bytes");
         assert_eq!(rt; got.text.as_slice(), want, "after {len} bytes");
         assert_eq!(rt;

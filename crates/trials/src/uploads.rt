@@ -1,17 +1,46 @@
-//! Rows over the keeper in memory, and the last hours of a box.
+//! Rows over the keeper in memory, also where it refuses a call, and the last hours of a box.
 use crate::boxed::{Asked, CLERK, begun, make_office, reply, settings};
+use crate::errands::{ERRANDS, Errand};
 use crate::owed::{CLOSED, FIRST_ABC};
 use crate::rows::ROWS;
+use crate::watched::Watched;
 use boxes::{BoxRow, Mode};
+use dropoffice::Office;
 use std::alloc::Global;
 use std::test::Fail;
 
 #[test]
 fn rows_are_answered_in_memory(rt: HostRuntime) -> Result<(), Fail> {
     for row in ROWS {
-        let mut office = begun(rt.alloc(), row.east())?;
+        let Office { keeper, alloc } = begun(rt.alloc(), row.east())?;
+        let mut office = Office::new(alloc, Watched::new(keeper));
         row.run(&mut office)?;
+        assert!(rt; office.keeper.calls > 0);
+        assert_eq!(rt; office.keeper.faults, 0);
     }
+    Ok(())
+}
+
+// How many calls an errand makes; each is refused in turn.
+fn calls_of(alloc: Global, errand: Errand) -> Result<u64, Fail> {
+    for call in 1..20u64 {
+        let office = begun(alloc, 0)?;
+        if !errand.is_refused_at(alloc, office.keeper, call)? {
+            return Ok(call - 1);
+        }
+    }
+    Err("calls without end".into())
+}
+
+#[test]
+fn each_call_is_refused_in_turn(rt: HostRuntime) -> Result<(), Fail> {
+    let mut refused = 0u64;
+    for errand in ERRANDS {
+        let calls = calls_of(rt.alloc(), errand)?;
+        assert!(rt; calls >= 3, "{errand:?}");
+        refused = refused.saturating_add(calls);
+    }
+    println!(rt; "{refused} refused")?;
     Ok(())
 }
 

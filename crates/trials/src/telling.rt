@@ -1,9 +1,9 @@
 //! What a keeper answers to every question, as one text.
+use crate::published::ID;
 use boxes::{FileRow, KeyRow, ReceiptRow};
 use keeper::Keeper;
 use std::alloc::Global;
 use std::test::Fail;
-use trials::published::ID;
 
 // Every key, box and file that a test here names, and one of each that none adds.
 const KEYS: [&[u8]; 4] = [ID, b"k2", b"k3", b"k4"];
@@ -83,7 +83,7 @@ fn put_receipts<K: Keeper>(
 }
 
 /// All answers, one behind another.
-pub(crate) fn told<K: Keeper>(alloc: Global, keeper: &mut K) -> Result<Vec<u8>, Fail> {
+pub fn told<K: Keeper>(alloc: Global, keeper: &mut K) -> Result<Vec<u8>, Fail> {
     let east = keeper.settings()?.east;
     let clerks = keeper.clerks()?;
     let next = keeper.next_number()?;

@@ -1,0 +1,168 @@
+//! Requests of each kind, one at a time, and what is owed for each, over any keeper.
+use crate::boxed::{add_box, bare, order, put, sent};
+use crate::owed::{DONE, FIRST_ABC, FOUND_ABC, SECOND_ABD, SECOND_X};
+use crate::published::{DATE, ID, TRY_AGAIN};
+use crate::rows::holds;
+use crate::telling::told;
+use crate::watched::Watched;
+use boxes::{BoxRow, Change, Command, Mode, NameRule, NewFile, Role};
+use dropoffice::{Office, SessionEnd};
+use keeper::{KeepFault, Keeper};
+use sigv4::Sha;
+use std::alloc::Global;
+use std::test::Fail;
+
+/// A box that takes other bytes, always open, of so many bytes and files at most.
+pub const ROOMY: BoxRow = BoxRow {
+    opens: 0,
+    closes: 253_402_300_799,
+    days: [true; 7],
+    from_minute: 0,
+    to_minute: 1440,
+    quota: 1_000_000_000_000,
+    max_files: 9,
+    mode: Mode::Replace,
+    rule: NameRule::Any,
+};
+
+/// Sets a file of the box `in`, by the next receipt.
+pub fn set_file<K: Keeper>(keeper: &mut K, name: &[u8], bytes: &[u8]) -> Result<u64, KeepFault> {
+    let number = keeper.next_number()?;
+    let mut sha = Sha::new();
+    sha.update(bytes);
+    let file = NewFile {
+        number,
+        in_box: b"in",
+        name,
+        size: bytes.len() as u64,
+        digest: sha.finish(),
+        moment: 1_369_353_600,
+        key: ID,
+    };
+    keeper.apply(&Change::SetFile(file, bytes))?;
+    Ok(number)
+}
+
+/// A key `k2` and a box `in` are added.
+pub fn begin<K: Keeper>(keeper: &mut K) -> Result<(), KeepFault> {
+    keeper.apply(&Change::Desk(Command::AddKey {
+        id: b"k2",
+        role: Role::Link,
+        secret: b"s3cr3t",
+    }))?;
+    add_box(keeper, &ROOMY)
+}
+
+/// A request by the clerk's key to an office that began, and has a file `a.txt` of the bytes `abc`.
+#[derive(Clone, Copy, Debug, PartialEq, Eq)]
+pub enum Errand {
+    /// The upload of that file, where there is none yet.
+    First,
+    /// An upload of a new name.
+    Upload,
+    /// An upload of other bytes in the place of the file's.
+    Replace,
+    /// An upload of the file's own bytes.
+    Repeat,
+    Fetch,
+    AddKey,
+    RevokeKey,
+    AddBox,
+    CloseBox,
+    DropFile,
+}
+
+/// One of each kind.
+pub const ERRANDS: [Errand; 10] = [
+    Errand::First,
+    Errand::Upload,
+    Errand::Replace,
+    Errand::Repeat,
+    Errand::Fetch,
+    Errand::AddKey,
+    Errand::RevokeKey,
+    Errand::AddBox,
+    Errand::CloseBox,
+    Errand::DropFile,
+];
+
+impl Errand {
+    /// Whether the file is there before.
+    pub fn has_file(self) -> bool {
+        self != Errand::First
+    }
+
+    // The command of an errand that is one.
+    fn line(self) -> &'static [u8] {
+        match self {
+            Errand::AddKey => b"key add k3 clerk s3cr3t",
+            Errand::RevokeKey => b"key revoke k2",
+            Errand::AddBox => {
+                b"box add out 20130101T000000Z 20130601T000000Z 1111111 0000 2400 100 2 keep begins a"
+            }
+            Errand::CloseBox => b"box close in 20130524T000001Z",
+            _ => b"file drop in a.txt",
+        }
+    }
+
+    fn stream(self, alloc: Global) -> Result<Vec<u8>, Fail> {
+        match self {
+            Errand::First | Errand::Repeat => put(alloc, b"/in/a.txt", b"abc"),
+            Errand::Upload => put(alloc, b"/in/b.txt", b"x"),
+            Errand::Replace => put(alloc, b"/in/a.txt", b"abd"),
+            Errand::Fetch => bare(alloc, b"GET", b"/in/a.txt"),
+            _ => order(alloc, self.line()),
+        }
+    }
+
+    fn answer(self) -> &'static [u8] {
+        match self {
+            Errand::First | Errand::Repeat => FIRST_ABC,
+            Errand::Upload => SECOND_X,
+            Errand::Replace => SECOND_ABD,
+            Errand::Fetch => FOUND_ABC,
+            _ => DONE,
+        }
+    }
+
+    /// Whether it is answered with what is owed; else it is answered with 40, which ends the session.
+    pub fn run<K: Keeper>(self, office: &mut Office<K>) -> Result<bool, Fail> {
+        let stream = self.stream(office.alloc)?;
+        let (text, end) = sent(office, &stream, DATE)?;
+        if text.as_slice() == self.answer() && end == SessionEnd::Ended {
+            return Ok(true);
+        }
+        let gave_up = text.as_slice() == TRY_AGAIN && end == SessionEnd::Refused(40);
+        holds(gave_up, "another answer")?;
+        Ok(false)
+    }
+
+    /// Whether the keeper of an office that begins refuses the call of this number, of those that the errand makes.
+    /// The errand is then answered with 40, the office stays as it was, and the same errand is done at the second time.
+    pub fn is_refused_at<K: Keeper + Drop>(
+        self,
+        alloc: Global,
+        keeper: K,
+        call: u64,
+    ) -> Result<bool, Fail> {
+        let mut office = Office::new(alloc, Watched::new(keeper));
+        begin(&mut office.keeper)?;
+        if self.has_file() {
+            set_file(&mut office.keeper, b"a.txt", b"abc")?;
+        }
+        let before = told(alloc, &mut office.keeper)?;
+        office.keeper.refuse(call);
+        let done = self.run(&mut office)?;
+        if done {
+            holds(office.keeper.calls < call, "a refusal was passed over")?;
+            holds(office.keeper.faults == 0, "a fault beside an answer")?;
+            return Ok(false);
+        }
+        holds(office.keeper.calls == call, "another call behind a refusal")?;
+        holds(office.keeper.faults == 1, "another count of faults")?;
+        let stays = told(alloc, &mut office.keeper)? == before;
+        holds(stays, "another office behind a refusal")?;
+        holds(self.run(&mut office)?, "not done at the second time")?;
+        Ok(true)
+    }
+}

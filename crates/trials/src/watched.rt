@@ -1,0 +1,134 @@
+//! A keeper round another, which counts its calls and those that fail, and can refuse one.
+ghost use Rattle.std.specs.Prelude.{◌≡◌, IfErr};
+ghost use Rattle.sigtext.specs.Counts.{CountsErrors};
+
+use boxes::{BoxRow, Change, FileRow, KeyRow, OfficeRow, ReceiptRow, Totals};
+use keeper::{KeepFault, Keeper};
+
+/// Passes each call on, but for the one that it refuses; no state is claimed of it.
+#[derive(Drop)]
+pub struct Watched<K> {
+    pub inner: K,
+    /// How many calls came since the last `refuse`.
+    pub calls: u64,
+    /// How many calls failed.
+    pub faults: u64,
+    // The number of the call that is refused; 0 where none is.
+    refused: u64,
+}
+
+impl<K> Watched<K> {
+    /// Refuses no call.
+    pub fn new(inner: K) -> Watched<K> {
+        Watched {
+            inner,
+            calls: 0,
+            faults: 0,
+            refused: 0,
+        }
+    }
+
+    /// Refuses the call of this number, counted from 1 on, from now.
+    pub fn refuse(&mut self, call: u64) {
+        self.calls = 0;
+        self.refused = call;
+    }
+
+    // A call comes; it may be refused.
+    fn enter(&mut self) -> Result<(), KeepFault>
+        ensures kind { IfErr result (λ f. f ≡ KeepFault.Store) }
+        ensures count { CountsErrors self.old.faults self.new.faults result }
+    {
+        self.calls = self.calls.saturating_add(1);
+        if self.calls != self.refused {
+            return Ok(());
+        }
+        self.faults = self.faults.saturating_add(1);
+        Err(KeepFault::Store)
+    }
+
+    // The inner keeper's answer, of which an error is counted.
+    fn leave<T>(&mut self, outcome: Result<T, KeepFault>) -> Result<T, KeepFault>
+        ensures same { result ≡ outcome }
+        ensures count { CountsErrors self.old.faults self.new.faults result }
+    {
+        if outcome.is_err() {
+            self.faults = self.faults.saturating_add(1);
+        }
+        outcome
+    }
+}
+
+impl<K: Keeper> Keeper for Watched<K> {
+    ghost means = { λ _ _. ⊥ };
+
+    ghost is_honest = { λ _. Unit {0} };
+
+    ghost is_open = { λ _. Unit {0} };
+
+    ghost faults = { λ k. k.faults };
+
+    ghost leaves = { λ _ _. ⊥ };
+
+    ghost leaves_whole = { λ _. Unit {0} };
+
+    ghost has_store = { Unit {0} };
+
+    fn settings(&mut self) -> Result<OfficeRow, KeepFault> {
+        self.enter()?;
+        let outcome = self.inner.settings();
+        self.leave(outcome)
+    }
+
+    fn key(&mut self, id: &[u8]) -> Result<Option<KeyRow>, KeepFault> {
+        self.enter()?;
+        let outcome = self.inner.key(id);
+        self.leave(outcome)
+    }
+
+    fn box_row(&mut self, name: &[u8]) -> Result<Option<BoxRow>, KeepFault> {
+        self.enter()?;
+        let outcome = self.inner.box_row(name);
+        self.leave(outcome)
+    }
+
+    fn file(&mut self, in_box: &[u8], name: &[u8]) -> Result<Option<FileRow>, KeepFault> {
+        self.enter()?;
+        let outcome = self.inner.file(in_box, name);
+        self.leave(outcome)
+    }
+
+    fn sizes(&mut self, in_box: &[u8]) -> Result<Totals, KeepFault> {
+        self.enter()?;
+        let outcome = self.inner.sizes(in_box);
+        self.leave(outcome)
+    }
+
+    fn clerks(&mut self) -> Result<u64, KeepFault> {
+        self.enter()?;
+        let outcome = self.inner.clerks();
+        self.leave(outcome)
+    }
+
+    fn next_number(&mut self) -> Result<u64, KeepFault> {
+        self.enter()?;
+        let outcome = self.inner.next_number();
+        self.leave(outcome)
+    }
+
+    fn receipts(&mut self, from: u64, most: usize) -> Result<Vec<ReceiptRow>, KeepFault> {
+        self.enter()?;
+        let outcome = self.inner.receipts(from, most);
+        self.leave(outcome)
+    }
+
+    fn apply(&mut self, change: &Change<'_>) -> Result<(), KeepFault> {
+        self.enter()?;
+        let outcome = self.inner.apply(change);
+        self.leave(outcome)
+    }
+
+    ghost one = { λ k s t honest opened a b. absurd a };
+
+    ghost always = { λ none k. absurd (none tt) };
+}
