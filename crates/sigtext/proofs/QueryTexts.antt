@@ -28,11 +28,11 @@ encoded_once slash barred xs ys stand small_x small_y e =
     let same : Some xs ≡ Some ys = cc in
     some_is xs ys same
 
-pub path_once : (xs ys : List ℕ) → AreBytes xs → AreBytes ys → uri_encoded Kept xs ≡ uri_encoded Kept ys → xs ≡ ys
-path_once xs ys = encoded_once Kept (63 ∷ []) xs ys path_stands
+pub encoded_path_once : (xs ys : List ℕ) → AreBytes xs → AreBytes ys → uri_encoded Kept xs ≡ uri_encoded Kept ys → xs ≡ ys
+encoded_path_once xs ys = encoded_once Kept (63 ∷ []) xs ys path_stands
 
-name_once : (xs ys : List ℕ) → AreBytes xs → AreBytes ys → uri_encoded Encoded xs ≡ uri_encoded Encoded ys → xs ≡ ys
-name_once xs ys = encoded_once Encoded (38 ∷ 61 ∷ []) xs ys name_stands
+encoded_name_once : (xs ys : List ℕ) → AreBytes xs → AreBytes ys → uri_encoded Encoded xs ≡ uri_encoded Encoded ys → xs ≡ ys
+encoded_name_once xs ys = encoded_once Encoded (38 ∷ 61 ∷ []) xs ys name_stands
 
 -- a byte that no spelling contains is not in the encoded text
 encoded_lacks : (c : ℕ) (bytes : List ℕ) → Separates (38 ∷ 61 ∷ []) c → AreBytes bytes → All (λ x. eqb x c ≡ false) (uri_encoded Encoded bytes)
@@ -63,7 +63,7 @@ text_once : (p q : Param) → IsPlainParam p → IsPlainParam q → param_text p
 text_once p q h k e =
     let parts = cut_once 61 (uri_encoded Encoded p.name) (uri_encoded Encoded p.value) (uri_encoded Encoded q.name) (uri_encoded Encoded q.value)
     (encoded_lacks 61 p.name name_equals h.name_bytes) (encoded_lacks 61 q.name name_equals k.name_bytes) e in
-    same_param p q (name_once p.name q.name h.name_bytes k.name_bytes parts.0) (name_once p.value q.value h.value_bytes k.value_bytes parts.1)
+    same_param p q (encoded_name_once p.name q.name h.name_bytes k.name_bytes parts.0) (encoded_name_once p.value q.value h.value_bytes k.value_bytes parts.1)
 
 -- ---- all of them
 
@@ -107,9 +107,9 @@ not_empty : (p : Param) (ps : List Param) → [] ≡ query (p ∷ ps) → ⊥
 not_empty p [] e = begun (uri_encoded Encoded p.name) (uri_encoded Encoded p.value) 61 e
 not_empty p (next ∷ ps) e = begun (param_text p) (query (next ∷ ps)) 38 e
 
-pub query_once : (ps qs : List Param) → AllByRecursion IsPlainParam ps → AllByRecursion IsPlainParam qs → query ps ≡ query qs → ps ≡ qs
-query_once [] [] h k e = refl
-query_once [] (q ∷ qs) h k e = absurd (not_empty q qs e)
-query_once (p ∷ ps) [] h k e = absurd (not_empty p ps (sym e))
-query_once (p ∷ ps) (q ∷ qs) h k e =
+pub query_text_once : (ps qs : List Param) → AllByRecursion IsPlainParam ps → AllByRecursion IsPlainParam qs → query ps ≡ query qs → ps ≡ qs
+query_text_once [] [] h k e = refl
+query_text_once [] (q ∷ qs) h k e = absurd (not_empty q qs e)
+query_text_once (p ∷ ps) [] h k e = absurd (not_empty p ps (sym e))
+query_text_once (p ∷ ps) (q ∷ qs) h k e =
     texts_once (p ∷ ps) (q ∷ qs) h k (sym (pieces p ps h) ∙ ap (slice_split (λ x. eqb x 38)) e ∙ pieces q qs k)

@@ -14,7 +14,7 @@ use Rattle.sigtext.specs.SignedNames.{is_header_name_byte, IsHeaderName}
 use Rattle.sigtext.specs.UriEncode.{uri_encoded}
 use Rattle.sigtext.proofs.CanonicalTexts.{six_lines}
 use Rattle.sigtext.proofs.Cuts.{cut_once, lacks_failing}
-use Rattle.sigtext.proofs.QueryTexts.{path_once, path_lacks, query_lacks, query_once}
+use Rattle.sigtext.proofs.QueryTexts.{encoded_path_once, path_lacks, query_lacks, query_text_once}
 use Rattle.sigtext.proofs.Uniqueness.{same_header}
 
 -- ---- the headers
@@ -72,7 +72,7 @@ query_plain r query q plain = subst (All (λ x. eqb x 10 ≡ false)) (sym q.join
 params_once : (a b : Signed) (x y : List ℕ) → IsCanonicalQuery a.params x → IsCanonicalQuery b.params y → IsPlain a → IsPlain b → x ≡ y
     → IsPermutation (signed_params a.params) (signed_params b.params)
 params_once a b x y p q plain_a plain_b e =
-    let same = query_once p.ordered q.ordered (ordered_plain a x p plain_a) (ordered_plain b y q plain_b) (sym p.joined ∙ e ∙ q.joined) in
+    let same = query_text_once p.ordered q.ordered (ordered_plain a x p plain_a) (ordered_plain b y q plain_b) (sym p.joined ∙ e ∙ q.joined) in
     let to = subst (IsPermutation (signed_params a.params)) same p.rearranged in
     IsPermutation-trans (signed_params a.params) q.ordered (signed_params b.params) to (IsPermutation-sym (signed_params b.params) q.ordered q.rearranged)
 
@@ -87,7 +87,7 @@ same_text a b text plain_a plain_b one two =
     (query_plain a one.query one.is_query plain_a) (query_plain b two.query two.is_query plain_b) path.1 in
     record {
       method = method.0;
-      path = path_once a.path b.path plain_a.path plain_b.path path.0;
+      path = encoded_path_once a.path b.path plain_a.path plain_b.path path.0;
       params = params_once a b one.query two.query one.is_query two.is_query plain_a plain_b query.0;
       headers = headers_once a.headers b.headers (signed_headers a.headers ++ 10 ∷ codes "UNSIGNED-PAYLOAD") (signed_headers b.headers ++ 10 ∷ codes "UNSIGNED-PAYLOAD") plain_a.headers plain_b.headers query.1;
     }
