@@ -1,5 +1,5 @@
 -- Requests of one signed text: what is signed of them is the same, and so is what it says.
-use Rattle.std.proofs.Common.{◌≡◌, ◌≢◌, ℕ, Bool, true, false, not, eqb, List, [], ◌∷◌, get_or, map, codes, refl, sym, ap, ◌∙◌, subst, All}
+use Rattle.std.proofs.Common.{◌≡◌, ◌≢◌, ℕ, true, false, not, eqb, List, [], ◌∷◌, map, codes, refl, sym, ap, ◌∙◌, subst, All}
 use Rattle.std.specs.Prelude.{IsTrue, IsPermutation}
 use Rattle.std.specs.Char.{is_ascii_uppercase}
 use Rattle.std.specs.List.{list_all, list_any, AllByRecursion}
@@ -10,7 +10,6 @@ use Rattle.std.proofs.lemmas.Slice.Eq.{bytes_eq-Decides}
 use Rattle.sigtext.specs.declared.refusal.Refusal.TheVariants as rule
 use Rattle.sigtext.specs.Bytes.{same_bytes}
 use Rattle.sigtext.specs.CanonicalQuery.{signed_params}
-use Rattle.sigtext.specs.Params.{params_named}
 use Rattle.sigtext.specs.Request.{Request}
 use Rattle.sigtext.specs.SameText.{IsOneLine, IsPlainParam, IsPlainHeader, IsPlain}
 use Rattle.sigtext.specs.SignedHeaders.{Header}
