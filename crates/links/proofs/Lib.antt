@@ -22,3 +22,4 @@ pub mod SignatureTexts
 pub mod OwnHeaders
 pub mod OrderedHeaders
 pub mod WrittenLinks
+pub mod Alike

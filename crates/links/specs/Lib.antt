@@ -8,3 +8,4 @@ pub mod LinkReadings
 pub mod Judging
 pub mod Orders
 pub mod Drafts
+pub mod Alike

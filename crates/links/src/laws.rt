@@ -4,6 +4,7 @@ ghost use Rattle.sigtext.specs.Request.{Request};
 ghost use Rattle.links.specs.WellFormed.{LinkValues, IsWellFormed};
 ghost use Rattle.links.specs.Moments.{Now, HasBegun, IsNotOver};
 ghost use Rattle.links.specs.Admits.{KnownKey, IsSignedBy, Admits};
+ghost use Rattle.links.specs.Alike.{SameText, SaysTheSame};
 
 /// A request has one list of parts at most. So the parts that `inspect` found decide alone whether the
 /// request is admitted, once its key stands unrevoked: by the signature and the window that `judge` asks.
@@ -13,4 +14,12 @@ pub fn law_of_parts()
         (p : LinkValues) (k : KnownKey) → IsWellFormed r p → look_up p.key_id ≡ Some k → IsFalse k.revoked
         → Admits look_up r n
         ↔ (IsSignedBy k.secret r p × HasBegun n p.start × IsNotOver n p.start p.expires) }
+{}
+
+/// Well-formed requests of one signed text say the same: however a link was respelled on its way, by other
+/// escapes, another order of its parameters, another case of the field names or fields that are not signed, what
+/// the rules find in it stays, the signature aside.
+pub fn law_of_texts()
+    ensures same { (r s : Request) (p q : LinkValues) → IsWellFormed r p → IsWellFormed s q
+        → SameText r s p q → SaysTheSame r s p q }
 {}

@@ -1,10 +1,10 @@
 -- `cut` at the first place of a byte, step by step and as a whole.
-use Rattle.std.proofs.Common.{◌≡◌, ℕ, ◌<◌, true, false, eqb, List, [], ◌∷◌, ◌++◌, length, Option, Some, None, refl, ap, ◌∙◌, All, arith}
-use Rattle.std.specs.Prelude.{option_map}
-use Rattle.std.proofs.lemmas.Bool.{cond-true, cond-false, eq-eqb}
-use Rattle.std.specs.List.{AllByRecursion, slice_split, join_with_byte}
+use Rattle.std.proofs.Common.{◌≡◌, ◌≢◌, ℕ, ◌<◌, Bool, true, false, eqb, List, [], ◌∷◌, ◌++◌, length, Option, Some, None, refl, sym, ap, ◌∙◌, All, arith}
+use Rattle.std.specs.Prelude.{IsTrue, option_map, unwrap_or}
+use Rattle.std.proofs.lemmas.Bool.{and_parts, cond-true, cond-false, eq-eqb, ne_eqb, false≢true}
+use Rattle.std.specs.List.{list_all, AllByRecursion, slice_split, join_with_byte}
 use Rattle.std.proofs.lemmas.List.Splits.{slice_split_none, slice_split_at}
-use Rattle.std.proofs.lemmas.List.Elements.{All-head, All-tail}
+use Rattle.std.proofs.lemmas.List.Elements.{All-nil, All-cons, All-head, All-tail}
 use Rattle.sigtext.proofs.Reading.{cut}
 
 -- the front, put before the first part of a cut
@@ -41,3 +41,17 @@ split_joined c (piece ∷ []) h without = slice_split_none (λ x. eqb x c) piece
 split_joined c (piece ∷ next ∷ pieces) h without =
     slice_split_at (λ x. eqb x c) piece c (join_with_byte c (next ∷ pieces)) without.0 (eq-eqb c c refl)
     ∙ ap (λ (t : List (List ℕ)). piece ∷ t) (split_joined c (next ∷ pieces) (omega arith) without.1)
+
+-- a text is cut at the first such byte in one way
+pub cut_once : (c : ℕ) (xs ys front rest : List ℕ) → All (λ x. eqb x c ≡ false) xs → All (λ x. eqb x c ≡ false) front → xs ++ c ∷ ys ≡ front ++ c ∷ rest → (xs ≡ front) × (ys ≡ rest)
+cut_once c xs ys front rest h k e =
+    let same : Some (xs, ys) ≡ Some (front, rest) = sym (cut_at c xs ys h) ∙ ap (cut c) e ∙ cut_at c front rest k in
+    (ap (λ (o : Option (List ℕ × List ℕ)). (unwrap_or o (xs, ys)).0) same, ap (λ (o : Option (List ℕ × List ℕ)). (unwrap_or o (xs, ys)).1) same)
+
+-- a byte that the test fails is not in a text whose bytes all pass
+pub lacks_failing : (test : ℕ → Bool) (c : ℕ) (text : List ℕ) → test c ≡ false → IsTrue (list_all test text) → All (λ b. eqb b c ≡ false) text
+lacks_failing test c [] fails h = All-nil (λ b. eqb b c ≡ false)
+lacks_failing test c (b ∷ text) fails h =
+    let parts = and_parts (test b) (list_all test text) h in
+    let other : b ≢ c = λ same. false≢true (sym fails ∙ ap test (sym same) ∙ parts.0) in
+    All-cons (λ x. eqb x c ≡ false) b text (ne_eqb b c other) (lacks_failing test c text fails parts.1)

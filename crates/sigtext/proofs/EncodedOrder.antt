@@ -1,6 +1,7 @@
 -- Encoded texts compare as the bytes that they encode do by two keys: whether the byte stays as it is, and
 -- the byte.
-use Rattle.std.proofs.Common.{◌≡◌, ℕ, ◌/◌, ◌%◌, ◌<◌, Bool, true, false, cond, List, [], ◌∷◌, ◌++◌, refl, sym, ap, ◌∙◌, ⊎_elim, arith, All, map}
+use Rattle.std.proofs.Common.{◌≡◌, ℕ, ◌/◌, ◌%◌, ◌<◌, Bool, true, false, cond, List, [], ◌∷◌, ◌++◌, refl, sym, ap, ◌∙◌, subst, ⊎_elim, arith, All, map}
+use Rattle.std.specs.List.{AllByRecursion}
 use Rattle.std.specs.Cmp.Lexicographic.{slice_cmp}
 use Rattle.std.specs.Fmt.{digit_glyph}
 use Rattle.std.specs.Ordering.{nat_cmp, bool_cmp, ordering_then, is_eq}
@@ -14,8 +15,10 @@ use Rattle.std.proofs.lemmas.Map.Text.{is_eq-slice_cmp}
 use Rattle.std.proofs.lemmas.Slice.Eq.{bytes_eq-Decides}
 use Rattle.percent_encoding.specs.Percent.{percent_decode}
 use Rattle.sigtext.specs.declared.encode.Slash.TheVariants.{Encoded}
-use Rattle.sigtext.specs.Bytes.{bytes_cmp}
+use Rattle.sigtext.specs.Bytes.{AreBytes, bytes_cmp}
+use Rattle.sigtext.specs.SameText.{IsPlainParam}
 use Rattle.sigtext.specs.Spelling.{SpellsByte, raw, escaped, Spells}
+use Rattle.sigtext.specs.Target.{Param, SpellsParam, SpellsParams, IsTargetOf}
 use Rattle.sigtext.specs.UriEncode.{is_unreserved, escape, encoded_byte, uri_encoded}
 use Rattle.sigtext.proofs.Decoding.{decodes}
 
@@ -136,3 +139,27 @@ byte_small barred piece b (escaped high low h l) = grind (arith, nat_tests)
 pub spelled_small : (barred text bytes : List ℕ) → Spells barred text bytes → All (λ b. b < 256) bytes
 spelled_small barred text [] s = All-nil (λ b. b < 256)
 spelled_small barred text (b ∷ bytes) s = All-cons (λ x. x < 256) b bytes (byte_small barred s.0 b s.3) (spelled_small barred s.1 bytes s.4)
+
+spelled_bytes : (barred text bytes : List ℕ) → Spells barred text bytes → AreBytes bytes
+spelled_bytes barred text bytes s = recursion_from_All (λ b. b < 256) bytes (spelled_small barred text bytes s)
+
+param_bytes : (piece : List ℕ) (p : Param) → SpellsParam piece p → IsPlainParam p
+param_bytes piece p s =
+    ⊎_elim
+    (λ alone. record { name_bytes = spelled_bytes (38 ∷ 61 ∷ []) piece p.name alone.0; value_bytes = subst AreBytes (sym alone.1) tt })
+    (λ pair. record { name_bytes = spelled_bytes (38 ∷ 61 ∷ []) pair.0 p.name pair.3; value_bytes = spelled_bytes (38 ∷ []) pair.1 p.value pair.4 })
+    s.1
+
+params_bytes : (pieces : List (List ℕ)) (params : List Param) → SpellsParams pieces params → AllByRecursion IsPlainParam params
+params_bytes [] [] s = tt
+params_bytes [] (p ∷ params) s = absurd s
+params_bytes (piece ∷ pieces) [] s = absurd s
+params_bytes (piece ∷ pieces) (p ∷ params) s = (param_bytes piece p s.0, params_bytes pieces params s.1)
+
+-- the path and the parameters of a target are bytes
+pub target_bytes : (target path : List ℕ) (params : List Param) → IsTargetOf target path params → AreBytes path × AllByRecursion IsPlainParam params
+target_bytes target path params t =
+    ⊎_elim
+    (λ alone. (spelled_bytes (63 ∷ []) target path alone.0, subst (AllByRecursion IsPlainParam) (sym alone.1) tt))
+    (λ pair. (spelled_bytes (63 ∷ []) pair.0 path pair.3, params_bytes pair.4.0 params pair.4.3))
+    t.1

@@ -1,7 +1,7 @@
 -- What a filter keeps, and what it keeps of a rearrangement.
 use Rattle.std.proofs.Common.{◌≡◌, zero, suc, Bool, true, false, cond, List, [], ◌∷◌, length, get_or, refl, sym, ap, subst, ◌∙◌, ⊎_elim, arith, All}
 use Rattle.std.specs.Prelude.{IsPermutation, Contains, filter}
-use Rattle.std.proofs.lemmas.Bool.{cond-true, cond-false, cases_Bool}
+use Rattle.std.proofs.lemmas.Bool.{cond-true, cond-false, cases_Bool, false_from_ne_true, false≢true}
 use Rattle.std.proofs.lemmas.List.Elements.{All-head, All-tail, All-contains_itself, All-filter, filter_passes}
 use Rattle.std.proofs.lemmas.List.Sorted.{Contains-permutation, sum_by-IsPermutation}
 use Rattle.std.proofs.lemmas.List.Sums.{length-filter}
@@ -38,6 +38,16 @@ pub alone : {X : Type 0} (xs : List X) (p : X) → length xs ≡ 1 → All (λ q
 alone [] p long h = absurd (omega (arith, long))
 alone (q ∷ []) p long h = ap (λ x. x ∷ []) (All-head (λ q. q ≡ p) q [] h)
 alone (q ∷ r ∷ xs) p long h = absurd (omega (arith, long))
+
+-- what passes one test at least is kept by the other, so that one filter after the other is the narrower one
+pub filter_within : {X : Type 0} (s t : X → Bool) (xs : List X) → ((x : X) → t x ≡ true → s x ≡ true) → filter t (filter s xs) ≡ filter t xs
+filter_within s t [] within = refl
+filter_within {X} s t (x ∷ xs) within =
+    let others = filter_within s t xs within in
+    ⊎_elim
+    (λ yes. ap (filter t) (cond-true _ _ _ yes) ∙ ap (λ (ys : List X). cond (t x) (x ∷ ys) ys) others)
+    (λ no. ap (filter t) (cond-false _ _ _ no) ∙ others ∙ sym (cond-false _ _ _ (false_from_ne_true (t x) (λ e. false≢true (sym no ∙ within x e)))))
+    (cases_Bool (s x))
 
 in_one : {X : Type 0} (p q : X) → Contains (p ∷ []) q → q ≡ p
 in_one p q c = ⊎_elim (λ here. sym here) (λ more. absurd (omega (arith, more.1))) (first_or_later p [] q c)

@@ -26,3 +26,5 @@ pub mod Filtered
 pub mod CanonicalTexts
 pub mod EncodedSpells
 pub mod Keyed
+pub mod QueryTexts
+pub mod SameTexts

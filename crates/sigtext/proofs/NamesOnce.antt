@@ -1,21 +1,12 @@
 -- Names joined by `;`, and that a text joins one list of them.
-use Rattle.std.proofs.Common.{◌≡◌, ℕ, ◌<◌, false, eqb, List, [], ◌∷◌, length, sym, ap, ◌∙◌, arith, All}
+use Rattle.std.proofs.Common.{◌≡◌, ℕ, ◌<◌, false, eqb, List, [], ◌∷◌, length, refl, sym, ap, ◌∙◌, arith, All}
 use Rattle.std.specs.Prelude.{IsTrue}
 use Rattle.std.specs.List.{list_all, slice_split, AllByRecursion}
-use Rattle.std.proofs.lemmas.Bool.{and_parts}
-use Rattle.std.proofs.lemmas.Bool.Decides.{nat_tests}
-use Rattle.std.proofs.lemmas.List.Elements.{All-nil, All-cons}
 use Rattle.sigtext.specs.SignedNames.{is_header_name_byte, IsHeaderName, AreSignedNames}
-use Rattle.sigtext.proofs.Cuts.{split_joined}
+use Rattle.sigtext.proofs.Cuts.{split_joined, lacks_failing}
 
 pub lacks_semicolon : (text : List ℕ) → IsTrue (list_all is_header_name_byte text) → All (λ b. eqb b 59 ≡ false) text
-lacks_semicolon [] h = All-nil (λ b. eqb b 59 ≡ false)
-lacks_semicolon (b ∷ text) h =
-    let parts = and_parts (is_header_name_byte b) (list_all is_header_name_byte text) h in
-    All-cons (λ x. eqb x 59 ≡ false) b text (apart b parts.0) (lacks_semicolon text parts.1)
-  where
-    apart : (b : ℕ) → IsTrue (is_header_name_byte b) → eqb b 59 ≡ false
-    apart b h = grind (arith, nat_tests)
+lacks_semicolon text h = lacks_failing is_header_name_byte 59 text refl h
 
 pub lack_semicolons : (names : List (List ℕ)) → AllByRecursion IsHeaderName names → AllByRecursion (All (λ b. eqb b 59 ≡ false)) names
 lack_semicolons [] h = tt

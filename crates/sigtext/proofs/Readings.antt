@@ -45,7 +45,7 @@ path_question = record { raw_other = λ x h. grind (arith, nat_tests); percent_o
 
 -- ---- parameters
 
-some_is : (x y : List ℕ) → Some x ≡ Some y → x ≡ y
+pub some_is : (x y : List ℕ) → Some x ≡ Some y → x ≡ y
 some_is x y e = cc
 
 pub some_list : (x y : List Param) → Some x ≡ Some y → x ≡ y

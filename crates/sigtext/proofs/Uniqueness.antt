@@ -28,7 +28,7 @@ canonical_once r text other a b = b.is ∙ ap (canonical_text r) (query_once r.p
 value_once : (headers : List Header) (name value other : List ℕ) → IsSignedValue headers name value → IsSignedValue headers name other → other ≡ value
 value_once headers name value other (h, is, at) (h', is', at') = let e = sym is' ∙ is in cc
 
-same_header : (s t : Header) → t.name ≡ s.name → t.value ≡ s.value → t ≡ s
+pub same_header : (s t : Header) → t.name ≡ s.name → t.value ≡ s.value → t ≡ s
 same_header s t n v =
     let made : List ℕ → List ℕ → Header = λ name value. record { name = name; value = value } in
     ap (λ (name : List ℕ). made name t.value) n ∙ ap (made s.name) v

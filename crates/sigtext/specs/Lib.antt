@@ -18,3 +18,4 @@ pub mod SignedValues
 pub mod Sinks
 pub mod Signing
 pub mod Decoded
+pub mod SameText
