@@ -13,6 +13,8 @@ pub mod Digits
 pub mod Texts
 pub mod SaidOnce
 pub mod SameParams
+pub mod ReadTexts
+pub mod OnlyLink
 pub mod Admitted
 pub mod OwnTerms
 pub mod ReadAgain
