@@ -15,6 +15,7 @@ pub mod SaidOnce
 pub mod SameParams
 pub mod ReadTexts
 pub mod OnlyLink
+pub mod ReadBack
 pub mod Admitted
 pub mod OwnTerms
 pub mod ReadAgain

@@ -7,4 +7,5 @@ pub mod SixValues
 pub mod LinkReadings
 pub mod Judging
 pub mod Orders
+pub mod SameOrders
 pub mod Drafts
