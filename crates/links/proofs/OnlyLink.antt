@@ -12,7 +12,7 @@ use Rattle.sigv4.specs.Credential.{IsCredential}
 use Rattle.sigv4.specs.Dates.{WritesMoment}
 use Rattle.sigv4.specs.Signature.{CredentialScope, signature_of}
 use Rattle.sigv4.proofs.Moments.{text_once}
-use Rattle.links.specs.Admits.{IsSignedBy}
+use Rattle.links.specs.Admits.{signed_of, IsSignedBy}
 use Rattle.links.specs.Drafts.{DraftValues}
 use Rattle.links.specs.Forms.{IsExpiry}
 use Rattle.links.specs.Orders.{Terms, Says, wanted, IsCanonicalTarget, IsLinkFor}
@@ -28,13 +28,16 @@ pub record AreSaid (t : Terms) (p q : LinkValues) : Type 0 where
   pub texts : HasTexts p
   pub texts_too : HasTexts q
 
-same_five : (a b : DraftValues) → b.credential ≡ a.credential → b.date ≡ a.date → b.expires ≡ a.expires → b.names ≡ a.names → b ≡ a
+same_five : (a b : DraftValues) → b.credential ≡ a.credential → b.date ≡ a.date → b.expires ≡ a.expires → b.names ≡ a.names
+    → b ≡ a
 same_five a b credential date expires names =
-    let whole : record { credential = b.credential; date = b.date; expires = b.expires; names = b.names } ≡ a = rw (credential, date, expires, names) refl in
+    let whole : record { credential = b.credential; date = b.date; expires = b.expires; names = b.names } ≡ a =
+    rw (credential, date, expires, names) refl in
     whole
 
 -- the text that is signed, from what it is made of
-text_same : (r s : Signed) (query other : List ℕ) → s.method ≡ r.method → s.path ≡ r.path → s.headers ≡ r.headers → other ≡ query
+text_same : (r s : Signed) (query other : List ℕ) → s.method ≡ r.method → s.path ≡ r.path → s.headers ≡ r.headers
+    → other ≡ query
     → canonical_text s other ≡ canonical_text r query
 unfolding canonical_text
 text_same r s query other method path headers same = rw (method, path, headers, same) refl
@@ -58,18 +61,26 @@ module _ {t : Terms} {p q : LinkValues} (said : AreSaid t p q) where
   region = said.says_too.region ∙ sym said.says.region
 
   scope_there : IsCredential said.texts.five.credential said.texts.five.date t.key_id p.scope
-  scope_there = subst (λ (key : List ℕ). IsCredential said.texts.five.credential said.texts.five.date key p.scope) said.says.key_id said.texts.says_scope
+  scope_there =
+      subst (λ (key : List ℕ). IsCredential said.texts.five.credential said.texts.five.date key p.scope)
+      said.says.key_id said.texts.says_scope
 
   scope_too : IsCredential said.texts_too.five.credential said.texts.five.date t.key_id q.scope
   scope_too =
-      subst (λ (key : List ℕ). IsCredential said.texts_too.five.credential said.texts.five.date key q.scope) said.says_too.key_id
-      (subst (λ (d : List ℕ). IsCredential said.texts_too.five.credential d q.key_id q.scope) date said.texts_too.says_scope)
+      subst (λ (key : List ℕ). IsCredential said.texts_too.five.credential said.texts.five.date key q.scope)
+      said.says_too.key_id
+      (subst (λ (d : List ℕ). IsCredential said.texts_too.five.credential d q.key_id q.scope) date
+      said.texts_too.says_scope)
 
   scope : q.scope ≡ p.scope
-  scope = scope_said said.texts.five.credential said.texts_too.five.credential said.texts.five.date t.key_id t.key_id p.scope q.scope scope_there scope_too region
+  scope =
+      scope_said said.texts.five.credential said.texts_too.five.credential said.texts.five.date t.key_id t.key_id
+      p.scope q.scope scope_there scope_too region
 
   credential : said.texts_too.five.credential ≡ said.texts.five.credential
-  credential = credential_text said.texts.five.credential said.texts_too.five.credential said.texts.five.date t.key_id p.scope q.scope scope_there scope_too region
+  credential =
+      credential_text said.texts.five.credential said.texts_too.five.credential said.texts.five.date t.key_id
+      p.scope q.scope scope_there scope_too region
 
   expires : said.texts_too.five.expires ≡ said.texts.five.expires
   expires =
@@ -95,12 +106,12 @@ module _ {t : Terms} {p q : LinkValues} (said : AreSaid t p q) where
       query_same said.texts.five t.params p.params q.params said.texts.values
       (subst (λ (x : DraftValues). HaveValues x q.params) five said.texts_too.values) said.says.params said.says_too.params
 
-  signature : (r s : Request) → s.method ≡ r.method → IsSignedBy t.secret r p → IsSignedBy t.secret s q → q.signature ≡ p.signature
+  signature : (r s : Request) → s.method ≡ r.method → IsSignedBy t.secret r p → IsSignedBy t.secret s q
+      → q.signature ≡ p.signature
   signature r s method a b =
       let same = query a.is_canonical.query b.is_canonical.query a.is_canonical.is_query b.is_canonical.is_query in
       let text = b.is_canonical.is
-      ∙ text_same (record { method = r.method; path = p.path; params = p.params; headers = p.signed }) (record { method = s.method; path = q.path; params = q.params; headers = q.signed })
-      a.is_canonical.query b.is_canonical.query method path signed same
+      ∙ text_same (signed_of r p) (signed_of s q) a.is_canonical.query b.is_canonical.query method path signed same
       ∙ sym a.is_canonical.is in
       b.same
       ∙ ap (λ (d : List ℕ). signature_of t.secret d q.scope b.text) dates
@@ -128,4 +139,5 @@ only_link t a b h k =
       texts = texts_read r h.parts (h.formed r is);
       texts_too = texts_read s k.parts (k.formed s is_too);
     } in
-    target said a b h.canonical k.canonical (signature said r s (is_too.method_is ∙ sym is.method_is) (h.signed r is) (k.signed s is_too))
+    let method = is_too.method_is ∙ sym is.method_is in
+    target said a b h.canonical k.canonical (signature said r s method (h.signed r is) (k.signed s is_too))

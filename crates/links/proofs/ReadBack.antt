@@ -41,19 +41,26 @@ pub record ParamsSay (p q : LinkValues) : Type 0 where
 -- the same parameters say the same
 params_say : (p q : LinkValues) → q.params ≡ p.params → HasTexts p → HasTexts q → ParamsSay p q
 params_say p q same h k =
-    let credential = value_same p.params q.params (codes "X-Amz-Credential") h.five.credential k.five.credential same h.values.credential k.values.credential in
-    let date = value_same p.params q.params (codes "X-Amz-Date") h.five.date k.five.date same h.values.date k.values.date in
-    let expires = value_same p.params q.params (codes "X-Amz-Expires") h.five.expires k.five.expires same h.values.expires k.values.expires in
-    let names = value_same p.params q.params (codes "X-Amz-SignedHeaders") h.five.names k.five.names same h.values.names k.values.names in
+    let credential = value_same p.params q.params (codes "X-Amz-Credential") h.five.credential k.five.credential same
+    h.values.credential k.values.credential in
+    let date = value_same p.params q.params (codes "X-Amz-Date") h.five.date k.five.date same
+    h.values.date k.values.date in
+    let expires = value_same p.params q.params (codes "X-Amz-Expires") h.five.expires k.five.expires same
+    h.values.expires k.values.expires in
+    let names = value_same p.params q.params (codes "X-Amz-SignedHeaders") h.five.names k.five.names same
+    h.values.names k.values.names in
     let (key, scope) = credential_once h.five.credential h.five.date p.key_id q.key_id p.scope q.scope h.says_scope
     (subst (λ (x : List ℕ). IsCredential x h.five.date q.key_id q.scope) credential
     (subst (λ (d : List ℕ). IsCredential k.five.credential d q.key_id q.scope) date k.says_scope)) in
     record {
       key_id = key;
       scope = scope;
-      start = moment_once h.five.date p.start q.start h.says_start (subst (λ (d : List ℕ). WritesMoment d q.start) date k.says_start);
-      expires = expiry_once h.five.expires p.expires q.expires h.says_expires (subst (λ (x : List ℕ). IsExpiry x q.expires) expires k.says_expires);
-      names = names_once h.five.names (map (λ (s : Header). s.name) p.signed) (map (λ (s : Header). s.name) q.signed) h.says_names
+      start = moment_once h.five.date p.start q.start h.says_start
+          (subst (λ (d : List ℕ). WritesMoment d q.start) date k.says_start);
+      expires = expiry_once h.five.expires p.expires q.expires h.says_expires
+          (subst (λ (x : List ℕ). IsExpiry x q.expires) expires k.says_expires);
+      names = names_once h.five.names (map (λ (s : Header). s.name) p.signed) (map (λ (s : Header). s.name) q.signed)
+          h.says_names
           (subst (λ (x : List ℕ). AreSignedNames x (map (λ (s : Header). s.name) q.signed)) names k.says_names);
     }
 
@@ -66,8 +73,8 @@ others_pass : (t : Terms) → AreSound t → All (λ h. is_other h.name ≡ true
 unfolding is_other
 others_pass t sound =
     All-weaker (IsOwnHeader t.headers) (λ h. not (same_bytes h.name (codes "host")) ≡ true)
-    (λ h own. not_from_false _ (false_from_ne_true _ (λ e. own.other ((bytes_eq-Decides h.name (codes "host")).0 e)))) t.headers
-    (All-from_recursion (IsOwnHeader t.headers) t.headers (sound fault.Headers))
+    (λ h own. not_from_false _ (false_from_ne_true _ (λ e. own.other ((bytes_eq-Decides h.name (codes "host")).0 e))))
+    t.headers (All-from_recursion (IsOwnHeader t.headers) t.headers (sound fault.Headers))
 
 other_headers : (t : Terms) → AreSound t → filter (λ h. is_other h.name) (wanted t) ≡ t.headers
 unfolding is_other
@@ -76,20 +83,24 @@ other_headers t sound = each_passes (λ h. is_other h.name) t.headers (others_pa
 other_names : (t : Terms) → AreSound t → filter is_other (map (λ h. h.name) (wanted t)) ≡ map (λ h. h.name) t.headers
 unfolding is_other
 other_names t sound =
-    each_passes is_other (map (λ h. h.name) t.headers) (All-map (λ n. is_other n ≡ true) (λ (h : Header). h.name) t.headers (others_pass t sound))
+    each_passes is_other (map (λ h. h.name) t.headers)
+    (All-map (λ n. is_other n ≡ true) (λ (h : Header). h.name) t.headers (others_pass t sound))
 
 -- what is not `host`, of two rearrangements
-headers_moved : (t u : Terms) → AreSound t → AreSound u → IsPermutation (wanted t) (wanted u) → IsPermutation t.headers u.headers
+headers_moved : (t u : Terms) → AreSound t → AreSound u → IsPermutation (wanted t) (wanted u)
+    → IsPermutation t.headers u.headers
 headers_moved t u sound sound_too moved =
     subst (λ (xs : List Header). IsPermutation xs u.headers) (other_headers t sound)
     (subst (λ (ys : List Header). IsPermutation (filter (λ h. is_other h.name) (wanted t)) ys) (other_headers u sound_too)
     (IsPermutation-filter (λ h. is_other h.name) (wanted t) (wanted u) moved))
 
-names_moved : (t u : Terms) → AreSound t → AreSound u → IsPermutation (map (λ h. h.name) (wanted t)) (map (λ h. h.name) (wanted u))
+names_moved : (t u : Terms) → AreSound t → AreSound u
+    → IsPermutation (map (λ h. h.name) (wanted t)) (map (λ h. h.name) (wanted u))
     → IsPermutation (map (λ h. h.name) t.headers) (map (λ h. h.name) u.headers)
 names_moved t u sound sound_too moved =
     subst (λ (xs : List (List ℕ)). IsPermutation xs (map (λ h. h.name) u.headers)) (other_names t sound)
-    (subst (λ (ys : List (List ℕ)). IsPermutation (filter is_other (map (λ h. h.name) (wanted t))) ys) (other_names u sound_too)
+    (subst (λ (ys : List (List ℕ)). IsPermutation (filter is_other (map (λ h. h.name) (wanted t))) ys)
+    (other_names u sound_too)
     (IsPermutation-filter is_other (map (λ h. h.name) (wanted t)) (map (λ h. h.name) (wanted u)) moved))
 
 -- ---- rearrangements of one list
@@ -115,10 +126,12 @@ told_back t u target h k =
     let name : Header → List ℕ = λ x. x.name in
     record {
       path = sym k.says.path ∙ path ∙ h.says.path;
-      params = both_ways t.params u.params (others_of p.params) (others_of q.params) h.says.params k.says.params (ap others_of params);
+      params = both_ways t.params u.params (others_of p.params) (others_of q.params) h.says.params k.says.params
+          (ap others_of params);
       names = names_moved t u h.sound k.sound
           (both_ways (map name (wanted t)) (map name (wanted u)) (map name p.signed) (map name q.signed)
-          (IsPermutation-map name (wanted t) p.signed h.says.signed) (IsPermutation-map name (wanted u) q.signed k.says.signed) say.names);
+          (IsPermutation-map name (wanted t) p.signed h.says.signed)
+          (IsPermutation-map name (wanted u) q.signed k.says.signed) say.names);
       start = sym k.says.start ∙ say.start ∙ h.says.start;
       expires = sym k.says.expires ∙ say.expires ∙ h.says.expires;
       key_id = sym k.says.key_id ∙ say.key_id ∙ h.says.key_id;
@@ -127,7 +140,8 @@ told_back t u target h k =
 
 -- ---- and a request with it
 
-one_value : (headers : List Header) (name value other : List ℕ) → IsSignedValue headers name value → IsSignedValue headers name other → other ≡ value
+one_value : (headers : List Header) (name value other : List ℕ) → IsSignedValue headers name value
+    → IsSignedValue headers name other → other ≡ value
 one_value headers name value other (h, is, at) (g, is_too, at_too) =
     let same = alone h g (sym is ∙ is_too) in
     at_too ∙ sym (ap (λ (x : Header). trimmed x.value) same) ∙ sym at
@@ -135,11 +149,13 @@ one_value headers name value other (h, is, at) (g, is_too, at_too) =
     alone : (x y : Header) → x ∷ [] ≡ y ∷ [] → x ≡ y
     alone x y e = cc
 
-pub read_back : (t u : Terms) (target : List ℕ) (r : Request) → IsLinkFor t target → IsLinkFor u target → IsRequestFor t target r → IsRequestFor u target r → OrdersTheSame t u
+pub read_back : (t u : Terms) (target : List ℕ) (r : Request) → IsLinkFor t target → IsLinkFor u target
+    → IsRequestFor t target r → IsRequestFor u target r → OrdersTheSame t u
 read_back t u target r h k is is_too =
     let told = told_back t u target h k in
     let same = parts_once r h.parts k.parts (h.formed r is) (k.formed r is_too) in
-    let moved = both_ways (wanted t) (wanted u) h.parts.signed k.parts.signed h.says.signed k.says.signed (ap (λ (x : LinkValues). x.signed) same) in
+    let moved = both_ways (wanted t) (wanted u) h.parts.signed k.parts.signed h.says.signed k.says.signed
+    (ap (λ (x : LinkValues). x.signed) same) in
     record {
       method = sym is_too.method_is ∙ is.method_is;
       path = told.path;

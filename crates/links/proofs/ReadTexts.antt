@@ -29,7 +29,13 @@ texts_read r p h =
     let same = value_once p.params (codes "X-Amz-Date") p.date date own_date has_date in
     record {
       five = record { credential = credential; date = p.date; expires = expires; names = names };
-      values = record { algorithm = h rule.Algorithm; credential = has; date = own_date; expires = has_expires; names = has_names };
+      values = record {
+        algorithm = h rule.Algorithm;
+        credential = has;
+        date = own_date;
+        expires = has_expires;
+        names = has_names;
+      };
       date = refl;
       says_scope = subst (λ (d : List ℕ). IsCredential credential d p.key_id p.scope) same scope;
       says_start = start;

@@ -29,7 +29,8 @@ abbrev pub others_of : List Param → List Param
 others_of params = filter (λ q. not (is_signing_name q.name)) params
 
 from_filter : {X : Type 0} (t : X → Bool) (xs : List X) (x : X) → Contains (filter t xs) x → Contains xs x
-from_filter t xs x there = All-contains (Contains xs) (filter t xs) x (All-filter t (Contains xs) xs (All-contains_itself xs)) there
+from_filter t xs x there =
+    All-contains (Contains xs) (filter t xs) x (All-filter t (Contains xs) xs (All-contains_itself xs)) there
 
 passed : {X : Type 0} (t : X → Bool) (xs : List X) (x : X) → Contains (filter t xs) x → t x ≡ true
 passed t xs x there = All-contains (λ y. t y ≡ true) (filter t xs) x (filter_passes t xs) there
@@ -37,19 +38,22 @@ passed t xs x there = All-contains (λ y. t y ≡ true) (filter t xs) x (filter_
 -- ---- an element of the one is an element of the other
 
 -- what each of these names leads to, a name among them leads to
-leads : (name : List ℕ) (P : Type 0) (names : List (List ℕ)) → AllByRecursion (λ n. same_bytes name n ≡ true → P) names → list_any (same_bytes name) names ≡ true → P
+leads : (name : List ℕ) (P : Type 0) (names : List (List ℕ)) → AllByRecursion (λ n. same_bytes name n ≡ true → P) names
+    → list_any (same_bytes name) names ≡ true → P
 leads name P [] each e = absurd cc
 leads name P (n ∷ names) each e = ⊎_elim (λ here. each.0 here) (λ more. leads name P names each.1 more) (or_cases _ _ e)
 
 -- a parameter whose name has one value in both
-with_value : (ps qs : List Param) (name value : List ℕ) → HasValue ps name value → HasValue qs name value → (x : Param) → Contains ps x → same_bytes x.name name ≡ true → Contains qs x
+with_value : (ps qs : List Param) (name value : List ℕ) → HasValue ps name value → HasValue qs name value → (x : Param)
+    → Contains ps x → same_bytes x.name name ≡ true → Contains qs x
 with_value ps qs name value h k x there named =
     let found = subst (λ (zs : List Param). Contains zs x) h (kept (λ q. same_bytes q.name name) ps x named there) in
     let back = subst (λ (zs : List Param). Contains zs x) (sym k) found in
     from_filter (λ q. same_bytes q.name name) qs x back
 
 -- one beside the signing ones
-beside : (own ps qs : List Param) → IsPermutation own (others_of ps) → IsPermutation own (others_of qs) → (x : Param) → Contains ps x → is_signing_name x.name ≡ false → Contains qs x
+beside : (own ps qs : List Param) → IsPermutation own (others_of ps) → IsPermutation own (others_of qs) → (x : Param)
+    → Contains ps x → is_signing_name x.name ≡ false → Contains qs x
 beside own ps qs to_p to_q x there other_name =
     let other = λ (q : Param). not (is_signing_name q.name) in
     let mine = kept other ps x (not_from_false _ other_name) there in
@@ -60,7 +64,8 @@ never : (b : Bool) → not b ≡ true → b ≡ true → ⊥
 never true h e = absurd cc
 never false h e = absurd cc
 
-pub there_too : (five : DraftValues) (own ps qs : List Param) → HaveValues five ps → HaveValues five qs → IsPermutation own (others_of ps) → IsPermutation own (others_of qs)
+pub there_too : (five : DraftValues) (own ps qs : List Param) → HaveValues five ps → HaveValues five qs
+    → IsPermutation own (others_of ps) → IsPermutation own (others_of qs)
     → (x : Param) → Contains (signed_params ps) x → Contains (signed_params qs) x
 there_too five own ps qs h k to_p to_q x there =
     let keeps = λ (p : Param). not (same_bytes p.name (codes "X-Amz-Signature")) in
@@ -82,18 +87,23 @@ there_too five own ps qs h k to_p to_q x there =
 
 -- ---- the query
 
-all_there : (five : DraftValues) (own ps qs : List Param) → HaveValues five ps → HaveValues five qs → IsPermutation own (others_of ps) → IsPermutation own (others_of qs)
-    → (xs ys : List Param) → IsPermutation (signed_params ps) xs → IsPermutation (signed_params qs) ys → All (Contains ys) xs
+all_there : (five : DraftValues) (own ps qs : List Param) → HaveValues five ps → HaveValues five qs
+    → IsPermutation own (others_of ps) → IsPermutation own (others_of qs)
+    → (xs ys : List Param) → IsPermutation (signed_params ps) xs → IsPermutation (signed_params qs) ys
+    → All (Contains ys) xs
 all_there five own ps qs h k to_p to_q xs ys to_x to_y =
     All-permutation (Contains ys) (signed_params ps) xs to_x
     (λ j d within.
     let x = get_or (signed_params ps) j d in
-    Contains-permutation (signed_params qs) ys x to_y (there_too five own ps qs h k to_p to_q x (All-contains_itself (signed_params ps) j d within)))
+    Contains-permutation (signed_params qs) ys x to_y
+    (there_too five own ps qs h k to_p to_q x (All-contains_itself (signed_params ps) j d within)))
 
-pub query_same : (five : DraftValues) (own ps qs : List Param) → HaveValues five ps → HaveValues five qs → IsPermutation own (others_of ps) → IsPermutation own (others_of qs)
+pub query_same : (five : DraftValues) (own ps qs : List Param) → HaveValues five ps → HaveValues five qs
+    → IsPermutation own (others_of ps) → IsPermutation own (others_of qs)
     → (text other : List ℕ) → IsCanonicalQuery ps text → IsCanonicalQuery qs other → other ≡ text
 query_same five own ps qs h k to_p to_q text other a b =
     let there = all_there five own ps qs h k to_p to_q a.ordered b.ordered a.rearranged b.rearranged in
     let back = all_there five own qs ps k h to_q to_p b.ordered a.ordered b.rearranged a.rearranged in
-    let same = ascending_once (λ (p : Param). uri_encoded Encoded p.name) a.ordered b.ordered a.ascend b.ascend there back in
+    let same = ascending_once (λ (p : Param). uri_encoded Encoded p.name) a.ordered b.ordered a.ascend b.ascend
+    there back in
     b.joined ∙ ap (λ (ps : List Param). join_with_byte 38 (map param_text ps)) same ∙ sym a.joined
