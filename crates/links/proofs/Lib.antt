@@ -11,6 +11,11 @@ pub mod Inspected
 pub mod LinkSigning
 pub mod Digits
 pub mod Texts
+pub mod SaidOnce
+pub mod SameParams
+pub mod ReadTexts
+pub mod OnlyLink
+pub mod ReadBack
 pub mod Admitted
 pub mod OwnTerms
 pub mod ReadAgain

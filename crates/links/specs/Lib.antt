@@ -7,5 +7,6 @@ pub mod SixValues
 pub mod LinkReadings
 pub mod Judging
 pub mod Orders
+pub mod SameOrders
 pub mod Drafts
 pub mod Alike

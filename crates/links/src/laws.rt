@@ -2,6 +2,8 @@
 ghost use Rattle.std.specs.Prelude.{◌≡◌, ◌↔◌, ℕ, List, Option, Some, IsFalse};
 ghost use Rattle.sigtext.specs.Request.{Request};
 ghost use Rattle.links.specs.WellFormed.{LinkValues, IsWellFormed};
+ghost use Rattle.links.specs.Orders.{Terms, IsRequestFor, IsLinkFor};
+ghost use Rattle.links.specs.SameOrders.{TellTheSame, OrdersTheSame};
 ghost use Rattle.links.specs.Moments.{Now, HasBegun, IsNotOver};
 ghost use Rattle.links.specs.Admits.{KnownKey, IsSignedBy, Admits};
 ghost use Rattle.links.specs.Alike.{SameText, SaysTheSame};
@@ -22,4 +24,16 @@ pub fn law_of_parts()
 pub fn law_of_texts()
     ensures same { (r s : Request) (p q : LinkValues) → IsWellFormed r p → IsWellFormed s q
         → SameText r s p q → SaysTheSame r s p q }
+{}
+
+/// The link of an order is the only one: two targets that are links for the same order are one target. And a
+/// written link is read back as its order. What the target tells is the same for each order that it is a link for:
+/// the path, the parameters, the names of the signed headers, the start, the expiry, the key id and the region. Of
+/// the method, the host and the headers' values a target holds no more than the signature; where one request is
+/// for both orders these are the same too, so that the secret alone is not read back.
+pub fn law_of_links()
+    ensures only { (t : Terms) (a b : List ℕ) → IsLinkFor t a → IsLinkFor t b → b ≡ a }
+    ensures told_back { (t u : Terms) (target : List ℕ) → IsLinkFor t target → IsLinkFor u target → TellTheSame t u }
+    ensures read_back { (t u : Terms) (target : List ℕ) (r : Request) → IsLinkFor t target → IsLinkFor u target
+        → IsRequestFor t target r → IsRequestFor u target r → OrdersTheSame t u }
 {}
