@@ -31,14 +31,14 @@ head_is x y xs ys e = cc
 pub second_is : (x y u v : ℕ) (xs ys : List ℕ) → x ∷ u ∷ xs ≡ y ∷ v ∷ ys → u ≡ v
 second_is x y u v xs ys e = cc
 
-put_no_post : (r : Request) → IsPut r → IsPost r → ⊥
+pub put_no_post : (r : Request) → IsPut r → IsPost r → ⊥
 put_no_post r put post = let e = second_is 80 80 85 79 (84 ∷ []) (83 ∷ 84 ∷ []) (sym put ∙ post) in omega (arith, e)
 
-fetch_no_put : (r : Request) → IsFetch r → IsPut r → ⊥
+pub fetch_no_put : (r : Request) → IsFetch r → IsPut r → ⊥
 fetch_no_put r (inl get) put = let e = head_is 71 80 (69 ∷ 84 ∷ []) (85 ∷ 84 ∷ []) (sym get ∙ put) in omega (arith, e)
 fetch_no_put r (inr head) put = let e = head_is 72 80 (69 ∷ 65 ∷ 68 ∷ []) (85 ∷ 84 ∷ []) (sym head ∙ put) in omega (arith, e)
 
-fetch_no_post : (r : Request) → IsFetch r → IsPost r → ⊥
+pub fetch_no_post : (r : Request) → IsFetch r → IsPost r → ⊥
 fetch_no_post r (inl get) post = let e = head_is 71 80 (69 ∷ 84 ∷ []) (79 ∷ 83 ∷ 84 ∷ []) (sym get ∙ post) in omega (arith, e)
 fetch_no_post r (inr head) post = let e = head_is 72 80 (69 ∷ 65 ∷ 68 ∷ []) (79 ∷ 83 ∷ 84 ∷ []) (sym head ∙ post) in omega (arith, e)
 
@@ -73,7 +73,7 @@ desk_rule s p _ lt = tt
 -- ---- the rules before a number
 
 -- the rules of the link before this number
-link_before : (key : Option KnownKey) (r : Request) (now : ℕ) (p : LinkValues) (n : ℕ) → (19 < n → IsSome key) → (20 < n → IfSome key (λ k. IsFalse k.revoked)) → (21 < n → IfSome key (λ k. IsSignedBy k.secret r p))
+pub link_before : (key : Option KnownKey) (r : Request) (now : ℕ) (p : LinkValues) (n : ℕ) → (19 < n → IsSome key) → (20 < n → IfSome key (λ k. IsFalse k.revoked)) → (21 < n → IfSome key (λ k. IsSignedBy k.secret r p))
     → (22 < n → HasBegun (at now) p.start) → (23 < n → IsNotOver (at now) p.start p.expires) → (q : Refusal) → number_of q < n → LinkRule q key r (at now) p
 link_before key r now p n there unrevoked signed begun over rule.KeyUnknown lt = there lt
 link_before key r now p n there unrevoked signed begun over rule.KeyRevoked lt = unrevoked lt
@@ -101,7 +101,7 @@ rules_before s r now p n most formed link form q lt = record {
 }
 
 -- the same up to number 24, where no rule of the form is asked
-link_rules : (s : State) (r : Request) (now : ℕ) (p : LinkValues) (n : Refusal) → number_of n ≤ 24 → IsWellFormed r p
+pub link_rules : (s : State) (r : Request) (now : ℕ) (p : LinkValues) (n : Refusal) → number_of n ≤ 24 → IsWellFormed r p
     → ((q : Refusal) → number_of q < number_of n → LinkRule q (known s p.key_id) r (at now) p) → HoldBefore (Rule s r now) n p
 link_rules s r now p n most formed link =
     rules_before s r now p n (omega arith) (λ q lt. formed q) link (λ q lt. form_rule s r p q (omega arith))
@@ -135,7 +135,7 @@ head_first s r now q f =
     }
 
 -- parts that hold the rules before the key's are the parts
-same_parts : (s : State) (r : Request) (now : ℕ) (p other : LinkValues) (n : Refusal) → 19 ≤ number_of n → IsWellFormed r p → HoldBefore (Rule s r now) n other → other ≡ p
+pub same_parts : (s : State) (r : Request) (now : ℕ) (p other : LinkValues) (n : Refusal) → 19 ≤ number_of n → IsWellFormed r p → HoldBefore (Rule s r now) n other → other ≡ p
 same_parts s r now p other n least formed hold = parts_before r p other formed (λ q lt. (hold q (omega arith)).head)
 
 -- ---- the key

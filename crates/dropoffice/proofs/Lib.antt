@@ -1,6 +1,7 @@
 mod Admission
 mod RuleEdges
 pub mod Acceptances
+pub mod Alikeness
 pub mod Answered
 pub mod Deciding
 pub mod Defaulted
@@ -26,3 +27,6 @@ pub mod Turns
 pub mod Without
 pub mod Obeyed
 pub mod Possible
+pub mod Once
+pub mod Repeats
+pub mod Standing

@@ -19,7 +19,7 @@ use Rattle.dropoffice.specs.Replying.{IsReplied}
 use Rattle.dropoffice.specs.Rules.{IsPost, Asks, Rule}
 use Rattle.dropoffice.proofs.Deciding.{no_command, no_possible, holds_post}
 
-same_value : (params : List Param) (name a b : List ℕ) → HasValue params name a → HasValue params name b → b ≡ a
+pub same_value : (params : List Param) (name a b : List ℕ) → HasValue params name a → HasValue params name b → b ≡ a
 same_value params name a b x y = only (sym x ∙ y)
   where
     first : (x y : Param) → x ∷ [] ≡ y ∷ [] → y ≡ x

@@ -11,6 +11,7 @@ use Rattle.dropoffice.specs.declared.session.SessionEnd.{SessionEnd}
 use Rattle.dropoffice.specs.Connections.{Told, IsStream, Serves, TellsFaults, KeepsCount, KeepsCounts, AreServed, is_fault, Runs}
 use Rattle.dropoffice.specs.Kept.{IsLeft}
 use Rattle.dropoffice.specs.Sessions.{Session, Connection, Run, most_messages}
+use Rattle.dropoffice.proofs.Repeats.{runs_act_once}
 use Rattle.dropoffice.proofs.Without.{runs_without}
 
 -- ---- one more at the end of each part
@@ -60,6 +61,7 @@ runs_more gives remaining contents first clock clock' olds news old new count co
       counted = counts_more r.connections c count count' count'' r.counted served.counted;
       run = run;
       without = runs_without s after (r.connections ++ c ∷ []) (r.moments ++ served.moments) run;
+      repeats = runs_act_once s after (r.connections ++ c ∷ []) (r.moments ++ served.moments) run;
       faulty = counted ∙ ap (λ n. n + cond (is_fault e) 1 0) r.faulty ∙ sym (count_more r.connections c);
     }
 
@@ -77,7 +79,7 @@ pub starts : {C R W : Type 0} (means : State → Type 0) (gives : C → ℕ → 
 starts means gives remaining contents clock old count s same = record {
   state = s;
   same = same;
-  runs = record { connections = []; moments = []; told = refl; served = tt; counted = refl; run = (refl, refl); without = runs_without s s [] [] (refl, refl); faulty = refl };
+  runs = record { connections = []; moments = []; told = refl; served = tt; counted = refl; run = (refl, refl); without = runs_without s s [] [] (refl, refl); repeats = runs_act_once s s [] [] (refl, refl); faulty = refl };
 }
 
 -- at the end of the list

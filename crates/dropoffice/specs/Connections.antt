@@ -6,6 +6,7 @@ use Rattle.boxes.specs.State.{State}
 use Rattle.wire.specs.declared.counted.Counted.{Counted}
 use Rattle.dropoffice.specs.declared.session.SessionEnd.{SessionEnd}
 use Rattle.dropoffice.specs.declared.session.SessionEnd.TheVariants.{Ended, Truncated, Refused, Limit, ReadFault, WriteFault}
+use Rattle.dropoffice.specs.Repeats.{ActsOnce}
 use Rattle.dropoffice.specs.Sessions.{Session, Connection, Run}
 use Rattle.dropoffice.specs.Without.{RunsWithout}
 
@@ -79,7 +80,8 @@ is_fault (Refused number) = false
 is_fault Limit = false
 
 -- the whole run: the connections in order, their moments, the state after, what the keeper counted, and how
--- many connections ended by a fault; and that it is a run without what was answered with refusal 40, too
+-- many connections ended by a fault; and that it is a run without what was answered with refusal 40, too, and one in
+-- which an upload acts once
 pub record Runs {C R W : Type 0} (gives : C → ℕ → C → Type 0) (remaining : R → Option (List ℕ)) (contents : W → Option (List ℕ)) (clock clock' : C) (old new : List (Counted R × Counted W)) (count count' : ℕ) (s after : State) (faults : ℕ) : Type 0 where
   pub connections : List Connection
   pub moments : List ℕ
@@ -88,4 +90,5 @@ pub record Runs {C R W : Type 0} (gives : C → ℕ → C → Type 0) (remaining
   pub counted : KeepsCounts connections count count'
   pub run : Run s connections moments after
   pub without : RunsWithout s connections moments after
+  pub repeats : ActsOnce s connections moments after
   pub faulty : faults ≡ count_by (λ c. is_fault c.end) connections

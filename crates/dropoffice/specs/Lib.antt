@@ -1,4 +1,5 @@
 pub mod Admitted
+pub mod Alike
 pub mod Answering
 pub mod Asked
 pub mod Clocks
@@ -9,6 +10,7 @@ pub mod Kept
 pub mod Obeying
 pub mod Offices
 pub mod Places
+pub mod Repeats
 pub mod Replays
 pub mod Replying
 pub mod Rules

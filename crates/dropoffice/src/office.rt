@@ -18,14 +18,16 @@ pub struct Office<K> {
 impl<K: Keeper> Office<K> {
     ghost use Rattle.std.specs.Prelude.{◌≡◌, ◌≢◌, ◌≤◌, Err, IfErr, IfOk};
     ghost use Rattle.boxes.specs.State.{State};
+    ghost use Rattle.sigtext.specs.Request.{Request};
     ghost use Rattle.links.specs.LinkReadings.{IsLinkOf};
     ghost use Rattle.links.specs.Methods.{method_text};
     ghost use Rattle.links.specs.WellFormed.{LinkValues};
     ghost use Rattle.wire.specs.Messages.{request_in};
+    ghost use Rattle.dropoffice.specs.Alike.{AreAlike};
     ghost use Rattle.dropoffice.specs.Asked.{IsReadable};
     ghost use Rattle.dropoffice.specs.Enduring.{AddsAsked, Endures, IsAsked, RefusedLasts};
     ghost use Rattle.dropoffice.specs.Kept.{IsKept};
-    ghost use Rattle.dropoffice.specs.Offices.{IsTryAgain, IsAnswered};
+    ghost use Rattle.dropoffice.specs.Offices.{IsTryAgain, IsAnswered, IsTheAnswer};
     ghost use Rattle.dropoffice.specs.Replying.{IsReplied, IsNoRefusal};
 
     /// An office over this keeper, which it holds as it is.
@@ -98,11 +100,17 @@ impl<K: Keeper> Office<K> {
     /// command that took effect is never answered with 40. A method that is not served and a target that is malformed are
     /// refused without memory, and never with 40.
     ///
+    /// It is the one answer to each request that says the same, too: of the same signed text, signature and body, and for a
+    /// PUT of the same mark whether a length was given. However such a request is respelled, and whatever else its head
+    /// holds, in the same state at the same moment it is answered so, and leaves the same state.
+    ///
     /// What was answered outlasts a crash: one that follows leaves the state after, and nothing else; or, where nothing was
     /// changed, nothing new but the standing state. After a 40 it may also leave the state with this request, whole.
     pub fn answer(&mut self, message: &Message<'_>, now: Moment) -> Answer
         ensures answers { (s : State) → IsKept (K.means self.old.keeper) (K.is_honest self.new.keeper) s
             → IsAnswered (Endures K.means K.leaves K.leaves_whole self.old.keeper self.new.keeper s) s (request_in message.now) now result }
+        ensures alike { (s : State) (other : Request) → IsKept (K.means self.old.keeper) (K.is_honest self.new.keeper) s → AreAlike (request_in message.now) other
+            → IsTheAnswer (Endures K.means K.leaves K.leaves_whole self.old.keeper self.new.keeper s) s other now result }
         ensures again { IsTryAgain result → (s : State) → K.means self.old.keeper s → K.means self.new.keeper s }
         ensures readable { IsTryAgain result → IsReadable (request_in message.now) }
         ensures counted { (IsTryAgain result → ⊥) → K.faults self.new.keeper ≡ K.faults self.old.keeper }

@@ -6,6 +6,7 @@ use Rattle.wire.specs.Messages.{request_in}
 use Rattle.wire.specs.Shown.{said_of}
 use Rattle.dropoffice.specs.Answering.{accepts, shown}
 use Rattle.dropoffice.specs.Enduring.{unchanged}
+use Rattle.dropoffice.proofs.Alikeness.{the_answer}
 use Rattle.dropoffice.proofs.Answered.{is_again, refused_text}
 use Rattle.dropoffice.proofs.office.Office.answer.Goals as goal
 
@@ -33,3 +34,11 @@ returns-in-Err-clause-answers g c s kept other =
 
 pub returns-in-Err-clause-crash : goal.returns-in-Err-clause-crash
 returns-in-Err-clause-crash g c s kept again = (c.in-Err.ensures.crash s kept).0
+
+pub returns-in-Ok-clause-alike : goal.returns-in-Ok-clause-alike
+returns-in-Ok-clause-alike g c s other kept alike =
+    the_answer _ s (request_in c.args.message.now) other c.args.now _ alike (returns-in-Ok-clause-answers g c s kept)
+
+pub returns-in-Err-clause-alike : goal.returns-in-Err-clause-alike
+returns-in-Err-clause-alike g c s other kept alike =
+    the_answer _ s (request_in c.args.message.now) other c.args.now _ alike (returns-in-Err-clause-answers g c s kept)
