@@ -249,7 +249,7 @@ common r other h = record {
 
 -- what a request is answered is the one answer to each request that is like it
 pub the_answer : (means : State → Type 0) (s : State) (r other : Request) (now : ℕ) (a : Answer) → AreAlike r other → IsAnswered means s r now a → IsTheAnswer means s other now a
-the_answer means s r other now a h answered no =
-    let (after, left, is) = answered no in
+the_answer means s r other now a h answered told =
+    let (after, left, is) = answered told in
     let it = answered_too s r other now h.mine h.its h.formed h.other_formed (common r other h) _ after is in
     (after, left, it, λ text x one. answers_once s other now _ text after x it one)

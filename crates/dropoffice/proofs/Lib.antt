@@ -28,5 +28,6 @@ pub mod Without
 pub mod Obeyed
 pub mod Possible
 pub mod Once
+pub mod RepeatEdges
 pub mod Repeats
 pub mod Standing

@@ -1,5 +1,5 @@
 -- The machine is a function: a request has one reply, and one state after it.
-use Rattle.std.proofs.Common.{◌≡◌, ◌∙◌, ◌-◌, ◌<◌, ◌+◌, ℕ, List, [], ◌∷◌, get_or, true, Some, inl, inr, refl, sym, ap, subst, ⊎_elim, arith}
+use Rattle.std.proofs.Common.{◌≡◌, ◌∙◌, ◌-◌, ◌<◌, ℕ, List, [], ◌∷◌, get_or, true, refl, sym, ap, subst, ⊎_elim, arith}
 use Rattle.std.specs.FinMap.{get, insert}
 use Rattle.std.proofs.lemmas.Bool.{cases_lt}
 use Rattle.sigtext.specs.declared.refusal.Refusal.{Refusal}
@@ -9,7 +9,7 @@ use Rattle.sigtext.specs.Request.{Request}
 use Rattle.sigtext.specs.Rules.{AllHold, IsFirstToFail}
 use Rattle.links.specs.WellFormed.{LinkValues}
 use Rattle.links.proofs.Parts.{parts_once}
-use Rattle.boxes.specs.Rules.{Stands, Upload}
+use Rattle.boxes.specs.Rules.{Upload}
 use Rattle.boxes.specs.State.{File, Key, Place, Receipt, Settings, State}
 use Rattle.boxes.specs.Steps.{AddBox, AddKey, CloseBox, Command, CommandStep, DropFile, FetchStep, HasReceipt, RevokeKey, UploadStep, again, found, taken}
 use Rattle.boxes.specs.Steps as step

@@ -3,12 +3,10 @@ use Rattle.std.proofs.Common.{◌≡◌, ◌∙◌, ℕ, suc, ◌+◌, Bool, Lis
 use Rattle.std.specs.List.{AllByRecursion}
 use Rattle.hex.specs.Hex.{encode_lower}
 use Rattle.sigv4.specs.Hmac.{sha256}
-use Rattle.sigtext.specs.declared.refusal.Refusal.{Refusal}
 use Rattle.sigtext.specs.declared.refusal.Refusal.TheVariants as rule
 use Rattle.sigtext.specs.Request.{Request}
 use Rattle.sigtext.specs.Bytes.{IsBeginning}
 use Rattle.sigtext.specs.Rules.{AllHold}
-use Rattle.sigtext.specs.Target.{Param}
 use Rattle.links.specs.WellFormed.{LinkValues}
 use Rattle.links.proofs.Parts.{parts_once}
 use Rattle.boxes.specs.State.{Place, State}
@@ -17,12 +15,12 @@ use Rattle.boxes.specs.Steps.{Command, DropFile, CommandStep, FetchStep, UploadS
 use Rattle.boxes.specs.Steps as step
 use Rattle.desk.specs.Texts.{IsCommand}
 use Rattle.desk.proofs.OneCommand.{command_once}
-use Rattle.wire.specs.Answers.{Said, Kept}
+use Rattle.wire.specs.Answers.{Said}
 use Rattle.dropoffice.specs.Admitted.{ReachesBoxes}
-use Rattle.dropoffice.specs.Answering.{Accepts, put, fetch, post, Replies, refuses, accepts, Answers, shown}
+use Rattle.dropoffice.specs.Answering.{Accepts, put, fetch, post, Replies, refuses, accepts, shown}
 use Rattle.dropoffice.specs.Repeats.{Act, Acts, text_of, AreSessionActs, AreActs, IsUploadOf, GotReceipt, DropsFile, LeavesFile, RepeatsOnce, ActsOnce}
 use Rattle.dropoffice.specs.Repeats as act
-use Rattle.dropoffice.specs.Rules.{IsPut, IsPost, Asks, Rule, place_of, upload_of}
+use Rattle.dropoffice.specs.Rules.{IsPut, Asks, Rule, place_of, upload_of}
 use Rattle.dropoffice.specs.Sessions.{Session, Connection, Run, most_messages}
 use Rattle.dropoffice.specs.Sessions as session
 use Rattle.dropoffice.specs.declared.session.SessionEnd.{SessionEnd}

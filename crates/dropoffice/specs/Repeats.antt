@@ -41,18 +41,21 @@ text_of a = answer_text (is_head a.request) a.reply
 -- is one, in order. stream, moments, out, e and gave_up: as a session's.
 pub data AreSessionActs : ℕ → List ℕ → State → List ℕ → List ℕ → SessionEnd → Bool → List Act → State → Type 0 where
   -- no message takes a moment any more
-  over : (n : ℕ) (stream : List ℕ) (s : State) (out : List ℕ) (e : SessionEnd) (gave_up : Bool) → Session n stream s [] out e gave_up s
-      → AreSessionActs n stream s [] out e gave_up [] s
+  over : (n : ℕ) (stream : List ℕ) (s : State) (out : List ℕ) (e : SessionEnd) (gave_up : Bool)
+      → Session n stream s [] out e gave_up s → AreSessionActs n stream s [] out e gave_up [] s
   -- the message is given up, and all that is written is refusal 40, or a beginning of it
-  given_up : (n : ℕ) (stream rest : List ℕ) (s : State) (r : Request) (now : ℕ) (out : List ℕ) (e : SessionEnd) → Next stream (frame.Message r) rest
-      → IsReadable r → IsLastRefusal out e → AreSessionActs (suc n) stream s (now ∷ []) out e true [] s
+  given_up : (n : ℕ) (stream rest : List ℕ) (s : State) (r : Request) (now : ℕ) (out : List ℕ) (e : SessionEnd)
+      → Next stream (frame.Message r) rest → IsReadable r → IsLastRefusal out e
+      → AreSessionActs (suc n) stream s (now ∷ []) out e true [] s
   -- an act, whose answer is written whole, and the acts after it
-  answered : (n : ℕ) (stream rest : List ℕ) (s after : State) (a : Act) (acts : List Act) (moments out : List ℕ) (e : SessionEnd) (gave_up : Bool)
-      → Next stream (frame.Message a.request) rest → a.before ≡ s → AreSessionActs n rest a.after moments out e gave_up acts after
+  answered : (n : ℕ) (stream rest : List ℕ) (s after : State) (a : Act) (acts : List Act) (moments out : List ℕ)
+      (e : SessionEnd) (gave_up : Bool) → Next stream (frame.Message a.request) rest → a.before ≡ s
+      → AreSessionActs n rest a.after moments out e gave_up acts after
       → AreSessionActs (suc n) stream s (a.now ∷ moments) (text_of a ++ out) e gave_up (a ∷ acts) after
-  -- the last act, whose answer is lost: no more than a beginning of it is sure to be written
-  lost : (n : ℕ) (stream rest : List ℕ) (s : State) (a : Act) (front : List ℕ) → Next stream (frame.Message a.request) rest → a.before ≡ s
-      → IsBeginning front (text_of a) → AreSessionActs (suc n) stream s (a.now ∷ []) front WriteFault false (a ∷ []) a.after
+  -- the last act, whose answer is lost: a beginning of it is written, and then a write fails
+  lost : (n : ℕ) (stream rest : List ℕ) (s : State) (a : Act) (front : List ℕ) → Next stream (frame.Message a.request) rest
+      → a.before ≡ s → IsBeginning front (text_of a)
+      → AreSessionActs (suc n) stream s (a.now ∷ []) front WriteFault false (a ∷ []) a.after
 
 -- the acts of the connections, one connection after another
 abbrev pub AreActs : State → List Connection → List ℕ → List Act → State → Type 0

@@ -10,6 +10,7 @@ mod fetching;
 mod forms;
 mod handling;
 mod init;
+mod laws;
 mod linking;
 mod listening;
 mod listing;
@@ -31,6 +32,7 @@ mod words;
 
 pub use clocks::{Clock, FixedClock, ListedClock};
 pub use commanding::DeskFault;
+pub use laws::{law_of_acts, law_of_replies};
 pub use machine_clock::MachineClock;
 pub use office::Office;
 pub use program::perform;

@@ -41,17 +41,12 @@ pub(crate) const COMMANDS: [Step; 5] = [
     Step::DropFile,
 ];
 
-/// A day of requests.
-pub(crate) const REQUESTS: [Step; 9] = [
+/// A session of requests, of which the first and the last change the office.
+pub(crate) const REQUESTS: [Step; 4] = [
     Step::Ask(Errand::First),
-    Step::Ask(Errand::AddKey),
-    Step::Ask(Errand::Upload),
-    Step::Ask(Errand::Fetch),
     Step::Ask(Errand::Repeat),
-    Step::Ask(Errand::AddBox),
-    Step::Ask(Errand::RevokeKey),
+    Step::Ask(Errand::Fetch),
     Step::Ask(Errand::DropFile),
-    Step::Ask(Errand::CloseBox),
 ];
 
 const EMPTY: [Step; 1] = [Step::Begin];

@@ -412,7 +412,7 @@ fn commands_by_request_stop(rt: HostRuntime) -> Result<(), Fail> {
 }
 
 #[test]
-fn a_day_of_requests_stops(rt: HostRuntime) -> Result<(), Fail> {
+fn a_session_stops(rt: HostRuntime) -> Result<(), Fail> {
     let Count { stops, states } = stop_each(rt.alloc(), &REQUESTS)?;
     println!(rt; "{stops} stops, {states} states")?;
     Ok(())

@@ -31,6 +31,7 @@ pub mod owed;
 #[cfg(test)]
 mod programs;
 pub mod published;
+mod repeats;
 pub mod rows;
 #[cfg(test)]
 mod runs;

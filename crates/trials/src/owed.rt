@@ -51,8 +51,14 @@ pub const FIRST_ABC: &[u8] =
 pub const SECOND_X: &[u8] =
     b"HTTP/1.1 200 OK\r\nContent-Type: text/plain\r\nContent-Length: 77\r\n\r\nreceipt 2 1 2d711642b726b04401627ca9fbac32f5c8530fb1903cc4db02258717921a4881\n";
 
+pub const SECOND_ABC: &[u8] =
+    b"HTTP/1.1 200 OK\r\nContent-Type: text/plain\r\nContent-Length: 77\r\n\r\nreceipt 2 3 ba7816bf8f01cfea414140de5dae2223b00361a396177a9cb410ff61f20015ad\n";
+
 pub const SECOND_ABD: &[u8] =
     b"HTTP/1.1 200 OK\r\nContent-Type: text/plain\r\nContent-Length: 77\r\n\r\nreceipt 2 3 a52d159f262b2c6ddb724a61840befc36eb30c88877a4030b65cbe86298449c9\n";
+
+pub const THIRD_ABC: &[u8] =
+    b"HTTP/1.1 200 OK\r\nContent-Type: text/plain\r\nContent-Length: 77\r\n\r\nreceipt 3 3 ba7816bf8f01cfea414140de5dae2223b00361a396177a9cb410ff61f20015ad\n";
 
 pub const THIRD_X: &[u8] =
     b"HTTP/1.1 200 OK\r\nContent-Type: text/plain\r\nContent-Length: 77\r\n\r\nreceipt 3 1 2d711642b726b04401627ca9fbac32f5c8530fb1903cc4db02258717921a4881\n";

@@ -7,6 +7,7 @@ use crate::owed::{
     SECOND_ABD, SECOND_EMPTY, SECOND_X, TOO_MANY_FILES,
 };
 use crate::published::{DATE, NO_BOX, REQUEST, broken_off, broken_off_answers};
+use crate::repeats::{dropping, losing, outliving, returning, sharing};
 use boxes::Mode;
 use dropoffice::{Office, SessionEnd};
 use keeper::Keeper;
@@ -47,10 +48,20 @@ pub enum Row {
     Fetches,
     /// Receipts are listed, and of each is told what stands of it.
     Lists,
+    /// An answer is lost, and the upload comes again.
+    Losing,
+    /// An upload comes again by another key.
+    Sharing,
+    /// An upload comes again after its file was dropped.
+    Dropping,
+    /// An upload comes again after other bytes.
+    Returning,
+    /// An upload comes again by a link that is no longer good.
+    Outliving,
 }
 
 /// All rows.
-pub const ROWS: [Row; 13] = [
+pub const ROWS: [Row; 18] = [
     Row::Published,
     Row::BreakingOff,
     Row::Closing,
@@ -64,6 +75,11 @@ pub const ROWS: [Row; 13] = [
     Row::Keys,
     Row::Fetches,
     Row::Lists,
+    Row::Losing,
+    Row::Sharing,
+    Row::Dropping,
+    Row::Returning,
+    Row::Outliving,
 ];
 
 impl Row {
@@ -91,6 +107,11 @@ impl Row {
             Row::Keys => keys(office),
             Row::Fetches => fetches(office),
             Row::Lists => lists(office),
+            Row::Losing => losing(office),
+            Row::Sharing => sharing(office),
+            Row::Dropping => dropping(office),
+            Row::Returning => returning(office),
+            Row::Outliving => outliving(office),
         }
     }
 }
@@ -144,8 +165,13 @@ pub fn obey<K: Keeper>(office: &mut Office<K>, line: &[u8], want: &[u8]) -> Resu
     expect(office, &stream, DATE, want)
 }
 
-// The next receipt has this number, and the box so many bytes and files.
-fn counts<K: Keeper>(keeper: &mut K, next: u64, used: u64, count: u64) -> Result<(), Fail> {
+/// The next receipt has this number, and the box so many bytes and files.
+pub(crate) fn counts<K: Keeper>(
+    keeper: &mut K,
+    next: u64,
+    used: u64,
+    count: u64,
+) -> Result<(), Fail> {
     let sizes = keeper.sizes(b"in")?;
     holds(sizes.used == used && sizes.count == count, "other sizes")?;
     holds(keeper.next_number()? == next, "another number")
@@ -264,8 +290,8 @@ fn names<K: Keeper>(office: &mut Office<K>) -> Result<(), Fail> {
     stands(&mut office.keeper, &letters[..1024])
 }
 
-// A request by the key `k2`.
-fn by_link<'a>(
+/// A request by the key `k2`.
+pub(crate) fn by_link<'a>(
     alloc: Global,
     method: &'a [u8],
     path: &'a [u8],
