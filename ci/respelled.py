@@ -152,7 +152,8 @@ FURTHER = [
     (b"Accept", b" */*"), (b"Accept", b""), (b"accept-encoding", b" gzip, br"), (b"User-Agent", b" curl/8.0  (x; y)"),
     (b"X-Forwarded-For", b" 192.0.2.1, 10.0.0.1"), (b"X-Forwarded-Host", b" other.example"), (b"Via", b" 1.1 proxy"),
     (b"If-None-Match", b" *"), (b"If-Match", b' "0"'), (b"If-Modified-Since", b" Fri, 24 May 2013 00:00:00 GMT"),
-    (b"Range", b" bytes=0-0"), (b"Content-Type", b" text/plain; charset=utf-8"), (b"Content-MD5", b" AAAAAAAAAAAAAAAAAAAAAA=="),
+    (b"Range", b" bytes=0-0"), (b"Content-Type", b" text/plain; charset=utf-8"),
+    (b"Content-MD5", b" AAAAAAAAAAAAAAAAAAAAAA=="),
     (b"Connection", b" close"), (b"Connection", b" keep-alive"), (b"Expect", b" 100-continue"), (b"Cookie", b" a=1; a=2"),
     (b"Authorization", b" Basic eDp5"), (b"Date", b" Thu, 01 Jan 1970 00:00:00 GMT"), (b"X-Amzn-Trace-Id", b" Root=1"),
     (b"Forwarded", b' for="[2001:db8::1]"'), (b"X-HTTP-Method-Override", b" DELETE"), (b"Referer", b" \xc3\xa9\xff"),
@@ -284,7 +285,8 @@ def uploads(source, in_box, key=None):
     """Uploads that are taken, and change the office."""
     for name in NEW_NAMES:
         data = source.choice(DATA)
-        yield Plain(f"PUT {in_box}/{name}", asked(source, "PUT", place(in_box, name), data, key=key), receipt(NEXT, data), True)
+        request = asked(source, "PUT", place(in_box, name), data, key=key)
+        yield Plain(f"PUT {in_box}/{name}", request, receipt(NEXT, data), True)
 
 
 def commands(source, lines):
@@ -313,9 +315,11 @@ def standing(source):
 # What is refused by the rules of boxes and bodies.
 REFUSED = [
     (25, "PUT", b"/in/a", None), (26, "GET", b"/in/kept.txt", b"x"), (26, "HEAD", b"/in/kept.txt", b"x"),
-    (27, "PUT", b"/none/a", b"x"), (27, "GET", b"/none/a", None), (27, "HEAD", b"/", None), (27, "GET", b"//in/kept.txt", None),
+    (27, "PUT", b"/none/a", b"x"), (27, "GET", b"/none/a", None), (27, "HEAD", b"/", None),
+    (27, "GET", b"//in/kept.txt", None),
     (28, "PUT", b"/in/" + b"n" * 1025, b"x"), (28, "GET", b"/in/" + b"%C3%A9" * 513, None),
-    (29, "PUT", b"/ends/a.doc", b"x"), (29, "PUT", b"/in/a%0Ab", b"x"), (29, "GET", b"/in/%FF", None), (29, "HEAD", b"/in/", None),
+    (29, "PUT", b"/ends/a.doc", b"x"), (29, "PUT", b"/in/a%0Ab", b"x"), (29, "GET", b"/in/%FF", None),
+    (29, "HEAD", b"/in/", None),
     (30, "PUT", b"/shut/new", b"x"), (30, "PUT", b"/shut/in%20time.txt", b"x"), (31, "PUT", b"/in/kept.txt", b"other"),
     (31, "PUT", b"/in/large", b"l" * tables.PIECE), (32, "PUT", b"/full/more", b""), (33, "PUT", b"/small/more", b"xy"),
     (33, "PUT", b"/swap/s.txt", b"x" * 301), (34, "GET", b"/in/none", None), (34, "HEAD", b"/in/KEPT.txt", None),
@@ -346,7 +350,8 @@ def refused_commands(source):
     for line in ["key revoke", "key revoke k2 ", "box close IN 20130524T000000Z", ""]:
         yield Plain(f"POST {line!r}", commanded(source, line), answer(35))
     yield Plain("POST to a box", commanded(source, "key revoke k2", b"/in"), answer(35))
-    for line in ["key revoke k3", f"key revoke {ID}", "key add k2 link x", "file drop in none", f"box add in {ANY} 1 1 keep any"]:
+    box = f"box add in {ANY} 1 1 keep any"
+    for line in ["key revoke k3", f"key revoke {ID}", "key add k2 link x", "file drop in none", box]:
         yield Plain(f"POST {line!r}", commanded(source, line), answer(36))
 
 
@@ -356,7 +361,8 @@ UNREADABLE = [
     (10, b"&X-Amz-Expires", b"&twice=1&twice=1&X-Amz-Expires"), (11, b"SHA256", b"SHA512"), (12, b"/s3/", b"/S3/"),
     (13, b"Z&", b"z&"), (14, b"=604800", b"=604801"), (15, b"SignedHeaders=host", b"SignedHeaders=Host"),
     (16, b"&X-Amz-Signature=", b"&X-Amz-Signature=0"), (17, b"SignedHeaders=host", b"SignedHeaders=host;host-2"),
-    (17, b"\r\nHost", b"\r\nHost: a\r\nHost"), (17, b"\r\nHost: ", b"\r\nHost: a  "), (18, b"\r\nHost", b"\r\nX-Amz-A: 1\r\nHost"),
+    (17, b"\r\nHost", b"\r\nHost: a\r\nHost"), (17, b"\r\nHost: ", b"\r\nHost: a  "),
+    (18, b"\r\nHost", b"\r\nX-Amz-A: 1\r\nHost"),
 ]
 
 
@@ -439,7 +445,7 @@ def ended_well(left):
 
 
 def test_plain(drop, count, office, plains):
-    """Plain requests that change nothing, in one run: each is answered as it is owed. Tells their answers and what is left."""
+    """Plain requests that change nothing, in one run: each is answered as is owed. Tells the answers and what is left."""
     before = tables.dump(office)
     out, left = over_copy(drop, office, "plain", [it.request for it in plains])
     answers = one_by_one(out, [it.request for it in plains])
@@ -450,8 +456,21 @@ def test_plain(drop, count, office, plains):
     return answers, left
 
 
-def in_runs(items):
-    return [items[at:at + TOGETHER] for at in range(0, len(items), TOGETHER)]
+def test_together(drop, count, office, items, unlike_end):
+    """Items of a name, the answer that is owed and a request, many in one run: each answer, and what each run leaves."""
+    runs = [items[at:at + TOGETHER] for at in range(0, len(items), TOGETHER)]
+
+    def each(numbered):
+        number, run = numbered
+        return over_copy(drop, office, number, [request for _, _, request in run])
+
+    for run, (out, left) in zip(runs, kit.side_by_side(each, enumerate(runs))):
+        answers = one_by_one(out, [request for _, _, request in run])
+        count.add("as many answers", difference(len(answers), len(run)))
+        for (name, owed, _), found in zip(run, answers):
+            count.add(name, unlike(found, owed))
+        count.add("what a run leaves", unlike_end(left))
+    return len(items)
 
 
 def test_quiet(drop, count, office, plains, source):
@@ -459,17 +478,9 @@ def test_quiet(drop, count, office, plains, source):
     answers, left = test_plain(drop, count, office, plains)
     items = []
     for it, owed in zip(plains, answers):
-        items += [(f"{it.name}; {ways}", other, owed) for ways, other in respellings(source, it.request)]
+        items += [(f"{it.name}; {ways}", owed, other) for ways, other in respellings(source, it.request)]
     source.shuffle(items)
-    runs = in_runs(items)
-    found = kit.side_by_side(lambda run: over_copy(drop, office, run[0], [other for _, other, _ in run[1]]), enumerate(runs))
-    for run, (out, left_here) in zip(runs, found):
-        answers = one_by_one(out, [other for _, other, _ in run])
-        count.add("as many answers", difference(len(answers), len(run)))
-        for (name, _, owed), one in zip(run, answers):
-            count.add(name, unlike(one, owed))
-        count.add("what a run leaves", unlike_left(left_here, left))
-    return len(items)
+    return test_together(drop, count, office, items, lambda found: unlike_left(found, left))
 
 
 def test_changing(drop, count, office, plains, source):
@@ -618,8 +629,8 @@ def with_host(it, change):
 
 
 def other_host(source, it):
-    change = source.choice([bytes.swapcase, lambda host: host + b".", lambda host: host + b":80", lambda host: b"other.example"])
-    return with_host(it, change)
+    end = source.choice([b".", b":80", b".other.example", None])
+    return with_host(it, lambda host: host + end if end else host.swapcase())
 
 
 def space_in_host(_, it):
@@ -708,15 +719,11 @@ def test_turned(drop, count, office, plains, source):
     items = [(f"{it.name}; {name}", answer(number, other.method.decode()), other)
              for it in plains if it.owed.startswith(b"HTTP/1.1 200 ") for name, number, other in turned(source, it.request)]
     source.shuffle(items)
-    runs = in_runs(items)
-    found = kit.side_by_side(lambda run: over_copy(drop, office, run[0], [other for _, _, other in run[1]]), enumerate(runs))
-    for run, (out, left) in zip(runs, found):
-        answers = one_by_one(out, [other for _, _, other in run])
-        count.add("as many refusals", difference(len(answers), len(run)))
-        for (name, owed, _), one in zip(run, answers):
-            count.add(name, unlike(one, owed))
-        count.add("what refusals leave", ended_well(left) or (None if left.dump == before else "the tables were changed"))
-    return len(items)
+
+    def unlike_end(left):
+        return ended_well(left) or (None if left.dump == before else "the tables were changed")
+
+    return test_together(drop, count, office, items, unlike_end)
 
 
 # ---- the published request
@@ -725,9 +732,9 @@ def test_turned(drop, count, office, plains, source):
 END = b"d404 HTTP"
 # What is replaced in the published request, and by what; and the refusal that answers it over an office without boxes.
 ROWS = [
-    (27, HOST, HOST.replace(b": ", b":   ")), (27, b"\r\nHost", b"\r\nAccept: x\r\nHost"), (8, b"/test.txt?", b"%2Ftest.txt?"),
-    (8, END, b"d404&% HTTP"), (8, END, b"d404&%4 HTTP"), (10, END, b"d404&X-Amz-Signature=" + SIGNATURE + b" HTTP"),
-    (17, HOST, b"Host: a  b"),
+    (27, HOST, HOST.replace(b": ", b":   ")), (27, b"\r\nHost", b"\r\nAccept: x\r\nHost"),
+    (8, b"/test.txt?", b"%2Ftest.txt?"), (8, END, b"d404&% HTTP"), (8, END, b"d404&%4 HTTP"),
+    (10, END, b"d404&X-Amz-Signature=" + SIGNATURE + b" HTTP"), (17, HOST, b"Host: a  b"),
 ]
 
 
