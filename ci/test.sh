@@ -104,6 +104,7 @@ count "ci/replays.py" python3 -B ci/replays.py
 count "ci/office.py" office
 count "ci/serve.py" serve
 count "ci/desk.py" desk
+count "ci/respelled.py" python3 -B ci/respelled.py
 count "ci/lists.py" lists
 count "ci/kills.py" kills
 count "ci/memory.py" python3 -B ci/memory.py
