@@ -17,6 +17,17 @@ fn reads_in_any_pieces(rt: HostRuntime) -> Result<(), Fail> {
 }
 
 #[test]
+fn ends_within_a_head(rt: HostRuntime) -> Result<(), Fail> {
+    let moment = Moment::read(DATE).ok_or("no moment")?;
+    for len in 1..REQUEST.len() {
+        let got = given_by(rt.alloc(), len, 4096, false, moment)?;
+        assert_eq!(rt; got.end, SessionEnd::Truncated, "after {len} bytes");
+        assert!(rt; got.text.is_empty(), "after {len} bytes");
+    }
+    Ok(())
+}
+
+#[test]
 fn ends_at_a_failed_read(rt: HostRuntime) -> Result<(), Fail> {
     let moment = Moment::read(DATE).ok_or("no moment")?;
     let whole = REQUEST.len();
