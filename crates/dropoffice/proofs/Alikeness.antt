@@ -247,6 +247,10 @@ common r other h = record {
   length = h.length;
 }
 
+-- what a request is replied is replied to each request that is like it
+pub replied_alike : (s after : State) (r other : Request) (now : ℕ) (said : Said) → AreAlike r other → Replies s r now said after → Replies s other now said after
+replied_alike s after r other now said h replied = replied_too s r other now h.mine h.its h.formed h.other_formed (common r other h) said after replied
+
 -- what a request is answered is the one answer to each request that is like it
 pub the_answer : (means : State → Type 0) (s : State) (r other : Request) (now : ℕ) (a : Answer) → AreAlike r other → IsAnswered means s r now a → IsTheAnswer means s other now a
 the_answer means s r other now a h answered told =

@@ -32,7 +32,7 @@ mod words;
 
 pub use clocks::{Clock, FixedClock, ListedClock};
 pub use commanding::DeskFault;
-pub use laws::{law_of_acts, law_of_replies};
+pub use laws::{law_of_acts, law_of_alike, law_of_replies};
 pub use machine_clock::MachineClock;
 pub use office::Office;
 pub use program::perform;

@@ -100,9 +100,9 @@ impl<K: Keeper> Office<K> {
     /// command that took effect is never answered with 40. A method that is not served and a target that is malformed are
     /// refused without memory, and never with 40.
     ///
-    /// It is the one answer to each request that says the same, too: of the same signed text, signature and body, and for a
-    /// PUT of the same mark whether a length was given. However such a request is respelled, and whatever else its head
-    /// holds, in the same state at the same moment it is answered so, and leaves the same state.
+    /// Unless it is refusal 40, it is the one answer to each request that says the same, too: where rules 7 to 18 hold of
+    /// both, and signed text, signature and body are the same, and for a PUT the mark whether a length was given. However
+    /// such a request is spelled, in the same state at the same moment it is answered so, and leaves the same state.
     ///
     /// What was answered outlasts a crash: one that follows leaves the state after, and nothing else; or, where nothing was
     /// changed, nothing new but the standing state. After a 40 it may also leave the state with this request, whole.

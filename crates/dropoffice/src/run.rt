@@ -16,9 +16,9 @@ impl<K: Keeper> Office<K> {
     /// these messages, too: the others are answered as they are there, and the state after is the same.
     ///
     /// Over a run an upload acts once. Where one got a receipt, whether its answer was written or lost, a further upload of
-    /// its bytes to its place, well formed and by a link that is admitted, gets the same receipt and changes nothing, unless
-    /// other bytes were put there since, or the file was dropped. This holds after the box has closed, too, and where it is
-    /// full.
+    /// its bytes to its place, for which rules 7 to 26 hold and which is not answered with 40, gets the same receipt and
+    /// changes nothing, unless other bytes were put there since, or the file was dropped. This holds after the box has
+    /// closed, too, and where it is full.
     pub fn run<R: Read, W: Write, C: Clock>(
         &mut self,
         connections: &mut [(Counted<R>, Counted<W>)],
