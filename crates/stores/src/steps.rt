@@ -41,12 +41,29 @@ pub(crate) const COMMANDS: [Step; 5] = [
     Step::DropFile,
 ];
 
-/// A session of requests, of which the first and the last change the office.
-pub(crate) const REQUESTS: [Step; 4] = [
-    Step::Ask(Errand::First),
-    Step::Ask(Errand::Repeat),
-    Step::Ask(Errand::Fetch),
-    Step::Ask(Errand::DropFile),
+/// Sessions of requests, of which the first and the last change the office.
+pub(crate) const SESSIONS: [&[Step]; 4] = [
+    &[
+        Step::Ask(Errand::First),
+        Step::Ask(Errand::Repeat),
+        Step::Ask(Errand::Fetch),
+        Step::Ask(Errand::DropFile),
+    ],
+    &[
+        Step::Ask(Errand::AddKey),
+        Step::Ask(Errand::Upload),
+        Step::Ask(Errand::RevokeKey),
+    ],
+    &[
+        Step::Ask(Errand::AddBox),
+        Step::Ask(Errand::Replace),
+        Step::Ask(Errand::CloseBox),
+    ],
+    &[
+        Step::Ask(Errand::Upload),
+        Step::Ask(Errand::Fetch),
+        Step::Ask(Errand::DropFile),
+    ],
 ];
 
 const EMPTY: [Step; 1] = [Step::Begin];

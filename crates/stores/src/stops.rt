@@ -1,6 +1,6 @@
 //! A disk stops at each of its calls in turn, and the office is opened again from what is left.
 use crate::files::connect;
-use crate::steps::{COMMANDS, REQUESTS, Step, earlier_of, is_making, make, run_each, run_over};
+use crate::steps::{COMMANDS, SESSIONS, Step, earlier_of, is_making, make, run_each, run_over};
 use boxes::OfficeRow;
 use dropoffice::Office;
 use keeper::Shelf;
@@ -398,13 +398,11 @@ fn requests_stop(rt: HostRuntime) -> Result<(), Fail> {
 }
 
 #[test]
-fn commands_by_request_stop(rt: HostRuntime) -> Result<(), Fail> {
+fn keys_and_boxes_by_request_stop(rt: HostRuntime) -> Result<(), Fail> {
     let steps = [
         Step::Ask(Errand::AddKey),
         Step::Ask(Errand::RevokeKey),
         Step::Ask(Errand::AddBox),
-        Step::Ask(Errand::CloseBox),
-        Step::Ask(Errand::DropFile),
     ];
     let Count { stops, states } = stop_alone(rt.alloc(), &steps)?;
     println!(rt; "{stops} stops, {states} states")?;
@@ -412,8 +410,34 @@ fn commands_by_request_stop(rt: HostRuntime) -> Result<(), Fail> {
 }
 
 #[test]
-fn a_session_stops(rt: HostRuntime) -> Result<(), Fail> {
-    let Count { stops, states } = stop_each(rt.alloc(), &REQUESTS)?;
+fn closing_and_dropping_by_request_stop(rt: HostRuntime) -> Result<(), Fail> {
+    let steps = [Step::Ask(Errand::CloseBox), Step::Ask(Errand::DropFile)];
+    let Count { stops, states } = stop_alone(rt.alloc(), &steps)?;
+    println!(rt; "{stops} stops, {states} states")?;
+    Ok(())
+}
+
+// The same of sessions.
+fn stop_sessions(alloc: Global, sessions: &[&[Step]]) -> Result<Count, Fail> {
+    let mut count = NONE;
+    for steps in sessions {
+        count = count.plus(stop_each(alloc, steps)?);
+    }
+    Ok(count)
+}
+
+#[test]
+fn sessions_stop(rt: HostRuntime) -> Result<(), Fail> {
+    let (sessions, _) = SESSIONS.split_at(2);
+    let Count { stops, states } = stop_sessions(rt.alloc(), sessions)?;
+    println!(rt; "{stops} stops, {states} states")?;
+    Ok(())
+}
+
+#[test]
+fn further_sessions_stop(rt: HostRuntime) -> Result<(), Fail> {
+    let (_, sessions) = SESSIONS.split_at(2);
+    let Count { stops, states } = stop_sessions(rt.alloc(), sessions)?;
     println!(rt; "{stops} stops, {states} states")?;
     Ok(())
 }
