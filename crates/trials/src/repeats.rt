@@ -46,7 +46,8 @@ pub(crate) fn sharing<K: Keeper>(office: &mut Office<K>) -> Result<(), Fail> {
     expect(office, &other, DATE, FIRST_ABC)?;
     let receipts = office.keeper.receipts(1, 9)?;
     holds(receipts.len() == 1, "another number of receipts")?;
-    holds(receipts[0].key.as_slice() == ID, "another key")
+    let receipt = receipts.first().ok_or("no receipt")?;
+    holds(receipt.key.as_slice() == ID, "another key")
 }
 
 /// A file that was dropped comes again as a new one, and not once the box has closed.
