@@ -6,6 +6,7 @@ Of the two files the ports, the paths and the host's name are replaced, and noth
 """
 
 import contextlib
+import functools
 import http.client
 import os
 import pathlib
@@ -221,12 +222,14 @@ class Front:
         """The target of a link that boto3 makes for https."""
         call = {"PUT": "put_object", "GET": "get_object", "HEAD": "head_object"}[method]
         where = {"Bucket": box, "Key": name}
-        url = self.client(key, secret).generate_presigned_url(call, Params=where, ExpiresIn=600, HttpMethod=method)
+        url = self.client(self.host, key, secret).generate_presigned_url(call, Params=where, ExpiresIn=600, HttpMethod=method)
         return url.removeprefix(f"https://{self.host}")
 
-    def client(self, key, secret):
+    @staticmethod
+    @functools.cache
+    def client(host, key, secret):
         settings = botocore.config.Config(signature_version="s3v4", s3={"addressing_style": "path"})
-        return boto3.client("s3", region_name="us-east-1", endpoint_url=f"https://{self.host}", aws_access_key_id=key,
+        return boto3.client("s3", region_name="us-east-1", endpoint_url=f"https://{host}", aws_access_key_id=key,
                             aws_secret_access_key=secret, config=settings)
 
 
@@ -353,12 +356,20 @@ def seconds_of(call):
     return found, time.monotonic() - begun
 
 
-def others_are_answered(front, name, count, tries=3):
+def others_are_answered(front, name, count, between=range(3)):
     """In the meantime: each is answered, and the fastest in less than a second, whatever else the machine does."""
-    target, data = front.link("GET", "a.txt"), b"a.txt"
-    found, seconds = zip(*(seconds_of(lambda: front.said("GET", target)) for _ in range(tries)))
-    count.add(f"{name}: others are answered", difference(found, ((200, data),) * tries))
+    target = front.link("GET", "a.txt")
+    found, seconds = zip(*(seconds_of(lambda: front.said("GET", target)) for _ in between))
+    count.add(f"{name}: others are answered", difference(found, ((200, b"a.txt"),) * len(found)))
     count.add(f"{name}: at once", None if min(seconds) < 1 else f"{seconds}")
+
+
+def a_byte_a_second(it, data):
+    """Sends the data so, and has something else done before each byte."""
+    for at in range(len(data)):
+        yield
+        time.sleep(1)
+        it.sendall(data[at:at + 1])
 
 
 def test_slow(front, count):
@@ -367,10 +378,7 @@ def test_slow(front, count):
     with front.connect() as it:
         head = head_of(front, "PUT", front.link("PUT", "slow"), f"Content-Length: {len(data)}", "Connection: close")
         it.sendall(head)
-        for at in range(len(data)):
-            others_are_answered(front, f"behind {at} bytes of a body", count, 1)
-            time.sleep(1)
-            it.sendall(data[at:at + 1])
+        others_are_answered(front, "a byte a second", count, a_byte_a_second(it, data))
         status, body = answered(it)
         number = int(body.split()[1]) if status == 200 else 0
         count.add("the slow one", difference((status, body), owed_receipt(number, data)))
