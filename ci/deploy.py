@@ -255,7 +255,7 @@ def target_of(drop, front, office_file, method, name):
 # ---- what passes the front
 
 
-NAMES = ["a.txt", "a b/é.txt", "a%2Fb", "a/b//c", "//", "..", "a/../b", "./.", "x+y=z&?#%.bin", "%252F", "q" * 1024]
+NAMES = ["a.txt", "a b/é.txt", "a%2Fb", "a/b//c", "//", "..", "../a", "a/../b", "./.", "x+y=z&?#%.bin", "%252F", "q" * 1024]
 
 
 def test_names(front, count):
@@ -419,7 +419,9 @@ def test_pages(front, count):
               "/.well-known/acme-challenge/a"]
     for path in others:
         count.add(f"the office answers {path}", difference(front.said("GET", path), owed_refusal(9)))
-    front.ask("GET", "/.head")
+    found = front.said("GET", front.link("GET", "../put.html"))
+    count.add("a name that comes out at a page", difference(found, (200, (folder / "put.html").read_bytes())))
+    count.add("what is nginx's own", difference(front.said("GET", "/.head")[0], 404))
     challenge = front.folder / "html" / ".well-known" / "acme-challenge"
     challenge.mkdir(parents=True)
     (challenge / "abc").write_bytes(b"abc")
