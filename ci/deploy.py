@@ -36,7 +36,7 @@ PAGE = kit.ROOT / "docs" / "DEPLOY.md"
 HOST = "files.example"
 SECONDS = 30  # until what is waited for must be there
 MEBIBYTE = 1 << 20
-MOST_EXPOSED = 15  # tenths, as systemd-analyze counts
+MOST_EXPOSED = 12  # tenths, as systemd-analyze counts
 NGINX = shutil.which("nginx", path=os.environ.get("PATH", "") + ":/usr/sbin")
 AWAY = (502, b"the office does not answer: try again\n")
 IN_THE_CLEAR = (403, b"https: alone is served here, and a link is the same behind it\n")
