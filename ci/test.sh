@@ -51,11 +51,12 @@ with_boto3() {
     "$python" -c 'import boto3' && echo "$python"
 }
 
-# A command, which Debian has in a package of its name.
+# A command, which Debian has in a package of its name, or in the one that is named behind it.
 with_command() {
+    local PATH=$PATH:/usr/sbin
     command -v "$1" >/dev/null && return
     [ "$(id -u)" -eq 0 ] && command -v apt-get >/dev/null || return
-    (apt-get update && apt-get install -y --no-install-recommends "$1") >&2
+    (apt-get update && apt-get install -y --no-install-recommends "${2-$1}") >&2
     command -v "$1" >/dev/null
 }
 
@@ -97,6 +98,14 @@ interop() {
     "$python" -B ci/interop.py
 }
 
+deploy() {
+    local python
+    with_command nginx nginx-light && with_command systemd-analyze systemd || return 1
+    with_command openssl && with_command sqlite3 && with_command curl || return 1
+    python=$(with_boto3) || return 1
+    "$python" -B ci/deploy.py
+}
+
 count "rt ci" rt ci
 count "ci/edits.py" python3 -B ci/edits.py
 count "ci/rows.py --check" python3 -B ci/rows.py --check
@@ -109,6 +118,7 @@ count "ci/lists.py" lists
 count "ci/kills.py" kills
 count "ci/memory.py" python3 -B ci/memory.py
 count "ci/interop.py" interop
+count "ci/deploy.py" deploy
 echo
 cat "$work/times"
 echo "$passed passed, $failed failed"

@@ -1,0 +1,705 @@
+"""Runs Debian's nginx, as deploy/nginx.conf sets it up, in front of the proved `drop serve`, as deploy/drop.service starts
+it, and drives both over TLS. Then it does what docs/DEPLOY.md says, line by line, in a folder that stands for the machine.
+
+Of the two files the ports, the paths and the host's name are replaced, and nothing else. What is owed comes from Python's
+`hashlib`, the table of refusals in docs/RULES.md, and links that boto3 makes. The last line is `N passed, M failed`.
+"""
+
+import contextlib
+import functools
+import http.client
+import os
+import pathlib
+import re
+import shlex
+import shutil
+import signal
+import socket
+import ssl
+import stat
+import subprocess
+import threading
+import time
+
+import boto3
+import botocore.config
+
+import kit
+import tables
+from expected import SECRET, refusal
+from office import CANNOT_OPEN, difference, receipt, run_all
+from replays import ID
+from serve import free_port, open_office
+
+DEPLOY = kit.ROOT / "deploy"
+PAGE = kit.ROOT / "docs" / "DEPLOY.md"
+HOST = "files.example"
+SECONDS = 30  # until what is waited for must be there
+MEBIBYTE = 1 << 20
+MOST_EXPOSED = 12  # tenths, as systemd-analyze counts
+NGINX = shutil.which("nginx", path=os.environ.get("PATH", "") + ":/usr/sbin")
+AWAY = (502, b"the office does not answer: try again\n")
+IN_THE_CLEAR = (403, b"https: alone is served here, and a link is the same behind it\n")
+
+# What stands around a site in Debian's own configuration, without its folders and its user.
+AROUND = """
+daemon off;
+master_process off;
+pid {folder}/nginx.pid;
+error_log {folder}/main.log;
+events {{ worker_connections 768; }}
+http {{
+    sendfile on;
+    tcp_nopush on;
+    types_hash_max_size 2048;
+    include /etc/nginx/mime.types;
+    default_type application/octet-stream;
+    access_log {folder}/others.log;
+    gzip on;
+    client_body_temp_path {folder}/body;
+    proxy_temp_path {folder}/proxy;
+    fastcgi_temp_path {folder}/fastcgi;
+    uwsgi_temp_path {folder}/uwsgi;
+    scgi_temp_path {folder}/scgi;
+    include {site};
+}}
+"""
+
+
+def wait_for(what, is_there):
+    """Waits until it is there; longer than the deadline is a fault of the test."""
+    until = time.monotonic() + SECONDS
+    while not is_there():
+        if time.monotonic() > until:
+            raise AssertionError(f"no {what} after {SECONDS} seconds")
+        time.sleep(0.02)
+
+
+def listens(port):
+    with contextlib.suppress(OSError), socket.create_connection(("127.0.0.1", port), timeout=SECONDS):
+        return True
+    return False
+
+
+def replaced(text, replacements):
+    """The text with each of these replaced, which must stand in it."""
+    for old, new in replacements:
+        if old not in text:
+            raise AssertionError(f"there is no {old!r}")
+        text = text.replace(old, new)
+    return text
+
+
+class Office:
+    """The `drop serve` of a unit, at another port and over another file: it can be started again at its address."""
+
+    def __init__(self, unit, folder, paths):
+        self.folder, self.port, self.process = folder, free_port(), None
+        line = re.search(r"^ExecStart=(.*)$", unit.read_text(), re.MULTILINE)[1]
+        self.words = shlex.split(replaced(line, [*paths, ("127.0.0.1:8333", f"127.0.0.1:{self.port}")]))
+
+    def start(self):
+        pipes = {"stdin": subprocess.DEVNULL, "stdout": subprocess.PIPE, "stderr": subprocess.STDOUT}
+        self.process = subprocess.Popen(self.words, cwd=self.folder, **pipes)
+        line = self.process.stdout.readline().decode()
+        return None if line == f"listening on 127.0.0.1:{self.port}\n" else line
+
+    def stop(self, by=signal.SIGTERM):
+        if self.process:
+            self.process.send_signal(by)
+            self.process.communicate()
+        self.process = None
+
+    def __enter__(self):
+        return self
+
+    def __exit__(self, *_):
+        self.stop()
+
+
+def certificate(folder):
+    """A certificate for the host, and its key, by the words of the page."""
+    line = next(it for it in joined(PAGE.read_text()) if it.startswith("openssl req"))
+    ran = kit.run(shlex.split(line.replace(f"/etc/letsencrypt/live/{HOST}", str(folder))))
+    if ran.status:
+        raise AssertionError(f"no certificate was made: {ran}")
+
+
+def joined(text):
+    """Its lines, of which those that end in a backslash go on."""
+    return text.replace("\\\n", " ").splitlines()
+
+
+class Connection(http.client.HTTPConnection):
+    """A connection to the front, over TLS, whatever the host's name is."""
+
+    def __init__(self, front, buffer=None):
+        super().__init__(HOST, timeout=SECONDS)
+        self.front, self.buffer = front, buffer
+
+    def connect(self):
+        self.sock = self.front.connect(self.buffer)
+
+
+class Front:
+    """An nginx of this user, whose site is deploy/nginx.conf."""
+
+    def __init__(self, folder, office_port):
+        self.folder, self.office_port = folder, office_port
+        self.port, self.clear_port = free_port(), free_port()
+        self.host = f"{HOST}:{self.port}"
+        self.process, self.links = None, []
+
+    def ports(self):
+        """What is replaced in the site, but for the host's name and the paths."""
+        here = "127.0.0.1"
+        return [("listen 443 ssl;", f"listen {here}:{self.port} ssl;"), ("listen 80;", f"listen {here}:{self.clear_port};"),
+                ("    listen [::]:443 ssl;\n", ""), ("    listen [::]:80;\n", ""),
+                (f"http://{here}:8333;", f"http://{here}:{self.office_port};")]
+
+    def configure(self, site, paths, chain):
+        """The words that run it with this site, in which these paths are replaced."""
+        self.chain = chain
+        text = replaced(site.read_text(), [*self.ports(), *((old, str(new)) for old, new in paths)])
+        own = self.folder / "site.conf"
+        own.write_text(text)
+        (self.folder / "nginx.conf").write_text(AROUND.format(folder=self.folder, site=own))
+        self.context = ssl.create_default_context(cafile=chain)
+        self.words = [NGINX, "-p", self.folder, "-e", self.folder / "main.log", "-c", self.folder / "nginx.conf"]
+        return self.words
+
+    def start(self):
+        self.process = subprocess.Popen(self.words, stdin=subprocess.DEVNULL)
+        wait_for("nginx", lambda: listens(self.port))
+
+    def __enter__(self):
+        return self
+
+    def __exit__(self, *_):
+        if self.process:
+            self.process.terminate()
+            self.process.wait()
+
+    def connect(self, buffer=None):
+        plain = socket.socket()
+        plain.settimeout(SECONDS)
+        if buffer:
+            plain.setsockopt(socket.SOL_SOCKET, socket.SO_RCVBUF, buffer)
+        plain.connect(("127.0.0.1", self.port))
+        return self.context.wrap_socket(plain, server_hostname=HOST)
+
+    def begin(self, method, target, body=None, fields=(), buffer=None):
+        """A connection on which this was asked."""
+        self.links.append(target)
+        it = Connection(self, buffer)
+        it.request(method, target, body, {"Host": self.host, **dict(fields)}, encode_chunked=True)
+        return it
+
+    def ask(self, method, target, body=None, fields=()):
+        """The status, the body and the fields that this is answered."""
+        with contextlib.closing(self.begin(method, target, body, fields)) as it:
+            answer = it.getresponse()
+            return answer.status, answer.read(), answer.headers
+
+    def said(self, method, target, body=None, fields=()):
+        return self.ask(method, target, body, fields)[:2]
+
+    def raw(self, text):
+        """The status and the body of the answer to these bytes."""
+        with self.connect() as it:
+            it.sendall(text)
+            return answered(it)
+
+    def curl(self, *words):
+        how = ["--silent", "--show-error", "--path-as-is", "--max-time", str(SECONDS), "--cacert", self.chain]
+        return kit.run(["curl", *how, "--connect-to", f"{self.host}:127.0.0.1:{self.port}", *words])
+
+    # -- links
+
+    def link(self, method, name, box="in", key=ID, secret=SECRET.decode()):
+        """The target of a link that boto3 makes for https."""
+        call = {"PUT": "put_object", "GET": "get_object", "HEAD": "head_object"}[method]
+        where = {"Bucket": box, "Key": name}
+        client = self.client(self.host, key, secret)
+        url = client.generate_presigned_url(call, Params=where, ExpiresIn=600, HttpMethod=method)
+        return url.removeprefix(f"https://{self.host}")
+
+    @staticmethod
+    @functools.cache
+    def client(host, key, secret):
+        settings = botocore.config.Config(signature_version="s3v4", s3={"addressing_style": "path"})
+        return boto3.client("s3", region_name="us-east-1", endpoint_url=f"https://{host}", aws_access_key_id=key,
+                            aws_secret_access_key=secret, config=settings)
+
+
+def answered(it):
+    """The status and the body of the next answer on this connection."""
+    answer = http.client.HTTPResponse(it)
+    answer.begin()
+    return answer.status, answer.read()
+
+
+def owed_receipt(number, data):
+    return 200, receipt(number, data).partition(b"\r\n\r\n")[2]
+
+
+def owed_refusal(number):
+    status, body = refusal(number)
+    return status, body.encode()
+
+
+def target_of(drop, front, office_file, method, name):
+    """The target of a link that `drop link` writes, for http."""
+    start = time.strftime("%Y%m%dT%H%M%SZ", time.gmtime(time.time() - 60))
+    ran = drop.link(office_file, method, name, host=front.host, start=start, expires="600")
+    url = ran.out.decode().strip()
+    if not url.startswith(f"http://{front.host}/"):
+        raise AssertionError(f"no link: {ran}")
+    return url.removeprefix(f"http://{front.host}")
+
+
+# ---- what passes the front
+
+
+NAMES = ["a.txt", "a b/é.txt", "a%2Fb", "a/b//c", "//", "..", "../a", "a/../b", "./.", "x+y=z&?#%.bin", "%252F",
+         "q" * 1024]
+
+
+def test_names(front, count):
+    """Links of boto3: the target and the Host arrive as they were signed."""
+    for number, name in enumerate(NAMES, 1):
+        data = name.encode() * number
+        found = front.said("PUT", front.link("PUT", name), data)
+        count.add(f"PUT {name[:20]}", difference(found, owed_receipt(number, data)))
+        _, body = owed_receipt(number, data)
+        digest = body.split()[3].decode()
+        for method in ["GET", "HEAD"]:
+            status, body, fields = front.ask(method, front.link(method, name))
+            found = status, fields["X-Drop-Receipt"], fields["X-Drop-Sha256"], fields["Content-Length"], body
+            owed = 200, str(number), digest, str(len(data)), data if method == "GET" else b""
+            count.add(f"{method} {name[:20]}", difference(found, owed))
+    target = front.link("GET", "a.txt")
+    count.add("another signature", difference(front.said("GET", target[:-1] + "01"[target[-1] == "0"]), owed_refusal(21)))
+    count.add("another name", difference(front.said("GET", target.replace("/a.txt", "/b.txt")), owed_refusal(21)))
+    found = front.said("GET", target, fields={"Host": HOST}.items())
+    count.add("another Host", difference(found, owed_refusal(21)))
+    count.add("no file", difference(front.said("GET", front.link("GET", "none")), owed_refusal(34)))
+    count.add("no file, HEAD", difference(front.said("HEAD", front.link("HEAD", "none")), (404, b"")))
+    count.add("no box", difference(front.said("GET", front.link("GET", "a", box="none")), owed_refusal(27)))
+    count.add("no length", difference(front.raw(head_of(front, "PUT", front.link("PUT", "new"))), owed_refusal(25)))
+    count.add("not signed", difference(front.said("GET", "/"), owed_refusal(9)))
+    for name in ["x-amz-a", "x-amz-a_b", "x-amz-a!"]:
+        count.add(f"a field {name}", difference(front.said("GET", target, fields=[(name, "1")]), owed_refusal(18)))
+    count.add("another method", difference(front.said("DELETE", target), owed_refusal(7)))
+
+
+def head_of(front, method, target, *lines):
+    front.links.append(target)
+    return "\r\n".join([f"{method} {target} HTTP/1.1", f"Host: {front.host}", *lines, "", ""]).encode()
+
+
+def test_climbing(front, count):
+    """What docs/DEPLOY.md says of names that climb out of their box: they don't reach the office."""
+    for name in ["../../a", "a/../../../b"]:
+        status, _ = front.said("GET", front.link("GET", name))
+        count.add(f"GET {name}", difference(status, 400))
+
+
+def test_bodies(front, count):
+    """Bodies up to the greatest, however they are sent."""
+    data = bytes(range(256)) * 4096
+    pieces = [data[at:at + 30000] for at in range(0, len(data), 30000)]
+    status, body = front.said("PUT", front.link("PUT", "chunks"), iter(pieces), [("Transfer-Encoding", "chunked")])
+    number = int(body.split()[1]) if status == 200 else 0
+    count.add("in chunks", difference((status, body), owed_receipt(number, data)))
+    found = front.said("PUT", front.link("PUT", "no-chunk"), iter([]), [("Transfer-Encoding", "chunked")])
+    count.add("no chunk", difference(found, owed_receipt(number + 1, b"")))
+    for letter, size, expects in [("e", MEBIBYTE, True), ("f", MEBIBYTE, False), ("g", MEBIBYTE + 1, True),
+                                  ("h", MEBIBYTE + 1, False), ("i", 3 * MEBIBYTE, False)]:
+        file = front.folder / f"{letter}.bin"
+        file.write_bytes(letter.encode() * size)
+        target = front.link("PUT", file.name)
+        front.links.append(target)
+        field = "Expect: 100-continue" if expects else "Expect:"
+        ran = front.curl("-i", "-T", file, "-H", field, f"https://{front.host}{target}")
+        goes_on, _, rest = ran.out.rpartition(b"HTTP/1.1 ")
+        found = ran.status, int(rest[:3]), rest.partition(b"\r\n\r\n")[2]
+        if size > MEBIBYTE:
+            owed = 0, *owed_refusal(5)
+        else:
+            number += 2 if expects else 1
+            owed = 0, *owed_receipt(number, file.read_bytes())
+        count.add(f"{size} bytes, Expect {expects}", difference(found, owed))
+        if expects:
+            said = "HTTP/1.1 100 Continue" in goes_on.decode()
+            count.add(f"{size} bytes: 100 is said", difference(said, size == MEBIBYTE))
+    found = front.raw(head_of(front, "PUT", front.link("PUT", "much"), "Transfer-Encoding: chunked")
+                      + b"100001\r\n" + bytes(MEBIBYTE + 1) + b"\r\n0\r\n\r\n")
+    count.add("too much in chunks", difference(found, owed_refusal(5)))
+
+
+def test_heads(front, count):
+    """Heads that are too long, for nginx and for the office: one refusal for both."""
+    target = front.link("GET", "a.txt")
+    for name, head in [
+        ("a line of 9000 bytes", head_of(front, "GET", target + "&long=" + "a" * 9000)),
+        ("a field of 9000 bytes", head_of(front, "GET", target, "Long: " + "a" * 9000)),
+        ("two fields of 4500 bytes", head_of(front, "GET", target, *["Long: " + "a" * 4500] * 2)),
+        ("ten fields of 4500 bytes", head_of(front, "GET", target, *["Long: " + "a" * 4500] * 10)),
+    ]:
+        count.add(name, difference(front.raw(head), owed_refusal(2)))
+    found = front.raw(head_of(front, "GET", target, "Long: " + "a" * 7000))
+    count.add("a field of 7000 bytes", difference(found[0], 200))
+    found = front.raw(head_of(front, "GET", target, *["A: b"] * 70))
+    count.add("seventy fields", difference(found, owed_refusal(1)))
+
+
+# ---- slow peers
+
+
+def seconds_of(call):
+    begun = time.monotonic()
+    found = call()
+    return found, time.monotonic() - begun
+
+
+def others_are_answered(front, name, count, between=range(3)):
+    """In the meantime: each is answered, and the fastest in less than a second, whatever else the machine does."""
+    target = front.link("GET", "a.txt")
+    found, seconds = zip(*(seconds_of(lambda: front.said("GET", target)) for _ in between))
+    count.add(f"{name}: others are answered", difference(found, ((200, b"a.txt"),) * len(found)))
+    count.add(f"{name}: at once", None if min(seconds) < 1 else f"{seconds}")
+
+
+def a_byte_a_second(it, data):
+    """Sends the data so, and has something else done before each byte."""
+    for at in range(len(data)):
+        yield
+        time.sleep(1)
+        it.sendall(data[at:at + 1])
+
+
+def test_slow(front, count):
+    """Peers that are slow, each beside one that is not."""
+    data = b"slow"
+    with front.connect() as it:
+        head = head_of(front, "PUT", front.link("PUT", "slow"), f"Content-Length: {len(data)}", "Connection: close")
+        it.sendall(head)
+        others_are_answered(front, "a byte a second", count, a_byte_a_second(it, data))
+        status, body = answered(it)
+        number = int(body.split()[1]) if status == 200 else 0
+        count.add("the slow one", difference((status, body), owed_receipt(number, data)))
+    with contextlib.ExitStack() as stack:
+        silent = [stack.enter_context(front.connect()) for _ in range(8)]
+        silent += [stack.enter_context(socket.create_connection(("127.0.0.1", front.port), SECONDS)) for _ in range(8)]
+        silent[0].sendall(head[:-2])
+        others_are_answered(front, "silent peers", count)
+    with contextlib.ExitStack() as stack:
+        slow = [stack.enter_context(contextlib.closing(front.begin("GET", front.link("GET", "e.bin"), buffer=4096)))
+                for _ in range(4)]
+        answers = [it.getresponse() for it in slow]
+        others_are_answered(front, "peers that take nothing", count)
+        whole = [it.read() == b"e" * MEBIBYTE for it in answers]
+        count.add("peers that take all at last", None if all(whole) else f"{whole}")
+
+
+# ---- pages, and what is not served
+
+
+def test_pages(front, count):
+    """Two pages, each at its own path alone, and nothing in the clear."""
+    folder = front.folder / "drop"
+    folder.mkdir()
+    for name in ["put.html", "get.html", "other.html"]:
+        (folder / name).write_bytes(f"<!doctype html><title>{name}</title>".encode())
+    for name in ["put.html", "get.html"]:
+        status, body, fields = front.ask("GET", f"/{name}")
+        found = status, body, fields["Content-Type"], fields["Referrer-Policy"]
+        count.add(name, difference(found, (200, (folder / name).read_bytes(), "text/html; charset=utf-8", "no-referrer")))
+    others = ["/other.html", "/", "/put.html/", "/put.html/a", "//put.html", "/drop/put.html", "/html/put.html",
+              "/.well-known/acme-challenge/a"]
+    for path in others:
+        count.add(f"the office answers {path}", difference(front.said("GET", path), owed_refusal(9)))
+    found = front.said("GET", front.link("GET", "../put.html"))
+    count.add("a name that comes out at a page", difference(found, (200, (folder / "put.html").read_bytes())))
+    count.add("what is nginx's own", difference(front.said("GET", "/.head")[0], 404))
+    challenge = front.folder / "html" / ".well-known" / "acme-challenge"
+    challenge.mkdir(parents=True)
+    (challenge / "abc").write_bytes(b"abc")
+
+    def in_the_clear(path):
+        with contextlib.closing(http.client.HTTPConnection("127.0.0.1", front.clear_port, timeout=SECONDS)) as it:
+            it.request("GET", path, headers={"Host": HOST})
+            answer = it.getresponse()
+            return answer.status, answer.read()
+
+    count.add("a challenge in the clear", difference(in_the_clear("/.well-known/acme-challenge/abc"), (200, b"abc")))
+    target = front.link("GET", "a.txt")
+    count.add("a link in the clear", difference(in_the_clear(target), IN_THE_CLEAR))
+    count.add("a page in the clear", difference(in_the_clear("/put.html"), IN_THE_CLEAR))
+
+
+# ---- an office that is away
+
+
+def test_away(front, office, count):
+    """An office that is killed, under nginx that goes on."""
+    put, get = front.link("PUT", "away"), front.link("GET", "away")
+    status, body = front.said("PUT", put, b"before")
+    number = int(body.split()[1]) if status == 200 else 0
+    count.add("before", difference((status, body), owed_receipt(number, b"before")))
+    office.stop(signal.SIGKILL)
+    count.add("GET while it is away", difference(front.said("GET", get), AWAY))
+    late = front.link("PUT", "late")
+    count.add("PUT while it is away", difference(front.said("PUT", late, b"late"), AWAY))
+    count.add("it starts again", office.start())
+    count.add("GET behind it", difference(front.said("GET", get), (200, b"before")))
+    count.add("the same PUT", difference(front.said("PUT", put, b"before"), owed_receipt(number, b"before")))
+    count.add("the late PUT", difference(front.said("PUT", late, b"late"), owed_receipt(number + 1, b"late")))
+
+
+# ---- the log
+
+
+ROW = re.compile(r'127\.0\.0\.1 \S+T\S+ (\S+) ([A-Z]+|-) "([^"]*)" (\d{3}) \d+ \d+ [0-9.]+ (\S+)')
+
+
+def test_log(front, count, secret):
+    """Who asked what, and with which status; and nowhere what makes a link good."""
+    log = front.folder / "drop.log"
+    owed = [(ID, "PUT", "/in/a.txt", "200", "200"), (ID, "GET", "/in/a.txt", "200", "200"),
+            (ID, "GET", "/in/away", "502", "502"), (ID, "HEAD", "/in/none", "404", "404"), (ID, "POST", "/", "200", "200"),
+            ("-", "GET", "/put.html", "200", "-"), ("-", "GET", "/", "403", "403"), (ID, "PUT", "/in/g.bin", "400", "-")]
+    front.said("GET", "/last")
+    wait_for("last line of the log", lambda: '"/last"' in log.read_text())
+    lines = log.read_text().splitlines()
+    rows = [ROW.fullmatch(line) for line in lines]
+    odd = [line for line, row in zip(lines, rows) if not row]
+    count.add("each line has its form", f"{odd[:3]}" if odd else None)
+    found = {row.groups() for row in rows if row}
+    for row in owed:
+        count.add(f"the log tells {row}", None if row in found else "it is not there")
+    count.add("the log tells each request", None if len(lines) >= len(front.links) else f"{len(lines)} lines")
+    signatures = {it for link in front.links for it in re.findall(r"X-Amz-Signature=(\w{8})", link)}
+    kept = {it: it.read_bytes() for it in front.folder.glob("*.log")}
+    hidden = [b"X-Amz-", secret, *(it.encode() for it in signatures)]
+    told = [it.name for it, data in kept.items() if any(word in data for word in hidden)]
+    count.add("signatures are looked for", None if len(signatures) >= 40 else f"{len(signatures)}")
+    count.add("the logs hold no signature", f"{told}" if told else None)
+    others = [it.name for it, data in kept.items() if data and it != log]
+    count.add("no other log was written", f"{others}" if others else None)
+
+
+def test_front(drop, count):
+    """An office behind nginx, from its start to its end."""
+    file = open_office(drop, "office")
+    paths = [("/usr/local/bin/drop", str(drop.program)), ("/var/lib/drop/office", str(file))]
+    certificate(drop.folder)
+    with Office(DEPLOY / "drop.service", drop.folder, paths) as office, Front(drop.folder, office.port) as front:
+        folders = ["/etc/letsencrypt/live/HOST", "/var/log/nginx", "/var/www"]
+        places = [*((it, drop.folder) for it in folders), ("HOST", HOST)]
+        words = front.configure(DEPLOY / "nginx.conf", places, drop.folder / "fullchain.pem")
+        ran = kit.run([*words, "-t"])
+        count.add("nginx takes the file", None if ran.status == 0 and b"warn" not in ran.err else f"{ran}")
+        plain = {method: target_of(drop, front, file, method, "out.1-2/p q%") for method in ["PUT", "GET"]}
+        secret = b"s3cr3t-of-a-key"
+        post = target_of(drop, front, file, "POST", f"key add k9 link {secret.decode()}")
+        count.add("the office starts", office.start())
+        front.start()
+        test_names(front, count)
+        test_climbing(front, count)
+        number = len(NAMES) + 1
+        count.add("a link for http", difference(front.said("PUT", plain["PUT"], b"plain"), owed_receipt(number, b"plain")))
+        count.add("a link for http, GET", difference(front.said("GET", plain["GET"]), (200, b"plain")))
+        count.add("a command", difference(front.said("POST", post), (200, b"done\n")))
+        test_bodies(front, count)
+        test_heads(front, count)
+        test_slow(front, count)
+        test_pages(front, count)
+        test_away(front, office, count)
+        test_log(front, count, secret)
+    count.add("integrity", difference(tables.rows(file, "PRAGMA integrity_check"), [("ok",)]))
+
+
+# ---- the unit
+
+
+def test_unit(drop, count):
+    """What systemd says of the unit: it has no fault, and few rights."""
+    unit = drop.path("drop.service")
+    text = (DEPLOY / "drop.service").read_text()
+    unit.write_text(replaced(text, [("=/usr/local/bin/drop serve", f"={drop.program} serve")]))
+    ran = kit.run(["systemd-analyze", "verify", unit])
+    faults = [line for line in ran.err.decode().splitlines() if unit.name in line]
+    count.add("the unit's words", f"{faults or ran}" if ran.status or faults else None)
+    ran = kit.run(["systemd-analyze", "security", "--offline=yes", "--no-pager", f"--threshold={MOST_EXPOSED}", unit])
+    count.add("the unit's rights", None if ran.status == 0 else ran.out.decode().splitlines()[-1])
+
+
+# ---- the page
+
+
+STAND_IN = """#!/bin/sh
+echo "${0##*/} $*" >"$MACHINE/asked"
+read -r status <"$MACHINE/told"
+exit "$status"
+"""
+ASKED = ["apt-get", "useradd", "certbot", "systemctl", "nginx", "between"]
+RUNUSER = """#!/bin/sh
+[ "$1 $2 $3" = "-u drop --" ] || exit 9
+shift 3
+exec "$@"
+"""
+INSTALL = """#!/bin/sh
+for word; do
+    shift
+    case "$word" in -o | -g | drop) ;; *) set -- "$@" "$word" ;; esac
+done
+exec /usr/bin/install "$@"
+"""
+
+
+class Machine:
+    """A folder that stands for a machine: what the page asks of systemd and nginx is done by this test."""
+
+    def __init__(self, drop, count):
+        self.drop, self.count, self.root = drop, count, drop.folder
+        self.stack, self.office, self.front = contextlib.ExitStack(), None, None
+        for name in ["bin", "tmp", "copy", "root", "usr/local/bin", "etc/systemd/system", "etc/nginx/sites-available",
+                     "etc/nginx/sites-enabled", "var/log/nginx", "var/www/html", "var/lib", "var/backups"]:
+            (self.root / name).mkdir(parents=True)
+        (self.root / "etc/nginx/sites-enabled/default").touch()
+        for name in ["crates", "deploy"]:
+            (self.root / "copy" / name).symlink_to(kit.ROOT / name)
+        for name, text in [*((it, STAND_IN) for it in ASKED), ("runuser", RUNUSER), ("install", INSTALL)]:
+            file = self.root / "bin" / name
+            file.write_text(text)
+            file.chmod(0o755)
+        for name in ["asked", "told"]:
+            os.mkfifo(self.root / name)
+
+    def here(self, text):
+        """The text with the paths of the machine in this folder."""
+        return re.sub(r"(?<![\w/.])/(etc|var|root|usr/local)/", rf"{self.root}/\1/", text)
+
+    def path(self, name):
+        return pathlib.Path(self.here(name))
+
+    def run(self, script):
+        """Runs the script, and does what it asks for."""
+        attendant = threading.Thread(target=self.attend, daemon=True)
+        attendant.start()
+        where = f"{self.root}/bin:{self.root}/usr/local/bin:{os.environ['PATH']}"
+        own = {"PATH": where, "MACHINE": str(self.root), "TMPDIR": str(self.root / "tmp"), "CURL_HOME": str(self.root)}
+        (self.root / "script").write_text(script)
+        ran = kit.run(["sh", "-eu", self.root / "script"], cwd=self.root / "copy", env=os.environ | own)
+        (self.root / "asked").write_text("end")
+        attendant.join()
+        return ran
+
+    def attend(self):
+        while (words := (self.root / "asked").read_text().strip()) != "end":
+            try:
+                fault = self.do(words)
+            except Exception as error:
+                fault = repr(error)
+            if not words.startswith("between"):
+                self.count.add(words[:60], fault)
+            (self.root / "told").write_text(f"{int(bool(fault))}\n")
+
+    def do(self, words):
+        """Does what these words ask; why not, if it could not."""
+        match words.split():
+            case ["apt-get" | "useradd" | "certbot", *_] | ["systemctl", "daemon-reload"]:
+                return None
+            case ["systemctl", "enable", "--now", "drop"]:
+                paths = [(it, self.here(it)) for it in ["/usr/local/bin/drop", "/var/lib/drop/office"]]
+                unit = self.path("/etc/systemd/system/drop.service")
+                self.office = self.stack.enter_context(Office(unit, self.root, paths))
+                return self.office.start()
+            case ["systemctl", "stop", "drop"]:
+                return self.office.stop()
+            case ["systemctl", "start", "drop"]:
+                return self.office.start()
+            case ["systemctl", "restart", "drop"]:
+                return self.office.stop() or self.office.start()
+            case ["nginx", "-t"]:
+                return self.configure()
+            case ["systemctl", "reload", "nginx"]:
+                return self.front.start()
+            case ["between", name]:
+                return getattr(self, name)()
+        return "nobody does this"
+
+    def configure(self):
+        sites = list(self.path("/etc/nginx/sites-enabled/").iterdir())
+        if [it.name for it in sites] != ["drop"]:
+            return f"{sites}"
+        self.front = self.stack.enter_context(Front(self.root, self.office.port))
+        chain = self.path(f"/etc/letsencrypt/live/{HOST}/fullchain.pem")
+        places = [(it, self.here(it)) for it in ["/etc/letsencrypt/", "/var/log/", "/var/www/"]]
+        words = self.front.configure(sites[0], places, chain)
+        lines = ["silent", f"cacert = {chain}", f"connect-to = {HOST}:443:127.0.0.1:{self.front.port}"]
+        (self.root / ".curlrc").write_text("\n".join(lines))
+        ran = kit.run([*words, "-t"])
+        return None if ran.status == 0 and "HOST" not in sites[0].read_text() else f"{ran}"
+
+    # -- between the lines of the page
+
+    def asked(self, method, name, body=None):
+        """What is answered to a link that the secret of the page makes."""
+        secret = self.path("/root/drop-secret").read_text().strip()
+        self.front.host = HOST
+        return self.front.said(method, self.front.link(method, name, key="clerk", secret=secret), body)
+
+    def backed_up(self):
+        """Behind the backup: another upload, and what nobody else may do while the office is served."""
+        self.count.add("a later upload", difference(self.asked("PUT", "later.txt", b"later"), owed_receipt(2, b"later")))
+        file, copy = self.path("/var/lib/drop/office"), self.root / "copy.db"
+        ran = kit.run(["sqlite3", file, f".backup {copy}"])
+        well = ran.status and b"database is locked" in ran.err and copy.stat().st_size == 0
+        self.count.add(".backup while it serves", None if well else f"{ran}")
+        self.count.add("manifest while it serves", difference(self.drop.run("manifest", file), CANNOT_OPEN))
+        modes = [oct(stat.S_IMODE(it.stat().st_mode)) for it in file.parent.iterdir()]
+        self.count.add("two files, and their rights", difference(modes, [oct(0o600)] * 2))
+
+    def restored(self):
+        """Behind the restore: the office is that of the backup."""
+        self.count.add("the first file", difference(self.asked("GET", "hello.txt"), (200, b"hello\n")))
+        self.count.add("the later file", difference(self.asked("GET", "later.txt"), owed_refusal(34)))
+        self.count.add("the next number", difference(self.asked("PUT", "new.txt", b"new"), owed_receipt(2, b"new")))
+        file, copy = self.path("/var/lib/drop/office"), self.root / "stopped.db"
+        self.office.stop()
+        ran = kit.run(["sqlite3", file, f".backup {copy}"])
+        self.count.add(".backup while it is stopped", difference(ran, kit.Run(0, b"", b"")))
+        self.count.add("the same manifest", difference(self.drop.run("manifest", copy), self.drop.run("manifest", file)))
+        return self.office.start()
+
+
+def test_page(drop, count):
+    """The lines of the page, in their order; and what it shows as their output."""
+    found = re.findall(r"^```(sh)?\n(.*?)^```$", PAGE.read_text(), re.MULTILINE | re.DOTALL)
+    script, owed = [], {}
+    for at, (kind, text) in enumerate(found):
+        if kind:
+            behind = "backed_up" if "cp -a /var/lib" in text else "restored" if "/before" in text else None
+            script += [f"echo '@@ {at}'", text.rstrip("\n"), *([f"between {behind}"] if behind else [])]
+        else:
+            owed[at - 1] = text
+    machine = Machine(drop, count)
+    with machine.stack:
+        ran = machine.run(machine.here("\n".join(script)))
+        count.add("the page's lines", None if ran.status == 0 else f"{ran}")
+    said = dict(re.findall(r"^@@ (\d+)\n((?:(?!@@ ).*\n?)*)", ran.out.decode(), re.MULTILINE))
+    count.add("blocks with an output", difference(len(owed), 2))
+    for at, text in owed.items():
+        count.add(f"what block {at} prints", difference(said.get(str(at)), text))
+    digest = owed_receipt(1, b"hello\n")[1].decode()
+    count.add("the page's receipt", None if digest in "".join(owed.values()) else digest)
+
+
+TESTS = [test_unit, test_page, test_front]
+
+
+if __name__ == "__main__":
+    run_all(TESTS)
