@@ -1,12 +1,13 @@
 "use strict";
 
-// The page behind put.html#LINK and get.html#LINK: it sends one file by a presigned link, or fetches one, to the origin that
-// it came from, and tells the answer. What stands in `state` is drawn anew by `draw` whenever it changes.
+// The page behind put.html#LINK and get.html#LINK: it sends one file by a presigned link, or fetches one, from the origin
+// that it came from, and tells the answer. What stands in `state` is drawn anew by `draw` whenever it changes.
 
 (() => {
   const PUT = document.documentElement.dataset.page === "put";
   const LIMIT = 1048576;
   const state = { link: null, file: null, busy: null, result: null, url: null };
+  const given = new Set(); // the receipts that were told since the page was loaded
   let language = /^de\b/i.test(navigator.language) ? "de" : "en";
   let request = null;
 
@@ -118,7 +119,8 @@
     state.file = file;
     if (file.length > LIMIT) return finish({ kind: "refused", number: 5, early: true });
     draw();
-    announce([...(file.several ? [text("several")] : []), text("chosen", { file: file.name, length: count(file.length) })].join(" "));
+    const chosenWords = () => text("chosen", { file: file.name, length: count(file.length) });
+    announce([...(file.several ? [text("several")] : []), chosenWords()].join(" "));
     try {
       const bytes = await chosen.arrayBuffer();
       file.digest = await digestOf(bytes);
@@ -129,7 +131,7 @@
     }
     if (state.file !== file) return;
     draw();
-    if (file.digest) announce(`${text("chosen", { file: file.name, length: count(file.length) })} ${text("chosen_digest")}`);
+    if (file.digest) announce(`${chosenWords()} ${text("chosen_digest")}`);
     if (file.wanted) go();
   }
 
@@ -169,7 +171,9 @@
     request = asked;
     asked.open(PUT ? "PUT" : "GET", location.origin + state.link.target);
     asked.responseType = "arraybuffer";
-    (PUT ? asked.upload : asked).addEventListener("progress", (event) => moved(event.loaded, event.lengthComputable && event.total));
+    (PUT ? asked.upload : asked).addEventListener("progress", (event) => {
+      if (request === asked) moved(event.loaded, event.lengthComputable && event.total);
+    });
     const end = (act) => (event) => {
       if (request !== asked) return;
       request = null;
@@ -224,15 +228,16 @@
 
   function receipted(receipt) {
     const { file } = state;
-    const same = file.receipt === `${receipt.number} ${receipt.digest}`;
-    file.receipt = `${receipt.number} ${receipt.digest}`;
+    const same = given.has(receipt.line);
+    given.add(receipt.line);
     const checked = check(file.digest, receipt.digest, receipt.length === file.length);
     finish({ kind: "receipt", ...receipt, same, checked, own: file.digest });
   }
 
   function fetched(found) {
     const checked = check(found.own, found.digest, found.length === found.bytes.byteLength);
-    if (checked !== "differs") state.url = URL.createObjectURL(new Blob([found.bytes], { type: "application/octet-stream" }));
+    const blob = new Blob([found.bytes], { type: "application/octet-stream" });
+    if (checked !== "differs") state.url = URL.createObjectURL(blob);
     finish({ kind: "fetched", ...found, bytes: null, arrived: found.bytes.byteLength, checked });
   }
 
@@ -246,23 +251,24 @@
   // ---- what is shown of a result
 
   function receiptRows({ number, length, digest, moment, own }) {
+    const { place: where } = state.link;
     return [
+      ["address", location.host], ...(where ? [["box", where.box], ["name", where.name]] : []),
       ["number", String(number)], ["length", text("bytes", { length: count(length) })], ["office_digest", digest, "code"],
       ...(own ? [["own_digest", own, "code"]] : []), ["moment", told(moment)],
     ];
   }
 
   function told(moment) {
-    return moment.toLocaleString(language, { dateStyle: "long", timeStyle: "long" });
+    return moment.toLocaleString(language, { dateStyle: "medium", timeStyle: "long" });
   }
 
   /** The receipt as text. */
   function receiptText(result) {
-    const where = state.link.place || { box: "", name: "" };
-    const rows = [["address", location.host], ["box", where.box], ["name", where.name], ...receiptRows(result),
-      ["answer", result.line]];
+    const rows = [...receiptRows(result), ["answer", result.line]];
     return [text("receipt", result), "", ...rows.map(([key, value]) => `${text(key)}: ${value}`),
-      `UTC: ${result.moment.toISOString().slice(0, 19)}Z`, "", checkWords(result), text("moment_note"), text("check"), ""].join("\n");
+      `UTC: ${result.moment.toISOString().slice(0, 19)}Z`, "", checkWords(result), text("moment_note"), text("check"), "",
+    ].join("\n");
   }
 
   function keepReceipt() {
@@ -275,6 +281,10 @@
     return PUT || result.checked === "unchecked" ? text(result.checked) : either(result.checked);
   }
 
+  function tone(result) {
+    return { equal: "good", differs: "bad", unchecked: "note" }[result.checked];
+  }
+
   function list(rows) {
     const made = node("dl", []);
     facts(made, rows);
@@ -282,7 +292,7 @@
   }
 
   function checked(result) {
-    return node("p", checkWords(result), { id: "checked", class: { equal: "good", differs: "bad" }[result.checked] || "note" });
+    return node("p", checkWords(result), { id: "checked", class: tone(result) });
   }
 
   function acts(...buttons) {
@@ -296,39 +306,40 @@
   }
 
   function showReceipt(result) {
-    const where = state.link.place ? [["box", state.link.place.box], ["name", state.link.place.name]] : [];
     const well = result.checked !== "differs";
-    return [well && "good", well ? text("receipt", result) : text("differs_title"), [
+    return [well ? tone(result) : "bad", well ? text("receipt", result) : text("differs_title"), [
       node("p", result.same ? text("same") : text(well ? "receipt_lead" : "differs"), { id: "lead" }),
-      ...(well || result.same ? [checked(result)] : []), list([...where, ...receiptRows(result)]),
+      ...(well || result.same ? [checked(result)] : []), list(receiptRows(result)),
       node("p", text("check"), { class: "small" }), node("p", text("moment_note"), { class: "small" }),
-      node("p", text("harmless"), { class: "small screen" }),
       acts(button("print", "print", () => window.print()), button("keep", "keep", keepReceipt)),
     ]];
   }
 
   function showFetched(result) {
     if (result.checked === "differs") {
-      return ["bad", text("differs_get_title"), [checked(result), list(receiptRows(result)), acts(button("again", "again", go))]];
+      const rows = list(receiptRows(result));
+      return ["bad", text("differs_get_title"), [checked(result), rows, acts(button("again", "again", go))]];
     }
     const file = fileName();
-    return ["good", text("fetched"), [
-      checked(result), list([["name", state.link.place ? state.link.place.name : ""], ...receiptRows(result)]),
-      acts(node("a", text("save", { file }), { id: "save", class: "button main", href: state.url, download: file })),
+    const save = { id: "save", class: "button main", href: state.url, download: file };
+    return [tone(result), text("fetched"), [
+      checked(result), list(receiptRows(result)), acts(node("a", text("save", { file }), save)),
     ]];
   }
 
   function showRefused({ number, line, early }) {
     const [what, remedy] = TEXTS[language].refusals[number] || [text("unknown"), "page"];
     const key = `remedy_${remedy}`;
+    const words = key in TEXTS[language] ? text(key) : text(`${key}_${PUT ? "put" : "get"}`);
     const { other } = state.link;
+    const elsewhere = other && number === 21 && text("other_host", { host: other, here: location.host });
     return ["bad", text(early ? "not_sent" : "refused", { number }), [
       node("p", what, { id: "what" }),
-      node("p", [node("strong", `${text("what_to_do")}: `), key in TEXTS[language] ? text(key) : text(`${key}_${PUT ? "put" : "get"}`)],
-        { id: "remedy" }),
-      ...(other && number === 21 ? [node("p", text("other_host", { host: other, here: location.host }), { class: "note" })] : []),
+      node("p", [node("strong", `${text("what_to_do")}: `), words], { id: "remedy" }),
+      ...(elsewhere ? [node("p", elsewhere, { class: "note" })] : []),
       ...(line ? [list([["office_says", line, "code"]])] : []),
-      ...(RETRY.includes(number) ? [...harmless(), acts(button("again", "again", go))] : []),
+      ...([6, 40].includes(number) ? harmless() : []),
+      ...(RETRY.includes(number) ? [acts(button("again", "again", go))] : []),
     ]];
   }
 
@@ -338,8 +349,9 @@
 
   function showFault({ kind, status }) {
     const key = ["lost", "stopped"].includes(kind) ? either(kind) : text(kind, { status });
-    if (kind === "unreadable") return ["bad", text("unreadable_title"), [node("p", key, { id: "what" })]];
-    return ["bad", text(`${kind}_title`), [node("p", key, { id: "what" }), ...harmless(), acts(button("again", "again", go))]];
+    const what = node("p", key, { id: "what" });
+    const more = kind === "unreadable" ? [] : [...harmless(), acts(button("again", "again", go))];
+    return ["bad", text(`${kind}_title`), [what, ...more]];
   }
 
   // ---- drawing
@@ -397,7 +409,7 @@
     if (!result) return;
     const show = { receipt: showReceipt, fetched: showFetched, refused: showRefused };
     const [kind, title, body] = (show[result.kind] || showFault)(result);
-    $("result").className = `is-${kind || "bad"}`;
+    $("result").className = `is-${kind}`;
     $("result").dataset.kind = result.kind;
     $("result_title").textContent = title;
     $("result_body").replaceChildren(...body);

@@ -1,7 +1,7 @@
 "use strict";
 
 // All that the page says. A text may name values in braces. A refusal is told by its number, as docs/RULES.md has it: what
-// happened, and the name of its remedy. `retry` says where the same request may be taken later.
+// happened, and the name of its remedy.
 
 const TEXTS = {
   en: {
@@ -12,15 +12,16 @@ const TEXTS = {
     box: "Box",
     name: "Name in the box",
     holds: "The link holds",
-    holds_from_to: "from {from} to {to}, by this device’s time zone",
-    other_host: "This link is for {host}, but this page stands at {here}. The office will most likely refuse it with number 21. " +
-      "Open this page at {host}.",
+    holds_from_to: "from {from} to {to}",
+    other_host: "This link is for {host}, but this page stands at {here}. The office will most likely refuse it " +
+      "with number 21. Open this page at {host}.",
     no_link: "No link was given. Paste the whole link that you got from the office.",
     form: "What stands behind the # in the address is no link. Paste the whole link that you got from the office.",
-    dots: "This link can’t be used in a browser: its name has a part that is . or .. alone, and every browser takes such parts " +
-      "out before it sends a link, so the office would refuse it. Nothing was sent. Ask the office for a link with another name.",
-    respelled: "This link can’t be used in a browser: it has characters that every browser rewrites before it sends a link. " +
-      "Nothing was sent. Ask the office for the link in its usual spelling.",
+    dots: "This link can’t be used in a browser: its name has a part that is . or .. alone, and every browser " +
+      "takes such parts out before it sends a link, so the office would refuse it. Nothing was sent. Ask the " +
+      "office for a link with another name.",
+    respelled: "This link can’t be used in a browser: it has characters that every browser rewrites before it " +
+      "sends a link. Nothing was sent. Ask the office for the link in its usual spelling.",
     paste: "Link",
     take: "Use this link",
     choose: "The file",
@@ -32,9 +33,10 @@ const TEXTS = {
     digest: "SHA-256",
     bytes: "{length} bytes",
     working: "being computed …",
-    insecure: "not computed here: this page was opened without encryption (http, not https), and browsers compute no SHA-256 then. " +
-      "Others on the way could read or change the file and this page. Ask the office for an https address. What arrived can still " +
-      "be checked: compare the SHA-256 in the receipt with that of your file, for instance by the command sha256sum.",
+    insecure: "not computed here: this page was opened without encryption (http, not https), and browsers compute " +
+      "no SHA-256 then. Others on the way could read or change the file and this page. Ask the office for an https " +
+      "address. What arrived can still be checked: compare the SHA-256 in the receipt with that of your file, for " +
+      "instance by the command sha256sum.",
     chosen: "Chosen: {file}, {length} bytes.",
     chosen_digest: "Its SHA-256 is computed.",
     several: "Only one file can be sent with a link; the first was taken.",
@@ -53,23 +55,26 @@ const TEXTS = {
     harmless_get: "Fetching changes nothing; you can do it as often as the link holds.",
     receipt: "Receipt {number}",
     receipt_lead: "The office has the file.",
-    same: "This is the same receipt as before: the office had exactly this file already, and nothing was changed. That is harmless.",
-    number: "Number",
+    same: "This is the same receipt as before: the office had exactly this file already, and nothing was changed. " +
+      "That is harmless.",
+    number: "Receipt number",
     length: "Length",
     office_digest: "SHA-256 from the office",
     own_digest: "SHA-256 by this browser",
     moment: "Told at",
-    moment_note: "“Told at” is by this device’s clock. When the office first took the file stands in the office’s own list.",
+    moment_note: "“Told at” is by this device’s clock. When the office first took the file stands in the office’s " +
+      "own list.",
     equal: "Checked: length and SHA-256 from the office are those of your file.",
     equal_get: "Checked: length and SHA-256 from the office are those of the file that arrived.",
-    unchecked: "Not checked: this browser could not compute the SHA-256, because the page was opened without encryption (http). " +
-      "Compare the SHA-256 from the office with that of your file yourself, for instance by the command sha256sum.",
+    unchecked: "Not checked: this browser could not compute the SHA-256, because the page was opened without " +
+      "encryption (http). Compare the SHA-256 from the office with that of your file yourself, for instance by the " +
+      "command sha256sum.",
     differs_title: "The office has other bytes",
-    differs: "What the office received is not the file that was sent: length or SHA-256 differ. It was changed on the way. " +
-      "Tell the office this receipt’s number, and ask for a new link.",
+    differs: "What the office received is not the file that was sent: length or SHA-256 differ. It was changed on " +
+      "the way. Tell the office this receipt’s number, and ask for a new link.",
     differs_get_title: "Other bytes arrived",
-    differs_get: "What arrived is not what the office holds: length or SHA-256 differ. It was changed on the way, so it can’t be " +
-      "saved here. Try again; if it stays so, tell the office.",
+    differs_get: "What arrived is not what the office holds: length or SHA-256 differ. It was changed on the way, " +
+      "so it can’t be saved here. Try again; if it stays so, tell the office.",
     fetched: "The file has arrived",
     print: "Print",
     keep: "Save the receipt as a text file",
@@ -83,7 +88,8 @@ const TEXTS = {
     office_says: "In the office’s words",
     what_to_do: "What to do",
     unreadable_title: "The file can’t be read",
-    unreadable: "It may have been moved, changed or deleted since it was chosen, or it is a folder. Choose the file again.",
+    unreadable: "It may have been moved, changed or deleted since it was chosen, or it is a folder. Choose the " +
+      "file again.",
     lost_title: "The connection was lost",
     lost: "No answer came. Perhaps the file arrived, perhaps not. Check your connection and try again.",
     lost_get: "No answer came, or not the whole. Check your connection and try again.",
@@ -93,27 +99,28 @@ const TEXTS = {
     away_title: "The office does not answer just now",
     away: "The web server is there, but the office behind it is not (status {status}). Wait a moment and try again.",
     strange_title: "An answer that is none of the office’s",
-    strange: "Something between this page and the office answered (status {status}). Try again; if it stays so, tell the office " +
-      "this status.",
+    strange: "Something between this page and the office answered (status {status}). Try again; if it stays so, " +
+      "tell the office this status.",
     remedy_again: "Try again.",
-    remedy_page: "This points to something between this page and the office, not to you. Try again; if it stays so, tell the office " +
-      "the number.",
-    remedy_copy: "Copy the whole link once more as you got it, without a line break or a sign at its end, and open it again. If it " +
-      "stays so, ask the office for a new link.",
-    remedy_match_put: "Copy the whole link once more as you got it, and open it again. If it is a link for fetching a file, open it " +
-      "with get.html. If it stays so, ask the office for a new link for sending.",
-    remedy_match_get: "Copy the whole link once more as you got it, and open it again. If it is a link for sending a file, open it " +
-      "with put.html. If it stays so, ask the office for a new link for fetching.",
+    remedy_page: "This points to something between this page and the office, not to you. Try again; if it stays " +
+      "so, tell the office the number.",
+    remedy_copy: "Copy the whole link once more as you got it, without a line break or a sign at its end, and open " +
+      "it again. If it stays so, ask the office for a new link.",
+    remedy_match_put: "Copy the whole link once more as you got it, and open it again. If it is a link for " +
+      "fetching a file, open it with get.html. If it stays so, ask the office for a new link for sending.",
+    remedy_match_get: "Copy the whole link once more as you got it, and open it again. If it is a link for sending " +
+      "a file, open it with put.html. If it stays so, ask the office for a new link for fetching.",
     remedy_new: "Ask the office for a new link.",
     remedy_host: "Ask the office for a link that signs the host alone.",
-    remedy_smaller: "Make the file smaller, or send it in parts with a link for each. If neither can be done, ask the office for another way.",
+    remedy_smaller: "Make the file smaller, or send it in parts with a link for each. If neither can be done, ask " +
+      "the office for another way.",
     remedy_wait: "Wait until the time from which the link holds, and try again.",
     remedy_box: "Tell the office. It must add the box, or give you another link.",
     remedy_name: "Ask the office for a link with another name.",
-    remedy_closed: "Try again when the box is open, or ask the office when that is. A file that the office has already gets its " +
-      "receipt again even now.",
-    remedy_other: "The file that the office has stays as it is. If yours is to be kept too, ask the office for a link with another " +
-      "name. If you only want the receipt again, choose exactly the file that was sent before.",
+    remedy_closed: "Try again when the box is open, or ask the office when that is. A file that the office has " +
+      "already gets its receipt again even now.",
+    remedy_other: "The file that the office has stays as it is. If yours is to be kept too, ask the office for a " +
+      "link with another name. If you only want the receipt again, choose exactly the file that was sent before.",
     remedy_room: "Ask the office to make room, and try again then.",
     remedy_absent: "It was not sent yet, or was taken out. Ask the office, and try again later.",
     refusals: {
@@ -165,16 +172,18 @@ const TEXTS = {
     box: "Fach",
     name: "Name im Fach",
     holds: "Der Link gilt",
-    holds_from_to: "von {from} bis {to}, in der Zeitzone dieses Geräts",
-    other_host: "Dieser Link gilt für {host}, diese Seite steht aber auf {here}. Die Stelle wird ihn vermutlich mit Nummer 21 " +
-      "ablehnen. Öffnen Sie diese Seite auf {host}.",
+    holds_from_to: "von {from} bis {to}",
+    other_host: "Dieser Link gilt für {host}, diese Seite steht aber auf {here}. Die Stelle wird ihn vermutlich " +
+      "mit Nummer 21 ablehnen. Öffnen Sie diese Seite auf {host}.",
     no_link: "Es wurde kein Link angegeben. Fügen Sie den ganzen Link ein, den Sie von der Stelle bekommen haben.",
-    form: "Was in der Adresse hinter dem # steht, ist kein Link. Fügen Sie den ganzen Link ein, den Sie von der Stelle bekommen haben.",
-    dots: "Dieser Link lässt sich in einem Browser nicht benutzen: Ein Teil seines Namens ist nur . oder .., und jeder Browser " +
-      "nimmt solche Teile vor dem Senden heraus, sodass die Stelle ihn ablehnen würde. Es wurde nichts gesendet. Bitten Sie die " +
-      "Stelle um einen Link mit einem anderen Namen.",
-    respelled: "Dieser Link lässt sich in einem Browser nicht benutzen: Er enthält Zeichen, die jeder Browser vor dem Senden " +
-      "umschreibt. Es wurde nichts gesendet. Bitten Sie die Stelle um den Link in seiner üblichen Schreibweise.",
+    form: "Was in der Adresse hinter dem # steht, ist kein Link. Fügen Sie den ganzen Link ein, den Sie von der " +
+      "Stelle bekommen haben.",
+    dots: "Dieser Link lässt sich in einem Browser nicht benutzen: Ein Teil seines Namens ist nur . oder .., und " +
+      "jeder Browser nimmt solche Teile vor dem Senden heraus, sodass die Stelle ihn ablehnen würde. Es wurde " +
+      "nichts gesendet. Bitten Sie die Stelle um einen Link mit einem anderen Namen.",
+    respelled: "Dieser Link lässt sich in einem Browser nicht benutzen: Er enthält Zeichen, die jeder Browser vor " +
+      "dem Senden umschreibt. Es wurde nichts gesendet. Bitten Sie die Stelle um den Link in seiner üblichen " +
+      "Schreibweise.",
     paste: "Link",
     take: "Diesen Link benutzen",
     choose: "Die Datei",
@@ -186,10 +195,10 @@ const TEXTS = {
     digest: "SHA-256",
     bytes: "{length} Bytes",
     working: "wird berechnet …",
-    insecure: "wird hier nicht berechnet: Diese Seite wurde ohne Verschlüsselung geöffnet (http statt https), und dann berechnen " +
-      "Browser keine SHA-256. Andere könnten die Datei und diese Seite unterwegs lesen oder ändern. Bitten Sie die Stelle um eine " +
-      "https-Adresse. Prüfen lässt sich trotzdem, was ankam: Vergleichen Sie die SHA-256 der Quittung mit der Ihrer Datei, etwa " +
-      "mit dem Befehl sha256sum.",
+    insecure: "wird hier nicht berechnet: Diese Seite wurde ohne Verschlüsselung geöffnet (http statt https), und " +
+      "dann berechnen Browser keine SHA-256. Andere könnten die Datei und diese Seite unterwegs lesen oder ändern. " +
+      "Bitten Sie die Stelle um eine https-Adresse. Prüfen lässt sich trotzdem, was ankam: Vergleichen Sie die " +
+      "SHA-256 der Quittung mit der Ihrer Datei, etwa mit dem Befehl sha256sum.",
     chosen: "Ausgewählt: {file}, {length} Bytes.",
     chosen_digest: "Die SHA-256 ist berechnet.",
     several: "Mit einem Link lässt sich nur eine Datei senden; die erste wurde genommen.",
@@ -204,27 +213,33 @@ const TEXTS = {
     fetched_so_far: "{loaded} Bytes",
     stop: "Anhalten",
     again: "Erneut versuchen",
-    harmless: "Dieselbe Datei noch einmal zu senden schadet nicht: Die Stelle führt sie nur einmal und gibt dieselbe Quittung.",
+    harmless: "Dieselbe Datei noch einmal zu senden schadet nicht: Die Stelle führt sie nur einmal und gibt " +
+      "dieselbe Quittung.",
     harmless_get: "Das Abholen ändert nichts; Sie können es wiederholen, solange der Link gilt.",
     receipt: "Quittung {number}",
     receipt_lead: "Die Stelle hat die Datei.",
-    same: "Das ist dieselbe Quittung wie zuvor: Die Stelle hatte genau diese Datei schon, und nichts wurde geändert. Das schadet nicht.",
-    number: "Nummer",
+    same: "Das ist dieselbe Quittung wie zuvor: Die Stelle hatte genau diese Datei schon, und nichts wurde " +
+      "geändert. Das schadet nicht.",
+    number: "Nummer der Quittung",
     length: "Länge",
     office_digest: "SHA-256 von der Stelle",
     own_digest: "SHA-256 von diesem Browser",
     moment: "Mitgeteilt am",
-    moment_note: "„Mitgeteilt am“ ist nach der Uhr dieses Geräts. Wann die Stelle die Datei zuerst annahm, steht in deren eigener Liste.",
+    moment_note: "„Mitgeteilt am“ ist nach der Uhr dieses Geräts. Wann die Stelle die Datei zuerst annahm, steht " +
+      "in deren eigener Liste.",
     equal: "Geprüft: Länge und SHA-256 von der Stelle sind die Ihrer Datei.",
     equal_get: "Geprüft: Länge und SHA-256 von der Stelle sind die der Datei, die ankam.",
-    unchecked: "Nicht geprüft: Dieser Browser konnte die SHA-256 nicht berechnen, weil die Seite ohne Verschlüsselung geöffnet wurde " +
-      "(http). Vergleichen Sie die SHA-256 von der Stelle selbst mit der Ihrer Datei, etwa mit dem Befehl sha256sum.",
+    unchecked: "Nicht geprüft: Dieser Browser konnte die SHA-256 nicht berechnen, weil die Seite ohne " +
+      "Verschlüsselung geöffnet wurde (http). Vergleichen Sie die SHA-256 von der Stelle selbst mit der Ihrer " +
+      "Datei, etwa mit dem Befehl sha256sum.",
     differs_title: "Die Stelle hat andere Bytes",
-    differs: "Was die Stelle erhielt, ist nicht die Datei, die gesendet wurde: Länge oder SHA-256 weichen ab. Sie wurde unterwegs " +
-      "verändert. Nennen Sie der Stelle die Nummer dieser Quittung und bitten Sie um einen neuen Link.",
+    differs: "Was die Stelle erhielt, ist nicht die Datei, die gesendet wurde: Länge oder SHA-256 weichen ab. Sie " +
+      "wurde unterwegs verändert. Nennen Sie der Stelle die Nummer dieser Quittung und bitten Sie um einen neuen " +
+      "Link.",
     differs_get_title: "Es kamen andere Bytes an",
-    differs_get: "Was ankam, ist nicht, was die Stelle hat: Länge oder SHA-256 weichen ab. Es wurde unterwegs verändert und lässt " +
-      "sich hier deshalb nicht speichern. Versuchen Sie es erneut; bleibt es so, sagen Sie es der Stelle.",
+    differs_get: "Was ankam, ist nicht, was die Stelle hat: Länge oder SHA-256 weichen ab. Es wurde unterwegs " +
+      "verändert und lässt sich hier deshalb nicht speichern. Versuchen Sie es erneut; bleibt es so, sagen Sie es " +
+      "der Stelle.",
     fetched: "Die Datei ist angekommen",
     print: "Drucken",
     keep: "Quittung als Textdatei speichern",
@@ -238,42 +253,48 @@ const TEXTS = {
     office_says: "In den Worten der Stelle",
     what_to_do: "Was Sie tun können",
     unreadable_title: "Die Datei lässt sich nicht lesen",
-    unreadable: "Vielleicht wurde sie nach dem Auswählen verschoben, geändert oder gelöscht, oder sie ist ein Ordner. Wählen Sie die " +
-      "Datei noch einmal aus.",
+    unreadable: "Vielleicht wurde sie nach dem Auswählen verschoben, geändert oder gelöscht, oder sie ist ein " +
+      "Ordner. Wählen Sie die Datei noch einmal aus.",
     lost_title: "Die Verbindung ist abgebrochen",
-    lost: "Es kam keine Antwort. Vielleicht ist die Datei angekommen, vielleicht nicht. Prüfen Sie Ihre Verbindung und versuchen " +
-      "Sie es erneut.",
+    lost: "Es kam keine Antwort. Vielleicht ist die Datei angekommen, vielleicht nicht. Prüfen Sie Ihre Verbindung " +
+      "und versuchen Sie es erneut.",
     lost_get: "Es kam keine Antwort oder nicht die ganze. Prüfen Sie Ihre Verbindung und versuchen Sie es erneut.",
     stopped_title: "Angehalten",
-    stopped: "Sie haben angehalten. Vielleicht ist die Datei angekommen, vielleicht nicht. Sie können es erneut versuchen.",
+    stopped: "Sie haben angehalten. Vielleicht ist die Datei angekommen, vielleicht nicht. Sie können es erneut " +
+      "versuchen.",
     stopped_get: "Sie haben angehalten. Sie können es erneut versuchen.",
     away_title: "Die Stelle antwortet gerade nicht",
-    away: "Der Webserver ist da, die Stelle dahinter nicht (Status {status}). Warten Sie kurz und versuchen Sie es erneut.",
+    away: "Der Webserver ist da, die Stelle dahinter nicht (Status {status}). Warten Sie kurz und versuchen Sie es " +
+      "erneut.",
     strange_title: "Eine Antwort, die nicht von der Stelle ist",
-    strange: "Etwas zwischen dieser Seite und der Stelle hat geantwortet (Status {status}). Versuchen Sie es erneut; bleibt es so, " +
-      "nennen Sie der Stelle diesen Status.",
+    strange: "Etwas zwischen dieser Seite und der Stelle hat geantwortet (Status {status}). Versuchen Sie es " +
+      "erneut; bleibt es so, nennen Sie der Stelle diesen Status.",
     remedy_again: "Versuchen Sie es erneut.",
-    remedy_page: "Das deutet auf etwas zwischen dieser Seite und der Stelle hin, nicht auf Sie. Versuchen Sie es erneut; bleibt es " +
-      "so, nennen Sie der Stelle die Nummer.",
-    remedy_copy: "Kopieren Sie noch einmal den ganzen Link, wie Sie ihn bekommen haben, ohne Zeilenumbruch und ohne Zeichen am Ende, " +
-      "und öffnen Sie ihn erneut. Bleibt es so, bitten Sie die Stelle um einen neuen Link.",
-    remedy_match_put: "Kopieren Sie noch einmal den ganzen Link, wie Sie ihn bekommen haben, und öffnen Sie ihn erneut. Ist es ein " +
-      "Link zum Abholen, öffnen Sie ihn mit get.html. Bleibt es so, bitten Sie die Stelle um einen neuen Link zum Senden.",
-    remedy_match_get: "Kopieren Sie noch einmal den ganzen Link, wie Sie ihn bekommen haben, und öffnen Sie ihn erneut. Ist es ein " +
-      "Link zum Senden, öffnen Sie ihn mit put.html. Bleibt es so, bitten Sie die Stelle um einen neuen Link zum Abholen.",
+    remedy_page: "Das deutet auf etwas zwischen dieser Seite und der Stelle hin, nicht auf Sie. Versuchen Sie es " +
+      "erneut; bleibt es so, nennen Sie der Stelle die Nummer.",
+    remedy_copy: "Kopieren Sie noch einmal den ganzen Link, wie Sie ihn bekommen haben, ohne Zeilenumbruch und " +
+      "ohne Zeichen am Ende, und öffnen Sie ihn erneut. Bleibt es so, bitten Sie die Stelle um einen neuen Link.",
+    remedy_match_put: "Kopieren Sie noch einmal den ganzen Link, wie Sie ihn bekommen haben, und öffnen Sie ihn " +
+      "erneut. Ist es ein Link zum Abholen, öffnen Sie ihn mit get.html. Bleibt es so, bitten Sie die Stelle um " +
+      "einen neuen Link zum Senden.",
+    remedy_match_get: "Kopieren Sie noch einmal den ganzen Link, wie Sie ihn bekommen haben, und öffnen Sie ihn " +
+      "erneut. Ist es ein Link zum Senden, öffnen Sie ihn mit put.html. Bleibt es so, bitten Sie die Stelle um " +
+      "einen neuen Link zum Abholen.",
     remedy_new: "Bitten Sie die Stelle um einen neuen Link.",
     remedy_host: "Bitten Sie die Stelle um einen Link, der nur den Host unterschreibt.",
-    remedy_smaller: "Verkleinern Sie die Datei oder senden Sie sie in Teilen, jeden mit einem eigenen Link. Geht beides nicht, fragen " +
-      "Sie die Stelle nach einem anderen Weg.",
+    remedy_smaller: "Verkleinern Sie die Datei oder senden Sie sie in Teilen, jeden mit einem eigenen Link. Geht " +
+      "beides nicht, fragen Sie die Stelle nach einem anderen Weg.",
     remedy_wait: "Warten Sie bis zu der Zeit, ab der der Link gilt, und versuchen Sie es dann erneut.",
     remedy_box: "Sagen Sie es der Stelle. Sie muss das Fach anlegen oder Ihnen einen anderen Link geben.",
     remedy_name: "Bitten Sie die Stelle um einen Link mit einem anderen Namen.",
-    remedy_closed: "Versuchen Sie es erneut, wenn das Fach offen ist, oder fragen Sie die Stelle, wann das ist. Eine Datei, die die " +
-      "Stelle schon hat, bekommt auch jetzt ihre Quittung noch einmal.",
-    remedy_other: "Die Datei, die die Stelle hat, bleibt, wie sie ist. Soll auch Ihre angenommen werden, bitten Sie die Stelle um " +
-      "einen Link mit einem anderen Namen. Möchten Sie nur die Quittung noch einmal, wählen Sie genau die Datei, die zuvor gesendet wurde.",
+    remedy_closed: "Versuchen Sie es erneut, wenn das Fach offen ist, oder fragen Sie die Stelle, wann das ist. " +
+      "Eine Datei, die die Stelle schon hat, bekommt auch jetzt ihre Quittung noch einmal.",
+    remedy_other: "Die Datei, die die Stelle hat, bleibt, wie sie ist. Soll auch Ihre angenommen werden, bitten " +
+      "Sie die Stelle um einen Link mit einem anderen Namen. Möchten Sie nur die Quittung noch einmal, wählen Sie " +
+      "genau die Datei, die zuvor gesendet wurde.",
     remedy_room: "Bitten Sie die Stelle, Platz zu schaffen, und versuchen Sie es dann erneut.",
-    remedy_absent: "Sie wurde noch nicht gesendet oder wieder herausgenommen. Fragen Sie die Stelle und versuchen Sie es später erneut.",
+    remedy_absent: "Sie wurde noch nicht gesendet oder wieder herausgenommen. Fragen Sie die Stelle und versuchen " +
+      "Sie es später erneut.",
     refusals: {
       1: ["Die Stelle konnte die Anfrage nicht lesen.", "page"],
       2: ["Die Anfrage ist zu lang.", "page"],
