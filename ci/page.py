@@ -7,272 +7,23 @@ languages. `--shots FOLDER` keeps pictures. The last line is `N passed, M failed
 """
 
 import argparse
-import base64
-import contextlib
 import hashlib
-import json
 import os
 import pathlib
 import re
-import shutil
-import socket
-import struct
-import subprocess
 import sys
 import tempfile
-import threading
 import time
-import urllib.error
-import urllib.parse
-import urllib.request
 
 import expected
 import kit
 import tables
+from browser import Browser, Element, until
+from front import PAGE, Front, Office
 from office import Drop
-from replays import ID
 
-PAGE = kit.ROOT / "page"
-KINDS = {".html": "text/html; charset=utf-8", ".js": "text/javascript; charset=utf-8", ".css": "text/css", ".svg": "image/svg+xml"}
-SECONDS = 30
 MEBIBYTE = 1 << 20
-BREAK = struct.pack("ii", 1, 0)  # SO_LINGER: a socket that is closed is reset
 TAB, ENTER, SPACE = "\ue004", "\ue007", " "
-
-
-def until(what, call, seconds=SECONDS):
-    """What the call gives once it is true; it is asked again and again."""
-    end = time.monotonic() + seconds
-    while not (found := call()):
-        if time.monotonic() > end:
-            raise AssertionError(f"{what}: not within {seconds} seconds")
-        time.sleep(0.02)
-    return found
-
-
-def free_port():
-    with socket.create_server(("127.0.0.1", 0)) as server:
-        return server.getsockname()[1]
-
-
-# ---- the office, and the web server before it
-
-
-class Office:
-    """A `drop serve` that can be killed and started again at its port."""
-
-    def __init__(self, drop, file):
-        self.drop, self.file, self.port, self.process = drop, file, free_port(), None
-
-    def start(self):
-        words = [self.drop.program, "serve", self.file, "--listen", f"127.0.0.1:{self.port}", "--connections", "100000"]
-        self.process = subprocess.Popen([*words, "--patience", "5"], stdin=subprocess.DEVNULL, stdout=subprocess.PIPE)
-        line = self.process.stdout.readline()
-        assert line == f"listening on 127.0.0.1:{self.port}\n".encode(), line
-
-    def kill(self):
-        if self.process:
-            self.process.kill()
-            self.process.communicate()
-            self.process = None
-
-
-class Front:
-    """Serves page/, and passes each other request to the office on a connection of its own, byte for byte.
-
-    `mode` says what is done to a request that is passed: `through`; `lost`, it is not passed and the connection is reset;
-    `swallowed`, the answer is not given; `held`, half of the body is read, and the rest once `gate` is set; `other body`
-    and `other answer`, the last byte is another one; or bytes, which are the answer.
-    """
-
-    def __init__(self, office):
-        self.office, self.mode, self.gate = office, "through", threading.Event()
-        self.passed, self.hosts = [], set()
-        self.server = socket.create_server(("127.0.0.1", 0), backlog=64)
-        self.server.setsockopt(socket.SOL_SOCKET, socket.SO_RCVBUF, 4096)
-        self.port = self.server.getsockname()[1]
-        self.host = f"127.0.0.1:{self.port}"
-        threading.Thread(target=self.accept, daemon=True).start()
-
-    def accept(self):
-        with contextlib.suppress(OSError):
-            while True:
-                threading.Thread(target=self.serve, args=[self.server.accept()[0]], daemon=True).start()
-
-    def serve(self, peer):
-        with contextlib.suppress(OSError), peer, peer.makefile("rb") as stream:
-            while head := b"".join(iter(stream.readline, b"\r\n")):
-                method, target, _ = head.split(b"\r\n")[0].decode().split(" ")
-                fields = dict(line.lower().split(b": ", 1) for line in head.split(b"\r\n")[1:-1])
-                self.hosts.add(fields[b"host"].decode())
-                length = int(fields.get(b"content-length", b"0"))
-                file = PAGE / target.partition("?")[0].removeprefix("/")
-                if file.parent == PAGE and file.is_file():
-                    peer.sendall(self.static(file))
-                    continue
-                self.passed.append((method, target))
-                mode, body = self.mode, b""
-                if mode == "held":
-                    body = stream.read(length // 2)
-                    self.gate.wait(SECONDS)
-                body += stream.read(length - len(body))
-                answer = b"" if mode == "lost" else mode if isinstance(mode, bytes) else self.ask(head, body, mode)
-                if mode in ("lost", "swallowed"):
-                    peer.setsockopt(socket.SOL_SOCKET, socket.SO_LINGER, BREAK)
-                    stream.close()
-                    peer.close()
-                    return
-                peer.sendall(answer)
-
-    @staticmethod
-    def static(file):
-        data = file.read_bytes()
-        lines = ["HTTP/1.1 200 OK", f"Content-Type: {KINDS[file.suffix]}", f"Content-Length: {len(data)}", "", ""]
-        return "\r\n".join(lines).encode() + data
-
-    def ask(self, head, body, mode):
-        if mode == "other body":
-            body = body[:-1] + bytes([body[-1] ^ 1])
-        try:
-            with socket.create_connection(("127.0.0.1", self.office.port), timeout=SECONDS) as it:
-                it.sendall(head + b"\r\n" + body)
-                it.shutdown(socket.SHUT_WR)
-                answer = b"".join(iter(lambda: it.recv(1 << 16), b""))
-        except ConnectionError:
-            answer = b""
-        if not answer:
-            return b"HTTP/1.1 502 Bad Gateway\r\nContent-Type: text/html\r\nContent-Length: 13\r\n\r\n<h1>502</h1>\n"
-        return answer[:-1] + bytes([answer[-1] ^ 1]) if mode == "other answer" else answer
-
-
-# ---- the browser
-
-
-class Element:
-    KEY = "element-6066-11e4-a52e-4f735466cecf"
-
-    def __init__(self, browser, value):
-        self.browser, self.id = browser, value[self.KEY]
-
-    def ask(self, method, path, body=None):
-        return self.browser.ask(method, f"/element/{self.id}{path}", body)
-
-    def click(self):
-        self.ask("POST", "/click", {})
-
-    def type(self, text):
-        self.ask("POST", "/value", {"text": text})
-
-    def label(self):
-        return self.ask("GET", "/computedlabel")
-
-    def role(self):
-        return self.ask("GET", "/computedrole")
-
-
-class Browser:
-    """A session of chromium's driver, in a folder of its own."""
-
-    def __init__(self, folder):
-        self.folder, self.port, self.opened, self.path = folder, free_port(), 0, ""
-        self.downloads = folder / "downloads"
-        self.downloads.mkdir()
-        pipes = {"stdin": subprocess.DEVNULL, "stdout": subprocess.DEVNULL, "stderr": subprocess.DEVNULL}
-        environment = os.environ | {"HOME": str(folder), "XDG_CONFIG_HOME": str(folder), "TMPDIR": str(folder)}
-        self.driver = subprocess.Popen(["chromedriver", f"--port={self.port}"], cwd=folder, env=environment, **pipes)
-
-    def __enter__(self):
-        until("the driver", self.is_ready)
-        options = {"binary": shutil.which("chromium"), "args": [
-            "--headless=new", "--no-sandbox", "--disable-dev-shm-usage", "--disable-gpu", "--no-first-run", "--lang=en-US",
-            "--window-size=1280,900", "--disable-background-networking", "--disable-component-update", "--disable-extensions",
-            "--hide-scrollbars", f"--user-data-dir={self.folder / 'profile'}",
-            "--host-resolver-rules=MAP files.example 127.0.0.1",
-        ], "prefs": {"download.default_directory": str(self.downloads), "intl.accept_languages": "en-US,en"}}
-        wanted = {"browserName": "chrome", "goog:chromeOptions": options, "goog:loggingPrefs": {"browser": "ALL"}}
-        found = self.call("POST", "/session", {"capabilities": {"alwaysMatch": wanted}})
-        self.path = f"/session/{found['sessionId']}"
-        self.agent = self.js("return navigator.userAgent")
-        return self
-
-    def __exit__(self, *_):
-        with contextlib.suppress(Exception):
-            self.ask("DELETE", "")
-        self.driver.terminate()
-        try:
-            self.driver.wait(10)
-        except subprocess.TimeoutExpired:
-            self.driver.kill()
-
-    def is_ready(self):
-        try:
-            return self.call("GET", "/status")["ready"]
-        except OSError:
-            return False
-
-    def call(self, method, path, body=None):
-        data = None if body is None else json.dumps(body).encode()
-        request = urllib.request.Request(f"http://127.0.0.1:{self.port}{path}", data=data, method=method)
-        try:
-            with urllib.request.urlopen(request, timeout=60) as it:
-                return json.load(it)["value"]
-        except urllib.error.HTTPError as error:
-            raise AssertionError(f"{method} {path}: {error.read().decode()[:400]}") from None
-
-    def ask(self, method, path, body=None):
-        return self.call(method, self.path + path, body)
-
-    def cdp(self, command, **params):
-        return self.ask("POST", "/goog/cdp/execute", {"cmd": command, "params": params})
-
-    def js(self, script, *values):
-        return self.ask("POST", "/execute/sync", {"script": script, "args": list(values)})
-
-    def wait_for(self, script, *values):
-        return until(script, lambda: self.js(script, *values))
-
-    def open(self, host, page, link):
-        """A new load of a page with this link."""
-        self.opened += 1
-        self.ask("POST", "/url", {"url": f"http://{host}/{page}.html?{self.opened}#{link}"})
-
-    def find(self, selector):
-        return Element(self, self.ask("POST", "/element", {"using": "css selector", "value": selector}))
-
-    def all(self, selector):
-        found = self.ask("POST", "/elements", {"using": "css selector", "value": selector})
-        return [Element(self, value) for value in found]
-
-    def press(self, *keys):
-        """Each key down and up, at whatever has the focus."""
-        actions = [{"type": kind, "value": key} for key in keys for kind in ("keyDown", "keyUp")]
-        self.ask("POST", "/actions", {"actions": [{"type": "key", "id": "keys", "actions": actions}]})
-
-    def active(self):
-        return self.js("return document.activeElement && document.activeElement.id")
-
-    def width(self, pixels, height=900):
-        self.cdp("Emulation.setDeviceMetricsOverride", width=pixels, height=height, deviceScaleFactor=1, mobile=pixels < 600)
-
-    def media(self, kind="", **features):
-        named = [{"name": name.replace("_", "-"), "value": value} for name, value in features.items()]
-        self.cdp("Emulation.setEmulatedMedia", media=kind, features=named)
-
-    def shot(self, file):
-        """A picture of the whole page."""
-        size = self.js("return [document.documentElement.clientWidth, document.documentElement.scrollHeight]")
-        clip = {"x": 0, "y": 0, "width": size[0], "height": size[1], "scale": 1}
-        found = self.cdp("Page.captureScreenshot", format="png", captureBeyondViewport=True, clip=clip)
-        pathlib.Path(file).write_bytes(base64.b64decode(found["data"]))
-
-    def downloaded(self, before):
-        """The one file that came since, whole."""
-        def new():
-            names = set(os.listdir(self.downloads)) - before
-            return names and not any(name.endswith(".crdownload") or name.startswith(".") for name in names) and names
-        names = until("a download", new)
-        assert len(names) == 1, names
-        return self.downloads / names.pop()
 
 
 # ---- what stands on the page
@@ -660,7 +411,8 @@ def test_links(case, count):
             case.shot("dots")
     count.add("nothing was sent", is_not(len(case.front.passed), before))
     case.open("get", "")
-    case.browser.find("#pasted").type(case.links["get a"] + ENTER)
+    case.browser.js("const it = document.getElementById('pasted'); it.value = arguments[0]; it.focus()", case.links["get a"])
+    case.browser.press(ENTER)
     case.browser.wait_for("return !document.getElementById('work').hidden")
     case.click("#go")
     count.add("a link that is pasted", is_not(case.result()["facts"]["office_digest"], digest(DATA)))
@@ -745,6 +497,7 @@ def test_progress(case, count):
     case.browser.wait_for("return /% –/.test(document.getElementById('live').textContent)")
     case.shot("sending")
     case.browser.cdp("Network.emulateNetworkConditions", **NETWORK)
+    case.browser.cdp("Network.disable")
     found = case.result()
     count.add("then the receipt", is_not(found["facts"].get("office_digest"), digest(b"p" * MEBIBYTE)))
     said = case.browser.js("return window.said")
