@@ -63,11 +63,12 @@ class Browser:
         until("the driver", self.is_ready)
         options = {"binary": shutil.which("chromium"), "args": [
             "--headless=new", "--no-sandbox", "--disable-dev-shm-usage", "--disable-gpu", "--no-first-run", "--lang=en-US",
-            "--window-size=1280,900", "--disable-background-networking", "--disable-component-update", "--disable-extensions",
-            "--hide-scrollbars", f"--user-data-dir={self.folder / 'profile'}",
+            "--window-size=1280,900", "--disable-background-networking", "--disable-component-update",
+            "--disable-extensions", "--hide-scrollbars", f"--user-data-dir={self.folder / 'profile'}",
             "--host-resolver-rules=MAP files.example 127.0.0.1",
         ], "prefs": {"download.default_directory": str(self.downloads), "intl.accept_languages": "en-US,en"}}
-        wanted = {"browserName": "chrome", "pageLoadStrategy": "eager", "goog:chromeOptions": options, "goog:loggingPrefs": {"browser": "ALL"}}
+        wanted = {"browserName": "chrome", "pageLoadStrategy": "eager", "goog:chromeOptions": options,
+                  "goog:loggingPrefs": {"browser": "ALL"}}
         found = self.call("POST", "/session", {"capabilities": {"alwaysMatch": wanted}})
         self.path = f"/session/{found['sessionId']}"
         self.agent = self.js("return navigator.userAgent")
@@ -130,7 +131,8 @@ class Browser:
         return self.js("return document.activeElement && document.activeElement.id")
 
     def width(self, pixels, height=900):
-        self.cdp("Emulation.setDeviceMetricsOverride", width=pixels, height=height, deviceScaleFactor=1, mobile=pixels < 600)
+        size = {"width": pixels, "height": height, "deviceScaleFactor": 1}
+        self.cdp("Emulation.setDeviceMetricsOverride", mobile=pixels < 600, **size)
 
     def media(self, kind="", **features):
         named = [{"name": name.replace("_", "-"), "value": value} for name, value in features.items()]

@@ -1,8 +1,8 @@
 """Drives page/put.html and page/get.html in Debian's chromium, headless, over the proved program `drop serve`.
 
-The browser is asked by the WebDriver protocol over HTTP, by Python's `urllib` alone. Between it and the office stands a
-small web server (`Front`): it serves page/, passes all else on as it came, and can be told to lose or to change what it
-passes. What is owed comes from Python's `hashlib`, the table of refusals in docs/RULES.md, and the words below, in both
+The browser is asked by the WebDriver protocol (ci/browser.py). Between it and the office stands a small web server, which
+serves page/, passes all else on as it came, and can be told to lose or to change it (ci/front.py).
+What is owed comes from Python's `hashlib`, the table of refusals in docs/RULES.md, and the words below, in both
 languages. `--shots FOLDER` keeps pictures. The last line is `N passed, M failed`.
 """
 
@@ -33,7 +33,8 @@ RESULT = """
 const result = document.getElementById("result");
 if (result.hidden) return null;
 const all = {kind: result.dataset.kind, title: document.getElementById("result_title").textContent, text: result.innerText};
-all.facts = Object.fromEntries(Array.from(result.querySelectorAll("[data-fact]"), (it) => [it.dataset.fact, it.textContent]));
+const facts = Array.from(result.querySelectorAll("[data-fact]"));
+all.facts = Object.fromEntries(facts.map((it) => [it.dataset.fact, it.textContent]));
 for (const id of ["what", "remedy", "lead", "checked", "save", "again"]) {
   const it = document.getElementById(id);
   all[id] = it && it.textContent;
@@ -48,7 +49,8 @@ class Case:
     """A test's office, front and browser, the links that it needs, and files to be chosen."""
 
     def __init__(self, drop, office, front, browser, links, shots):
-        self.drop, self.office, self.front, self.browser, self.links, self.shots = drop, office, front, browser, links, shots
+        self.drop, self.office, self.front, self.browser = drop, office, front, browser
+        self.links, self.shots = links, shots
 
     def file(self, name, data):
         file = self.drop.path("files") / name
@@ -116,7 +118,8 @@ def lacks(text, *words):
 
 
 def receipt_facts(number, data):
-    return {"number": str(number), "length": f"{len(data):,} bytes", "office_digest": digest(data), "own_digest": digest(data)}
+    digests = {"office_digest": digest(data), "own_digest": digest(data)}
+    return {"number": str(number), "length": f"{len(data):,} bytes"} | digests
 
 
 def of(found, owed):
@@ -137,7 +140,8 @@ def test_put(case, count):
     found = case.put("put a", "my file.pdf", DATA)
     owed = receipt_facts(1, DATA)
     count.add("a receipt", is_not((found["kind"], found["title"], of(found, owed)), ("receipt", "Receipt 1", owed)))
-    count.add("equal digests", lacks(found["checked"], "Checked: length and SHA-256 from the office are those of your file."))
+    words = "Checked: length and SHA-256 from the office are those of your file."
+    count.add("equal digests", lacks(found["checked"], words))
     count.add("its box and name", is_not(of(found, ["box", "name"]), {"box": "in", "name": "a b.txt"}))
     count.add("its moment", None if found["facts"].get("moment") else "there is none")
     page = case.browser.js("return document.body.innerText")
@@ -155,8 +159,9 @@ def test_put(case, count):
     count.add("it is said", lacks(found["lead"], "the same receipt as before", "nothing was changed", "harmless"))
     case.click("#de")
     found = case.result()
-    count.add("auf Deutsch", lacks(found["text"], "Quittung 1", "dieselbe Quittung wie zuvor", "schadet nicht", "76.800 Bytes",
-                                   "Geprüft: Länge und SHA-256 von der Stelle sind die Ihrer Datei."))
+    words = ["Quittung 1", "dieselbe Quittung wie zuvor", "schadet nicht", "76.800 Bytes",
+             "Geprüft: Länge und SHA-256 von der Stelle sind die Ihrer Datei."]
+    count.add("in German", lacks(found["text"], *words))
     found = case.put("put a", "again.pdf", DATA)
     count.add("the same receipt of a new page", is_not(of(found, owed), owed))
     found = case.put("put empty", "empty", b"")
@@ -195,8 +200,10 @@ def test_receipt_file(case, count):
         case.browser.shot(case.shots / "print.png")
     case.browser.media()
     for language, name, words in [
-        ("en", "receipt-1.txt", ["Receipt 1", "Box: in", "Name in the box: a b.txt", "Length: 76,800 bytes", "Checked: ", "sha256sum"]),
-        ("de", "Quittung-1.txt", ["Quittung 1", "Fach: in", "Name im Fach: a b.txt", "Länge: 76.800 Bytes", "Geprüft: ", "sha256sum"]),
+        ("en", "receipt-1.txt",
+         ["Receipt 1", "Box: in", "Name in the box: a b.txt", "Length: 76,800 bytes", "Checked: ", "sha256sum"]),
+        ("de", "Quittung-1.txt",
+         ["Quittung 1", "Fach: in", "Name im Fach: a b.txt", "Länge: 76.800 Bytes", "Geprüft: ", "sha256sum"]),
     ]:
         case.click(f"#{language}")
         before = set(os.listdir(case.browser.downloads))
@@ -357,8 +364,9 @@ def test_changed(case, count):
     case.front.mode = "other body"
     case.click("#go")
     found = case.result()
-    count.add("another file arrived", is_not((found["title"], found["facts"]["own_digest"], found["facts"]["office_digest"]),
-              ("The office has other bytes", digest(b"changed"), digest(b"changee"))) or lacks(found["lead"], "changed on the way"))
+    told = found["title"], found["facts"]["own_digest"], found["facts"]["office_digest"]
+    owed = "The office has other bytes", digest(b"changed"), digest(b"changee")
+    count.add("another file arrived", is_not(told, owed) or lacks(found["lead"], "changed on the way"))
     case.open("get", "get a")
     case.front.mode = "other answer"
     case.click("#go")
@@ -404,14 +412,15 @@ def test_links(case, count):
     ]
     for link, words in rows:
         case.open("put", link)
-        shown = case.browser.js("return [document.getElementById('fault_text').innerText, document.getElementById('work').hidden, "
-                                "document.getElementById('live').textContent]")
+        shown = case.browser.js("const it = (id) => document.getElementById(id); return ["
+                                "it('fault_text').innerText, it('work').hidden, it('live').textContent]")
         count.add(f"link {link[:20]!r}", lacks(shown[0], words) or is_not(shown[1:], [True, shown[0]]))
         if link == case.links["put dots"]:
             case.shot("dots")
     count.add("nothing was sent", is_not(len(case.front.passed), before))
     case.open("get", "")
-    case.browser.js("const it = document.getElementById('pasted'); it.value = arguments[0]; it.focus()", case.links["get a"])
+    paste = "const it = document.getElementById('pasted'); it.value = arguments[0]; it.focus()"
+    case.browser.js(paste, case.links["get a"])
     case.browser.press(ENTER)
     case.browser.wait_for("return !document.getElementById('work').hidden")
     case.click("#go")
@@ -488,7 +497,8 @@ def test_progress(case, count):
     case.browser.cdp("Network.enable")
     case.browser.cdp("Network.emulateNetworkConditions", **NETWORK | {"uploadThroughput": 200000})
     case.click("#go")
-    shown = case.browser.wait_for("const it = document.getElementById('so_far').textContent; return /^[1-9]/.test(it) ? it : null")
+    shown = case.browser.wait_for("const it = document.getElementById('so_far').textContent;"
+                                  "return /^[1-9]/.test(it) ? it : null")
     count.add("how much", None if re.fullmatch(r"\d+ % – [\d,]+ of 1,048,576 bytes", shown) else shown)
     bar = case.browser.js("return document.getElementById('bar').value")
     count.add("the bar", None if 0 < bar <= 100 else bar)
@@ -510,7 +520,9 @@ def test_dropped(case, count):
     case.browser.js("""const data = new DataTransfer();
         for (const it of ["one", "two"]) data.items.add(new File([it], it + ".txt"));
         const zone = document.getElementById("zone");
-        for (const it of ["dragover", "drop"]) zone.dispatchEvent(new DragEvent(it, {dataTransfer: data, bubbles: true}));""")
+        for (const it of ["dragover", "drop"]) {
+          zone.dispatchEvent(new DragEvent(it, {dataTransfer: data, bubbles: true, cancelable: true}));
+        }""")
     case.browser.wait_for("return document.querySelectorAll('#facts .code').length")
     text = case.browser.js("return document.getElementById('facts').innerText")
     count.add("the first is taken", lacks(text, "one.txt", digest(b"one"), "Only one file can be sent with a link"))
@@ -524,11 +536,14 @@ def test_insecure(case, count):
     found = case.put("put plain", "plain", b"plain", host)
     said = case.browser.js("return document.getElementById('facts').innerText")
     count.add("no digest here", lacks(said, "not computed here", "http, not https", "sha256sum"))
-    count.add("a receipt that is not checked", is_not((found["title"], found["facts"]["office_digest"], found["facts"].get("own_digest")),
-              ("Receipt %s" % found["facts"]["number"], digest(b"plain"), None)) or lacks(found["checked"], "Not checked", "sha256sum"))
+    facts = found["facts"]
+    told, owed = (found["title"], facts["office_digest"]), (f"Receipt {facts['number']}", digest(b"plain"))
+    count.add("a receipt that is not checked", is_not(told, owed) or is_not(facts.get("own_digest"), None)
+              or lacks(found["checked"], "Not checked", "sha256sum"))
     case.shot("insecure")
     found = case.fetch("get plain", host)
-    count.add("a file that is not checked", is_not(found["save"], "Save the file as “plain”") or lacks(found["checked"], "Not checked"))
+    count.add("a file that is not checked", is_not(found["save"], "Save the file as “plain”")
+              or lacks(found["checked"], "Not checked"))
 
 
 CONTROLS = "button, input, a, progress, select, textarea, summary, [tabindex='0']"
@@ -549,8 +564,8 @@ def test_reader(case, count):
                      "keep": ("button", "Save the receipt as a text file")}
     count.add("names", is_not(labels(case), owed))
     case.click("#de")
-    owed = speech | {"file": ("button", "Datei auswählen"), "go": ("button", "Datei senden"), "print": ("button", "Drucken"),
-                     "keep": ("button", "Quittung als Textdatei speichern")}
+    owed = speech | {"file": ("button", "Datei auswählen"), "go": ("button", "Datei senden"),
+                     "print": ("button", "Drucken"), "keep": ("button", "Quittung als Textdatei speichern")}
     count.add("names, German", is_not(labels(case), owed))
     page = "return [document.documentElement.lang, document.title, document.getElementById('de').ariaPressed]"
     count.add("the page’s language", is_not(case.browser.js(page), ["de", "Datei senden", "true"]))
@@ -558,7 +573,8 @@ def test_reader(case, count):
     owed = speech | {"go": ("button", "Fetch it again"), "save": ("link", "Save the file as “a b.txt”")}
     count.add("names of get", is_not(labels(case), owed))
     case.open("put", "")
-    count.add("names without a link", is_not(labels(case), speech | {"pasted": ("textbox", "Link"), "": ("button", "Use this link")}))
+    owed = speech | {"pasted": ("textbox", "Link"), "": ("button", "Use this link")}
+    count.add("names without a link", is_not(labels(case), owed))
     live = case.browser.find("#live")
     kept = case.browser.js("const it = document.getElementById('live'); return [it.ariaLive, it.hidden]")
     count.add("the live region", is_not((live.role(), kept), ("status", ["polite", False])))
@@ -574,6 +590,8 @@ def test_reader(case, count):
     case.browser.cdp("Emulation.setUserAgentOverride", userAgent=case.browser.agent, acceptLanguage="en-US,en")
 
 
+BACKGROUND = "return getComputedStyle(document.body).backgroundColor"
+
 # The contrast of what is written with what it is written on, by WCAG 2.2, the least of all that is shown.
 CONTRAST = """
 const parse = (it) => it.match(/[\\d.]+/g).map(Number);
@@ -583,8 +601,8 @@ const back = (it) => {
   const colour = parse(getComputedStyle(it).backgroundColor);
   return (colour.length === 3 || colour[3] > 0) ? colour : back(it.parentElement);
 };
-const texts = Array.from(document.body.querySelectorAll("*")).filter((it) => it.offsetParent && Array.from(it.childNodes).some(
-  (part) => part.nodeType === 3 && part.data.trim()));
+const written = (it) => Array.from(it.childNodes).some((part) => part.nodeType === 3 && part.data.trim());
+const texts = Array.from(document.body.querySelectorAll("*")).filter((it) => it.offsetParent && written(it));
 return Math.min(...texts.map((it) => {
   const [a, b] = [light(parse(getComputedStyle(it).color)), light(back(it))];
   return (Math.max(a, b) + 0.05) / (Math.min(a, b) + 0.05);
@@ -613,20 +631,21 @@ def test_looks(case, count):
             case.click(f"#{language}")
             wide = case.browser.js("return [innerWidth, document.documentElement.scrollWidth]")
             count.add(f"320 pixels, {name}, {language}", is_not(wide, [320, 320]))
-        small = case.browser.js("return Array.from(document.querySelectorAll('button, .button'), (it) => it.offsetHeight).filter("
-                                "(it) => it && it < 44)")
+        small = case.browser.js("const all = document.querySelectorAll('button, .button');"
+                                "return Array.from(all, (it) => it.offsetHeight).filter((it) => it && it < 44)")
         count.add(f"large enough for a finger, {name}", is_not(small, []))
         case.browser.width(1280)
         for scheme in ["light", "dark"]:
             case.browser.media(prefers_color_scheme=scheme)
             contrast = case.browser.js(CONTRAST)
             count.add(f"contrast, {name}, {scheme}", None if contrast >= 4.5 else contrast)
-        dark = case.browser.js("return getComputedStyle(document.body).backgroundColor")
+        dark = case.browser.js(BACKGROUND)
         case.browser.media()
-        count.add(f"dark, {name}", None if dark != case.browser.js("return getComputedStyle(document.body).backgroundColor") else dark)
+        count.add(f"dark, {name}", None if dark != case.browser.js(BACKGROUND) else dark)
     case.browser.media(prefers_reduced_motion="reduce")
-    moving = "return Array.from(document.querySelectorAll('*')).filter((it) => getComputedStyle(it).animationName !== 'none').length"
-    count.add("reduced motion", is_not(case.browser.js(moving), 0))
+    moving = case.browser.js("return Array.from(document.querySelectorAll('*'), (it) => getComputedStyle(it))"
+                             ".filter((it) => it.animationName !== 'none' || it.transitionDuration !== '0s').length")
+    count.add("reduced motion", is_not(moving, 0))
     case.browser.media()
 
 
@@ -640,9 +659,10 @@ def test_own_origin(case, count):
     elsewhere = f"http://files.example:{case.front.port}/put.html"
     for what, script in [
         ("fetch", "fetch(url, {mode: 'no-cors'}).then(() => done('loaded'), () => done('barred'))"),
-        ("a picture", "const it = new Image(); it.onload = () => done('loaded'); it.onerror = () => done('barred'); it.src = url"),
-        ("a script in the page", "const it = document.createElement('script'); it.textContent = 'window.ran = 1'; document.body.append(it);"
-                                 "done(window.ran ? 'loaded' : 'barred')"),
+        ("a picture", "const it = new Image(); it.onload = () => done('loaded'); it.onerror = () => done('barred');"
+                      "it.src = url"),
+        ("a script in the page", "const it = document.createElement('script'); it.textContent = 'window.ran = 1';"
+                                 "document.body.append(it); done(window.ran ? 'loaded' : 'barred')"),
     ]:
         whole = f"const [url, done] = arguments; {script}"
         found = case.browser.ask("POST", "/execute/async", {"script": whole, "args": [elsewhere]})
@@ -656,8 +676,8 @@ def test_own_origin(case, count):
     count.add("hosts that were asked", is_not(case.front.hosts <= owed, True))
 
 
-TESTS = [test_put, test_receipt_file, test_refusals, test_table, test_too_large, test_faults, test_changed, test_get, test_links,
-         test_keyboard, test_progress, test_dropped, test_insecure, test_reader, test_looks, test_own_origin]
+TESTS = [test_put, test_receipt_file, test_refusals, test_table, test_too_large, test_faults, test_changed, test_get,
+         test_links, test_keyboard, test_progress, test_dropped, test_insecure, test_reader, test_looks, test_own_origin]
 
 
 def write_links(drop, file, front):
@@ -671,7 +691,8 @@ def write_links(drop, file, front):
         return ran.out.decode().strip()
 
     plain = f"files.example:{front.port}"
-    links = {f"put {name}": link("PUT", f"in/{name}") for name in ["empty", "large", "new", "faults", "changed", "keys", "progress", "dragged"]}
+    names = ["empty", "large", "new", "faults", "changed", "keys", "progress", "dragged"]
+    links = {f"put {name}": link("PUT", f"in/{name}") for name in names}
     links |= {f"get {name}": link("GET", f"in/{name}") for name in ["faults", "absent", "keys"]}
     for method in ["put", "get"]:
         links[f"{method} a"] = link(method.upper(), "in/a b.txt")

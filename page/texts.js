@@ -316,7 +316,7 @@ const TEXTS = {
       18: ["Es kam eine Kopfzeile mit, die der Link nicht unterschreibt.", "page"],
       19: ["Die Stelle kennt den Schlüssel nicht, der den Link unterschrieben hat.", "new"],
       20: ["Die Stelle hat den Schlüssel widerrufen, der den Link unterschrieben hat.", "new"],
-      21: ["Die Unterschrift passt nicht: Der Link ist nicht vollständig, wurde verändert oder gilt für etwas anderes.", "match"],
+      21: ["Die Unterschrift passt nicht: Der Link ist unvollständig, verändert oder für etwas anderes.", "match"],
       22: ["Der Link gilt noch nicht.", "wait"],
       23: ["Der Link ist abgelaufen.", "new"],
       24: ["Der Schlüssel, der den Link unterschrieben hat, darf das nicht.", "new"],
