@@ -339,7 +339,13 @@ def test_faults(case, count):
                   or lacks(found["text"], "schadet nicht"))
         case.click("#en")
     case.office.start()
+    case.front.mode = b"HTTP/1.1 413 Payload Too Large\r\nContent-Length: 0\r\n\r\n"
     case.click("#again")
+    found = case.result("refused")
+    count.add("too large for the web server", is_not(found["title"], "Refused: number 5")
+              or lacks(found["remedy"], "Make the file smaller"))
+    case.front.mode = "through"
+    case.click("#go")
     found = case.result("receipt")
     owed = receipt_facts(4, data)
     count.add("tried again", is_not(of(found, owed), owed))

@@ -51,11 +51,11 @@ with_boto3() {
     "$python" -c 'import boto3' && echo "$python"
 }
 
-# A command, which Debian has in a package of its name.
+# A command, which Debian has in a package of its name, or of another.
 with_command() {
     command -v "$1" >/dev/null && return
     [ "$(id -u)" -eq 0 ] && command -v apt-get >/dev/null || return
-    (apt-get update && apt-get install -y --no-install-recommends "$1") >&2
+    (apt-get update && apt-get install -y --no-install-recommends "${2:-$1}") >&2
     command -v "$1" >/dev/null
 }
 
@@ -91,6 +91,12 @@ kills() {
     "$python" -B ci/kills.py
 }
 
+page() {
+    with_command chromium || return 1
+    with_command chromedriver chromium-driver || return 1
+    python3 -B ci/page.py
+}
+
 interop() {
     local python
     python=$(with_boto3) || return 1
@@ -106,6 +112,7 @@ count "ci/serve.py" serve
 count "ci/desk.py" desk
 count "ci/lists.py" lists
 count "ci/kills.py" kills
+count "ci/page.py" page
 count "ci/memory.py" python3 -B ci/memory.py
 count "ci/interop.py" interop
 echo
