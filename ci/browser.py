@@ -62,8 +62,9 @@ class Browser:
     def __enter__(self):
         until("the driver", self.is_ready)
         options = {"binary": shutil.which("chromium"), "args": [
-            "--headless=new", "--no-sandbox", "--disable-dev-shm-usage", "--disable-gpu", "--no-first-run", "--lang=en-US",
-            "--window-size=1280,900", "--disable-background-networking", "--disable-component-update",
+            "--headless=new", "--no-sandbox", "--disable-dev-shm-usage", "--disable-gpu", "--in-process-gpu",
+            "--no-first-run", "--lang=en-US",
+            "--window-size=1000,700", "--disable-background-networking", "--disable-component-update",
             "--disable-extensions", "--hide-scrollbars", f"--user-data-dir={self.folder / 'profile'}",
             "--host-resolver-rules=MAP files.example 127.0.0.1",
         ], "prefs": {"download.default_directory": str(self.downloads), "intl.accept_languages": "en-US,en"}}

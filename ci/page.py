@@ -76,6 +76,10 @@ class Case:
     def click(self, selector):
         self.browser.find(selector).click()
 
+    def speak(self, language):
+        """The switch, by a script: quicker than `click`."""
+        self.browser.js("document.getElementById(arguments[0]).click()", language)
+
     def put(self, link, name, data, host=None):
         self.open("put", link, host)
         self.choose(name, data)
@@ -96,7 +100,7 @@ class Case:
             for scheme in ["light", "dark"]:
                 self.browser.media(prefers_color_scheme=scheme)
                 for language in ["en", "de"]:
-                    self.click(f"#{language}")
+                    self.speak(language)
                     self.browser.shot(self.shots / f"{name}-{language}-{width}-{scheme}.png")
         self.click("#en")
         self.browser.media()
@@ -263,7 +267,7 @@ def test_refusals(case, count):
                   or is_not(found["focus"], "result_title"))
         if number == 30:
             case.shot("refused")
-        case.click("#de")
+        case.speak("de")
         found = case.result()
         count.add(f"{name}, German", is_not(found["title"], f"Abgelehnt: Nummer {number}")
                   or lacks(found["what"], german[0]) or lacks(found["remedy"], german[1]))
@@ -634,7 +638,7 @@ def test_looks(case, count):
         reach()
         case.browser.width(320)
         for language in ["en", "de"]:
-            case.click(f"#{language}")
+            case.speak(language)
             wide = case.browser.js("return [innerWidth, document.documentElement.scrollWidth]")
             count.add(f"320 pixels, {name}, {language}", is_not(wide, [320, 320]))
         small = case.browser.js("const all = document.querySelectorAll('button, .button');"
@@ -738,6 +742,8 @@ def main():
                 case = Case(drop, office, front, browser, links, chosen.shots)
                 for test in TESTS:
                     begun = time.monotonic()
+                    if not office.process:  # a test that failed left it so
+                        office.start()
                     try:
                         test(case, count)
                     except (AssertionError, KeyError, OSError) as error:
