@@ -32,6 +32,10 @@ from replays import ID
 from serve import free_port, open_office
 
 DEPLOY = kit.ROOT / "deploy"
+# What is served beside the office, and as what.
+PAGES = {"put.html": "text/html; charset=utf-8", "get.html": "text/html; charset=utf-8",
+         "drop.js": "application/javascript; charset=utf-8", "texts.js": "application/javascript; charset=utf-8",
+         "drop.css": "text/css", "drop.svg": "image/svg+xml"}
 PAGE = kit.ROOT / "docs" / "DEPLOY.md"
 HOST = "files.example"
 SECONDS = 30  # until what is waited for must be there
@@ -407,15 +411,17 @@ def test_slow(front, count):
 
 
 def test_pages(front, count):
-    """Two pages, each at its own path alone, and nothing in the clear."""
+    """The pages and what they are made of, each at its own path alone, and nothing in the clear."""
     folder = front.folder / "drop"
     folder.mkdir()
-    for name in ["put.html", "get.html", "other.html"]:
-        (folder / name).write_bytes(f"<!doctype html><title>{name}</title>".encode())
-    for name in ["put.html", "get.html"]:
+    for file in [*sorted((kit.ROOT / "page").iterdir()), None]:
+        name = file.name if file else "other.html"
+        (folder / name).write_bytes(file.read_bytes() if file else b"other")
+    for name in PAGES:
         status, body, fields = front.ask("GET", f"/{name}")
         found = status, body, fields["Content-Type"], fields["Referrer-Policy"]
-        count.add(name, difference(found, (200, (folder / name).read_bytes(), "text/html; charset=utf-8", "no-referrer")))
+        count.add(name, difference(found, (200, (folder / name).read_bytes(), PAGES[name], "no-referrer")))
+    count.add("all of the page is served", difference(sorted(PAGES), sorted(it.name for it in (kit.ROOT / "page").iterdir())))
     others = ["/other.html", "/", "/put.html/", "/put.html/a", "//put.html", "/drop/put.html", "/html/put.html",
               "/.well-known/acme-challenge/a"]
     for path in others:
@@ -569,7 +575,7 @@ class Machine:
                      "etc/nginx/sites-enabled", "var/log/nginx", "var/www/html", "var/lib", "var/backups"]:
             (self.root / name).mkdir(parents=True)
         (self.root / "etc/nginx/sites-enabled/default").touch()
-        for name in ["crates", "deploy"]:
+        for name in ["crates", "deploy", "page"]:
             (self.root / "copy" / name).symlink_to(kit.ROOT / name)
         for name, text in [*((it, STAND_IN) for it in ASKED), ("runuser", RUNUSER), ("install", INSTALL)]:
             file = self.root / "bin" / name

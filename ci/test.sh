@@ -92,6 +92,12 @@ kills() {
     "$python" -B ci/kills.py
 }
 
+page() {
+    with_command chromium || return 1
+    with_command chromedriver chromium-driver || return 1
+    python3 -B ci/page.py
+}
+
 interop() {
     local python
     python=$(with_boto3) || return 1
@@ -116,6 +122,7 @@ count "ci/desk.py" desk
 count "ci/respelled.py" python3 -B ci/respelled.py
 count "ci/lists.py" lists
 count "ci/kills.py" kills
+count "ci/page.py" page
 count "ci/memory.py" python3 -B ci/memory.py
 count "ci/interop.py" interop
 count "ci/deploy.py" deploy

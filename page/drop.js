@@ -1,0 +1,470 @@
+"use strict";
+
+// The page behind put.html#LINK and get.html#LINK: it sends one file by a presigned link, or fetches one, from the origin
+// that it came from, and tells the answer. What stands in `state` is drawn anew by `draw` whenever it changes.
+
+(() => {
+  const PUT = document.documentElement.dataset.page === "put";
+  const LIMIT = 1048576;
+  const state = { link: null, file: null, busy: null, result: null, url: null };
+  const given = new Set(); // the receipts that were told since the page was loaded
+  let language = /^de\b/i.test(navigator.language) ? "de" : "en";
+  let request = null;
+
+  // ---- texts and nodes
+
+  const $ = (id) => document.getElementById(id);
+
+  function text(key, values = {}) {
+    return TEXTS[language][key].replace(/\{(\w+)\}/g, (_, name) => values[name]);
+  }
+
+  /** A text that has a form of its own for fetching. */
+  function either(key, values) {
+    return text(PUT ? key : `${key}_get`, values);
+  }
+
+  function count(number) {
+    return number.toLocaleString(language);
+  }
+
+  function node(name, content, more = {}) {
+    const made = document.createElement(name);
+    made.append(...[content].flat());
+    for (const [key, value] of Object.entries(more)) made.setAttribute(key, value);
+    return made;
+  }
+
+  function button(id, key, act) {
+    const made = node("button", text(key), { type: "button", id });
+    made.addEventListener("click", act);
+    return made;
+  }
+
+  /** Fills a list of facts: each has the key of its name, its value, and the class of this. */
+  function facts(list, rows) {
+    list.replaceChildren(...rows.flatMap(([key, value, kind]) => [
+      node("dt", text(key)), node("dd", value, { "data-fact": key, ...(kind && { class: kind }) }),
+    ]));
+  }
+
+  function announce(words) {
+    $("live").textContent = words;
+  }
+
+  // ---- the link
+
+  /** The path of a target as box and name, decoded; null where it is not decoded to UTF-8. */
+  function place(target) {
+    try {
+      const [, box, name] = /^\/([^/]*)\/?(.*)$/s.exec(decodeURIComponent(target.split("?")[0]));
+      return { box, name };
+    } catch {
+      return null;
+    }
+  }
+
+  /** When the link holds, as it says itself. */
+  function term(target) {
+    const said = new URLSearchParams(target.split("?")[1] || "");
+    const date = /^(\d{4})(\d\d)(\d\d)T(\d\d)(\d\d)(\d\d)Z$/.exec(said.get("X-Amz-Date") || "");
+    const seconds = /^\d{1,6}$/.exec(said.get("X-Amz-Expires") || "");
+    if (!date || !seconds) return null;
+    const [year, month, ...rest] = date.slice(1).map(Number);
+    const from = new Date(Date.UTC(year, month - 1, ...rest));
+    return { from, to: new Date(from.getTime() + 1000 * Number(seconds[0])) };
+  }
+
+  /**
+   * The link behind the #, a whole URL or its path and query. It is of use only where the browser sends path and query as
+   * they stand: it takes parts out of a path that are `.` or `..`, and respells some characters.
+   */
+  function readLink() {
+    const raw = location.hash.slice(1);
+    if (!raw) return { fault: "no_link" };
+    const parts = /^(?:https?:\/\/([^/?#]+))?(\/[^#]*)$/i.exec(raw);
+    if (!parts) return { fault: "form" };
+    const [, host, target] = parts;
+    const sent = new URL(location.origin + target);
+    if (sent.pathname + sent.search !== target) {
+      const dots = /\/(\.|%2e){1,2}(\/|$)/i.test(target.split("?")[0]);
+      return { fault: dots ? "dots" : "respelled" };
+    }
+    const other = host && host.toLowerCase() !== location.host ? host : null;
+    return { target, other, place: place(target), term: term(target) };
+  }
+
+  function takeLink() {
+    forget();
+    Object.assign(state, { link: readLink(), file: null });
+    if ($("file")) $("file").value = "";
+    draw();
+    if (state.link.fault) announce(text(state.link.fault));
+  }
+
+  // ---- the file
+
+  async function digestOf(bytes) {
+    if (!globalThis.crypto || !crypto.subtle) return null;
+    const digest = new Uint8Array(await crypto.subtle.digest("SHA-256", bytes));
+    return Array.from(digest, (byte) => byte.toString(16).padStart(2, "0")).join("");
+  }
+
+  /** Takes the first of these files; the others are told. */
+  async function takeFile(files) {
+    if (!files.length || state.busy || state.link.fault) return;
+    forget();
+    const [chosen] = files;
+    const file = { name: chosen.name, length: chosen.size, several: files.length > 1 };
+    state.file = file;
+    if (file.length > LIMIT) return finish({ kind: "refused", number: 5, early: true });
+    draw();
+    const chosenWords = () => text("chosen", { file: file.name, length: count(file.length) });
+    announce([...(file.several ? [text("several")] : []), chosenWords()].join(" "));
+    try {
+      const bytes = await chosen.arrayBuffer();
+      file.digest = await digestOf(bytes);
+      file.bytes = bytes;
+    } catch {
+      if (state.file === file) finish({ kind: "unreadable" });
+      return;
+    }
+    if (state.file !== file) return;
+    draw();
+    if (file.digest) announce(`${chosenWords()} ${text("chosen_digest")}`);
+    if (file.wanted) go();
+  }
+
+  // ---- asking the office
+
+  /** Takes the last result away. */
+  function forget() {
+    const old = request;
+    request = null;
+    if (old) old.abort();
+    if (state.url) URL.revokeObjectURL(state.url);
+    Object.assign(state, { busy: null, result: null, url: null });
+  }
+
+  function go() {
+    if (state.busy) return;
+    const file = state.file;
+    if (PUT && !file) {
+      announce(text("choose_first"));
+      return $("file").focus();
+    }
+    if (PUT && file.length > LIMIT) return finish({ kind: "refused", number: 5, early: true });
+    if (PUT && !file.bytes) {
+      file.wanted = true; // sent as soon as it is read
+      return undefined;
+    }
+    forget();
+    state.busy = { loaded: 0, total: PUT ? file.length : 0, told: 0 };
+    draw();
+    $("stop").focus();
+    announce(text(PUT ? "progress_put" : "progress_get"));
+    return send(PUT ? file.bytes : null);
+  }
+
+  function send(bytes) {
+    const asked = new XMLHttpRequest();
+    request = asked;
+    asked.open(PUT ? "PUT" : "GET", location.origin + state.link.target);
+    asked.responseType = "arraybuffer";
+    (PUT ? asked.upload : asked).addEventListener("progress", (event) => {
+      if (request === asked) moved(event.loaded, event.lengthComputable && event.total);
+    });
+    const end = (act) => (event) => {
+      if (request !== asked) return;
+      request = null;
+      act(event);
+    };
+    asked.addEventListener("load", end(() => answered(asked)));
+    asked.addEventListener("error", end(() => finish({ kind: "lost" })));
+    asked.addEventListener("abort", end(() => state.busy && finish({ kind: "stopped" })));
+    asked.send(bytes);
+  }
+
+  function moved(loaded, total) {
+    if (!state.busy) return;
+    Object.assign(state.busy, { loaded, total: total || state.busy.total });
+    drawProgress();
+    const quarter = state.busy.total ? Math.floor((4 * loaded) / state.busy.total) : 0;
+    if (quarter > state.busy.told) {
+      state.busy.told = quarter;
+      announce(soFar());
+    }
+  }
+
+  /** What an answer means: its first line tells, and no other word is believed. */
+  async function answered(asked) {
+    const { status } = asked;
+    const bytes = asked.response || new ArrayBuffer(0);
+    const said = bytes.byteLength < 200 ? new TextDecoder().decode(bytes) : "";
+    const refused = status >= 400 && /^[A-Za-z]+ ([1-9]\d?) [ -~]+\n$/.exec(said);
+    const moment = new Date();
+    if (refused) return finish({ kind: "refused", number: Number(refused[1]), line: said.trim() });
+    if (status === 200 && PUT) {
+      const told = /^receipt ([1-9]\d*) (\d+) ([0-9a-f]{64})\n$/.exec(said);
+      if (told) {
+        const [, number, length, digest] = told;
+        return receipted({ number, length: Number(length), digest, moment, line: said.trim() });
+      }
+    }
+    const number = asked.getResponseHeader("X-Drop-Receipt");
+    const digest = asked.getResponseHeader("X-Drop-Sha256");
+    if (status === 200 && !PUT && number && digest) {
+      const length = Number(asked.getResponseHeader("Content-Length"));
+      return fetched({ number, digest, length, bytes, moment, own: await digestOf(bytes) });
+    }
+    if (status === 413) return finish({ kind: "refused", number: 5 });
+    return finish({ kind: [502, 503, 504].includes(status) ? "away" : "strange", status });
+  }
+
+  function check(own, digest, lengths) {
+    if (!lengths || (own && own !== digest)) return "differs";
+    return own ? "equal" : "unchecked";
+  }
+
+  function receipted(receipt) {
+    const { file } = state;
+    const same = given.has(receipt.line);
+    given.add(receipt.line);
+    const checked = check(file.digest, receipt.digest, receipt.length === file.length);
+    finish({ kind: "receipt", ...receipt, same, checked, own: file.digest });
+  }
+
+  function fetched(found) {
+    const checked = check(found.own, found.digest, found.length === found.bytes.byteLength);
+    const blob = new Blob([found.bytes], { type: "application/octet-stream" });
+    if (checked !== "differs") state.url = URL.createObjectURL(blob);
+    finish({ kind: "fetched", ...found, bytes: null, arrived: found.bytes.byteLength, checked });
+  }
+
+  function finish(result) {
+    Object.assign(state, { busy: null, result });
+    draw();
+    announce(`${$("result_title").textContent}. ${$("result_body").firstElementChild.textContent}`);
+    $("result_title").focus();
+  }
+
+  // ---- what is shown of a result
+
+  function receiptRows({ number, length, digest, moment, own }) {
+    const { place: where } = state.link;
+    return [
+      ["address", location.host], ...(where ? [["box", where.box], ["name", where.name]] : []),
+      ["number", String(number)], ["length", text("bytes", { length: count(length) })], ["office_digest", digest, "code"],
+      ...(own ? [["own_digest", own, "code"]] : []), ["moment", told(moment)],
+    ];
+  }
+
+  function told(moment) {
+    return moment.toLocaleString(language, { dateStyle: "medium", timeStyle: "long" });
+  }
+
+  /** The receipt as text. */
+  function receiptText(result) {
+    const rows = [...receiptRows(result), ["answer", result.line]];
+    return [text("receipt", result), "", ...rows.map(([key, value]) => `${text(key)}: ${value}`),
+      `UTC: ${result.moment.toISOString().slice(0, 19)}Z`, "", checkWords(result), text("moment_note"), text("check"), "",
+    ].join("\n");
+  }
+
+  function keepReceipt() {
+    const url = URL.createObjectURL(new Blob([receiptText(state.result)], { type: "text/plain;charset=utf-8" }));
+    node("a", "", { href: url, download: text("receipt_file", state.result) }).click();
+    setTimeout(() => URL.revokeObjectURL(url), 60000);
+  }
+
+  function checkWords(result) {
+    return PUT || result.checked === "unchecked" ? text(result.checked) : either(result.checked);
+  }
+
+  function tone(result) {
+    return { equal: "good", differs: "bad", unchecked: "note" }[result.checked];
+  }
+
+  function list(rows) {
+    const made = node("dl", []);
+    facts(made, rows);
+    return made;
+  }
+
+  function checked(result) {
+    return node("p", checkWords(result), { id: "checked", class: tone(result) });
+  }
+
+  function acts(...buttons) {
+    return node("div", buttons, { class: "acts" });
+  }
+
+  /** The part of the name behind its last slash, for a file that is saved. */
+  function fileName() {
+    const name = state.link.place ? state.link.place.name.split("/").pop() : "";
+    return name || "file";
+  }
+
+  function showReceipt(result) {
+    const well = result.checked !== "differs";
+    return [well ? tone(result) : "bad", well ? text("receipt", result) : text("differs_title"), [
+      node("p", result.same ? text("same") : text(well ? "receipt_lead" : "differs"), { id: "lead" }),
+      ...(well || result.same ? [checked(result)] : []), list(receiptRows(result)),
+      node("p", text("check"), { class: "small" }), node("p", text("moment_note"), { class: "small" }),
+      acts(button("print", "print", () => window.print()), button("keep", "keep", keepReceipt)),
+    ]];
+  }
+
+  function showFetched(result) {
+    if (result.checked === "differs") {
+      const rows = list(receiptRows(result));
+      return ["bad", text("differs_get_title"), [checked(result), rows, acts(button("again", "again", go))]];
+    }
+    const file = fileName();
+    const save = { id: "save", class: "button main", href: state.url, download: file };
+    return [tone(result), text("fetched"), [
+      checked(result), list(receiptRows(result)), acts(node("a", text("save", { file }), save)),
+    ]];
+  }
+
+  function showRefused({ number, line, early }) {
+    const [what, remedy] = TEXTS[language].refusals[number] || [text("unknown"), "page"];
+    const key = `remedy_${remedy}`;
+    const words = key in TEXTS[language] ? text(key) : text(`${key}_${PUT ? "put" : "get"}`);
+    const { other } = state.link;
+    const elsewhere = other && number === 21 && text("other_host", { host: other, here: location.host });
+    return ["bad", text(early ? "not_sent" : "refused", { number }), [
+      node("p", what, { id: "what" }),
+      node("p", [node("strong", `${text("what_to_do")}: `), words], { id: "remedy" }),
+      ...(elsewhere ? [node("p", elsewhere, { class: "note" })] : []),
+      ...(line ? [list([["office_says", line, "code"]])] : []),
+      ...([6, 40].includes(number) ? harmless() : []),
+      ...(RETRY.includes(number) ? [acts(button("again", "again", go))] : []),
+    ]];
+  }
+
+  function harmless() {
+    return PUT ? [node("p", text("harmless"), { class: "small" })] : [];
+  }
+
+  function showFault({ kind, status }) {
+    const key = ["lost", "stopped"].includes(kind) ? either(kind) : text(kind, { status });
+    const what = node("p", key, { id: "what" });
+    const more = kind === "unreadable" ? [] : [...harmless(), acts(button("again", "again", go))];
+    return ["bad", text(`${kind}_title`), [what, ...more]];
+  }
+
+  // ---- drawing
+
+  function soFar() {
+    const { loaded, total } = state.busy;
+    if (PUT && loaded >= total) return text("sent_all");
+    if (!total) return text("fetched_so_far", { loaded: count(loaded) });
+    return text("sent_so_far", { percent: Math.floor((100 * loaded) / total), loaded: count(loaded), total: count(total) });
+  }
+
+  function drawProgress() {
+    $("progress").hidden = !state.busy;
+    if (!state.busy) return;
+    const { loaded, total } = state.busy;
+    if (total) $("bar").value = (100 * loaded) / total;
+    else $("bar").removeAttribute("value");
+    $("so_far").textContent = soFar();
+  }
+
+  function drawLink() {
+    const { fault, other, term, place: where } = state.link;
+    $("fault").hidden = !fault;
+    $("link").hidden = Boolean(fault);
+    $("work").hidden = Boolean(fault);
+    if (fault) {
+      $("fault_text").textContent = text(fault);
+      return;
+    }
+    facts($("link_facts"), [
+      ...(where ? [["box", where.box], ["name", where.name]] : []),
+      ...(term ? [["holds", text("holds_from_to", { from: told(term.from), to: told(term.to) })]] : []),
+    ]);
+    $("link_note").hidden = !other;
+    $("link_note").textContent = other ? text("other_host", { host: other, here: location.host }) : "";
+  }
+
+  function drawFile() {
+    const { file } = state;
+    if (!PUT) {
+      $("go").textContent = text(state.result && state.result.kind === "fetched" ? "fetch_again" : "fetch");
+      return;
+    }
+    const digest = (found) => (found === undefined ? text("working") : found || text("insecure"));
+    facts($("facts"), file ? [
+      ["file", file.name], ["size", text("bytes", { length: count(file.length) })],
+      ...(file.length > LIMIT ? [] : [["digest", digest(file.digest), file.digest && "code"]]),
+      ...(file.several ? [["choose", text("several"), "note"]] : []),
+    ] : []);
+  }
+
+  function drawResult() {
+    const { result } = state;
+    $("result").hidden = !result;
+    if (!result) return;
+    const show = { receipt: showReceipt, fetched: showFetched, refused: showRefused };
+    const [kind, title, body] = (show[result.kind] || showFault)(result);
+    $("result").className = `is-${kind}`;
+    $("result").dataset.kind = result.kind;
+    $("result_title").textContent = title;
+    $("result_body").replaceChildren(...body);
+  }
+
+  function draw() {
+    document.documentElement.lang = language;
+    document.title = text(PUT ? "put_title" : "get_title");
+    for (const each of document.querySelectorAll("[data-text]")) each.textContent = text(each.dataset.text);
+    for (const each of document.querySelectorAll("[data-label]")) each.setAttribute("aria-label", text(each.dataset.label));
+    for (const each of ["de", "en"]) $(each).setAttribute("aria-pressed", String(each === language));
+    drawLink();
+    drawFile();
+    drawProgress();
+    drawResult();
+    $("go").setAttribute("aria-disabled", String(Boolean(state.busy)));
+  }
+
+  // ---- what the user does
+
+  function speak(chosen) {
+    language = chosen;
+    announce("");
+    draw();
+  }
+
+  function drops() {
+    const zone = $("zone");
+    const over = (is) => (event) => {
+      event.preventDefault();
+      zone.classList.toggle("over", is && zone.contains(event.target));
+    };
+    document.addEventListener("dragover", over(true));
+    document.addEventListener("dragleave", over(false));
+    document.addEventListener("drop", (event) => {
+      over(false)(event);
+      if (event.dataTransfer) takeFile(event.dataTransfer.files);
+    });
+  }
+
+  $("de").addEventListener("click", () => speak("de"));
+  $("en").addEventListener("click", () => speak("en"));
+  $("go").addEventListener("click", go);
+  $("stop").addEventListener("click", () => request && request.abort());
+  $("paste").addEventListener("submit", (event) => {
+    event.preventDefault();
+    const hash = `#${$("pasted").value.trim()}`;
+    if (hash === location.hash) takeLink();
+    location.hash = hash;
+    $("pasted").value = "";
+  });
+  if (PUT) {
+    $("file").addEventListener("change", () => takeFile($("file").files));
+    drops();
+  }
+  window.addEventListener("hashchange", takeLink);
+  takeLink();
+})();
