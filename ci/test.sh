@@ -112,6 +112,13 @@ deploy() {
     "$python" -B ci/deploy.py
 }
 
+documents() {
+    local python
+    with_command curl && with_command aws awscli || return 1
+    python=$(with_boto3) || return 1
+    "$python" -B ci/documents.py
+}
+
 count "rt ci" rt ci
 count "ci/edits.py" python3 -B ci/edits.py
 count "ci/rows.py --check" python3 -B ci/rows.py --check
@@ -126,6 +133,7 @@ count "ci/page.py" page
 count "ci/memory.py" python3 -B ci/memory.py
 count "ci/interop.py" interop
 count "ci/deploy.py" deploy
+count "ci/documents.py" documents
 echo
 cat "$work/times"
 echo "$passed passed, $failed failed"
