@@ -1,9 +1,9 @@
 //! `drop desk`: one command of the desk is done.
 
 use crate::faults::Fault;
-use crate::office::Office;
+use office::Office;
 use crate::opening::{connect, disconnect, keeper_over, require_file};
-use crate::task::Desk;
+use tasks::Desk;
 use std::io::Write;
 
 /// Does the command on the office file, and writes `done` to `out`, on a line.

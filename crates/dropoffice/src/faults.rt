@@ -1,5 +1,5 @@
 //! What keeps the program from its task, and the line that tells it.
-use crate::commanding::DeskFault;
+use office::DeskFault;
 use desk::ListFault;
 use keeper::KeepFault;
 use sqlkeeper::OpenFault;

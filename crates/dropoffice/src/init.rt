@@ -3,7 +3,7 @@ ghost use Rattle.std.specs.Prelude.{pos, ◌≤ℤ◌, IfSome};
 
 use crate::faults::Fault;
 use crate::opening::{connect, disconnect};
-use crate::task::Init;
+use tasks::Init;
 use boxes::OfficeRow;
 use sigv4::{is_key_id, is_secret};
 use sqlite::{Alter, Connection};

@@ -1,8 +1,8 @@
 //! `drop link`: a link is written, signed by a key of the office.
-use crate::commanding::DESK;
+use office::DESK;
 use crate::faults::Fault;
 use crate::opening::{connect, keeper_over, require_file};
-use crate::task::Link;
+use tasks::Link;
 use boxes::{Command, has_form};
 use desk::read_command;
 use keeper::Keeper;

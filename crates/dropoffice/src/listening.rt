@@ -1,10 +1,10 @@
 //! `drop serve`: an office is served at an address.
 use crate::faults::Fault;
 use crate::machine_clock::MachineClock;
-use crate::office::Office;
+use office::Office;
 use crate::opening::{connect, disconnect, keeper_over, require_file};
-use crate::serving::serve;
-use crate::task::Serve;
+use office::serve;
+use tasks::Serve;
 use keeper::Keeper;
 use std::io::Write;
 use std::net::{SocketAddr, SocketAddrV4, TcpListener};

@@ -2,7 +2,7 @@
 use crate::faults::Fault;
 use crate::linking::check_place;
 use crate::opening::{connect, keeper_over, require_file};
-use crate::task::{Links, OfficeFile};
+use tasks::{Links, OfficeFile};
 use desk::{ListFault, compare, links_from, manifest};
 use keeper::Keeper;
 use links::LinkKey;

@@ -6,7 +6,7 @@ use crate::linking::do_link;
 use crate::listening::do_serve;
 use crate::listing::{do_compare, do_links, do_manifest};
 use crate::replaying::do_replay;
-use crate::task::Task;
+use tasks::Task;
 use clap::Error as WordsError;
 use clap::error::ErrorKind;
 use std::io::{Read, Write};

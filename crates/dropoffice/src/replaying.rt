@@ -3,10 +3,10 @@ ghost use Rattle.std.specs.Prelude.{IfSome};
 ghost use Rattle.sigv4.specs.Credential.{IsKeyId, IsSecret};
 
 use crate::faults::Fault;
-use crate::office::Office;
+use office::Office;
 use crate::opening::{connect, disconnect, keeper_over, require_file};
-use crate::replay::{replay_in_memory, replay_over};
-use crate::task::Replay;
+use office::{replay_in_memory, replay_over};
+use tasks::Replay;
 use links::read_moment;
 use sigv4::{Moment, is_key_id, is_secret};
 use std::fs::Files;

@@ -1,5 +1,0 @@
-use Rattle.dropoffice.proofs.ToldMoments.{told_fixed}
-use Rattle.dropoffice.proofs.clocks.FixedClock.new.Goals as goal
-
-pub returns : goal.returns
-returns c moments later told = told_fixed _ later moments told

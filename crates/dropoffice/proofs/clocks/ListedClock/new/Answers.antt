@@ -1,5 +1,0 @@
-use Rattle.dropoffice.proofs.ToldMoments.{told_listed}
-use Rattle.dropoffice.proofs.clocks.ListedClock.new.Goals as goal
-
-pub returns : goal.returns
-returns c moments later told = told_listed _ later moments told

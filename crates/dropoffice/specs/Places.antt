@@ -1,6 +1,0 @@
--- What a `FilePlace` means.
-use Rattle.boxes.specs.State.{Place}
-use Rattle.dropoffice.specs.declared.places.FilePlace.{FilePlace}
-
-abbrev pub place_at : FilePlace → Place
-place_at p = record { box = p.in_box.now; name = p.name.now }

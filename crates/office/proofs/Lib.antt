@@ -1,0 +1,27 @@
+mod Admission
+mod RuleEdges
+pub mod Acceptances
+pub mod Alikeness
+pub mod Answered
+pub mod Deciding
+pub mod Endurance
+pub mod Forming
+pub mod Handlings
+pub mod Judged
+pub mod Marked
+pub mod ReplayLemmas
+pub mod Replies
+pub mod RunSoFar
+pub mod SessionEdges
+pub mod SessionSteps
+pub mod SoundOffice
+pub mod ToldMoments
+pub mod Turns
+pub mod Without
+pub mod Obeyed
+pub mod Possible
+pub mod Once
+pub mod RepeatEdges
+pub mod Repeats
+pub mod Standing
+pub mod Placing

@@ -1,0 +1,302 @@
+-- What one step of a session gives, and a step before the steps that follow.
+use Rattle.std.proofs.Common.{◌≡◌, ◌<◌, ◌+◌, ◌-◌, ℕ, suc, Bool, true, false, List, [], ◌∷◌, ◌++◌, Option, Some, None, ◌⊎◌, inl, inr, refl, sym, ap, subst, ◌∙◌, append_assoc, arith}
+use Rattle.std.proofs.lemmas.List.{append-nil}
+use Rattle.std.specs.Io.KnownBytes.{Appends, Consumes, IsAtEnd, prepend_known}
+use Rattle.sigtext.specs.declared.refusal.Refusal.{Refusal}
+use Rattle.sigtext.specs.declared.refusal.Refusal.TheVariants as rule
+use Rattle.sigtext.specs.Request.{Request}
+use Rattle.boxes.specs.State.{State}
+use Rattle.wire.specs.Feeding.{AnnouncesBody, Awaits, OfStream}
+use Rattle.wire.specs.Framing.{IsHead, Next, Message, request_of}
+use Rattle.wire.specs.Framing as frame
+use Rattle.wire.specs.declared.fault.WireFault.{WireFault}
+use Rattle.wire.specs.declared.feed.Place.{Place}
+use Rattle.wire.specs.declared.feed.Place.TheVariants as place
+use Rattle.wire.specs.declared.joining.Came.{Came}
+use Rattle.wire.specs.Whole.{BreaksOff, Brings, IsNextMessage}
+use Rattle.wire.proofs.Halves.{message_stands}
+use Rattle.office.specs.declared.session.SessionEnd.{SessionEnd}
+use Rattle.office.specs.declared.session.SessionEnd.TheVariants.{Ended, Truncated, Refused, Limit, ReadFault, WriteFault}
+use Rattle.office.specs.declared.handling.Handled.{Handled}
+use Rattle.office.specs.declared.handling.Handled.TheVariants.{Answered, GaveUp, Broken}
+use Rattle.office.specs.Connections.{IsKnown, IsStream, KeepsCount, Serves}
+use Rattle.office.specs.Handling.{Handles, answered, gave_up_at, broke, broke_giving_up_at}
+use Rattle.office.specs.Kept.{IsLeft}
+use Rattle.office.specs.Sessions.{Session, MayGiveUpReading}
+use Rattle.office.specs.Sessions as session
+use Rattle.office.specs.Stepping.{Goes, IsClosed, Steps, ToCome}
+
+-- ---- known bytes, one part after another
+
+consumes_more : (a b c : Option (List ℕ)) (x y : List ℕ) → Consumes a b x → Consumes b c y → Consumes a c (x ++ y)
+consumes_more None b c x y h k = tt
+consumes_more (Some p) None c x y h k = absurd h
+consumes_more (Some p) (Some q) None x y h k = absurd k
+consumes_more (Some p) (Some q) (Some r) x y h k = h ∙ ap (λ (t : List ℕ). x ++ t) k ∙ sym (append_assoc x y r)
+
+appends_more : (a b c : Option (List ℕ)) (x y : List ℕ) → Appends a b x → Appends b c y → Appends a c (x ++ y)
+appends_more None b c x y h k = tt
+appends_more (Some p) None c x y h k = absurd h
+appends_more (Some p) (Some q) None x y h k = absurd k
+appends_more (Some p) (Some q) (Some r) x y h k = k ∙ ap (λ (t : List ℕ). t ++ y) h ∙ append_assoc p x y
+
+known_more : (a b : Option (List ℕ)) (x y : List ℕ) → Consumes a b x → IsKnown b y → IsKnown a (x ++ y)
+known_more None b x y h k = tt
+known_more (Some p) None x y h k = absurd h
+known_more (Some p) (Some q) x y h k = ap (λ (t : List ℕ). x ++ t) k ∙ sym h
+
+stream_more : (gave_up : Bool) (e : SessionEnd) (a b c : Option (List ℕ)) (x y : List ℕ) → Consumes a b x → IsStream gave_up e b c y → IsStream gave_up e a c (x ++ y)
+stream_more true e a b c x y h k = consumes_more a b c x y h k
+stream_more false ReadFault a b c x y h k = consumes_more a b c x y h k
+stream_more false Ended a b c x y h k = (known_more a b x y h k.0, k.1)
+stream_more false Truncated a b c x y h k = (known_more a b x y h k.0, k.1)
+stream_more false (Refused number) a b c x y h k = known_more a b x y h k
+stream_more false Limit a b c x y h k = known_more a b x y h k
+stream_more false WriteFault a b c x y h k = known_more a b x y h k
+
+-- those that wait are taken too, as far as the reader is asked
+all_taken : (reader : Option (List ℕ)) (waits : List ℕ) → Consumes (prepend_known waits reader) reader waits
+all_taken None waits = tt
+all_taken (Some xs) waits = refl
+
+-- what is left, where it is known
+abbrev rest_of : Option (List ℕ) → List ℕ
+rest_of None = []
+rest_of (Some xs) = xs
+
+known_rest : (a b : Option (List ℕ)) (x : List ℕ) → Consumes a b x → IsKnown a (x ++ rest_of b)
+known_rest None b x h = tt
+known_rest (Some p) None x h = absurd h
+known_rest (Some p) (Some q) x h = sym h
+
+is_stream : (a : Option (List ℕ)) (Holds : List ℕ → Type 0) (o : OfStream a Holds) → IsKnown a o.stream
+is_stream None Holds o = tt
+is_stream (Some p) Holds o = sym o.is
+
+-- what was told of what came, and of what broke off
+pub brought_by : (text body : List ℕ) (old new reader : Option (List ℕ)) (p : Place) (x y : Came) → x ≡ y → Brings x text body old new reader p → Brings y text body old new reader p
+brought_by text body old new reader p x y is h = subst (λ (z : Came). Brings z text body old new reader p) is h
+
+pub broke_off_by : (p : Place) (old reader : Option (List ℕ)) (x y : WireFault) → x ≡ y → BreaksOff x p old reader → BreaksOff y p old reader
+broke_off_by p old reader x y is h = subst (λ (z : WireFault). BreaksOff z p old reader) is h
+
+-- ---- a step, and those that follow
+
+pub serves_more : {C : Type 0} (gives : C → ℕ → C → Type 0) (n : ℕ) (left left' reader output output' output'' : Option (List ℕ)) (clock clock' clock'' : C) (count count' count'' : ℕ) (s mid after : State) (e : SessionEnd)
+    → Goes gives left left' output output' clock clock' count count' s mid → Serves n gives left' reader output' output'' clock' clock'' count' count'' mid after e
+    → Serves (suc n) gives left reader output output'' clock clock'' count count'' s after e
+serves_more gives n left left' reader output output' output'' clock clock' clock'' count count' count'' s mid after e g r = record {
+  stream = g.front ++ r.stream;
+  moments = g.moment ∷ r.moments;
+  answers = g.text ++ r.answers;
+  gave_up = r.gave_up;
+  read = stream_more r.gave_up e left left' reader g.front r.stream g.taken r.read;
+  told = (clock', g.told, r.told);
+  written = appends_more output output' output'' g.text r.answers g.written r.written;
+  counted = subst (λ (k : ℕ). KeepsCount r.gave_up k count'') g.counted r.counted;
+  session = session.served n (g.front ++ r.stream) r.stream s mid after g.request g.moment r.moments g.text r.answers e r.gave_up (g.message r.stream) g.answers r.session;
+}
+
+known_whole : (a : Option (List ℕ)) → IsKnown a (rest_of a)
+known_whole None = tt
+known_whole (Some p) = refl
+
+nothing_written : (a : Option (List ℕ)) → Appends a a []
+nothing_written None = tt
+nothing_written (Some p) = sym (append-nil p)
+
+-- no message is served any more
+pub serves_none : {C : Type 0} (gives : C → ℕ → C → Type 0) (left reader output : Option (List ℕ)) (clock : C) (count : ℕ) (s : State) → Serves 0 gives left reader output output clock clock count count s s Limit
+serves_none gives left reader output clock count s = record {
+  stream = rest_of left;
+  moments = [];
+  answers = [];
+  gave_up = false;
+  read = known_whole left;
+  told = refl;
+  written = nothing_written output;
+  counted = refl;
+  session = session.limit (rest_of left) s;
+}
+
+-- ---- steps with a message
+
+module _ {C : Type 0} (gives : C → ℕ → C → Type 0) (p : Place) (left reader output output' : Option (List ℕ)) (clock clock' : C) (count count' : ℕ) (means : State → Type 0) (s : State)
+    (text : List ℕ) (has_length : Bool) (body waits : List ℕ) (m : IsNextMessage text has_length body left (prepend_known waits reader)) (given : List ℕ) (same_body : given ≡ body) where
+  abbrev r : Request
+  r = request_of m.opens.head has_length body
+
+  -- as it was handled
+  of_body : (h : Handled) → Handles gives clock clock' output output' count count' means s (request_of m.opens.head has_length given) h → Handles gives clock clock' output output' count count' means s r h
+  of_body h handles = subst (λ (b : List ℕ). Handles gives clock clock' output output' count count' means s (request_of m.opens.head has_length b) h) same_body handles
+
+  stands : (more : List ℕ) → Next ((text ++ body) ++ more) (Message r) more
+  stands more = subst (λ (t : List ℕ). Next t (Message r) more) (sym (append_assoc text body more)) (message_stands text body more has_length m.opens)
+
+  all_read : Consumes left reader ((text ++ body) ++ waits)
+  all_read = consumes_more left (prepend_known waits reader) reader (text ++ body) waits m.taken (all_taken reader waits)
+
+  answered_done : Handles gives clock clock' output output' count count' means s r Answered → Steps gives p left (prepend_known waits reader) reader output output' clock clock' count count' means s None
+  answered_done (answered now written after told appends same keeps answers) =
+      (after, keeps, record { front = text ++ body; request = r; moment = now; text = written; taken = m.taken; message = stands; told = told; written = appends; answers = answers; counted = same })
+
+  gave_up_done : Handles gives clock clock' output output' count count' means s r GaveUp → Steps gives p left (prepend_known waits reader) reader output output' clock clock' count count' means s (Some (Refused 40))
+  gave_up_done (gave_up_at now told appends less readable keeps) = (
+    s,
+    keeps,
+    λ n _. record {
+      stream = (text ++ body) ++ waits;
+      moments = now ∷ [];
+      answers = session.closing rule.TryAgain;
+      gave_up = true;
+      read = all_read;
+      told = (clock', told, refl);
+      written = appends;
+      counted = less;
+      session = session.gave_up_at n ((text ++ body) ++ waits) waits s r now (stands waits) readable;
+    },
+  )
+
+  broken_done : Handles gives clock clock' output output' count count' means s r Broken → Steps gives p left (prepend_known waits reader) reader output output' clock clock' count count' means s (Some WriteFault)
+  broken_done (broke now written front after told appends begins same keeps answers) =
+      let rest = rest_of (prepend_known waits reader) in (
+        after,
+        keeps,
+        λ n _. record {
+          stream = (text ++ body) ++ rest;
+          moments = now ∷ [];
+          answers = front;
+          gave_up = false;
+          read = known_rest left (prepend_known waits reader) (text ++ body) m.taken;
+          told = (clock', told, refl);
+          written = appends;
+          counted = same;
+          session = session.write_failed n ((text ++ body) ++ rest) rest s after r now written front (stands rest) answers begins;
+        },
+      )
+  broken_done (broke_giving_up_at now front told appends begins less readable keeps) = (
+    s,
+    keeps,
+    λ n _. record {
+      stream = (text ++ body) ++ waits;
+      moments = now ∷ [];
+      answers = front;
+      gave_up = true;
+      read = all_read;
+      told = (clock', told, refl);
+      written = appends;
+      counted = less;
+      session = session.write_failed_giving_up_at n ((text ++ body) ++ waits) waits s r now front (stands waits) readable begins;
+    },
+  )
+
+  pub answered_step : Handles gives clock clock' output output' count count' means s (request_of m.opens.head has_length given) Answered
+      → Steps gives p left (prepend_known waits reader) reader output output' clock clock' count count' means s None
+  answered_step handles = answered_done (of_body Answered handles)
+
+  pub gave_up_step : Handles gives clock clock' output output' count count' means s (request_of m.opens.head has_length given) GaveUp
+      → Steps gives p left (prepend_known waits reader) reader output output' clock clock' count count' means s (Some (Refused 40))
+  gave_up_step handles = gave_up_done (of_body GaveUp handles)
+
+  pub broken_step : Handles gives clock clock' output output' count count' means s (request_of m.opens.head has_length given) Broken
+      → Steps gives p left (prepend_known waits reader) reader output output' clock clock' count count' means s (Some WriteFault)
+  broken_step handles = broken_done (of_body Broken handles)
+
+-- ---- steps without a message
+
+module _ {C : Type 0} (gives : C → ℕ → C → Type 0) (p : Place) (left left' reader output output' : Option (List ℕ)) (clock : C) (count : ℕ) (means : State → Type 0) (s : State) (keeps : IsLeft means s) where
+  -- the session ends, and the state stays
+  ends : (e : SessionEnd) (gave_up : Bool) (stream text : List ℕ) → IsStream gave_up e left reader stream → Appends output output' text → KeepsCount gave_up count count
+      → ((n : ℕ) → ToCome p (suc n) → Session (suc n) stream s [] text e gave_up s) → Steps gives p left left' reader output output' clock clock count count means s (Some e)
+  ends e gave_up stream text read written counted whole = (
+    s,
+    keeps,
+    λ n all. record { stream = stream; moments = []; answers = text; gave_up = gave_up; read = read; told = refl; written = written; counted = counted; session = whole n all },
+  )
+
+  pub closed_step : (q : Refusal) (e : SessionEnd) → OfStream left (λ stream. Next stream (frame.Refused q) []) → IsClosed output output' q e
+      → Steps gives p left left' reader output output' clock clock count count means s (Some e)
+  closed_step q (Refused number) o closed =
+      ends (Refused number) false o.stream (session.closing q) (is_stream left (λ stream. Next stream (frame.Refused q) []) o) closed.1 refl
+      (λ n _. subst (λ (k : ℕ). Session (suc n) o.stream s [] (session.closing q) (Refused k) false s) (sym closed.0) (session.unframed n o.stream s q o.holds))
+  closed_step q WriteFault o closed =
+      ends WriteFault false o.stream closed.0 (is_stream left (λ stream. Next stream (frame.Refused q) []) o) closed.1 refl
+      (λ n _. session.write_failed_unframed n o.stream s q closed.0 o.holds closed.2)
+  closed_step q Ended o closed = absurd closed
+  closed_step q Truncated o closed = absurd closed
+  closed_step q Limit o closed = absurd closed
+  closed_step q ReadFault o closed = absurd closed
+
+  why_reading : (n : ℕ) (front : List ℕ) → ((p ≡ place.Fresh) × (front ≡ [])) ⊎ AnnouncesBody front → ToCome p (suc n) → MayGiveUpReading (suc n) front
+  why_reading n front (inl (fresh, none)) all = inl (all fresh, none)
+  why_reading n front (inr a) all = inr a
+
+  pub no_memory_step : (e : SessionEnd) (front : List ℕ) → Consumes left reader front → ((p ≡ place.Fresh) × (front ≡ [])) ⊎ AnnouncesBody front → IsClosed output output' rule.TryAgain e
+      → Steps gives p left left' reader output output' clock clock count count means s (Some e)
+  no_memory_step (Refused number) front taken why closed =
+      ends (Refused number) true front (session.closing rule.TryAgain) taken closed.1 (omega arith)
+      (λ n all. subst (λ (k : ℕ). Session (suc n) front s [] (session.closing rule.TryAgain) (Refused k) true s) (sym closed.0) (session.gave_up_reading n front s (why_reading n front why all)))
+  no_memory_step WriteFault front taken why closed =
+      ends WriteFault true front closed.0 taken closed.1 (omega arith) (λ n all. session.write_failed_giving_up_reading n front s closed.0 (why_reading n front why all) closed.2)
+  no_memory_step Ended front taken none closed = absurd closed
+  no_memory_step Truncated front taken none closed = absurd closed
+  no_memory_step Limit front taken none closed = absurd closed
+  no_memory_step ReadFault front taken none closed = absurd closed
+
+module _ {C : Type 0} (gives : C → ℕ → C → Type 0) (p : Place) (left left' reader output : Option (List ℕ)) (clock : C) (count : ℕ) (means : State → Type 0) (s : State) (keeps : IsLeft means s) where
+  pub ended_step : IsAtEnd reader → OfStream left (λ stream. Next stream frame.Ended []) → Steps gives p left left' reader output output clock clock count count means s (Some Ended)
+  ended_step at_end o =
+      ends gives p left left' reader output output clock count means s keeps Ended false o.stream [] (is_stream left (λ stream. Next stream frame.Ended []) o, at_end) (nothing_written output) refl
+      (λ n _. session.ended n o.stream s o.holds)
+
+  pub truncated_step : IsAtEnd reader → OfStream left (λ stream. Next stream frame.Truncated []) → Steps gives p left left' reader output output clock clock count count means s (Some Truncated)
+  truncated_step at_end o =
+      ends gives p left left' reader output output clock count means s keeps Truncated false o.stream [] (is_stream left (λ stream. Next stream frame.Truncated []) o, at_end) (nothing_written output) refl
+      (λ n _. session.truncated n o.stream s o.holds)
+
+  pub read_failed_step : (front : List ℕ) → Consumes left reader front → Awaits front → Steps gives p left left' reader output output clock clock count count means s (Some ReadFault)
+  read_failed_step front taken none =
+      ends gives p left left' reader output output clock count means s keeps ReadFault false front [] taken (nothing_written output) refl
+      (λ n _. session.read_failed n front s none)
+
+-- ---- the messages so far
+
+-- What follows the messages so far makes the session whole. left, output, clock, count and s: at first; those with a
+-- dash: now.
+pub record Follows {C : Type 0} (gives : C → ℕ → C → Type 0) (counter : ℕ) (left left' output output' : Option (List ℕ)) (clock clock' : C) (count count' : ℕ) (s mid : State) : Type 0 where
+  pub whole : (n : ℕ) (reader last : Option (List ℕ)) (end : C) (sum : ℕ) (after : State) (e : SessionEnd) → n + counter ≡ session.most_messages
+      → Serves n gives left' reader output' last clock' end count' sum mid after e → Serves session.most_messages gives left reader output last clock end count sum s after e
+
+pub follows_first : {C : Type 0} (gives : C → ℕ → C → Type 0) (left output : Option (List ℕ)) (clock : C) (count : ℕ) (s : State) → Follows gives 0 left left output output clock clock count count s s
+follows_first gives left output clock count s = record {
+  whole = λ n reader last end sum after e is serves.
+      let all : n ≡ session.most_messages = omega (arith, is) in
+      subst (λ (k : ℕ). Serves k gives left reader output last clock end count sum s after e) all serves;
+}
+
+module _ {C : Type 0} (gives : C → ℕ → C → Type 0) (counter : ℕ) (left left' output output' : Option (List ℕ)) (clock clock' : C) (count count' : ℕ) (s mid : State) (f : Follows gives counter left left' output output' clock clock' count count' s mid) where
+  pub follows_more : (left'' output'' : Option (List ℕ)) (clock'' : C) (count'' : ℕ) (next : State) → Goes gives left' left'' output' output'' clock' clock'' count' count'' mid next
+      → Follows gives (counter + 1) left left'' output output'' clock clock'' count count'' s next
+  follows_more left'' output'' clock'' count'' next goes = record {
+    whole = λ n reader last end sum after e is serves.
+        f.whole (suc n) reader last end sum after e (omega (arith, is))
+        (serves_more gives n left' left'' reader output' output'' last clock' clock'' end count' count'' sum mid next after e goes serves);
+  }
+
+  pub follows_end : (p : Place) (reader last : Option (List ℕ)) (end : C) (sum : ℕ) (after : State) (e : SessionEnd) → counter < session.most_messages → (p ≡ place.Fresh → counter ≡ 0)
+      → ((n : ℕ) → ToCome p (suc n) → Serves (suc n) gives left' reader output' last clock' end count' sum mid after e) → Serves session.most_messages gives left reader output last clock end count sum s after e
+  follows_end p reader last end sum after e lt first serves =
+      f.whole (suc (999 - counter)) reader last end sum after e (omega (arith, lt)) (serves (999 - counter) (λ fresh. omega (arith, first fresh)))
+
+  pub follows_limit : (reader : Option (List ℕ)) → counter ≡ session.most_messages → Serves session.most_messages gives left reader output output' clock clock' count count' s mid Limit
+  follows_limit reader all = f.whole 0 reader output' clock' count' mid Limit (omega (arith, all)) (serves_none gives left' reader output' clock' count' mid)
+
+-- ---- the feed of a reader
+
+-- a new feed has left what its reader has
+pub fresh_left : (waits : List ℕ) (known : Option (List ℕ)) → waits ≡ [] → prepend_known waits known ≡ known
+fresh_left waits None empty = refl
+fresh_left waits (Some xs) empty = ap (λ (t : List ℕ). Some (t ++ xs)) empty
+
+pub not_fresh : (p : Place) → p ≡ place.Between → p ≡ place.Fresh → ⊥
+not_fresh p between fresh = let both : place.Between ≡ place.Fresh = sym between ∙ fresh in absurd cc

@@ -1,0 +1,61 @@
+-- Connections served in turn, and one more.
+use Rattle.std.proofs.Common.{◌≡◌, ℕ, zero, suc, ◌+◌, ◌<◌, cond, List, [], ◌∷◌, ◌++◌, length, map, replicate, slice_index_or, Bor, Option, Some, refl, sym, ap, subst, ◌∙◌, append_assoc, arith}
+use Rattle.std.proofs.KnownBytes.{Appends-nil, Appends-trans}
+use Rattle.std.specs.Prelude.{slice_get}
+use Rattle.std.proofs.lemmas.List.{append-nil, length-append}
+use Rattle.std.specs.Io.KnownBytes.{Appends}
+use Rattle.boxes.specs.State.{State}
+use Rattle.office.specs.declared.session.SessionEnd.{SessionEnd}
+use Rattle.office.specs.Connections.{Told, Serves, is_fault}
+use Rattle.office.specs.Replays.{AreAll, InTurn, answers_in}
+use Rattle.office.specs.Sessions.{Connection, most_messages}
+use Rattle.office.proofs.RunSoFar.{count_more, run_more}
+
+all_more : (moment : ℕ) (xs ys : List ℕ) → AreAll moment xs → AreAll moment ys → AreAll moment (xs ++ ys)
+all_more moment [] ys a b = b
+all_more moment (x ∷ xs) ys a b = (a.0, all_more moment xs ys a.1 b)
+
+all_repeated : (moment n : ℕ) → AreAll moment (replicate n moment)
+all_repeated moment zero = tt
+all_repeated moment (suc n) = (refl, all_repeated moment n)
+
+answers_more : (cs : List Connection) (c : Connection) → answers_in (cs ++ c ∷ []) ≡ answers_in cs ++ c.answers
+answers_more [] c = append-nil c.answers
+answers_more (d ∷ cs) c = ap (λ (t : List ℕ). d.answers ++ t) (answers_more cs c) ∙ sym (append_assoc d.answers (answers_in cs) c.answers)
+
+-- none was served yet
+pub no_turn : (output : Option (List ℕ)) (s : State) (moment : ℕ) → InTurn output output s s moment 0 0
+no_turn output s moment = record {
+  connections = [];
+  moments = [];
+  each = tt;
+  run = (refl, refl);
+  written = Appends-nil output;
+  many = refl;
+  faulty = refl;
+}
+
+-- one more was served
+pub turn_more : {C : Type 0} (gives : C → ℕ → C → Type 0) (output mid_output output' input input' : Option (List ℕ)) (clock clock' : C) (count count' : ℕ) (s mid after : State)
+    (moment n n' faults faults' : ℕ) (e : SessionEnd) → InTurn output mid_output s mid moment n faults
+    → ((moments : List ℕ) (later : C) → Told gives clock moments later → moments ≡ replicate (length moments) moment)
+    → Serves most_messages gives input input' mid_output output' clock clock' count count' mid after e
+    → n' ≡ n + 1 → faults' ≡ faults + cond (is_fault e) 1 0 → InTurn output output' s after moment n' faults'
+turn_more gives output mid_output output' input input' clock clock' count count' s mid after moment n n' faults faults' e t tells served more counted =
+    let c : Connection = record { stream = served.stream; answers = served.answers; end = e; gave_up = served.gave_up } in
+    let same : AreAll moment served.moments = subst (AreAll moment) (sym (tells served.moments clock' served.told)) (all_repeated moment (length served.moments)) in
+    record {
+      connections = t.connections ++ c ∷ [];
+      moments = t.moments ++ served.moments;
+      each = all_more moment t.moments served.moments t.each same;
+      run = run_more s mid after c t.connections t.moments served.moments t.run served.session;
+      written = subst (Appends output output') (sym (answers_more t.connections c)) (Appends-trans output mid_output output' (answers_in t.connections) served.answers t.written served.written);
+      many = length-append t.connections (c ∷ []) ∙ ap (λ k. k + 1) t.many ∙ sym more;
+      faulty = counted ∙ ap (λ k. k + cond (is_fault e) 1 0) t.faulty ∙ sym (count_more t.connections c);
+    }
+
+-- the name at which a loop over names stands
+pub name_at : (xs : List (Bor (List ℕ))) (i : ℕ) (d : Bor (List ℕ)) → i < length xs → slice_get (map (λ t. t.now) xs) i ≡ Some (slice_index_or xs i d).now
+name_at [] i d within = absurd (omega arith)
+name_at (x ∷ xs) zero d within = refl
+name_at (x ∷ xs) (suc i) d within = name_at xs i d (omega arith)

@@ -1,0 +1,53 @@
+use Rattle.std.proofs.Common.{◌≡◌, ◌∙◌, Result, Err, ap, rules}
+use Rattle.keeper.specs.declared.keep.KeepFault.{KeepFault}
+use Rattle.keeper.specs.declared.keep.KeepFault.TheVariants.{Full}
+use Rattle.office.specs.declared.commanding.DeskFault.{DeskFault}
+use Rattle.office.specs.declared.commanding.DeskFault.TheVariants as fault
+use Rattle.boxes.specs.Changes.{command_of}
+use Rattle.boxes.specs.declared.change.Change.TheVariants as change
+use Rattle.office.specs.Enduring.{changed}
+use Rattle.office.proofs.Endurance.{of_either, then_asked}
+use Rattle.office.proofs.Possible.{decided, obeys}
+use Rattle.office.proofs.office.Office.obey.Goals as goal
+
+pub returns-in-Ok-apply-clause-does : goal.returns-in-Ok-apply-clause-does
+returns-in-Ok-apply-clause-does g c s kept form =
+    let command = command_of c.args.command.now in
+    let view = c.in-Ok.ensures.view s (record { means = kept.means; is_honest = c.apply.ensures.honest kept.is_honest; sound = kept.sound }) in
+    let possible = decided s command c.desk.result (c.desk.ensures s kept.sound view) (search rules) in
+    let it = obeys s command form possible in
+    let means = c.look_at.ensures.same s kept.means in (
+      it.0,
+      it.1,
+      record {
+        means = record { meant = c.in-Ok-apply.ensures.made s it.0 means kept.sound it.1; lasts = changed (c.in-Ok-apply.ensures.durable s it.0 means kept.sound it.1 kept.is_honest) };
+        sound = c.law_of_changes.ensures s it.0 (change.Desk c.args.command.now) kept.sound it.1;
+      },
+    )
+
+kept_full : {T : Type 0} (f : KeepFault) → ◌≡◌ {A = Result T DeskFault} (Err (fault.Kept f)) (Err (fault.Kept Full)) → f ≡ Full
+kept_full f e = inner (first _ _ e)
+  where
+    first : {T : Type 0} (x y : DeskFault) → ◌≡◌ {A = Result T DeskFault} (Err x) (Err y) → x ≡ y
+    first x y e = cc
+
+    inner : fault.Kept f ≡ fault.Kept Full → f ≡ Full
+    inner e = cc
+
+pub returns-clause-room : goal.returns-clause-room
+returns-clause-room g c s kept form full =
+    let command = command_of c.args.command.now in
+    let view = c.in-Ok.ensures.view s (record { means = kept.means; is_honest = c.apply.ensures.honest kept.is_honest; sound = kept.sound }) in
+    let possible = decided s command c.desk.result (c.desk.ensures s kept.sound view) (search rules) in
+    let it = obeys s command form possible in
+    c.apply.ensures.full s it.0 (c.look_at.ensures.same s kept.means) kept.sound it.1 (c.in-Err-apply.is ∙ ap Err (kept_full c.in-Err-apply.fault full))
+
+pub returns-clause-crash : goal.returns-clause-crash
+returns-clause-crash g c s kept form =
+    let command = command_of c.args.command.now in
+    let before = c.apply.ensures.honest kept.is_honest in
+    let view = c.in-Ok.ensures.view s (record { means = kept.means; is_honest = before; sound = kept.sound }) in
+    let possible = decided s command c.desk.result (c.desk.ensures s kept.sound view) (search rules) in
+    let it = obeys s command form possible in
+    then_asked (c.look_at.ensures.crash s kept.means before)
+    (of_either it.1 (c.in-Err-apply.ensures.crash s it.0 (c.look_at.ensures.same s kept.means) kept.sound it.1 kept.is_honest))

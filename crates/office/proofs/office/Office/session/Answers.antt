@@ -1,0 +1,22 @@
+use Rattle.std.proofs.Common.{◌≡◌, ◌∙◌, List, ℕ, Option, ap, subst, sym}
+use Rattle.wire.specs.Feeds.{left, reader_of, waits_in}
+use Rattle.office.specs.Connections.{Serves}
+use Rattle.office.specs.Sessions.{most_messages}
+use Rattle.office.proofs.SessionSteps.{fresh_left}
+use Rattle.office.proofs.office.Office.session.Goals as goal
+
+pub returns-clause-serves : goal.returns-clause-serves
+returns-clause-serves g c s kept =
+    let remaining = g.R.Read.remaining in
+    let h = c.serve_feed-end.ensures.serves s kept in
+    let first : left remaining c.new-feed.result ≡ remaining c.args.reader.now.inner =
+    fresh_left (waits_in c.new-feed.result) (remaining (reader_of c.new-feed.result).inner) c.new-feed.ensures.waiting ∙ ap (λ r. remaining r.inner) c.new-feed.ensures.reader in
+    let last : reader_of c.serve_feed-end.new.feed ≡ c.reader-1.given.0 =
+    sym (c.reader-1.given.1 (sym (c.into_reader.ensures.same ∙ c.serve_feed-end.ensures.same ∙ c.new-feed.ensures.same)) ∙ c.into_reader.ensures.now) in
+    let served = subst (λ r. Serves most_messages g.C.Clock.now_gives (left remaining c.new-feed.result) (remaining r.inner) (g.W.Write.contents c.args.writer.now.inner) (g.W.Write.contents c.serve_feed-end.new.writer.inner)
+    c.args.clock.now c.serve_feed-end.new.clock (g.K.Keeper.faults c.args.self.now.keeper) (g.K.Keeper.faults c.serve_feed-end.new.self.keeper) s h.0 c.serve_feed-end.result) last h.2 in (
+      h.0,
+      h.1,
+      subst (λ (input : Option (List ℕ)). Serves most_messages g.C.Clock.now_gives input (remaining c.reader-1.given.0.inner) (g.W.Write.contents c.args.writer.now.inner) (g.W.Write.contents c.serve_feed-end.new.writer.inner)
+          c.args.clock.now c.serve_feed-end.new.clock (g.K.Keeper.faults c.args.self.now.keeper) (g.K.Keeper.faults c.serve_feed-end.new.self.keeper) s h.0 c.serve_feed-end.result) first served,
+    )

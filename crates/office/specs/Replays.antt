@@ -1,0 +1,59 @@
+-- A connection that is replayed: from a state, at one moment.
+use Rattle.std.specs.Prelude.{◌≡◌, ◌≢◌, ℕ, Bool, false, List, [], ◌∷◌, ◌++◌, length, map, slice_get, Option, Some, Result, MatchResult, replicate, ⊤}
+use Rattle.std.specs.Borrow.{Bor}
+use Rattle.std.specs.List.{count_by}
+use Rattle.std.specs.Io.KnownBytes.{Appends}
+use Rattle.boxes.specs.State.{State}
+use Rattle.office.specs.declared.session.SessionEnd.{SessionEnd}
+use Rattle.office.specs.declared.session.SessionEnd.TheVariants.{ReadFault}
+use Rattle.office.specs.Connections.{IsStream, is_fault}
+use Rattle.office.specs.Sessions.{Connection, Run, Session, most_messages}
+
+-- what was read and written is a session from the state, each of whose messages was handled at the moment
+pub record Replays (input input' output output' : Option (List ℕ)) (s : State) (moment : ℕ) (e : SessionEnd) : Type 0 where
+  pub stream : List ℕ
+  pub messages : ℕ
+  pub answers : List ℕ
+  pub gave_up : Bool
+  pub after : State
+  pub read : IsStream gave_up e input input' stream
+  pub written : Appends output output' answers
+  pub session : Session most_messages stream s (replicate messages moment) answers e gave_up after
+
+-- the answers to all the bytes; where the session gave up, to those that were read before it did
+pub record IsReplay (bytes : List ℕ) (s : State) (moment : ℕ) (answers : List ℕ) (e : SessionEnd) : Type 0 where
+  pub front : List ℕ
+  pub rest : List ℕ
+  pub joined : bytes ≡ front ++ rest
+  pub messages : ℕ
+  pub gave_up : Bool
+  pub whole : gave_up ≡ false → (e ≢ ReadFault) → rest ≡ []
+  pub after : State
+  pub session : Session most_messages front s (replicate messages moment) answers e gave_up after
+
+-- all of them are this moment
+abbrev pub AreAll : ℕ → List ℕ → Type 0
+AreAll moment [] = ⊤
+AreAll moment (m ∷ moments) = (m ≡ moment) × AreAll moment moments
+
+-- the answers of the connections, one behind another
+abbrev pub answers_in : List Connection → List ℕ
+answers_in [] = []
+answers_in (c ∷ cs) = c.answers ++ answers_in cs
+
+-- what was written is the answers of n connections, which were served one after another from the state, each message at the
+-- moment; this is the state after, and so many of them ended by a fault
+pub record InTurn (output output' : Option (List ℕ)) (s after : State) (moment n faults : ℕ) : Type 0 where
+  pub connections : List Connection
+  pub moments : List ℕ
+  pub each : AreAll moment moments
+  pub run : Run s connections moments after
+  pub written : Appends output output' (answers_in connections)
+  pub many : length connections ≡ n
+  pub faulty : faults ≡ count_by (λ c. is_fault c.end) connections
+
+-- all the streams were served in turn, where the result counts the faults; or those before the one that it names
+abbrev pub TakesTurns : Option (List ℕ) → Option (List ℕ) → State → State → ℕ → List (Bor (List ℕ)) → Result ℕ (Bor (List ℕ)) → Type 0
+TakesTurns output output' s after moment streams result = MatchResult result
+    (λ faults. InTurn output output' s after moment (length streams) faults)
+    (λ name. (n faults : ℕ) × InTurn output output' s after moment n faults × (slice_get (map (λ t. t.now) streams) n ≡ Some name.now))

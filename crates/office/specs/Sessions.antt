@@ -1,0 +1,75 @@
+-- A connection, and a list of connections.
+use Rattle.std.specs.Prelude.{◌≡◌, ◌⊎◌, ℕ, zero, suc, Bool, true, false, List, [], ◌∷◌, ◌++◌}
+use Rattle.sigtext.specs.declared.refusal.Refusal.{Refusal}
+use Rattle.sigtext.specs.declared.refusal.Refusal.TheVariants as rule
+use Rattle.sigtext.specs.Refusals.{number_of}
+use Rattle.sigtext.specs.Request.{Request}
+use Rattle.boxes.specs.State.{State}
+use Rattle.wire.specs.Answers.{answer_text}
+use Rattle.wire.specs.Answers as answer
+use Rattle.wire.specs.Framing.{Next}
+use Rattle.wire.specs.Framing as frame
+use Rattle.wire.specs.Feeding.{AnnouncesBody, Awaits}
+use Rattle.sigtext.specs.Bytes.{IsBeginning}
+use Rattle.office.specs.declared.session.SessionEnd.{SessionEnd}
+use Rattle.office.specs.declared.session.SessionEnd.TheVariants.{Ended, Truncated, Refused, Limit, ReadFault, WriteFault}
+use Rattle.office.specs.Answering.{Answers}
+use Rattle.office.specs.Asked.{IsReadable}
+
+-- the text of a refusal that closes the connection
+abbrev pub closing : Refusal → List ℕ
+closing q = answer_text false (answer.Refused q)
+
+-- how many messages a connection is served
+abbrev pub most_messages : ℕ
+most_messages = 1000
+
+-- Where a session may give up before a message was read whole, if up to n are to come. For the first buffer: as the first
+-- thing of a connection, before anything was read. Or for a body: where a head announces it.
+abbrev pub MayGiveUpReading : ℕ → List ℕ → Type 0
+MayGiveUpReading n stream = ((n ≡ most_messages) × (stream ≡ [])) ⊎ AnnouncesBody stream
+
+-- Up to n further messages of a stream are served from a state. This takes the moments, one for each
+-- message that was read whole, writes the bytes, ends so, and leaves the last state. The mark says
+-- whether the session gave up: whether refusal 40 is its last answer, written or begun.
+pub data Session : ℕ → List ℕ → State → List ℕ → List ℕ → SessionEnd → Bool → State → Type 0 where
+  limit : (stream : List ℕ) (s : State) → Session zero stream s [] [] Limit false s
+  ended : (n : ℕ) (stream : List ℕ) (s : State) → Next stream frame.Ended [] → Session (suc n) stream s [] [] Ended false s
+  truncated : (n : ℕ) (stream : List ℕ) (s : State) → Next stream frame.Truncated [] → Session (suc n) stream s [] [] Truncated false s
+  unframed : (n : ℕ) (stream : List ℕ) (s : State) (q : Refusal) → Next stream (frame.Refused q) []
+      → Session (suc n) stream s [] (closing q) (Refused (number_of q)) false s
+  served : (n : ℕ) (stream rest : List ℕ) (s mid after : State) (r : Request) (now : ℕ) (moments text out : List ℕ) (e : SessionEnd) (gave_up : Bool)
+      → Next stream (frame.Message r) rest → Answers s r now text mid → Session n rest mid moments out e gave_up after
+      → Session (suc n) stream s (now ∷ moments) (text ++ out) e gave_up after
+  -- memory was refused, or the keeper counted a fault, at a message
+  gave_up_at : (n : ℕ) (stream rest : List ℕ) (s : State) (r : Request) (now : ℕ) → Next stream (frame.Message r) rest → IsReadable r
+      → Session (suc n) stream s (now ∷ []) (closing rule.TryAgain) (Refused 40) true s
+  -- memory was refused where a message is read
+  gave_up_reading : (n : ℕ) (stream : List ℕ) (s : State) → MayGiveUpReading (suc n) stream
+      → Session (suc n) stream s [] (closing rule.TryAgain) (Refused 40) true s
+  -- a read failed, and the bytes read before it don't tell the next step
+  read_failed : (n : ℕ) (stream : List ℕ) (s : State) → Awaits stream → Session (suc n) stream s [] [] ReadFault false s
+  -- a write failed, and a beginning of the answer was written; the request has taken effect, or was refused
+  write_failed : (n : ℕ) (stream rest : List ℕ) (s after : State) (r : Request) (now : ℕ) (text front : List ℕ)
+      → Next stream (frame.Message r) rest → Answers s r now text after → IsBeginning front text
+      → Session (suc n) stream s (now ∷ []) front WriteFault false after
+  write_failed_unframed : (n : ℕ) (stream : List ℕ) (s : State) (q : Refusal) (front : List ℕ) → Next stream (frame.Refused q) []
+      → IsBeginning front (closing q) → Session (suc n) stream s [] front WriteFault false s
+  write_failed_giving_up_at : (n : ℕ) (stream rest : List ℕ) (s : State) (r : Request) (now : ℕ) (front : List ℕ) → Next stream (frame.Message r) rest
+      → IsReadable r → IsBeginning front (closing rule.TryAgain) → Session (suc n) stream s (now ∷ []) front WriteFault true s
+  write_failed_giving_up_reading : (n : ℕ) (stream : List ℕ) (s : State) (front : List ℕ) → MayGiveUpReading (suc n) stream
+      → IsBeginning front (closing rule.TryAgain) → Session (suc n) stream s [] front WriteFault true s
+
+-- a connection as it was served
+pub record Connection : Type 0 where
+  pub stream : List ℕ
+  pub answers : List ℕ
+  pub end : SessionEnd
+  pub gave_up : Bool
+
+-- the connections one after another
+abbrev pub Run : State → List Connection → List ℕ → State → Type 0
+Run s [] moments after = (moments ≡ []) × (after ≡ s)
+Run s (c ∷ cs) moments after =
+    (first others : List ℕ) × (mid : State) × (moments ≡ first ++ others)
+    × Session most_messages c.stream s first c.answers c.end c.gave_up mid × Run mid cs others after

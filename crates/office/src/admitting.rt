@@ -1,0 +1,49 @@
+//! Which links are admitted.
+use crate::office::Office;
+use boxes::Role;
+use keeper::Keeper;
+use links::{LinkParts, judge};
+use sigtext::Refusal;
+use sigv4::Moment;
+
+impl<K: Keeper> Office<K> {
+    ghost use Rattle.std.specs.Prelude.{◌≡◌, ◌≢◌, ◌≤◌, Err, MatchResult};
+    ghost use Rattle.sigtext.specs.Request.{Request};
+    ghost use Rattle.sigtext.specs.Rules.{IsFirstToFail};
+    ghost use Rattle.boxes.specs.State.{Key, State};
+    ghost use Rattle.links.specs.LinkReadings.{IsLinkOf};
+    ghost use Rattle.links.specs.WellFormed.{LinkValues};
+    ghost use Rattle.office.specs.Admitted.{IsAdmitted};
+    ghost use Rattle.office.specs.Enduring.{AddsStanding};
+    ghost use Rattle.office.specs.Kept.{IsKept};
+    ghost use Rattle.office.specs.Rules.{Rule};
+
+    // The role of the key of a link that is admitted at the moment; else the refusal of the least of the
+    // rules 19 to 23 that fails; or refusal 40, where the keeper counted a fault.
+    pub(crate) fn admit(&mut self, link: &LinkParts<'_>, now: Moment) -> Result<Role, Refusal>
+        ensures admits { (s : State) (r : Request) (p : LinkValues) → IsKept (K.means self.old.keeper) (K.is_honest self.new.keeper) s
+            → IsLinkOf link.now r p
+            → MatchResult result (λ role. (k : Key) × IsAdmitted s r now p k × (k.role ≡ role))
+            (λ q. (q ≢ Refusal.TryAgain) → IsFirstToFail (Rule s r now) q) }
+        ensures same { (s : State) → K.means self.old.keeper s → K.means self.new.keeper s }
+        ensures honest { K.is_honest self.new.keeper → K.is_honest self.old.keeper }
+        ensures crash { (s : State) → K.means self.old.keeper s → K.is_honest self.new.keeper
+            → AddsStanding K.leaves K.leaves_whole self.old.keeper self.new.keeper s }
+        ensures counted { (result ≢ Err Refusal.TryAgain) → K.faults self.new.keeper ≡ K.faults self.old.keeper }
+        ensures never_less { K.faults self.old.keeper ≤ K.faults self.new.keeper }
+    {
+        match self.keeper.key(link.key_id()) {
+            Ok(None) => Err(Refusal::KeyUnknown),
+            Ok(Some(key)) => {
+                if key.revoked {
+                    return Err(Refusal::KeyRevoked);
+                }
+                match judge(link, &key.secret, now) {
+                    Ok(()) => Ok(key.role),
+                    Err(refusal) => Err(refusal),
+                }
+            }
+            Err(_) => Err(Refusal::TryAgain),
+        }
+    }
+}

@@ -1,0 +1,267 @@
+-- The command line of the program, as clap reads it, and the task that its words name.
+use Rattle.std.specs.Prelude.{◌≡◌, ◌⊎◌, [], ◌∷◌, List, codes, map, Option, Some, is_some, true}
+use Rattle.clap.specs.Lexer.{usize_max}
+use Rattle.clap.specs.Words.{App, Row, Rule, Text, all_of, first_of, new_app, new_rule, subcommand_of, with_rule, with_subcommand}
+use Rattle.clap.specs.Simple.{on_top}
+use Rattle.clap.specs.declared.builder.value_parser.ValueParser.TheVariants.{Unsigned}
+use Rattle.tasks.specs.declared.task.Desk.{Desk}
+use Rattle.tasks.specs.declared.task.Init.{Init}
+use Rattle.tasks.specs.declared.task.Link.{Link}
+use Rattle.tasks.specs.declared.task.Links.{Links}
+use Rattle.tasks.specs.declared.task.OfficeFile.{OfficeFile}
+use Rattle.tasks.specs.declared.task.Replay.{Replay}
+use Rattle.tasks.specs.declared.task.Serve.{Serve}
+use Rattle.tasks.specs.declared.task.Task.{Task}
+use Rattle.tasks.specs.declared.task.Task.TheVariants as task
+
+-- ---- the words of the commands; help calls each value by one name
+
+-- FILE and the like
+abbrev pub word_rule : Text → Rule
+word_rule id = record (new_rule id) { value_names = 1; required = true }
+
+-- --at MOMENT and the like
+abbrev pub option_rule : Text → Rule
+option_rule id = record (new_rule id) { long = Some id; value_names = 1; required = true }
+
+-- FILE
+unfoldable pub file_rule : Rule
+file_rule = word_rule (codes "file")
+
+-- STREAM.., one or more
+unfoldable pub streams_rule : Rule
+streams_rule = record (word_rule (codes "stream")) { range = Some (record { start_inclusive = 1; end_inclusive = usize_max }) }
+
+-- --at MOMENT
+unfoldable pub at_rule : Rule
+at_rule = option_rule (codes "at")
+
+-- LINE
+unfoldable pub line_rule : Rule
+line_rule = word_rule (codes "line")
+
+-- METHOD, TARGET
+unfoldable pub method_rule : Rule
+method_rule = word_rule (codes "method")
+
+unfoldable pub target_rule : Rule
+target_rule = word_rule (codes "target")
+
+-- --clerk ID, --secret SECRET, --key ID, --host H, --region R, --start MOMENT
+unfoldable pub clerk_rule : Rule
+clerk_rule = option_rule (codes "clerk")
+
+unfoldable pub secret_rule : Rule
+secret_rule = option_rule (codes "secret")
+
+unfoldable pub key_rule : Rule
+key_rule = option_rule (codes "key")
+
+unfoldable pub host_rule : Rule
+host_rule = option_rule (codes "host")
+
+unfoldable pub region_rule : Rule
+region_rule = option_rule (codes "region")
+
+unfoldable pub start_rule : Rule
+start_rule = option_rule (codes "start")
+
+-- --expires N, a whole number from 1 to 604800
+unfoldable pub expires_rule : Rule
+expires_rule = record (option_rule (codes "expires")) { parser = Some (Unsigned 1 604800) }
+
+-- --listen ADDR
+unfoldable pub listen_rule : Rule
+listen_rule = option_rule (codes "listen")
+
+-- --connections N, a whole number from 1 to 1000000
+unfoldable pub connections_rule : Rule
+connections_rule = record (option_rule (codes "connections")) { parser = Some (Unsigned 1 1000000) }
+
+-- --patience SECONDS, a whole number from 0 to 3600, and 30 where it is left out
+unfoldable pub patience_rule : Rule
+patience_rule = record (new_rule (codes "patience")) { long = Some (codes "patience"); value_names = 1; defaults = codes "30" ∷ []; parser = Some (Unsigned 0 3600) }
+
+-- --east M and --west M, whole numbers from 0 to 840, and 0 where they are left out
+abbrev pub minutes_rule : Text → Rule
+minutes_rule id = record (new_rule id) { long = Some id; value_names = 1; defaults = codes "0" ∷ []; parser = Some (Unsigned 0 840) }
+
+unfoldable pub east_rule : Rule
+east_rule = minutes_rule (codes "east")
+
+unfoldable pub west_rule : Rule
+west_rule = minutes_rule (codes "west")
+
+-- ---- the commands
+
+-- init FILE --clerk ID --secret SECRET --east M --west M
+unfoldable pub init_app : App
+init_app = with_rule (with_rule (with_rule (with_rule (with_rule (new_app (codes "init")) file_rule) clerk_rule) secret_rule) east_rule) west_rule
+
+-- desk FILE LINE
+unfoldable pub desk_app : App
+desk_app = with_rule (with_rule (new_app (codes "desk")) file_rule) line_rule
+
+-- FILE METHOD TARGET
+unfoldable pub target_app : App
+target_app = with_rule (with_rule (with_rule (new_app (codes "link")) file_rule) method_rule) target_rule
+
+-- link FILE METHOD TARGET --key ID --host H --region R --start MOMENT --expires N
+unfoldable pub link_app : App
+link_app = with_rule (with_rule (with_rule (with_rule (with_rule target_app key_rule) host_rule) region_rule) start_rule) expires_rule
+
+-- links FILE --key ID --host H --region R
+unfoldable pub links_app : App
+links_app = with_rule (with_rule (with_rule (with_rule (new_app (codes "links")) file_rule) key_rule) host_rule) region_rule
+
+-- manifest FILE
+unfoldable pub manifest_app : App
+manifest_app = with_rule (new_app (codes "manifest")) file_rule
+
+-- compare FILE
+unfoldable pub compare_app : App
+compare_app = with_rule (new_app (codes "compare")) file_rule
+
+-- replay FILE STREAM.. --at MOMENT
+unfoldable pub replay_app : App
+replay_app = with_rule (with_rule (with_rule (new_app (codes "replay")) file_rule) streams_rule) at_rule
+
+-- serve FILE --listen ADDR --connections N --patience SECONDS
+unfoldable pub serve_app : App
+serve_app = with_rule (with_rule (with_rule (with_rule (new_app (codes "serve")) file_rule) listen_rule) connections_rule) patience_rule
+
+-- drop COMMAND, which answers with help where no word follows
+unfoldable pub drop_app : App
+drop_app =
+    let needs_command = on_top (λ s. record s { subcommand_required = true; arg_required_else_help = true }) (new_app (codes "drop")) in
+    let with_desk = with_subcommand (with_subcommand needs_command init_app.top) desk_app.top in
+    let with_lists = with_subcommand (with_subcommand (with_subcommand (with_subcommand with_desk link_app.top) links_app.top) manifest_app.top) compare_app.top in
+    with_subcommand (with_subcommand with_lists replay_app.top) serve_app.top
+
+-- ---- the values that the matches give
+
+-- the matches give these values
+abbrev pub IsInitOf : List Row → Init → Type 0
+IsInitOf rows i =
+    (first_of (codes "file") rows ≡ Some i.file.now)
+    × (first_of (codes "clerk") rows ≡ Some i.clerk.now)
+    × (first_of (codes "secret") rows ≡ Some i.secret.now)
+    × (first_of (codes "east") rows ≡ Some i.east.now)
+    × (first_of (codes "west") rows ≡ Some i.west.now)
+
+abbrev pub IsDeskIn : List Row → Desk → Type 0
+IsDeskIn rows d =
+    (first_of (codes "file") rows ≡ Some d.file.now)
+    × (first_of (codes "line") rows ≡ Some d.line.now)
+
+abbrev pub IsLinkIn : List Row → Link → Type 0
+IsLinkIn rows l =
+    (first_of (codes "file") rows ≡ Some l.file.now)
+    × (first_of (codes "method") rows ≡ Some l.method.now)
+    × (first_of (codes "target") rows ≡ Some l.target.now)
+    × (first_of (codes "key") rows ≡ Some l.key.now)
+    × (first_of (codes "host") rows ≡ Some l.host.now)
+    × (first_of (codes "region") rows ≡ Some l.region.now)
+    × (first_of (codes "start") rows ≡ Some l.start.now)
+    × (first_of (codes "expires") rows ≡ Some l.expires.now)
+
+abbrev pub IsLinksIn : List Row → Links → Type 0
+IsLinksIn rows l =
+    (first_of (codes "file") rows ≡ Some l.file.now)
+    × (first_of (codes "key") rows ≡ Some l.key.now)
+    × (first_of (codes "host") rows ≡ Some l.host.now)
+    × (first_of (codes "region") rows ≡ Some l.region.now)
+
+abbrev pub IsOfficeIn : List Row → OfficeFile → Type 0
+IsOfficeIn rows o = first_of (codes "file") rows ≡ Some o.file.now
+
+abbrev pub IsReplayOf : List Row → Replay → Type 0
+IsReplayOf rows r =
+    (first_of (codes "file") rows ≡ Some r.file.now)
+    × (first_of (codes "at") rows ≡ Some r.at.now)
+    × (all_of (codes "stream") rows ≡ Some (map (λ s. s.now) r.streams.items))
+
+abbrev pub IsServeIn : List Row → Serve → Type 0
+IsServeIn rows s =
+    (first_of (codes "file") rows ≡ Some s.file.now)
+    × (first_of (codes "listen") rows ≡ Some s.listen.now)
+    × (first_of (codes "connections") rows ≡ Some s.connections.now)
+    × (first_of (codes "patience") rows ≡ Some s.patience.now)
+
+-- the matches give this argument a value
+abbrev pub HasValue : Text → List Row → Type 0
+HasValue id rows = is_some (first_of id rows) ≡ true
+
+-- the matches give each value
+abbrev pub HasInit : List Row → Type 0
+HasInit rows =
+    HasValue (codes "file") rows × HasValue (codes "clerk") rows × HasValue (codes "secret") rows × HasValue (codes "east") rows × HasValue (codes "west") rows
+
+abbrev pub HasDesk : List Row → Type 0
+HasDesk rows = HasValue (codes "file") rows × HasValue (codes "line") rows
+
+abbrev pub HasLink : List Row → Type 0
+HasLink rows =
+    HasValue (codes "file") rows × HasValue (codes "method") rows × HasValue (codes "target") rows × HasValue (codes "key") rows
+    × HasValue (codes "host") rows × HasValue (codes "region") rows × HasValue (codes "start") rows × HasValue (codes "expires") rows
+
+abbrev pub HasLinks : List Row → Type 0
+HasLinks rows =
+    HasValue (codes "file") rows × HasValue (codes "key") rows × HasValue (codes "host") rows × HasValue (codes "region") rows
+
+abbrev pub HasReplay : List Row → Type 0
+HasReplay rows =
+    HasValue (codes "file") rows × HasValue (codes "at") rows × (is_some (all_of (codes "stream") rows) ≡ true)
+
+abbrev pub HasServe : List Row → Type 0
+HasServe rows =
+    HasValue (codes "file") rows × HasValue (codes "listen") rows × HasValue (codes "connections") rows × HasValue (codes "patience") rows
+
+-- ---- the task
+
+-- the command that the words name, with its matches, is this task
+abbrev pub IsTaskIn : Option (Text × List Row) → Task → Type 0
+IsTaskIn named (task.Init i) = (rows : List Row) × (named ≡ Some (codes "init", rows)) × IsInitOf rows i
+IsTaskIn named (task.Desk d) = (rows : List Row) × (named ≡ Some (codes "desk", rows)) × IsDeskIn rows d
+IsTaskIn named (task.Link l) = (rows : List Row) × (named ≡ Some (codes "link", rows)) × IsLinkIn rows l
+IsTaskIn named (task.Links l) = (rows : List Row) × (named ≡ Some (codes "links", rows)) × IsLinksIn rows l
+IsTaskIn named (task.Manifest o) = (rows : List Row) × (named ≡ Some (codes "manifest", rows)) × IsOfficeIn rows o
+IsTaskIn named (task.Compare o) = (rows : List Row) × (named ≡ Some (codes "compare", rows)) × IsOfficeIn rows o
+IsTaskIn named (task.Replay r) = (rows : List Row) × (named ≡ Some (codes "replay", rows)) × IsReplayOf rows r
+IsTaskIn named (task.Serve s) = (rows : List Row) × (named ≡ Some (codes "serve", rows)) × IsServeIn rows s
+
+abbrev pub NamesInit : Option (Text × List Row) → Type 0
+NamesInit named = (rows : List Row) × (named ≡ Some (codes "init", rows)) × HasInit rows
+
+abbrev pub NamesDesk : Option (Text × List Row) → Type 0
+NamesDesk named = (rows : List Row) × (named ≡ Some (codes "desk", rows)) × HasDesk rows
+
+abbrev pub NamesLink : Option (Text × List Row) → Type 0
+NamesLink named = (rows : List Row) × (named ≡ Some (codes "link", rows)) × HasLink rows
+
+abbrev pub NamesLinks : Option (Text × List Row) → Type 0
+NamesLinks named = (rows : List Row) × (named ≡ Some (codes "links", rows)) × HasLinks rows
+
+abbrev pub NamesManifest : Option (Text × List Row) → Type 0
+NamesManifest named = (rows : List Row) × (named ≡ Some (codes "manifest", rows)) × HasValue (codes "file") rows
+
+abbrev pub NamesCompare : Option (Text × List Row) → Type 0
+NamesCompare named = (rows : List Row) × (named ≡ Some (codes "compare", rows)) × HasValue (codes "file") rows
+
+-- a list that is read or written
+abbrev pub NamesList : Option (Text × List Row) → Type 0
+NamesList named = NamesLinks named ⊎ (NamesManifest named ⊎ NamesCompare named)
+
+abbrev pub NamesReplay : Option (Text × List Row) → Type 0
+NamesReplay named = (rows : List Row) × (named ≡ Some (codes "replay", rows)) × HasReplay rows
+
+abbrev pub NamesServe : Option (Text × List Row) → Type 0
+NamesServe named = (rows : List Row) × (named ≡ Some (codes "serve", rows)) × HasServe rows
+
+-- the command that the words name, with its matches, is a task
+abbrev pub NamesTask : Option (Text × List Row) → Type 0
+NamesTask named = NamesInit named ⊎ (NamesDesk named ⊎ (NamesLink named ⊎ (NamesList named ⊎ (NamesReplay named ⊎ NamesServe named))))
+
+-- the words name this task
+abbrev pub IsTaskOf : List Text → Task → Type 0
+IsTaskOf words = IsTaskIn (subcommand_of drop_app words)

@@ -1,0 +1,375 @@
+//! What the program's words ask for.
+ghost use Rattle.std.specs.Prelude.{◌≡◌, IfOk, IfErr, IfSome, IsSome, Some, codes, is_some, true, map};
+ghost use Rattle.clap.specs.Words.{all_of, fault_of, first_of, found_of, kind_of, rows_of, subcommand_rows_of, takes, FailsBy};
+ghost use Rattle.tasks.specs.Tasks.{drop_app, HasDesk, HasInit, HasLink, HasLinks, HasReplay, HasServe, HasValue, IsDeskIn, IsInitOf, IsLinkIn, IsLinksIn, IsOfficeIn, IsReplayOf, IsServeIn, IsTaskIn, IsTaskOf, NamesCompare, NamesDesk, NamesInit, NamesLink, NamesLinks, NamesList, NamesManifest, NamesReplay, NamesServe, NamesTask};
+
+use crate::words::command_line;
+use clap::error::ErrorKind;
+use clap::{ArgMatches, Error};
+use std::alloc::{AllocError, Global};
+
+/// What the program is asked to do. It has no `Debug`, so that no secret gets into a log by it.
+#[derive(Drop)]
+pub enum Task<'a> {
+    /// Make an office file.
+    Init(Init<'a>),
+    /// Do a command of the desk.
+    Desk(Desk<'a>),
+    /// Write a link.
+    Link(Link<'a>),
+    /// Write many links.
+    Links(Links<'a>),
+    /// Write the receipts.
+    Manifest(OfficeFile<'a>),
+    /// Tell what stands of a manifest.
+    Compare(OfficeFile<'a>),
+    /// Answer recorded connections.
+    Replay(Replay<'a>),
+    /// Serve connections over a socket.
+    Serve(Serve<'a>),
+}
+
+/// The words of `drop init FILE --clerk ID --secret SECRET --east M --west M`, each as it was given, and the two numbers
+/// `0` where they were left out. The numbers are from 0 to 840; of the others no form is asked here.
+#[derive(Clone, Copy)]
+pub struct Init<'a> {
+    /// The office file.
+    pub file: &'a str,
+    /// The id of the clerk's key.
+    pub clerk: &'a str,
+    /// Its secret.
+    pub secret: &'a str,
+    /// How many minutes the office's clock is ahead of UTC.
+    pub east: &'a str,
+    /// How many minutes it is behind UTC.
+    pub west: &'a str,
+}
+
+/// The words of `drop desk FILE LINE`, each as it was given: no form is asked of them here. It has no `Debug`, since a line
+/// may hold a secret.
+#[derive(Clone, Copy)]
+pub struct Desk<'a> {
+    /// The office file.
+    pub file: &'a str,
+    /// The desk command.
+    pub line: &'a str,
+}
+
+/// The words of `drop link FILE METHOD TARGET --key ID --host H --region R --start MOMENT --expires N`, each as it was given.
+/// N is from 1 to 604800; of the others no form is asked here.
+#[derive(Clone, Copy)]
+pub struct Link<'a> {
+    /// The office file.
+    pub file: &'a str,
+    /// The method.
+    pub method: &'a str,
+    /// The box and the name; for POST a command of the desk.
+    pub target: &'a str,
+    /// The id of the key that signs.
+    pub key: &'a str,
+    /// The host.
+    pub host: &'a str,
+    /// The region.
+    pub region: &'a str,
+    /// The first moment at which the link is good.
+    pub start: &'a str,
+    /// For how many seconds it is good.
+    pub expires: &'a str,
+}
+
+/// The words of `drop links FILE --key ID --host H --region R`, each as it was given: no form is asked of them here.
+#[derive(Clone, Copy)]
+pub struct Links<'a> {
+    /// The office file.
+    pub file: &'a str,
+    /// The id of the key that signs.
+    pub key: &'a str,
+    /// The host.
+    pub host: &'a str,
+    /// The region.
+    pub region: &'a str,
+}
+
+/// The word of `drop manifest FILE` and of `drop compare FILE`, as it was given.
+#[derive(Clone, Copy)]
+pub struct OfficeFile<'a> {
+    /// The office file.
+    pub file: &'a str,
+}
+
+/// The words of `drop replay FILE STREAM.. --at MOMENT`, each as it was given: no form is asked of them here.
+#[derive(Drop)]
+pub struct Replay<'a> {
+    /// The office.
+    pub file: &'a str,
+    /// The moment at which the requests are answered.
+    pub at: &'a str,
+    /// The names of the files that hold the bytes of the connections: one or more.
+    pub streams: Vec<&'a str>,
+}
+
+/// The words of `drop serve FILE --listen ADDR --connections N --patience SECONDS`, each as it was given, and the seconds `30`
+/// where they were left out. N is from 1 to 1000000 and SECONDS from 0 to 3600; of the others no form is asked here.
+#[derive(Debug, Clone, Copy)]
+pub struct Serve<'a> {
+    /// The office file.
+    pub file: &'a str,
+    /// The address to listen at.
+    pub listen: &'a str,
+    /// How many connections are served.
+    pub connections: &'a str,
+    /// For how many seconds one read or write may wait.
+    pub patience: &'a str,
+}
+
+impl<'a> Task<'a> {
+    /// Reads all the words of the program, its own name first.
+    ///
+    /// The error is clap's, for a mistake and for help that was asked for. Its `Display` is the whole text for the
+    /// user, `use_stderr` says where it goes, and `exit_code` is the status: 2, or 0 for help.
+    pub fn read(alloc: Global, words: &'a [&'a str]) -> Result<Task<'a>, Error>
+        ensures task { IfOk result (IsTaskOf (map (λ w. w.now) words.entry.now)) }
+        ensures passes { IfErr result (λ e. takes drop_app (map (λ w. w.now) words.entry.now) ≡ true
+            → kind_of e ≡ ErrorKind.OutOfMemory) }
+        ensures kinds { FailsBy (fault_of drop_app (map (λ w. w.now) words.entry.now)) result }
+    {
+        let mut command = command_line(alloc)?;
+        let matches = command.try_get_matches_from_mut(words)?;
+        match Task::of_matches(alloc, &matches)? {
+            Some(task) => Ok(task),
+            // The contract says that it does not come to this: clap has refused such words.
+            None => Err(command.error(ErrorKind::MissingSubcommand, "a command is missing")?),
+        }
+    }
+
+    // The task that the words named.
+    fn of_matches(alloc: Global, matches: &ArgMatches<'a>) -> Result<Option<Task<'a>>, AllocError>
+        ensures task { IfOk result (λ found. IfSome found (IsTaskIn (subcommand_rows_of matches.now))) }
+        ensures named { NamesTask (subcommand_rows_of matches.now) → IfOk result (λ found. IsSome found) }
+    {
+        if let Some(task) = Task::init_in(matches) {
+            return Ok(Some(task));
+        }
+        if let Some(task) = Task::desk_in(matches) {
+            return Ok(Some(task));
+        }
+        if let Some(task) = Task::link_in(matches) {
+            return Ok(Some(task));
+        }
+        if let Some(task) = Task::list_in(matches) {
+            return Ok(Some(task));
+        }
+        if let Some(task) = Task::serve_in(matches) {
+            return Ok(Some(task));
+        }
+        Task::replay_in(alloc, matches)
+    }
+
+    fn init_in(matches: &ArgMatches<'a>) -> Option<Task<'a>>
+        ensures task { IfSome result (IsTaskIn (subcommand_rows_of matches.now)) }
+        ensures named { NamesInit (subcommand_rows_of matches.now) → IsSome result }
+    {
+        let values = matches.subcommand_matches("init")?;
+        Some(Task::Init(Init::of_matches(values)?))
+    }
+
+    fn desk_in(matches: &ArgMatches<'a>) -> Option<Task<'a>>
+        ensures task { IfSome result (IsTaskIn (subcommand_rows_of matches.now)) }
+        ensures named { NamesDesk (subcommand_rows_of matches.now) → IsSome result }
+    {
+        let values = matches.subcommand_matches("desk")?;
+        Some(Task::Desk(Desk::of_matches(values)?))
+    }
+
+    fn link_in(matches: &ArgMatches<'a>) -> Option<Task<'a>>
+        ensures task { IfSome result (IsTaskIn (subcommand_rows_of matches.now)) }
+        ensures named { NamesLink (subcommand_rows_of matches.now) → IsSome result }
+    {
+        let values = matches.subcommand_matches("link")?;
+        Some(Task::Link(Link::of_matches(values)?))
+    }
+
+    // A list that is read or written.
+    fn list_in(matches: &ArgMatches<'a>) -> Option<Task<'a>>
+        ensures task { IfSome result (IsTaskIn (subcommand_rows_of matches.now)) }
+        ensures named { NamesList (subcommand_rows_of matches.now) → IsSome result }
+    {
+        if let Some(task) = Task::links_in(matches) {
+            return Some(task);
+        }
+        if let Some(task) = Task::manifest_in(matches) {
+            return Some(task);
+        }
+        Task::compare_in(matches)
+    }
+
+    fn links_in(matches: &ArgMatches<'a>) -> Option<Task<'a>>
+        ensures task { IfSome result (IsTaskIn (subcommand_rows_of matches.now)) }
+        ensures named { NamesLinks (subcommand_rows_of matches.now) → IsSome result }
+    {
+        let values = matches.subcommand_matches("links")?;
+        Some(Task::Links(Links::of_matches(values)?))
+    }
+
+    fn manifest_in(matches: &ArgMatches<'a>) -> Option<Task<'a>>
+        ensures task { IfSome result (IsTaskIn (subcommand_rows_of matches.now)) }
+        ensures named { NamesManifest (subcommand_rows_of matches.now) → IsSome result }
+    {
+        let values = matches.subcommand_matches("manifest")?;
+        Some(Task::Manifest(OfficeFile::of_matches(values)?))
+    }
+
+    fn compare_in(matches: &ArgMatches<'a>) -> Option<Task<'a>>
+        ensures task { IfSome result (IsTaskIn (subcommand_rows_of matches.now)) }
+        ensures named { NamesCompare (subcommand_rows_of matches.now) → IsSome result }
+    {
+        let values = matches.subcommand_matches("compare")?;
+        Some(Task::Compare(OfficeFile::of_matches(values)?))
+    }
+
+    fn serve_in(matches: &ArgMatches<'a>) -> Option<Task<'a>>
+        ensures task { IfSome result (IsTaskIn (subcommand_rows_of matches.now)) }
+        ensures named { NamesServe (subcommand_rows_of matches.now) → IsSome result }
+    {
+        let values = matches.subcommand_matches("serve")?;
+        Some(Task::Serve(Serve::of_matches(values)?))
+    }
+
+    fn replay_in(alloc: Global, matches: &ArgMatches<'a>) -> Result<Option<Task<'a>>, AllocError>
+        ensures task { IfOk result (λ found. IfSome found (IsTaskIn (subcommand_rows_of matches.now))) }
+        ensures named { NamesReplay (subcommand_rows_of matches.now) → IfOk result (λ found. IsSome found) }
+    {
+        let Some(values) = matches.subcommand_matches("replay") else {
+            return Ok(None);
+        };
+        match Replay::of_matches(alloc, values)? {
+            Some(replay) => Ok(Some(Task::Replay(replay))),
+            None => Ok(None),
+        }
+    }
+}
+
+impl<'a> Init<'a> {
+    fn of_matches(values: &ArgMatches<'a>) -> Option<Init<'a>>
+        ensures values { IfSome result (IsInitOf (rows_of (found_of values.now))) }
+        ensures given { HasInit (rows_of (found_of values.now)) → IsSome result }
+    {
+        Some(Init {
+            file: value_of(values, "file")?,
+            clerk: value_of(values, "clerk")?,
+            secret: value_of(values, "secret")?,
+            east: value_of(values, "east")?,
+            west: value_of(values, "west")?,
+        })
+    }
+}
+
+impl<'a> Desk<'a> {
+    fn of_matches(values: &ArgMatches<'a>) -> Option<Desk<'a>>
+        ensures values { IfSome result (IsDeskIn (rows_of (found_of values.now))) }
+        ensures given { HasDesk (rows_of (found_of values.now)) → IsSome result }
+    {
+        Some(Desk {
+            file: value_of(values, "file")?,
+            line: value_of(values, "line")?,
+        })
+    }
+}
+
+impl<'a> Link<'a> {
+    fn of_matches(values: &ArgMatches<'a>) -> Option<Link<'a>>
+        ensures values { IfSome result (IsLinkIn (rows_of (found_of values.now))) }
+        ensures given { HasLink (rows_of (found_of values.now)) → IsSome result }
+    {
+        Some(Link {
+            file: value_of(values, "file")?,
+            method: value_of(values, "method")?,
+            target: value_of(values, "target")?,
+            key: value_of(values, "key")?,
+            host: value_of(values, "host")?,
+            region: value_of(values, "region")?,
+            start: value_of(values, "start")?,
+            expires: value_of(values, "expires")?,
+        })
+    }
+}
+
+impl<'a> Links<'a> {
+    fn of_matches(values: &ArgMatches<'a>) -> Option<Links<'a>>
+        ensures values { IfSome result (IsLinksIn (rows_of (found_of values.now))) }
+        ensures given { HasLinks (rows_of (found_of values.now)) → IsSome result }
+    {
+        Some(Links {
+            file: value_of(values, "file")?,
+            key: value_of(values, "key")?,
+            host: value_of(values, "host")?,
+            region: value_of(values, "region")?,
+        })
+    }
+}
+
+impl<'a> OfficeFile<'a> {
+    fn of_matches(values: &ArgMatches<'a>) -> Option<OfficeFile<'a>>
+        ensures values { IfSome result (IsOfficeIn (rows_of (found_of values.now))) }
+        ensures given { HasValue (codes "file") (rows_of (found_of values.now)) → IsSome result }
+    {
+        Some(OfficeFile {
+            file: value_of(values, "file")?,
+        })
+    }
+}
+
+impl<'a> Serve<'a> {
+    fn of_matches(values: &ArgMatches<'a>) -> Option<Serve<'a>>
+        ensures values { IfSome result (IsServeIn (rows_of (found_of values.now))) }
+        ensures given { HasServe (rows_of (found_of values.now)) → IsSome result }
+    {
+        Some(Serve {
+            file: value_of(values, "file")?,
+            listen: value_of(values, "listen")?,
+            connections: value_of(values, "connections")?,
+            patience: value_of(values, "patience")?,
+        })
+    }
+}
+
+impl<'a> Replay<'a> {
+    fn of_matches(alloc: Global, values: &ArgMatches<'a>) -> Result<Option<Replay<'a>>, AllocError>
+        ensures values { IfOk result (λ found. IfSome found (IsReplayOf (rows_of (found_of values.now)))) }
+        ensures given { HasReplay (rows_of (found_of values.now)) → IfOk result (λ found. IsSome found) }
+    {
+        let Some(file) = value_of(values, "file") else {
+            return Ok(None);
+        };
+        let Some(at) = value_of(values, "at") else {
+            return Ok(None);
+        };
+        match values_of(alloc, values, "stream")? {
+            Some(streams) => Ok(Some(Replay { file, at, streams })),
+            None => Ok(None),
+        }
+    }
+}
+
+// The value of an argument that has one value.
+fn value_of<'a>(values: &ArgMatches<'a>, id: &str) -> Option<&'a str>
+    ensures value { IfSome result (λ s. first_of id.now (rows_of (found_of values.now)) ≡ Some s.now) }
+    ensures given { HasValue id.now (rows_of (found_of values.now)) → IsSome result }
+{
+    values.get_str(id)
+}
+
+// The values of an argument that has several.
+fn values_of<'a>(
+    alloc: Global,
+    values: &ArgMatches<'a>,
+    id: &str,
+) -> Result<Option<Vec<&'a str>>, AllocError>
+    ensures values { IfOk result (λ found. IfSome found (λ v. all_of id.now (rows_of (found_of values.now)) ≡ Some (map (λ s. s.now) v.items))) }
+    ensures given { is_some (all_of id.now (rows_of (found_of values.now))) ≡ true → IfOk result (λ found. IsSome found) }
+{
+    match values.get_strs(id) {
+        Some(texts) => Ok(Some(Vec::from_slice(alloc, texts)?)),
+        None => Ok(None),
+    }
+}

@@ -1,0 +1,414 @@
+//! The program's command line, as clap reads it.
+ghost use Rattle.std.specs.Prelude.{◌≡◌, IfOk, false};
+ghost use Rattle.clap.specs.Words.{app_of, rule_of};
+ghost use Rattle.clap.specs.declared.builder.command.Command.TheViews.{out-Command};
+ghost use Rattle.tasks.specs.Tasks.{compare_app, desk_app, drop_app, init_app, link_app, links_app, manifest_app, replay_app, serve_app, target_app, connections_rule, expires_rule, host_rule, key_rule, minutes_rule, option_rule, patience_rule, region_rule, streams_rule, word_rule};
+
+use clap::builder::ValueParser;
+use clap::{Arg, Command};
+use std::alloc::{AllocError, Global};
+
+// What stands below the help of `desk`: the forms of its commands, each with an example.
+const DESK_FORMS: &str = "\
+The commands. One space stands between two words. Each example is a LINE, in quotes, as it stands:
+
+  key add ID ROLE SECRET
+      Adds a key. An id that was ever given, also to a key that is revoked, can't be given again.
+        ID             1 to 64 of A-Z a-z 0-9 - _
+        ROLE           clerk, for the desk and for files, or link, for files alone
+        SECRET         1 to 128 visible ASCII characters without spaces
+      Example: key add tender-2 link 3kQz7mWx0PbT
+
+  key revoke ID
+      Ends a key for good: its links are refused from then on. The last clerk's key can't be revoked.
+      Example: key revoke tender-2
+
+  box add NAME OPENS CLOSES DAYS FROM TO QUOTA FILES MODE RULE
+      Adds a box. All of these are given, in this order, and numbers without leading zeros.
+        NAME           1 to 63 of a-z 0-9 - .
+        OPENS, CLOSES  when uploads begin and when they end, in UTC: 20261201T080000Z
+        DAYS           the days it is open, Monday first, 1 open, 0 shut: 1111100 is Monday to Friday
+        FROM, TO       its hours on such a day by the office's clock, 0000 to 2400, FROM the earlier: 0800 1800
+        QUOTA          the most bytes it holds, 0 to 1000000000000
+        FILES          the most files it holds, 0 to 1000000
+        MODE           keep, where a file stays as it is, or replace, where another of its name takes its place
+        RULE           any for all names; ends .pdf,.zip for those that end so, with 1 to 8 endings of 1 to 32 bytes;
+                       begins offer- for those that begin so, with 1 to 64 bytes. No commas or spaces in them, and
+                       A is not a
+      Example: box add roadworks 20261201T080000Z 20261215T110000Z 1111100 0800 1800 1000000000 500 keep ends .pdf,.zip
+
+  box close NAME MOMENT
+      Sets when uploads to a box end, in UTC: earlier than it was, or later.
+      Example: box close roadworks 20261210T110000Z
+
+  file drop BOX NAME
+      Takes a file out of a box. Its receipt stays. NAME may hold spaces.
+      Example: file drop roadworks plan 2.pdf
+
+For an office file called office:
+  drop desk office 'key revoke tender-2'";
+
+// What stands below the help of `links`: the rows that it reads and those that it writes.
+const LINK_ROWS: &str = "\
+The list is CSV. Its first row is the head, and each row below asks for one link:
+
+  method,box,name,start,expires
+  PUT,roadworks,offer.pdf,20261201T080000Z,604800
+
+  method   PUT to upload, GET or HEAD to fetch
+  box      the box's name. It needn't be there yet
+  name     the file's name: 1 to 1024 bytes without control characters
+  start    the first second at which the link is good, in UTC
+  expires  for how many seconds it is good: 1 to 604800, which is a week
+
+Each row is written again with its link behind it, under a head with the column link more. A row that is malformed ends
+the list and is named by its number, the row below the head being row 1. The rows before it have been written.
+
+For an office file called office:
+  drop links office --key tender-2 --host files.example --region us-east-1 <asked.csv >links.csv";
+
+// What stands below the help of `manifest`: the rows that it writes.
+const RECEIPT_ROWS: &str = "\
+The list is CSV. Its first row is the head, and each row below is one receipt, from receipt 1 on:
+
+  receipt,box,name,length,sha256,moment,key
+
+  receipt  the receipt's number
+  box      the box that the file was put into
+  name     the file's name
+  length   how many bytes the file had
+  sha256   the SHA-256 of its bytes, in hexadecimal digits
+  moment   when it was put, in UTC: 20261203T101500Z
+  key      the id of the key whose link carried it
+
+A receipt stays, though its file was replaced or taken out: drop compare tells which files still stand.
+
+For an office file called office:
+  drop manifest office >manifest.csv";
+
+// What stands below the help of `compare`: the rows that it writes.
+const STATE_ROWS: &str = "\
+The manifest is one that drop manifest wrote. For each of its rows, in their order, a row is written as CSV:
+
+  receipt,box,name,state
+
+  standing  the file of this receipt is in its box, and its bytes have the row's length and SHA-256
+  differs   it is in its box, and its bytes have another length or SHA-256
+  gone      the box has no such file, or one that came with another receipt
+
+The bytes are read and hashed anew. A row that is malformed ends the list and is named by its number, the row below the
+head being row 1. The rows before it have been answered.
+
+For an office file called office:
+  drop compare office <manifest.csv";
+
+/// `drop COMMAND`.
+pub(crate) fn command_line<'a>(alloc: Global) -> Result<Command<'a>, AllocError>
+    ensures { IfOk result (λ c. app_of c ≡ drop_app) }
+{
+    Command::new(alloc, "drop")
+        .about(
+            "A file drop for offices: makes an office, runs its desk, writes links to its files, answers requests that carry them, and lists what came",
+        )
+        .subcommand_required(true)
+        .arg_required_else_help(true)
+        .subcommand(init_command(alloc)?)?
+        .subcommand(desk_command(alloc)?)?
+        .subcommand(link_command(alloc)?)?
+        .subcommand(links_command(alloc)?)?
+        .subcommand(manifest_command(alloc)?)?
+        .subcommand(compare_command(alloc)?)?
+        .subcommand(replay_command(alloc)?)?
+        .subcommand(serve_command(alloc)?)
+}
+
+// `init FILE --clerk ID --secret SECRET --east M --west M`.
+fn init_command<'a>(alloc: Global) -> Result<Command<'a>, AllocError>
+    ensures app { IfOk result (λ c. app_of c ≡ init_app) }
+    ensures local { IfOk result (λ c. (out-Command c).has_globals ≡ false) }
+{
+    Command::new(alloc, "init")
+        .about("Makes an office file, with one clerk's key and no boxes")
+        .arg(word(
+            alloc,
+            "file",
+            "FILE",
+            "The file to make. One that is empty becomes the office",
+        ))?
+        .arg(option(
+            alloc,
+            "clerk",
+            "ID",
+            "The id of the clerk's key: 1 to 64 of A-Z a-z 0-9 - _",
+        ))?
+        .arg(option(
+            alloc,
+            "secret",
+            "SECRET",
+            "The key's secret: 1 to 128 visible ASCII characters without spaces",
+        ))?
+        .arg(minutes(
+            alloc,
+            "east",
+            "How many minutes the office's clock is ahead of UTC: 0 to 840",
+        ))?
+        .arg(minutes(alloc, "west", "How many minutes it is behind UTC: 0 to 840"))
+}
+
+// `desk FILE LINE`.
+fn desk_command<'a>(alloc: Global) -> Result<Command<'a>, AllocError>
+    ensures app { IfOk result (λ c. app_of c ≡ desk_app) }
+    ensures local { IfOk result (λ c. (out-Command c).has_globals ≡ false) }
+{
+    Command::new(alloc, "desk")
+        .about("Gives the desk of an office one command, about a key, a box or a file")
+        .after_help(DESK_FORMS)
+        .arg(word(alloc, "file", "FILE", "The office file"))?
+        .arg(word(
+            alloc,
+            "line",
+            "LINE",
+            "One command of the desk, in quotes, so that it is one word",
+        ))
+}
+
+// `link FILE METHOD TARGET --key ID --host H --region R --start MOMENT --expires N`.
+fn link_command<'a>(alloc: Global) -> Result<Command<'a>, AllocError>
+    ensures app { IfOk result (λ c. app_of c ≡ link_app) }
+    ensures local { IfOk result (λ c. (out-Command c).has_globals ≡ false) }
+{
+    target_command(alloc)?
+        .arg(key_option(alloc))?
+        .arg(host_option(alloc))?
+        .arg(region_option(alloc))?
+        .arg(option(
+            alloc,
+            "start",
+            "MOMENT",
+            "The first second at which the link is good, in UTC: 20130524T000000Z",
+        ))?
+        .arg(expires_option(alloc))
+}
+
+// `link FILE METHOD TARGET`.
+fn target_command<'a>(alloc: Global) -> Result<Command<'a>, AllocError>
+    ensures app { IfOk result (λ c. app_of c ≡ target_app) }
+    ensures local { IfOk result (λ c. (out-Command c).has_globals ≡ false) }
+{
+    Command::new(alloc, "link")
+        .about("Writes a link to a file of an office, or to its desk, signed by one of its keys")
+        .arg(word(alloc, "file", "FILE", "The office file"))?
+        .arg(word(
+            alloc,
+            "method",
+            "METHOD",
+            "PUT to upload, GET or HEAD to fetch, POST for a desk command",
+        ))?
+        .arg(word(
+            alloc,
+            "target",
+            "TARGET",
+            "The box and the file's name: box/name. For POST the desk command",
+        ))
+}
+
+// `links FILE --key ID --host H --region R`.
+fn links_command<'a>(alloc: Global) -> Result<Command<'a>, AllocError>
+    ensures app { IfOk result (λ c. app_of c ≡ links_app) }
+    ensures local { IfOk result (λ c. (out-Command c).has_globals ≡ false) }
+{
+    Command::new(alloc, "links")
+        .about("Reads a list of links that are wanted, and writes it with the links")
+        .after_help(LINK_ROWS)
+        .arg(word(alloc, "file", "FILE", "The office file"))?
+        .arg(key_option(alloc))?
+        .arg(host_option(alloc))?
+        .arg(region_option(alloc))
+}
+
+// `manifest FILE`.
+fn manifest_command<'a>(alloc: Global) -> Result<Command<'a>, AllocError>
+    ensures app { IfOk result (λ c. app_of c ≡ manifest_app) }
+    ensures local { IfOk result (λ c. (out-Command c).has_globals ≡ false) }
+{
+    Command::new(alloc, "manifest")
+        .about("Writes the receipts of an office as a list")
+        .after_help(RECEIPT_ROWS)
+        .arg(word(alloc, "file", "FILE", "The office file"))
+}
+
+// `compare FILE`.
+fn compare_command<'a>(alloc: Global) -> Result<Command<'a>, AllocError>
+    ensures app { IfOk result (λ c. app_of c ≡ compare_app) }
+    ensures local { IfOk result (λ c. (out-Command c).has_globals ≡ false) }
+{
+    Command::new(alloc, "compare")
+        .about("Reads a manifest, and tells of each receipt whether its file still stands")
+        .after_help(STATE_ROWS)
+        .arg(word(alloc, "file", "FILE", "The office file"))
+}
+
+// `replay FILE STREAM.. --at MOMENT`.
+fn replay_command<'a>(alloc: Global) -> Result<Command<'a>, AllocError>
+    ensures app { IfOk result (λ c. app_of c ≡ replay_app) }
+    ensures local { IfOk result (λ c. (out-Command c).has_globals ≡ false) }
+{
+    Command::new(alloc, "replay")
+        .about("Answers recorded connections, one after another, and prints the answers")
+        .arg(word(
+            alloc,
+            "file",
+            "FILE",
+            "The office file. memory:ID/SECRET makes an empty office for this run, with one clerk's key",
+        ))?
+        .arg(streams(alloc))?
+        .arg(option(
+            alloc,
+            "at",
+            "MOMENT",
+            "The time to answer at, in UTC: 20130524T000000Z is 24 May 2013, 00:00:00",
+        ))
+}
+
+// `serve FILE --listen ADDR --connections N --patience SECONDS`.
+fn serve_command<'a>(alloc: Global) -> Result<Command<'a>, AllocError>
+    ensures app { IfOk result (λ c. app_of c ≡ serve_app) }
+    ensures local { IfOk result (λ c. (out-Command c).has_globals ≡ false) }
+{
+    Command::new(alloc, "serve")
+        .about("Serves an office over HTTP, one connection after another, and ends")
+        .arg(word(alloc, "file", "FILE", "The office file"))?
+        .arg(option(
+            alloc,
+            "listen",
+            "ADDR",
+            "The address to listen at: 127.0.0.1:8080, or 0.0.0.0:8080 for all of this machine's",
+        ))?
+        .arg(connections_option(alloc))?
+        .arg(patience_option(alloc))
+}
+
+// A value by its place among the words, by the name that help calls it.
+fn word<'a>(alloc: Global, id: &'a str, name: &'a str, help: &'a str) -> Arg<'a>
+    ensures rule { rule_of result ≡ word_rule id.entry.now }
+    ensures local { result.global ≡ false }
+{
+    Arg::new(alloc, id)
+        .value_name(name)
+        .required(true)
+        .help(help)
+}
+
+// One stream or more.
+fn streams<'a>(alloc: Global) -> Arg<'a>
+    ensures rule { rule_of result ≡ streams_rule }
+    ensures local { result.global ≡ false }
+{
+    word(
+        alloc,
+        "stream",
+        "STREAM",
+        "The files with the bytes that each caller sent",
+    )
+    .num_args(1..)
+}
+
+// `--id VALUE`.
+fn option<'a>(alloc: Global, id: &'a str, name: &'a str, help: &'a str) -> Arg<'a>
+    ensures rule { rule_of result ≡ option_rule id.entry.now }
+    ensures local { result.global ≡ false }
+{
+    Arg::new(alloc, id)
+        .long(id)
+        .value_name(name)
+        .required(true)
+        .help(help)
+}
+
+// `--key ID`.
+fn key_option<'a>(alloc: Global) -> Arg<'a>
+    ensures rule { rule_of result ≡ key_rule }
+    ensures local { result.global ≡ false }
+{
+    option(alloc, "key", "ID", "The id of the key that signs")
+}
+
+// `--host H`.
+fn host_option<'a>(alloc: Global) -> Arg<'a>
+    ensures rule { rule_of result ≡ host_rule }
+    ensures local { result.global ≡ false }
+{
+    option(
+        alloc,
+        "host",
+        "H",
+        "The host that the link is sent to: files.example, or files.example:8080",
+    )
+}
+
+// `--region R`.
+fn region_option<'a>(alloc: Global) -> Arg<'a>
+    ensures rule { rule_of result ≡ region_rule }
+    ensures local { result.global ≡ false }
+{
+    option(
+        alloc,
+        "region",
+        "R",
+        "The region that the link names: us-east-1",
+    )
+}
+
+// `--expires N`.
+fn expires_option<'a>(alloc: Global) -> Arg<'a>
+    ensures rule { rule_of result ≡ expires_rule }
+    ensures local { result.global ≡ false }
+{
+    option(
+        alloc,
+        "expires",
+        "N",
+        "For how many seconds the link is good: 1 to 604800, which is a week",
+    )
+    .value_parser(ValueParser::unsigned(1, 604_800))
+}
+
+// `--connections N`.
+fn connections_option<'a>(alloc: Global) -> Arg<'a>
+    ensures rule { rule_of result ≡ connections_rule }
+    ensures local { result.global ≡ false }
+{
+    option(
+        alloc,
+        "connections",
+        "N",
+        "How many connections are served before the program ends: 1 to 1000000",
+    )
+    .value_parser(ValueParser::unsigned(1, 1_000_000))
+}
+
+// `--patience SECONDS`, 30 where it is left out.
+fn patience_option<'a>(alloc: Global) -> Arg<'a>
+    ensures rule { rule_of result ≡ patience_rule }
+    ensures local { result.global ≡ false }
+{
+    Arg::new(alloc, "patience")
+        .long("patience")
+        .value_name("SECONDS")
+        .value_parser(ValueParser::unsigned(0, 3600))
+        .default_value("30")
+        .help("How long one read or write of a connection may wait, 0 to 3600; 0 is without end")
+}
+
+// `--id M`, a whole number of minutes, 0 where it is left out.
+fn minutes<'a>(alloc: Global, id: &'a str, help: &'a str) -> Arg<'a>
+    ensures rule { rule_of result ≡ minutes_rule id.entry.now }
+    ensures local { result.global ≡ false }
+{
+    Arg::new(alloc, id)
+        .long(id)
+        .value_name("M")
+        .value_parser(ValueParser::unsigned(0, 840))
+        .default_value("0")
+        .help(help)
+}
