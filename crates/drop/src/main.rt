@@ -6,6 +6,9 @@ use std::io::ErrorKind;
 use std::process::ExitCode;
 use std::{env, io};
 
+#[cfg(test)]
+mod tests;
+
 fn perform_words(rt: &HostRuntime) -> io::Result<u8> {
     let words: Vec<String> = env::args(rt)?.collect(rt.alloc())?;
     let words: Vec<&str> = words.iter().map(|word| word.as_str()).collect(rt.alloc())?;

@@ -1,7 +1,7 @@
 //! What keeps the program from its task, and the line that tells it.
-use office::DeskFault;
 use desk::ListFault;
 use keeper::KeepFault;
+use office::DeskFault;
 use sqlkeeper::OpenFault;
 use std::alloc::AllocError;
 use thiserror::Error;

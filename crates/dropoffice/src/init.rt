@@ -3,7 +3,6 @@ ghost use Rattle.std.specs.Prelude.{pos, ◌≤ℤ◌, IfSome};
 
 use crate::faults::Fault;
 use crate::opening::{connect, disconnect};
-use tasks::Init;
 use boxes::OfficeRow;
 use sigv4::{is_key_id, is_secret};
 use sqlite::{Alter, Connection};
@@ -13,6 +12,7 @@ use std::fs;
 use std::fs::{Files, OpenFile, OpenOptions, Permissions};
 use std::io::ErrorKind;
 use std::os::unix::fs::{OpenOptionsExt, PermissionsExt};
+use tasks::Init;
 
 /// Readable and writable by its owner alone.
 const OWNERS: u32 = 0o600;

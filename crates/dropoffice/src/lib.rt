@@ -7,16 +7,14 @@ mod init;
 mod linking;
 mod listening;
 mod listing;
-mod machine_clock;
 mod opening;
 mod program;
 mod replaying;
 
-pub use machine_clock::MachineClock;
 pub use office::{
-    Answer, Clock, Counted, DeskFault, FixedClock, ListedClock, Message, Office, Replayed,
-    SessionEnd, law_of_acts, law_of_alike, law_of_replies, replay_bytes, replay_in_memory,
-    replay_over, serve,
+    Answer, Clock, Counted, DeskFault, FixedClock, ListedClock, MachineClock, Message, Office,
+    Replayed, SessionEnd, law_of_acts, law_of_alike, law_of_replies, replay_bytes,
+    replay_in_memory, replay_over, serve,
 };
 pub use program::perform;
 pub use tasks::{Desk, Init, Link, Links, OfficeFile, Replay, Serve, Task};

@@ -1,16 +1,16 @@
 //! `drop link`: a link is written, signed by a key of the office.
-use office::DESK;
 use crate::faults::Fault;
-use crate::opening::{connect, keeper_over, require_file};
-use tasks::Link;
+use crate::opening::{Log, OfficeWork, work_over};
 use boxes::{Command, has_form};
 use desk::read_command;
 use keeper::Keeper;
 use links::{LinkFault, LinkKey, LinkOrder, Method, OrderParam, is_host, read_moment, write_link};
+use office::{DESK, Office};
 use sigtext::cut;
 use sigv4::{Moment, is_region};
 use std::alloc::Global;
 use std::io::Write;
+use tasks::Link;
 
 /// Writes `http://`, the host and a link to `out`, on one line.
 pub(crate) fn do_link(
@@ -19,13 +19,25 @@ pub(crate) fn do_link(
     out: &mut impl Write,
 ) -> Result<(), Fault<'static>> {
     let order = read_order(rt.alloc(), words)?;
-    require_file(rt, words.file)?;
-    let mut keeper = keeper_over(rt.alloc(), connect(rt, words.file)?)?;
-    let line = line_of(rt.alloc(), &mut keeper, &order, words)?;
-    let Ok(()) = out.write_all(&line) else {
-        return Err(Fault::CannotWrite);
-    };
-    out.flush().map_err(|_| Fault::CannotWrite)
+    work_over(rt, words.file, Log::Stays, LinkWork { order, words, out })
+}
+
+// A link that is written, and where to.
+#[derive(Drop)]
+struct LinkWork<'w, W: Drop> {
+    order: Order,
+    words: &'w Link<'w>,
+    out: W,
+}
+
+impl<'a, W: Write + Drop> OfficeWork<'a> for LinkWork<'_, W> {
+    fn run<K: Keeper>(mut self, rt: &HostRuntime, office: &mut Office<K>) -> Result<(), Fault<'a>> {
+        let line = line_of(rt.alloc(), &mut office.keeper, &self.order, self.words)?;
+        let Ok(()) = self.out.write_all(&line) else {
+            return Err(Fault::CannotWrite);
+        };
+        self.out.flush().map_err(|_| Fault::CannotWrite)
+    }
 }
 
 // What a link is to say, beside its path.

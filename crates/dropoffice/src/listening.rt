@@ -1,14 +1,12 @@
 //! `drop serve`: an office is served at an address.
 use crate::faults::Fault;
-use crate::machine_clock::MachineClock;
-use office::Office;
-use crate::opening::{connect, disconnect, keeper_over, require_file};
-use office::serve;
-use tasks::Serve;
+use crate::opening::{Log, OfficeWork, work_over};
 use keeper::Keeper;
+use office::{MachineClock, Office, serve};
 use std::io::Write;
 use std::net::{SocketAddr, SocketAddrV4, TcpListener};
 use std::time::Duration;
+use tasks::Serve;
 
 // What the words of a service ask for.
 #[derive(Clone, Copy, Debug)]
@@ -19,20 +17,28 @@ struct Service<'a> {
     patience: Option<Duration>,
 }
 
-/// Serves the office in a file that is there. Its log goes into the file at the end, however the connections ended.
-pub(crate) fn do_serve(
+// A service, and where it is told that it listens.
+#[derive(Drop)]
+struct ServeWork<'w, W: Drop> {
+    service: Service<'w>,
+    out: W,
+}
+
+impl<'a, W: Write + Drop> OfficeWork<'a> for ServeWork<'_, W> {
+    fn run<K: Keeper>(self, rt: &HostRuntime, office: &mut Office<K>) -> Result<(), Fault<'a>> {
+        let ServeWork { service, mut out } = self;
+        serve_at(rt, office, &service, &mut out)
+    }
+}
+
+/// Serves the office in a file that is there.
+pub(crate) fn do_serve<'a>(
     rt: &HostRuntime,
     words: &Serve<'_>,
     out: &mut impl Write,
-) -> Result<(), Fault<'static>> {
+) -> Result<(), Fault<'a>> {
     let service = read_service(words)?;
-    require_file(rt, words.file)?;
-    let keeper = keeper_over(rt.alloc(), connect(rt, words.file)?)?;
-    let mut office = Office::new(rt.alloc(), keeper);
-    let served = serve_at(rt, &mut office, &service, out);
-    let closed = disconnect(office.keeper.close());
-    served?;
-    closed
+    work_over(rt, words.file, Log::IntoTheFile, ServeWork { service, out })
 }
 
 // The service of the words, where each value of theirs has its form.
@@ -66,12 +72,12 @@ fn read_address(text: &str) -> Option<SocketAddrV4> {
 }
 
 // Listens at the address, says so on `out`, and serves the connections that come.
-fn serve_at<K: Keeper>(
+fn serve_at<'a, K: Keeper>(
     rt: &HostRuntime,
     office: &mut Office<K>,
     service: &Service<'_>,
     out: &mut impl Write,
-) -> Result<(), Fault<'static>> {
+) -> Result<(), Fault<'a>> {
     let Ok(listener) = TcpListener::bind(rt, SocketAddr::V4(service.address)) else {
         return Err(Fault::CannotListen);
     };

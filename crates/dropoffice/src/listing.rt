@@ -1,70 +1,105 @@
 //! `drop links`, `drop manifest` and `drop compare`: lists in CSV.
 use crate::faults::Fault;
 use crate::linking::check_place;
-use crate::opening::{connect, keeper_over, require_file};
-use tasks::{Links, OfficeFile};
+use crate::opening::{Log, OfficeWork, work_over};
 use desk::{ListFault, compare, links_from, manifest};
 use keeper::Keeper;
 use links::LinkKey;
+use office::Office;
 use std::alloc::Global;
 use std::io::{BufWriter, Read, Write};
+use tasks::{Links, OfficeFile};
 use wire::Counted;
 
+// A list of links: what is wanted of it, and the streams.
+#[derive(Drop)]
+struct LinksWork<'w, R: Drop, W: Drop> {
+    words: &'w Links<'w>,
+    input: R,
+    out: W,
+}
+
+impl<'a, R: Read + Drop, W: Write + Drop> OfficeWork<'a> for LinksWork<'_, R, W> {
+    fn run<K: Keeper>(mut self, rt: &HostRuntime, office: &mut Office<K>) -> Result<(), Fault<'a>> {
+        let words = self.words;
+        let Some(row) = office.keeper.key(words.key.as_bytes())? else {
+            return Err(Fault::UnknownKey);
+        };
+        let key = LinkKey {
+            id: words.key.as_bytes(),
+            secret: row.secret.as_slice(),
+        };
+        let (host, region) = (words.host.as_bytes(), words.region.as_bytes());
+        let mut writer = buffered(rt.alloc(), self.out)?;
+        let written = links_from(rt.alloc(), &mut self.input, &mut writer, &key, host, region);
+        told(written, &mut writer)
+    }
+}
+
 /// Reads a list of links that are wanted, and writes it with the links, signed by the key that the words name.
-pub(crate) fn do_links(
+pub(crate) fn do_links<'a>(
     rt: &HostRuntime,
     words: &Links<'_>,
-    mut input: impl Read + Drop,
+    input: impl Read + Drop,
     out: impl Write + Drop,
-) -> Result<(), Fault<'static>> {
-    let (host, region) = (words.host.as_bytes(), words.region.as_bytes());
-    check_place(host, region)?;
-    require_file(rt, words.file)?;
-    let mut keeper = keeper_over(rt.alloc(), connect(rt, words.file)?)?;
-    let Some(row) = keeper.key(words.key.as_bytes())? else {
-        return Err(Fault::UnknownKey);
-    };
-    let key = LinkKey {
-        id: words.key.as_bytes(),
-        secret: row.secret.as_slice(),
-    };
-    let mut writer = buffered(rt.alloc(), out)?;
-    let written = links_from(rt.alloc(), &mut input, &mut writer, &key, host, region);
-    told(written, &mut writer)
+) -> Result<(), Fault<'a>> {
+    check_place(words.host.as_bytes(), words.region.as_bytes())?;
+    work_over(rt, words.file, Log::Stays, LinksWork { words, input, out })
+}
+
+// A manifest, and where it is written to.
+#[derive(Drop)]
+struct ManifestWork<W: Drop> {
+    out: W,
+}
+
+impl<'a, W: Write + Drop> OfficeWork<'a> for ManifestWork<W> {
+    fn run<K: Keeper>(self, rt: &HostRuntime, office: &mut Office<K>) -> Result<(), Fault<'a>> {
+        let mut writer = buffered(rt.alloc(), self.out)?;
+        let written = manifest(rt.alloc(), &mut office.keeper, &mut writer);
+        told(written, &mut writer)
+    }
 }
 
 /// Writes the receipts of the office.
-pub(crate) fn do_manifest(
+pub(crate) fn do_manifest<'a>(
     rt: &HostRuntime,
     words: &OfficeFile<'_>,
     out: impl Write + Drop,
-) -> Result<(), Fault<'static>> {
-    require_file(rt, words.file)?;
-    let mut keeper = keeper_over(rt.alloc(), connect(rt, words.file)?)?;
-    let mut writer = buffered(rt.alloc(), out)?;
-    let written = manifest(rt.alloc(), &mut keeper, &mut writer);
-    told(written, &mut writer)
+) -> Result<(), Fault<'a>> {
+    work_over(rt, words.file, Log::Stays, ManifestWork { out })
+}
+
+// A manifest that is compared, and where what stands is written to.
+#[derive(Drop)]
+struct CompareWork<R: Drop, W: Drop> {
+    input: R,
+    out: W,
+}
+
+impl<'a, R: Read + Drop, W: Write + Drop> OfficeWork<'a> for CompareWork<R, W> {
+    fn run<K: Keeper>(mut self, rt: &HostRuntime, office: &mut Office<K>) -> Result<(), Fault<'a>> {
+        let mut writer = buffered(rt.alloc(), self.out)?;
+        let compared = compare(rt.alloc(), &mut self.input, &mut office.keeper, &mut writer);
+        told(compared, &mut writer)
+    }
 }
 
 /// Reads a manifest, and writes what stands of it in the office.
-pub(crate) fn do_compare(
+pub(crate) fn do_compare<'a>(
     rt: &HostRuntime,
     words: &OfficeFile<'_>,
-    mut input: impl Read + Drop,
+    input: impl Read + Drop,
     out: impl Write + Drop,
-) -> Result<(), Fault<'static>> {
-    require_file(rt, words.file)?;
-    let mut keeper = keeper_over(rt.alloc(), connect(rt, words.file)?)?;
-    let mut writer = buffered(rt.alloc(), out)?;
-    let compared = compare(rt.alloc(), &mut input, &mut keeper, &mut writer);
-    told(compared, &mut writer)
+) -> Result<(), Fault<'a>> {
+    work_over(rt, words.file, Log::Stays, CompareWork { input, out })
 }
 
 // A writer that hands on several rows at a time.
-fn buffered<W: Write + Drop>(
+fn buffered<'a, W: Write + Drop>(
     alloc: Global,
     out: W,
-) -> Result<Counted<BufWriter<W>>, Fault<'static>> {
+) -> Result<Counted<BufWriter<W>>, Fault<'a>> {
     match BufWriter::new(alloc, out) {
         Ok(writer) => Ok(Counted::new(writer)),
         Err(_) => Err(Fault::OutOfMemory),
@@ -72,10 +107,10 @@ fn buffered<W: Write + Drop>(
 }
 
 // How a list ended. What was held back of it is written, also of one that broke off.
-fn told<W: Write>(
+fn told<'a, W: Write>(
     listed: Result<(), ListFault>,
     writer: &mut Counted<W>,
-) -> Result<(), Fault<'static>> {
+) -> Result<(), Fault<'a>> {
     let flushed = writer.flush();
     listed?;
     flushed.map_err(|_| Fault::CannotWrite)

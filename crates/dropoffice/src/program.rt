@@ -6,10 +6,10 @@ use crate::linking::do_link;
 use crate::listening::do_serve;
 use crate::listing::{do_compare, do_links, do_manifest};
 use crate::replaying::do_replay;
-use tasks::Task;
 use clap::Error as WordsError;
 use clap::error::ErrorKind;
 use std::io::{Read, Write};
+use tasks::Task;
 
 /// The exit status of a task that was done, though its requests were refused.
 const DONE: u8 = 0;

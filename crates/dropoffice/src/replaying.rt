@@ -3,14 +3,14 @@ ghost use Rattle.std.specs.Prelude.{IfSome};
 ghost use Rattle.sigv4.specs.Credential.{IsKeyId, IsSecret};
 
 use crate::faults::Fault;
-use office::Office;
-use crate::opening::{connect, disconnect, keeper_over, require_file};
-use office::{replay_in_memory, replay_over};
-use tasks::Replay;
+use crate::opening::{Log, OfficeWork, work_over};
+use keeper::Keeper;
 use links::read_moment;
+use office::{Office, replay_in_memory, replay_over};
 use sigv4::{Moment, is_key_id, is_secret};
 use std::fs::Files;
 use std::io::Write;
+use tasks::Replay;
 use wire::Counted;
 
 /// Answers the streams over the office that the words name: one in memory, or one in a file.
@@ -23,7 +23,13 @@ pub(crate) fn do_replay<'a>(
         return replay_memory(rt, words, out);
     }
     let moment = read_moment(words.at.as_bytes()).ok_or(Fault::MalformedValue("at"))?;
-    replay_file(rt, words, moment, out)
+    let streams = words.streams.as_slice();
+    let work = ReplayWork {
+        streams,
+        moment,
+        out,
+    };
+    work_over(rt, words.file, Log::IntoTheFile, work)
 }
 
 // Over a new office in memory.
@@ -42,23 +48,20 @@ fn replay_memory<'a, R: Files + AllocGlobal>(
     told(served, writer.flush().is_ok())
 }
 
-// Over the office in a file that is there. Its log goes into the file at the end, however the streams ended.
-fn replay_file<'a>(
-    rt: &HostRuntime,
-    words: &Replay<'a>,
+// Streams that are answered over the office in a file, and where to.
+#[derive(Drop)]
+struct ReplayWork<'w, 'a, W: Drop> {
+    streams: &'w [&'a str],
     moment: Moment,
-    out: impl Write + Drop,
-) -> Result<(), Fault<'a>> {
-    require_file(rt, words.file)?;
-    let keeper = keeper_over(rt.alloc(), connect(rt, words.file)?)?;
-    let mut office = Office::new(rt.alloc(), keeper);
-    let mut writer = Counted::new(out);
-    let streams = words.streams.as_slice();
-    let served = replay_over(rt, &mut office, streams, moment, &mut writer);
-    let went_out = writer.flush().is_ok();
-    let closed = disconnect(office.keeper.close());
-    told(served, went_out)?;
-    closed
+    out: W,
+}
+
+impl<'a, W: Write + Drop> OfficeWork<'a> for ReplayWork<'_, 'a, W> {
+    fn run<K: Keeper>(self, rt: &HostRuntime, office: &mut Office<K>) -> Result<(), Fault<'a>> {
+        let mut writer = Counted::new(self.out);
+        let served = replay_over(rt, office, self.streams, self.moment, &mut writer);
+        told(served, writer.flush().is_ok())
+    }
 }
 
 // The clerk's key of an office in memory, `memory:ID/SECRET`.

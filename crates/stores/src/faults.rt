@@ -1,11 +1,12 @@
 //! Office files that are damaged by SQL, and mended.
 use crate::days::a_day;
-use crate::files::begun;
+use crate::files::{OfficeTrial, try_in_memory};
 use crate::opening::open;
 use boxes::OfficeRow;
-use dropoffice::Office;
 use keeper::Keeper;
-use sqlite::{Alter, Connection};
+use office::Office;
+use sqlite::{Alter, Connection, FileStore};
+use sqlite_disk::Disk;
 use sqlkeeper::{OpenFault, SqlKeeper};
 use std::alloc::Global;
 use std::test::Fail;
@@ -139,17 +140,42 @@ fn made_twice<S: Alter + Drop>(alloc: Global, conn: Connection<S>) -> Result<(),
     }
 }
 
+// What is tried of an office whose file is broken, or made again.
+#[derive(Drop)]
+enum Breaking {
+    EachDamage,
+    NoTable,
+    MadeTwice,
+}
+
+impl OfficeTrial for Breaking {
+    fn run<D: Disk + Drop>(self, office: Office<SqlKeeper<FileStore<D>>>) -> Result<bool, Fail> {
+        match self {
+            Breaking::EachDamage => each_damage(office)?,
+            Breaking::NoTable => misses_a_table(office)?,
+            Breaking::MadeTwice => {
+                let Office { keeper, alloc } = office;
+                made_twice(alloc, keeper.close())?;
+            }
+        }
+        Ok(true)
+    }
+}
+
 #[test]
 fn damage_is_found_and_what_is_mended_opens(rt: HostRuntime) -> Result<(), Fail> {
-    each_damage(begun(rt.alloc(), 0)?)
+    try_in_memory(rt.alloc(), 0, Breaking::EachDamage)?;
+    Ok(())
 }
 
 #[test]
 fn a_table_is_missed(rt: HostRuntime) -> Result<(), Fail> {
-    misses_a_table(begun(rt.alloc(), 0)?)
+    try_in_memory(rt.alloc(), 0, Breaking::NoTable)?;
+    Ok(())
 }
 
 #[test]
 fn an_office_is_not_made_twice(rt: HostRuntime) -> Result<(), Fail> {
-    made_twice(rt.alloc(), begun(rt.alloc(), 0)?.keeper.close())
+    try_in_memory(rt.alloc(), 0, Breaking::MadeTwice)?;
+    Ok(())
 }

@@ -2,17 +2,24 @@
 use crate::days::{THAT_DAY, a_day};
 use crate::opening::stays;
 use boxes::OfficeRow;
-use dropoffice::Office;
 use keeper::Shelf;
-use sqlite::{Connection, FileStore, Files, Options};
+use office::Office;
+use sqlite::{Alter, Connection, FileStore, Files, Options};
 use sqlite_disk::{Disk, Memory};
 use sqlkeeper::SqlKeeper;
 use std::alloc::Global;
 use std::test::Fail;
 use trials::errands::{ERRANDS, Errand};
 use trials::published::{ID, SECRET};
-use trials::rows::ROWS;
+use trials::rows::{ROWS, Row, holds};
 use trials::watched::Watched;
+
+/// What is tried of a new office file. `try_in_memory` alone names the disks that it lies on: a check of each function that
+/// names a store is twenty times as dear as one over any.
+pub(crate) trait OfficeTrial {
+    /// Tries it, and tells whether it came to its end.
+    fn run<D: Disk + Drop>(self, office: Office<SqlKeeper<FileStore<D>>>) -> Result<bool, Fail>;
+}
 
 /// A connection to files, which are of a database or empty.
 pub(crate) fn connect<D: Disk + Drop>(
@@ -28,19 +35,86 @@ pub(crate) fn connect<D: Disk + Drop>(
     }
 }
 
-/// A new office file, whose clock is so many minutes east of UTC, with the clerk's key alone.
-pub(crate) fn begun(
+// A new office, whose clock is so many minutes east of UTC, with the clerk's key alone.
+fn begun<S: Alter + Drop>(
+    alloc: Global,
+    conn: Connection<S>,
+    east: i16,
+) -> Result<Office<SqlKeeper<S>>, Fail> {
+    match SqlKeeper::create(alloc, conn, OfficeRow { east }, ID, SECRET) {
+        Ok(keeper) => Ok(Office::new(alloc, keeper)),
+        Err((fault, _)) => Err(fault.into()),
+    }
+}
+
+// Tries it of an office in such files.
+fn try_in<D: Disk + Drop, T: OfficeTrial + Drop>(
+    alloc: Global,
+    files: Files<D>,
+    east: i16,
+    trial: T,
+) -> Result<bool, Fail> {
+    let conn = connect(alloc, files)?;
+    trial.run(begun(alloc, conn, east)?)
+}
+
+/// Tries it of a new office file, whose clock is so many minutes east of UTC.
+pub(crate) fn try_in_memory<T: OfficeTrial + Drop>(
     alloc: Global,
     east: i16,
-) -> Result<Office<SqlKeeper<FileStore<Memory>>>, Fail> {
+    trial: T,
+) -> Result<bool, Fail> {
     let files = Files {
         log: Memory::new(alloc),
         db: Memory::new(alloc),
     };
-    let conn = connect(alloc, files)?;
-    match SqlKeeper::create(alloc, conn, OfficeRow { east }, ID, SECRET) {
-        Ok(keeper) => Ok(Office::new(alloc, keeper)),
-        Err((fault, _)) => Err(fault.into()),
+    try_in(alloc, files, east, trial)
+}
+
+// A day in an office.
+#[derive(Drop)]
+struct DayTrial;
+
+impl OfficeTrial for DayTrial {
+    fn run<D: Disk + Drop>(
+        self,
+        mut office: Office<SqlKeeper<FileStore<D>>>,
+    ) -> Result<bool, Fail> {
+        holds(a_day(&mut office.keeper)? == THAT_DAY, "another day")?;
+        stays(office.alloc, office)?;
+        Ok(true)
+    }
+}
+
+// A row of requests.
+#[derive(Drop)]
+struct RowTrial {
+    row: Row,
+}
+
+impl OfficeTrial for RowTrial {
+    fn run<D: Disk + Drop>(self, office: Office<SqlKeeper<FileStore<D>>>) -> Result<bool, Fail> {
+        let Office { keeper, alloc } = office;
+        let mut office = Office::new(alloc, Watched::new(keeper));
+        self.row.run(&mut office)?;
+        holds(office.keeper.calls > 0, "no call")?;
+        holds(office.keeper.faults == 0, "a call failed")?;
+        stays(alloc, Office::new(alloc, office.keeper.inner))?;
+        Ok(true)
+    }
+}
+
+// A request, of whose calls one is refused. It came to its end where it makes fewer.
+#[derive(Drop)]
+struct CallTrial {
+    errand: Errand,
+    call: u64,
+}
+
+impl OfficeTrial for CallTrial {
+    fn run<D: Disk + Drop>(self, office: Office<SqlKeeper<FileStore<D>>>) -> Result<bool, Fail> {
+        let Office { keeper, alloc } = office;
+        Ok(!self.errand.is_refused_at(alloc, keeper, self.call)?)
     }
 }
 
@@ -53,20 +127,14 @@ fn a_day_in_memory(rt: HostRuntime) -> Result<(), Fail> {
 
 #[test]
 fn a_day_in_a_file(rt: HostRuntime) -> Result<(), Fail> {
-    let mut office = begun(rt.alloc(), 0)?;
-    assert_eq!(rt; a_day(&mut office.keeper)?, THAT_DAY);
-    stays(rt.alloc(), office)
+    try_in_memory(rt.alloc(), 0, DayTrial)?;
+    Ok(())
 }
 
 #[test]
 fn rows_are_answered_from_a_file(rt: HostRuntime) -> Result<(), Fail> {
     for row in ROWS {
-        let Office { keeper, alloc } = begun(rt.alloc(), row.east())?;
-        let mut office = Office::new(alloc, Watched::new(keeper));
-        row.run(&mut office)?;
-        assert!(rt; office.keeper.calls > 0);
-        assert_eq!(rt; office.keeper.faults, 0);
-        stays(alloc, Office::new(alloc, office.keeper.inner))?;
+        try_in_memory(rt.alloc(), row.east(), RowTrial { row })?;
     }
     Ok(())
 }
@@ -74,8 +142,7 @@ fn rows_are_answered_from_a_file(rt: HostRuntime) -> Result<(), Fail> {
 // How many calls an errand makes; each is refused in turn.
 fn calls_of(alloc: Global, errand: Errand) -> Result<u64, Fail> {
     for call in 1..20u64 {
-        let office = begun(alloc, 0)?;
-        if !errand.is_refused_at(alloc, office.keeper, call)? {
+        if try_in_memory(alloc, 0, CallTrial { errand, call })? {
             return Ok(call - 1);
         }
     }

@@ -1,6 +1,6 @@
 //! Office files that are closed and opened again.
 use crate::files::connect;
-use dropoffice::Office;
+use office::Office;
 use sqlite::{Alter, Connection, FileStore};
 use sqlite_disk::Disk;
 use sqlkeeper::SqlKeeper;

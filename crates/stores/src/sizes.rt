@@ -1,8 +1,8 @@
 //! Files of many sizes, and their pieces. The digests are by `sha256sum`.
-use crate::files::begun;
+use crate::files::{OfficeTrial, try_in_memory};
 use crate::opening::{open, stays};
-use dropoffice::Office;
 use keeper::Keeper;
+use office::Office;
 use sqlite::{Alter, Connection, FileStore, params};
 use sqlite_disk::Disk;
 use sqlkeeper::SqlKeeper;
@@ -111,12 +111,31 @@ fn replaces<S: Alter + Drop>(mut office: Office<SqlKeeper<S>>) -> Result<(), Fai
     has_totals(&mut office.keeper.close(), 3, 1)
 }
 
+// What is tried of the sizes of files.
+#[derive(Drop)]
+enum Sizing {
+    Cuts,
+    Replaces,
+}
+
+impl OfficeTrial for Sizing {
+    fn run<D: Disk + Drop>(self, office: Office<SqlKeeper<FileStore<D>>>) -> Result<bool, Fail> {
+        match self {
+            Sizing::Cuts => cuts(office)?,
+            Sizing::Replaces => replaces(office)?,
+        }
+        Ok(true)
+    }
+}
+
 #[test]
 fn files_are_cut_into_pieces(rt: HostRuntime) -> Result<(), Fail> {
-    cuts(begun(rt.alloc(), 0)?)
+    try_in_memory(rt.alloc(), 0, Sizing::Cuts)?;
+    Ok(())
 }
 
 #[test]
 fn what_is_replaced_is_not_counted(rt: HostRuntime) -> Result<(), Fail> {
-    replaces(begun(rt.alloc(), 0)?)
+    try_in_memory(rt.alloc(), 0, Sizing::Replaces)?;
+    Ok(())
 }

@@ -1,7 +1,7 @@
 //! What is done to an office file: it is made, changed, or asked by a connection.
 use boxes::{Change, Command, OfficeRow, Role};
-use dropoffice::Office;
 use keeper::{KeepFault, Keeper};
+use office::Office;
 use sqlite::{Alter, Connection};
 use sqlkeeper::{OpenFault, SqlKeeper};
 use std::alloc::Global;

@@ -2,8 +2,8 @@
 use crate::files::connect;
 use crate::steps::{COMMANDS, SESSIONS, Step, earlier_of, is_making, make, run_each, run_over};
 use boxes::OfficeRow;
-use dropoffice::Office;
 use keeper::Shelf;
+use office::Office;
 use sqlite::{Alter, Connection, FileStore, Files, Options};
 use sqlite_disk::{Crash, Disk, Fuse, Memory};
 use sqlkeeper::{OpenFault, SqlKeeper};
@@ -58,6 +58,12 @@ struct Stop {
     calls: u64,
 }
 
+// Both disks take all calls.
+const NO_STOP: Stop = Stop {
+    side: Side::Log,
+    calls: u64::MAX,
+};
+
 impl Stop {
     // How many calls a disk takes.
     fn calls_of(self, side: Side) -> u64 {
@@ -77,19 +83,11 @@ fn disk_of(alloc: Global, bytes: &[u8], calls: u64) -> Result<Fuse<Memory>, Fail
     Ok(Fuse::new(disk, calls))
 }
 
-// Disks of these bytes that take all calls.
-fn disks_of(alloc: Global, log: &[u8], db: &[u8]) -> Result<Files<Fuse<Memory>>, Fail> {
-    Ok(Files {
-        log: disk_of(alloc, log, u64::MAX)?,
-        db: disk_of(alloc, db, u64::MAX)?,
-    })
-}
-
 // Disks of these bytes, of which one stops.
-fn stopping(alloc: Global, image: &Image, stop: Stop) -> Result<Files<Fuse<Memory>>, Fail> {
+fn disks_of(alloc: Global, log: &[u8], db: &[u8], stop: Stop) -> Result<Files<Fuse<Memory>>, Fail> {
     Ok(Files {
-        log: disk_of(alloc, &image.log, stop.calls_of(Side::Log))?,
-        db: disk_of(alloc, &image.db, stop.calls_of(Side::Database))?,
+        log: disk_of(alloc, log, stop.calls_of(Side::Log))?,
+        db: disk_of(alloc, db, stop.calls_of(Side::Database))?,
     })
 }
 
@@ -101,10 +99,20 @@ fn image_of(alloc: Global, disks: &Files<Fuse<Memory>>) -> Result<Image, AllocEr
     })
 }
 
-// How many steps were acknowledged, and the disks after them.
+// What is done with two files.
+#[derive(Clone, Copy)]
+enum Job<'a> {
+    // These steps, after which they are closed.
+    Steps(&'a [Step]),
+    // They are opened, and what the office tells is found.
+    Look,
+}
+
+// What came of a job: how many steps were acknowledged, or what was told; and the disks after it.
 #[derive(Drop)]
-struct Run<D: Disk + Drop> {
-    done: usize,
+struct Done<D: Disk + Drop> {
+    steps: usize,
+    told: Told,
     disks: Files<D>,
 }
 
@@ -117,57 +125,119 @@ fn closed<D: Disk + Drop>(conn: Connection<FileStore<D>>) -> Files<D> {
 }
 
 // Opens the files, does the steps, and closes them.
-fn run_on<D: Disk + Drop>(alloc: Global, disks: Files<D>, steps: &[Step]) -> Result<Run<D>, Fail> {
+fn run_on<D: Disk + Drop>(alloc: Global, disks: Files<D>, steps: &[Step]) -> Result<Done<D>, Fail> {
     if !disks.may_be_used() {
         return Err("no disk".into());
     }
-    match Connection::open_files(alloc, disks, Options::new(7)) {
+    let (steps, disks) = match Connection::open_files(alloc, disks, Options::new(7)) {
         Ok(conn) => {
             let (done, conn) = run_over(alloc, conn, steps)?;
-            let disks = closed(conn);
-            Ok(Run { done, disks })
+            (done, closed(conn))
         }
-        Err((_, rest)) => Ok(Run {
-            done: 0,
-            disks: rest.into_files(),
-        }),
+        Err((_, rest)) => (0, rest.into_files()),
+    };
+    Ok(Done {
+        steps,
+        told: None,
+        disks,
+    })
+}
+
+// Does the job with the files.
+fn do_job<D: Disk + Drop>(alloc: Global, disks: Files<D>, job: Job<'_>) -> Result<Done<D>, Fail> {
+    match job {
+        Job::Steps(steps) => run_on(alloc, disks, steps),
+        Job::Look => look_at(alloc, disks),
     }
+}
+
+// Opens the files, and finds what their office tells.
+fn look_at<D: Disk + Drop>(alloc: Global, disks: Files<D>) -> Result<Done<D>, Fail> {
+    let (told, conn) = found(alloc, connect(alloc, disks)?)?;
+    Ok(Done {
+        steps: 0,
+        told,
+        disks: closed(conn),
+    })
+}
+
+// What a job leaves: how many steps were acknowledged, or what was told; whether a disk stopped; and the files, as they were
+// written, and without what was not synced.
+#[derive(Drop)]
+struct Outcome {
+    steps: usize,
+    told: Told,
+    stopped: bool,
+    written: Image,
+    synced: Image,
+}
+
+// Does the job with files of these bytes, of which one stops. This function alone names the disks of a database.
+fn outcome(
+    alloc: Global,
+    log: &[u8],
+    db: &[u8],
+    stop: Stop,
+    job: Job<'_>,
+) -> Result<Outcome, Fail> {
+    let Done {
+        steps,
+        told,
+        mut disks,
+    } = do_job(alloc, disks_of(alloc, log, db, stop)?, job)?;
+    let stopped = has_stopped(&mut disks.log) || has_stopped(&mut disks.db);
+    let written = image_of(alloc, &disks)?;
+    disks.log.crash();
+    disks.db.crash();
+    let synced = image_of(alloc, &disks)?;
+    Ok(Outcome {
+        steps,
+        told,
+        stopped,
+        written,
+        synced,
+    })
 }
 
 // The files that these steps begin with.
 fn image_for(alloc: Global, steps: &[Step]) -> Result<Image, Fail> {
-    let mut disks = disks_of(alloc, b"", b"")?;
-    if !is_making(steps) {
-        disks = run_on(alloc, disks, &[Step::Create])?.disks;
-        disks = run_on(alloc, disks, earlier_of(steps))?.disks;
+    if is_making(steps) {
+        return Ok(Image {
+            log: Vec::new(alloc),
+            db: Vec::new(alloc),
+        });
     }
-    Ok(image_of(alloc, &disks)?)
+    let made = outcome(alloc, b"", b"", NO_STOP, Job::Steps(&[Step::Create]))?.written;
+    let job = Job::Steps(earlier_of(steps));
+    Ok(outcome(alloc, &made.log, &made.db, NO_STOP, job)?.written)
 }
 
 // There is no part of an office: one can be made.
-fn is_bare<S: Alter + Drop>(alloc: Global, conn: Connection<S>) -> Result<(), Fail> {
-    let (made, _) = make(alloc, conn);
-    holds(made, "a part of an office")
+fn is_bare<S: Alter + Drop>(alloc: Global, conn: Connection<S>) -> Result<Connection<S>, Fail> {
+    let (made, conn) = make(alloc, conn);
+    holds(made, "a part of an office")?;
+    Ok(conn)
 }
 
 // What the office of a connection tells; nothing where nothing is there.
-fn found<S: Alter + Drop>(alloc: Global, conn: Connection<S>) -> Result<Told, Fail> {
+fn found<S: Alter + Drop>(
+    alloc: Global,
+    conn: Connection<S>,
+) -> Result<(Told, Connection<S>), Fail> {
     match SqlKeeper::open(alloc, conn) {
         Ok(keeper) => {
             let mut keeper = keeper;
-            Ok(Some(told(alloc, &mut keeper)?))
+            let found = told(alloc, &mut keeper)?;
+            Ok((Some(found), keeper.close()))
         }
-        Err((OpenFault::Shape, conn)) => {
-            is_bare(alloc, conn)?;
-            Ok(None)
-        }
+        Err((OpenFault::Shape, conn)) => Ok((None, is_bare(alloc, conn)?)),
         Err((fault, _)) => Err(fault.into()),
     }
 }
 
 // What is found in two files.
 fn found_in(alloc: Global, log: &[u8], db: &[u8]) -> Result<Told, Fail> {
-    found(alloc, connect(alloc, disks_of(alloc, log, db)?)?)
+    Ok(outcome(alloc, log, db, NO_STOP, Job::Look)?.told)
 }
 
 // Whether a disk takes no more calls.
@@ -248,16 +318,17 @@ struct Plan<'a> {
 impl Plan<'_> {
     // Does the steps on disks of which one may stop.
     fn left(&self, alloc: Global, stop: Stop) -> Result<Left, Fail> {
-        let disks = stopping(alloc, &self.image, stop)?;
-        let Run { done, mut disks } = run_on(alloc, disks, self.steps)?;
-        let stopped = has_stopped(&mut disks.log) || has_stopped(&mut disks.db);
+        let job = Job::Steps(self.steps);
+        let Outcome {
+            steps: done,
+            told: _,
+            stopped,
+            written,
+            synced,
+        } = outcome(alloc, &self.image.log, &self.image.db, stop, job)?;
         if done < self.steps.len() && !stopped {
             return Err(("not done, and no stop", self.steps.get(done), stop).into());
         }
-        let written = image_of(alloc, &disks)?;
-        disks.log.crash();
-        disks.db.crash();
-        let synced = image_of(alloc, &disks)?;
         Ok(Left {
             stop,
             done,

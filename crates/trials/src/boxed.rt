@@ -2,9 +2,9 @@
 use crate::fakes::{Sink, Source};
 use crate::published::{DATE, ID, SECRET};
 use boxes::{BoxRow, Change, Command, Mode, NameRule, OfficeRow};
-use dropoffice::{Counted, FixedClock, Office, SessionEnd};
 use keeper::{KeepFault, Keeper, Shelf};
 use links::{LinkKey, LinkOrder, OrderParam, write_link};
+use office::{Counted, FixedClock, Office, SessionEnd};
 use sigv4::Moment;
 use std::alloc::Global;
 use std::test::Fail;

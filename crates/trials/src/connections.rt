@@ -2,7 +2,7 @@
 use crate::fakes::{FailsAt, Sink, Source, StopsAt};
 use crate::published::{DATE, NO_BOX, REQUEST, broken_off, broken_off_answers, make_office};
 use crate::rows::holds;
-use dropoffice::{Counted, FixedClock, SessionEnd};
+use office::{Counted, FixedClock, SessionEnd};
 use sigv4::Moment;
 use std::alloc::Global;
 use std::test::Fail;

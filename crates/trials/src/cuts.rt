@@ -1,7 +1,7 @@
 //! Streams that are cut at every place, over an office without boxes: answers and ends stay the same.
 use crate::fakes::{Cut, Sink, Source};
 use crate::published::{DATE, REQUEST, broken_off, broken_off_answers, given, joined};
-use dropoffice::SessionEnd;
+use office::SessionEnd;
 use sigv4::Moment;
 use std::alloc::Global;
 use std::test::Fail;

@@ -28,8 +28,6 @@ pub mod lists;
 #[cfg(test)]
 mod messages;
 pub mod owed;
-#[cfg(test)]
-mod programs;
 pub mod published;
 mod repeats;
 pub mod rows;

@@ -3,8 +3,8 @@
 use crate::fakes::{Sink, Source};
 use crate::owed::NO_WHOLE_BODY;
 use boxes::OfficeRow;
-use dropoffice::{Counted, FixedClock, Office, SessionEnd};
 use keeper::Shelf;
+use office::{Counted, FixedClock, Office, SessionEnd};
 use sigv4::Moment;
 use std::alloc::{AllocError, Global};
 use std::io::Read;

@@ -7,8 +7,8 @@ use crate::published::{DATE, EXPIRED, ID};
 use crate::rows::{by_link, counts, expect, holds, obey, upload};
 use crate::telling::told;
 use boxes::Mode;
-use dropoffice::{Counted, FixedClock, Office, SessionEnd};
 use keeper::Keeper;
+use office::{Counted, FixedClock, Office, SessionEnd};
 use sigv4::Moment;
 use std::test::Fail;
 

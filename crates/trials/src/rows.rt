@@ -9,9 +9,9 @@ use crate::owed::{
 use crate::published::{DATE, NO_BOX, REQUEST, broken_off, broken_off_answers};
 use crate::repeats::{dropping, losing, outliving, returning, sharing};
 use boxes::Mode;
-use dropoffice::{Office, SessionEnd};
 use keeper::Keeper;
 use links::LinkKey;
+use office::{Office, SessionEnd};
 use std::alloc::Global;
 use std::str;
 use std::test::Fail;

@@ -1,7 +1,7 @@
 //! Lists of connections.
 use crate::fakes::{Sink, Source};
 use crate::published::{DATE, EXPIRED, NO_BOX, REQUEST, make_office};
-use dropoffice::{Counted, ListedClock};
+use office::{Counted, ListedClock};
 use sigv4::Moment;
 use std::test::Fail;
 

@@ -1,7 +1,7 @@
 //! Sessions over streams that are cut, break off or are slow.
 use crate::fakes::{Sink, Source};
 use crate::published::{DATE, EXPIRED, NO_BOX, REQUEST, given, given_by, make_office};
-use dropoffice::{Counted, ListedClock, SessionEnd};
+use office::{Counted, ListedClock, SessionEnd};
 use sigv4::Moment;
 use std::test::Fail;
 

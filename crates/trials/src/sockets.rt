@@ -1,6 +1,6 @@
 //! A connection over a socket, in one process.
 use crate::published::{DATE, NO_BOX, REQUEST, make_office};
-use dropoffice::{FixedClock, serve};
+use office::{FixedClock, serve};
 use sigv4::Moment;
 use std::io::{Read, Write};
 use std::net::{Shutdown, TcpListener, TcpStream};

@@ -5,7 +5,7 @@ use crate::owed::{CLOSED, FIRST_ABC};
 use crate::rows::ROWS;
 use crate::watched::Watched;
 use boxes::{BoxRow, Mode};
-use dropoffice::Office;
+use office::Office;
 use std::alloc::Global;
 use std::test::Fail;
 

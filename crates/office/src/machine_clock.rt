@@ -1,7 +1,7 @@
 //! The clock of the machine that the program runs on.
 ghost use Rattle.std.specs.Prelude.{◌≡◌, min};
 
-use office::Clock;
+use crate::clocks::Clock;
 use sigv4::Moment;
 use std::time;
 use std::time::SystemTime;
