@@ -12,12 +12,17 @@ edits of constants, types and specs.
 
 The harmless edits `ci/controls/NAME/*.edit` are tried among the others, and must be found to be proved still. Each edit
 that is not refused, and each harmless one that is, is named. The last line is `N passed, M failed`.
+
+What a try showed is kept on this machine, as `rt ci` keeps what it proved: under a sum of all that the try read, which is
+the toolchain, the crate with its edit, the crates below it and this file. A later run, in any checkout here, tries only the
+others; `--anew` tries all.
 """
 
 import argparse
 import collections
 import concurrent.futures
 import dataclasses
+import hashlib
 import math
 import os
 import pathlib
@@ -31,6 +36,7 @@ import time
 import kit
 
 RT = kit.rt()
+KEPT = pathlib.Path(os.environ.get("XDG_CACHE_HOME") or pathlib.Path.home() / ".cache") / "drop-edits"
 # So many edits share a check at least, where there are so many: to load what is kept costs as much as a few edits.
 FEWEST = 8
 # A check takes less than so much of the memory that `rt` reckons for it: up to 2 GB were seen, 3.6 in `sqlkeeper`.
@@ -62,6 +68,34 @@ class Edit:
 
     def __str__(self):
         return f"{self.name}: {'shares a check' if self.is_of_a_body else 'alone'}, {self.function or 'any function'}"
+
+
+class Kept:
+    """The edits that earlier runs on this machine found to be as they must be: a file each, named for all that was read."""
+
+    def __init__(self, anew):
+        self.anew, self.own, self.sums, self.names = anew, pathlib.Path(__file__).read_bytes(), {}, {}
+
+    def name(self, crate, edit):
+        """The file of the edit. The sum of its crate is that of the first call: what the run then reads."""
+        if crate.name not in self.sums:
+            self.sums[crate.name] = RT.stamp_of(crate, {})
+        told = repr((self.own, self.sums[crate.name], edit.name, edit.is_harmless, edit.text))
+        return hashlib.sha256(told.encode()).hexdigest()
+
+    def holds(self, crate, edit):
+        """Whether an earlier run found it so."""
+        self.names[edit.name] = KEPT / self.name(crate, edit)
+        return not self.anew and self.names[edit.name].is_file()
+
+    def keep(self, crate, edit):
+        """Keeps that this run found it so, unless a file that was read has changed meanwhile, or nothing can be kept."""
+        if RT.stamp_of(crate, {}) == self.sums[crate.name]:
+            try:
+                KEPT.mkdir(parents=True, exist_ok=True)
+                self.names[edit.name].write_text(f"{edit.name}\n", encoding="utf-8")
+            except OSError:
+                pass
 
 
 def function_at(source, place):
@@ -226,7 +260,7 @@ class Trial:
 
 
 def settled(trials, jobs):
-    """Runs the checks side by side, as many as processors and memory allow, and yields each edit with its fault."""
+    """Runs the checks side by side, as many as processors and memory allow, and yields each edit with its crate and fault."""
     memory, running = 0.85 * RT.free(), {}
     with concurrent.futures.ThreadPoolExecutor(jobs) as pool:
         while begin_checks(trials, running, pool, jobs, memory):
@@ -236,7 +270,7 @@ def settled(trials, jobs):
                 refused = sum(fault is None for _, fault in found)
                 told = f"{refused} of {len(group)} edits refused" if group else f"proved as it is: {trial.is_proved}"
                 print(f"{trial.crate.name}: {told}, {ended.result()[1]:.0f} s", flush=True)
-                yield from found
+                yield from ((trial.crate, *it) for it in found)
 
 
 def begin_checks(trials, running, pool, jobs, memory):
@@ -250,14 +284,20 @@ def begin_checks(trials, running, pool, jobs, memory):
     return bool(running)
 
 
-def edits_of_crates(names, count):
-    """The crates that have edits of these names, CRATE or CRATE/EDIT, with those; all where no name is given."""
+def edits_of_crates(names, count, kept):
+    """The crates that have edits of these names, CRATE or CRATE/EDIT, with those that are to be tried; all where no name is
+    given. The others have passed."""
     of_crates = []
     for crate in RT.rtlib.crates_below(str(kit.ROOT)):
         edits = edits_in(pathlib.Path(crate.folder) / "edits", crate, count)
         edits += edits_in(kit.ROOT / "ci" / "controls" / crate.name, crate, count, is_harmless=True)
         edits = [it for it in edits if not names or it.name in names or crate.name in names]
-        of_crates += [(crate, edits)] if edits else []
+        new = [it for it in edits if not kept.holds(crate, it)]
+        for it in edits[len(new) :]:
+            count.add(it.name, None)
+        if len(new) < len(edits):
+            print(f"{crate.name}: {len(edits) - len(new)} of its {len(edits)} edits were tried by an earlier run on this machine")
+        of_crates += [(crate, new)] if new else []
     return of_crates
 
 
@@ -276,9 +316,10 @@ def main():
     parser.add_argument("--only", action="append", default=[], metavar="CRATE[/EDIT]", help="these alone")
     parser.add_argument("--keep", type=pathlib.Path, metavar="FOLDER", help="keep what is proved of the crates there")
     parser.add_argument("--list", action="store_true", help="prove nothing: tell how each edit would be tried")
+    parser.add_argument("--anew", action="store_true", help="try also what earlier runs on this machine tried")
     given = parser.parse_args()
-    begin, count = time.monotonic(), kit.Count()
-    of_crates = edits_of_crates(given.only, count)
+    begin, count, kept = time.monotonic(), kit.Count(), Kept(given.anew)
+    of_crates = edits_of_crates(given.only, count, kept)
     if given.list:
         print(*(it for _, edits in of_crates for it in edits), sep="\n")
         sys.exit(count.failed > 0)
@@ -286,8 +327,11 @@ def main():
     RT.rtlib.guarded()
     with tempfile.TemporaryDirectory(prefix="edits-") as room:
         trials = trials_of(of_crates, given.keep or pathlib.Path(room), given.jobs)
-        for edit, fault in settled(trials, given.jobs):
-            count.add(edit.name, edit.fault_of(fault))
+        for crate, edit, fault in settled(trials, given.jobs):
+            wrong = edit.fault_of(fault)
+            count.add(edit.name, wrong)
+            if not wrong:
+                kept.keep(crate, edit)
     used = resource.getrusage(resource.RUSAGE_CHILDREN)
     for it in trials:
         print(f"{it.crate.name}: {it.edits} edits in {it.checks} checks, {it.seconds:.0f} s of them together")

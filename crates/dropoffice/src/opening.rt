@@ -73,6 +73,17 @@ fn keeper_over<S: Alter + Drop>(
     }
 }
 
+// Does the work over the office of a connection: how that ended, and the connection.
+fn work_on<'a, S: Alter + Drop, W: OfficeWork<'a> + Drop>(
+    rt: &HostRuntime,
+    conn: Connection<S>,
+    work: W,
+) -> Result<(Result<(), Fault<'a>>, Connection<S>), Fault<'a>> {
+    let mut office = Office::new(rt.alloc(), keeper_over(rt.alloc(), conn)?);
+    let done = work.run(rt, &mut office);
+    Ok((done, office.keeper.close()))
+}
+
 /// Does the work over the office of a file that is there. A fault of the work is told before one of the file's closing.
 pub(crate) fn work_over<'a, W: OfficeWork<'a> + Drop>(
     rt: &HostRuntime,
@@ -81,13 +92,9 @@ pub(crate) fn work_over<'a, W: OfficeWork<'a> + Drop>(
     work: W,
 ) -> Result<(), Fault<'a>> {
     require_file(rt, file)?;
-    let keeper = keeper_over(rt.alloc(), connect(rt, file)?)?;
-    let mut office = Office::new(rt.alloc(), keeper);
-    let done = work.run(rt, &mut office);
-    if log == Log::Stays {
-        return done;
+    let (done, conn) = work_on(rt, connect(rt, file)?, work)?;
+    match log {
+        Log::Stays => done,
+        Log::IntoTheFile => done.and(disconnect(conn)),
     }
-    let closed = disconnect(office.keeper.close());
-    done?;
-    closed
 }
