@@ -3,7 +3,7 @@ office file; commands that are words, `drop desk`; and an office that is made, f
 over a socket.
 
 What is owed comes from Python's `hashlib` and `hmac` (ci/expected.py), the table of refusals in docs/RULES.md, the fault
-lines in README.md, and links that botocore signs. The last line is `N passed, M failed`.
+lines in docs/USE.md, and links that botocore signs. The last line is `N passed, M failed`.
 """
 
 import dataclasses

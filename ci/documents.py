@@ -1,8 +1,9 @@
 """Runs the lines of docs/USE.md, and README.md's five lines, as they stand, in an empty folder with the proved `drop`, and
 compares what they print with the blocks beside them; only the port is replaced. Then it compares the page's tables of
-refusals and of fault lines with those of docs/RULES.md and README.md.
+refusals and of fault lines with docs/RULES.md and with each other, and looks whether each path, each module, and in the
+tables of README.md and docs/PROVED.md each call and each clause that is named is there.
 
-What is owed is in the documents themselves. The last line is `N passed, M failed`.
+What is owed is in the documents themselves, and of names in the tree. The last line is `N passed, M failed`.
 """
 
 import os
@@ -18,6 +19,9 @@ from serve import free_port
 
 README = kit.ROOT / "README.md"
 PAGE = kit.ROOT / "docs" / "USE.md"
+PROVED = kit.ROOT / "docs" / "PROVED.md"
+DOCUMENTS = [README, *sorted((kit.ROOT / "docs").glob("*.md"))]
+CRATES = sorted(it.name for it in (kit.ROOT / "crates").iterdir())
 ADDRESS = "127.0.0.1:8080"
 FIVE = re.compile(r"^## Five lines\n.*?(?=^## )", re.MULTILINE | re.DOTALL)
 
@@ -83,14 +87,119 @@ def test_refusals(_, count):
 
 
 def test_faults(_, count):
-    """Each fault line has its row, in README's order."""
+    """Each fault line stands in both tables, in one order: what it means; and its cause and what to do."""
     form = re.compile(r"^\| `(drop: [^`]+)` \| (.+) \|$", re.MULTILINE)
-    owed = [it[0] for it in form.findall(README.read_text())]
-    rows = form.findall(PAGE.read_text())
-    count.add("fault lines", difference([it[0] for it in rows], owed) if owed else "there are none")
-    for line, rest in rows:
-        count.add(line, None if rest.count(" | ") == 1 else "has no cause and remedy")
+    rows = [(line, rest.split(" | ")) for line, rest in form.findall(PAGE.read_text())]
+    owed = [line for line, cells in rows if len(cells) == 1]
+    found = [line for line, cells in rows if len(cells) > 1]
+    count.add("fault lines", difference(found, owed) if owed else "there are none")
+    for line, cells in rows:
+        count.add(line, None if len(cells) <= 2 else "has more than a cause and a remedy")
+
+
+# A path that begins at the top. Words in capitals in it stand for names, and `out` is what a run leaves.
+PATH = re.compile(r"(?<![\w/.*-])(?:\.ci|bench|ci|crates|deploy|docs|page)/[\w*-]?[\w./*-]*")
+# A crate, and modules of its `specs`.
+MODULES = re.compile(rf"`({'|'.join(CRATES)})`([ \n]`[A-Z][a-z]\w*`(?:(?:, | and | |\n)+`[A-Z][a-z]\w*`)*)")
+# A crate, and one file of its own.
+OWN = re.compile(rf"`({'|'.join(CRATES)})`[ \n]`((?:src|specs|proofs|edits)/[\w./]+)`")
+# An edit, by its crate and its name.
+EDIT = re.compile(rf"`({'|'.join(CRATES)})/([a-z]\w+)`")
+
+
+def named(document):
+    """The paths that a document names, as globs."""
+    text = document.read_text()
+    for found in PATH.findall(text):
+        path = found.rstrip(".,-")
+        if not re.search(r"\b[A-Z]{2,}\b(?!\.md)|/out\b", path):
+            yield path
+    for crate, modules in MODULES.findall(text):
+        yield from (f"crates/{crate}/specs/{it}.antt" for it in re.findall(r"`(\w+)`", modules))
+    yield from (f"crates/{crate}/{file}" for crate, file in OWN.findall(text))
+    yield from (f"crates/{crate}/edits/{edit}.edit" for crate, edit in EDIT.findall(text))
+
+
+def test_names(_, count):
+    """What the documents name in the tree is there."""
+    for document in DOCUMENTS:
+        for path in sorted({*named(document)}):
+            there = next(kit.ROOT.glob(path), None)
+            count.add(f"{document.name}: {path}", None if there else "is not there")
+
+
+HEAD = re.compile(r"^( *)(pub(?:\(\w+\))? )?(?:const )?fn (\w+)")
+OWNER = re.compile(r"^(?:pub )?(impl|trait)\b(?:<(?:[^<>]|<[^<>]*>)*>)? ((?:[\w:]+(?:<[^<>]*>)? for )?)(\w+)")
+
+
+def public_calls():
+    """For each public function of the libraries, by `crate::name` or `crate::Type::name`, its clauses' names."""
+    calls = {}
+    for file in sorted((kit.ROOT / "crates").glob("*/src/**/*.rt")):
+        owner, of_trait, clauses = [file.relative_to(kit.ROOT / "crates").parts[0]], False, None
+        for line in file.read_text().splitlines():
+            if line.startswith("}"):
+                owner, of_trait, clauses = owner[:1], False, None
+            if found := OWNER.match(line):
+                owner, of_trait = [owner[0], found[3]], found[1] == "trait" or bool(found[2])
+            elif found := HEAD.match(line):
+                clauses = calls.setdefault("::".join([*owner, found[3]]), set()) if found[2] == "pub " or of_trait else None
+            elif (found := re.match(r" +ghost (\w+):", line)) and of_trait:
+                calls.setdefault("::".join([*owner, found[1]]), set())
+            elif (found := re.match(r" +ensures\*? (\w+) \{", line)) and clauses is not None:
+                clauses.add(found[1])
+    return calls
+
+
+def fault_of_call(calls, crates, name, clauses):
+    """What is wrong with a call that a table names with these clauses, in a part that is about these crates."""
+    parts = name.split("::")
+    if len(parts) > 1 and parts[0] in CRATES:
+        crates, parts = [parts[0]], parts[1:]
+    found = [calls[it] for it in ("::".join([crate, *parts]) for crate in crates) if it in calls]
+    if not found:
+        return "there is no such call"
+    lacking = [it for it in clauses if not any(it in has for has in found)]
+    return f"has no clause {', '.join(lacking)}" if lacking else None
+
+
+def rows_of_calls(document):
+    """The crates that each part is about, and the first column of each row of a table of calls in it."""
+    crates, in_table = CRATES, False
+    for line in document.read_text().splitlines():
+        if line.startswith("#"):
+            crates = [it for it in re.findall(r"`(\w+)`", line) if it in CRATES] or CRATES
+        if in_table and line.startswith("| "):
+            yield crates, line.split(" | ")[0]
+        in_table = line.startswith("| Call |") or (in_table and line.startswith("|"))
+
+
+def test_clauses(_, count):
+    """Wherever clauses stand in brackets behind a call, some public call of this name has them."""
+    calls = public_calls()
+    for document in DOCUMENTS:
+        for name, clauses in re.findall(r"`([\w:]+)`\s\[([a-z]\w*(?:,\s\w+)*)\]", document.read_text()):
+            has = [its for call, its in calls.items() if f"::{call}".endswith(f"::{name}")]
+            there = any({*re.findall(r"\w+", clauses)} <= its for its in has)
+            count.add(f"{document.name}: {name} [{clauses}]", None if there else "there is no such call with these clauses")
+
+
+def test_calls(_, count):
+    """The calls in the first column of README's and docs/PROVED.md's tables are there, each in its crate. Where several
+    stand before one bracket, the last has these clauses, and each of the others that has named ones."""
+    calls = public_calls()
+    named_ones = [call for call, its in calls.items() if its]
+    for document in [README, PROVED]:
+        rows = [*rows_of_calls(document)]
+        count.add(f"{document.name}: tables of calls", None if rows else "there are none")
+        for crates, cell in rows:
+            for names, clauses in re.findall(r"((?:`[\w:]+`(?:, |; )?)+)(?: ?\[([\w, ]+)\])?", cell):
+                names, clauses = re.findall(r"`([\w:]+)`", names), re.findall(r"\w+", clauses)
+                for name in names:
+                    owes = name == names[-1] or any(f"{it}::{name}" in named_ones for it in crates)
+                    fault = fault_of_call(calls, crates, name, clauses if owes else [])
+                    count.add(f"{document.name}: {name} {clauses}", fault)
 
 
 if __name__ == "__main__":
-    run_all([test_readme, test_page, test_refusals, test_faults])
+    run_all([test_readme, test_page, test_refusals, test_faults, test_names, test_clauses, test_calls])

@@ -3,7 +3,7 @@ and on lists of every form.
 
 The office is made by `drop init` and filled by Python's `sqlite3` (ci/tables.py); files are then dropped and set anew by
 requests. What is owed comes from the tables as `sqlite3` reads them and from Python's `csv` and `hashlib` (ci/listed.py),
-from links that botocore signs, and from the fault lines in README.md. The last line is `N passed, M failed`.
+from links that botocore signs, and from the fault lines in docs/USE.md. The last line is `N passed, M failed`.
 """
 
 import contextlib

@@ -2,7 +2,7 @@
 
 Files are made by `drop init` in a folder of their own, and filled, looked at and broken by Python's `sqlite3`
 (ci/tables.py) and by the command `sqlite3`. What is owed comes from Python's `hashlib` and `hmac` (ci/expected.py), the
-table of refusals in docs/RULES.md and the fault lines in README.md. The last line is `N passed, M failed`.
+table of refusals in docs/RULES.md and the fault lines in docs/USE.md. The last line is `N passed, M failed`.
 """
 
 import dataclasses

@@ -1,7 +1,7 @@
 """Runs the proved program `drop` on streams of requests and on words, and compares all that it writes, and its status.
 
 The answers that are owed come from the table of refusals in docs/RULES.md, the signatures from Python's `hmac`
-(ci/expected.py), the lines on standard error from README.md, and the help from ci/drop.help, ci/desk.help and
+(ci/expected.py), the lines on standard error from docs/USE.md, and the help from ci/drop.help, ci/desk.help and
 ci/replay.help, whose lines were read and found true. The last line is `N passed, M failed`.
 """
 

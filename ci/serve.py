@@ -2,7 +2,7 @@
 makes, and with bytes that stop, break off or make no sense.
 
 The office is made by `drop init` and its boxes by Python's `sqlite3` (ci/tables.py). What is owed comes from Python's
-`hashlib`, the table of refusals in docs/RULES.md and the fault lines in README.md. The last line is `N passed, M failed`.
+`hashlib`, the table of refusals in docs/RULES.md and the fault lines in docs/USE.md. The last line is `N passed, M failed`.
 """
 
 import contextlib
