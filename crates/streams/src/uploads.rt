@@ -1,13 +1,13 @@
 //! Rows over the keeper in memory, also where it refuses a call, and the last hours of a box.
-use crate::boxed::{Asked, CLERK, begun, make_office, reply, settings};
-use crate::errands::{ERRANDS, Errand};
-use crate::owed::{CLOSED, FIRST_ABC};
-use crate::rows::ROWS;
-use crate::watched::Watched;
 use boxes::{BoxRow, Mode};
 use office::Office;
 use std::alloc::Global;
 use std::test::Fail;
+use trials::boxed::{Asked, CLERK, begun, make_office, reply, settings};
+use trials::errands::{ERRANDS, Errand};
+use trials::owed::{CLOSED, FIRST_ABC};
+use trials::rows::ROWS;
+use trials::watched::Watched;
 
 #[test]
 fn rows_are_answered_in_memory(rt: HostRuntime) -> Result<(), Fail> {

@@ -1,12 +1,12 @@
 //! Lists of links that are asked for. The signatures are by Python's `hmac`, and by botocore.
-use crate::boxed::CLERK;
-use crate::fakes::{Sink, Source};
-use crate::lists::{Listed, joined, record_with};
 use desk::{ListFault, links_from};
 use links::LinkKey;
 use std::alloc::Global;
 use std::io::Read;
 use std::test::Fail;
+use trials::boxed::CLERK;
+use trials::fakes::{Sink, Source};
+use trials::lists::{Listed, joined, record_with};
 use wire::Counted;
 
 const WISHES: &[u8] = b"method,box,name,start,expires\n";

@@ -1,11 +1,11 @@
 //! A stream of two requests and one that breaks off, of which one read or one write goes wrong, each in turn.
-use crate::fakes::{FailsAt, Sink, Source, StopsAt};
-use crate::published::{DATE, NO_BOX, REQUEST, broken_off, broken_off_answers, make_office};
-use crate::rows::holds;
 use office::{Counted, FixedClock, SessionEnd};
 use sigv4::Moment;
 use std::alloc::Global;
 use std::test::Fail;
+use trials::fakes::{FailsAt, Sink, Source, StopsAt};
+use trials::published::{DATE, NO_BOX, REQUEST, broken_off, broken_off_answers, make_office};
+use trials::rows::holds;
 
 // How many bytes go at once, and what goes wrong: the read or the write of a number, counted from 1 on, where it is
 // not 0. A write fails or takes none.

@@ -1,10 +1,10 @@
 //! A connection over a socket, in one process.
-use crate::published::{DATE, NO_BOX, REQUEST, make_office};
 use office::{FixedClock, serve};
 use sigv4::Moment;
 use std::io::{Read, Write};
 use std::net::{Shutdown, TcpListener, TcpStream};
 use std::test::Fail;
+use trials::published::{DATE, NO_BOX, REQUEST, make_office};
 
 #[test]
 fn a_connection_over_loopback(rt: HostRuntime) -> Result<(), Fail> {

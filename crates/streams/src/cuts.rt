@@ -1,10 +1,10 @@
 //! Streams that are cut at every place, over an office without boxes: answers and ends stay the same.
-use crate::fakes::{Cut, Sink, Source};
-use crate::published::{DATE, REQUEST, broken_off, broken_off_answers, given, joined};
 use office::SessionEnd;
 use sigv4::Moment;
 use std::alloc::Global;
 use std::test::Fail;
+use trials::fakes::{Cut, Sink, Source};
+use trials::published::{DATE, REQUEST, broken_off, broken_off_answers, given, joined};
 
 const NO_LENGTH: &[u8] =
     b"HTTP/1.1 400 Bad Request\r\nContent-Type: text/plain\r\nContent-Length: 45\r\nConnection: close\r\n\r\nInvalidRequest 4 Content-Length is malformed\n";

@@ -1,8 +1,8 @@
 //! Texts over writers that are slow or broken.
-use crate::fakes::Sink;
-use crate::published::NO_BOX;
 use sigtext::Refusal;
 use std::alloc::Global;
+use trials::fakes::Sink;
+use trials::published::NO_BOX;
 use wire::{Answer, Counted, WireFault, put_answer, send};
 
 // Whether `hello` over a writer that takes so many bytes at once, and so many in all, leaves this.

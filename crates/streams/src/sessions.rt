@@ -1,9 +1,9 @@
 //! Sessions over streams that are cut, break off or are slow.
-use crate::fakes::{Sink, Source};
-use crate::published::{DATE, EXPIRED, NO_BOX, REQUEST, given, given_by, make_office};
 use office::{Counted, ListedClock, SessionEnd};
 use sigv4::Moment;
 use std::test::Fail;
+use trials::fakes::{Sink, Source};
+use trials::published::{DATE, EXPIRED, NO_BOX, REQUEST, given, given_by, make_office};
 
 #[test]
 fn reads_in_any_pieces(rt: HostRuntime) -> Result<(), Fail> {

@@ -1,9 +1,9 @@
 //! Lists of connections.
-use crate::fakes::{Sink, Source};
-use crate::published::{DATE, EXPIRED, NO_BOX, REQUEST, make_office};
 use office::{Counted, ListedClock};
 use sigv4::Moment;
 use std::test::Fail;
+use trials::fakes::{Sink, Source};
+use trials::published::{DATE, EXPIRED, NO_BOX, REQUEST, make_office};
 
 const NO_TRANSFER_CODING: &[u8] =
     b"HTTP/1.1 501 Not Implemented\r\nContent-Type: text/plain\r\nContent-Length: 49\r\nConnection: close\r\n\r\nNotImplemented 3 transfer codings are not served\n";

@@ -1,7 +1,7 @@
 //! Answers over writers that are slow or fail, and the writes that they take.
-use crate::fakes::{Pieces, Sink};
 use std::alloc::{AllocError, Global};
 use std::test::Fail;
+use trials::fakes::{Pieces, Sink};
 use wire::{Answer, Counted, Reply, WireFault, put_answer};
 
 // The digest of `abc` (FIPS 180-4).

@@ -1,8 +1,8 @@
 //! Feeds over streams that are cut, slow, or break off or a rule.
-use crate::fakes::Source;
 use sigtext::Refusal;
 use std::alloc::Global;
 use std::test::Fail;
+use trials::fakes::Source;
 use wire::{Counted, Feed, Piece, Step, WireFault};
 
 const GET: &[u8] = b"GET /b HTTP/1.1\r\n\r\n";

@@ -1,15 +1,7 @@
 //! Lists over readers and writers that are slow or fail, over a keeper that fails, and of more receipts than are held at a
 //! time.
-use crate::boxed::{CLERK, make_office, settings};
-use crate::fakes::{FailsOnce, Sink, Source};
 use crate::keepers::failing;
 use crate::link_lists::{ASKED, WRITTEN, linked};
-use crate::lists::{
-    Listed, MANIFEST, RECEIPTS, STANDING, STATES, compared_to, joined, manifest_to,
-};
-use crate::owed::FIRST_ABC;
-use crate::published::{DATE, ID};
-use crate::rows::{holds, upload};
 use boxes::{Change, Mode, NewFile};
 use desk::{ListFault, compare, links_from, manifest};
 use keeper::{KeepFault, Keeper, Shelf};
@@ -17,6 +9,14 @@ use office::Office;
 use sigv4::Sha;
 use std::alloc::Global;
 use std::test::Fail;
+use trials::boxed::{CLERK, make_office, settings};
+use trials::fakes::{FailsOnce, Sink, Source};
+use trials::lists::{
+    Listed, MANIFEST, RECEIPTS, STANDING, STATES, compared_to, joined, manifest_to,
+};
+use trials::owed::FIRST_ABC;
+use trials::published::{DATE, ID};
+use trials::rows::{holds, upload};
 use wire::Counted;
 
 // A list that an office writes which took `abc`.

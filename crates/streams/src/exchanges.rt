@@ -1,8 +1,4 @@
 //! Uploads and fetches over streams that are cut or fail, and by other keys.
-use crate::boxed::{Asked, CLERK, bare, make_office, put, reply, settings};
-use crate::fakes::{Cut, Sink, Source};
-use crate::owed::{FIRST_ABC, FOUND_ABC, NO_BODY_HERE, SECOND_X};
-use crate::published::{DATE, EXPIRED};
 use boxes::Mode;
 use keeper::Keeper;
 use office::{Counted, FixedClock, ListedClock, SessionEnd};
@@ -10,6 +6,10 @@ use sigv4::Moment;
 use std::alloc::Global;
 use std::io::Read;
 use std::test::Fail;
+use trials::boxed::{Asked, CLERK, bare, make_office, put, reply, settings};
+use trials::fakes::{Cut, Sink, Source};
+use trials::owed::{FIRST_ABC, FOUND_ABC, NO_BODY_HERE, SECOND_X};
+use trials::published::{DATE, EXPIRED};
 
 // An upload of `abc`, and the fetch of it, in one stream.
 fn put_and_get(alloc: Global) -> Result<Vec<u8>, Fail> {

@@ -2,14 +2,14 @@
 ghost use Rattle.std.specs.Prelude.{◌≡◌};
 ghost use Rattle.sigtext.specs.Counts.{Rose};
 
-use crate::fakes::{Sink, Source};
-use crate::published::{DATE, REQUEST, SECRET, TRY_AGAIN};
 use boxes::{BoxRow, Change, FileRow, KeyRow, OfficeRow, ReceiptRow, Role, Totals};
 use keeper::{KeepFault, Keeper};
 use office::{Counted, FixedClock, Office, SessionEnd};
 use sigv4::Moment;
 use std::alloc::Global;
 use std::test::Fail;
+use trials::fakes::{Sink, Source};
+use trials::published::{DATE, REQUEST, SECRET, TRY_AGAIN};
 
 /// Answers for every key; no state is claimed of it.
 #[derive(Drop)]

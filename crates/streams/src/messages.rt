@@ -1,9 +1,9 @@
 //! Whole messages of streams that are cut, slow, or break off or a rule.
-use crate::fakes::{FailsOnce, Source};
 use crate::feeds::{long_head, many_fields, two_messages};
 use sigtext::Refusal;
 use std::alloc::Global;
 use std::test::Fail;
+use trials::fakes::{FailsOnce, Source};
 use wire::{Came, Counted, Feed, WireFault, read_message};
 
 // What reading a stream to its end gave.

@@ -1,0 +1,36 @@
+//! Tests over readers, writers, sinks and keepers that are slow, fail or say something else: what no row of data can
+//! say. They stand in a crate of their own, so that what `trials` gives is proved once. The crate gives nothing.
+#![tactic(auto)]
+
+#[cfg(test)]
+mod answers;
+#[cfg(test)]
+mod connections;
+#[cfg(test)]
+mod counts;
+#[cfg(test)]
+mod cuts;
+#[cfg(test)]
+mod exchanges;
+#[cfg(test)]
+mod feeds;
+#[cfg(test)]
+mod keepers;
+#[cfg(test)]
+mod link_lists;
+#[cfg(test)]
+mod list_streams;
+#[cfg(test)]
+mod messages;
+#[cfg(test)]
+mod runs;
+#[cfg(test)]
+mod sessions;
+#[cfg(test)]
+mod sinks;
+#[cfg(test)]
+mod sockets;
+#[cfg(test)]
+mod texts;
+#[cfg(test)]
+mod uploads;
