@@ -38,7 +38,7 @@ import kit
 RT = kit.rt()
 KEPT = pathlib.Path(os.environ.get("XDG_CACHE_HOME") or pathlib.Path.home() / ".cache") / "drop-edits"
 # So many edits share a check at least, where there are so many: to load what is kept costs as much as a few edits.
-FEWEST = 8
+FEWEST = 16
 # A check takes less than so much of the memory that `rt` reckons for it: up to 2 GB were seen, 3.6 in `sqlkeeper`.
 SHARE = 0.5
 HEAD = re.compile(r"^( *)(?:pub(?:\([^)]*\))? )?(?:final )?fn (\w+)", re.M)
