@@ -1,7 +1,7 @@
 #!/usr/bin/env bash
-# Passes all tests: `rt ci` from nothing, and then what the proved programs that it leaves write, against what is owed
-# from outside. Each part ends with `N passed, M failed`, and its time is told; a part that does not end so, or cannot
-# be run, has failed. The last line is `N passed, M failed`, the sum of all.
+# Passes all tests: `rt ci`, and then the edits that must be refused, beside what the proved programs that it leaves write,
+# against what is owed from outside. Each part ends with `N passed, M failed`, and its time is told; a part that does not end
+# so, or cannot be run, has failed. The last line is `N passed, M failed`, the sum of all.
 set -uo pipefail
 cd "$(dirname "$0")/.." || exit 2
 work=$(mktemp -d)
@@ -10,13 +10,19 @@ passed=0
 failed=0
 TIMEFORMAT='%R %U %S'
 
-# Runs a part, and adds what its last line of counts says; a part without one has failed.
-count() {
-    local name=$1 status line
+# Runs a part, shows what it says, and keeps that, its time and its status in files of its name.
+run() {
+    local name=$1
     shift
-    { time "$@" 2>&1 | tee "$work/log"; } 2>"$work/time"
-    status=$?
-    line=$(grep -E '^[0-9]+ passed, [0-9]+ failed$' "$work/log" | tail -1)
+    { time "$@" 2>&1 | tee "$work/$name.log"; } 2>"$work/$name.time"
+    echo $? >"$work/$name.status"
+}
+
+# Adds what a part's last line of counts says; a part without one has failed.
+add() {
+    local name=$1 status line
+    read -r status <"$work/$name.status"
+    line=$(grep -E '^[0-9]+ passed, [0-9]+ failed$' "$work/$name.log" | tail -1)
     if [[ $line =~ ^([0-9]+)\ passed,\ ([0-9]+)\ failed$ ]]; then
         passed=$((passed + BASH_REMATCH[1]))
         failed=$((failed + BASH_REMATCH[2]))
@@ -29,7 +35,13 @@ count() {
         line="no counts, status $status"
     fi
     awk -v name="$name" -v line="$line" \
-        '{ printf "%-28s %7.1f s %8.1f s of processors   %s\n", name, $1, $2 + $3, line }' "$work/time" >>"$work/times"
+        '{ printf "%-16s %7.1f s %8.1f s of processors   %s\n", name, $1, $2 + $3, line }' "$work/$name.time" >>"$work/times"
+}
+
+# Runs a part, and adds what it counts.
+count() {
+    run "$@"
+    add "$1"
 }
 
 # A Python that has boto3: this one, the system's, or one that is made for this run.
@@ -119,22 +131,28 @@ documents() {
     "$python" -B ci/documents.py
 }
 
-count "rt ci" rt ci
-count "ci/edits.py" python3 -B ci/edits.py
-count "ci/rows.py --check" python3 -B ci/rows.py --check
-count "ci/replays.py" python3 -B ci/replays.py
-count "ci/office.py" office
-count "ci/serve.py" serve
-count "ci/desk.py" desk
-count "ci/respelled.py" python3 -B ci/respelled.py
-count "ci/lists.py" lists
-count "ci/kills.py" kills
-count "ci/page.py" page
-count "ci/memory.py" python3 -B ci/memory.py
-count "ci/interop.py" interop
-count "ci/deploy.py" deploy
-count "ci/documents.py" documents
+SECONDS=0
+count rt-ci rt ci
+# The edits take processors alone, and most of the other parts wait for servers and browsers: they go on side by side.
+run edits python3 -B ci/edits.py >"$work/edits" &
+count rows python3 -B ci/rows.py --check
+count replays python3 -B ci/replays.py
+count office office
+count serve serve
+count desk desk
+count respelled python3 -B ci/respelled.py
+count lists lists
+count kills kills
+count page page
+count memory python3 -B ci/memory.py
+count interop interop
+count deploy deploy
+count documents documents
+wait
+cat "$work/edits"
+add edits
 echo
 cat "$work/times"
+echo "$((SECONDS / 60)) min $((SECONDS % 60)) s in all"
 echo "$passed passed, $failed failed"
 [ "$failed" -eq 0 ]
