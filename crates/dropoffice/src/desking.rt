@@ -1,23 +1,54 @@
 //! `drop desk`: one command of the desk is done.
 
 use crate::faults::Fault;
-use office::Office;
 use crate::opening::{connect, disconnect, keeper_over, require_file};
-use tasks::Desk;
-use std::io::Write;
+use office::{DeskFault, Office};
+use std::alloc::Global;
+use std::io::{Error, ErrorKind, Read, Write};
+use tasks::{Desk, read_line};
 
-/// Does the command on the office file, and writes `done` to `out`, on a line.
+/// The most bytes of a command that is read.
+const LONGEST_COMMAND: u16 = 4096;
+
+/// Does the command on the office file, and writes `done` to `out`, on a line. A command that stands in `input` is read
+/// before the file is opened, so that nobody waits for the office while it is typed.
 pub(crate) fn do_desk(
     rt: &HostRuntime,
     words: &Desk<'_>,
+    input: impl Read + Drop,
     out: &mut impl Write,
 ) -> Result<(), Fault<'static>> {
     require_file(rt, words.file)?;
+    let command = read_command(rt.alloc(), words.line, input)?;
     let keeper = keeper_over(rt.alloc(), connect(rt, words.file)?)?;
     let mut office = Office::new(rt.alloc(), keeper);
-    office.desk(words.line.as_bytes())?;
+    let Some(line) = command else {
+        return Err(Fault::Desk(DeskFault::Malformed));
+    };
+    office.desk(line.as_slice())?;
     let told = out.write_all(b"done\n").and_then(|()| out.flush());
     let closed = disconnect(office.keeper.close());
     told.map_err(|_| Fault::CannotWrite)?;
     closed
+}
+
+// The command that the words give: the word itself, or for `-` the line that the input holds; `None` where it holds no line,
+// more than one, or a longer one.
+fn read_command(
+    alloc: Global,
+    line: &str,
+    input: impl Read + Drop,
+) -> Result<Option<Vec<u8>>, Fault<'static>> {
+    if line != "-" {
+        return Ok(Some(Vec::from_slice(alloc, line.as_bytes())?));
+    }
+    read_line(alloc, input, LONGEST_COMMAND).map_err(unread)
+}
+
+// Why the command could not be read.
+fn unread(error: Error) -> Fault<'static> {
+    match error.kind() {
+        ErrorKind::OutOfMemory => Fault::OutOfMemory,
+        _ => Fault::CannotReadCommand,
+    }
 }

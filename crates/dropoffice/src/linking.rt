@@ -1,16 +1,16 @@
 //! `drop link`: a link is written, signed by a key of the office.
-use office::DESK;
 use crate::faults::Fault;
 use crate::opening::{connect, keeper_over, require_file};
-use tasks::Link;
 use boxes::{Command, has_form};
 use desk::read_command;
 use keeper::Keeper;
 use links::{LinkFault, LinkKey, LinkOrder, Method, OrderParam, is_host, read_moment, write_link};
+use office::DESK;
 use sigtext::cut;
 use sigv4::{Moment, is_region};
 use std::alloc::Global;
 use std::io::Write;
+use tasks::Link;
 
 /// Writes `http://`, the host and a link to `out`, on one line.
 pub(crate) fn do_link(

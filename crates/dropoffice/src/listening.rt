@@ -1,14 +1,13 @@
 //! `drop serve`: an office is served at an address.
 use crate::faults::Fault;
 use crate::machine_clock::MachineClock;
-use office::Office;
 use crate::opening::{connect, disconnect, keeper_over, require_file};
-use office::serve;
-use tasks::Serve;
 use keeper::Keeper;
+use office::{Office, serve};
 use std::io::Write;
 use std::net::{SocketAddr, SocketAddrV4, TcpListener};
 use std::time::Duration;
+use tasks::Serve;
 
 // What the words of a service ask for.
 #[derive(Clone, Copy, Debug)]

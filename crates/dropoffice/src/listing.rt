@@ -2,12 +2,12 @@
 use crate::faults::Fault;
 use crate::linking::check_place;
 use crate::opening::{connect, keeper_over, require_file};
-use tasks::{Links, OfficeFile};
 use desk::{ListFault, compare, links_from, manifest};
 use keeper::Keeper;
 use links::LinkKey;
 use std::alloc::Global;
 use std::io::{BufWriter, Read, Write};
+use tasks::{Links, OfficeFile};
 use wire::Counted;
 
 /// Reads a list of links that are wanted, and writes it with the links, signed by the key that the words name.

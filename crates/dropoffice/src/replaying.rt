@@ -3,14 +3,13 @@ ghost use Rattle.std.specs.Prelude.{IfSome};
 ghost use Rattle.sigv4.specs.Credential.{IsKeyId, IsSecret};
 
 use crate::faults::Fault;
-use office::Office;
 use crate::opening::{connect, disconnect, keeper_over, require_file};
-use office::{replay_in_memory, replay_over};
-use tasks::Replay;
 use links::read_moment;
+use office::{Office, replay_in_memory, replay_over};
 use sigv4::{Moment, is_key_id, is_secret};
 use std::fs::Files;
 use std::io::Write;
+use tasks::Replay;
 use wire::Counted;
 
 /// Answers the streams over the office that the words name: one in memory, or one in a file.
