@@ -8,6 +8,7 @@ lines in docs/USE.md, and links that botocore signs. The last line is `N passed,
 
 import dataclasses
 import itertools
+import os
 import time
 
 import kit
@@ -22,6 +23,7 @@ LATER = "20130524T000001Z"
 SAID_DONE = kit.Run(0, b"done\n", b"")
 MALFORMED = fault("the desk command is malformed")
 NOT_POSSIBLE = fault("the desk command is not possible")
+CANNOT_READ = fault("cannot read the command")
 IN_MEMORY = f"memory:{ID}/{SECRET.decode()}"
 ANY = "20130101T000000Z 20130601T000000Z 1111111 0000 2400"
 BOX = f"box add in {ANY} 100 2 keep any"
@@ -246,6 +248,63 @@ def test_words(drop, count):
         count.add(f"drop {words}", difference(drop.run(*words), owed))
 
 
+def test_given_lines(drop, count):
+    """`drop desk FILE -`: the command is the one line of standard input, and what it does is what it does as a word."""
+    file = prepared(drop, "given")
+    before = tables.dump(file)
+    wrong = [line.encode() for line in MALFORMED_LINES if "\n" not in line and "\r" not in line]
+    within = [b"key revoke k\n2", b"key revoke k2\n\n", b"\nkey revoke k2\n", b"key revoke k2\nkey revoke k2\n", b"key revoke k2\r", b"key revoke k2\n\r",
+              b"key revoke k2\r\r\n", b"key revoke\rk2\n", b"\n", b"\r\n", b"-", b"-\n", b"k" * 4096 + b"\n", b"k" * 4097, b"k" * 1000000]
+    odd = [data for data in ODD_BYTES if not data.endswith(b"\n")]
+    for data in [*wrong, *(line + b"\n" for line in wrong), *odd, *within]:
+        count.add(f"desk - {data[:60]!r}", difference(drop.run("desk", file, "-", given=data), MALFORMED))
+    for line in NOT_POSSIBLE_LINES:
+        for end in ["", "\n", "\r\n"]:
+            count.add(f"desk - {line + end!r}", difference(drop.run("desk", file, "-", given=(line + end).encode()), NOT_POSSIBLE))
+    count.add("the office stays", None if tables.dump(file) == before else "it was changed")
+    by_words = prepared(drop, "by words")
+    for number, line in enumerate(DONE_LINES):
+        end = ["", "\n", "\r\n"][number % 3]
+        found = drop.run("desk", file, "-", given=(line + end).encode())
+        count.add(f"desk - {line + end!r}", difference(found, SAID_DONE))
+        count.add(f"desk {line!r}", difference(drop.run("desk", by_words, line), SAID_DONE))
+    count.add("the same office", None if tables.dump(file) == tables.dump(by_words) else "it is another")
+
+
+def test_given_bounds(drop, count):
+    """The longest commands, and input without end: no more of it is read than tells that it is no command."""
+    file = drop.office("bounds")
+    for data, owed in [(f"box add in {ANY} 100 2 keep any\r\n", SAID_DONE), (f"key add k2 link {'s' * 128}\r\n", SAID_DONE)]:
+        count.add(f"desk - {data!r}", difference(drop.run("desk", file, "-", given=data.encode()), owed))
+    count.add("its secret", difference(tables.rows(file, "SELECT secret FROM keys WHERE id = 'k2'"), [(b"s" * 128,)]))
+    with open("/dev/zero", "rb") as endless:
+        count.add("input without end", difference(drop.run("desk", file, "-", given=endless), MALFORMED))
+
+
+def test_given_faults(drop, count):
+    """Input that can't be read, and the order of faults: the file's before those of the command."""
+    file, gone = drop.office("faults"), drop.path("gone")
+    before = tables.dump(file)
+    with open(drop.path("told"), "wb") as told:
+        count.add("input to write to", difference(drop.run("desk", file, "-", given=told), CANNOT_READ))
+        count.add("the same, and no file", difference(drop.run("desk", gone, "-", given=told), fault("cannot open the office file")))
+        count.add("a command that is a word", difference(drop.run("desk", file, BOX, given=told), SAID_DONE))
+    added = tables.dump(file)
+    count.add("the box is there", None if added != before else "it is not")
+    folder = os.open(drop.folder, os.O_RDONLY)
+    count.add("a folder", difference(drop.run("desk", file, "-", given=folder), CANNOT_READ))
+    os.close(folder)
+    other = drop.path("other")
+    other.write_bytes(b"not a database\n" * 1000)
+    for data in [b"no command\n", b"two\nlines\n", b""]:
+        for path in [gone, other]:
+            found = drop.run("desk", path, "-", given=data)
+            count.add(f"{path.name}, {data!r}", difference(found, fault("cannot open the office file")))
+        count.add(f"{data!r}", difference(drop.run("desk", file, "-", given=data), MALFORMED))
+    count.add("the office stays", None if tables.dump(file) == added else "it was changed")
+    count.add("no file is made", "there is one" if gone.exists() else None)
+
+
 def examples():
     """The lines that the help shows as examples."""
     lines = (kit.ROOT / "ci" / "desk.help").read_text().splitlines()
@@ -327,7 +386,7 @@ def test_from_nothing(drop, count):
     count.add("the receipt", difference(tables.rows(file, "SELECT number, box, name, length, key_id FROM receipts"), [(1, "roadworks", "a.pdf", 5, "bidder")]))
 
 
-TESTS = [test_days, test_steps, test_words, test_examples, test_links, test_from_nothing]
+TESTS = [test_days, test_steps, test_words, test_given_lines, test_given_bounds, test_given_faults, test_examples, test_links, test_from_nothing]
 
 
 if __name__ == "__main__":

@@ -99,6 +99,11 @@ def test_drop(program, count):
         (["--help"], kit.Run(0, help_of("drop"), b"")),
         *(([name, "--help"], kit.Run(0, help_of(name), b"")) for name in HELPED),
         (["replay"], kit.run([program, "replay"])),
+        *((words, kit.run([program, *words])) for words in [
+            ["init", "none", "--clerk", "k"], ["init", "none", "--clerk", "k", "--secret", "s", "--secret-file", "f"],
+        ]),
+        (["init", "none", "--clerk", "k", "--secret-file", "none"], fault("cannot read the secret")),
+        (["init", "none", "--clerk", "k", "--secret-file", "/dev/stdin"], fault("malformed value: secret")),
     ]:
         name = f"drop {' '.join(words)}"
         others = [OUT_OF_MEMORY] + [TRY_AGAIN] * right.out.startswith(b"HTTP/1.1 ")
@@ -160,10 +165,14 @@ def test_offices(program, folder, count):
     link = ["link", file, "GET", "in/a.txt", *itertools.chain(*((f"--{k}", v) for k, v in office.LINK.items()))]
     line = kit.Run(0, office.python_link("GET", "in/a.txt"), b"")
     each_office(program, "drop init", ["init", file, *init], gone, done, [OUT_OF_MEMORY], count)
+    in_file = ["init", file, "--clerk", ID, "--secret-file", "/dev/stdin"]
+    each_office(program, "drop init --secret-file", in_file, gone, done, [OUT_OF_MEMORY], count, given=SECRET + b"\n")
     each_office(program, "drop link", link, copied, line, [OUT_OF_MEMORY], count)
     box = "box add b 20130101T000000Z 20130601T000000Z 1111111 0000 2400 100 2 keep ends .pdf,.zip"
     told, closed_badly = kit.Run(0, b"done\n", b""), kit.Run(1, b"done\n", OUT_OF_MEMORY.err)
-    each_office(program, "drop desk", ["desk", file, box], copied, told, [OUT_OF_MEMORY, closed_badly], count, [closed_badly])
+    for name, line, given in [("drop desk", box, b""), ("drop desk -", "-", box.encode())]:
+        words = ["desk", file, line]
+        each_office(program, name, words, copied, told, [OUT_OF_MEMORY, closed_badly], count, [closed_badly], given)
 
 
 # ---- sessions: each allocation, in memory and over a file

@@ -28,6 +28,7 @@ CANNOT_OPEN = fault("cannot open the office file")
 DAMAGED = fault("the office file is damaged")
 VERSION = fault("the office file has another version")
 EXISTS = fault("the office file exists already")
+CANNOT_READ_SECRET = fault("cannot read the secret")
 UNKNOWN = fault("the key is unknown")
 FAILED = fault("a connection failed")
 REFUSED = fault("the store refused")
@@ -215,6 +216,65 @@ def test_malformed_keys(drop, count):
     count.add("no file is made", "there is one" if drop.path("malformed").exists() else None)
 
 
+ENDS = {"no end": b"", "LF": b"\n", "CR LF": b"\r\n"}
+
+
+def secret_file(drop, name, data):
+    file = drop.path(f"secret-{name}")
+    file.write_bytes(data)
+    return file
+
+
+def test_secret_files(drop, count):
+    """`--secret-file`: the same office as by `--secret`, and the secret is no word."""
+    for name, data, secret in [
+        ("LF", SECRET + b"\n", SECRET), ("CR LF", SECRET + b"\r\n", SECRET), ("no end", SECRET, SECRET), ("one byte", b"~\n", b"~"),
+        *((f"128 bytes, {name}", b"!" * 128 + end, b"!" * 128) for name, end in ENDS.items()),
+    ]:
+        by_word, by_file = drop.path(f"word {name}"), drop.path(f"file {name}")
+        found = drop.run("init", by_word, "--clerk", ID, f"--secret={secret.decode()}", "--east", "60")
+        count.add(f"--secret, {name}", difference(found, DONE))
+        words = ["init", by_file, "--clerk", ID, "--secret-file", secret_file(drop, name, data), "--east", "60"]
+        found = drop.run(*words)
+        count.add(f"--secret-file, {name}", difference(found, DONE))
+        rows = [office_rows(it) if it.exists() else None for it in (by_word, by_file)]
+        owed = ([(1, 1, 60)], [(ID, 1, secret, 0)], [0, 0, 0, 0])
+        count.add(f"{name}, the offices", difference(rows, [owed, owed]))
+        if len(secret) > 1:
+            count.add(f"{name}, the words", "the secret is among them" if any(secret in os.fsencode(it) for it in words) else None)
+    found = drop.run("init", drop.path("given"), "--clerk", ID, "--secret-file", "/dev/stdin", given=SECRET + b"\n")
+    count.add("--secret-file /dev/stdin", difference(found, DONE))
+    rows = office_rows(drop.path("given")) if found == DONE else None
+    count.add("/dev/stdin, the office", difference(rows, ([(1, 1, 0)], [(ID, 1, SECRET, 0)], [0, 0, 0, 0])))
+
+
+def test_malformed_secret_files(drop, count):
+    """What is no secret on one line, and what can't be read: no file is made, and one that is there is not asked."""
+    there = drop.office("there")
+    before = there.read_bytes()
+    for name, data in [
+        ("two lines", b"one\ntwo\n"), ("an empty line behind", b"one\n\n"), ("an empty line before", b"\none\n"), ("nothing", b""),
+        ("an end", b"\n"), ("CR LF", b"\r\n"), ("CR", b"one\r"), ("LF CR", b"one\n\r"), ("CR CR LF", b"one\r\r\n"), ("CR within", b"o\rne\n"),
+        ("a space", b"two words\n"), ("a space behind", b"one \n"), ("not ASCII", "é\n".encode()), ("0x7F", b"\x7f"), ("0x00", b"one\0\n"),
+        ("many bytes", b"s" * 1000000), *((f"129 bytes, {name}", b"s" * 129 + end) for name, end in ENDS.items()),
+        ("128 bytes and two ends", b"s" * 128 + b"\r\n\n"), ("128 bytes and more", b"s" * 128 + b"\r\ns"), ("128 bytes and CR", b"s" * 128 + b"\r"),
+    ]:
+        words = ["--clerk", ID, "--secret-file", secret_file(drop, name, data)]
+        for file in [drop.path("none"), there]:
+            count.add(f"{file.name}, {name}", difference(drop.run("init", file, *words), malformed("secret")))
+    for name in [drop.path("gone"), drop.folder, ""]:
+        for file in [drop.path("none"), there]:
+            found = drop.run("init", file, "--clerk", ID, "--secret-file", name)
+            count.add(f"{file.name}, the secret in {name!r}", difference(found, CANNOT_READ_SECRET))
+        found = drop.run("init", drop.path("none"), "--clerk", "a b", "--secret-file", name)
+        count.add(f"a clerk, and the secret in {name!r}", difference(found, malformed("clerk")))
+    with open("/dev/null", "wb") as closed:
+        found = drop.run("init", drop.path("none"), "--clerk", ID, "--secret-file", "/dev/stdin", given=closed)
+    count.add("/dev/stdin without a byte", difference(found, malformed("secret")))
+    count.add("no file is made", "there is one" if list(drop.folder.glob("none*")) else None)
+    count.add("the office stays", None if there.read_bytes() == before else "it was changed")
+
+
 def other_program(file):
     with tables.opened(file) as db:
         db.execute("CREATE TABLE notes (id INTEGER PRIMARY KEY, text TEXT)")
@@ -282,6 +342,13 @@ WORDS = [
     ([*INIT, "--west", "-1"], "error: unexpected argument '-1' found"),
     ([*INIT, "more"], "error: unexpected argument 'more' found"),
     ([*INIT, "--clerk", "again"], "error: the argument '--clerk <ID>' cannot be used multiple times"),
+    ([*INIT, "--secret", "again"], "error: the argument '--secret <SECRET>' cannot be used multiple times"),
+    ([*INIT, "--secret-file", "f"], "error: the argument '--secret <SECRET>' cannot be used with '--secret-file <SECRETFILE>'"),
+    (["init", "no-file", "--clerk", "k", "--secret-file"],
+     "error: a value is required for '--secret-file <SECRETFILE>' but none was supplied"),
+    (["init", "no-file", "--clerk", "k", "--secret-file", "f", "--secret-file", "g"],
+     "error: the argument '--secret-file <SECRETFILE>' cannot be used multiple times"),
+    (["init", "no-file", "--secret-file", "f"], "error: the following required arguments were not provided:"),
     (["init", "no-file", "--clerk", "k"], "error: the following required arguments were not provided:"),
     (["init", *CLERK], "error: the following required arguments were not provided:"),
     (["link", "no-file", "GET"], "error: the following required arguments were not provided:"),
@@ -662,8 +729,8 @@ def test_changed(drop, count):
 
 
 # Those that need no office that opens; and the others.
-CLOSED = [test_umasks, test_made, test_malformed_keys, test_init_over, test_init_that_fails, test_words, test_link_faults,
-          test_replay_faults]
+CLOSED = [test_umasks, test_made, test_malformed_keys, test_secret_files, test_malformed_secret_files, test_init_over,
+          test_init_that_fails, test_words, test_link_faults, test_replay_faults]
 OPEN = [test_not_offices, test_links, test_written_links, test_uploads, test_boxes, test_pieces, test_streams, test_stock,
         test_broken, test_versions, test_cut, test_changed]
 

@@ -2,24 +2,27 @@
 use crate::faults::Fault;
 use crate::opening::{Log, OfficeWork, work_over};
 use keeper::Keeper;
-use office::Office;
-use std::io::Write;
-use tasks::Desk;
+use office::{DeskFault, Office};
+use std::alloc::Global;
+use std::io::{Error, ErrorKind, Read, Write};
+use tasks::{Desk, read_line};
 
-// A command that is done, and where that is told.
+/// The most bytes of a command that is read.
+const LONGEST_COMMAND: u16 = 4096;
+
+// A command that is done, and where that is told. There is none where what was to hold it holds no line of its length.
 #[derive(Drop)]
-struct DeskWork<'w, W: Drop> {
-    line: &'w [u8],
+struct DeskWork<W: Drop> {
+    command: Option<Vec<u8>>,
     out: W,
 }
 
-impl<'a, W: Write + Drop> OfficeWork<'a> for DeskWork<'_, W> {
-    fn run<K: Keeper>(
-        mut self,
-        _rt: &HostRuntime,
-        office: &mut Office<K>,
-    ) -> Result<(), Fault<'a>> {
-        office.desk(self.line)?;
+impl<'a, W: Write + Drop> OfficeWork<'a> for DeskWork<W> {
+    fn run<K: Keeper>(mut self, _rt: &HostRuntime, office: &mut Office<K>) -> Result<(), Fault<'a>> {
+        let Some(line) = self.command else {
+            return Err(Fault::Desk(DeskFault::Malformed));
+        };
+        office.desk(line.as_slice())?;
         let told = self
             .out
             .write_all(b"done\n")
@@ -28,15 +31,40 @@ impl<'a, W: Write + Drop> OfficeWork<'a> for DeskWork<'_, W> {
     }
 }
 
-/// Does the command on the office file, and writes `done` to `out`, on a line.
+/// Does the command on the office file, and writes `done` to `out`, on a line. A command that stands in `input` is read
+/// before the file is opened, so that nobody waits for the office while it is typed.
 pub(crate) fn do_desk<'a>(
     rt: &HostRuntime,
     words: &Desk<'_>,
+    input: impl Read + Drop,
     out: &mut impl Write,
 ) -> Result<(), Fault<'a>> {
-    let work = DeskWork {
-        line: words.line.as_bytes(),
-        out,
-    };
-    work_over(rt, words.file, Log::IntoTheFile, work)
+    let command = read_command(rt.alloc(), words.line, input)?;
+    work_over(
+        rt,
+        words.file,
+        Log::IntoTheFile,
+        DeskWork { command, out },
+    )
+}
+
+// The command that the words give: the word itself, or for `-` the line that the input holds; `None` where it holds no line,
+// more than one, or a longer one.
+fn read_command(
+    alloc: Global,
+    line: &str,
+    input: impl Read + Drop,
+) -> Result<Option<Vec<u8>>, Fault<'static>> {
+    if line != "-" {
+        return Ok(Some(Vec::from_slice(alloc, line.as_bytes())?));
+    }
+    read_line(alloc, input, LONGEST_COMMAND).map_err(unread)
+}
+
+// Why the command could not be read.
+fn unread(error: Error) -> Fault<'static> {
+    match error.kind() {
+        ErrorKind::OutOfMemory => Fault::OutOfMemory,
+        _ => Fault::CannotReadCommand,
+    }
 }

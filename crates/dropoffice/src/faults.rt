@@ -12,6 +12,9 @@ pub(crate) enum Fault<'a> {
     /// A value, which the program's words name so, has another form.
     #[error("malformed value: {0}")]
     MalformedValue(&'a str),
+    /// The file that holds the secret could not be opened or read.
+    #[error("cannot read the secret")]
+    CannotReadSecret,
     /// The office file is not there, or is none that can be opened.
     #[error("cannot open the office file")]
     CannotOpen,
@@ -21,6 +24,9 @@ pub(crate) enum Fault<'a> {
     /// What the file was found to be, or a refusal of its store.
     #[error("{0}")]
     Office(OpenFault),
+    /// The command of the desk could not be read.
+    #[error("cannot read the command")]
+    CannotReadCommand,
     /// The desk refused the command.
     #[error("{0}")]
     Desk(DeskFault),

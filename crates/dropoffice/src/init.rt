@@ -10,20 +10,25 @@ use sqlkeeper::{OpenFault, SqlKeeper};
 use std::alloc::Global;
 use std::fs;
 use std::fs::{Files, OpenFile, OpenOptions, Permissions};
-use std::io::ErrorKind;
+use std::io::{Error, ErrorKind};
 use std::os::unix::fs::{OpenOptionsExt, PermissionsExt};
-use tasks::Init;
+use tasks::{Init, Secret, read_line};
 
 /// Readable and writable by its owner alone.
 const OWNERS: u32 = 0o600;
 
-/// Makes an office file: of a file that is not there, or of one without a byte.
+/// The most bytes of a secret.
+const LONGEST_SECRET: u16 = 128;
+
+/// Makes an office file: of a file that is not there, or of one without a byte. Where the words name a file with the secret,
+/// that is read before.
 pub(crate) fn do_init(rt: &HostRuntime, words: &Init<'_>) -> Result<(), Fault<'static>> {
     let office = read_office(words)?;
+    let secret = read_secret(rt, words.secret)?;
     let log = format!(in rt.alloc(); "{}-wal", words.file)?;
     let had_log = fs::symlink_metadata(rt, log.as_str()).is_ok();
     let is_new = make_file(rt, words.file)?;
-    let made = make_office(rt, words, office);
+    let made = make_office(rt, words, secret.as_slice(), office);
     if is_new && is_unmade(&made) {
         remove_made(rt, words.file, log.as_str(), had_log);
     }
@@ -38,17 +43,47 @@ fn is_unmade(made: &Result<(), Fault<'_>>) -> bool {
     }
 }
 
-// The office that the words ask for, where each value of theirs has its form.
+// The office that the words ask for, where the id, the minutes and a secret that is a word have their forms.
 fn read_office(words: &Init<'_>) -> Result<OfficeRow, Fault<'static>> {
     if !is_key_id(words.clerk.as_bytes()) {
         return Err(Fault::MalformedValue("clerk"));
     }
-    if !is_secret(words.secret.as_bytes()) {
-        return Err(Fault::MalformedValue("secret"));
+    if let Secret::Given(text) = words.secret {
+        check_secret(text.as_bytes())?;
     }
     let east = minutes_of(words.east).ok_or(Fault::MalformedValue("east"))?;
     let west = minutes_of(words.west).ok_or(Fault::MalformedValue("west"))?;
     Ok(OfficeRow { east: east - west })
+}
+
+fn check_secret(secret: &[u8]) -> Result<(), Fault<'static>> {
+    if is_secret(secret) {
+        Ok(())
+    } else {
+        Err(Fault::MalformedValue("secret"))
+    }
+}
+
+// The secret that the words give: one of them, or the line of the file that they name, where that has its form.
+fn read_secret(rt: &HostRuntime, secret: Secret<'_>) -> Result<Vec<u8>, Fault<'static>> {
+    let name = match secret {
+        Secret::Given(text) => return Ok(Vec::from_slice(rt.alloc(), text.as_bytes())?),
+        Secret::InFile(name) => name,
+    };
+    let file = fs::open(rt, name).map_err(unread)?;
+    let Some(line) = read_line(rt.alloc(), file, LONGEST_SECRET).map_err(unread)? else {
+        return Err(Fault::MalformedValue("secret"));
+    };
+    check_secret(line.as_slice())?;
+    Ok(line)
+}
+
+// Why the file with the secret could not be read.
+fn unread(error: Error) -> Fault<'static> {
+    match error.kind() {
+        ErrorKind::OutOfMemory => Fault::OutOfMemory,
+        _ => Fault::CannotReadSecret,
+    }
 }
 
 // A whole number of minutes, from 0 to 840. The program's words hold no other.
@@ -93,10 +128,12 @@ fn remove_made<R: Files>(rt: &R, file: &str, log: &str, had_log: bool) {
 fn make_office(
     rt: &HostRuntime,
     words: &Init<'_>,
+    secret: &[u8],
     office: OfficeRow,
 ) -> Result<(), Fault<'static>> {
     let conn = connect(rt, words.file)?;
-    disconnect(create_over(rt.alloc(), conn, office, words)?)
+    let clerk = words.clerk.as_bytes();
+    disconnect(create_over(rt.alloc(), conn, office, clerk, secret)?)
 }
 
 // Makes an office of a database without a table.
@@ -104,15 +141,10 @@ fn create_over<S: Alter + Drop>(
     alloc: Global,
     conn: Connection<S>,
     office: OfficeRow,
-    words: &Init<'_>,
+    clerk: &[u8],
+    secret: &[u8],
 ) -> Result<Connection<S>, Fault<'static>> {
-    match SqlKeeper::create(
-        alloc,
-        conn,
-        office,
-        words.clerk.as_bytes(),
-        words.secret.as_bytes(),
-    ) {
+    match SqlKeeper::create(alloc, conn, office, clerk, secret) {
         Ok(keeper) => Ok(keeper.close()),
         Err((fault, _)) => Err(Fault::from(fault)),
     }

@@ -17,4 +17,4 @@ pub use office::{
     replay_in_memory, replay_over, serve,
 };
 pub use program::perform;
-pub use tasks::{Desk, Init, Link, Links, OfficeFile, Replay, Serve, Task};
+pub use tasks::{Desk, Init, Link, Links, OfficeFile, Replay, Secret, Serve, Task};

@@ -24,7 +24,8 @@ const WORDS: u8 = 2;
 /// 0 where it was done, though requests were refused; 1 where a line `drop: <fault>` was written to
 /// `err`; 2 for words that clap refuses, whose text was written to `err`. Help that was asked for, `done` for a
 /// command of the desk, links, a manifest, what stands of one, a replay's answers, and where a server listens are written to
-/// `out`. Lists of links that are wanted, and manifests to compare, are read from `input`.
+/// `out`. Lists of links that are wanted, manifests to compare, and a command of the desk that is no word are read from
+/// `input`.
 pub fn perform(
     rt: &HostRuntime,
     words: &[&str],
@@ -34,7 +35,7 @@ pub fn perform(
 ) -> u8 {
     match Task::read(rt.alloc(), words) {
         Ok(Task::Init(words)) => status_of(do_init(rt, &words), &mut err),
-        Ok(Task::Desk(words)) => status_of(do_desk(rt, &words, &mut out), &mut err),
+        Ok(Task::Desk(words)) => status_of(do_desk(rt, &words, input, &mut out), &mut err),
         Ok(Task::Link(words)) => status_of(do_link(rt, &words, &mut out), &mut err),
         Ok(Task::Links(words)) => status_of(do_links(rt, &words, input, out), &mut err),
         Ok(Task::Manifest(words)) => status_of(do_manifest(rt, &words, out), &mut err),

@@ -8,17 +8,17 @@ use Rattle.clap.specs.Faults.{fault_of, is_simple_and_free, level_fault}
 use Rattle.clap.specs.Walk.{Row, Text, answers_to, nothing_held, rows_after}
 use Rattle.clap.specs.Words.{App, subcommand_of}
 use Rattle.clap.proofs.OnLiterals.{clap_on_literals}
-use Rattle.tasks.specs.Tasks.{HasDesk, HasInit, HasLink, HasLinks, HasReplay, HasServe, HasValue, NamesTask, at_rule, clerk_rule, compare_app, connections_rule, desk_app, drop_app, east_rule, expires_rule, file_rule, host_rule, init_app, key_rule, line_rule, link_app, links_app, listen_rule, manifest_app, method_rule, patience_rule, region_rule, replay_app, secret_rule, serve_app, start_rule, streams_rule, target_app, target_rule, west_rule}
+use Rattle.tasks.specs.Tasks.{HasDesk, HasInit, HasLink, HasLinks, HasOneSecret, HasReplay, HasServe, HasValue, NamesOneSecret, NamesTask, at_rule, clerk_rule, compare_app, connections_rule, desk_app, drop_app, east_rule, expires_rule, file_rule, host_rule, init_app, key_rule, line_rule, link_app, links_app, listen_rule, manifest_app, method_rule, patience_rule, region_rule, replay_app, secret_file_rule, secret_rule, serve_app, start_rule, streams_rule, target_app, target_rule, west_rule}
 use Rattle.tasks.proofs.FullRows.{fills}
 use Rattle.tasks.proofs.Defaulted.{all_given, default_value, has_default}
 use Rattle.tasks.proofs.FaultFree.{Enters, enters, needed_value, needs}
 
 pub simple : is_simple drop_app ≡ true
-unfolding drop_app init_app desk_app link_app target_app links_app manifest_app compare_app replay_app serve_app file_rule line_rule streams_rule at_rule method_rule target_rule clerk_rule secret_rule key_rule host_rule region_rule start_rule expires_rule east_rule west_rule listen_rule connections_rule patience_rule clap_on_literals
+unfolding drop_app init_app desk_app link_app target_app links_app manifest_app compare_app replay_app serve_app file_rule line_rule streams_rule at_rule method_rule target_rule clerk_rule secret_rule secret_file_rule key_rule host_rule region_rule start_rule expires_rule east_rule west_rule listen_rule connections_rule patience_rule clap_on_literals
 simple = refl
 
 pub simple_and_free : is_simple_and_free drop_app ≡ true
-unfolding drop_app init_app desk_app link_app target_app links_app manifest_app compare_app replay_app serve_app file_rule line_rule streams_rule at_rule method_rule target_rule clerk_rule secret_rule key_rule host_rule region_rule start_rule expires_rule east_rule west_rule listen_rule connections_rule patience_rule clap_on_literals
+unfolding drop_app init_app desk_app link_app target_app links_app manifest_app compare_app replay_app serve_app file_rule line_rule streams_rule at_rule method_rule target_rule clerk_rule secret_rule secret_file_rule key_rule host_rule region_rule start_rule expires_rule east_rule west_rule listen_rule connections_rule patience_rule clap_on_literals
 simple_and_free = refl
 
 -- ---- the commands as clap builds them
@@ -74,7 +74,7 @@ unfolding init_built settings drop_app init_app
 init_name = refl
 
 init_fills : list_all fills init_built.rules ≡ true
-unfolding init_built settings drop_app init_app file_rule clerk_rule secret_rule east_rule west_rule
+unfolding init_built settings drop_app init_app file_rule clerk_rule secret_rule secret_file_rule east_rule west_rule
 init_fills = refl
 
 init_asks : init_built.subcommand_negates_reqs ≡ false
@@ -82,31 +82,28 @@ unfolding init_built settings drop_app init_app
 init_asks = refl
 
 init_needs_file : needs (codes "file") init_built.rules ≡ true
-unfolding init_built settings drop_app init_app file_rule clerk_rule secret_rule east_rule west_rule
+unfolding init_built settings drop_app init_app file_rule clerk_rule secret_rule secret_file_rule east_rule west_rule
 init_needs_file = refl
 
 init_needs_clerk : needs (codes "clerk") init_built.rules ≡ true
-unfolding init_built settings drop_app init_app file_rule clerk_rule secret_rule east_rule west_rule
+unfolding init_built settings drop_app init_app file_rule clerk_rule secret_rule secret_file_rule east_rule west_rule
 init_needs_clerk = refl
 
-init_needs_secret : needs (codes "secret") init_built.rules ≡ true
-unfolding init_built settings drop_app init_app file_rule clerk_rule secret_rule east_rule west_rule
-init_needs_secret = refl
-
 init_has_east : has_default (codes "east") init_built.rules ≡ true
-unfolding init_built settings drop_app init_app file_rule clerk_rule secret_rule east_rule west_rule
+unfolding init_built settings drop_app init_app file_rule clerk_rule secret_rule secret_file_rule east_rule west_rule
 init_has_east = refl
 
 init_has_west : has_default (codes "west") init_built.rules ≡ true
-unfolding init_built settings drop_app init_app file_rule clerk_rule secret_rule east_rule west_rule
+unfolding init_built settings drop_app init_app file_rule clerk_rule secret_rule secret_file_rule east_rule west_rule
 init_has_west = refl
 
-init_values : (words : List Text) → level_fault init_built [] nothing_held words false [] ≡ [] → HasInit (rows_after init_built.rules [] words)
-init_values words free =
+init_values : (words : List Text) → level_fault init_built [] nothing_held words false [] ≡ [] → HasOneSecret (rows_after init_built.rules [] words)
+    → HasInit (rows_after init_built.rules [] words)
+init_values words free one =
     let given = needed_value init_built words init_fills init_asks free in (
       given (codes "file") init_needs_file,
       given (codes "clerk") init_needs_clerk,
-      given (codes "secret") init_needs_secret,
+      one,
       default_value init_built words init_fills free (codes "east") init_has_east,
       default_value init_built words init_fills free (codes "west") init_has_west,
     )
@@ -392,13 +389,15 @@ module _ (words : List Text) (e : Enters (built drop_app) (argument_words drop_a
   free_here : level_fault s [] nothing_held e.rest false [] ≡ []
   free_here = subst (λ x. level_fault x [] nothing_held e.rest false [] ≡ []) (sym is) e.fault_free
 
-pub task_named : (words : List Text) → fault_of drop_app words ≡ [] → NamesTask (subcommand_of drop_app words)
-task_named words free =
+pub task_named : (words : List Text) → fault_of drop_app words ≡ [] → NamesOneSecret (subcommand_of drop_app words) → NamesTask (subcommand_of drop_app words)
+task_named words free one =
     let e = enters (built drop_app) (argument_words drop_app words) has_help needs_command free in
     let found : find (λ s. answers_to e.name (label_of s)) (init_built ∷ desk_built ∷ link_built ∷ links_built ∷ manifest_built ∷ compare_built ∷ replay_built ∷ serve_built ∷ help_built ∷ []) ≡ Some e.shape =
     ap (find (λ s. answers_to e.name (label_of s))) (sym commands) ∙ e.found in
     elim (found_task e.name e.shape e.not_help found) [
-      | inl is ↦ inl (rows_after init_built.rules [] e.rest, rows_named words e init_built is (codes "init") init_name, init_values e.rest (free_here words e init_built is))
+      | inl is ↦
+          let named = rows_named words e init_built is (codes "init") init_name in
+          inl (rows_after init_built.rules [] e.rest, named, init_values e.rest (free_here words e init_built is) (one (rows_after init_built.rules [] e.rest) named))
       | inr (inl is) ↦ inr (inl (rows_after desk_built.rules [] e.rest, rows_named words e desk_built is (codes "desk") desk_name, desk_values e.rest (free_here words e desk_built is)))
       | inr (inr (inl is)) ↦ inr (inr (inl (rows_after link_built.rules [] e.rest, rows_named words e link_built is (codes "link") link_name, link_values e.rest (free_here words e link_built is))))
       | inr (inr (inr (inl (inl is)))) ↦ inr (inr (inr (inl (inl (rows_after links_built.rules [] e.rest, rows_named words e links_built is (codes "links") links_name, links_values e.rest (free_here words e links_built is))))))
@@ -418,5 +417,7 @@ pub named_by : (a : App) (words : List Text) (named : Option (Text × List Row))
 named_by a words named is met = met (ap is_simple is ∙ simple) ∙ ap (λ x. subcommand_of x words) is
 
 pub names_task : (a : App) (words : List Text) (named : Option (Text × List Row)) → a ≡ drop_app → (is_simple_and_free a ≡ true → fault_of a words ≡ [])
-    → (is_simple a ≡ true → named ≡ subcommand_of a words) → NamesTask named
-names_task a words named is free met = subst NamesTask (sym (named_by a words named is met)) (task_named words (free_of a words is free))
+    → (is_simple a ≡ true → named ≡ subcommand_of a words) → NamesOneSecret named → NamesTask named
+names_task a words named is free met one =
+    let same = named_by a words named is met in
+    subst NamesTask (sym same) (task_named words (free_of a words is free) (subst NamesOneSecret same one))

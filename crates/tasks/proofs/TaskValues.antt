@@ -17,6 +17,9 @@ some_given name f None text has =
     cc
 some_given name f (Some v) text has = search rules
 
+pub none_given : (name : Text) (f : Found) (given : Option (Bor Text)) → option_map (λ s. s.now) given ≡ first_value f name → given ≡ None → first_of name (rows_of f) ≡ None
+none_given name f given text none = sym (first_value-rows f name) ∙ sym text ∙ ap (option_map (λ s. s.now)) none
+
 abbrev Texts : Type 0
 Texts = Bor (List (Bor Text))
 

@@ -1,15 +1,19 @@
 -- The command line of the program, as clap reads it, and the task that its words name.
-use Rattle.std.specs.Prelude.{◌≡◌, ◌⊎◌, [], ◌∷◌, List, codes, map, Option, Some, is_some, true}
+use Rattle.std.specs.Prelude.{◌≡◌, ◌⊎◌, [], ◌∷◌, List, codes, map, Option, Some, None, is_some, true}
 use Rattle.clap.specs.Lexer.{usize_max}
-use Rattle.clap.specs.Words.{App, Row, Rule, Text, all_of, first_of, new_app, new_rule, subcommand_of, with_rule, with_subcommand}
+use Rattle.clap.specs.Words.{App, IsAmong, Row, Rule, Text, all_of, fault_of, first_of, new_app, new_rule, subcommand_of, with_rule, with_subcommand}
 use Rattle.clap.specs.Simple.{on_top}
 use Rattle.clap.specs.declared.builder.value_parser.ValueParser.TheVariants.{Unsigned}
+use Rattle.clap.specs.declared.error.kind.ErrorKind.{ErrorKind}
+use Rattle.clap.specs.declared.error.kind.ErrorKind.TheVariants.{ArgumentConflict, MissingRequiredArgument}
 use Rattle.tasks.specs.declared.task.Desk.{Desk}
 use Rattle.tasks.specs.declared.task.Init.{Init}
 use Rattle.tasks.specs.declared.task.Link.{Link}
 use Rattle.tasks.specs.declared.task.Links.{Links}
 use Rattle.tasks.specs.declared.task.OfficeFile.{OfficeFile}
 use Rattle.tasks.specs.declared.task.Replay.{Replay}
+use Rattle.tasks.specs.declared.task.Secret.{Secret}
+use Rattle.tasks.specs.declared.task.Secret.TheVariants as secret
 use Rattle.tasks.specs.declared.task.Serve.{Serve}
 use Rattle.tasks.specs.declared.task.Task.{Task}
 use Rattle.tasks.specs.declared.task.Task.TheVariants as task
@@ -23,6 +27,10 @@ word_rule id = record (new_rule id) { value_names = 1; required = true }
 -- --at MOMENT and the like
 abbrev pub option_rule : Text → Rule
 option_rule id = record (new_rule id) { long = Some id; value_names = 1; required = true }
+
+-- --secret SECRET and the like, which may be left out
+abbrev pub optional_rule : Text → Rule
+optional_rule id = record (new_rule id) { long = Some id; value_names = 1 }
 
 -- FILE
 unfoldable pub file_rule : Rule
@@ -47,12 +55,9 @@ method_rule = word_rule (codes "method")
 unfoldable pub target_rule : Rule
 target_rule = word_rule (codes "target")
 
--- --clerk ID, --secret SECRET, --key ID, --host H, --region R, --start MOMENT
+-- --clerk ID, --key ID, --host H, --region R, --start MOMENT
 unfoldable pub clerk_rule : Rule
 clerk_rule = option_rule (codes "clerk")
-
-unfoldable pub secret_rule : Rule
-secret_rule = option_rule (codes "secret")
 
 unfoldable pub key_rule : Rule
 key_rule = option_rule (codes "key")
@@ -65,6 +70,13 @@ region_rule = option_rule (codes "region")
 
 unfoldable pub start_rule : Rule
 start_rule = option_rule (codes "start")
+
+-- --secret SECRET and --secret-file SECRETFILE. That one of the two is given clap is not told: Task::read sees to it
+unfoldable pub secret_rule : Rule
+secret_rule = optional_rule (codes "secret")
+
+unfoldable pub secret_file_rule : Rule
+secret_file_rule = optional_rule (codes "secret-file")
 
 -- --expires N, a whole number from 1 to 604800
 unfoldable pub expires_rule : Rule
@@ -94,9 +106,9 @@ west_rule = minutes_rule (codes "west")
 
 -- ---- the commands
 
--- init FILE --clerk ID --secret SECRET --east M --west M
+-- init FILE --clerk ID --secret SECRET --secret-file SECRETFILE --east M --west M
 unfoldable pub init_app : App
-init_app = with_rule (with_rule (with_rule (with_rule (with_rule (new_app (codes "init")) file_rule) clerk_rule) secret_rule) east_rule) west_rule
+init_app = with_rule (with_rule (with_rule (with_rule (with_rule (with_rule (new_app (codes "init")) file_rule) clerk_rule) secret_rule) secret_file_rule) east_rule) west_rule
 
 -- desk FILE LINE
 unfoldable pub desk_app : App
@@ -140,12 +152,17 @@ drop_app =
 
 -- ---- the values that the matches give
 
+-- the matches give this secret, and not in the other way too
+abbrev pub IsSecretIn : List Row → Secret → Type 0
+IsSecretIn rows (secret.Given text) = (first_of (codes "secret") rows ≡ Some text.now) × (first_of (codes "secret-file") rows ≡ None)
+IsSecretIn rows (secret.InFile name) = (first_of (codes "secret") rows ≡ None) × (first_of (codes "secret-file") rows ≡ Some name.now)
+
 -- the matches give these values
 abbrev pub IsInitOf : List Row → Init → Type 0
 IsInitOf rows i =
     (first_of (codes "file") rows ≡ Some i.file.now)
     × (first_of (codes "clerk") rows ≡ Some i.clerk.now)
-    × (first_of (codes "secret") rows ≡ Some i.secret.now)
+    × IsSecretIn rows i.secret
     × (first_of (codes "east") rows ≡ Some i.east.now)
     × (first_of (codes "west") rows ≡ Some i.west.now)
 
@@ -192,10 +209,15 @@ IsServeIn rows s =
 abbrev pub HasValue : Text → List Row → Type 0
 HasValue id rows = is_some (first_of id rows) ≡ true
 
+-- the matches give one secret: as a word or in a file, and not both
+abbrev pub HasOneSecret : List Row → Type 0
+HasOneSecret rows =
+    (HasValue (codes "secret") rows × (first_of (codes "secret-file") rows ≡ None)) ⊎ ((first_of (codes "secret") rows ≡ None) × HasValue (codes "secret-file") rows)
+
 -- the matches give each value
 abbrev pub HasInit : List Row → Type 0
 HasInit rows =
-    HasValue (codes "file") rows × HasValue (codes "clerk") rows × HasValue (codes "secret") rows × HasValue (codes "east") rows × HasValue (codes "west") rows
+    HasValue (codes "file") rows × HasValue (codes "clerk") rows × HasOneSecret rows × HasValue (codes "east") rows × HasValue (codes "west") rows
 
 abbrev pub HasDesk : List Row → Type 0
 HasDesk rows = HasValue (codes "file") rows × HasValue (codes "line") rows
@@ -262,6 +284,32 @@ NamesServe named = (rows : List Row) × (named ≡ Some (codes "serve", rows)) �
 abbrev pub NamesTask : Option (Text × List Row) → Type 0
 NamesTask named = NamesInit named ⊎ (NamesDesk named ⊎ (NamesLink named ⊎ (NamesList named ⊎ (NamesReplay named ⊎ NamesServe named))))
 
+-- ---- the secret of init
+
+-- init is named, and no secret is given
+abbrev pub NamesNoSecret : Option (Text × List Row) → Type 0
+NamesNoSecret named =
+    (rows : List Row) × (named ≡ Some (codes "init", rows)) × (first_of (codes "secret") rows ≡ None) × (first_of (codes "secret-file") rows ≡ None)
+
+-- init is named, and a secret is given as a word and in a file
+abbrev pub NamesTwoSecrets : Option (Text × List Row) → Type 0
+NamesTwoSecrets named =
+    (rows : List Row) × (named ≡ Some (codes "init", rows)) × HasValue (codes "secret") rows × HasValue (codes "secret-file") rows
+
+-- the secrets of init are refused, as an error of this kind
+abbrev pub IsSecretFault : Option (Text × List Row) → ErrorKind → Type 0
+IsSecretFault named kind =
+    (NamesNoSecret named × (kind ≡ MissingRequiredArgument)) ⊎ (NamesTwoSecrets named × (kind ≡ ArgumentConflict))
+
+-- where init is named, it is given one secret
+abbrev pub NamesOneSecret : Option (Text × List Row) → Type 0
+NamesOneSecret named = (rows : List Row) → named ≡ Some (codes "init", rows) → HasOneSecret rows
+
 -- the words name this task
 abbrev pub IsTaskOf : List Text → Task → Type 0
 IsTaskOf words = IsTaskIn (subcommand_of drop_app words)
+
+-- the words have a fault of this kind: by clap's own definition, or clap takes them and the secrets of init are refused
+abbrev pub IsFaultOf : List Text → ErrorKind → Type 0
+IsFaultOf words kind =
+    IsAmong kind (fault_of drop_app words) ⊎ ((fault_of drop_app words ≡ []) × IsSecretFault (subcommand_of drop_app words) kind)

@@ -1,7 +1,9 @@
 //! What the program's words ask for.
 #![tactic(auto)]
 
+pub mod lines;
 pub mod task;
 mod words;
 
-pub use task::{Desk, Init, Link, Links, OfficeFile, Replay, Serve, Task};
+pub use lines::{line_in, read_line};
+pub use task::{Desk, Init, Link, Links, OfficeFile, Replay, Secret, Serve, Task};

@@ -1,9 +1,9 @@
 //! What the program's words ask for.
-ghost use Rattle.std.specs.Prelude.{◌≡◌, IfOk, IfErr, IfSome, IsSome, Some, codes, is_some, true, map};
-ghost use Rattle.clap.specs.Words.{all_of, fault_of, first_of, found_of, kind_of, rows_of, subcommand_rows_of, takes, FailsBy};
-ghost use Rattle.tasks.specs.Tasks.{drop_app, HasDesk, HasInit, HasLink, HasLinks, HasReplay, HasServe, HasValue, IsDeskIn, IsInitOf, IsLinkIn, IsLinksIn, IsOfficeIn, IsReplayOf, IsServeIn, IsTaskIn, IsTaskOf, NamesCompare, NamesDesk, NamesInit, NamesLink, NamesLinks, NamesList, NamesManifest, NamesReplay, NamesServe, NamesTask};
+ghost use Rattle.std.specs.Prelude.{◌≡◌, ◌⊎◌, [], IfOk, IfErr, IfSome, IsErrAnd, IsSome, MatchResult, None, Some, codes, is_some, true, map};
+ghost use Rattle.clap.specs.Words.{all_of, fault_of, first_of, found_of, kind_of, rows_of, subcommand_of, subcommand_rows_of, takes};
+ghost use Rattle.tasks.specs.Tasks.{drop_app, HasDesk, HasInit, HasLink, HasLinks, HasOneSecret, HasReplay, HasServe, HasValue, IsDeskIn, IsFaultOf, IsInitOf, IsLinkIn, IsLinksIn, IsOfficeIn, IsReplayOf, IsSecretFault, IsSecretIn, IsServeIn, IsTaskIn, IsTaskOf, NamesCompare, NamesDesk, NamesInit, NamesLink, NamesLinks, NamesList, NamesManifest, NamesOneSecret, NamesReplay, NamesServe, NamesTask};
 
-use crate::words::command_line;
+use crate::words::{command_line, init_command};
 use clap::error::ErrorKind;
 use clap::{ArgMatches, Error};
 use std::alloc::{AllocError, Global};
@@ -29,8 +29,9 @@ pub enum Task<'a> {
     Serve(Serve<'a>),
 }
 
-/// The words of `drop init FILE --clerk ID --secret SECRET --east M --west M`, each as it was given, and the two numbers
-/// `0` where they were left out. The numbers are from 0 to 840; of the others no form is asked here.
+/// The words of `drop init FILE --clerk ID --secret SECRET --east M --west M`, or with `--secret-file SECRETFILE` in the
+/// place of `--secret SECRET`, each as it was given, and the two numbers `0` where they were left out. The numbers are from
+/// 0 to 840; of the others no form is asked here.
 #[derive(Clone, Copy)]
 pub struct Init<'a> {
     /// The office file.
@@ -38,11 +39,20 @@ pub struct Init<'a> {
     /// The id of the clerk's key.
     pub clerk: &'a str,
     /// Its secret.
-    pub secret: &'a str,
+    pub secret: Secret<'a>,
     /// How many minutes the office's clock is ahead of UTC.
     pub east: &'a str,
     /// How many minutes it is behind UTC.
     pub west: &'a str,
+}
+
+/// Where the secret of a key stands. It has no `Debug`, so that no secret gets into a log by it.
+#[derive(Clone, Copy)]
+pub enum Secret<'a> {
+    /// It is this word.
+    Given(&'a str),
+    /// It is the line of the file of this name.
+    InFile(&'a str),
 }
 
 /// The words of `drop desk FILE LINE`, each as it was given: no form is asked of them here. It has no `Debug`, since a line
@@ -130,11 +140,18 @@ impl<'a> Task<'a> {
     pub fn read(alloc: Global, words: &'a [&'a str]) -> Result<Task<'a>, Error>
         ensures task { IfOk result (IsTaskOf (map (λ w. w.now) words.entry.now)) }
         ensures passes { IfErr result (λ e. takes drop_app (map (λ w. w.now) words.entry.now) ≡ true
-            → kind_of e ≡ ErrorKind.OutOfMemory) }
-        ensures kinds { FailsBy (fault_of drop_app (map (λ w. w.now) words.entry.now)) result }
+            → (kind_of e ≡ ErrorKind.OutOfMemory) ⊎ IsSecretFault (subcommand_of drop_app (map (λ w. w.now) words.entry.now)) (kind_of e)) }
+        ensures kinds { MatchResult result (λ _. fault_of drop_app (map (λ w. w.now) words.entry.now) ≡ [])
+            (λ e. (kind_of e ≡ ErrorKind.OutOfMemory) ⊎ IsFaultOf (map (λ w. w.now) words.entry.now) (kind_of e)) }
+        ensures secrets { (kind : ErrorKind) → IsSecretFault (subcommand_of drop_app (map (λ w. w.now) words.entry.now)) kind
+            → fault_of drop_app (map (λ w. w.now) words.entry.now) ≡ []
+            → IsErrAnd result (λ e. (kind_of e ≡ ErrorKind.OutOfMemory) ⊎ (kind_of e ≡ kind)) }
     {
         let mut command = command_line(alloc)?;
         let matches = command.try_get_matches_from_mut(words)?;
+        if let Some(kind) = secret_fault(&matches) {
+            return Err(secret_error(alloc, kind)?);
+        }
         match Task::of_matches(alloc, &matches)? {
             Some(task) => Ok(task),
             // The contract says that it does not come to this: clap has refused such words.
@@ -257,10 +274,24 @@ impl<'a> Init<'a> {
         Some(Init {
             file: value_of(values, "file")?,
             clerk: value_of(values, "clerk")?,
-            secret: value_of(values, "secret")?,
+            secret: Secret::of_matches(values)?,
             east: value_of(values, "east")?,
             west: value_of(values, "west")?,
         })
+    }
+}
+
+impl<'a> Secret<'a> {
+    // The one that was given, where it is one.
+    fn of_matches(values: &ArgMatches<'a>) -> Option<Secret<'a>>
+        ensures values { IfSome result (IsSecretIn (rows_of (found_of values.now))) }
+        ensures given { HasOneSecret (rows_of (found_of values.now)) → IsSome result }
+    {
+        match (value_of(values, "secret"), value_of(values, "secret-file")) {
+            (Some(text), None) => Some(Secret::Given(text)),
+            (None, Some(name)) => Some(Secret::InFile(name)),
+            (None, None) | (Some(_), Some(_)) => None,
+        }
     }
 }
 
@@ -351,10 +382,37 @@ impl<'a> Replay<'a> {
     }
 }
 
+// What is wrong with the secrets of `init`, where the words name it: that none is given, or two.
+fn secret_fault(matches: &ArgMatches<'_>) -> Option<ErrorKind>
+    ensures fault { IfSome result (IsSecretFault (subcommand_rows_of matches.now)) }
+    ensures one { (result ≡ None) → NamesOneSecret (subcommand_rows_of matches.now) }
+{
+    let values = matches.subcommand_matches("init")?;
+    match (value_of(values, "secret"), value_of(values, "secret-file")) {
+        (None, None) => Some(ErrorKind::MissingRequiredArgument),
+        (Some(_), Some(_)) => Some(ErrorKind::ArgumentConflict),
+        (Some(_), None) | (None, Some(_)) => None,
+    }
+}
+
+// What is told of that, as clap tells it of the words that it refuses itself.
+fn secret_error(alloc: Global, kind: ErrorKind) -> Result<Error, AllocError>
+    ensures kind { IfOk result (λ e. kind_of e ≡ kind) }
+{
+    let message = match kind {
+        ErrorKind::ArgumentConflict =>
+            "the argument '--secret <SECRET>' cannot be used with '--secret-file <SECRETFILE>'",
+        _ =>
+            "the following required arguments were not provided:\n  <--secret <SECRET>|--secret-file <SECRETFILE>>",
+    };
+    init_command(alloc)?.error(kind, message)
+}
+
 // The value of an argument that has one value.
 fn value_of<'a>(values: &ArgMatches<'a>, id: &str) -> Option<&'a str>
     ensures value { IfSome result (λ s. first_of id.now (rows_of (found_of values.now)) ≡ Some s.now) }
     ensures given { HasValue id.now (rows_of (found_of values.now)) → IsSome result }
+    ensures absent { (result ≡ None) → first_of id.now (rows_of (found_of values.now)) ≡ None }
 {
     values.get_str(id)
 }

@@ -2,11 +2,15 @@
 ghost use Rattle.std.specs.Prelude.{◌≡◌, IfOk, false};
 ghost use Rattle.clap.specs.Words.{app_of, rule_of};
 ghost use Rattle.clap.specs.declared.builder.command.Command.TheViews.{out-Command};
-ghost use Rattle.tasks.specs.Tasks.{compare_app, desk_app, drop_app, init_app, link_app, links_app, manifest_app, replay_app, serve_app, target_app, connections_rule, expires_rule, host_rule, key_rule, minutes_rule, option_rule, patience_rule, region_rule, streams_rule, word_rule};
+ghost use Rattle.tasks.specs.Tasks.{compare_app, desk_app, drop_app, init_app, link_app, links_app, manifest_app, replay_app, serve_app, target_app, connections_rule, expires_rule, host_rule, key_rule, minutes_rule, option_rule, optional_rule, patience_rule, region_rule, streams_rule, word_rule};
 
 use clap::builder::ValueParser;
 use clap::{Arg, Command};
 use std::alloc::{AllocError, Global};
+
+// The words of `init`: that one of its two secrets is given clap can't tell.
+const INIT_USAGE: &str =
+    "drop init [OPTIONS] --clerk <ID> <--secret <SECRET>|--secret-file <SECRETFILE>> <FILE>";
 
 // What stands below the help of `desk`: the forms of its commands, each with an example.
 const DESK_FORMS: &str = "\
@@ -46,7 +50,11 @@ The commands. One space stands between two words. Each example is a LINE, in quo
       Example: file drop roadworks plan 2.pdf
 
 For an office file called office:
-  drop desk office 'key revoke tender-2'";
+  drop desk office 'key revoke tender-2'
+
+While it is a word, others on this machine see the line, also its secret. With - for LINE it is read from standard
+input, which has one line and no more:
+  drop desk office - <line";
 
 // What stands below the help of `links`: the rows that it reads and those that it writes.
 const LINK_ROWS: &str = "\
@@ -122,13 +130,15 @@ pub(crate) fn command_line<'a>(alloc: Global) -> Result<Command<'a>, AllocError>
         .subcommand(serve_command(alloc)?)
 }
 
-// `init FILE --clerk ID --secret SECRET --east M --west M`.
-fn init_command<'a>(alloc: Global) -> Result<Command<'a>, AllocError>
+/// `init FILE --clerk ID --secret SECRET --secret-file SECRETFILE --east M --west M`. That one secret is given, and in one
+/// way, clap is not told.
+pub(crate) fn init_command<'a>(alloc: Global) -> Result<Command<'a>, AllocError>
     ensures app { IfOk result (λ c. app_of c ≡ init_app) }
     ensures local { IfOk result (λ c. (out-Command c).has_globals ≡ false) }
 {
     Command::new(alloc, "init")
         .about("Makes an office file, with one clerk's key and no boxes")
+        .override_usage(INIT_USAGE)
         .arg(word(
             alloc,
             "file",
@@ -141,11 +151,17 @@ fn init_command<'a>(alloc: Global) -> Result<Command<'a>, AllocError>
             "ID",
             "The id of the clerk's key: 1 to 64 of A-Z a-z 0-9 - _",
         ))?
-        .arg(option(
+        .arg(optional(
             alloc,
             "secret",
             "SECRET",
             "The key's secret: 1 to 128 visible ASCII characters without spaces",
+        ))?
+        .arg(optional(
+            alloc,
+            "secret-file",
+            "SECRETFILE",
+            "The file whose one line is the secret, so that no word shows it to others",
         ))?
         .arg(minutes(
             alloc,
@@ -168,7 +184,7 @@ fn desk_command<'a>(alloc: Global) -> Result<Command<'a>, AllocError>
             alloc,
             "line",
             "LINE",
-            "One command of the desk, in quotes, so that it is one word",
+            "One command of the desk, in quotes, so that it is one word; or - for the line of standard input",
         ))
 }
 
@@ -323,6 +339,14 @@ fn option<'a>(alloc: Global, id: &'a str, name: &'a str, help: &'a str) -> Arg<'
         .value_name(name)
         .required(true)
         .help(help)
+}
+
+// `--id VALUE`, which may be left out.
+fn optional<'a>(alloc: Global, id: &'a str, name: &'a str, help: &'a str) -> Arg<'a>
+    ensures rule { rule_of result ≡ optional_rule id.entry.now }
+    ensures local { result.global ≡ false }
+{
+    Arg::new(alloc, id).long(id).value_name(name).help(help)
 }
 
 // `--key ID`.
