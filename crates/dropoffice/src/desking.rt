@@ -18,7 +18,11 @@ struct DeskWork<W: Drop> {
 }
 
 impl<'a, W: Write + Drop> OfficeWork<'a> for DeskWork<W> {
-    fn run<K: Keeper>(mut self, _rt: &HostRuntime, office: &mut Office<K>) -> Result<(), Fault<'a>> {
+    fn run<K: Keeper>(
+        mut self,
+        _rt: &HostRuntime,
+        office: &mut Office<K>,
+    ) -> Result<(), Fault<'a>> {
         let Some(line) = self.command else {
             return Err(Fault::Desk(DeskFault::Malformed));
         };
@@ -40,12 +44,7 @@ pub(crate) fn do_desk<'a>(
     out: &mut impl Write,
 ) -> Result<(), Fault<'a>> {
     let command = read_command(rt.alloc(), words.line, input)?;
-    work_over(
-        rt,
-        words.file,
-        Log::IntoTheFile,
-        DeskWork { command, out },
-    )
+    work_over(rt, words.file, Log::IntoTheFile, DeskWork { command, out })
 }
 
 // The command that the words give: the word itself, or for `-` the line that the input holds; `None` where it holds no line,
