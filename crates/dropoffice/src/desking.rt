@@ -18,19 +18,13 @@ struct DeskWork<W: Drop> {
 }
 
 impl<'a, W: Write + Drop> OfficeWork<'a> for DeskWork<W> {
-    fn run<K: Keeper>(
-        mut self,
-        _rt: &HostRuntime,
-        office: &mut Office<K>,
-    ) -> Result<(), Fault<'a>> {
-        let Some(line) = self.command else {
+    fn run<K: Keeper>(self, _rt: &HostRuntime, office: &mut Office<K>) -> Result<(), Fault<'a>> {
+        let DeskWork { command, mut out } = self;
+        let Some(line) = command else {
             return Err(Fault::Desk(DeskFault::Malformed));
         };
         office.desk(line.as_slice())?;
-        let told = self
-            .out
-            .write_all(b"done\n")
-            .and_then(|()| self.out.flush());
+        let told = out.write_all(b"done\n").and_then(|()| out.flush());
         told.map_err(|_| Fault::CannotWrite)
     }
 }
