@@ -1,7 +1,8 @@
 """Tries the edits `crates/*/edits/*.edit`, each of which the prover must refuse, many in one check and several checks
 side by side.
 
-It runs behind `rt ci`, over the libraries that it leaves. Beside the lines that `rt` knows, a file has a line `fn: NAME`,
+It runs behind `rt ci`, over the libraries that it leaves, or beside it (`--beside`): then a crate's turn comes once the
+libraries below it are there, and half of the processors are left to `rt ci`. Beside the lines that `rt` knows, a file has a line `fn: NAME`,
 the function that must be refused, as a check prints it. The code of `rt` applies the edits and runs the checks.
 
 First each crate is proved as it is, in a folder of its own. Each check starts from a copy of that folder, so nothing of
@@ -14,7 +15,7 @@ The harmless edits `ci/controls/NAME/*.edit` are tried among the others, and mus
 that is not refused, and each harmless one that is, is named. The last line is `N passed, M failed`.
 
 What a try showed is kept on this machine, as `rt ci` keeps what it proved: under a sum of all that the try read, which is
-the toolchain, the crate with its edit, the crates below it and this file. A later run, in any checkout here, tries only the
+the toolchain, the crate with its edit and the crates below it. A later run, in any checkout here, tries only the
 others; `--anew` tries all.
 """
 
@@ -36,9 +37,13 @@ import time
 import kit
 
 RT = kit.rt()
+# What counts as a refusal: another number where that changes, so that nothing that was kept before counts.
+RULES = 1
 KEPT = pathlib.Path(os.environ.get("XDG_CACHE_HOME") or pathlib.Path.home() / ".cache") / "drop-edits"
 # So many edits share a check at least, where there are so many: to load what is kept costs as much as a few edits.
 FEWEST = 16
+# A library that `rt ci` has built is whole once nothing of it was written for so many seconds.
+SETTLES = 10
 # A check takes less than so much of the memory that `rt` reckons for it: up to 2 GB were seen, 3.6 in `sqlkeeper`.
 SHARE = 0.5
 HEAD = re.compile(r"^( *)(?:pub(?:\([^)]*\))? )?(?:final )?fn (\w+)", re.M)
@@ -74,13 +79,13 @@ class Kept:
     """The edits that earlier runs on this machine found to be as they must be: a file each, named for all that was read."""
 
     def __init__(self, anew):
-        self.anew, self.own, self.sums, self.names = anew, pathlib.Path(__file__).read_bytes(), {}, {}
+        self.anew, self.sums, self.names = anew, {}, {}
 
     def name(self, crate, edit):
         """The file of the edit. The sum of its crate is that of the first call: what the run then reads."""
         if crate.name not in self.sums:
             self.sums[crate.name] = RT.stamp_of(crate, {})
-        told = repr((self.own, self.sums[crate.name], edit.name, edit.is_harmless, edit.text))
+        told = repr((RULES, self.sums[crate.name], edit.name, edit.is_harmless, edit.text))
         return hashlib.sha256(told.encode()).hexdigest()
 
     def holds(self, crate, edit):
@@ -196,6 +201,23 @@ class Reading:
         return f"BAD EDIT: refused, but not in {edit.function}: {said[:200]}"
 
 
+class Beside:
+    """A run of `rt ci` that goes on meanwhile, or none."""
+
+    def __init__(self, ended):
+        self.ended, self.begin = ended, time.time()
+
+    def is_running(self):
+        return self.ended is not None and not self.ended.exists()
+
+    def has_built(self, crate):
+        """Whether the library is there as a whole; of a run that goes on, written since it began."""
+        if not self.is_running():
+            return os.path.isdir(crate.rlib)
+        times = [os.lstat(f"{at}/{name}").st_ctime for at, _, names in os.walk(crate.rlib) for name in ["", *names]]
+        return bool(times) and self.begin < min(times) and max(times) < time.time() - SETTLES
+
+
 class Trial:
     """A crate's edits, those that may share a check and those that may not, and what is proved of the crate itself."""
 
@@ -206,6 +228,14 @@ class Trial:
         self.alone = [it for it in edits if not it.is_of_a_body]
         self.need, self.is_begun, self.is_proved = SHARE * RT.need(crate), False, False
         self.edits, self.checks, self.seconds = len(edits), 0, 0
+
+    def lacks(self, beside):
+        """The libraries below the crate that are not there."""
+        return [it.name for it in self.crate.below() if not beside.has_built(it)]
+
+    def left(self):
+        """The edits that are still to be tried."""
+        return [*self.shared, *self.alone]
 
     def group(self):
         """The next edits that share a check, of functions that differ; first of those functions that have most."""
@@ -256,32 +286,41 @@ class Trial:
         if self.is_proved:
             return []
         fault = "NOT TRIED: the crate itself is not proved: " + reading.said.rstrip("\n")[-300:]
-        return [(it, fault) for it in [*self.shared, *self.alone]]
+        left, self.shared, self.alone = self.left(), [], []
+        return [(it, fault) for it in left]
 
 
-def settled(trials, jobs):
+def settled(trials, jobs, beside):
     """Runs the checks side by side, as many as processors and memory allow, and yields each edit with its crate and fault."""
-    memory, running = 0.85 * RT.free(), {}
+    memory, running = (0.4 if beside.is_running() else 0.85) * RT.free(), {}
     with concurrent.futures.ThreadPoolExecutor(jobs) as pool:
-        while begin_checks(trials, running, pool, jobs, memory):
-            for ended in concurrent.futures.wait(running, return_when=concurrent.futures.FIRST_COMPLETED).done:
+        while begin_checks(trials, running, pool, jobs // 2 if beside.is_running() else jobs, memory, beside) or running:
+            done = concurrent.futures.wait(running, SETTLES, concurrent.futures.FIRST_COMPLETED).done if running else []
+            for ended in done:
                 trial, group = running.pop(ended)
                 found = trial.heard(group, *ended.result())
                 refused = sum(fault is None for _, fault in found)
                 told = f"{refused} of {len(group)} edits refused" if group else f"proved as it is: {trial.is_proved}"
                 print(f"{trial.crate.name}: {told}, {ended.result()[1]:.0f} s", flush=True)
                 yield from ((trial.crate, *it) for it in found)
-
-
-def begin_checks(trials, running, pool, jobs, memory):
-    """Begins the checks for which there is room, those of the first crates first. Gives whether any is running."""
+            if not running:
+                time.sleep(1)
     for trial in trials:
+        fault = f"NOT TRIED: there is no library of {', '.join(trial.lacks(beside))}"
+        yield from ((trial.crate, it, fault) for it in trial.left())
+
+
+def begin_checks(trials, running, pool, jobs, memory, beside):
+    """Begins the checks for which there is room, those of the first crates first. Gives whether any may come later."""
+    for trial in trials:
+        if trial.lacks(beside):
+            continue
         while not running or len(running) < jobs and trial.need + sum(it.need for it, _ in running.values()) <= memory:
             group = trial.take()
             if group is None:
                 break
             running[pool.submit(trial.check, group)] = trial, group
-    return bool(running)
+    return any(it.left() and (beside.is_running() or not it.lacks(beside)) for it in trials)
 
 
 def edits_of_crates(names, count, kept):
@@ -303,10 +342,6 @@ def edits_of_crates(names, count, kept):
 
 def trials_of(of_crates, folder, jobs):
     """What is to be tried, the dearest crate first."""
-    for crate, _ in of_crates:
-        lacking = [it.name for it in crate.below() if not os.path.isdir(it.rlib)]
-        if lacking:
-            sys.exit(f"{crate.name}: there is no library of {', '.join(lacking)} in crates/*/out/rlib: `rt ci` builds it")
     return sorted((Trial(*it, folder, jobs) for it in of_crates), key=lambda it: -it.need)
 
 
@@ -317,17 +352,20 @@ def main():
     parser.add_argument("--keep", type=pathlib.Path, metavar="FOLDER", help="keep what is proved of the crates there")
     parser.add_argument("--list", action="store_true", help="prove nothing: tell how each edit would be tried")
     parser.add_argument("--anew", action="store_true", help="try also what earlier runs on this machine tried")
+    parser.add_argument("--beside", type=pathlib.Path, metavar="FILE", help="rt ci still runs, until FILE is there")
     given = parser.parse_args()
     begin, count, kept = time.monotonic(), kit.Count(), Kept(given.anew)
     of_crates = edits_of_crates(given.only, count, kept)
     if given.list:
         print(*(it for _, edits in of_crates for it in edits), sep="\n")
         sys.exit(count.failed > 0)
+    if given.beside:
+        os.nice(10)
     # its first call sets a signal's handler, which only the main thread may
     RT.rtlib.guarded()
     with tempfile.TemporaryDirectory(prefix="edits-") as room:
         trials = trials_of(of_crates, given.keep or pathlib.Path(room), given.jobs)
-        for crate, edit, fault in settled(trials, given.jobs):
+        for crate, edit, fault in settled(trials, given.jobs, Beside(given.beside)):
             wrong = edit.fault_of(fault)
             count.add(edit.name, wrong)
             if not wrong:

@@ -132,9 +132,10 @@ documents() {
 }
 
 SECONDS=0
+# The edits of a crate are tried once `rt ci` has built what stands below it, and beside the other parts, most of which wait
+# for servers and browsers.
+run edits python3 -B ci/edits.py --beside "$work/rt-ci.status" >"$work/edits" &
 count rt-ci rt ci
-# The edits take processors alone, and most of the other parts wait for servers and browsers: they go on side by side.
-run edits python3 -B ci/edits.py >"$work/edits" &
 count rows python3 -B ci/rows.py --check
 count replays python3 -B ci/replays.py
 count office office
