@@ -1,6 +1,6 @@
 //! `drop desk`: one command of the desk is done.
 use crate::faults::Fault;
-use crate::opening::{Log, OfficeWork, work_over};
+use crate::opening::{Log, OfficeWork, require_file, work_over};
 use keeper::Keeper;
 use office::{DeskFault, Office};
 use std::alloc::Global;
@@ -30,13 +30,14 @@ impl<'a, W: Write + Drop> OfficeWork<'a> for DeskWork<W> {
 }
 
 /// Does the command on the office file, and writes `done` to `out`, on a line. A command that stands in `input` is read
-/// before the file is opened, so that nobody waits for the office while it is typed.
+/// once the file is seen to be there, and before it is opened, so that nobody waits for the office while it is typed.
 pub(crate) fn do_desk<'a>(
     rt: &HostRuntime,
     words: &Desk<'_>,
     input: impl Read + Drop,
     out: &mut impl Write,
 ) -> Result<(), Fault<'a>> {
+    require_file(rt, words.file)?;
     let command = read_command(rt.alloc(), words.line, input)?;
     work_over(rt, words.file, Log::IntoTheFile, DeskWork { command, out })
 }

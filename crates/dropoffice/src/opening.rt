@@ -54,8 +54,8 @@ pub(crate) fn disconnect(conn: Connection<Store>) -> Result<(), Fault<'static>> 
     conn.close().map_err(unclosed)
 }
 
-// Fails where there is no such file, so that none is made.
-fn require_file<R: Files>(rt: &R, file: &str) -> Result<(), Fault<'static>> {
+/// Fails where there is no such file, so that none is made.
+pub(crate) fn require_file<R: Files>(rt: &R, file: &str) -> Result<(), Fault<'static>> {
     match fs::metadata(rt, file) {
         Ok(_) => Ok(()),
         Err(_) => Err(Fault::CannotOpen),
