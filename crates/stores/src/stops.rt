@@ -173,7 +173,7 @@ struct Outcome {
 }
 
 // Does the job with files of these bytes, of which one stops. This function alone names the disks of a database.
-fn outcome(
+fn job_on(
     alloc: Global,
     log: &[u8],
     db: &[u8],
@@ -207,9 +207,9 @@ fn image_for(alloc: Global, steps: &[Step]) -> Result<Image, Fail> {
             db: Vec::new(alloc),
         });
     }
-    let made = outcome(alloc, b"", b"", NO_STOP, Job::Steps(&[Step::Create]))?.written;
+    let made = job_on(alloc, b"", b"", NO_STOP, Job::Steps(&[Step::Create]))?.written;
     let job = Job::Steps(earlier_of(steps));
-    Ok(outcome(alloc, &made.log, &made.db, NO_STOP, job)?.written)
+    Ok(job_on(alloc, &made.log, &made.db, NO_STOP, job)?.written)
 }
 
 // There is no part of an office: one can be made.
@@ -237,7 +237,7 @@ fn found<S: Alter + Drop>(
 
 // What is found in two files.
 fn found_in(alloc: Global, log: &[u8], db: &[u8]) -> Result<Told, Fail> {
-    Ok(outcome(alloc, log, db, NO_STOP, Job::Look)?.told)
+    Ok(job_on(alloc, log, db, NO_STOP, Job::Look)?.told)
 }
 
 // Whether a disk takes no more calls.
@@ -325,7 +325,7 @@ impl Plan<'_> {
             stopped,
             written,
             synced,
-        } = outcome(alloc, &self.image.log, &self.image.db, stop, job)?;
+        } = job_on(alloc, &self.image.log, &self.image.db, stop, job)?;
         if done < self.steps.len() && !stopped {
             return Err(("not done, and no stop", self.steps.get(done), stop).into());
         }
