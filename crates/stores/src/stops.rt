@@ -173,13 +173,7 @@ struct Outcome {
 }
 
 // Does the job with files of these bytes, of which one stops. This function alone names the disks of a database.
-fn job_on(
-    alloc: Global,
-    log: &[u8],
-    db: &[u8],
-    stop: Stop,
-    job: Job<'_>,
-) -> Result<Outcome, Fail> {
+fn job_on(alloc: Global, log: &[u8], db: &[u8], stop: Stop, job: Job<'_>) -> Result<Outcome, Fail> {
     let Done {
         steps,
         told,
