@@ -1,5 +1,5 @@
 #!/usr/bin/env bash
-# Passes all tests: `rt ci`, and then the edits that must be refused, beside what the proved programs that it leaves write,
+# Passes all tests: `rt ci`, beside it the edits that must be refused, and then what the proved programs that it leaves write,
 # against what is owed from outside. Each part ends with `N passed, M failed`, and its time is told; a part that does not end
 # so, or cannot be run, has failed. The last line is `N passed, M failed`, the sum of all.
 set -uo pipefail

@@ -2,11 +2,18 @@
 use crate::faults::Fault;
 use keeper::Keeper;
 use office::Office;
-use sqlite::{Alter, Connection, Error, ErrorCode, File, FileStore};
+use sqlite::{Alter, Connection, Error, ErrorCode, File, FileStore, Options, Unknown};
+use sqlite_std_file::OpenError;
 use sqlkeeper::{OpenFault, SqlKeeper};
 use std::alloc::Global;
 use std::fs;
 use std::fs::Files;
+use std::hash::{BuildHasher, RandomState};
+use std::io::ErrorKind;
+
+/// So many pages that were read are kept in memory, of 4096 bytes each: 64 MB. Of a page that is not among them the engine reads
+/// the bytes once more, and sums them.
+const KEPT_PAGES: usize = 16_384;
 
 // The store of an office file.
 pub(crate) type Store = FileStore<File>;
@@ -18,6 +25,26 @@ fn unopened(error: Error) -> Fault<'static> {
         Error::SqliteFailure(ErrorCode::DatabaseBusy) => Fault::Held,
         _ => Fault::CannotOpen,
     }
+}
+
+// Why the files of a database could not be opened.
+fn unopened_files(error: OpenError) -> Fault<'static> {
+    match error {
+        OpenError::OutOfMemory => Fault::OutOfMemory,
+        OpenError::Busy => Fault::Held,
+        OpenError::Io(error) if error.kind() == ErrorKind::OutOfMemory => Fault::OutOfMemory,
+        _ => Fault::CannotOpen,
+    }
+}
+
+// How a database is opened.
+fn options(rt: &HostRuntime) -> Result<Options, Fault<'static>> {
+    let Ok(random) = RandomState::new(rt) else {
+        return Err(Fault::CannotOpen);
+    };
+    let mut options = Options::new(random.hash_one(&0u8));
+    options.cache_pages = KEPT_PAGES;
+    Ok(options)
 }
 
 // Why a database could not be closed.
@@ -46,7 +73,16 @@ pub(crate) enum Log {
 
 /// Connects to the database in a file that is there. A file of no bytes is a database without tables.
 pub(crate) fn connect(rt: &HostRuntime, file: &str) -> Result<Connection<Store>, Fault<'static>> {
-    Connection::open(rt, file).map_err(unopened)
+    // For SQLite these are no names of files.
+    if file == ":memory:" || file.starts_with("file:") {
+        return Err(Fault::CannotOpen);
+    }
+    let options = options(rt)?;
+    let files = sqlite_std_file::open(rt, file, Unknown).map_err(unopened_files)?;
+    match Connection::open_files(rt.alloc(), files, options) {
+        Ok(conn) => Ok(conn),
+        Err((error, _)) => Err(unopened(error)),
+    }
 }
 
 /// Closes the database, so that its log goes into the file.

@@ -22,7 +22,7 @@ const WORDS: u8 = 2;
 
 /// Does what the words ask for, the program's own name first among them, and gives the exit status:
 /// 0 where it was done, though requests were refused; 1 where a line `drop: <fault>` was written to
-/// `err`; 2 for words that clap refuses, whose text was written to `err`. Help that was asked for, `done` for a
+/// `err`; 2 for words that name no task, whose text was written to `err`. Help that was asked for, `done` for a
 /// command of the desk, links, a manifest, what stands of one, a replay's answers, and where a server listens are written to
 /// `out`. Lists of links that are wanted, manifests to compare, and a command of the desk that is no word are read from
 /// `input`.
