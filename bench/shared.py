@@ -42,9 +42,8 @@ def load():
 
 
 def print_table(head, rows):
-    for cells in [head, ["---"] * len(head), *rows]:
-        print("| " + " | ".join(cells) + " |")
-    print()
+    lines = ["| " + " | ".join(cells) + " |" for cells in [head, *rows]]
+    print(lines[0], "|" + "---|" * len(head), *lines[1:], sep="\n", end="\n\n")
 
 
 def timings(best, seconds):

@@ -28,14 +28,14 @@ def watched(words, log):
 
 def functions_of(report):
     """The dearest functions of perf's report, each with its part of the time in percent."""
-    found = re.findall(r"^\s*([\d.]+)%\|\[(.)\] (.*?)\s*$", report, re.M)
+    found = re.findall(r"^\s*([\d.]+)%\s*\|\[(.)\] (.*?)\s*$", report, re.M)
     return [f"`{name}`{' (system)' if kind == 'k' else ''} {float(part):.0f}" for part, kind, name in found[:DEAREST]]
 
 
 def calls_of(summary, requests):
-    """The system calls of strace's summary, each with how often it comes for a request; those that seldom come are left out."""
+    """The system calls of strace's summary, each with how often it comes for a request; those of fewer than 0.1 are left out."""
     found = [(name, int(calls) / requests) for calls, name in re.findall(r"^\s*(\d+) ([a-z]\w+)$", summary, re.M)]
-    return [f"{name} {each:.1f}" for name, each in sorted(found, key=lambda it: -it[1]) if each >= 0.05 and name != "total"]
+    return [f"{name} {each:.1f}" for name, each in sorted(found, key=lambda it: -it[1]) if each >= 0.1 and name != "total"]
 
 
 def profile(server, row, folder, client, seconds):
