@@ -91,23 +91,32 @@ class Swift:
         for name in names:
             yield self.link(row.method, f"{BOX}/{name}", port)
 
-    def put(self, connection, target, port, body):
-        connection.request("PUT", self.link("PUT", target, port), body)
-        answer = connection.getresponse()
-        text = answer.read()
-        if answer.status != 200:
-            raise SystemExit(f"Swift answered {answer.status} to PUT of {target}: {text}")
+    def ask(self, port, method, wanted):
+        """Asks for each of these targets, with the body that stands beside it; each is to be answered with status 200."""
+        with contextlib.closing(http.client.HTTPConnection(HOST, port)) as connection:
+            for target, body in wanted:
+                connection.request(method, self.link(method, target, port), body)
+                answer = connection.getresponse()
+                text = answer.read()
+                if answer.status != 200:
+                    raise SystemExit(f"Swift answered {answer.status} to {method} of {target}: {text}")
 
     def fill(self):
         """A bucket, and the files that stand at first."""
         port = free_port()
-        with self.running(port), contextlib.closing(http.client.HTTPConnection(HOST, port)) as connection:
-            self.put(connection, BOX, port, b"")
-            for name, body in first_files():
-                self.put(connection, f"{BOX}/{name}", port, body)
+        with self.started(port):
+            self.ask(port, "PUT", [(BOX, b""), *((f"{BOX}/{name}", body) for name, body in first_files())])
 
     @contextlib.contextmanager
     def running(self, port):
+        """It runs, and has answered once, which makes its first connections."""
+        with self.started(port) as pid:
+            name, _ = next(first_files())
+            self.ask(port, "GET", [(f"{BOX}/{name}", None)])
+            yield pid
+
+    @contextlib.contextmanager
+    def started(self, port):
         cache = f"{INNER}:{self.ports['cache']}"
         self.write_settings("proxy-server", PROXY, HOST, port, cache=cache, region=REGION, secret=SECRET.decode())
         words = [["memcached", "-l", INNER, "-p", str(self.ports["cache"]), "-u", getpass.getuser()]]
