@@ -4,10 +4,13 @@ commit."""
 import datetime
 import os
 import pathlib
+import re
 import sqlite3
 import statistics
 import subprocess
 import sys
+
+DEAREST = 5  # how many functions are shown
 
 
 class Wrong(Exception):
@@ -59,3 +62,23 @@ def connected(file):
     if found != ("wal",) or db.execute("PRAGMA synchronous").fetchone() != (2,):
         raise Wrong(f"the peer's settings are others: {found}")
     return db
+
+
+def report(data, *more):
+    """The lines of perf's report, each a function's part of the samples in percent, the nanoseconds, `k` for the system, and its
+    name; the dearest first."""
+    words = ["perf", "report", "-i", data, "--stdio", "--no-children", "-g", "none", "-F", "overhead,period,symbol", "-t", "|"]
+    out = subprocess.run([*words, *more], capture_output=True, text=True, check=True).stdout
+    return re.findall(r"^\s*([\d.]+)%\s*\|\s*(\d+)\s*\|\[(.)\] (.*?)\s*$", out, re.M)
+
+
+def dearest(lines):
+    """The dearest functions of such lines, in words, without what tells the types of a generic one."""
+    shown = [(re.sub(r"::<#\w+>", "", name), " (system)" if kind == "k" else "", part) for part, _, kind, name in lines[:DEAREST]]
+    return ", ".join(f"`{name}`{where} {float(part):.0f}" for name, where, part in shown)
+
+
+def often(calls, times):
+    """The system calls, the most frequent first, each with how often it comes at a time; those of fewer than 0.1 are left out."""
+    each = sorted(((count / times, name) for name, count in calls.items()), reverse=True)
+    return ", ".join(f"{name} {count:.1f}" for count, name in each if count >= 0.1)

@@ -20,4 +20,11 @@ if ! grep -q "the database is missing" "$work/log"; then
     tail -5 "$work/log"
     exit 1
 fi
-python3 -B "$here/measure.py" "$work/crates/enginebench/out/enginebench" "$rounds" "$work"
+program=$work/crates/enginebench/out/enginebench
+python3 -B "$here/measure.py" "$program" "$rounds" "$work" || exit 1
+
+# What limits each row, where Debian's linux-perf and strace are there.
+if command -v perf >/dev/null && command -v strace >/dev/null; then
+    echo
+    python3 -B "$here/costs.py" "$program" "$work"
+fi

@@ -8,8 +8,8 @@ import time
 
 from clients import by_client, by_either, serving
 from servers import KIB
+from shared import dearest, often, report
 
-DEAREST = 5  # how many functions are shown
 REQUESTS = {True: 500, False: 20}  # while system calls are counted: of 1 KiB, and of 1 MiB
 READY = 2  # seconds, for perf or strace to take hold of a process
 
@@ -26,39 +26,27 @@ def watched(words, log):
             process.wait()
 
 
-def functions_of(report):
-    """The dearest functions of perf's report, each with its part of the time in percent."""
-    found = re.findall(r"^\s*([\d.]+)%\s*\|\[(.)\] (.*?)\s*$", report, re.M)
-    return [f"`{name}`{' (system)' if kind == 'k' else ''} {float(part):.0f}" for part, kind, name in found[:DEAREST]]
-
-
-def calls_of(summary, requests):
-    """The system calls of strace's summary, each with how often it comes for a request; those of fewer than 0.1 are left out."""
-    found = [(name, int(calls) / requests) for calls, name in re.findall(r"^\s*(\d+) ([a-z]\w+)$", summary, re.M)]
-    return [f"{name} {each:.1f}" for name, each in sorted(found, key=lambda it: -it[1]) if each >= 0.1 and name != "total"]
-
-
 def profile(server, row, folder, client, seconds):
-    """perf's report on the server while it is asked for a row."""
+    """The lines of perf's report on the server while it is asked for a row."""
     data, log = folder / "perf.data", folder / "watched"
     with serving(server, row, folder, "perf") as (pid, port, file):
-        with watched(["perf", "record", "-g", "-F", "997", "-o", data, "-p", str(pid)], log):
+        with watched(["perf", "record", "-g", "-e", "cpu-clock", "-F", "997", "-o", data, "-p", str(pid)], log):
             by_either(client, row, file, port, seconds)
-    words = ["perf", "report", "-i", data, "--stdio", "--no-children", "-g", "none", "-F", "overhead,symbol", "-t", "|"]
-    return subprocess.run(words, capture_output=True, text=True, check=True).stdout
+    return report(data)
 
 
 def count_calls(server, row, folder, client, requests):
-    """strace's summary of the server's system calls for so many requests."""
+    """How often the server made each system call for so many requests, by strace's summary."""
     summary, log = folder / "strace", folder / "watched"
     with serving(server, row, folder, "strace") as (pid, port, file):
         with watched(["strace", "-f", "-c", "-U", "calls,name", "-o", summary, "-p", str(pid)], log):
             by_client(client, row, file, port, requests)
-    return summary.read_text()
+    found = re.findall(r"^\s*(\d+) ([a-z]\w+)$", summary.read_text(), re.M)
+    return {name: int(calls) for calls, name in found if name != "total"}
 
 
 def cost_row(server, row, folder, client, seconds):
     requests = REQUESTS[row.size == KIB]
-    functions = functions_of(profile(server, row, folder, client, seconds))
-    calls = calls_of(count_calls(server, row, folder, client, requests), requests)
-    return [row.name, ", ".join(functions), ", ".join(calls)]
+    lines = profile(server, row, folder, client, seconds)
+    calls = count_calls(server, row, folder, client, requests)
+    return [row.name, dearest(lines), often(calls, requests)]
