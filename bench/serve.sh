@@ -1,5 +1,6 @@
 #!/usr/bin/env bash
-# `drop serve` beside nginx, one connection at a time, by the same clients in the same run. bench/serve/README.md says more.
-# Usage: bench/serve.sh DROP [--seconds S] [--rounds N] [--folder FOLDER]
+# `drop serve` beside nginx and Swift, one connection at a time, by the same clients in the same run: bench/serve/README.md.
+# Usage: bench/serve.sh DROP [--seconds S] [--rounds N] [--folder FOLDER] [--profile]
 set -eu
+export PATH="$PATH:/usr/sbin" # where Debian has nginx
 exec python3 -B "$(dirname "$0")/serve/run.py" "$@"

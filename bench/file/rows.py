@@ -6,7 +6,6 @@ README.md beside this says more.
 """
 
 import argparse
-import hashlib
 import os
 import pathlib
 import sqlite3
@@ -14,31 +13,22 @@ import sys
 import tempfile
 import time
 
-from run import connected, machine
-
-sys.path.insert(0, str(pathlib.Path(__file__).resolve().parents[2] / "ci"))
+TOP = pathlib.Path(__file__).resolve().parents[2]
+sys.path[1:1] = [str(TOP / "bench"), str(TOP / "bench" / "engine"), str(TOP / "ci")]
 import office  # noqa: E402
+import stock  # noqa: E402
 import tables  # noqa: E402
-from replays import ID  # noqa: E402
+from shared import disk_of, machine  # noqa: E402
 
 BODY = os.urandom(1024)
-DIGEST = hashlib.sha256(BODY).digest()
 
 
 def commit_row(db, number):
-    db.execute("BEGIN")
-    db.execute("INSERT INTO blobs VALUES (?, ?)", (number, BODY))
-    db.execute("COMMIT")
+    stock.commit(db, number, BODY)
 
 
 def commit_upload(db, number):
-    name = f"file-{number}"
-    db.execute("BEGIN")
-    db.execute("INSERT INTO receipts VALUES (?, 'bench', ?, 1024, ?, 0, ?)", (number, name, DIGEST, ID))
-    db.execute("INSERT INTO files VALUES ('bench', ?, ?)", (name, number))
-    db.execute("INSERT INTO pieces VALUES ('bench', ?, 0, ?)", (name, BODY))
-    db.execute("UPDATE boxes SET used = ?, count = ? WHERE name = 'bench'", (number * 1024, number))
-    db.execute("COMMIT")
+    stock.upload(db, f"file-{number}", number, BODY)
 
 
 def seconds(commit, db, numbers):
@@ -59,17 +49,14 @@ def main():
         folder = pathlib.Path(name)
         file = office.Drop(words.drop.resolve(), folder).office("office")
         tables.add_box(file, tables.Box("bench", quota=10**12, max_files=10**6))
-        plain, uploads = connected(folder / "plain"), connected(file)
-        plain.execute("CREATE TABLE blobs (id INTEGER PRIMARY KEY, bytes BLOB NOT NULL) STRICT")
-        for db in (plain, uploads):
-            db.execute("PRAGMA locking_mode = EXCLUSIVE")
-        uploads.execute("PRAGMA foreign_keys = ON")
+        plain, uploads = stock.alone(folder / "plain"), stock.alone(file)
+        stock.make_blobs(plain)
         rows, whole = [], []
         for number in range(words.rounds):
             numbers = range(1 + number * words.commits, 1 + (number + 1) * words.commits)
             rows.append(seconds(commit_row, plain, numbers))
             whole.append(seconds(commit_upload, uploads, numbers))
-        print(f"{machine(folder)}\none row {min(rows) * 1e6:.0f} us, an upload's rows {min(whole) * 1e6:.0f} us, "
+        print(f"{machine()}, {disk_of(folder)}\none row {min(rows) * 1e6:.0f} us, an upload's rows {min(whole) * 1e6:.0f} us, "
               f"ratio {min(rows) / min(whole):.2f}")
         print(f"check: {sqlite3.sqlite_version}, {uploads.execute('PRAGMA integrity_check').fetchone()[0]}")
 

@@ -5,23 +5,23 @@ rounds and on the same disk, Python's `sqlite3`. Prints tables in Markdown. READ
 
 import argparse
 import dataclasses
-import datetime
 import hashlib
 import os
 import pathlib
 import shutil
-import sqlite3
 import statistics
 import subprocess
 import sys
 import tempfile
 import time
 
-sys.path.insert(0, str(pathlib.Path(__file__).resolve().parents[2] / "ci"))
+TOP = pathlib.Path(__file__).resolve().parents[2]
+sys.path[1:1] = [str(TOP / "bench"), str(TOP / "ci")]
 import kit  # noqa: E402
 import office  # noqa: E402
 import tables  # noqa: E402
 from replays import ID, MOMENT  # noqa: E402
+from shared import Wrong, connected, disk_of, load, machine, print_table, timings  # noqa: E402
 
 KIB, MIB = 1 << 10, 1 << 20
 BOX = tables.Box("bench", quota=10**12, max_files=10**6)
@@ -63,10 +63,6 @@ class Sizes:
 
 TINY = Sizes(few=10, many=50, large=2, uploads=6, a_stream=3, large_uploads=2, fetches=5, fetched_again=2,
              large_fetches=3)
-
-
-class Wrong(Exception):
-    """The program said something else than what is owed."""
 
 
 def body_of(name, size):
@@ -221,15 +217,6 @@ def peer(file, sizes):
     return db
 
 
-def connected(file):
-    db = sqlite3.connect(file, isolation_level=None)
-    found = db.execute("PRAGMA journal_mode = WAL").fetchone()
-    db.execute("PRAGMA synchronous = FULL")
-    if found != ("wal",) or db.execute("PRAGMA synchronous").fetchone() != (2,):
-        raise Wrong(f"the peer's settings are others: {found}")
-    return db
-
-
 def commits(db, first, bodies):
     """The seconds of a commit for each body, and of the closing, which writes the log into the file."""
     begun = time.perf_counter()
@@ -327,16 +314,6 @@ class Rounds:
 # ---- tables
 
 
-def print_table(head, rows):
-    for cells in [head, ["---"] * len(head), *rows]:
-        print("| " + " | ".join(cells) + " |")
-    print()
-
-
-def timings(best, seconds):
-    return f"{best * 1e6:.0f} ({statistics.median(seconds) * 1e6:.0f})"
-
-
 def messages_table(steps):
     def row(name, key, size, goal):
         step = steps[key]
@@ -359,7 +336,7 @@ def sizes_table(steps, sizes):
     head = ["Message", f"{sizes.few} receipts: us", f"{sizes.many} receipts: us", "Ratio", "Goal"]
     ratio = f"{many.best() / few.best():.2f} ({statistics.median(ratios):.2f})"
     print_table(head, [["PUT of 1 KiB, new", timings(few.best(), few.each()), timings(many.best(), many.each()), ratio,
-                        "ratio 1.3"]])
+                        "at most 1.3"]])
 
 
 def opens_table(rounds):
@@ -370,30 +347,11 @@ def opens_table(rounds):
         return [name, f"{file.stat().st_size / 1e6:.1f}", times, f"{memory / 1e6:.0f}"]
 
     it = rounds.sizes
-    print_table(["Office", "File, MB", "Seconds", "Greatest memory, MB"], [
+    print_table(["Office", "File, MB", "Seconds to open and close", "Greatest memory, MB"], [
         row(f"{it.few} receipts, files of 3 bytes", "few", rounds.offices["few"]),
         row(f"{it.many} receipts, files of 3 bytes", "many", rounds.offices["many"]),
         row(f"{it.large} files of 10^6 bytes", "heavy", rounds.heavy),
     ])
-
-
-# ---- the machine
-
-
-def disk_of(folder):
-    words = ["stat", "-f", "-c", "%T", folder]
-    return subprocess.run(words, capture_output=True, text=True, check=True).stdout.strip()
-
-
-def machine(folder):
-    lines = pathlib.Path("/proc/cpuinfo").read_text().splitlines()
-    model = next((line.partition(": ")[2] for line in lines if line.startswith("model name")), "unknown")
-    return (f"{datetime.date.today()}, {os.cpu_count()} cores ({model}), {disk_of(folder)}, SQLite "
-            f"{sqlite3.sqlite_version}, Python {sys.version.split()[0]}")
-
-
-def load():
-    return "load " + " ".join(f"{it:.1f}" for it in os.getloadavg())
 
 
 def main():
@@ -410,7 +368,7 @@ def main():
         folder = pathlib.Path(name)
         if disk_of(folder) == "tmpfs":
             parser.error(f"{folder} is in memory, and not on a disk")
-        print(f"{machine(folder)}; {load()} as it began\n")
+        print(f"{machine()}, {disk_of(folder)}; {load()} as it began\n")
         drop = office.Drop(words.drop.resolve(), folder)
         rounds = Rounds(Bench(drop, TINY if words.tiny else Sizes()))
         filled = time.perf_counter()

@@ -3,21 +3,25 @@
 # such request asks for; beside it, in the same run, botocore's signer and Python's hmac on the same links. The program
 # (main.rt.txt) is proved and built in a repository of its own, over copies of sigtext, sigv4 and links. Where the crates
 # here were checked before, what `out/` keeps of that is copied too, so that the proofs are not made from nothing.
-# Usage: run.sh [COUNT]   (how often each request is judged; 20000)
+# Usage: run.sh [COUNT [FOLDER]]   (how often each request is judged; 20000. With a folder, outside of this repository, the
+# copies stay there, and a later run proves only what has changed)
 set -u
 here=$(cd "$(dirname "$0")" && pwd)
 top=$(cd "$here/../.." && pwd)
 count=${1:-20000}
 kit=${KIT:-/opt/rattle}
-work=$(mktemp -d)
-trap 'rm -rf "$work"' EXIT
+work=${2:-$(mktemp -d)}
+if [ $# -lt 2 ]; then trap 'rm -rf "$work"' EXIT; fi
 
 mkdir -p "$work/crates/linkbench/src" "$work/links"
 cp "$here/main.rt.txt" "$work/crates/linkbench/src/main.rt"
 for name in sigtext sigv4 links; do
-    mkdir "$work/crates/$name"
+    mkdir -p "$work/crates/$name"
+    for part in src specs proofs; do rm -rf "$work/crates/$name/$part"; done
     for part in src specs proofs out; do
-        if [ -d "$top/crates/$name/$part" ]; then cp -r "$top/crates/$name/$part" "$work/crates/$name"; fi
+        if [ -d "$top/crates/$name/$part" ] && [ ! -d "$work/crates/$name/$part" ]; then
+            cp -r "$top/crates/$name/$part" "$work/crates/$name"
+        fi
     done
     grep "^$name:" "$top/crates.txt"
 done >"$work/crates.txt"
@@ -35,7 +39,16 @@ cc -O2 -o "$work/counted" "$out/linkbench.o" "$here/heap.c" "$kit/c/liblibc_c.a"
 
 asked() { "$work/counted" "$work/links/$1" "$2" "$host" 2>&1 >/dev/null | sed -n 's/^asked=//p'; }
 
-printf '%-10s %7s %6s %14s %14s %14s\n' link bytes blocks 'Rattle, us' 'botocore, us' 'hmac, us'
+title() {
+    case $1 in
+    one) echo "one long parameter" ;;
+    many) echo "1000 parameters" ;;
+    *) echo "$1" ;;
+    esac
+}
+
+echo '| Link | Bytes of the target | Blocks of memory | `drop` | botocore | `hmac` alone |'
+echo '|---|---|---|---|---|---|'
 for name in published one many; do
     blocks=$(($(asked "$name" 2) - $(asked "$name" 1)))
     best=
@@ -44,6 +57,6 @@ for name in published one many; do
         if [ -z "$best" ] || [ "$spent" -lt "$best" ]; then best=$spent; fi
     done
     read -r botocore plain < <(python3 -B "$here/samples.py" verify "$work/links/$name" "$host" $((count / 100 + 1)))
-    printf '%-10s %7d %6d %14s %14s %14s\n' "$name" "$(wc -c <"$work/links/$name")" "$blocks" \
-        "$(awk -v t="$best" -v n="$count" 'BEGIN { printf "%.1f", t / n / 1000 }')" "$botocore" "$plain"
+    echo "| $(title "$name") | $(wc -c <"$work/links/$name") | $blocks |" \
+        "$(awk -v t="$best" -v n="$count" 'BEGIN { printf "%.1f", t / n / 1000 }') | $botocore | $plain |"
 done

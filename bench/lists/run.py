@@ -12,18 +12,18 @@ import importlib.util
 import itertools
 import os
 import pathlib
-import sqlite3
 import statistics
 import subprocess
 import sys
 import tempfile
 
 HERE = pathlib.Path(__file__).resolve().parent
-sys.path.insert(0, str(HERE.parents[1] / "ci"))
+sys.path[1:1] = [str(HERE.parent), str(HERE.parents[1] / "ci")]
 import office  # noqa: E402
 import tables  # noqa: E402
-from peer import FINDINGS_HEAD, LINKS_HEAD, MANIFEST_HEAD  # noqa: E402
+from peer import LINKS_HEAD, MANIFEST_HEAD  # noqa: E402
 from replays import ID  # noqa: E402
+from shared import Wrong, load, machine, print_table  # noqa: E402
 
 FEW = 1000  # receipts of the small office
 BOX = tables.Box("in", quota=10**12, max_files=10**6, mode=1)
@@ -45,10 +45,6 @@ begun = time.perf_counter()
 _, status, used = os.wait4(os.posix_spawn(sys.argv[2], sys.argv[2:], os.environ), 0)
 os.write(told, b"%d %.9f %d" % (os.waitstatus_to_exitcode(status), time.perf_counter() - begun, used.ru_maxrss))
 """
-
-
-class Wrong(Exception):
-    """A program failed, or said something else than the other."""
 
 
 # ---- offices and lists that Python makes
@@ -226,12 +222,6 @@ def steps_in(folder, words):
 # ---- tables
 
 
-def print_table(head, rows):
-    for cells in [head, ["---"] * len(head), *rows]:
-        print("| " + " | ".join(cells) + " |")
-    print()
-
-
 def opening_of(step, steps):
     """The step that reads a head alone: the last one before this, over the same office."""
     return [it for it in steps[:steps.index(step)] if not it.rows and it.file == step.file][-1]
@@ -250,34 +240,23 @@ def time_row(bench, step):
     our_empty, their_empty = [[pair[who].seconds for pair in empties] for who in (0, 1)]
     whole = statistics.median(b / a for a, b in zip(ours, theirs))
     behind = statistics.median((b - d) / (a - c) for a, b, c, d in zip(ours, theirs, our_empty, their_empty))
-    return [step.task, str(step.receipts), str(step.rows), *times(ours, our_empty, step.rows),
+    return [f"`{step.task}`", str(step.receipts), str(step.rows), *times(ours, our_empty, step.rows),
             *times(theirs, their_empty, step.rows), f"{whole:.2f} ({behind:.2f})"]
 
 
 def memory_row(bench, step):
     ours, theirs = [max(pair[who].memory for pair in bench.runs[step]) * 1024 / 1e6 for who in (0, 1)]
-    name = step.task if step.rows else f"{step.task} of a head alone"
+    name = f"`{step.task}`" if step.rows else f"a head alone, `{step.task}`"
     return [name, str(step.receipts), str(step.rows), f"{ours:.0f}", f"{theirs:.0f}"]
 
 
 def print_tables(bench):
     listed = [step for step in bench.steps if step.rows and (step.task == "links" or step.receipts > FEW)]
-    head = ["List", "Receipts of the office", "Rows"]
-    times_head = ["`drop`: seconds", "rows a second", "Python: seconds", "rows a second", "Ratio"]
+    head = ["List", "Receipts", "Rows"]
+    times_head = ["`drop`: seconds", "Rows a second", "Python: seconds", "Rows a second", "Ratio"]
     print_table([*head, *times_head], [time_row(bench, step) for step in listed])
-    memory_head = ["`drop`: greatest memory, MB", "Python: greatest memory, MB"]
+    memory_head = ["`drop`: greatest memory, MB", "Python's, MB"]
     print_table([*head, *memory_head], [memory_row(bench, step) for step in bench.steps])
-
-
-def machine():
-    lines = pathlib.Path("/proc/cpuinfo").read_text().splitlines()
-    model = next((line.partition(": ")[2] for line in lines if line.startswith("model name")), "unknown")
-    return (f"{datetime.date.today()}, {os.cpu_count()} cores ({model}), SQLite {sqlite3.sqlite_version}, "
-            f"Python {sys.version.split()[0]}")
-
-
-def load():
-    return "load " + " ".join(f"{it:.1f}" for it in os.getloadavg())
 
 
 def main():

@@ -14,7 +14,7 @@ if [ $# -lt 2 ]; then trap 'rm -rf "$work"' EXIT; fi
 
 mkdir -p "$work/crates/officebench/src"
 cp "$here/main.rt.txt" "$work/crates/officebench/src/main.rt"
-for name in sigtext sigv4 links boxes keeper wire dropoffice; do
+for name in sigtext sigv4 links boxes keeper wire desk office; do
     mkdir -p "$work/crates/$name"
     for part in src specs proofs; do rm -rf "$work/crates/$name/$part"; done
     for part in src specs proofs out; do
@@ -24,7 +24,7 @@ for name in sigtext sigv4 links boxes keeper wire dropoffice; do
     done
     grep "^$name:" "$top/crates.txt"
 done >"$work/crates.txt"
-echo "officebench: boxes keeper sigv4 dropoffice anyhow" >>"$work/crates.txt"
+echo "officebench: boxes keeper sigv4 office anyhow" >>"$work/crates.txt"
 
 # 501 files come by the streams themselves.
 small=499

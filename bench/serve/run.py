@@ -1,188 +1,28 @@
 #!/usr/bin/env python3
-"""What `drop serve` answers on loopback, one connection at a time, and beside it nginx, by the same clients in the same
+"""What `drop serve` answers on loopback, one connection at a time, and beside it nginx and Swift, by the same clients in the same
 run. Prints tables in Markdown. README.md beside this says more.
 """
 
 import argparse
-import base64
 import contextlib
-import dataclasses
-import datetime
-import hashlib
-import os
 import pathlib
 import re
 import shutil
-import socket
 import statistics
 import subprocess
 import sys
 import tempfile
 import time
 
-HERE = pathlib.Path(__file__).resolve().parent
-sys.path.insert(0, str(HERE.parents[1] / "ci"))
-import kit  # noqa: E402
-import office  # noqa: E402
-import tables  # noqa: E402
-from replays import ID  # noqa: E402
+TOP = pathlib.Path(__file__).resolve().parents[2]
+sys.path[1:1] = [str(TOP / "bench"), str(TOP / "ci")]
+from clients import by_client, by_either, serving  # noqa: E402
+from costs import cost_row  # noqa: E402
+from servers import HERE, KIB, ROWS, Drop, Nginx, body_of  # noqa: E402
+from shared import connected, disk_of, load, machine, print_table  # noqa: E402
+from swift_peer import Swift  # noqa: E402
 
-KIB, MIB = 1 << 10, 1 << 20
-BOX = "bench"
-UPLOADS = {KIB: 20000, MIB: 600}  # links to new names, more than a row takes
-FILES = {KIB: 1000, MIB: 40}  # files that stand at first
-
-
-def body_of(size):
-    return b"b" * size
-
-
-def free_port():
-    with socket.create_server(("127.0.0.1", 0)) as server:
-        return server.getsockname()[1]
-
-
-@dataclasses.dataclass(frozen=True)
-class Row:
-    """What is asked: of each server targets of its own, a new name for each upload."""
-
-    name: str
-    method: str
-    size: int = 0
-    upload: bool = False
-    bad: bool = False
-    new: bool = False  # a new connection for each request
-
-
-ROWS = [
-    Row("a wrong signature", "GET", KIB, bad=True),
-    Row("GET of 1 KiB", "GET", KIB),
-    Row("GET of 1 KiB, a new connection each", "GET", KIB, new=True),
-    Row("PUT of 1 KiB, new", "PUT", KIB, upload=True),
-    Row("PUT of 1 MiB, new", "PUT", MIB, upload=True),
-    Row("GET of 1 MiB", "GET", MIB),
-]
-
-
-def names_of(row, mark):
-    if row.upload:
-        return [f"{mark}-{number:06d}" for number in range(UPLOADS[row.size])]
-    return [f"f{row.size}-{number:06d}" for number in range(FILES[row.size])]
-
-
-# ---- servers
-
-
-class Drop:
-    """`drop serve` over a copy of an office with the files that stand at first."""
-
-    name = "drop serve"
-
-    def __init__(self, program, folder):
-        self.drop = office.Drop(program, folder)
-        self.whole = self.drop.office("office")
-        tables.add_box(self.whole, tables.Box(BOX, max_files=10**6))
-        for size, many in FILES.items():
-            for number in range(many):
-                tables.add_file(self.whole, BOX, f"f{size}-{number:06d}", body_of(size), ID)
-
-    def targets(self, row, names, port):
-        start = time.strftime("%Y%m%dT%H%M%SZ", time.gmtime(time.time() - 60))
-        host = f"127.0.0.1:{port}"
-        for name in names:
-            line = office.python_link(row.method, f"{BOX}/{name}", host=host, start=start).decode().strip()
-            target = line.removeprefix(f"http://{host}")
-            yield target[:-1] + ("0" if target[-1] != "0" else "1") if row.bad else target
-
-    @contextlib.contextmanager
-    def running(self, port):
-        file = self.whole.with_name("served")
-        for old in file.parent.glob("served*"):
-            old.unlink()
-        shutil.copyfile(self.whole, file)
-        os.sync()
-        words = [self.drop.program, "serve", file, "--listen", f"127.0.0.1:{port}", "--connections", "1000000"]
-        with subprocess.Popen(words, stdout=subprocess.PIPE, stderr=subprocess.DEVNULL) as process:
-            process.stdout.readline()
-            yield process.pid
-            process.kill()
-
-
-class Nginx:
-    """nginx with links of `secure_link` and uploads by `dav`."""
-
-    name = "nginx"
-
-    def __init__(self, folder):
-        self.folder = folder
-        files = folder / "nginx-files" / BOX
-        files.mkdir(parents=True)
-        for size, many in FILES.items():
-            for number in range(many):
-                (files / f"f{size}-{number:06d}").write_bytes(body_of(size))
-        for path in [folder, folder / "nginx-files", files]:
-            path.chmod(0o777)
-
-    def targets(self, row, names, port):
-        expires = int(time.time()) + 86400
-        for name in names:
-            path = f"/{BOX}/{name}"
-            digest = hashlib.md5(f"{expires}{path}{row.method} {'wrong' if row.bad else 'secret'}".encode()).digest()
-            yield f"{path}?md5={base64.urlsafe_b64encode(digest).decode().rstrip('=')}&expires={expires}"
-
-    @contextlib.contextmanager
-    def running(self, port):
-        text = (HERE / "nginx.conf.txt").read_text().replace("FOLDER", str(self.folder)).replace("PORT", str(port))
-        settings = self.folder / "nginx.conf"
-        settings.write_text(text)
-        with subprocess.Popen(["nginx", "-c", settings], stderr=subprocess.DEVNULL) as process:
-            for _ in range(100):
-                with contextlib.suppress(OSError), socket.create_connection(("127.0.0.1", port)):
-                    break
-                time.sleep(0.05)
-            yield process.pid
-            process.terminate()
-
-
-# ---- measures
-
-
-@dataclasses.dataclass(frozen=True)
-class Figure:
-    """Requests a second, and how many were answered with another status than owed."""
-
-    rate: float
-    wrong: int
-
-
-def by_wrk(row, file, port, seconds):
-    words = ["wrk", "-t1", "-c1", f"-d{seconds}s", "--timeout", "10s", "-s", HERE / "ask.lua", f"http://127.0.0.1:{port}",
-             "--", file, row.method, str(row.size if row.upload else 0), f"127.0.0.1:{port}"]
-    out = kit.run(words).out.decode()
-    told = re.search(r"^told (\d+) (\d+) (\d+) (\d+) (\d+)$", out, re.M)
-    if not told:
-        raise SystemExit(f"wrk told nothing: {out}")
-    requests, micros, refused, failed, _ = map(int, told.groups())
-    return Figure(requests * 1e6 / micros, (requests - refused if row.bad else refused) + failed)
-
-
-def by_client(client, row, file, port, requests):
-    bytes_sent = str(row.size if row.upload else 0)
-    ran = kit.run([client, str(port), file, row.method, bytes_sent, str(requests), str(int(row.new))])
-    if ran.status:
-        raise SystemExit(f"the client failed: {ran.err}")
-    sent, well, seconds = ran.out.split()
-    return Figure(int(sent) / float(seconds), int(sent) - int(well))
-
-
-def measured(server, row, folder, client, seconds, mark):
-    port = free_port()
-    file = folder / "targets"
-    file.write_text("".join(f"{it}\n" for it in server.targets(row, names_of(row, mark), port)))
-    with server.running(port):
-        if row.new:
-            return by_client(client, row, file, port, seconds * 1000)
-        return by_wrk(row, file, port, seconds)
+SWIFT_ROWS = [row for row in ROWS if not row.bad and not row.new]
 
 
 def memory_of(pid):
@@ -193,10 +33,8 @@ def memory_of(pid):
 
 def memory_rows(server, folder, client):
     """The memory of `drop serve` behind so many GETs of 1 KiB, all in one run."""
-    row, port, file = ROWS[1], free_port(), folder / "targets"
-    file.write_text("".join(f"{it}\n" for it in server.targets(row, names_of(row, ""), port)))
-    with server.running(port) as pid:
-        done = 0
+    row, done = ROWS[1], 0
+    with serving(server, row, folder, "") as (pid, port, file):
         for requests in [1000, 10000, 100000]:
             by_client(client, row, file, port, requests - done)
             done = requests
@@ -204,14 +42,11 @@ def memory_rows(server, folder, client):
 
 
 def commits(folder, seconds):
-    """Commits of one row of 1 KiB a second, by Python's sqlite3: WAL, synchronous FULL."""
-    import sqlite3
+    """Commits of one row of 1 KiB a second, by Python's sqlite3."""
     file = folder / "commits"
     for old in folder.glob("commits*"):
         old.unlink()
-    with contextlib.closing(sqlite3.connect(file, isolation_level=None)) as db:
-        db.execute("PRAGMA journal_mode = WAL")
-        db.execute("PRAGMA synchronous = FULL")
+    with contextlib.closing(connected(file)) as db:
         db.execute("CREATE TABLE blobs (id INTEGER PRIMARY KEY, bytes BLOB NOT NULL)")
         begun, many = time.monotonic(), 0
         while time.monotonic() - begun < seconds:
@@ -220,8 +55,87 @@ def commits(folder, seconds):
         return many / (time.monotonic() - begun)
 
 
+class Rounds:
+    """The servers, and the figures of each row and server, round by round."""
+
+    def __init__(self, words, folder):
+        self.folder, self.seconds = folder, words.seconds
+        self.client = folder / "client"
+        subprocess.run(["cc", "-O2", "-D_GNU_SOURCE", "-o", self.client, HERE / "client.c"], check=True)
+        self.servers = [Drop(words.program.resolve(), folder), Nginx(folder)]
+        self.rows = {Drop.name: ROWS, Nginx.name: ROWS, Swift.name: SWIFT_ROWS}
+        if Swift.is_there():
+            self.servers.append(Swift(folder))
+        self.figures, self.durable = {}, []
+
+    def measure(self, server, row, mark):
+        with serving(server, row, self.folder, mark) as (_, port, file):
+            figure = by_either(self.client, row, file, port, self.seconds)
+        self.figures.setdefault((row, server.name), []).append(figure)
+
+    def go(self, turn):
+        """One round."""
+        for row in ROWS:
+            for server in self.servers[::1 if turn % 2 == 0 else -1]:
+                if row in self.rows[server.name]:
+                    self.measure(server, row, f"r{turn}")
+        self.durable.append(commits(self.folder, self.seconds))
+
+
+# ---- tables
+
+
 def shown(rates):
     return f"{max(rates):.0f} ({statistics.median(rates):.0f})"
+
+
+def rates_of(rounds, row, server):
+    return [figure.rate for figure in rounds.figures.get((row, server.name), [])]
+
+
+def rate_row(rounds, row):
+    """The best of a second, in brackets the median, and the ratio of `drop serve` to each peer."""
+    ours = rates_of(rounds, row, Drop)
+    cells = [row.name, shown(ours)]
+    for peer in rounds.servers[1:]:
+        theirs = rates_of(rounds, row, peer)
+        cells += [shown(theirs), f"{max(ours) / max(theirs):.2f}"] if theirs else ["", ""]
+    return cells
+
+
+def print_rates(rounds):
+    peers = rounds.servers[1:]
+    head = ["Request", "`drop serve` a second", *(cell for peer in peers for cell in [f"{peer.name} a second", "Ratio"])]
+    bare = ["a bare commit of 1 KiB (Python's `sqlite3`)", "", shown(rounds.durable)]
+    print_table(head, [*(rate_row(rounds, row) for row in ROWS), bare + [""] * (len(head) - len(bare))])
+    if len(peers) == 1:
+        print("Swift is not there: its columns are left out.\n")
+
+
+def print_wrong(rounds):
+    """Which answers had another status than owed."""
+    counts = {key: sum(figure.wrong for figure in figures) for key, figures in rounds.figures.items()}
+    wrong = [f"{count} of {name}, {row.name}" for (row, name), count in counts.items() if count]
+    print(f"Answers of another status than owed: {'; '.join(wrong) or 'none'}.\n")
+
+
+def print_costs(rounds):
+    rows = [cost_row(rounds.servers[0], row, rounds.folder, rounds.client, rounds.seconds) for row in ROWS]
+    print_table(["Row of `drop serve`", "Its first costs, in 100 of its time", "System calls a request"], rows)
+
+
+def run(words, folder):
+    print(f"{machine()}, {disk_of(folder)}; {load()} as it began\n")
+    rounds = Rounds(words, folder)
+    for turn in range(words.rounds):
+        rounds.go(turn)
+    print_rates(rounds)
+    print_wrong(rounds)
+    memory = memory_rows(rounds.servers[0], folder, rounds.client)
+    print_table(["Requests served", "Memory of `drop serve`, KiB"], [list(map(str, it)) for it in memory])
+    if words.profile:
+        print_costs(rounds)
+    print(f"{words.rounds} rounds of {words.seconds} s, the best, in brackets the median; {load()} at the end")
 
 
 def main():
@@ -230,32 +144,13 @@ def main():
     parser.add_argument("--seconds", type=int, default=3)
     parser.add_argument("--rounds", type=int, default=3)
     parser.add_argument("--folder", type=pathlib.Path, default=pathlib.Path("/var/tmp"))
+    parser.add_argument("--profile", action="store_true", help="what each row of `drop serve` costs, by perf and strace")
     words = parser.parse_args()
-    folder = pathlib.Path(tempfile.mkdtemp(dir=words.folder))
+    if words.rounds < 1 or words.seconds < 1:
+        parser.error("there is no round, or it takes no time")
+    folder = pathlib.Path(tempfile.mkdtemp(prefix="drop-bench-", dir=words.folder))
     try:
-        client = folder / "client"
-        subprocess.run(["cc", "-O2", "-D_GNU_SOURCE", "-o", client, HERE / "client.c"], check=True)
-        servers = [Drop(words.program.resolve(), folder), Nginx(folder)]
-        rates = {(row, server.name): [] for row in ROWS for server in servers}
-        durable, wrong = [], {}
-        for turn in range(words.rounds):
-            for row in ROWS:
-                for server in servers[::1 if turn % 2 == 0 else -1]:
-                    figure = measured(server, row, folder, client, words.seconds, f"r{turn}")
-                    rates[row, server.name].append(figure.rate)
-                    wrong[row, server.name] = wrong.get((row, server.name), 0) + figure.wrong
-            durable.append(commits(folder, words.seconds))
-        print(f"{datetime.date.today()}, {words.rounds} rounds of {words.seconds} s, load {os.getloadavg()[0]:.1f}: the best, in"
-              " brackets the median\n")
-        print("| Request | `drop serve` a second | nginx a second | Ratio | Answered otherwise |\n|---|---|---|---|---|")
-        for row in ROWS:
-            ours, theirs = rates[row, "drop serve"], rates[row, "nginx"]
-            others = f"{wrong[row, 'drop serve']}, {wrong[row, 'nginx']}"
-            print(f"| {row.name} | {shown(ours)} | {shown(theirs)} | {max(ours) / max(theirs):.2f} | {others} |")
-        print(f"| a bare commit of 1 KiB (`sqlite3`) | | {shown(durable)} | | |\n")
-        print("| Requests served | Memory of `drop serve`, KiB |\n|---|---|")
-        for requests, memory in memory_rows(servers[0], folder, client):
-            print(f"| {requests} | {memory} |")
+        run(words, folder)
     finally:
         shutil.rmtree(folder, ignore_errors=True)
 

@@ -1,0 +1,6 @@
+#!/usr/bin/env bash
+# Runs all benches, one after the other, and prints one Markdown text. bench/README.md says more.
+# Usage: bench/run.sh DROP [--quick] [--only NAME].. [--folder FOLDER]
+set -eu
+export PATH="$PATH:/usr/sbin" # where Debian has nginx
+exec python3 -B "$(dirname "$0")/parts.py" "$@"

@@ -1,0 +1,52 @@
+"""The clients that ask a server for a row, and what they tell."""
+
+import contextlib
+import dataclasses
+import re
+
+import kit
+from servers import HERE, HOST, free_port, names_of
+
+
+@contextlib.contextmanager
+def serving(server, row, folder, mark):
+    """The server as it runs for a row: its process, its port, and a file with a target on each line."""
+    port, file = free_port(), folder / "targets"
+    file.write_text("".join(f"{it}\n" for it in server.targets(row, names_of(row, mark), port)))
+    with server.running(port) as pid:
+        yield pid, port, file
+
+
+@dataclasses.dataclass(frozen=True)
+class Figure:
+    """Requests a second, and how many were answered with another status than owed."""
+
+    rate: float
+    wrong: int
+
+
+def by_wrk(row, file, port, seconds):
+    words = ["wrk", "-t1", "-c1", f"-d{seconds}s", "--timeout", "10s", "-s", HERE / "ask.lua", f"http://{HOST}:{port}",
+             "--", file, row.method, str(row.size if row.upload else 0), f"{HOST}:{port}"]
+    out = kit.run(words).out.decode()
+    told = re.search(r"^told (\d+) (\d+) (\d+) (\d+) (\d+)$", out, re.M)
+    if not told:
+        raise SystemExit(f"wrk told nothing: {out}")
+    requests, micros, refused, failed, _ = map(int, told.groups())
+    return Figure(requests * 1e6 / micros, (requests - refused if row.bad else refused) + failed)
+
+
+def by_client(client, row, file, port, requests):
+    bytes_sent = str(row.size if row.upload else 0)
+    ran = kit.run([client, str(port), file, row.method, bytes_sent, str(requests), str(int(row.new))])
+    if ran.status:
+        raise SystemExit(f"the client failed: {ran.err}")
+    sent, well, seconds = ran.out.split()
+    return Figure(int(sent) / float(seconds), int(sent) - int(well))
+
+
+def by_either(client, row, file, port, seconds):
+    """By wrk, but for what it can't do."""
+    if row.new:
+        return by_client(client, row, file, port, seconds * 1000)
+    return by_wrk(row, file, port, seconds)

@@ -1,0 +1,151 @@
+"""What is asked of `drop serve`, and the servers that stand side by side: `drop serve` and nginx."""
+
+import base64
+import contextlib
+import dataclasses
+import hashlib
+import os
+import pathlib
+import shutil
+import socket
+import subprocess
+import time
+
+import office
+import tables
+from replays import ID
+
+HERE = pathlib.Path(__file__).resolve().parent
+KIB, MIB = 1 << 10, 1 << 20
+BOX = "bench"
+HOST = "127.0.0.1"
+UPLOADS = {KIB: 20000, MIB: 600}  # links to new names, more than a row takes
+FILES = {KIB: 1000, MIB: 40}  # files that stand at first
+
+
+def body_of(size):
+    return b"b" * size
+
+
+def free_ports(host, many):
+    """So many ports, each another one."""
+    with contextlib.ExitStack() as stack:
+        servers = [stack.enter_context(socket.create_server((host, 0))) for _ in range(many)]
+        return [server.getsockname()[1] for server in servers]
+
+
+def free_port():
+    return free_ports(HOST, 1)[0]
+
+
+def wait_for(port, host=HOST):
+    """Waits until something listens at the port, for a minute at most."""
+    for _ in range(1200):
+        with contextlib.suppress(OSError), socket.create_connection((host, port)):
+            return
+        time.sleep(0.05)
+    raise SystemExit(f"nothing listens at port {port}")
+
+
+@dataclasses.dataclass(frozen=True)
+class Row:
+    """What is asked: of each server targets of its own, a new name for each upload."""
+
+    name: str
+    method: str
+    size: int = 0
+    upload: bool = False
+    bad: bool = False
+    new: bool = False  # a new connection for each request
+
+
+ROWS = [
+    Row("a wrong signature", "GET", KIB, bad=True),
+    Row("GET of 1 KiB", "GET", KIB),
+    Row("GET of 1 KiB, a new connection each", "GET", KIB, new=True),
+    Row("PUT of 1 KiB, new", "PUT", KIB, upload=True),
+    Row("PUT of 1 MiB, new", "PUT", MIB, upload=True),
+    Row("GET of 1 MiB", "GET", MIB),
+]
+
+
+def first_files():
+    """The name and the bytes of each file that stands at first."""
+    for size, many in FILES.items():
+        for number in range(many):
+            yield f"f{size}-{number:06d}", body_of(size)
+
+
+def names_of(row, mark):
+    if row.upload:
+        return [f"{mark}-{number:06d}" for number in range(UPLOADS[row.size])]
+    return [f"f{row.size}-{number:06d}" for number in range(FILES[row.size])]
+
+
+# ---- servers
+
+
+class Drop:
+    """`drop serve` over a copy of an office with the files that stand at first."""
+
+    name = "drop serve"
+
+    def __init__(self, program, folder):
+        self.drop = office.Drop(program, folder)
+        self.whole = self.drop.office("office")
+        tables.add_box(self.whole, tables.Box(BOX, max_files=10**6))
+        for name, body in first_files():
+            tables.add_file(self.whole, BOX, name, body, ID)
+
+    def targets(self, row, names, port):
+        start = time.strftime("%Y%m%dT%H%M%SZ", time.gmtime(time.time() - 60))
+        host = f"{HOST}:{port}"
+        for name in names:
+            line = office.python_link(row.method, f"{BOX}/{name}", host=host, start=start).decode().strip()
+            target = line.removeprefix(f"http://{host}")
+            yield target[:-1] + ("0" if target[-1] != "0" else "1") if row.bad else target
+
+    @contextlib.contextmanager
+    def running(self, port):
+        file = self.whole.with_name("served")
+        for old in file.parent.glob("served*"):
+            old.unlink()
+        shutil.copyfile(self.whole, file)
+        os.sync()
+        words = [self.drop.program, "serve", file, "--listen", f"{HOST}:{port}", "--connections", "1000000"]
+        with subprocess.Popen(words, stdout=subprocess.PIPE, stderr=subprocess.DEVNULL) as process:
+            process.stdout.readline()
+            yield process.pid
+            process.kill()
+
+
+class Nginx:
+    """nginx with links of `secure_link` and uploads by `dav`."""
+
+    name = "nginx"
+
+    def __init__(self, folder):
+        self.folder = folder
+        files = folder / "nginx-files" / BOX
+        files.mkdir(parents=True)
+        for name, body in first_files():
+            (files / name).write_bytes(body)
+        for path in [folder, folder / "nginx-files", files]:
+            path.chmod(0o777)
+
+    def targets(self, row, names, port):
+        expires = int(time.time()) + 86400
+        for name in names:
+            path = f"/{BOX}/{name}"
+            digest = hashlib.md5(f"{expires}{path}{row.method} {'wrong' if row.bad else 'secret'}".encode()).digest()
+            yield f"{path}?md5={base64.urlsafe_b64encode(digest).decode().rstrip('=')}&expires={expires}"
+
+    @contextlib.contextmanager
+    def running(self, port):
+        text = (HERE / "nginx.conf.txt").read_text().replace("FOLDER", str(self.folder)).replace("PORT", str(port))
+        settings = self.folder / "nginx.conf"
+        settings.write_text(text)
+        with subprocess.Popen(["nginx", "-c", settings], stderr=subprocess.DEVNULL) as process:
+            wait_for(port)
+            yield process.pid
+            process.terminate()
