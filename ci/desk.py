@@ -9,6 +9,7 @@ lines in docs/USE.md, and links that botocore signs. The last line is `N passed,
 import dataclasses
 import itertools
 import os
+import shutil
 import time
 
 import kit
@@ -17,7 +18,7 @@ from expected import SECRET, answer, quoted
 from office import CLERK, DONE, OBEYED, difference, fetched, get, malformed, post, put, receipt, run_all
 from orders import BotocoreOrder
 from replays import ID, MOMENT, fault, signed
-from serve import Server, curl
+from serve import Server, curl, open_office
 
 LATER = "20130524T000001Z"
 SAID_DONE = kit.Run(0, b"done\n", b"")
@@ -279,6 +280,11 @@ def test_given_bounds(drop, count):
     count.add("its secret", difference(tables.rows(file, "SELECT secret FROM keys WHERE id = 'k2'"), [(b"s" * 128,)]))
     with open("/dev/zero", "rb") as endless:
         count.add("input without end", difference(drop.run("desk", file, "-", given=endless), MALFORMED))
+    long = drop.path("long")
+    long.write_bytes(b"k" * 100000)
+    with open(long, "rb", buffering=0) as given:
+        count.add("a long input", difference(drop.run("desk", file, "-", given=given), MALFORMED))
+        count.add("what is read of it", difference(given.seek(0, os.SEEK_CUR), 4099))
 
 
 def test_given_faults(drop, count):
@@ -303,6 +309,22 @@ def test_given_faults(drop, count):
         count.add(f"{data!r}", difference(drop.run("desk", file, "-", given=data), MALFORMED))
     count.add("the office stays", None if tables.dump(file) == added else "it was changed")
     count.add("no file is made", "there is one" if gone.exists() else None)
+
+
+def test_log(drop, count):
+    """Behind a command, done or refused, what a killed server left in the log is in the file."""
+    for name, line, owed in [("done", "key add k3 link s3cr3t", SAID_DONE), ("not possible", "key revoke nobody", NOT_POSSIBLE), ("malformed", "no command", MALFORMED)]:
+        file = open_office(drop, f"log {name}")
+        server = Server(drop, file, 10)
+        put = server.message("PUT", "in/a", b"abc")
+        with server:
+            count.add(f"{name}: PUT", difference(server.ask(put), receipt(1, b"abc")))
+            server.process.kill()
+            server.process.wait()
+        count.add(f"{name}: desk", difference(drop.run("desk", file, line), owed))
+        alone = drop.path(f"alone {name}")
+        shutil.copyfile(file, alone)
+        count.add(f"{name}: the file alone", difference(tables.rows(alone, "SELECT number, name FROM receipts"), [(1, "a")]))
 
 
 def examples():
@@ -386,7 +408,10 @@ def test_from_nothing(drop, count):
     count.add("the receipt", difference(tables.rows(file, "SELECT number, box, name, length, key_id FROM receipts"), [(1, "roadworks", "a.pdf", 5, "bidder")]))
 
 
-TESTS = [test_days, test_steps, test_words, test_given_lines, test_given_bounds, test_given_faults, test_examples, test_links, test_from_nothing]
+TESTS = [
+    test_days, test_steps, test_words, test_given_lines, test_given_bounds, test_given_faults, test_log, test_examples, test_links,
+    test_from_nothing,
+]
 
 
 if __name__ == "__main__":

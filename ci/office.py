@@ -262,6 +262,8 @@ def test_malformed_secret_files(drop, count):
         words = ["--clerk", ID, "--secret-file", secret_file(drop, name, data)]
         for file in [drop.path("none"), there]:
             count.add(f"{file.name}, {name}", difference(drop.run("init", file, *words), malformed("secret")))
+    endless = drop.run("init", drop.path("none"), "--clerk", ID, "--secret-file", "/dev/zero")
+    count.add("a secret without end", difference(endless, malformed("secret")))
     for name in [drop.path("gone"), drop.folder, ""]:
         for file in [drop.path("none"), there]:
             found = drop.run("init", file, "--clerk", ID, "--secret-file", name)
