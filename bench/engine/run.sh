@@ -12,7 +12,7 @@ if [ $# -lt 2 ]; then trap 'rm -rf "$work"' EXIT; fi
 
 mkdir -p "$work/crates/enginebench/src"
 cp "$here/main.rt.txt" "$work/crates/enginebench/src/main.rt"
-echo "enginebench: sqlite anyhow" >"$work/crates.txt"
+echo "enginebench: sqlite sqlite_std_file anyhow" >"$work/crates.txt"
 
 # With no words the program says that they are missing: so it is proved and built.
 (cd "$work/crates/enginebench" && rt run --jobs 1) >"$work/log" 2>&1
