@@ -1,22 +1,53 @@
-// The heap of the kit's C library, for tests that refuse memory: the allocation whose number REFUSED_ALLOCATION
-// names, counted from 1, cannot be made. Then a byte goes to the file descriptor that REFUSAL_TOLD_TO names, so that
-// the caller knows that there was such an allocation. It stands in the place of liblibc_c.a when a proved program
-// is linked again (ci/memory.py).
+// A heap that refuses, for tests: the allocation of the program whose number REFUSED_ALLOCATION names, counted from 1, cannot
+// be made. Then a byte goes to the file descriptor that REFUSAL_TOLD_TO names, so that the caller knows that there was such
+// an allocation. It is loaded before the C library (LD_PRELOAD), into a proved program as it was built (ci/memory.py). What
+// the C library itself asks for is neither counted nor refused.
 // The toolchain has no headers of the C library, so what is called of it is declared here.
 typedef unsigned long size_t;
-extern void *malloc(size_t), *realloc(void *, size_t);
-extern void free(void *);
+extern void *__libc_malloc(size_t), *__libc_realloc(void *, size_t);
 extern void abort(void);
 extern char *getenv(const char *);
 extern long strtol(const char *, char **, int);
 extern long write(int, const void *, size_t);
 
-struct block {
-    size_t is_made;
-    void *at;
+// A segment of a program, and where its segments lie, as in ELF for 64 bits and in glibc's link.h.
+struct segment {
+    unsigned int type, flags;
+    unsigned long offset, address, physical, in_file, in_memory, align;
 };
 
-static char nothing;
+struct object {
+    unsigned long base;
+    const char *name;
+    const struct segment *segments;
+    unsigned short count;
+};
+
+extern int dl_iterate_phdr(int (*)(struct object *, size_t, void *), void *);
+
+// What is loaded of the program itself lies from here to there.
+static unsigned long first = ~0UL, last = 0;
+
+static int note(struct object *program, size_t size, void *given)
+{
+    (void)size;
+    (void)given;
+    for (unsigned short at = 0; at < program->count; at += 1) {
+        const struct segment *it = &program->segments[at];
+        unsigned long begin = program->base + it->address, end = begin + it->in_memory;
+        if (it->type != 1)
+            continue;
+        first = begin < first ? begin : first;
+        last = end > last ? end : last;
+    }
+    // The first object is the program.
+    return 1;
+}
+
+__attribute__((constructor)) static void find_program(void)
+{
+    dl_iterate_phdr(note, 0);
+}
 
 static long number_in(const char *name)
 {
@@ -24,9 +55,12 @@ static long number_in(const char *name)
     return text ? strtol(text, 0, 10) : 0;
 }
 
-static int is_refused(void)
+// Whether the call that comes from there is the one to refuse.
+static int is_refused(const void *from)
 {
     static long refused = -1, made = 0;
+    if ((unsigned long)from < first || (unsigned long)from >= last)
+        return 0;
     if (refused < 0)
         refused = number_in("REFUSED_ALLOCATION");
     made += 1;
@@ -37,24 +71,12 @@ static int is_refused(void)
     return 1;
 }
 
-static struct block block_at(void *at)
+void *malloc(size_t size)
 {
-    struct block block = {at != 0, at ? at : &nothing};
-    return block;
+    return is_refused(__builtin_return_address(0)) ? 0 : __libc_malloc(size);
 }
 
-struct block rattle_alloc(size_t size, size_t align)
+void *realloc(void *at, size_t size)
 {
-    return block_at(is_refused() ? 0 : malloc(size ? size : align));
-}
-
-struct block rattle_realloc(void *at, size_t kept, size_t size, size_t align)
-{
-    (void)kept;
-    return block_at(is_refused() ? 0 : realloc(at, size ? size : align));
-}
-
-void rattle_dealloc(void *at)
-{
-    free(at);
+    return is_refused(__builtin_return_address(0)) ? 0 : __libc_realloc(at, size);
 }

@@ -1,7 +1,7 @@
 """Runs the proved programs with each allocation refused in turn.
 
-The objects that `rt ci` leaves of crates/drop, crates/rows and the tests of crates/keeper are linked again, with
-ci/heap.c in the place of the heap of the kit's C library. Then each number from 1 on is refused, up to the first at
+The programs that `rt ci` leaves of crates/drop, crates/rows and the tests of crates/keeper run as they are, with ci/heap.c
+loaded before the C library. Then each number from 1 on is refused, up to the first at
 which there is no allocation left to refuse; of `init`, `desk`, `link` and lists over an office file a sample of them. The program
 must give its whole right answer, or say that memory was refused, in the way that is owed there; and never anything else. What
 an office keeps then is looked at too: by further requests where it lives in memory, and in the tables of its file.
@@ -38,22 +38,18 @@ UNREAD = kit.Run(1, b"", b"Error: Kind(OutOfMemory)\n")
 LEAST_REFUSALS = 2000  # of all sessions
 
 
-def linked(crate, folder, tests=""):
-    """The crate's proved program, or that of its tests, over the heap that refuses."""
-    chain = kit.toolchain()
-    heap, program = folder / "heap.o", folder / (crate + tests)
-    clang = [chain / "toolchain/bin/clang", "-O1", "-fPIC", "-Wall", "-Wextra", "-Werror", "-c", "ci/heap.c"]
-    link = [chain / "bin/rattle-link", "--target", "x86_64-unknown-linux-gnu", "--toolchain", chain / "toolchain"]
-    link += ["-o", program, kit.built(crate, f"{tests}.o"), chain / "c/libos_c.a", heap]
-    for words in [[*clang, "-o", heap], link]:
-        subprocess.run(words, cwd=kit.ROOT, check=True, stdout=subprocess.DEVNULL)
-    return program
+def heap_in(folder):
+    """The heap that refuses, as a library that is loaded before others."""
+    heap = folder / "heap.so"
+    clang = [kit.toolchain() / "toolchain/bin/clang", "-O1", "-fPIC", "-Wall", "-Wextra", "-Werror", "-shared", "-nostdlib"]
+    subprocess.run([*clang, "-o", heap, "ci/heap.c"], cwd=kit.ROOT, check=True, stdout=subprocess.DEVNULL)
+    return heap
 
 
 def refusing(number, words, given=b""):
     """The run with this allocation refused, and whether there was such an allocation."""
     heard, told = os.pipe()
-    env = {"REFUSED_ALLOCATION": str(number), "REFUSAL_TOLD_TO": str(told), "PATH": "/usr/bin:/bin"}
+    env = {"REFUSED_ALLOCATION": str(number), "REFUSAL_TOLD_TO": str(told), "LD_PRELOAD": str(HEAP), "PATH": "/usr/bin:/bin"}
     try:
         run = kit.run(words, given, cwd=DROP, env=env, pass_fds=[told])
     finally:
@@ -459,19 +455,19 @@ def test_keeper(program, count):
     print(f"keeper: {len(came[again])} times a call was refused, and the next one was right")
 
 
-def main():
-    count = kit.Count()
-    with tempfile.TemporaryDirectory(prefix="drop-memory-") as room:
-        folder = pathlib.Path(room)
-        drop = linked("drop", folder)
-        test_drop(drop, count)
-        test_offices(drop, folder, count)
-        test_sessions(drop, folder, count)
-        test_lists(drop, folder, count)
-        test_rows(linked("rows", folder), count)
-        test_keeper(linked("keeper", folder, "_tests"), count)
-    count.end()
+def test_all(folder, count):
+    drop = kit.built("drop")
+    test_drop(drop, count)
+    test_offices(drop, folder, count)
+    test_sessions(drop, folder, count)
+    test_lists(drop, folder, count)
+    test_rows(kit.built("rows"), count)
+    test_keeper(kit.built("keeper", "_tests"), count)
 
 
 if __name__ == "__main__":
-    main()
+    COUNT = kit.Count()
+    with tempfile.TemporaryDirectory(prefix="drop-memory-") as ROOM:
+        HEAP = heap_in(pathlib.Path(ROOM))
+        test_all(pathlib.Path(ROOM), COUNT)
+    COUNT.end()

@@ -1,6 +1,6 @@
 //! `drop desk`: one command of the desk is done.
 use crate::faults::Fault;
-use crate::opening::{Log, OfficeWork, require_file, work_over};
+use crate::opening::{OfficeWork, Purpose, require_file, work_over};
 use keeper::Keeper;
 use office::{DeskFault, Office};
 use std::alloc::Global;
@@ -39,7 +39,7 @@ pub(crate) fn do_desk<'a>(
 ) -> Result<(), Fault<'a>> {
     require_file(rt, words.file)?;
     let command = read_command(rt.alloc(), words.line, input)?;
-    work_over(rt, words.file, Log::IntoTheFile, DeskWork { command, out })
+    work_over(rt, words.file, Purpose::Change, DeskWork { command, out })
 }
 
 // The command that the words give: the word itself, or for `-` the line that the input holds; `None` where it holds no line,

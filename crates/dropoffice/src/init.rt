@@ -2,7 +2,7 @@
 ghost use Rattle.std.specs.Prelude.{pos, ◌≤ℤ◌, IfSome};
 
 use crate::faults::Fault;
-use crate::opening::{connect, disconnect};
+use crate::opening::{Purpose, connect, disconnect};
 use boxes::OfficeRow;
 use sigv4::{is_key_id, is_secret};
 use sqlite::{Alter, Connection};
@@ -131,7 +131,7 @@ fn make_office(
     secret: &[u8],
     office: OfficeRow,
 ) -> Result<(), Fault<'static>> {
-    let conn = connect(rt, words.file)?;
+    let conn = connect(rt, words.file, Purpose::Change)?;
     let clerk = words.clerk.as_bytes();
     disconnect(create_over(rt.alloc(), conn, office, clerk, secret)?)
 }

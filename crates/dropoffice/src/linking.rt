@@ -1,6 +1,6 @@
 //! `drop link`: a link is written, signed by a key of the office.
 use crate::faults::Fault;
-use crate::opening::{Log, OfficeWork, work_over};
+use crate::opening::{OfficeWork, Purpose, work_over};
 use boxes::{Command, has_form};
 use desk::read_command;
 use keeper::Keeper;
@@ -19,7 +19,12 @@ pub(crate) fn do_link(
     out: &mut impl Write,
 ) -> Result<(), Fault<'static>> {
     let order = read_order(rt.alloc(), words)?;
-    work_over(rt, words.file, Log::Stays, LinkWork { order, words, out })
+    work_over(
+        rt,
+        words.file,
+        Purpose::Look,
+        LinkWork { order, words, out },
+    )
 }
 
 // A link that is written, and where to.

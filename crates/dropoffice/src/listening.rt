@@ -1,6 +1,6 @@
 //! `drop serve`: an office is served at an address.
 use crate::faults::Fault;
-use crate::opening::{Log, OfficeWork, work_over};
+use crate::opening::{OfficeWork, Purpose, work_over};
 use keeper::Keeper;
 use office::{MachineClock, Office, serve};
 use std::io::Write;
@@ -38,7 +38,7 @@ pub(crate) fn do_serve<'a>(
     out: &mut impl Write,
 ) -> Result<(), Fault<'a>> {
     let service = read_service(words)?;
-    work_over(rt, words.file, Log::IntoTheFile, ServeWork { service, out })
+    work_over(rt, words.file, Purpose::Serve, ServeWork { service, out })
 }
 
 // The service of the words, where each value of theirs has its form.

@@ -1,7 +1,7 @@
 //! `drop links`, `drop manifest` and `drop compare`: lists in CSV.
 use crate::faults::Fault;
 use crate::linking::check_place;
-use crate::opening::{Log, OfficeWork, work_over};
+use crate::opening::{OfficeWork, Purpose, work_over};
 use desk::{ListFault, compare, links_from, manifest};
 use keeper::Keeper;
 use links::LinkKey;
@@ -44,7 +44,12 @@ pub(crate) fn do_links<'a>(
     out: impl Write + Drop,
 ) -> Result<(), Fault<'a>> {
     check_place(words.host.as_bytes(), words.region.as_bytes())?;
-    work_over(rt, words.file, Log::Stays, LinksWork { words, input, out })
+    work_over(
+        rt,
+        words.file,
+        Purpose::Look,
+        LinksWork { words, input, out },
+    )
 }
 
 // A manifest, and where it is written to.
@@ -67,7 +72,7 @@ pub(crate) fn do_manifest<'a>(
     words: &OfficeFile<'_>,
     out: impl Write + Drop,
 ) -> Result<(), Fault<'a>> {
-    work_over(rt, words.file, Log::Stays, ManifestWork { out })
+    work_over(rt, words.file, Purpose::Look, ManifestWork { out })
 }
 
 // A manifest that is compared, and where what stands is written to.
@@ -92,7 +97,7 @@ pub(crate) fn do_compare<'a>(
     input: impl Read + Drop,
     out: impl Write + Drop,
 ) -> Result<(), Fault<'a>> {
-    work_over(rt, words.file, Log::Stays, CompareWork { input, out })
+    work_over(rt, words.file, Purpose::Look, CompareWork { input, out })
 }
 
 // A writer that hands on several rows at a time.

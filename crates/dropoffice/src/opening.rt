@@ -11,9 +11,9 @@ use std::fs::Files;
 use std::hash::{BuildHasher, RandomState};
 use std::io::ErrorKind;
 
-/// So many pages that were read are kept in memory, of 4096 bytes each: 64 MB. Of a page that is not among them the engine reads
-/// the bytes once more, and sums them.
-const KEPT_PAGES: usize = 16_384;
+/// So many pages that were read are kept in memory while an office is served, of 4096 bytes each: 64 MB. Of a page that is not
+/// among them the engine reads the bytes once more, and sums them.
+const SERVED_PAGES: usize = 16_384;
 
 // The store of an office file.
 pub(crate) type Store = FileStore<File>;
@@ -38,12 +38,14 @@ fn unopened_files(error: OpenError) -> Fault<'static> {
 }
 
 // How a database is opened.
-fn options(rt: &HostRuntime) -> Result<Options, Fault<'static>> {
+fn options(rt: &HostRuntime, purpose: Purpose) -> Result<Options, Fault<'static>> {
     let Ok(random) = RandomState::new(rt) else {
         return Err(Fault::CannotOpen);
     };
     let mut options = Options::new(random.hash_one(&0u8));
-    options.cache_pages = KEPT_PAGES;
+    if purpose == Purpose::Serve {
+        options.cache_pages = SERVED_PAGES;
+    }
     Ok(options)
 }
 
@@ -62,22 +64,28 @@ pub(crate) trait OfficeWork<'a> {
     fn run<K: Keeper>(self, rt: &HostRuntime, office: &mut Office<K>) -> Result<(), Fault<'a>>;
 }
 
-/// What becomes of the log beside an office file, once the work is done.
+/// What an office file is opened for.
 #[derive(Clone, Copy, Debug, PartialEq, Eq)]
-pub(crate) enum Log {
-    /// It goes into the file, however the work ended.
-    IntoTheFile,
-    /// It stays as it is.
-    Stays,
+pub(crate) enum Purpose {
+    /// Something is asked. The log beside the file stays as it is.
+    Look,
+    /// Something may be changed. The log goes into the file at the end, however the work ended.
+    Change,
+    /// The same, for long: many pages are kept in memory, for which it takes 60 milliseconds more to open.
+    Serve,
 }
 
 /// Connects to the database in a file that is there. A file of no bytes is a database without tables.
-pub(crate) fn connect(rt: &HostRuntime, file: &str) -> Result<Connection<Store>, Fault<'static>> {
+pub(crate) fn connect(
+    rt: &HostRuntime,
+    file: &str,
+    purpose: Purpose,
+) -> Result<Connection<Store>, Fault<'static>> {
     // For SQLite these are no names of files.
     if file == ":memory:" || file.starts_with("file:") {
         return Err(Fault::CannotOpen);
     }
-    let options = options(rt)?;
+    let options = options(rt, purpose)?;
     let files = sqlite_std_file::open(rt, file, Unknown).map_err(unopened_files)?;
     match Connection::open_files(rt.alloc(), files, options) {
         Ok(conn) => Ok(conn),
@@ -124,13 +132,13 @@ fn work_on<'a, S: Alter + Drop, W: OfficeWork<'a> + Drop>(
 pub(crate) fn work_over<'a, W: OfficeWork<'a> + Drop>(
     rt: &HostRuntime,
     file: &str,
-    log: Log,
+    purpose: Purpose,
     work: W,
 ) -> Result<(), Fault<'a>> {
     require_file(rt, file)?;
-    let (done, conn) = work_on(rt, connect(rt, file)?, work)?;
-    match log {
-        Log::Stays => done,
-        Log::IntoTheFile => done.and(disconnect(conn)),
+    let (done, conn) = work_on(rt, connect(rt, file, purpose)?, work)?;
+    match purpose {
+        Purpose::Look => done,
+        Purpose::Change | Purpose::Serve => done.and(disconnect(conn)),
     }
 }

@@ -3,7 +3,7 @@ ghost use Rattle.std.specs.Prelude.{IfSome};
 ghost use Rattle.sigv4.specs.Credential.{IsKeyId, IsSecret};
 
 use crate::faults::Fault;
-use crate::opening::{Log, OfficeWork, work_over};
+use crate::opening::{OfficeWork, Purpose, work_over};
 use keeper::Keeper;
 use links::read_moment;
 use office::{Office, replay_in_memory, replay_over};
@@ -29,7 +29,7 @@ pub(crate) fn do_replay<'a>(
         moment,
         out,
     };
-    work_over(rt, words.file, Log::IntoTheFile, work)
+    work_over(rt, words.file, Purpose::Change, work)
 }
 
 // Over a new office in memory.
