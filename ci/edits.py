@@ -332,8 +332,9 @@ def edits_of_crates(names, count, kept):
         edits += edits_in(kit.ROOT / "ci" / "controls" / crate.name, crate, count, is_harmless=True)
         edits = [it for it in edits if not names or it.name in names or crate.name in names]
         new = [it for it in edits if not kept.holds(crate, it)]
-        for it in edits[len(new) :]:
-            count.add(it.name, None)
+        for it in edits:
+            if it not in new:
+                count.add(it.name, None)
         if len(new) < len(edits):
             print(f"{crate.name}: {len(edits) - len(new)} of its {len(edits)} edits were tried by an earlier run on this machine")
         of_crates += [(crate, new)] if new else []
