@@ -1,15 +1,17 @@
 """Tries the edits `crates/*/edits/*.edit`, each of which the prover must refuse, many in one check and several checks
 side by side.
 
-It runs behind `rt ci`, over the libraries that it leaves, or beside it (`--beside`): then a crate's turn comes once the
-libraries below it are there, and half of the processors are left to `rt ci`. Beside the lines that `rt` knows, a file has a line `fn: NAME`,
-the function that must be refused, as a check prints it. The code of `rt` applies the edits and runs the checks.
+It runs behind `rt ci`, over the libraries that it leaves, or beside it (`--beside`), and then half of the processors are left
+to `rt ci`. A crate's turn comes once its own library is there, since only a proved crate has one. Beside the lines that
+`rt` knows, a file has a line `fn: NAME`, the function that must be refused, as a check prints it. The code of `rt` applies
+the edits and runs the checks.
 
-First each crate is proved as it is, in a folder of its own. Each check starts from a copy of that folder, so nothing of
-one edit is left for the next. Edits of the bodies of different functions share a check, since callers see contracts
-alone. It goes on behind what it refuses (`--allow-holes`), to the goals of callers too. There an edit counts as refused
-only where its own function is, for its own goals. What is not settled so is tried alone, by the rule of `rt`, and so are
-edits of constants, types and specs.
+A check looks at the functions that its edits name, at those that they call, and at the lemmas of both (`--only`), and at
+nothing else of the crate. Edits of the bodies of different functions share a check, since callers see contracts alone. It
+goes on behind what it refuses (`--allow-holes`), to the goals of callers too. There an edit counts as refused only where
+its own function is, for its own goals. What is not settled so is tried alone, and so are edits of constants, types and
+specs. One that names no function is tried over the whole crate, by the rule of `rt`. What the first check of a crate proves
+is kept in a folder: each later one starts from a copy of it, so nothing of its edits is left for the next.
 
 The harmless edits `ci/controls/NAME/*.edit` are tried among the others, and must be found to be proved still. Each edit
 that is not refused, and each harmless one that is, is named. The last line is `N passed, M failed`.
@@ -38,10 +40,10 @@ import kit
 
 RT = kit.rt()
 # What counts as a refusal: another number where that changes, so that nothing that was kept before counts.
-RULES = 1
+RULES = 2
 KEPT = pathlib.Path(os.environ.get("XDG_CACHE_HOME") or pathlib.Path.home() / ".cache") / "drop-edits"
 # So many edits share a check at least, where there are so many: to load what is kept costs as much as a few edits.
-FEWEST = 16
+FEWEST = 24
 # A library that `rt ci` has built is whole once nothing of it was written for so many seconds.
 SETTLES = 10
 # A check takes less than so much of the memory that `rt` reckons for it: up to 2 GB were seen, 3.6 in `sqlkeeper`.
@@ -166,7 +168,7 @@ class Reading:
             return "BAD EDIT: the kept work of a library could not be used"
         if self.status == 0:
             return STILL_PROVED
-        if self.status != 1 or not lines[-1].startswith(("logic=not-proved", "holes=")):
+        if self.status != 1 or not lines[-1].startswith(("logic=not-proved", "holes=", "only=")):
             return "BAD EDIT: it did not reach the prover: " + " / ".join([*lines[:3], *lines[-3:]])
         return None
 
@@ -211,27 +213,28 @@ class Beside:
         return self.ended is not None and not self.ended.exists()
 
     def has_built(self, crate):
-        """Whether the library is there as a whole; of a run that goes on, written since it began."""
-        if not self.is_running():
-            return os.path.isdir(crate.rlib)
+        """Whether the library is there as a whole, and younger than what it is made of; of a run that goes on, written since it
+        began."""
         times = [os.lstat(f"{at}/{name}").st_ctime for at, _, names in os.walk(crate.rlib) for name in ["", *names]]
-        return bool(times) and self.begin < min(times) and max(times) < time.time() - SETTLES
+        if not times or min(times) < max(map(os.path.getmtime, RT.rtlib.files_of(crate.folder))):
+            return False
+        return not self.is_running() or self.begin < min(times) and max(times) < time.time() - SETTLES
 
 
 class Trial:
-    """A crate's edits, those that may share a check and those that may not, and what is proved of the crate itself."""
+    """A crate's edits, those that may share a check and those that may not, and what their first check proved."""
 
     def __init__(self, crate, edits, folder, lanes):
         self.crate, self.folder, self.lanes = crate, folder / crate.name, lanes
         self.folder.mkdir(parents=True, exist_ok=True)
         self.shared = [it for it in edits if it.is_of_a_body]
         self.alone = [it for it in edits if not it.is_of_a_body]
-        self.need, self.is_begun, self.is_proved = SHARE * RT.need(crate), False, False
+        self.need, self.is_begun, self.is_warm = SHARE * RT.need(crate), False, False
         self.edits, self.checks, self.seconds = len(edits), 0, 0
 
     def lacks(self, beside):
-        """The libraries below the crate that are not there."""
-        return [it.name for it in self.crate.below() if not beside.has_built(it)]
+        """Of the crate and those below it, the ones whose libraries are not there."""
+        return [it.name for it in [*self.crate.below(), self.crate] if not beside.has_built(it)]
 
     def left(self):
         """The edits that are still to be tried."""
@@ -248,46 +251,37 @@ class Trial:
         return group
 
     def take(self):
-        """The edits of the next check, or None where there is none now. The first check is of the crate itself."""
-        if not self.is_begun:
-            self.is_begun = True
-            return []
-        group = (self.group() or self.alone[:1]) if self.is_proved else []
+        """The edits of the next check, or None where there is none now: the others wait for the first."""
+        if self.is_begun and not self.is_warm:
+            return None
+        self.is_begun = True
+        group = self.group() or self.alone[:1]
         self.shared = [it for it in self.shared if it not in group]
         self.alone = [it for it in self.alone if it not in group]
         return group or None
 
     def check(self, group):
-        """Checks the crate with these edits over a copy of what is proved of it; the crate itself, over the folder."""
-        begin, texts = time.monotonic(), applied(self.crate, group)
+        """Checks the functions that these edits name, over a copy of what is kept; in the first check, over the folder."""
+        begin, texts, functions = time.monotonic(), applied(self.crate, group), [it.function for it in group]
+        words = ["--jobs", str(1 if self.is_warm else max(1, self.lanes // 2)), *["--allow-holes"] * (len(group) > 1)]
+        if all(functions):
+            words += [word for it in functions for word in ("--only", it.partition("::")[2])]
         with tempfile.TemporaryDirectory(prefix="edits-", dir=self.folder.parent) as room:
             kept = self.folder
-            if group:
+            if self.is_warm:
                 # antt puts a new file in the place of an old one, so what is linked stays as it is
                 kept = shutil.copytree(self.folder, f"{room}/kept", copy_function=os.link)
-            jobs = 1 if group else max(1, self.lanes // 2)
-            ran = RT.checked(self.crate, texts, ["--jobs", str(jobs), *["--allow-holes"] * (len(group) > 1)], str(kept))
+            ran = RT.checked(self.crate, texts, words, str(kept))
         return Reading(ran.returncode, ran.stdout, texts), time.monotonic() - begin
 
     def heard(self, group, reading, seconds):
         """Gives the edits that their check settles, each with why it is not refused; the others are to be tried alone."""
-        self.checks, self.seconds = self.checks + 1, self.seconds + seconds
-        if not group:
-            return self.heard_of_the_crate(reading)
+        self.checks, self.seconds, self.is_warm = self.checks + 1, self.seconds + seconds, True
         if len(group) == 1:
             return [(group[0], reading.fault_alone(group[0]))]
         refused = [] if reading.fault() else [it for it in group if reading.refuses(it.function)]
         self.alone += [it for it in group if it not in refused]
         return [(it, None) for it in refused]
-
-    def heard_of_the_crate(self, reading):
-        """Without a proof of the crate itself, no refusal of an edit says anything."""
-        self.is_proved = reading.status == 0
-        if self.is_proved:
-            return []
-        fault = "NOT TRIED: the crate itself is not proved: " + reading.said.rstrip("\n")[-300:]
-        left, self.shared, self.alone = self.left(), [], []
-        return [(it, fault) for it in left]
 
 
 def settled(trials, jobs, beside):
@@ -300,13 +294,12 @@ def settled(trials, jobs, beside):
                 trial, group = running.pop(ended)
                 found = trial.heard(group, *ended.result())
                 refused = sum(fault is None for _, fault in found)
-                told = f"{refused} of {len(group)} edits refused" if group else f"proved as it is: {trial.is_proved}"
-                print(f"{trial.crate.name}: {told}, {ended.result()[1]:.0f} s", flush=True)
+                print(f"{trial.crate.name}: {refused} of {len(group)} edits refused, {ended.result()[1]:.0f} s", flush=True)
                 yield from ((trial.crate, *it) for it in found)
             if not running:
                 time.sleep(1)
     for trial in trials:
-        fault = f"NOT TRIED: there is no library of {', '.join(trial.lacks(beside))}"
+        fault = f"NOT TRIED: there is no library of {', '.join(trial.lacks(beside))} as it stands"
         yield from ((trial.crate, it, fault) for it in trial.left())
 
 

@@ -14,24 +14,29 @@ ghost use Rattle.links.specs.Moments.{at};
 
 use crate::link_parts::LinkParts;
 use sigtext::Refusal;
-use sigv4::{Moment, Scope, signature};
+use sigv4::{LastKey, Moment, Scope, sign};
 
 // Whether the link's signature is that of its canonical request under the secret.
-fn is_signed_by(link: &LinkParts<'_>, scope: &Scope<'_>, secret: &[u8]) -> bool
+fn is_signed_by(link: &LinkParts<'_>, scope: &Scope<'_>, secret: &[u8], last: &mut LastKey) -> bool
     ensures { (signed : Signed) → AreOf link.now.parts signed
         → (text : List ℕ) × IsTheOnly (IsCanonicalRequest signed) text
         × ((date : List ℕ) → WritesMoment date link.now.start
         → (IsTrue result ↔ ((texts_of link.now.six).signature
         ≡ signature_of secret.now date (scope_of scope.now) text))) }
 {
-    let digits = signature(secret, scope, &link.start, &link.parts);
+    let digits = sign(&last.key(secret, scope), scope, &link.start, &link.parts);
     link.six.signature() == digits.as_slice()
 }
 
 /// Judges a link that was read, under its key's secret and at a moment: refusal 21 where the signature is
-/// not that of the canonical request, 22 before the window and 23 at its end or past it. It takes no
-/// memory.
-pub fn judge(link: &LinkParts<'_>, secret: &[u8], now: Moment) -> Result<(), Refusal>
+/// not that of the canonical request, 22 before the window and 23 at its end or past it. A signing key that
+/// was not the last one is derived, and then is. It takes no memory.
+pub fn judge(
+    link: &LinkParts<'_>,
+    secret: &[u8],
+    last: &mut LastKey,
+    now: Moment,
+) -> Result<(), Refusal>
     ensures { (r : Request) (p : LinkValues) → IsLinkOf link.now r p
         → Judges secret.now r (at now) p result }
 {
@@ -39,7 +44,7 @@ pub fn judge(link: &LinkParts<'_>, secret: &[u8], now: Moment) -> Result<(), Ref
         Ok(scope) => scope,
         Err(refusal) => return Err(refusal),
     };
-    if !is_signed_by(link, &scope, secret) {
+    if !is_signed_by(link, &scope, secret, last) {
         return Err(Refusal::SignatureMismatch);
     }
     let moment = now.seconds();

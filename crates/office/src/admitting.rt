@@ -38,7 +38,7 @@ impl<K: Keeper> Office<K> {
                 if key.revoked {
                     return Err(Refusal::KeyRevoked);
                 }
-                match judge(link, &key.secret, now) {
+                match judge(link, &key.secret, &mut self.last_key, now) {
                     Ok(()) => Ok(key.role),
                     Err(refusal) => Err(refusal),
                 }

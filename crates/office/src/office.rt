@@ -4,7 +4,7 @@ use crate::reading::read_link;
 use keeper::Keeper;
 use links::{LinkParts, Method};
 use sigtext::Refusal;
-use sigv4::Moment;
+use sigv4::{LastKey, Moment};
 use std::alloc::Global;
 use wire::{Answer, Message, Reply};
 
@@ -13,6 +13,8 @@ use wire::{Answer, Message, Reply};
 pub struct Office<K> {
     pub keeper: K,
     pub alloc: Global,
+    // Most links are signed by the key that the link before was.
+    pub(crate) last_key: LastKey,
 }
 
 impl<K: Keeper> Office<K> {
@@ -34,7 +36,11 @@ impl<K: Keeper> Office<K> {
     pub fn new(alloc: Global, keeper: K) -> Office<K>
         ensures { result.keeper ≡ keeper }
     {
-        Office { keeper, alloc }
+        Office {
+            keeper,
+            alloc,
+            last_key: LastKey::new(),
+        }
     }
 
     // What a message is replied whose link was read.

@@ -2,11 +2,13 @@
 #![tactic(auto)]
 
 pub mod hash;
+pub mod last_key;
 pub mod moment;
 pub mod scope;
 pub mod signing;
 
 pub use hash::{Hmac, Sha};
+pub use last_key::LastKey;
 pub use moment::Moment;
 pub use scope::{Scope, is_key_id, is_region, is_secret};
-pub use signing::{derive, signature};
+pub use signing::{derive, sign, signature};

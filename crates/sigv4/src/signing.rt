@@ -57,16 +57,17 @@ pub fn derive(secret: &[u8], scope: &Scope<'_>) -> [u8; 32]
     keyed(&of_service, b"aws4_request")
 }
 
-/// The signature of the canonical request of the parts: 64 hexadecimal digits in lower case. The request
-/// and the string to sign are sent to the hashers piece after piece, so it takes no memory.
-pub fn signature(secret: &[u8], scope: &Scope<'_>, moment: &Moment, parts: &Parts<'_>) -> [u8; 64]
-    ensures { (signed : Signed) → AreOf parts.now signed
+/// The signature under a signing key of the canonical request of the parts: 64 hexadecimal digits in lower case. The
+/// request and the string to sign are sent to the hashers piece after piece, so it takes no memory.
+pub fn sign(key: &[u8; 32], scope: &Scope<'_>, moment: &Moment, parts: &Parts<'_>) -> [u8; 64]
+    ensures { (secret : List ℕ) → key.now ≡ signing_key secret (scope_of scope.now)
+        → (signed : Signed) → AreOf parts.now signed
         → (text : List ℕ) × IsTheOnly (IsCanonicalRequest signed) text
         × ((date : List ℕ) → WritesMoment date moment.now
-        → result ≡ signature_of secret.now date (scope_of scope.now) text) }
+        → result ≡ signature_of secret date (scope_of scope.now) text) }
 {
     let digest = hex_digits(canonical_digest(parts));
-    let mut signed = Hmac::new(&derive(secret, scope));
+    let mut signed = Hmac::new(key);
     signed.update(b"AWS4-HMAC-SHA256\n");
     signed.update(&moment.text());
     signed.update(b"\n");
@@ -76,4 +77,15 @@ pub fn signature(secret: &[u8], scope: &Scope<'_>, moment: &Moment, parts: &Part
     signed.update(b"/s3/aws4_request\n");
     signed.update(&digest);
     hex_digits(signed.finish())
+}
+
+/// The signature under a secret of the canonical request of the parts, as [`sign`] gives it under the signing key of the
+/// secret.
+pub fn signature(secret: &[u8], scope: &Scope<'_>, moment: &Moment, parts: &Parts<'_>) -> [u8; 64]
+    ensures { (signed : Signed) → AreOf parts.now signed
+        → (text : List ℕ) × IsTheOnly (IsCanonicalRequest signed) text
+        × ((date : List ℕ) → WritesMoment date moment.now
+        → result ≡ signature_of secret.now date (scope_of scope.now) text) }
+{
+    sign(&derive(secret, scope), scope, moment, parts)
 }

@@ -112,7 +112,7 @@ fn mended<S: Alter + Drop>(
 // Each damage of an office in which a day was spent.
 fn each_damage<S: Alter + Drop>(mut office: Office<SqlKeeper<S>>) -> Result<(), Fail> {
     a_day(&mut office.keeper)?;
-    let Office { keeper, alloc } = office;
+    let Office { keeper, alloc, .. } = office;
     let mut conn = keeper.close();
     for (damage, want, mend) in DAMAGES {
         conn = mended(alloc, conn, damage, want, mend)?;
@@ -122,7 +122,7 @@ fn each_damage<S: Alter + Drop>(mut office: Office<SqlKeeper<S>>) -> Result<(), 
 
 // Missing a table.
 fn misses_a_table<S: Alter + Drop>(office: Office<SqlKeeper<S>>) -> Result<(), Fail> {
-    let Office { keeper, alloc } = office;
+    let Office { keeper, alloc, .. } = office;
     let conn = keeper.close();
     mended(alloc, conn, "DROP TABLE pieces", OpenFault::Shape, PIECES)?;
     Ok(())
@@ -154,7 +154,7 @@ impl OfficeTrial for Breaking {
             Breaking::EachDamage => each_damage(office)?,
             Breaking::NoTable => misses_a_table(office)?,
             Breaking::MadeTwice => {
-                let Office { keeper, alloc } = office;
+                let Office { keeper, alloc, .. } = office;
                 made_twice(alloc, keeper.close())?;
             }
         }

@@ -94,7 +94,7 @@ struct RowTrial {
 
 impl OfficeTrial for RowTrial {
     fn run<D: Disk + Drop>(self, office: Office<SqlKeeper<FileStore<D>>>) -> Result<bool, Fail> {
-        let Office { keeper, alloc } = office;
+        let Office { keeper, alloc, .. } = office;
         let mut office = Office::new(alloc, Watched::new(keeper));
         self.row.run(&mut office)?;
         holds(office.keeper.calls > 0, "no call")?;
@@ -113,7 +113,7 @@ struct CallTrial {
 
 impl OfficeTrial for CallTrial {
     fn run<D: Disk + Drop>(self, office: Office<SqlKeeper<FileStore<D>>>) -> Result<bool, Fail> {
-        let Office { keeper, alloc } = office;
+        let Office { keeper, alloc, .. } = office;
         Ok(!self.errand.is_refused_at(alloc, keeper, self.call)?)
     }
 }

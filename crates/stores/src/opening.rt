@@ -36,10 +36,7 @@ pub(crate) fn stays<D: Disk + Drop>(
     alloc: Global,
     office: Office<SqlKeeper<FileStore<D>>>,
 ) -> Result<(), Fail> {
-    let Office {
-        mut keeper,
-        alloc: _,
-    } = office;
+    let Office { mut keeper, .. } = office;
     let before = told(alloc, &mut keeper)?;
     let mut second = open(alloc, keeper.close())?;
     holds(told(alloc, &mut second)? == before, "another office")?;

@@ -98,7 +98,7 @@ fn has_totals<S: Alter>(conn: &mut Connection<S>, used: i64, count: i64) -> Resu
 // Files are cut into pieces, and stay so.
 fn cuts<D: Disk + Drop>(mut office: Office<SqlKeeper<FileStore<D>>>) -> Result<(), Fail> {
     upload_all(&mut office)?;
-    let Office { keeper, alloc } = office;
+    let Office { keeper, alloc, .. } = office;
     let mut conn = keeper.close();
     cut_as_owed(&mut conn)?;
     has_totals(&mut conn, 2_179_649, 5)?;

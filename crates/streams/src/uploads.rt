@@ -12,7 +12,7 @@ use trials::watched::Watched;
 #[test]
 fn rows_are_answered_in_memory(rt: HostRuntime) -> Result<(), Fail> {
     for row in ROWS {
-        let Office { keeper, alloc } = begun(rt.alloc(), row.east())?;
+        let Office { keeper, alloc, .. } = begun(rt.alloc(), row.east())?;
         let mut office = Office::new(alloc, Watched::new(keeper));
         row.run(&mut office)?;
         assert!(rt; office.keeper.calls > 0);

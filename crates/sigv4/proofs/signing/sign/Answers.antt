@@ -5,7 +5,7 @@ use Rattle.sigv4.specs.Hmac.{hmac}
 use Rattle.sigv4.specs.Signature.{CredentialScope, string_to_sign, signature_of}
 use Rattle.sigv4.specs.Scopes.{scope_of}
 use Rattle.sigv4.proofs.Moments.{text_once}
-use Rattle.sigv4.proofs.signing.signature.Goals as goal
+use Rattle.sigv4.proofs.signing.sign.Goals as goal
 
 regroup : (a n m d s r f g : List ℕ) → [] ++ (a ++ n) ++ m ++ n ++ d ++ s ++ r ++ (f ++ n) ++ g ≡ a ++ (n ++ m) ++ (n ++ (d ++ (s ++ r) ++ f)) ++ (n ++ g)
 regroup a n m d s r f g = simp append_assoc
@@ -19,7 +19,7 @@ joined text s digest canonical e =
 
 pub returns : goal.returns
 unfolding signature_of
-returns c signed are =
+returns c secret derived signed are =
     let (canonical, only, digest_is) = c.canonical_digest.ensures signed are in
     let scope = scope_of c.args.scope.now in
     let fed = c.update-8.ensures _ _ (c.update-7.ensures _ _ (c.update-6.ensures _ _ (c.update-5.ensures _ _ (c.update-4.ensures _ _ (c.update-3.ensures _ _ (c.update-2.ensures _ _ (c.update.ensures _ _ c.new-signed.ensures))))))) in
@@ -29,6 +29,6 @@ returns c signed are =
       λ text writes.
           let same = text_once c.text.result text c.args.moment.now c.text.ensures writes in
           let sent = joined c.text.result scope c.hex_digits-digest.result canonical digest ∙ ap (λ (t : List ℕ). string_to_sign t scope canonical) same in
-          let keyed = ap (λ (key : List ℕ). hmac key (string_to_sign text scope canonical)) c.derive.ensures in
-          c.hex_digits.ensures ∙ ap encode_lower (c.finish.ensures _ _ fed ∙ ap (hmac c.derive.result) sent ∙ keyed),
+          let keyed = ap (λ (key : List ℕ). hmac key (string_to_sign text scope canonical)) derived in
+          c.hex_digits.ensures ∙ ap encode_lower (c.finish.ensures _ _ fed ∙ ap (hmac c.args.key.now) sent ∙ keyed),
     )
