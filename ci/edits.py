@@ -77,17 +77,36 @@ class Edit:
         return f"{self.name}: {'shares a check' if self.is_of_a_body else 'alone'}, {self.function or 'any function'}"
 
 
+def sum_of_tools():
+    """A sum of the programs that try the edits."""
+    told = hashlib.sha256()
+    for name in ["rattle", "rt", "rtlib.py"]:
+        told.update((kit.toolchain() / "bin" / name).read_bytes())
+    return told.hexdigest()
+
+
+def sum_of(crate):
+    """A sum of the sources of the crate and of those below it, and of what each stands on."""
+    told = hashlib.sha256()
+    for it in sorted([crate, *crate.below()], key=lambda it: it.name):
+        told.update(repr((it.name, sorted(it.of_kit), sorted(dep.name for dep in it.deps))).encode())
+        for file in RT.rtlib.files_of(it.folder):
+            source = pathlib.Path(file)
+            told.update(repr((os.path.relpath(file, it.folder), source.read_bytes())).encode())
+    return told.hexdigest()
+
+
 class Kept:
     """The edits that earlier runs on this machine found to be as they must be: a file each, named for all that was read."""
 
     def __init__(self, anew):
-        self.anew, self.sums, self.names = anew, {}, {}
+        self.anew, self.tools, self.sums, self.names = anew, sum_of_tools(), {}, {}
 
     def name(self, crate, edit):
         """The file of the edit. The sum of its crate is that of the first call: what the run then reads."""
         if crate.name not in self.sums:
-            self.sums[crate.name] = RT.stamp_of(crate, {})
-        told = repr((RULES, self.sums[crate.name], edit.name, edit.is_harmless, edit.text))
+            self.sums[crate.name] = sum_of(crate)
+        told = repr((RULES, self.tools, self.sums[crate.name], edit.name, edit.is_harmless, edit.text))
         return hashlib.sha256(told.encode()).hexdigest()
 
     def holds(self, crate, edit):
@@ -97,7 +116,7 @@ class Kept:
 
     def keep(self, crate, edit):
         """Keeps that this run found it so, unless a file that was read has changed meanwhile, or nothing can be kept."""
-        if RT.stamp_of(crate, {}) == self.sums[crate.name]:
+        if sum_of(crate) == self.sums[crate.name]:
             try:
                 KEPT.mkdir(parents=True, exist_ok=True)
                 self.names[edit.name].write_text(f"{edit.name}\n", encoding="utf-8")
