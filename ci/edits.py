@@ -11,7 +11,7 @@ nothing else of the crate. Edits of the bodies of different functions share a ch
 goes on behind what it refuses (`--allow-holes`), to the goals of callers too. There an edit counts as refused only where
 its own function is, for its own goals. What is not settled so is tried alone, and so are edits of constants, types and
 specs. One that names no function is tried over the whole crate, by the rule of `rt`. What the first check of a crate proves
-is kept in a folder: each later one starts from a copy of it, so nothing of its edits is left for the next.
+is kept in a folder: each later one starts from a copy of it.
 
 The harmless edits `ci/controls/NAME/*.edit` are tried among the others, and must be found to be proved still. Each edit
 that is not refused, and each harmless one that is, is named. The last line is `N passed, M failed`.
@@ -40,7 +40,7 @@ import kit
 
 RT = kit.rt()
 # What counts as a refusal: another number where that changes, so that nothing that was kept before counts.
-RULES = 2
+RULES = 3
 KEPT = pathlib.Path(os.environ.get("XDG_CACHE_HOME") or pathlib.Path.home() / ".cache") / "drop-edits"
 # So many edits share a check at least, where there are so many: to load what is kept costs as much as a few edits.
 FEWEST = 24
@@ -49,7 +49,9 @@ SETTLES = 10
 # A check takes less than so much of the memory that `rt` reckons for it: up to 2 GB were seen, 3.6 in `sqlkeeper`.
 SHARE = 0.5
 HEAD = re.compile(r"^( *)(?:pub(?:\([^)]*\))? )?(?:final )?fn (\w+)", re.M)
-VERDICT = re.compile(r"^fn (\S+): (.*)$", re.M)
+VERDICT = re.compile(r"^fn (\S+): (.*)$")
+# A goal that a check left: what it says, its name, and how the search for it ended.
+GOAL = re.compile(r"note: \S+: (.*) \(`(\S+)`\)(.*)")
 # A proof file that names what an edit took away, by the words of `rt`.
 NAMES = re.compile(r"has no field|is not in scope|has no `|was not admitted")
 STILL_PROVED = "NOT REFUSED: the crate is still proved with this edit"
@@ -78,10 +80,10 @@ class Edit:
 
 
 def sum_of_tools():
-    """A sum of the programs that try the edits."""
-    told = hashlib.sha256()
-    for name in ["rattle", "rt", "rtlib.py"]:
-        told.update((kit.toolchain() / "bin" / name).read_bytes())
+    """A sum of the programs that try the edits, of what the toolchain says that it is, and of the crates' list."""
+    told, tools = hashlib.sha256(), kit.toolchain()
+    for file in [*(tools / "bin" / name for name in ["rattle", "rt", "rtlib.py"]), tools / "WHAT", kit.ROOT / "crates.txt"]:
+        told.update(repr((file.name, file.read_bytes())).encode())
     return told.hexdigest()
 
 
@@ -192,8 +194,15 @@ class Reading:
         return None
 
     def verdict(self, function):
-        """What the check says of the function; nothing where it doesn't name it."""
-        return dict(VERDICT.findall(self.said)).get(function, "")
+        """What the check says of the function, and the goals that it left of it; nothing where it doesn't name it."""
+        goals = []
+        for line in self.said.splitlines():
+            goals += GOAL.findall(line)
+            if found := VERDICT.match(line):
+                if found[1] == function:
+                    return found[2], goals
+                goals = []
+        return "", []
 
     def errors(self, function):
         """The errors in the function's own proof files."""
@@ -208,18 +217,27 @@ class Reading:
         """Whether the prover refuses the function for its own goals: the search leaves one, or its answer is no proof."""
         crate, _, rest = function.replace("::", ".").partition(".")
         own = re.escape(f"Rattle.{crate}.proofs.{rest}.")
-        said = self.verdict(function)
-        is_open = re.match(r"no proof: expected answers in [^ ;]+; `search` did not prove `", said)
+        said, goals = self.verdict(function)
+        # that a call's premise holds, and a search that ended for its limits, say nothing of the function's promise
+        is_own = any("requires holds at this call" not in goal and "gave up" not in how for goal, _, how in goals)
+        is_open = re.match(r"no proof: expected answers in [^ ;]+; `search` did not prove `", said) and is_own
         is_wrong = re.match(rf"not proved(?:$|; it stands on `{own})", said) and self.errors(function)
         return bool(is_open or is_wrong) and not self.lacks_names(function)
 
     def fault_alone(self, edit):
         """Why this check of one edit doesn't count as its refusal."""
         fault = self.fault()
-        if fault or not edit.function or self.refuses(edit.function) or self.lacks_names(edit.function):
+        if fault or not edit.function or self.refuses(edit.function):
             return fault
-        said = self.verdict(edit.function) or "there is no such function"
-        return f"BAD EDIT: refused, but not in {edit.function}: {said[:200]}"
+        if self.lacks_names(edit.function):
+            return "BAD EDIT: refused only since a proof file names what it took away"
+        said = self.verdict(edit.function)[0] or "there is no such function"
+        return f"BAD EDIT: refused, but not in {edit.function}, or for no goal of its own: {said[:200]}"
+
+
+def times_of(crate):
+    """When each file of the crate's library was written."""
+    return [os.lstat(f"{at}/{name}").st_ctime for at, _, names in os.walk(crate.rlib) for name in ["", *names]]
 
 
 class Beside:
@@ -232,10 +250,11 @@ class Beside:
         return self.ended is not None and not self.ended.exists()
 
     def has_built(self, crate):
-        """Whether the library is there as a whole, and younger than what it is made of; of a run that goes on, written since it
-        began."""
-        times = [os.lstat(f"{at}/{name}").st_ctime for at, _, names in os.walk(crate.rlib) for name in ["", *names]]
-        if not times or min(times) < max(map(os.path.getmtime, RT.rtlib.files_of(crate.folder))):
+        """Whether the library is there as a whole, and younger than what it is made of, its own sources and the libraries below; of
+        a run that goes on, written since it began."""
+        times, sources = times_of(crate), [*map(os.path.getmtime, RT.rtlib.files_of(crate.folder))]
+        below = [max(times_of(it), default=math.inf) for it in crate.deps]
+        if not times or min(times) < max(sources + below):
             return False
         return not self.is_running() or self.begin < min(times) and max(times) < time.time() - SETTLES
 

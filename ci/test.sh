@@ -132,8 +132,8 @@ documents() {
 }
 
 SECONDS=0
-# The edits of a crate are tried once `rt ci` has built what stands below it, and beside the other parts, most of which wait
-# for servers and browsers.
+# The edits of a crate are tried once `rt ci` has built its library, and beside the other parts, most of which wait for
+# servers and browsers.
 run edits python3 -B ci/edits.py --beside "$work/rt-ci.status" >"$work/edits" &
 count rt-ci rt ci
 count rows python3 -B ci/rows.py --check
