@@ -15,6 +15,10 @@ use std::io::ErrorKind;
 /// among them the engine reads the bytes once more, and sums them.
 const SERVED_PAGES: usize = 16_384;
 
+/// While an office is served, the log goes into the file once it has so many pages, each with 24 bytes before it: 64 MB. What
+/// is written again and again, as the totals of a box, is then copied once for thousands of uploads, and not for every hundred.
+const SERVED_FRAMES: usize = 16_384;
+
 // The store of an office file.
 pub(crate) type Store = FileStore<File>;
 
@@ -45,6 +49,7 @@ fn options(rt: &HostRuntime, purpose: Purpose) -> Result<Options, Fault<'static>
     let mut options = Options::new(random.hash_one(&0u8));
     if purpose == Purpose::Serve {
         options.cache_pages = SERVED_PAGES;
+        options.checkpoint_frames = SERVED_FRAMES;
     }
     Ok(options)
 }
@@ -71,7 +76,8 @@ pub(crate) enum Purpose {
     Look,
     /// Something may be changed. The log goes into the file at the end, however the work ended.
     Change,
-    /// The same, for long: many pages are kept in memory, for which it takes 60 milliseconds more to open.
+    /// The same, for long: many pages are kept in memory, for which it takes 60 milliseconds more to open, and the log may grow
+    /// long.
     Serve,
 }
 

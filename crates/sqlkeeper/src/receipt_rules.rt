@@ -15,6 +15,7 @@ use crate::box_rules::Boxes;
 use crate::key_rules::Keys;
 use crate::lines::ReceiptLine;
 use boxes::{Command, has_form, name_fits};
+use sigtext::MOST_BODY;
 use std::alloc::{AllocError, Global};
 use std::collections::BTreeMap;
 
@@ -31,9 +32,6 @@ pub(crate) struct ReceiptEntry<'a> {
 
 /// The receipts by their places: the first, of number 1, is at 0.
 pub(crate) type Receipts<'a> = BTreeMap<u64, ReceiptEntry<'a>>;
-
-// The greatest length of a file, in bytes.
-const MOST_BODY: u64 = 1_048_576;
 
 const DIGEST_BYTES: usize = 32;
 
@@ -97,7 +95,7 @@ fn has_forms(entry: &ReceiptEntry<'_>) -> bool
     }) {
         return false;
     }
-    entry.size <= MOST_BODY && is_digest(entry.digest)
+    entry.size <= MOST_BODY as u64 && is_digest(entry.digest)
 }
 
 /// Whether the box is there, and takes the name.

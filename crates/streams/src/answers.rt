@@ -1,4 +1,5 @@
 //! Answers over writers that are slow or fail, and the writes that they take.
+use sigtext::Refusal;
 use std::alloc::{AllocError, Global};
 use std::test::Fail;
 use trials::fakes::{Pieces, Sink};
@@ -18,6 +19,9 @@ const FOUND: &[u8] =
 
 const DONE: &[u8] =
     b"HTTP/1.1 200 OK\r\nContent-Type: text/plain\r\nContent-Length: 5\r\n\r\ndone\n";
+
+const EXPIRED: &[u8] =
+    b"HTTP/1.1 403 Forbidden\r\nContent-Type: text/plain\r\nContent-Length: 37\r\n\r\nAccessDenied 23 the link has expired\n";
 
 // The heads of a file's answer around its length, which is left out.
 const BEFORE_LENGTH: &[u8] =
@@ -127,6 +131,28 @@ fn an_answer_breaks_off_in_a_files_bytes(rt: HostRuntime) -> Result<(), Fail> {
         }
         let sent = sent_by(alloc, &found, at_once, 5181);
         assert!(rt; sent.text == owed && sent.outcome.is_ok() && sent.faults == 0);
+    }
+    Ok(())
+}
+
+#[test]
+fn a_short_answer_is_one_write(rt: HostRuntime) -> Result<(), Fail> {
+    let alloc = rt.alloc();
+    let kept = answer(Reply::Kept {
+        number: 1,
+        size: 3,
+        digest: DIGEST,
+    });
+    let done = answer(Reply::Done);
+    let refused = answer(Reply::Refused(Refusal::Expired));
+    for (answer, text) in [(&kept, KEPT), (&done, DONE), (&refused, EXPIRED)] {
+        let mut writer = Counted::new(Pieces {
+            text: Vec::new(alloc),
+            lens: Vec::new(alloc),
+        });
+        assert!(rt; put_answer(answer, &mut writer).is_ok());
+        assert_eq!(rt; writer.inner.text.as_slice(), text);
+        assert_eq!(rt; writer.inner.lens.len(), 1);
     }
     Ok(())
 }

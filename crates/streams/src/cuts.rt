@@ -1,4 +1,5 @@
 //! Streams that are cut at every place, over an office without boxes: answers and ends stay the same.
+use crate::feeds::{long_head, many_fields};
 use office::SessionEnd;
 use sigv4::Moment;
 use std::alloc::Global;
@@ -8,6 +9,18 @@ use trials::published::{DATE, REQUEST, broken_off, broken_off_answers, given, jo
 
 const NO_LENGTH: &[u8] =
     b"HTTP/1.1 400 Bad Request\r\nContent-Type: text/plain\r\nContent-Length: 45\r\nConnection: close\r\n\r\nInvalidRequest 4 Content-Length is malformed\n";
+
+const TOO_LONG: &[u8] =
+    b"HTTP/1.1 400 Bad Request\r\nContent-Type: text/plain\r\nContent-Length: 38\r\nConnection: close\r\n\r\nInvalidRequest 2 the head is too long\n";
+
+const NO_HEAD: &[u8] =
+    b"HTTP/1.1 400 Bad Request\r\nContent-Type: text/plain\r\nContent-Length: 48\r\nConnection: close\r\n\r\nInvalidRequest 1 the head is not a request head\n";
+
+const NO_CODINGS: &[u8] =
+    b"HTTP/1.1 501 Not Implemented\r\nContent-Type: text/plain\r\nContent-Length: 49\r\nConnection: close\r\n\r\nNotImplemented 3 transfer codings are not served\n";
+
+const NOT_SIGNED: &[u8] =
+    b"HTTP/1.1 403 Forbidden\r\nContent-Type: text/plain\r\nContent-Length: 41\r\n\r\nAccessDenied 9 the request is not signed\n";
 
 const TOO_LARGE: &[u8] =
     b"HTTP/1.1 400 Bad Request\r\nContent-Type: text/plain\r\nContent-Length: 39\r\nConnection: close\r\n\r\nEntityTooLarge 5 the body is too large\n";
@@ -58,5 +71,49 @@ fn heads_that_break_off_or_break_a_rule(rt: HostRuntime) -> Result<(), Fail> {
     assert!(rt; is_answered(rt.alloc(), large, TOO_LARGE, SessionEnd::Refused(5))?);
     assert!(rt; is_answered(rt.alloc(), &REQUEST[..20], b"", SessionEnd::Truncated)?);
     assert!(rt; is_answered(rt.alloc(), b"", b"", SessionEnd::Ended)?);
+    Ok(())
+}
+
+#[test]
+fn transfer_codings_whatever_the_length(rt: HostRuntime) -> Result<(), Fail> {
+    for stream in [
+        b"PUT / HTTP/1.1\r\nTransfer-Encoding: identity\r\n\r\nabc".as_slice(),
+        b"PUT / HTTP/1.1\r\nContent-Length: +3\r\nTransfer-Encoding: identity\r\n\r\nabc",
+    ] {
+        assert!(rt; is_answered(rt.alloc(), stream, NO_CODINGS, SessionEnd::Refused(3))?);
+    }
+    Ok(())
+}
+
+// So many times this byte.
+fn line_of(alloc: Global, byte: u8, len: usize) -> Result<Vec<u8>, Fail> {
+    let mut line = Vec::new(alloc);
+    for _ in 0..len {
+        line.push(byte)?;
+    }
+    Ok(line)
+}
+
+#[test]
+fn heads_without_an_end(rt: HostRuntime) -> Result<(), Fail> {
+    for byte in [b'a', b'\n', b'\r', 0] {
+        let stream = line_of(rt.alloc(), byte, 8192)?;
+        assert!(rt; is_answered(rt.alloc(), &stream, TOO_LONG, SessionEnd::Refused(2))?);
+        assert!(rt; is_answered(rt.alloc(), &stream[..8191], b"", SessionEnd::Truncated)?);
+    }
+    Ok(())
+}
+
+#[test]
+fn heads_of_the_greatest_size(rt: HostRuntime) -> Result<(), Fail> {
+    let alloc = rt.alloc();
+    for (stream, want, end) in [
+        (long_head(alloc, 8192)?, NOT_SIGNED, SessionEnd::Ended),
+        (long_head(alloc, 8193)?, TOO_LONG, SessionEnd::Refused(2)),
+        (many_fields(alloc, 64)?, NOT_SIGNED, SessionEnd::Ended),
+        (many_fields(alloc, 65)?, NO_HEAD, SessionEnd::Refused(1)),
+    ] {
+        assert!(rt; is_answered(alloc, &stream, want, end)?);
+    }
     Ok(())
 }

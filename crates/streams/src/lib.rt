@@ -33,4 +33,6 @@ mod sockets;
 #[cfg(test)]
 mod texts;
 #[cfg(test)]
+mod thousands;
+#[cfg(test)]
 mod uploads;

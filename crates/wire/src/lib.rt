@@ -14,7 +14,6 @@ pub mod head;
 pub mod joining;
 pub mod sending;
 
-pub use announce::MOST_BODY;
 pub use answer::{Answer, Reply, put_answer};
 pub use backlog::MOST_HEAD;
 pub use counted::Counted;

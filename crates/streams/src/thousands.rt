@@ -1,0 +1,99 @@
+//! Streams of a thousand messages and more, over an office without boxes: how a session ends, and how few calls it makes.
+use office::{Counted, FixedClock, SessionEnd};
+use sigv4::Moment;
+use std::alloc::Global;
+use std::io;
+use std::io::Read;
+use std::test::Fail;
+use trials::fakes::{FailsAt, Sink, Source, StopsAt};
+use trials::published::{DATE, NO_BOX, REQUEST, joined, make_office};
+
+// The text a thousand times.
+fn thousand(alloc: Global, text: &[u8]) -> Result<Vec<u8>, Fail> {
+    let mut texts = Vec::new(alloc);
+    for _ in 0..1000 {
+        texts.extend_from_slice(text)?;
+    }
+    Ok(texts)
+}
+
+// What a session left: its end, what it wrote, and in how many writes.
+#[derive(Drop)]
+struct Left {
+    end: SessionEnd,
+    text: Vec<u8>,
+    writes: u64,
+}
+
+// A session over this reader, whose answers are all taken.
+fn serve<R: Read>(alloc: Global, reader: &mut Counted<R>) -> Result<Left, Fail> {
+    let mut office = make_office(alloc)?;
+    let mut writer = Counted::new(StopsAt {
+        sink: Sink::new(alloc, 4096, 1_000_000),
+        stops_at: 0,
+        fails: true,
+        calls: 0,
+    });
+    let moment = Moment::read(DATE).ok_or("no moment")?;
+    let end = office.session(reader, &mut writer, &mut FixedClock::new(moment));
+    Ok(Left {
+        end,
+        writes: writer.inner.calls,
+        text: writer.inner.sink.text,
+    })
+}
+
+#[test]
+fn a_thousand_messages_take_few_calls(rt: HostRuntime) -> Result<(), Fail> {
+    let alloc = rt.alloc();
+    let owed = thousand(alloc, NO_BOX)?;
+    let messages = thousand(alloc, REQUEST)?;
+    for more in [b"".as_slice(), REQUEST, b"GET /"] {
+        let stream = joined(alloc, &[&messages, more])?;
+        let mut reader = Counted::new(FailsAt {
+            source: Source {
+                rest: &stream,
+                at_once: stream.len(),
+                fails: false,
+            },
+            fails_at: 0,
+            calls: 0,
+        });
+        let left = serve(alloc, &mut reader)?;
+        assert!(rt; left.end == SessionEnd::Limit && left.text == owed && left.writes == 1000);
+        assert!(rt; reader.inner.calls <= 7);
+    }
+    Ok(())
+}
+
+// Gives a text again and again, without an end.
+#[derive(Drop)]
+struct Endless<'a> {
+    text: &'a [u8],
+    rest: &'a [u8],
+}
+
+impl Read for Endless<'_> {
+    fn read(&mut self, buf: &mut [u8]) -> io::Result<usize> {
+        if self.rest.is_empty() {
+            self.rest = self.text;
+        }
+        let count = buf.len().min(self.rest.len());
+        buf[..count].copy_from_slice(&self.rest[..count]);
+        self.rest = &self.rest[count..];
+        Ok(count)
+    }
+}
+
+#[test]
+fn a_stream_without_an_end_ends_at_a_thousand(rt: HostRuntime) -> Result<(), Fail> {
+    let alloc = rt.alloc();
+    let owed = thousand(alloc, NO_BOX)?;
+    let mut reader = Counted::new(Endless {
+        text: REQUEST,
+        rest: b"",
+    });
+    let left = serve(alloc, &mut reader)?;
+    assert!(rt; left.end == SessionEnd::Limit && left.text == owed && left.writes == 1000);
+    Ok(())
+}
