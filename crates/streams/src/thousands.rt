@@ -43,6 +43,22 @@ fn serve<R: Read>(alloc: Global, reader: &mut Counted<R>) -> Result<Left, Fail> 
     })
 }
 
+// Whether a session over a stream of more than a thousand messages, all of which can be read at once, is served so.
+fn is_served(alloc: Global, stream: &[u8], owed: &[u8]) -> Result<bool, Fail> {
+    let mut reader = Counted::new(FailsAt {
+        source: Source {
+            rest: stream,
+            at_once: stream.len(),
+            fails: false,
+        },
+        fails_at: 0,
+        calls: 0,
+    });
+    let left = serve(alloc, &mut reader)?;
+    let is_whole = left.end == SessionEnd::Limit && left.text.as_slice() == owed;
+    Ok(is_whole && left.writes == 1000 && reader.inner.calls <= 7)
+}
+
 #[test]
 fn a_thousand_messages_take_few_calls(rt: HostRuntime) -> Result<(), Fail> {
     let alloc = rt.alloc();
@@ -50,18 +66,7 @@ fn a_thousand_messages_take_few_calls(rt: HostRuntime) -> Result<(), Fail> {
     let messages = thousand(alloc, REQUEST)?;
     for more in [b"".as_slice(), REQUEST, b"GET /"] {
         let stream = joined(alloc, &[&messages, more])?;
-        let mut reader = Counted::new(FailsAt {
-            source: Source {
-                rest: &stream,
-                at_once: stream.len(),
-                fails: false,
-            },
-            fails_at: 0,
-            calls: 0,
-        });
-        let left = serve(alloc, &mut reader)?;
-        assert!(rt; left.end == SessionEnd::Limit && left.text == owed && left.writes == 1000);
-        assert!(rt; reader.inner.calls <= 7);
+        assert!(rt; is_served(alloc, &stream, &owed)?);
     }
     Ok(())
 }
