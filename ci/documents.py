@@ -171,6 +171,14 @@ def test_faults(_, count):
         count.add(f"the line {line}", None if line in page & code else f"{lacks} has no such line")
 
 
+def test_words(_, count):
+    """The words of page/ that docs/USE.md shows, behind which a saved receipt has the office's line."""
+    answers = re.findall(r'^ +answer: "(.+)",$', (kit.ROOT / "page" / "texts.js").read_text(), re.MULTILINE)
+    count.add("two languages of page/", difference(len(answers), 2))
+    for it in answers:
+        count.add(f"docs/USE.md: {it}", None if f"`{it}:`" in PAGE.read_text() else "is not there")
+
+
 # A path that begins at the top. Words in capitals in it stand for names, and `out` is what a run leaves.
 PATH = re.compile(r"(?<![\w/.*-])(?:\.ci|bench|ci|crates|deploy|docs|page)/[\w*-]?[\w./*-]*")
 # A crate, and modules of its `specs`.
@@ -298,4 +306,5 @@ def test_calls(_, count):
 
 
 if __name__ == "__main__":
-    run_all([test_readme, test_page, test_boto3, test_refusals, test_faults, test_names, test_lengths, test_clauses, test_calls])
+    run_all([test_readme, test_page, test_boto3, test_refusals, test_faults, test_words, test_names, test_lengths, test_clauses,
+             test_calls])
