@@ -1,8 +1,9 @@
 """Runs the lines of docs/USE.md, and README.md's five lines, as they stand, in an empty folder with the proved `drop`, and
 compares what they print with the blocks beside them; only the port is replaced. It asks the program what the page's table
 on boto3 says of links. Then it compares the page's tables of refusals and of fault lines with docs/RULES.md, with the
-texts in the code and with each other, the lengths in docs/PROVED.md with the files, and looks whether each path, each
-module, and in the tables of README.md and docs/PROVED.md each call and each clause that is named is there.
+texts in the code and with each other, its commands of the desk with docs/RULES.md and the help, and the lengths in
+docs/PROVED.md with the files; and it looks whether each path, each module, and in the tables of README.md and docs/PROVED.md
+each call and each clause that is named is there.
 
 What is owed is in the documents themselves, and of names and texts in the tree. The last line is `N passed, M failed`.
 """
@@ -171,6 +172,16 @@ def test_faults(_, count):
         count.add(f"the line {line}", None if line in page & code else f"{lacks} has no such line")
 
 
+def test_commands(_, count):
+    """The commands of the desk that the page explains are those of docs/RULES.md and of the help."""
+    rules, words = (kit.ROOT / "docs" / "RULES.md").read_text(), (kit.ROOT / "ci" / "desk.help").read_text()
+    row = re.compile(r"^\| `((?:box|file|key) [a-z]+ [A-Z ]+)` \| ", re.MULTILINE)
+    owed = row.findall(rules)
+    count.add("commands of the desk", None if len(owed) == 5 else f"{owed}")
+    count.add("those of the page", difference(row.findall(PAGE.read_text()), owed))
+    count.add("those of the help", difference(re.findall(r"^  ((?:box|file|key) [a-z]+ [A-Z ]+)$", words, re.MULTILINE), owed))
+
+
 def test_words(_, count):
     """The words of page/ that docs/USE.md shows, behind which a saved receipt has the office's line."""
     answers = re.findall(r'^ +answer: "(.+)",$', (kit.ROOT / "page" / "texts.js").read_text(), re.MULTILINE)
@@ -306,5 +317,5 @@ def test_calls(_, count):
 
 
 if __name__ == "__main__":
-    run_all([test_readme, test_page, test_boto3, test_refusals, test_faults, test_words, test_names, test_lengths, test_clauses,
-             test_calls])
+    run_all([test_readme, test_page, test_boto3, test_refusals, test_faults, test_commands, test_words, test_names,
+             test_lengths, test_clauses, test_calls])
