@@ -1,9 +1,11 @@
 """Runs the lines of docs/USE.md, and README.md's five lines, as they stand, in an empty folder with the proved `drop`, and
-compares what they print with the blocks beside them; only the port is replaced. Then it compares the page's tables of
-refusals and of fault lines with docs/RULES.md and with each other, and looks whether each path, each module, and in the
-tables of README.md and docs/PROVED.md each call and each clause that is named is there.
+compares what they print with the blocks beside them; only the port is replaced. It asks the program what the page's table
+on boto3 says of links. Then it compares the page's tables of refusals and of fault lines with docs/RULES.md, with the
+texts in the code and with each other, its commands of the desk with docs/RULES.md and the help, and the lengths in
+docs/PROVED.md with the files; and it looks whether each path, each module, and in the tables of README.md and docs/PROVED.md
+each call and each clause that is named is there.
 
-What is owed is in the documents themselves, and of names in the tree. The last line is `N passed, M failed`.
+What is owed is in the documents themselves, and of names and texts in the tree. The last line is `N passed, M failed`.
 """
 
 import os
@@ -11,10 +13,15 @@ import re
 import shlex
 import sys
 
+import boto3
+import botocore.config
+
 import kit
 from deploy import replaced
-from expected import table_of_refusals
-from office import difference, run_all
+from expected import answer, table_of_refusals
+from interop import request, target_of
+from office import answered, difference, receipt, run_all
+from samples import HOST, KEY_ID, SECRET, stop_the_clock
 from serve import free_port
 
 README = kit.ROOT / "README.md"
@@ -75,6 +82,45 @@ def test_page(drop, count):
     run_blocks(drop, count, "USE", blocks(PAGE.read_text()))
 
 
+def boto3_link(more=None, expires=600, **settings):
+    """The target of a link to put in/a.txt, as boto3 makes it in path style."""
+    config = botocore.config.Config(s3={"addressing_style": "path"}, **settings)
+    s3 = boto3.client("s3", region_name="us-east-1", endpoint_url=f"http://{HOST}", aws_access_key_id=KEY_ID,
+                      aws_secret_access_key=SECRET, config=config)
+    wanted = {"Bucket": "in", "Key": "a.txt"} | (more or {})
+    return target_of(s3.generate_presigned_url("put_object", Params=wanted, ExpiresIn=expires))
+
+
+# What is given to boto3 so that a header is signed, and the field that has to be sent.
+SIGNED = [("ContentType", "text/plain", "Content-Type", "text/plain"),
+          ("ContentMD5", "1B2M2Y8AsgTpgAmY7PhCfg==", "Content-MD5", "1B2M2Y8AsgTpgAmY7PhCfg=="),
+          ("Metadata", {"note": "one"}, "X-Amz-Meta-Note", "one")]
+
+
+def test_boto3(drop, count):
+    """Rows of the page's table on boto3: the program refuses such a link by the number that stands there."""
+    stop_the_clock()
+    rows = dict(re.findall(r"^\| (.+?) \| .*\b(?:with|gets) (\d+) \|$", PAGE.read_text(), re.MULTILINE))
+    file = drop.filled("boto3")
+
+    def ask(name, target, owed, fields=()):
+        found = drop.replay(file, request("PUT", target, {"Content-Length": "0", **dict(fields)}))
+        count.add(f"boto3: {name}", difference(found, answered(owed)))
+
+    def owed(row):
+        return answer(int(rows[row]), "PUT")
+
+    old, long = boto3_link(), boto3_link(expires=604801, signature_version="s3v4")
+    well = "AWSAccessKeyId=" in old and "Signature=" in old and "X-Amz-Expires=604801" in long
+    count.add("boto3: what it signs", None if well else f"{old}, {long}")
+    ask("the old kind", old, owed('no `signature_version="s3v4"`'))
+    ask("a long time", long, owed("`ExpiresIn` over 604800"))
+    for given, value, field, sent in SIGNED:
+        target = boto3_link({given: value}, signature_version="s3v4")
+        ask(f"{given}, not sent", target, owed("`ContentType`, `ContentMD5`, `Metadata` in `Params`"))
+        ask(f"{given}, sent", target, receipt(6, b""), [(field, sent)])
+
+
 def test_refusals(_, count):
     """Each refusal has its row, with its word and its status, in the order of the rules."""
     found = re.findall(r"^\| (\d+) \| (\w+) \| (\d+) \| [^|]+ \| [^|]+ \|$", PAGE.read_text(), re.MULTILINE)
@@ -86,8 +132,31 @@ def test_refusals(_, count):
         count.add(f"refusal {row[0]}", None if row in found else "has no such row")
 
 
+def texts_of(enum):
+    """What each variant of this enum tells, its name, and the type of what it holds."""
+    form = re.compile(rf"^pub(?:\(crate\))? enum {enum}\b.*?^}}", re.MULTILINE | re.DOTALL)
+    [body] = [it for file in (kit.ROOT / "crates").glob("*/src/*.rt") for it in form.findall(file.read_text())]
+    return re.findall(r"""#\[error\("(.+?)"\)\]\n +(\w+)(?:\((?:&'a )?(\w+)\))?""", body)
+
+
+def lines_of_code():
+    """The fault lines that the program can tell, with `{0}` for what differs."""
+    source = (kit.ROOT / "crates" / "dropoffice" / "src" / "faults.rt").read_text()
+    main = (kit.ROOT / "crates" / "drop" / "src" / "main.rt").read_text()
+    lines = {*re.findall(r'=> "([^"]+)",', main)}
+    for text, _, inner in texts_of("Fault"):
+        if text != "{0}":
+            lines.add(text)
+            continue
+        # Of these the conversions in this file make other faults, so that their own texts are never told.
+        others = re.findall(rf"\b{inner}::(\w+)(?:\(\w+\))? => Fault::(?!Office|Desk|List)", source)
+        lines |= {its for its, name, _ in texts_of(inner) if name not in others}
+    return lines
+
+
 def test_faults(_, count):
-    """Each fault line stands in both tables, in one order: what it means; and its cause and what to do."""
+    """Each fault line stands in both tables, in one order: what it means; and its cause and what to do. They are those that
+    the code can tell, with a word in capitals, or one in `<>`, for what differs."""
     form = re.compile(r"^\| `(drop: [^`]+)` \| (.+) \|$", re.MULTILINE)
     rows = [(line, rest.split(" | ")) for line, rest in form.findall(PAGE.read_text())]
     owed = [line for line, cells in rows if len(cells) == 1]
@@ -95,6 +164,30 @@ def test_faults(_, count):
     count.add("fault lines", difference(found, owed) if owed else "there are none")
     for line, cells in rows:
         count.add(line, None if len(cells) <= 2 else "has more than a cause and a remedy")
+    page = {re.sub(r"\b[A-Z]{2,}\b|<\w+>", "{0}", line.removeprefix("drop: ")) for line in owed}
+    code = lines_of_code()
+    count.add("fault lines of the code", f"there are {len(code)} alone" if len(code) < 10 else None)
+    for line in sorted(page | code):
+        lacks = "the code" if line not in code else "docs/USE.md"
+        count.add(f"the line {line}", None if line in page & code else f"{lacks} has no such line")
+
+
+def test_commands(_, count):
+    """The commands of the desk that the page explains are those of docs/RULES.md and of the help."""
+    rules, words = (kit.ROOT / "docs" / "RULES.md").read_text(), (kit.ROOT / "ci" / "desk.help").read_text()
+    row = re.compile(r"^\| `((?:box|file|key) [a-z]+ [A-Z ]+)` \| ", re.MULTILINE)
+    owed = row.findall(rules)
+    count.add("commands of the desk", None if len(owed) == 5 else f"{owed}")
+    count.add("those of the page", difference(row.findall(PAGE.read_text()), owed))
+    count.add("those of the help", difference(re.findall(r"^  ((?:box|file|key) [a-z]+ [A-Z ]+)$", words, re.MULTILINE), owed))
+
+
+def test_words(_, count):
+    """The words of page/ that docs/USE.md shows, behind which a saved receipt has the office's line."""
+    answers = re.findall(r'^ +answer: "(.+)",$', (kit.ROOT / "page" / "texts.js").read_text(), re.MULTILINE)
+    count.add("two languages of page/", difference(len(answers), 2))
+    for it in answers:
+        count.add(f"docs/USE.md: {it}", None if f"`{it}:`" in PAGE.read_text() else "is not there")
 
 
 # A path that begins at the top. Words in capitals in it stand for names, and `out` is what a run leaves.
@@ -126,6 +219,28 @@ def test_names(_, count):
         for path in sorted({*named(document)}):
             there = next(kit.ROOT.glob(path), None)
             count.add(f"{document.name}: {path}", None if there else "is not there")
+
+
+def length(modules):
+    """The lines of the modules that a cell names, crate by crate."""
+    files = [kit.ROOT / "crates" / crate / "specs" / f"{it}.antt"
+             for crate, names in MODULES.findall(modules) for it in re.findall(r"`(\w+)`", names)]
+    return sum(len(it.read_text().splitlines()) for it in files)
+
+
+def test_lengths(_, count):
+    """The lengths of definitions in docs/PROVED.md, in lines to the nearest ten; a little more or less passes."""
+    text = PROVED.read_text()
+    rows = re.findall(r"^\| (\d+) \| ([^|]+) \| (\d+) \| [^|]+ \|$", text, re.MULTILINE)
+    count.add("numbers of definitions", difference([int(it[0]) for it in rows], [*range(1, 15)]))
+    found = [(number, length(modules), int(said)) for number, modules, said in rows]
+    for number, lines, said in found:
+        count.add(f"definitions {number}", None if abs(lines - said) <= 10 else f"have {lines} lines and not {said}")
+    said, others = map(int, re.search(r"some (\d+) in all\. The other modules of `specs/`, some (\d+) lines", text).groups())
+    lines = sum(it[1] for it in found)
+    specs = sum(len(it.read_text().splitlines()) for it in (kit.ROOT / "crates").glob("*/specs/*.antt"))
+    for name, has, told in [("all definitions", lines, said), ("the other modules", specs - lines, others)]:
+        count.add(name, None if abs(has - told) <= 100 else f"have {has} lines and not {told}")
 
 
 HEAD = re.compile(r"^( *)(pub(?:\(\w+\))? )?(?:const )?fn (\w+)")
@@ -202,4 +317,5 @@ def test_calls(_, count):
 
 
 if __name__ == "__main__":
-    run_all([test_readme, test_page, test_refusals, test_faults, test_names, test_clauses, test_calls])
+    run_all([test_readme, test_page, test_boto3, test_refusals, test_faults, test_commands, test_words, test_names,
+             test_lengths, test_clauses, test_calls])
