@@ -99,7 +99,8 @@ fn heads_without_an_end(rt: HostRuntime) -> Result<(), Fail> {
     for byte in [b'a', b'\n', b'\r', 0] {
         let stream = line_of(rt.alloc(), byte, 8192)?;
         assert!(rt; is_answered(rt.alloc(), &stream, TOO_LONG, SessionEnd::Refused(2))?);
-        assert!(rt; is_answered(rt.alloc(), &stream[..8191], b"", SessionEnd::Truncated)?);
+        let shorter = line_of(rt.alloc(), byte, 8191)?;
+        assert!(rt; is_answered(rt.alloc(), &shorter, b"", SessionEnd::Truncated)?);
     }
     Ok(())
 }

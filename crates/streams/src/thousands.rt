@@ -43,11 +43,12 @@ fn serve<R: Read>(alloc: Global, reader: &mut Counted<R>) -> Result<Left, Fail> 
     })
 }
 
-// Whether a session over a stream of more than a thousand messages, all of which can be read at once, is served so.
-fn is_served(alloc: Global, stream: &[u8], owed: &[u8]) -> Result<bool, Fail> {
+// Whether these messages and more, all of which can be read at once, are served so, and in few calls.
+fn are_served(alloc: Global, messages: &[u8], more: &[u8], owed: &[u8]) -> Result<bool, Fail> {
+    let stream = joined(alloc, &[messages, more])?;
     let mut reader = Counted::new(FailsAt {
         source: Source {
-            rest: stream,
+            rest: &stream,
             at_once: stream.len(),
             fails: false,
         },
@@ -65,8 +66,7 @@ fn a_thousand_messages_take_few_calls(rt: HostRuntime) -> Result<(), Fail> {
     let owed = thousand(alloc, NO_BOX)?;
     let messages = thousand(alloc, REQUEST)?;
     for more in [b"".as_slice(), REQUEST, b"GET /"] {
-        let stream = joined(alloc, &[&messages, more])?;
-        assert!(rt; is_served(alloc, &stream, &owed)?);
+        assert!(rt; are_served(alloc, &messages, more, &owed)?);
     }
     Ok(())
 }
