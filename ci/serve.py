@@ -313,15 +313,27 @@ def test_broken(drop, count):
         broken_off(server, put[:-1])
         broken_off(server, get[:-1])
         broken_off(server, get * 100)
-        with server.connect() as it:  # takes no answer, and sends on
+        with server.connect() as it:  # takes no answer, and stays
             it.setsockopt(socket.SOL_SOCKET, socket.SO_RCVBUF, 4096)
             it.settimeout(3)
             with contextlib.suppress(OSError):
                 it.sendall(get * 1000)
-            time.sleep(2.5)
-        count.add("the last connection", difference(server.ask(get), fetched(1, data)))
+            count.add("the last connection", difference(server.ask(get), fetched(1, data)))
         count.add("the end", difference(server.end(), server.owed_end(True)))
     count.add("the file", difference(tables.rows(file, "SELECT COUNT(*) FROM receipts"), [(1,)]))
+
+
+def test_patience(drop, count):
+    """Without end, and what holds where none is told: a peer that pauses for longer than others are given is answered."""
+    for patience in [0, None]:
+        file = open_office(drop, f"patience-{patience}")
+        server = Server(drop, file, 2, patience)
+        put = server.message("PUT", "in/a", b"abc")
+        with server:
+            for name, at in [("half a head", 20), ("half a body", len(put) - 1)]:
+                found = server.ask(put[:at], put[at:], pause=1.5)
+                count.add(f"patience {patience}, {name} and a pause", difference(found, receipt(1, b"abc")))
+            count.add(f"patience {patience}, the end", difference(server.end(), server.owed_end(False)))
 
 
 def test_killed(drop, count):
@@ -357,7 +369,8 @@ def test_closed(drop, count):
     count.add("the receipt", difference(tables.rows(file, "SELECT number, box, name, length FROM receipts"), [(1, "in", "a", 3)]))
 
 
-TESTS = [test_words, test_faults, test_curl, test_boto3, test_bytes, test_nonsense, test_broken, test_killed, test_closed]
+TESTS = [test_words, test_faults, test_curl, test_boto3, test_bytes, test_nonsense, test_broken, test_patience,
+         test_killed, test_closed]
 
 
 if __name__ == "__main__":
