@@ -10,7 +10,6 @@ import hashlib
 import pathlib
 import signal
 import socket
-import struct
 import subprocess
 import time
 import urllib.error
@@ -23,13 +22,13 @@ import botocore.config
 import kit
 import tables
 from expected import SECRET, answer
+from front import BREAK, free_port
 from office import CANNOT_OPEN, FAILED, difference, fetched, malformed, receipt, run_all
 from replays import ID, fault
 
 CANNOT_LISTEN = fault("cannot listen")
 SECONDS = 20
 MEBIBYTE = 1 << 20
-BREAK = struct.pack("ii", 1, 0)  # SO_LINGER: a socket that is closed is reset
 
 
 def add_boxes(file):
@@ -41,12 +40,6 @@ def open_office(drop, name):
     file = drop.office(name)
     add_boxes(file)
     return file
-
-
-def free_port():
-    """A port that nobody listens at."""
-    with socket.create_server(("127.0.0.1", 0)) as server:
-        return server.getsockname()[1]
 
 
 class Server:
