@@ -29,9 +29,10 @@ import tables
 from expected import SECRET, refusal
 from office import CANNOT_OPEN, difference, receipt, run_all
 from replays import ID
-from serve import free_port, open_office
+from serve import asked, boto_client, free_port, open_office
 
 DEPLOY = kit.ROOT / "deploy"
+UNIT = DEPLOY / "drop.service"
 # What is served beside the office, and as what.
 PAGES = {"put.html": "text/html; charset=utf-8", "get.html": "text/html; charset=utf-8",
          "drop.js": "application/javascript; charset=utf-8", "texts.js": "application/javascript; charset=utf-8",
@@ -99,14 +100,20 @@ class Office:
 
     def __init__(self, unit, folder, paths):
         self.folder, self.port, self.process = folder, free_port(), None
+        self.address = f"127.0.0.1:{self.port}"
         line = re.search(r"^ExecStart=(.*)$", unit.read_text(), re.MULTILINE)[1]
-        self.words = shlex.split(replaced(line, [*paths, ("127.0.0.1:8333", f"127.0.0.1:{self.port}")]))
+        self.words = shlex.split(replaced(line, [*paths, ("127.0.0.1:8333", self.address)]))
 
     def start(self):
         pipes = {"stdin": subprocess.DEVNULL, "stdout": subprocess.PIPE, "stderr": subprocess.STDOUT}
         self.process = subprocess.Popen(self.words, cwd=self.folder, **pipes)
         line = self.process.stdout.readline().decode()
-        return None if line == f"listening on 127.0.0.1:{self.port}\n" else line
+        return None if line == f"listening on {self.address}\n" else f"it said {line!r}"
+
+    def end(self):
+        """The status with which it ends by itself."""
+        self.process.communicate(timeout=SECONDS)
+        return self.process.returncode
 
     def stop(self, by=signal.SIGTERM):
         if self.process:
@@ -119,6 +126,11 @@ class Office:
 
     def __exit__(self, *_):
         self.stop()
+
+
+def paths_of(drop, file):
+    """What is replaced in the unit: the program's path and the office file's."""
+    return [("/usr/local/bin/drop", str(drop.program)), ("/var/lib/drop/office", str(file))]
 
 
 def certificate(folder):
@@ -499,9 +511,8 @@ def test_log(front, count, secret):
 def test_front(drop, count):
     """An office behind nginx, from its start to its end."""
     file = open_office(drop, "office")
-    paths = [("/usr/local/bin/drop", str(drop.program)), ("/var/lib/drop/office", str(file))]
     certificate(drop.folder)
-    with Office(DEPLOY / "drop.service", drop.folder, paths) as office, Front(drop.folder, office.port) as front:
+    with Office(UNIT, drop.folder, paths_of(drop, file)) as office, Front(drop.folder, office.port) as front:
         folders = ["/etc/letsencrypt/live/HOST", "/var/log/nginx", "/var/www"]
         places = [*((it, drop.folder) for it in folders), ("HOST", HOST)]
         words = front.configure(DEPLOY / "nginx.conf", places, drop.folder / "fullchain.pem")
@@ -533,13 +544,56 @@ def test_front(drop, count):
 def test_unit(drop, count):
     """What systemd says of the unit: it has no fault, and few rights."""
     unit = drop.path("drop.service")
-    text = (DEPLOY / "drop.service").read_text()
+    text = UNIT.read_text()
     unit.write_text(replaced(text, [("=/usr/local/bin/drop serve", f"={drop.program} serve")]))
+    for line in ["StartLimitIntervalSec=0", "Restart=always", "RestartSec=1"]:
+        count.add(line, None if line in text.splitlines() else "the unit does not say it")
     ran = kit.run(["systemd-analyze", "verify", unit])
     faults = [line for line in ran.err.decode().splitlines() if unit.name in line]
     count.add("the unit's words", f"{faults or ran}" if ran.status or faults else None)
     ran = kit.run(["systemd-analyze", "security", "--offline=yes", "--no-pager", f"--threshold={MOST_EXPOSED}", unit])
     count.add("the unit's rights", None if ran.status == 0 else ran.out.decode().splitlines()[-1])
+
+
+def test_restart(drop, count):
+    """What the unit runs ends with 0 behind its last connection. Then, and killed as it serves, it can be started again."""
+    paths = [*paths_of(drop, open_office(drop, "office")), ("--connections 1000000", "--connections 2")]
+    with Office(UNIT, drop.folder, paths) as office:
+        def serves(name, method, file, data, owed):
+            status, _, body = asked(link_past(office, method, file), method, data)
+            count.add(f"{name}: {method} {file}", difference((status, body), owed))
+
+        for start in ["the first start", "the second start"]:
+            count.add(start, office.start())
+            serves(start, "PUT", "a.txt", b"kept", owed_receipt(1, b"kept"))
+            serves(start, "GET", "a.txt", None, (200, b"kept"))
+            count.add(f"the end behind {start}", difference(office.end(), 0))
+        count.add("the third start", office.start())
+        count.add("it is killed as it serves", killed_within(office))
+        start = "the start behind a kill"
+        count.add(start, office.start())
+        serves(start, "GET", "a.txt", None, (200, b"kept"))
+        serves(start, "PUT", "b.txt", b"whole", owed_receipt(2, b"whole"))
+        count.add(f"the end behind {start}", difference(office.end(), 0))
+
+
+def link_past(office, method, file):
+    """A link that boto3 makes for the office itself, without nginx."""
+    call = {"PUT": "put_object", "GET": "get_object"}[method]
+    return boto_client(office).generate_presigned_url(call, Params={"Bucket": "in", "Key": file})
+
+
+def killed_within(office):
+    """Kills the office within an upload, on a connection on which it has given an answer."""
+    get, put = (link_past(office, *it).removeprefix(f"http://{office.address}") for it in [("GET", "a.txt"), ("PUT", "b.txt")])
+    with contextlib.closing(http.client.HTTPConnection(office.address, timeout=SECONDS)) as it:
+        it.request("GET", get)
+        found = it.getresponse().read()
+        it.putrequest("PUT", put)
+        it.putheader("Content-Length", "5")
+        it.endheaders(b"who")
+        office.stop(signal.SIGKILL)
+    return difference(found, b"kept")
 
 
 # ---- the page
@@ -704,7 +758,7 @@ def test_page(drop, count):
     count.add("the page's receipt", None if digest in "".join(owed.values()) else digest)
 
 
-TESTS = [test_unit, test_page, test_front]
+TESTS = [test_unit, test_restart, test_page, test_front]
 
 
 if __name__ == "__main__":
