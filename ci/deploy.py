@@ -26,10 +26,13 @@ import botocore.config
 
 import kit
 import tables
+from browser import Browser, until
 from expected import SECRET, refusal
+from front import free_port
 from office import CANNOT_OPEN, difference, receipt, run_all
+from page import Case, lacks, of, receipt_facts
 from replays import ID
-from serve import asked, boto_client, free_port, open_office
+from serve import asked, boto_client, open_office
 
 DEPLOY = kit.ROOT / "deploy"
 UNIT = DEPLOY / "drop.service"
@@ -69,15 +72,6 @@ http {{
     include {site};
 }}
 """
-
-
-def wait_for(what, is_there):
-    """Waits until it is there; longer than the deadline is a fault of the test."""
-    until = time.monotonic() + SECONDS
-    while not is_there():
-        if time.monotonic() > until:
-            raise AssertionError(f"no {what} after {SECONDS} seconds")
-        time.sleep(0.02)
 
 
 def listens(port):
@@ -186,7 +180,7 @@ class Front:
 
     def start(self):
         self.process = subprocess.Popen(self.words, stdin=subprocess.DEVNULL)
-        wait_for("nginx", lambda: listens(self.port))
+        until("nginx", lambda: listens(self.port))
 
     def __enter__(self):
         return self
@@ -457,6 +451,27 @@ def test_pages(front, count):
     count.add("a page in the clear", difference(in_the_clear("/put.html"), IN_THE_CLEAR))
 
 
+def test_browser(drop, front, office, count):
+    """A stranger's way: a file is sent by put.html and fetched by get.html, in chromium over TLS."""
+    data, folder = bytes(range(256)) * 300, drop.path("browser")
+    folder.mkdir()
+    targets = {method: front.link(method, "dir/a stranger's file") for method in ["PUT", "GET"]}
+    front.links += targets.values()
+    with Browser(folder, "https") as browser:
+        case = Case(drop, office, front, browser, {}, None)
+        found = case.put(f"https://{front.host}{targets['PUT']}", "mine.bin", data)
+        owed = receipt_facts(found["facts"].get("number"), data)
+        count.add("put.html", difference((found["kind"], of(found, owed)), ("receipt", owed)))
+        count.add("put.html, digests", lacks(found["checked"], "Checked: length and SHA-256"))
+        by_hand = front.said("PUT", targets["PUT"], data)
+        count.add("the same receipt by hand", difference(by_hand, owed_receipt(owed["number"], data)))
+        found = case.fetch(f"https://{front.host}{targets['GET']}")
+        count.add("get.html", difference((found["kind"], of(found, owed)), ("fetched", owed)))
+        count.add("get.html, digests", lacks(found["checked"], "Checked: length and SHA-256"))
+        case.click("#save")
+        count.add("what is saved", difference(browser.downloaded(set()).read_bytes(), data))
+
+
 # ---- an office that is away
 
 
@@ -489,7 +504,7 @@ def test_log(front, count, secret):
             (ID, "GET", "/in/away", "502", "502"), (ID, "HEAD", "/in/none", "404", "404"), (ID, "POST", "/", "200", "200"),
             ("-", "GET", "/put.html", "200", "-"), ("-", "GET", "/", "403", "403"), (ID, "PUT", "/in/g.bin", "400", "-")]
     front.said("GET", "/last")
-    wait_for("last line of the log", lambda: '"/last"' in log.read_text())
+    until("last line of the log", lambda: '"/last"' in log.read_text())
     lines = log.read_text().splitlines()
     rows = [ROW.fullmatch(line) for line in lines]
     odd = [line for line, row in zip(lines, rows) if not row]
@@ -533,6 +548,7 @@ def test_front(drop, count):
         test_heads(front, count)
         test_slow(front, count)
         test_pages(front, count)
+        test_browser(drop, front, office, count)
         test_away(front, office, count)
         test_log(front, count, secret)
     count.add("integrity", difference(tables.rows(file, "PRAGMA integrity_check"), [("ok",)]))
