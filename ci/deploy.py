@@ -40,6 +40,9 @@ UNIT = DEPLOY / "drop.service"
 PAGES = {"put.html": "text/html; charset=utf-8", "get.html": "text/html; charset=utf-8",
          "drop.js": "application/javascript; charset=utf-8", "texts.js": "application/javascript; charset=utf-8",
          "drop.css": "text/css", "drop.svg": "image/svg+xml"}
+# What comes with each answer of the front.
+FIELDS = {"Cache-Control": "no-store", "Referrer-Policy": "no-referrer", "Strict-Transport-Security": "max-age=31536000",
+          "X-Content-Type-Options": "nosniff"}
 PAGE = kit.ROOT / "docs" / "DEPLOY.md"
 HOST = "files.example"
 SECONDS = 30  # until what is waited for must be there
@@ -301,6 +304,9 @@ def test_names(front, count):
     for name in ["x-amz-a", "x-amz-a_b", "x-amz-a!"]:
         count.add(f"a field {name}", difference(front.said("GET", target, fields=[(name, "1")]), owed_refusal(18)))
     count.add("another method", difference(front.said("DELETE", target), owed_refusal(7)))
+    for asked_for in [target, "/"]:
+        _, _, fields = front.ask("GET", asked_for)
+        count.add(f"fields with {asked_for[:9]}", difference({it: fields[it] for it in FIELDS}, FIELDS))
 
 
 def head_of(front, method, target, *lines):
@@ -429,8 +435,8 @@ def test_pages(front, count):
         (folder / name).write_bytes(file.read_bytes() if file else b"other")
     for name in PAGES:
         status, body, fields = front.ask("GET", f"/{name}")
-        found = status, body, fields["Content-Type"], fields["Referrer-Policy"]
-        count.add(name, difference(found, (200, (folder / name).read_bytes(), PAGES[name], "no-referrer")))
+        count.add(name, difference((status, body, fields["Content-Type"]), (200, (folder / name).read_bytes(), PAGES[name])))
+        count.add(f"{name}, fields", difference({it: fields[it] for it in FIELDS}, FIELDS))
     count.add("all of the page is served", difference(sorted(PAGES), sorted(it.name for it in (kit.ROOT / "page").iterdir())))
     others = ["/other.html", "/", "/put.html/", "/put.html/a", "//put.html", "/drop/put.html", "/html/put.html",
               "/.well-known/acme-challenge/a"]
