@@ -314,11 +314,13 @@ def test_too_large(case, count):
               or lacks(found["what"], "mehr als 1.048.576 Bytes") or lacks(found["remedy"], "Verkleinern Sie die Datei"))
 
 
+FAULTS = b"faults" * 100
+
+
 def test_faults(case, count):
     """What is lost on the way is told, and "try again" tries again; the office keeps the file once."""
-    data = b"faults" * 100
     case.open("put", "put faults")
-    case.choose("f", data)
+    case.choose("f", FAULTS)
     rows = [
         ("lost", "lost", "The connection was lost", "Die Verbindung ist abgebrochen"),
         ("swallowed", "lost", "The connection was lost", "Die Verbindung ist abgebrochen"),
@@ -351,9 +353,13 @@ def test_faults(case, count):
     case.front.mode = "through"
     case.click("#go")
     found = case.result("receipt")
-    owed = receipt_facts(4, data)
+    owed = receipt_facts(4, FAULTS)
     count.add("tried again", is_not(of(found, owed), owed))
     count.add("kept once", is_not(len(receipts(case)), 4))
+
+
+def test_faults_of_get(case, count):
+    """What is lost on the way back is told, and "try again" tries again."""
     case.open("get", "get faults")
     case.office.kill()
     case.click("#go")
@@ -364,7 +370,7 @@ def test_faults(case, count):
     count.add("get, lost", lacks(case.result("lost")["text"], "The connection was lost", "not the whole"))
     case.front.mode = "through"
     case.click("#again")
-    count.add("get, tried again", is_not(case.result("fetched")["facts"]["office_digest"], digest(data)))
+    count.add("get, tried again", is_not(case.result("fetched")["facts"]["office_digest"], digest(FAULTS)))
 
 
 def test_changed(case, count):
@@ -443,14 +449,19 @@ def test_links(case, count):
     count.add("a link for another host", lacks(note, "This link is for elsewhere.example", case.front.host))
 
 
+def tabbed(case, times):
+    """What has the focus behind each of so many Tabs."""
+    order = []
+    for _ in range(times):
+        case.browser.press(TAB)
+        order.append(case.browser.active())
+    return order
+
+
 def test_keyboard(case, count):
     """Tab, Enter and Space alone; only the choosing of the file is the browser's own."""
     case.open("put", "put keys")
-    order = []
-    for _ in range(4):
-        case.browser.press(TAB)
-        order.append(case.browser.active())
-    count.add("the order", is_not(order, ["de", "en", "file", "go"]))
+    count.add("the order", is_not(tabbed(case, 4), ["de", "en", "file", "go"]))
     case.browser.press(ENTER)
     said = case.browser.js("return ['live', 'facts'].map((it) => document.getElementById(it).innerText)")
     count.add("without a file", is_not(case.browser.active(), "file") or lacks(said[0], "Choose a file first.")
@@ -459,8 +470,7 @@ def test_keyboard(case, count):
     count.add("the focus is seen", is_not(case.browser.js(outline), "solid"))
     case.choose("keys", b"keys")
     case.browser.js("document.getElementById('file').focus()")
-    case.browser.press(TAB)
-    count.add("the button behind it", is_not(case.browser.active(), "go"))
+    count.add("the button behind it", is_not(tabbed(case, 1), ["go"]))
     case.front.gate.clear()
     case.front.mode = "held"
     case.browser.press(ENTER)
@@ -471,22 +481,20 @@ def test_keyboard(case, count):
     count.add("stopped", is_not((found["kind"], found["title"], found["focus"]), ("stopped", "Stopped", "result_title")))
     case.front.mode = "through"
     case.front.gate.set()
-    case.browser.press(TAB)
-    count.add("again is next", is_not(case.browser.active(), "again"))
+    count.add("again is next", is_not(tabbed(case, 1), ["again"]))
     case.browser.press(SPACE)
     found = case.result("receipt")
     count.add("a receipt by keys", is_not(found["facts"]["office_digest"], digest(b"keys")))
-    order = []
-    for _ in range(2):
-        case.browser.press(TAB)
-        order.append(case.browser.active())
-    count.add("what comes behind it", is_not(order, ["print", "keep"]))
+    count.add("what comes behind it", is_not(tabbed(case, 2), ["print", "keep"]))
     before = set(os.listdir(case.browser.downloads))
     case.browser.press(ENTER)
     count.add("kept by keys", lacks(case.browser.downloaded(before).read_text(encoding="utf-8"), digest(b"keys")))
+
+
+def test_keyboard_of_get(case, count):
+    """A file that is fetched and saved by Tab and Enter."""
     case.open("get", "get keys")
-    case.browser.press(TAB, TAB, TAB)
-    count.add("fetch", is_not(case.browser.active(), "go"))
+    count.add("fetch", is_not(tabbed(case, 3), ["de", "en", "go"]))
     case.browser.press(ENTER)
     case.result("fetched")
     case.browser.press(TAB)
@@ -688,8 +696,9 @@ def test_own_origin(case, count):
     count.add("hosts that were asked", is_not(case.front.hosts <= owed, True))
 
 
-TESTS = [test_put, test_receipt_file, test_refusals, test_table, test_too_large, test_faults, test_changed, test_get,
-         test_links, test_keyboard, test_progress, test_dropped, test_insecure, test_reader, test_looks, test_own_origin]
+TESTS = [test_put, test_receipt_file, test_refusals, test_table, test_too_large, test_faults, test_faults_of_get, test_changed,
+         test_get, test_links, test_keyboard, test_keyboard_of_get, test_progress, test_dropped, test_insecure, test_reader,
+         test_looks, test_own_origin]
 
 
 def write_links(drop, file, front):
