@@ -435,7 +435,8 @@ def test_pages(front, count):
         (folder / name).write_bytes(file.read_bytes() if file else b"other")
     for name in PAGES:
         status, body, fields = front.ask("GET", f"/{name}")
-        count.add(name, difference((status, body, fields["Content-Type"]), (200, (folder / name).read_bytes(), PAGES[name])))
+        found = status, body, fields["Content-Type"]
+        count.add(name, difference(found, (200, (folder / name).read_bytes(), PAGES[name])))
         count.add(f"{name}, fields", difference({it: fields[it] for it in FIELDS}, FIELDS))
     count.add("all of the page is served", difference(sorted(PAGES), sorted(it.name for it in (kit.ROOT / "page").iterdir())))
     others = ["/other.html", "/", "/put.html/", "/put.html/a", "//put.html", "/drop/put.html", "/html/put.html",
@@ -611,7 +612,8 @@ def link_past(office, method, file):
 
 def killed_within(office):
     """Kills the office within an upload, on a connection on which it has given an answer."""
-    get, put = (link_past(office, *it).removeprefix(f"http://{office.address}") for it in [("GET", "a.txt"), ("PUT", "b.txt")])
+    links = link_past(office, "GET", "a.txt"), link_past(office, "PUT", "b.txt")
+    get, put = (it.removeprefix(f"http://{office.address}") for it in links)
     with contextlib.closing(http.client.HTTPConnection(office.address, timeout=SECONDS)) as it:
         it.request("GET", get)
         found = it.getresponse().read()
