@@ -11,6 +11,7 @@ import hashlib
 import os
 import pathlib
 import re
+import shlex
 import sys
 import tempfile
 import time
@@ -630,6 +631,20 @@ return Math.min(...texts.map((it) => {
 """
 
 
+def test_hints(case, count):
+    """The lines for curl that are shown without JavaScript, with links that no browser sends as they stand."""
+    file = case.drop.path("by hand")
+    for method in ["put", "get"]:
+        lines = re.findall("<code>(.*)</code>", (PAGE / f"{method}.html").read_text(encoding="utf-8"))
+        count.add(f"lines of {method}", is_not(len(lines), 2))
+        for line in lines:
+            file.write_bytes(DATA if method == "put" else b"")
+            words = shlex.split(line.replace("LINK", case.links[f"{method} dots"]))
+            ran = kit.run([file if it in ("FILE", "DATEI") else it for it in words])
+            well = ran.status == 0 and file.read_bytes() == DATA and (method == "get" or digest(DATA) in ran.out.decode())
+            count.add(line, None if well else f"{ran}")
+
+
 def test_looks(case, count):
     """No scrolling to the side on a telephone; enough contrast, light and dark; nothing moves where that is not wanted."""
     def opened(page, link):
@@ -698,7 +713,7 @@ def test_own_origin(case, count):
 
 TESTS = [test_put, test_receipt_file, test_refusals, test_table, test_too_large, test_faults, test_faults_of_get, test_changed,
          test_get, test_links, test_keyboard, test_keyboard_of_get, test_progress, test_dropped, test_insecure, test_reader,
-         test_looks, test_own_origin]
+         test_hints, test_looks, test_own_origin]
 
 
 def write_links(drop, file, front):
@@ -716,6 +731,7 @@ def write_links(drop, file, front):
     links = {f"put {name}": link("PUT", f"in/{name}") for name in names}
     links |= {f"get {name}": link("GET", f"in/{name}") for name in ["faults", "absent", "keys"]}
     for method in ["put", "get"]:
+        links[f"{method} dots"] = link(method.upper(), "in/../in/a")
         links[f"{method} a"] = link(method.upper(), "in/a b.txt")
         links[f"{method} odd"] = link(method.upper(), f"in/{ODD}")
         links[f"{method} respelled"] = link(method.upper(), "in/b/d e.txt").replace("/in/b/d%20e", "/in/b%2fd%20e")
@@ -725,8 +741,8 @@ def write_links(drop, file, front):
         "put closed": link("PUT", "closed/a"), "put full": link("PUT", "full/a"), "put small": link("PUT", "small/a"),
         "put wrong name": link("PUT", "texts/a.pdf"), "put long": link("PUT", "in/" + "Ä" * 300),
         "put expired": link("PUT", "in/a", start=-3600, expires=60), "put early": link("PUT", "in/a", start=3600),
-        "put tampered": links["put new"].replace("/in/new", "/in/nex"), "put dots": link("PUT", "in/../in/a"),
-        "put a dot": link("PUT", "in/."), "get elsewhere": link("GET", "in/a b.txt", "elsewhere.example"),
+        "put tampered": links["put new"].replace("/in/new", "/in/nex"), "put a dot": link("PUT", "in/."),
+        "get elsewhere": link("GET", "in/a b.txt", "elsewhere.example"),
     }
 
 

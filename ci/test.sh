@@ -110,7 +110,7 @@ with_browser() {
 }
 
 page() {
-    with_browser || return 1
+    with_command curl && with_browser || return 1
     python3 -B ci/page.py --shots "$work/shots"
 }
 
