@@ -473,5 +473,6 @@
     drops();
   }
   window.addEventListener("hashchange", takeLink);
+  $("languages").hidden = false;
   takeLink();
 })();
