@@ -596,6 +596,7 @@ def test_restart(drop, count):
             serves(start, "GET", "a.txt", None, (200, b"kept"))
             count.add(f"the end behind {start}", difference(office.end(), 0))
         count.add("the third start", office.start())
+        count.add("a refusal", ended_by(office))
         count.add("it is killed as it serves", killed_within(office))
         start = "the start behind a kill"
         count.add(start, office.start())
@@ -608,6 +609,14 @@ def link_past(office, method, file):
     """A link that boto3 makes for the office itself, without nginx."""
     call = {"PUT": "put_object", "GET": "get_object"}[method]
     return boto_client(office).generate_presigned_url(call, Params={"Bucket": "in", "Key": file})
+
+
+def ended_by(office):
+    """A connection that the office is the first to end: for a while the system then has its port in use."""
+    with socket.create_connection(("127.0.0.1", office.port), SECONDS) as it:
+        it.sendall(b"\r\n\r\n")
+        found = *answered(it), it.recv(1)
+    return difference(found, (*owed_refusal(1), b""))
 
 
 def killed_within(office):
