@@ -711,9 +711,9 @@ def test_own_origin(case, count):
     count.add("hosts that were asked", is_not(case.front.hosts <= owed, True))
 
 
-TESTS = [test_put, test_receipt_file, test_refusals, test_table, test_too_large, test_faults, test_faults_of_get, test_changed,
-         test_get, test_links, test_keyboard, test_keyboard_of_get, test_progress, test_dropped, test_insecure, test_reader,
-         test_hints, test_looks, test_own_origin]
+TESTS = [test_put, test_receipt_file, test_refusals, test_table, test_too_large, test_faults, test_faults_of_get,
+         test_changed, test_get, test_links, test_keyboard, test_keyboard_of_get, test_progress, test_dropped,
+         test_insecure, test_reader, test_hints, test_looks, test_own_origin]
 
 
 def write_links(drop, file, front):
