@@ -49,10 +49,11 @@ class Element:
 
 
 class Browser:
-    """A session of chromium's driver, in a folder of its own."""
+    """A session of chromium's driver, in a folder of its own. For https any certificate is taken."""
 
-    def __init__(self, folder):
+    def __init__(self, folder, scheme="http"):
         self.folder, self.port, self.opened, self.path = folder, free_port(), 0, ""
+        self.scheme = scheme
         self.downloads = folder / "downloads"
         self.downloads.mkdir()
         pipes = {"stdin": subprocess.DEVNULL, "stdout": subprocess.DEVNULL, "stderr": subprocess.DEVNULL}
@@ -69,7 +70,7 @@ class Browser:
             "--host-resolver-rules=MAP files.example 127.0.0.1",
         ], "prefs": {"download.default_directory": str(self.downloads), "intl.accept_languages": "en-US,en"}}
         wanted = {"browserName": "chrome", "pageLoadStrategy": "eager", "goog:chromeOptions": options,
-                  "goog:loggingPrefs": {"browser": "ALL"}}
+                  "goog:loggingPrefs": {"browser": "ALL"}, "acceptInsecureCerts": self.scheme == "https"}
         found = self.call("POST", "/session", {"capabilities": {"alwaysMatch": wanted}})
         self.path = f"/session/{found['sessionId']}"
         self.agent = self.js("return navigator.userAgent")
@@ -114,7 +115,7 @@ class Browser:
     def open(self, host, page, link):
         """A new load of a page with this link."""
         self.opened += 1
-        self.ask("POST", "/url", {"url": f"http://{host}/{page}.html?{self.opened}#{link}"})
+        self.ask("POST", "/url", {"url": f"{self.scheme}://{host}/{page}.html?{self.opened}#{link}"})
 
     def find(self, selector):
         return Element(self, self.ask("POST", "/element", {"using": "css selector", "value": selector}))

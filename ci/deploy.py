@@ -26,16 +26,23 @@ import botocore.config
 
 import kit
 import tables
+from browser import Browser, until
 from expected import SECRET, refusal
+from front import free_port
 from office import CANNOT_OPEN, difference, receipt, run_all
+from page import Case, lacks, of, receipt_facts
 from replays import ID
-from serve import free_port, open_office
+from serve import asked, boto_client, open_office
 
 DEPLOY = kit.ROOT / "deploy"
+UNIT = DEPLOY / "drop.service"
 # What is served beside the office, and as what.
 PAGES = {"put.html": "text/html; charset=utf-8", "get.html": "text/html; charset=utf-8",
          "drop.js": "application/javascript; charset=utf-8", "texts.js": "application/javascript; charset=utf-8",
          "drop.css": "text/css", "drop.svg": "image/svg+xml"}
+# What comes with each answer of the front.
+FIELDS = {"Cache-Control": "no-store", "Referrer-Policy": "no-referrer", "Strict-Transport-Security": "max-age=31536000",
+          "X-Content-Type-Options": "nosniff"}
 PAGE = kit.ROOT / "docs" / "DEPLOY.md"
 HOST = "files.example"
 SECONDS = 30  # until what is waited for must be there
@@ -70,15 +77,6 @@ http {{
 """
 
 
-def wait_for(what, is_there):
-    """Waits until it is there; longer than the deadline is a fault of the test."""
-    until = time.monotonic() + SECONDS
-    while not is_there():
-        if time.monotonic() > until:
-            raise AssertionError(f"no {what} after {SECONDS} seconds")
-        time.sleep(0.02)
-
-
 def listens(port):
     with contextlib.suppress(OSError), socket.create_connection(("127.0.0.1", port), timeout=SECONDS):
         return True
@@ -99,14 +97,20 @@ class Office:
 
     def __init__(self, unit, folder, paths):
         self.folder, self.port, self.process = folder, free_port(), None
+        self.address = f"127.0.0.1:{self.port}"
         line = re.search(r"^ExecStart=(.*)$", unit.read_text(), re.MULTILINE)[1]
-        self.words = shlex.split(replaced(line, [*paths, ("127.0.0.1:8333", f"127.0.0.1:{self.port}")]))
+        self.words = shlex.split(replaced(line, [*paths, ("127.0.0.1:8333", self.address)]))
 
     def start(self):
         pipes = {"stdin": subprocess.DEVNULL, "stdout": subprocess.PIPE, "stderr": subprocess.STDOUT}
         self.process = subprocess.Popen(self.words, cwd=self.folder, **pipes)
         line = self.process.stdout.readline().decode()
-        return None if line == f"listening on 127.0.0.1:{self.port}\n" else line
+        return None if line == f"listening on {self.address}\n" else f"it said {line!r}"
+
+    def end(self):
+        """The status with which it ends by itself."""
+        self.process.communicate(timeout=SECONDS)
+        return self.process.returncode
 
     def stop(self, by=signal.SIGTERM):
         if self.process:
@@ -119,6 +123,11 @@ class Office:
 
     def __exit__(self, *_):
         self.stop()
+
+
+def paths_of(drop, file):
+    """What is replaced in the unit: the program's path and the office file's."""
+    return [("/usr/local/bin/drop", str(drop.program)), ("/var/lib/drop/office", str(file))]
 
 
 def certificate(folder):
@@ -174,7 +183,7 @@ class Front:
 
     def start(self):
         self.process = subprocess.Popen(self.words, stdin=subprocess.DEVNULL)
-        wait_for("nginx", lambda: listens(self.port))
+        until("nginx", lambda: listens(self.port))
 
     def __enter__(self):
         return self
@@ -295,6 +304,9 @@ def test_names(front, count):
     for name in ["x-amz-a", "x-amz-a_b", "x-amz-a!"]:
         count.add(f"a field {name}", difference(front.said("GET", target, fields=[(name, "1")]), owed_refusal(18)))
     count.add("another method", difference(front.said("DELETE", target), owed_refusal(7)))
+    for asked_for in [target, "/"]:
+        _, _, fields = front.ask("GET", asked_for)
+        count.add(f"fields with {asked_for[:9]}", difference({it: fields[it] for it in FIELDS}, FIELDS))
 
 
 def head_of(front, method, target, *lines):
@@ -361,18 +373,21 @@ def test_heads(front, count):
 # ---- slow peers
 
 
-def seconds_of(call):
-    begun = time.monotonic()
-    found = call()
-    return found, time.monotonic() - begun
-
-
 def others_are_answered(front, name, count, between=range(3)):
-    """In the meantime: each is answered, and the fastest in less than a second, whatever else the machine does."""
+    """In the meantime: each is answered, while the slow ones are there."""
     target = front.link("GET", "a.txt")
-    found, seconds = zip(*(seconds_of(lambda: front.said("GET", target)) for _ in between))
-    count.add(f"{name}: others are answered", difference(found, ((200, b"a.txt"),) * len(found)))
-    count.add(f"{name}: at once", None if min(seconds) < 1 else f"{seconds}")
+    found = [front.said("GET", target) for _ in between]
+    count.add(f"{name}: others are answered", difference(found, [(200, b"a.txt")] * len(found)))
+
+
+def is_let_go(it):
+    """Whether this silent peer was told something, or its connection has ended."""
+    it.setblocking(False)
+    try:
+        it.recv(1)
+    except (BlockingIOError, ssl.SSLWantReadError):
+        return False
+    return True
 
 
 def a_byte_a_second(it, data):
@@ -398,6 +413,7 @@ def test_slow(front, count):
         silent += [stack.enter_context(socket.create_connection(("127.0.0.1", front.port), SECONDS)) for _ in range(8)]
         silent[0].sendall(head[:-2])
         others_are_answered(front, "silent peers", count)
+        count.add("silent peers are still there", difference([is_let_go(it) for it in silent], [False] * 16))
     with contextlib.ExitStack() as stack:
         slow = [stack.enter_context(contextlib.closing(front.begin("GET", front.link("GET", "e.bin"), buffer=4096)))
                 for _ in range(4)]
@@ -419,8 +435,9 @@ def test_pages(front, count):
         (folder / name).write_bytes(file.read_bytes() if file else b"other")
     for name in PAGES:
         status, body, fields = front.ask("GET", f"/{name}")
-        found = status, body, fields["Content-Type"], fields["Referrer-Policy"]
-        count.add(name, difference(found, (200, (folder / name).read_bytes(), PAGES[name], "no-referrer")))
+        found = status, body, fields["Content-Type"]
+        count.add(name, difference(found, (200, (folder / name).read_bytes(), PAGES[name])))
+        count.add(f"{name}, fields", difference({it: fields[it] for it in FIELDS}, FIELDS))
     count.add("all of the page is served", difference(sorted(PAGES), sorted(it.name for it in (kit.ROOT / "page").iterdir())))
     others = ["/other.html", "/", "/put.html/", "/put.html/a", "//put.html", "/drop/put.html", "/html/put.html",
               "/.well-known/acme-challenge/a"]
@@ -443,6 +460,27 @@ def test_pages(front, count):
     target = front.link("GET", "a.txt")
     count.add("a link in the clear", difference(in_the_clear(target), IN_THE_CLEAR))
     count.add("a page in the clear", difference(in_the_clear("/put.html"), IN_THE_CLEAR))
+
+
+def test_browser(drop, front, office, count):
+    """A stranger's way: a file is sent by put.html and fetched by get.html, in chromium over TLS."""
+    data, folder = bytes(range(256)) * 300, drop.path("browser")
+    folder.mkdir()
+    targets = {method: front.link(method, "dir/a stranger's file") for method in ["PUT", "GET"]}
+    front.links += targets.values()
+    with Browser(folder, "https") as browser:
+        case = Case(drop, office, front, browser, {}, None)
+        found = case.put(f"https://{front.host}{targets['PUT']}", "mine.bin", data)
+        owed = receipt_facts(found["facts"].get("number"), data)
+        count.add("put.html", difference((found["kind"], of(found, owed)), ("receipt", owed)))
+        count.add("put.html, digests", lacks(found["checked"], "Checked: length and SHA-256"))
+        by_hand = front.said("PUT", targets["PUT"], data)
+        count.add("the same receipt by hand", difference(by_hand, owed_receipt(owed["number"], data)))
+        found = case.fetch(f"https://{front.host}{targets['GET']}")
+        count.add("get.html", difference((found["kind"], of(found, owed)), ("fetched", owed)))
+        count.add("get.html, digests", lacks(found["checked"], "Checked: length and SHA-256"))
+        case.click("#save")
+        count.add("what is saved", difference(browser.downloaded(set()).read_bytes(), data))
 
 
 # ---- an office that is away
@@ -477,7 +515,7 @@ def test_log(front, count, secret):
             (ID, "GET", "/in/away", "502", "502"), (ID, "HEAD", "/in/none", "404", "404"), (ID, "POST", "/", "200", "200"),
             ("-", "GET", "/put.html", "200", "-"), ("-", "GET", "/", "403", "403"), (ID, "PUT", "/in/g.bin", "400", "-")]
     front.said("GET", "/last")
-    wait_for("last line of the log", lambda: '"/last"' in log.read_text())
+    until("last line of the log", lambda: '"/last"' in log.read_text())
     lines = log.read_text().splitlines()
     rows = [ROW.fullmatch(line) for line in lines]
     odd = [line for line, row in zip(lines, rows) if not row]
@@ -499,9 +537,8 @@ def test_log(front, count, secret):
 def test_front(drop, count):
     """An office behind nginx, from its start to its end."""
     file = open_office(drop, "office")
-    paths = [("/usr/local/bin/drop", str(drop.program)), ("/var/lib/drop/office", str(file))]
     certificate(drop.folder)
-    with Office(DEPLOY / "drop.service", drop.folder, paths) as office, Front(drop.folder, office.port) as front:
+    with Office(UNIT, drop.folder, paths_of(drop, file)) as office, Front(drop.folder, office.port) as front:
         folders = ["/etc/letsencrypt/live/HOST", "/var/log/nginx", "/var/www"]
         places = [*((it, drop.folder) for it in folders), ("HOST", HOST)]
         words = front.configure(DEPLOY / "nginx.conf", places, drop.folder / "fullchain.pem")
@@ -522,6 +559,7 @@ def test_front(drop, count):
         test_heads(front, count)
         test_slow(front, count)
         test_pages(front, count)
+        test_browser(drop, front, office, count)
         test_away(front, office, count)
         test_log(front, count, secret)
     count.add("integrity", difference(tables.rows(file, "PRAGMA integrity_check"), [("ok",)]))
@@ -533,13 +571,66 @@ def test_front(drop, count):
 def test_unit(drop, count):
     """What systemd says of the unit: it has no fault, and few rights."""
     unit = drop.path("drop.service")
-    text = (DEPLOY / "drop.service").read_text()
+    text = UNIT.read_text()
     unit.write_text(replaced(text, [("=/usr/local/bin/drop serve", f"={drop.program} serve")]))
+    for line in ["StartLimitIntervalSec=0", "Restart=always", "RestartSec=1"]:
+        count.add(line, None if line in text.splitlines() else "the unit does not say it")
     ran = kit.run(["systemd-analyze", "verify", unit])
     faults = [line for line in ran.err.decode().splitlines() if unit.name in line]
     count.add("the unit's words", f"{faults or ran}" if ran.status or faults else None)
     ran = kit.run(["systemd-analyze", "security", "--offline=yes", "--no-pager", f"--threshold={MOST_EXPOSED}", unit])
     count.add("the unit's rights", None if ran.status == 0 else ran.out.decode().splitlines()[-1])
+
+
+def test_restart(drop, count):
+    """What the unit runs ends with 0 behind its last connection. Then, and killed as it serves, it can be started again."""
+    paths = [*paths_of(drop, open_office(drop, "office")), ("--connections 1000000", "--connections 2")]
+    with Office(UNIT, drop.folder, paths) as office:
+        def serves(name, method, file, data, owed):
+            status, _, body = asked(link_past(office, method, file), method, data)
+            count.add(f"{name}: {method} {file}", difference((status, body), owed))
+
+        for start in ["the first start", "the second start"]:
+            count.add(start, office.start())
+            serves(start, "PUT", "a.txt", b"kept", owed_receipt(1, b"kept"))
+            serves(start, "GET", "a.txt", None, (200, b"kept"))
+            count.add(f"the end behind {start}", difference(office.end(), 0))
+        count.add("the third start", office.start())
+        count.add("a refusal", ended_by(office))
+        count.add("it is killed as it serves", killed_within(office))
+        start = "the start behind a kill"
+        count.add(start, office.start())
+        serves(start, "GET", "a.txt", None, (200, b"kept"))
+        serves(start, "PUT", "b.txt", b"whole", owed_receipt(2, b"whole"))
+        count.add(f"the end behind {start}", difference(office.end(), 0))
+
+
+def link_past(office, method, file):
+    """A link that boto3 makes for the office itself, without nginx."""
+    call = {"PUT": "put_object", "GET": "get_object"}[method]
+    return boto_client(office).generate_presigned_url(call, Params={"Bucket": "in", "Key": file})
+
+
+def ended_by(office):
+    """A connection that the office is the first to end: for a while the system then has its port in use."""
+    with socket.create_connection(("127.0.0.1", office.port), SECONDS) as it:
+        it.sendall(b"\r\n\r\n")
+        found = *answered(it), it.recv(1)
+    return difference(found, (*owed_refusal(1), b""))
+
+
+def killed_within(office):
+    """Kills the office within an upload, on a connection on which it has given an answer."""
+    links = link_past(office, "GET", "a.txt"), link_past(office, "PUT", "b.txt")
+    get, put = (it.removeprefix(f"http://{office.address}") for it in links)
+    with contextlib.closing(http.client.HTTPConnection(office.address, timeout=SECONDS)) as it:
+        it.request("GET", get)
+        found = it.getresponse().read()
+        it.putrequest("PUT", put)
+        it.putheader("Content-Length", "5")
+        it.endheaders(b"who")
+        office.stop(signal.SIGKILL)
+    return difference(found, b"kept")
 
 
 # ---- the page
@@ -704,7 +795,7 @@ def test_page(drop, count):
     count.add("the page's receipt", None if digest in "".join(owed.values()) else digest)
 
 
-TESTS = [test_unit, test_page, test_front]
+TESTS = [test_unit, test_restart, test_page, test_front]
 
 
 if __name__ == "__main__":

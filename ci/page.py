@@ -11,6 +11,7 @@ import hashlib
 import os
 import pathlib
 import re
+import shlex
 import sys
 import tempfile
 import time
@@ -314,11 +315,13 @@ def test_too_large(case, count):
               or lacks(found["what"], "mehr als 1.048.576 Bytes") or lacks(found["remedy"], "Verkleinern Sie die Datei"))
 
 
+FAULTS = b"faults" * 100
+
+
 def test_faults(case, count):
     """What is lost on the way is told, and "try again" tries again; the office keeps the file once."""
-    data = b"faults" * 100
     case.open("put", "put faults")
-    case.choose("f", data)
+    case.choose("f", FAULTS)
     rows = [
         ("lost", "lost", "The connection was lost", "Die Verbindung ist abgebrochen"),
         ("swallowed", "lost", "The connection was lost", "Die Verbindung ist abgebrochen"),
@@ -351,9 +354,13 @@ def test_faults(case, count):
     case.front.mode = "through"
     case.click("#go")
     found = case.result("receipt")
-    owed = receipt_facts(4, data)
+    owed = receipt_facts(4, FAULTS)
     count.add("tried again", is_not(of(found, owed), owed))
     count.add("kept once", is_not(len(receipts(case)), 4))
+
+
+def test_faults_of_get(case, count):
+    """What is lost on the way back is told, and "try again" tries again."""
     case.open("get", "get faults")
     case.office.kill()
     case.click("#go")
@@ -364,7 +371,7 @@ def test_faults(case, count):
     count.add("get, lost", lacks(case.result("lost")["text"], "The connection was lost", "not the whole"))
     case.front.mode = "through"
     case.click("#again")
-    count.add("get, tried again", is_not(case.result("fetched")["facts"]["office_digest"], digest(data)))
+    count.add("get, tried again", is_not(case.result("fetched")["facts"]["office_digest"], digest(FAULTS)))
 
 
 def test_changed(case, count):
@@ -433,6 +440,7 @@ def test_links(case, count):
     case.browser.js(paste, case.links["get a"])
     case.browser.press(ENTER)
     case.browser.wait_for("return !document.getElementById('work').hidden")
+    count.add("the focus behind it", is_not(case.browser.active(), "link_title"))
     case.click("#go")
     count.add("a link that is pasted", is_not(case.result()["facts"]["office_digest"], digest(DATA)))
     found = case.fetch(target_of(case.links["get a"]))
@@ -442,23 +450,28 @@ def test_links(case, count):
     count.add("a link for another host", lacks(note, "This link is for elsewhere.example", case.front.host))
 
 
+def tabbed(case, times):
+    """What has the focus behind each of so many Tabs."""
+    order = []
+    for _ in range(times):
+        case.browser.press(TAB)
+        order.append(case.browser.active())
+    return order
+
+
 def test_keyboard(case, count):
     """Tab, Enter and Space alone; only the choosing of the file is the browser's own."""
     case.open("put", "put keys")
-    order = []
-    for _ in range(4):
-        case.browser.press(TAB)
-        order.append(case.browser.active())
-    count.add("the order", is_not(order, ["de", "en", "file", "go"]))
+    count.add("the order", is_not(tabbed(case, 4), ["de", "en", "file", "go"]))
     case.browser.press(ENTER)
-    count.add("without a file", is_not(case.browser.active(), "file")
-              or lacks(case.browser.js("return document.getElementById('live').textContent"), "Choose a file first."))
+    said = case.browser.js("return ['live', 'facts'].map((it) => document.getElementById(it).innerText)")
+    count.add("without a file", is_not(case.browser.active(), "file") or lacks(said[0], "Choose a file first.")
+              or lacks(said[1], "Choose a file first."))
     outline = "return getComputedStyle(document.getElementById('file_label')).outlineStyle"
     count.add("the focus is seen", is_not(case.browser.js(outline), "solid"))
     case.choose("keys", b"keys")
     case.browser.js("document.getElementById('file').focus()")
-    case.browser.press(TAB)
-    count.add("the button behind it", is_not(case.browser.active(), "go"))
+    count.add("the button behind it", is_not(tabbed(case, 1), ["go"]))
     case.front.gate.clear()
     case.front.mode = "held"
     case.browser.press(ENTER)
@@ -469,22 +482,20 @@ def test_keyboard(case, count):
     count.add("stopped", is_not((found["kind"], found["title"], found["focus"]), ("stopped", "Stopped", "result_title")))
     case.front.mode = "through"
     case.front.gate.set()
-    case.browser.press(TAB)
-    count.add("again is next", is_not(case.browser.active(), "again"))
+    count.add("again is next", is_not(tabbed(case, 1), ["again"]))
     case.browser.press(SPACE)
     found = case.result("receipt")
     count.add("a receipt by keys", is_not(found["facts"]["office_digest"], digest(b"keys")))
-    order = []
-    for _ in range(2):
-        case.browser.press(TAB)
-        order.append(case.browser.active())
-    count.add("what comes behind it", is_not(order, ["print", "keep"]))
+    count.add("what comes behind it", is_not(tabbed(case, 2), ["print", "keep"]))
     before = set(os.listdir(case.browser.downloads))
     case.browser.press(ENTER)
     count.add("kept by keys", lacks(case.browser.downloaded(before).read_text(encoding="utf-8"), digest(b"keys")))
+
+
+def test_keyboard_of_get(case, count):
+    """A file that is fetched and saved by Tab and Enter."""
     case.open("get", "get keys")
-    case.browser.press(TAB, TAB, TAB)
-    count.add("fetch", is_not(case.browser.active(), "go"))
+    count.add("fetch", is_not(tabbed(case, 3), ["de", "en", "go"]))
     case.browser.press(ENTER)
     case.result("fetched")
     case.browser.press(TAB)
@@ -620,6 +631,20 @@ return Math.min(...texts.map((it) => {
 """
 
 
+def test_hints(case, count):
+    """The lines for curl that are shown without JavaScript, with links that no browser sends as they stand."""
+    file = case.drop.path("by hand")
+    for method in ["put", "get"]:
+        lines = re.findall("<code>(.*)</code>", (PAGE / f"{method}.html").read_text(encoding="utf-8"))
+        count.add(f"lines of {method}", is_not(len(lines), 2))
+        for line in lines:
+            file.write_bytes(DATA if method == "put" else b"")
+            words = shlex.split(line.replace("LINK", case.links[f"{method} dots"]))
+            ran = kit.run([file if it in ("FILE", "DATEI") else it for it in words])
+            well = ran.status == 0 and file.read_bytes() == DATA and (method == "get" or digest(DATA) in ran.out.decode())
+            count.add(line, None if well else f"{ran}")
+
+
 def test_looks(case, count):
     """No scrolling to the side on a telephone; enough contrast, light and dark; nothing moves where that is not wanted."""
     def opened(page, link):
@@ -686,8 +711,9 @@ def test_own_origin(case, count):
     count.add("hosts that were asked", is_not(case.front.hosts <= owed, True))
 
 
-TESTS = [test_put, test_receipt_file, test_refusals, test_table, test_too_large, test_faults, test_changed, test_get,
-         test_links, test_keyboard, test_progress, test_dropped, test_insecure, test_reader, test_looks, test_own_origin]
+TESTS = [test_put, test_receipt_file, test_refusals, test_table, test_too_large, test_faults, test_faults_of_get,
+         test_changed, test_get, test_links, test_keyboard, test_keyboard_of_get, test_progress, test_dropped,
+         test_insecure, test_reader, test_hints, test_looks, test_own_origin]
 
 
 def write_links(drop, file, front):
@@ -705,6 +731,7 @@ def write_links(drop, file, front):
     links = {f"put {name}": link("PUT", f"in/{name}") for name in names}
     links |= {f"get {name}": link("GET", f"in/{name}") for name in ["faults", "absent", "keys"]}
     for method in ["put", "get"]:
+        links[f"{method} dots"] = link(method.upper(), "in/../in/a")
         links[f"{method} a"] = link(method.upper(), "in/a b.txt")
         links[f"{method} odd"] = link(method.upper(), f"in/{ODD}")
         links[f"{method} respelled"] = link(method.upper(), "in/b/d e.txt").replace("/in/b/d%20e", "/in/b%2fd%20e")
@@ -714,8 +741,8 @@ def write_links(drop, file, front):
         "put closed": link("PUT", "closed/a"), "put full": link("PUT", "full/a"), "put small": link("PUT", "small/a"),
         "put wrong name": link("PUT", "texts/a.pdf"), "put long": link("PUT", "in/" + "Ä" * 300),
         "put expired": link("PUT", "in/a", start=-3600, expires=60), "put early": link("PUT", "in/a", start=3600),
-        "put tampered": links["put new"].replace("/in/new", "/in/nex"), "put dots": link("PUT", "in/../in/a"),
-        "put a dot": link("PUT", "in/."), "get elsewhere": link("GET", "in/a b.txt", "elsewhere.example"),
+        "put tampered": links["put new"].replace("/in/new", "/in/nex"), "put a dot": link("PUT", "in/."),
+        "get elsewhere": link("GET", "in/a b.txt", "elsewhere.example"),
     }
 
 

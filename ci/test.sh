@@ -104,10 +104,14 @@ kills() {
     "$python" -B ci/kills.py
 }
 
+# A browser, and its driver.
+with_browser() {
+    with_command chromium && with_command chromedriver chromium-driver
+}
+
 page() {
-    with_command chromium || return 1
-    with_command chromedriver chromium-driver || return 1
-    python3 -B ci/page.py
+    with_command curl && with_browser || return 1
+    python3 -B ci/page.py --shots "$work/shots"
 }
 
 interop() {
@@ -119,7 +123,7 @@ interop() {
 deploy() {
     local python
     with_command nginx nginx-light && with_command systemd-analyze systemd || return 1
-    with_command openssl && with_command sqlite3 && with_command curl || return 1
+    with_command openssl && with_command sqlite3 && with_command curl && with_browser || return 1
     python=$(with_boto3) || return 1
     "$python" -B ci/deploy.py
 }

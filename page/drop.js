@@ -6,7 +6,7 @@
 (() => {
   const PUT = document.documentElement.dataset.page === "put";
   const LIMIT = 1048576;
-  const state = { link: null, file: null, busy: null, result: null, url: null };
+  const state = { link: null, file: null, missing: false, busy: null, result: null, url: null };
   const given = new Set(); // the receipts that were told since the page was loaded
   let language = /^de\b/i.test(navigator.language) ? "de" : "en";
   let request = null;
@@ -95,11 +95,13 @@
   }
 
   function takeLink() {
+    const pasted = $("fault").contains(document.activeElement);
     forget();
     Object.assign(state, { link: readLink(), file: null });
     if ($("file")) $("file").value = "";
     draw();
     if (state.link.fault) announce(text(state.link.fault));
+    else if (pasted) $("link_title").focus();
   }
 
   // ---- the file
@@ -143,13 +145,15 @@
     request = null;
     if (old) old.abort();
     if (state.url) URL.revokeObjectURL(state.url);
-    Object.assign(state, { busy: null, result: null, url: null });
+    Object.assign(state, { busy: null, result: null, url: null, missing: false });
   }
 
   function go() {
     if (state.busy) return;
     const file = state.file;
     if (PUT && !file) {
+      state.missing = true;
+      draw();
       announce(text("choose_first"));
       return $("file").focus();
     }
@@ -392,15 +396,18 @@
   function drawFile() {
     const { file } = state;
     if (!PUT) {
-      $("go").textContent = text(state.result && state.result.kind === "fetched" ? "fetch_again" : "fetch");
+      const again = Boolean(state.result) && state.result.kind === "fetched";
+      $("go").textContent = text(again ? "fetch_again" : "fetch");
+      $("go").classList.toggle("main", !again);
       return;
     }
     const digest = (found) => (found === undefined ? text("working") : found || text("insecure"));
+    const missing = state.missing ? [["file", text("choose_first"), "note"]] : [];
     facts($("facts"), file ? [
       ["file", file.name], ["size", text("bytes", { length: count(file.length) })],
       ...(file.length > LIMIT ? [] : [["digest", digest(file.digest), file.digest && "code"]]),
       ...(file.several ? [["choose", text("several"), "note"]] : []),
-    ] : []);
+    ] : missing);
   }
 
   function drawResult() {
@@ -466,5 +473,6 @@
     drops();
   }
   window.addEventListener("hashchange", takeLink);
+  $("languages").hidden = false;
   takeLink();
 })();
