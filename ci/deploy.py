@@ -41,8 +41,7 @@ PAGES = {"put.html": "text/html; charset=utf-8", "get.html": "text/html; charset
          "drop.js": "application/javascript; charset=utf-8", "texts.js": "application/javascript; charset=utf-8",
          "drop.css": "text/css", "drop.svg": "image/svg+xml"}
 # What comes with each answer of the front.
-FIELDS = {"Cache-Control": "no-store", "Referrer-Policy": "no-referrer", "Strict-Transport-Security": "max-age=31536000",
-          "X-Content-Type-Options": "nosniff"}
+FIELDS = {"Cache-Control": "no-store", "Referrer-Policy": "no-referrer", "X-Content-Type-Options": "nosniff"}
 PAGE = kit.ROOT / "docs" / "DEPLOY.md"
 HOST = "files.example"
 SECONDS = 30  # until what is waited for must be there

@@ -25,16 +25,28 @@ const NOT_SIGNED: &[u8] =
 const TOO_LARGE: &[u8] =
     b"HTTP/1.1 400 Bad Request\r\nContent-Type: text/plain\r\nContent-Length: 39\r\nConnection: close\r\n\r\nEntityTooLarge 5 the body is too large\n";
 
-// Whether the stream is answered so and ends so, read byte by byte and cut once at each place.
-fn is_answered(alloc: Global, stream: &[u8], want: &[u8], end: SessionEnd) -> Result<bool, Fail> {
+// Whether the stream, so many bytes of it a read, is answered so and ends so.
+fn is_given(
+    alloc: Global,
+    stream: &[u8],
+    at_once: usize,
+    want: &[u8],
+    end: SessionEnd,
+) -> Result<bool, Fail> {
     let moment = Moment::read(DATE).ok_or("no moment")?;
     let source = Source {
         rest: stream,
-        at_once: 1,
+        at_once,
         fails: false,
     };
     let got = given(alloc, source, Sink::new(alloc, 4096, 4096), moment)?;
-    let mut is_so = got.end == end && got.text.as_slice() == want;
+    Ok(got.end == end && got.text.as_slice() == want)
+}
+
+// Whether the stream is answered so and ends so, read byte by byte, in one piece and cut once at each place.
+fn is_answered(alloc: Global, stream: &[u8], want: &[u8], end: SessionEnd) -> Result<bool, Fail> {
+    let moment = Moment::read(DATE).ok_or("no moment")?;
+    let mut is_so = is_given(alloc, stream, 1, want, end)?;
     for place in 0..stream.len() {
         let (first, rest) = stream.split_at(place);
         let got = given(
@@ -96,12 +108,22 @@ fn line_of(alloc: Global, byte: u8, len: usize) -> Result<Vec<u8>, Fail> {
 
 #[test]
 fn heads_without_an_end(rt: HostRuntime) -> Result<(), Fail> {
+    let alloc = rt.alloc();
     for byte in [b'a', b'\n', b'\r', 0] {
-        let stream = line_of(rt.alloc(), byte, 8192)?;
-        assert!(rt; is_answered(rt.alloc(), &stream, TOO_LONG, SessionEnd::Refused(2))?);
-        let shorter = line_of(rt.alloc(), byte, 8191)?;
-        assert!(rt; is_answered(rt.alloc(), &shorter, b"", SessionEnd::Truncated)?);
+        let long = line_of(alloc, byte, 8192)?;
+        let shorter = line_of(alloc, byte, 8191)?;
+        for at_once in [1, 4096, 10_000] {
+            assert!(rt; is_given(alloc, &long, at_once, TOO_LONG, SessionEnd::Refused(2))?);
+            assert!(rt; is_given(alloc, &shorter, at_once, b"", SessionEnd::Truncated)?);
+        }
     }
+    Ok(())
+}
+
+#[test]
+fn a_head_without_an_end_that_is_cut(rt: HostRuntime) -> Result<(), Fail> {
+    let stream = line_of(rt.alloc(), b'a', 8192)?;
+    assert!(rt; is_answered(rt.alloc(), &stream, TOO_LONG, SessionEnd::Refused(2))?);
     Ok(())
 }
 
@@ -110,7 +132,6 @@ fn heads_of_the_greatest_size(rt: HostRuntime) -> Result<(), Fail> {
     let alloc = rt.alloc();
     for (stream, want, end) in [
         (long_head(alloc, 8192)?, NOT_SIGNED, SessionEnd::Ended),
-        (long_head(alloc, 8193)?, TOO_LONG, SessionEnd::Refused(2)),
         (many_fields(alloc, 64)?, NOT_SIGNED, SessionEnd::Ended),
         (many_fields(alloc, 65)?, NO_HEAD, SessionEnd::Refused(1)),
     ] {
