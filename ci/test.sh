@@ -131,6 +131,7 @@ deploy() {
 documents() {
     local python
     with_command curl && with_command aws awscli || return 1
+    with_command openssl && with_command sqlite3 || return 1
     python=$(with_boto3) || return 1
     "$python" -B ci/documents.py
 }
