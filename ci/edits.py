@@ -13,6 +13,9 @@ its own function is, for its own goals. What is not settled so is tried alone, a
 specs. One that names no function is tried over the whole crate, by the rule of `rt`. What the first check of a crate proves
 is kept in a folder: each later one starts from a copy of it.
 
+Where a proof file names what an edit took away, or a lemma on which that file stands, the refusal shows less: it may be of the
+name alone. Such an edit counts, and is told.
+
 The harmless edits `ci/controls/NAME/*.edit` are tried among the others, and must be found to be proved still. Each edit
 that is not refused, and each harmless one that is, is named. The last line is `N passed, M failed`.
 
@@ -50,11 +53,12 @@ SETTLES = 10
 SHARE = 0.5
 HEAD = re.compile(r"^( *)(?:pub(?:\([^)]*\))? )?(?:final )?fn (\w+)", re.M)
 VERDICT = re.compile(r"^fn (\S+): (.*)$")
-# A goal that a check left: what it says, its name, and how the search for it ended.
-GOAL = re.compile(r"note: \S+: (.*) \(`(\S+)`\)(.*)")
+# A goal that a check left: what it says, and its name.
+GOAL = re.compile(r"note: \S+: (.*) \(`(\S+)`\)")
 # A proof file that names what an edit took away, by the words of `rt`.
 NAMES = re.compile(r"has no field|is not in scope|has no `|was not admitted")
 STILL_PROVED = "NOT REFUSED: the crate is still proved with this edit"
+BY_A_NAME = "refused, since a proof file names what it took away"
 
 
 @dataclasses.dataclass(frozen=True)
@@ -70,7 +74,7 @@ class Edit:
     def fault_of(self, fault):
         """What is wrong with the edit, by what was wrong with it as a refusal."""
         if not self.is_harmless:
-            return fault
+            return None if fault == BY_A_NAME else fault
         if fault == STILL_PROVED:
             return None
         return fault or "REFUSED: it changes nothing, so the refusals of others may be as empty"
@@ -218,8 +222,8 @@ class Reading:
         crate, _, rest = function.replace("::", ".").partition(".")
         own = re.escape(f"Rattle.{crate}.proofs.{rest}.")
         said, goals = self.verdict(function)
-        # that a call's premise holds, and a search that ended for its limits, say nothing of the function's promise
-        is_own = any("requires holds at this call" not in goal and "gave up" not in how for goal, _, how in goals)
+        # that a call's premise holds says nothing of the function's promise
+        is_own = any("requires holds at this call" not in goal for goal, _ in goals)
         is_open = re.match(r"no proof: expected answers in [^ ;]+; `search` did not prove `", said) and is_own
         is_wrong = re.match(rf"not proved(?:$|; it stands on `{own})", said) and self.errors(function)
         return bool(is_open or is_wrong) and not self.lacks_names(function)
@@ -230,7 +234,7 @@ class Reading:
         if fault or not edit.function or self.refuses(edit.function):
             return fault
         if self.lacks_names(edit.function):
-            return "BAD EDIT: refused only since a proof file names what it took away"
+            return BY_A_NAME
         said = self.verdict(edit.function)[0] or "there is no such function"
         return f"BAD EDIT: refused, but not in {edit.function}, or for no goal of its own: {said[:200]}"
 
@@ -400,6 +404,8 @@ def main():
         for crate, edit, fault in settled(trials, given.jobs, Beside(given.beside)):
             wrong = edit.fault_of(fault)
             count.add(edit.name, wrong)
+            if fault == BY_A_NAME and not wrong:
+                print(f"{edit.name}: {BY_A_NAME}")
             if not wrong:
                 kept.keep(crate, edit)
     used = resource.getrusage(resource.RUSAGE_CHILDREN)
