@@ -7,6 +7,7 @@ use std::io::Read;
 use std::test::Fail;
 use trials::fakes::{FailsAt, Sink, Source, StopsAt};
 use trials::published::{DATE, NO_BOX, REQUEST, joined, make_office};
+use trials::rows::holds;
 
 // The text a thousand times.
 fn thousand(alloc: Global, text: &[u8]) -> Result<Vec<u8>, Fail> {
@@ -43,21 +44,29 @@ fn serve<R: Read>(alloc: Global, reader: &mut Counted<R>) -> Result<Left, Fail> 
     })
 }
 
-// Whether these messages and more, all of which can be read at once, are served so, and in few calls.
-fn are_served(alloc: Global, messages: &[u8], more: &[u8], owed: &[u8]) -> Result<bool, Fail> {
+// Whether these messages and more, so many bytes of them a read, are served so: each answer in one write. The reads.
+fn reads_of(
+    alloc: Global,
+    messages: &[u8],
+    more: &[u8],
+    at_once: usize,
+    owed: &[u8],
+) -> Result<u64, Fail> {
     let stream = joined(alloc, &[messages, more])?;
     let mut reader = Counted::new(FailsAt {
         source: Source {
             rest: &stream,
-            at_once: stream.len(),
+            at_once,
             fails: false,
         },
         fails_at: 0,
         calls: 0,
     });
     let left = serve(alloc, &mut reader)?;
-    let is_whole = left.end == SessionEnd::Limit && left.text.as_slice() == owed;
-    Ok(is_whole && left.writes == 1000 && reader.inner.calls <= 7)
+    holds(left.end == SessionEnd::Limit, "another end")?;
+    holds(left.text.as_slice() == owed, "another text")?;
+    holds(left.writes == 1000, "other writes")?;
+    Ok(reader.inner.calls)
 }
 
 #[test]
@@ -66,7 +75,9 @@ fn a_thousand_messages_take_few_calls(rt: HostRuntime) -> Result<(), Fail> {
     let owed = thousand(alloc, NO_BOX)?;
     let messages = thousand(alloc, REQUEST)?;
     for more in [b"".as_slice(), REQUEST, b"GET /"] {
-        assert!(rt; are_served(alloc, &messages, more, &owed)?);
+        let few = reads_of(alloc, &messages, more, 1_000_000, &owed)?;
+        let many = reads_of(alloc, &messages, more, 1, &owed)?;
+        assert!(rt; few <= 7 && many >= 300_000);
     }
     Ok(())
 }
