@@ -30,7 +30,7 @@ fn is_signed_by(link: &LinkParts<'_>, scope: &Scope<'_>, secret: &[u8], last: &m
 
 /// Judges a link that was read, under its key's secret and at a moment: refusal 21 where the signature is
 /// not that of the canonical request, 22 before the window and 23 at its end or past it. A signing key that
-/// was not the last one is derived, and then is. It takes no memory.
+/// was not the last one is derived, and then is. What is answered does not depend on memory.
 pub fn judge(
     link: &LinkParts<'_>,
     secret: &[u8],

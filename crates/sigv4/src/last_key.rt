@@ -56,7 +56,8 @@ impl Derived {
     }
 }
 
-/// The signing key that was derived last: requests of one key, day and region derive it once. It takes no memory.
+/// The signing key that was derived last: requests of one key, day and region derive it once. It lies in the value itself,
+/// with copies of what it was derived from, and has no allocator.
 #[derive(Drop)]
 pub struct LastKey {
     last: Option<Derived>,

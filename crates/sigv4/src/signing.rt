@@ -58,7 +58,7 @@ pub fn derive(secret: &[u8], scope: &Scope<'_>) -> [u8; 32]
 }
 
 /// The signature under a signing key of the canonical request of the parts: 64 hexadecimal digits in lower case. The
-/// request and the string to sign are sent to the hashers piece after piece, so it takes no memory.
+/// request and the string to sign are sent to the hashers piece after piece, and are never held whole.
 pub fn sign(key: &[u8; 32], scope: &Scope<'_>, moment: &Moment, parts: &Parts<'_>) -> [u8; 64]
     ensures { (secret : List ℕ) → key.now ≡ signing_key secret (scope_of scope.now)
         → (signed : Signed) → AreOf parts.now signed
