@@ -649,7 +649,7 @@ exec "$@"
 INSTALL = """#!/bin/sh
 for word; do
     shift
-    case "$word" in -o | -g | drop) ;; *) set -- "$@" "$word" ;; esac
+    case "$word" in -o | -g | drop | www-data | adm) ;; *) set -- "$@" "$word" ;; esac
 done
 exec /usr/bin/install "$@"
 """
@@ -758,6 +758,9 @@ class Machine:
         self.count.add("manifest while it serves", difference(self.drop.run("manifest", file), CANNOT_OPEN))
         modes = [oct(stat.S_IMODE(it.stat().st_mode)) for it in file.parent.iterdir()]
         self.count.add("two files, and their rights", difference(modes, [oct(0o600)] * 2))
+        log = self.path("/var/log/nginx/drop.log").stat()
+        found = (oct(stat.S_IMODE(log.st_mode)), log.st_size > 0)
+        self.count.add("the log's rights", difference(found, (oct(0o640), True)))
 
     def restored(self):
         """Behind the restore: the office is that of the backup."""

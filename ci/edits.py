@@ -248,14 +248,20 @@ class Beside:
     """A run of `rt ci` that goes on meanwhile, or none."""
 
     def __init__(self, ended):
-        self.ended, self.begin = ended, time.time()
+        self.ended, self.begin, self.built = ended, time.time(), set()
 
     def is_running(self):
         return self.ended is not None and not self.ended.exists()
 
     def has_built(self, crate):
         """Whether the library is there as a whole, and younger than what it is made of, its own sources and the libraries below; of
-        a run that goes on, written since it began."""
+        a run that goes on, written since it began. What was there once stays so: another run that takes a library of this one for
+        its own makes it look younger."""
+        if crate.name not in self.built and self.is_whole(crate):
+            self.built.add(crate.name)
+        return crate.name in self.built
+
+    def is_whole(self, crate):
         times, sources = times_of(crate), [*map(os.path.getmtime, RT.rtlib.files_of(crate.folder))]
         below = [max(times_of(it), default=math.inf) for it in crate.deps]
         if not times or min(times) < max(sources + below):

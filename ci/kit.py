@@ -38,6 +38,14 @@ def built(crate, ending=""):
     return file
 
 
+def library(folder, source):
+    """This file of C, built in the folder by the toolchain's compiler, as a library that is loaded before others."""
+    made = pathlib.Path(folder) / pathlib.Path(source).with_suffix(".so").name
+    clang = [toolchain() / "toolchain/bin/clang", "-O1", "-fPIC", "-Wall", "-Wextra", "-Werror", "-shared", "-nostdlib"]
+    subprocess.run([*clang, "-o", made, source], cwd=ROOT, check=True, stdout=subprocess.DEVNULL)
+    return made
+
+
 @dataclasses.dataclass(frozen=True)
 class Run:
     """What a program wrote, and its status; a signal's number is below 0."""

@@ -17,7 +17,6 @@ import itertools
 import os
 import pathlib
 import shutil
-import subprocess
 import tempfile
 
 import kit
@@ -36,14 +35,6 @@ HELPED = ["init", "desk", "link", "links", "manifest", "compare", "replay", "ser
 # What a program says whose table cannot be read; nothing was answered then.
 UNREAD = kit.Run(1, b"", b"Error: Kind(OutOfMemory)\n")
 LEAST_REFUSALS = 2000  # of all sessions
-
-
-def heap_in(folder):
-    """The heap that refuses, as a library that is loaded before others."""
-    heap = folder / "heap.so"
-    clang = [kit.toolchain() / "toolchain/bin/clang", "-O1", "-fPIC", "-Wall", "-Wextra", "-Werror", "-shared", "-nostdlib"]
-    subprocess.run([*clang, "-o", heap, "ci/heap.c"], cwd=kit.ROOT, check=True, stdout=subprocess.DEVNULL)
-    return heap
 
 
 def refusing(number, words, given=b""):
@@ -468,6 +459,6 @@ def test_all(folder, count):
 if __name__ == "__main__":
     COUNT = kit.Count()
     with tempfile.TemporaryDirectory(prefix="drop-memory-") as ROOM:
-        HEAP = heap_in(pathlib.Path(ROOM))
+        HEAP = kit.library(pathlib.Path(ROOM), "ci/heap.c")
         test_all(pathlib.Path(ROOM), COUNT)
     COUNT.end()

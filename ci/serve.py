@@ -7,6 +7,7 @@ The office is made by `drop init` and its boxes by Python's `sqlite3` (ci/tables
 
 import contextlib
 import hashlib
+import os
 import pathlib
 import signal
 import socket
@@ -53,10 +54,11 @@ class Server:
         self.address = f"127.0.0.1:{free_port()}"
         self.words = [drop.program, "serve", file, "--listen", self.address, "--connections", str(connections)]
         self.words += ["--patience", str(patience)] if patience is not None else []
+        self.own = {}  # what else the program is started with
 
     def __enter__(self):
         pipes = {"stdin": subprocess.DEVNULL, "stdout": subprocess.PIPE, "stderr": subprocess.PIPE}
-        self.process = subprocess.Popen(self.words, cwd=self.drop.folder, **pipes)
+        self.process = subprocess.Popen(self.words, cwd=self.drop.folder, **pipes, **self.own)
         self.line = self.process.stdout.readline()
         return self
 
@@ -362,8 +364,26 @@ def test_closed(drop, count):
     count.add("the receipt", difference(tables.rows(file, "SELECT number, box, name, length FROM receipts"), [(1, "in", "a", 3)]))
 
 
+def test_settings(drop, count):
+    """Each connection's socket is set to send at once (TCP_NODELAY), by what ci/sockets.c hears."""
+    library = kit.library(drop.folder, "ci/sockets.c")
+    file = open_office(drop, "settings")
+    server = Server(drop, file, 2)
+    put = server.message("PUT", "in/a", b"abc")
+    heard, told = os.pipe()
+    server.own = {"env": os.environ | {"LD_PRELOAD": str(library), "SETTINGS_TOLD_TO": str(told)}, "pass_fds": [told]}
+    with server:
+        os.close(told)
+        for _ in range(2):
+            count.add("PUT", difference(server.ask(put), receipt(1, b"abc")))
+        count.add("the end", difference(server.end(), server.owed_end(False)))
+    with os.fdopen(heard) as settings:
+        set_so = [line for line in settings if line.split() == [str(socket.IPPROTO_TCP), str(socket.TCP_NODELAY), "1"]]
+    count.add("sockets that send at once", difference(len(set_so), 2))
+
+
 TESTS = [test_words, test_faults, test_curl, test_boto3, test_bytes, test_nonsense, test_broken, test_patience,
-         test_killed, test_closed]
+         test_killed, test_closed, test_settings]
 
 
 if __name__ == "__main__":

@@ -19,7 +19,7 @@ const NO_HEAD: &[u8] =
 const NO_CODINGS: &[u8] =
     b"HTTP/1.1 501 Not Implemented\r\nContent-Type: text/plain\r\nContent-Length: 49\r\nConnection: close\r\n\r\nNotImplemented 3 transfer codings are not served\n";
 
-const NOT_SIGNED: &[u8] =
+pub(crate) const NOT_SIGNED: &[u8] =
     b"HTTP/1.1 403 Forbidden\r\nContent-Type: text/plain\r\nContent-Length: 41\r\n\r\nAccessDenied 9 the request is not signed\n";
 
 const TOO_LARGE: &[u8] =

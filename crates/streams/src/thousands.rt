@@ -1,13 +1,18 @@
 //! Streams of a thousand messages and more, over an office without boxes: how a session ends, and how few calls it makes.
+use crate::cuts::NOT_SIGNED;
 use office::{Counted, FixedClock, SessionEnd};
 use sigv4::Moment;
 use std::alloc::Global;
 use std::io;
 use std::io::Read;
+use std::ops::Range;
 use std::test::Fail;
-use trials::fakes::{FailsAt, Sink, Source, StopsAt};
+use trials::fakes::{Cut, FailsAt, Sink, Source, StopsAt};
 use trials::published::{DATE, NO_BOX, REQUEST, joined, make_office};
 use trials::rows::holds;
+
+// The shortest request.
+const SHORTEST: &[u8] = b"GET / HTTP/1.1\r\n\r\n";
 
 // The text a thousand times.
 fn thousand(alloc: Global, text: &[u8]) -> Result<Vec<u8>, Fail> {
@@ -78,6 +83,59 @@ fn a_thousand_messages_take_few_calls(rt: HostRuntime) -> Result<(), Fail> {
         let few = reads_of(alloc, &messages, more, 1_000_000, &owed)?;
         let many = reads_of(alloc, &messages, more, 1, &owed)?;
         assert!(rt; few <= 7 && many >= 300_000);
+    }
+    Ok(())
+}
+
+// Whether a stream of more than a thousand messages is served so, each answer in one write, where it is cut once at each
+// of these places.
+fn is_cut_so(
+    alloc: Global,
+    stream: &[u8],
+    places: Range<usize>,
+    owed: &[u8],
+) -> Result<bool, Fail> {
+    let mut is_so = true;
+    for place in places {
+        let (first, rest) = stream.split_at_checked(place).ok_or("no such place")?;
+        let left = serve(alloc, &mut Counted::new(Cut { first, rest }))?;
+        is_so = is_so
+            && left.end == SessionEnd::Limit
+            && left.writes == 1000
+            && left.text.as_slice() == owed;
+    }
+    Ok(is_so)
+}
+
+// Whether a thousand and one of the shortest requests are served so, cut once at each of these places.
+fn are_shortest_cut_so(alloc: Global, places: Range<usize>) -> Result<bool, Fail> {
+    let owed = thousand(alloc, NOT_SIGNED)?;
+    let stream = joined(alloc, &[&thousand(alloc, SHORTEST)?, SHORTEST])?;
+    is_cut_so(alloc, &stream, places, &owed)
+}
+
+#[test]
+fn the_shortest_are_cut_at_each_place_up_to_the_500th(rt: HostRuntime) -> Result<(), Fail> {
+    assert!(rt; are_shortest_cut_so(rt.alloc(), 0..9000)?);
+    Ok(())
+}
+
+#[test]
+fn the_shortest_are_cut_at_each_place_from_the_501st_on(rt: HostRuntime) -> Result<(), Fail> {
+    assert!(rt; are_shortest_cut_so(rt.alloc(), 9000..18_018)?);
+    Ok(())
+}
+
+// The buffer of a feed has room for 222 of these messages and the beginning of the next one.
+#[test]
+fn a_thousand_are_cut_at_each_place_of_three_of_them(rt: HostRuntime) -> Result<(), Fail> {
+    let alloc = rt.alloc();
+    let owed = thousand(alloc, NO_BOX)?;
+    let stream = joined(alloc, &[&thousand(alloc, REQUEST)?, b"GET /"])?;
+    for message in [0_usize, 222, 999] {
+        let start = message.saturating_mul(REQUEST.len());
+        let end = start.saturating_add(REQUEST.len());
+        assert!(rt; is_cut_so(alloc, &stream, start..end, &owed)?);
     }
     Ok(())
 }
