@@ -55,9 +55,10 @@ def answers(place):
         # what follows the thousand is not read by all means
         with contextlib.suppress(BrokenPipeError):
             it.write(STREAM[place:])
+    # it is not woken for each answer, since its pipe has room for all
+    status = os.waitstatus_to_exitcode(os.waitpid(process, 0)[1])
     with open(read, "rb") as it:
-        said = it.read()
-    return os.waitstatus_to_exitcode(os.waitpid(process, 0)[1]), said
+        return status, it.read()
 
 
 def fault_of(place):
