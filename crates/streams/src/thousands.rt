@@ -11,8 +11,8 @@ use trials::fakes::{Cut, FailsAt, Sink, Source, StopsAt};
 use trials::published::{DATE, NO_BOX, REQUEST, joined, make_office};
 use trials::rows::holds;
 
-// The shortest request.
-const SHORTEST: &[u8] = b"GET / HTTP/1.1\r\n\r\n";
+// A short request, of eighteen bytes.
+const SHORT: &[u8] = b"GET / HTTP/1.1\r\n\r\n";
 
 // The text a thousand times.
 fn thousand(alloc: Global, text: &[u8]) -> Result<Vec<u8>, Fail> {
@@ -107,22 +107,22 @@ fn is_cut_so(
     Ok(is_so)
 }
 
-// Whether a thousand and one of the shortest requests are served so, cut once at each of these places.
-fn are_shortest_cut_so(alloc: Global, places: Range<usize>) -> Result<bool, Fail> {
+// Whether a thousand and one of the short requests are served so, cut once at each of these places.
+fn are_short_cut_so(alloc: Global, places: Range<usize>) -> Result<bool, Fail> {
     let owed = thousand(alloc, NOT_SIGNED)?;
-    let stream = joined(alloc, &[&thousand(alloc, SHORTEST)?, SHORTEST])?;
+    let stream = joined(alloc, &[&thousand(alloc, SHORT)?, SHORT])?;
     is_cut_so(alloc, &stream, places, &owed)
 }
 
 #[test]
-fn the_shortest_are_cut_at_each_place_up_to_the_500th(rt: HostRuntime) -> Result<(), Fail> {
-    assert!(rt; are_shortest_cut_so(rt.alloc(), 0..9000)?);
+fn the_short_are_cut_at_each_place_up_to_the_500th(rt: HostRuntime) -> Result<(), Fail> {
+    assert!(rt; are_short_cut_so(rt.alloc(), 0..9000)?);
     Ok(())
 }
 
 #[test]
-fn the_shortest_are_cut_at_each_place_from_the_501st_on(rt: HostRuntime) -> Result<(), Fail> {
-    assert!(rt; are_shortest_cut_so(rt.alloc(), 9000..18_018)?);
+fn the_short_are_cut_at_each_place_from_the_501st_on(rt: HostRuntime) -> Result<(), Fail> {
+    assert!(rt; are_short_cut_so(rt.alloc(), 9000..18_018)?);
     Ok(())
 }
 
