@@ -155,15 +155,14 @@ def lines_of_code():
 
 
 def test_faults(_, count):
-    """Each fault line stands in both tables, in one order: what it means; and its cause and what to do. They are those that
-    the code can tell, with a word in capitals, or one in `<>`, for what differs."""
+    """Each fault line stands in the table once, with what it means, its cause and what to do. They are those that the code can
+    tell, with a word in capitals, or one in `<>`, for what differs."""
     form = re.compile(r"^\| `(drop: [^`]+)` \| (.+) \|$", re.MULTILINE)
     rows = [(line, rest.split(" | ")) for line, rest in form.findall(PAGE.read_text())]
-    owed = [line for line, cells in rows if len(cells) == 1]
-    found = [line for line, cells in rows if len(cells) > 1]
-    count.add("fault lines", difference(found, owed) if owed else "there are none")
+    owed = [line for line, _ in rows]
+    count.add("fault lines", None if owed and len(owed) == len(set(owed)) else f"{owed}")
     for line, cells in rows:
-        count.add(line, None if len(cells) <= 2 else "has more than a cause and a remedy")
+        count.add(line, difference(len(cells), 3))
     page = {re.sub(r"\b[A-Z]{2,}\b|<\w+>", "{0}", line.removeprefix("drop: ")) for line in owed}
     code = lines_of_code()
     count.add("fault lines of the code", f"there are {len(code)} alone" if len(code) < 10 else None)

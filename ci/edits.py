@@ -9,12 +9,13 @@ the edits and runs the checks.
 A check looks at the functions that its edits name, at those that they call, and at the lemmas of both (`--only`), and at
 nothing else of the crate. Edits of the bodies of different functions share a check, since callers see contracts alone. It
 goes on behind what it refuses (`--allow-holes`), to the goals of callers too. There an edit counts as refused only where
-its own function is, for its own goals. What is not settled so is tried alone, and so are edits of constants, types and
-specs. One that names no function is tried over the whole crate, by the rule of `rt`. What the first check of a crate proves
-is kept in a folder: each later one starts from a copy of it.
+its own function is, for its own goals or for a name. What is not settled so is tried alone, and so are edits of constants,
+types and specs. One that names no function is tried over the whole crate, by the rule of `rt`. What the first check of a
+crate proves is kept in a folder: each later one starts from a copy of it.
 
 Where a proof file names what an edit took away, or a lemma on which that file stands, the refusal shows less: it may be of the
-name alone. Such an edit counts, and is told.
+name alone. Such an edit counts, and is told. In a check that edits share it counts where the function's own proof file names
+what is gone; a lemma that was not admitted may be another edit's doing, so such an edit is tried alone.
 
 The harmless edits `ci/controls/NAME/*.edit` are tried among the others, and must be found to be proved still. Each edit
 that is not refused, and each harmless one that is, is named. The last line is `N passed, M failed`.
@@ -55,8 +56,9 @@ HEAD = re.compile(r"^( *)(?:pub(?:\([^)]*\))? )?(?:final )?fn (\w+)", re.M)
 VERDICT = re.compile(r"^fn (\S+): (.*)$")
 # A goal that a check left: what it says, and its name.
 GOAL = re.compile(r"note: \S+: (.*) \(`(\S+)`\)")
-# A proof file that names what an edit took away, by the words of `rt`.
-NAMES = re.compile(r"has no field|is not in scope|has no `|was not admitted")
+# A proof file that names what an edit took away, by the words of `rt`; or also a lemma that stood on such a file.
+GONE = re.compile(r"has no field|is not in scope|has no `")
+NAMES = re.compile(rf"{GONE.pattern}|was not admitted")
 STILL_PROVED = "NOT REFUSED: the crate is still proved with this edit"
 BY_A_NAME = "refused, since a proof file names what it took away"
 
@@ -213,9 +215,9 @@ class Reading:
         folder = "/".join(["proofs", *function.split("::")[1:]])
         return re.findall(rf"^(?:\./)?{re.escape(folder)}/\w+\.antt:\d+:\d+: error: .*$", self.said, re.M)
 
-    def lacks_names(self, function):
+    def lacks_names(self, function, names=NAMES):
         """Whether a proof file of the function names what is no longer there."""
-        return any(NAMES.search(it) for it in self.errors(function))
+        return any(names.search(it) for it in self.errors(function))
 
     def refuses(self, function):
         """Whether the prover refuses the function for its own goals: the search leaves one, or its answer is no proof."""
@@ -227,6 +229,14 @@ class Reading:
         is_open = re.match(r"no proof: expected answers in [^ ;]+; `search` did not prove `", said) and is_own
         is_wrong = re.match(rf"not proved(?:$|; it stands on `{own})", said) and self.errors(function)
         return bool(is_open or is_wrong) and not self.lacks_names(function)
+
+    def settles(self, edit):
+        """Whether this check of several edits refuses this one, for goals of its own function or for a name in its proof."""
+        return not self.fault() and (self.refuses(edit.function) or self.lacks_names(edit.function, GONE))
+
+    def fault_beside(self, edit):
+        """What is to be told of an edit that this check of several settles."""
+        return None if self.refuses(edit.function) else BY_A_NAME
 
     def fault_alone(self, edit):
         """Why this check of one edit doesn't count as its refusal."""
@@ -327,9 +337,9 @@ class Trial:
         self.checks, self.seconds, self.is_warm = self.checks + 1, self.seconds + seconds, True
         if len(group) == 1:
             return [(group[0], reading.fault_alone(group[0]))]
-        refused = [] if reading.fault() else [it for it in group if reading.refuses(it.function)]
+        refused = [it for it in group if reading.settles(it)]
         self.alone += [it for it in group if it not in refused]
-        return [(it, None) for it in refused]
+        return [(it, reading.fault_beside(it)) for it in refused]
 
 
 def settled(trials, jobs, beside):
@@ -341,7 +351,7 @@ def settled(trials, jobs, beside):
             for ended in done:
                 trial, group = running.pop(ended)
                 found = trial.heard(group, *ended.result())
-                refused = sum(fault is None for _, fault in found)
+                refused = sum(fault in (None, BY_A_NAME) for _, fault in found)
                 print(f"{trial.crate.name}: {refused} of {len(group)} edits refused, {ended.result()[1]:.0f} s", flush=True)
                 yield from ((trial.crate, *it) for it in found)
             if not running:

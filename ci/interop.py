@@ -12,10 +12,11 @@ import tempfile
 import urllib.parse
 
 import boto3
-import botocore.config
+import botocore
 
 import kit
 import orders
+import s3
 from expected import answer
 from samples import HOST, KEY_ID, NAMES, REGIONS, SECRET, random_text, stop_the_clock
 
@@ -26,19 +27,11 @@ WRONG_SIGNATURE = 21
 
 
 def client(region):
-    settings = {"signature_version": "s3v4", "s3": {"addressing_style": "path"}}
+    link_to = (f"http://{HOST}", KEY_ID, SECRET, region)
     try:
-        config = botocore.config.Config(request_checksum_calculation="when_required", **settings)
-    except TypeError:
-        config = botocore.config.Config(**settings)
-    return boto3.client(
-        "s3",
-        region_name=region,
-        endpoint_url=f"http://{HOST}",
-        aws_access_key_id=KEY_ID,
-        aws_secret_access_key=SECRET,
-        config=config,
-    )
+        return s3.client(*link_to, request_checksum_calculation="when_required")
+    except TypeError:  # an older botocore, which computes none by itself
+        return s3.client(*link_to)
 
 
 def target_of(url):

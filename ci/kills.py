@@ -22,7 +22,6 @@ import signal
 import threading
 import time
 
-import kit
 import tables
 from expected import SECRET, answer, quoted
 from listed import read, receipts

@@ -12,7 +12,6 @@ import itertools
 import os
 import pathlib
 import shutil
-import sqlite3
 import stat
 import subprocess
 import tempfile
@@ -31,8 +30,7 @@ EXISTS = fault("the office file exists already")
 CANNOT_READ_SECRET = fault("cannot read the secret")
 UNKNOWN = fault("the key is unknown")
 FAILED = fault("a connection failed")
-REFUSED = fault("the store refused")
-FILE_FAULTS = [CANNOT_OPEN, DAMAGED, VERSION, REFUSED]
+FILE_FAULTS = [CANNOT_OPEN, DAMAGED, VERSION]
 OPENS, CLOSES = 1356998400, 1370044800  # 20130101T000000Z and 20130601T000000Z
 LINK = {"key": ID, "host": "files.example", "region": "us-east-1", "start": MOMENT, "expires": "604800"}
 
@@ -659,7 +657,7 @@ def test_broken(drop, count):
         if before == tables.dump(whole):
             return f"{name}: nothing was broken"
         # Tables are known by the number of their columns: under another name a column is one that no query finds.
-        owed = [DAMAGED] + [CANNOT_OPEN] * own + [REFUSED] * ("RENAME COLUMN" in name)
+        owed = [DAMAGED] + [CANNOT_OPEN] * (own or "RENAME COLUMN" in name)
         wrong = [difference(found, *owed) for found in refusals(drop, file)]
         if tables.dump(file) != before:
             wrong.append("the tables were changed")

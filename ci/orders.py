@@ -89,14 +89,16 @@ def random_headers(source):
     return dict(source.sample(list(headers.items()), len(headers)))
 
 
-def orders(source):
-    """The orders."""
-    order = functools.partial(BotocoreOrder, host=HOST, key=KEYS[0])
+ORDER = functools.partial(BotocoreOrder, host=HOST, key=KEYS[0])
+
+
+def orders_of_names(source):
+    """Names of all kinds, each by itself, with parameters and with a header."""
     number = 0
     for name in NAMES + [random_text(source) for _ in range(20)]:
         for params, headers in [({}, {}), (SHOWN, {}), ({}, {"x-amz-meta-note": f"number {number}"})]:
             number += 1
-            yield order(
+            yield ORDER(
                 METHODS[number % 4],
                 f"/in/{name}",
                 params,
@@ -104,30 +106,39 @@ def orders(source):
                 region=REGIONS[number % 3],
                 expires=source.choice([1, 60, 86400, 604800]),
             )
+
+
+def orders_at_edges():
+    """Paths, parameters, headers, hosts, regions, keys and starts that are least, longest or odd."""
     for method in METHODS:
-        yield order(method, "/")
-        yield order(method, "//", {"desk": "key revoke k2"}, expires=604800)
-        yield order(method, "/in/a/../b c", SORTED)
-        yield order(method, bytes(range(0x2F, 0x100)) + bytes(range(0x2F)), ENCODED)
-        yield order(method, "/in/a", headers=RANGE)
-        yield order(method, "/in/b", ENCODED, LETTERED)
-    for host in HOSTS:
-        yield order("GET", "/in/host", SHOWN, RANGE, host=host)
-    for region in ["a", "-" * 32, "0"]:
-        yield order("GET", "/in/region", SHOWN, RANGE, region=region)
-    for key in KEYS:
-        yield order("PUT", "/in/key", SHOWN, RANGE, key=key)
-    for start in MOMENTS:
-        yield order("PUT", "/in/start", SHOWN, RANGE, start=start)
-    for _ in range(100):
-        yield order(
-            source.choice(METHODS),
-            b"/" + random_bytes(source) + random_text(source).encode(),
-            random_params(source),
-            random_headers(source),
-            host=source.choice(HOSTS),
-            region=source.choice(REGIONS),
-            key=source.choice(KEYS),
-            start=source.choice(MOMENTS),
-            expires=source.randint(1, 604800),
-        )
+        yield ORDER(method, "/")
+        yield ORDER(method, "//", {"desk": "key revoke k2"}, expires=604800)
+        yield ORDER(method, "/in/a/../b c", SORTED)
+        yield ORDER(method, bytes(range(0x2F, 0x100)) + bytes(range(0x2F)), ENCODED)
+        yield ORDER(method, "/in/a", headers=RANGE)
+        yield ORDER(method, "/in/b", ENCODED, LETTERED)
+    yield from (ORDER("GET", "/in/host", SHOWN, RANGE, host=it) for it in HOSTS)
+    yield from (ORDER("GET", "/in/region", SHOWN, RANGE, region=it) for it in ["a", "-" * 32, "0"])
+    yield from (ORDER("PUT", "/in/key", SHOWN, RANGE, key=it) for it in KEYS)
+    yield from (ORDER("PUT", "/in/start", SHOWN, RANGE, start=it) for it in MOMENTS)
+
+
+def random_order(source):
+    return ORDER(
+        source.choice(METHODS),
+        b"/" + random_bytes(source) + random_text(source).encode(),
+        random_params(source),
+        random_headers(source),
+        host=source.choice(HOSTS),
+        region=source.choice(REGIONS),
+        key=source.choice(KEYS),
+        start=source.choice(MOMENTS),
+        expires=source.randint(1, 604800),
+    )
+
+
+def orders(source):
+    """The orders."""
+    yield from orders_of_names(source)
+    yield from orders_at_edges()
+    yield from (random_order(source) for _ in range(100))

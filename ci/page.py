@@ -7,7 +7,6 @@ languages. `--shots FOLDER` keeps pictures. The last line is `N passed, M failed
 """
 
 import argparse
-import hashlib
 import os
 import pathlib
 import re
@@ -22,116 +21,10 @@ import tables
 from browser import Browser, Element, until
 from front import PAGE, Front, Office
 from office import Drop
+from shown import RESULT, Case, digest, is_not, lacks, of, receipt_facts
 
 MEBIBYTE = 1 << 20
 TAB, ENTER, SPACE = "\ue004", "\ue007", " "
-
-
-# ---- what stands on the page
-
-
-RESULT = """
-const result = document.getElementById("result");
-if (result.hidden) return null;
-const all = {kind: result.dataset.kind, title: document.getElementById("result_title").textContent, text: result.innerText};
-const facts = Array.from(result.querySelectorAll("[data-fact]"));
-all.facts = Object.fromEntries(facts.map((it) => [it.dataset.fact, it.textContent]));
-for (const id of ["what", "remedy", "lead", "checked", "save", "again"]) {
-  const it = document.getElementById(id);
-  all[id] = it && it.textContent;
-}
-all.focus = document.activeElement.id;
-all.live = document.getElementById("live").textContent;
-return all;
-"""
-
-
-class Case:
-    """A test's office, front and browser, the links that it needs, and files to be chosen."""
-
-    def __init__(self, drop, office, front, browser, links, shots):
-        self.drop, self.office, self.front, self.browser = drop, office, front, browser
-        self.links, self.shots = links, shots
-
-    def file(self, name, data):
-        file = self.drop.path("files") / name
-        file.parent.mkdir(exist_ok=True)
-        file.write_bytes(data)
-        return str(file)
-
-    def open(self, page, link, host=None):
-        self.front.mode = "through"
-        self.browser.open(host or self.front.host, page, self.links.get(link, link))
-
-    def choose(self, name, data):
-        self.browser.find("#file").type(self.file(name, data))
-
-    def result(self, *kinds):
-        """The result that is shown, once there is one of these kinds."""
-        kinds = kinds or ("receipt", "fetched", "refused", "lost", "stopped", "away", "strange", "unreadable")
-        def shown():
-            found = self.browser.js(RESULT)
-            return found if found and found["kind"] in kinds else None
-        return until(f"a result {kinds}", shown)
-
-    def click(self, selector):
-        self.browser.find(selector).click()
-
-    def speak(self, language):
-        """The switch, by a script: quicker than `click`."""
-        self.browser.js("document.getElementById(arguments[0]).click()", language)
-
-    def put(self, link, name, data, host=None):
-        self.open("put", link, host)
-        self.choose(name, data)
-        self.click("#go")
-        return self.result()
-
-    def fetch(self, link, host=None):
-        self.open("get", link, host)
-        self.click("#go")
-        return self.result()
-
-    def shot(self, name):
-        """Pictures of what is shown: in both languages, narrow and wide, light and dark."""
-        if not self.shots:
-            return
-        for width in [320, 1280]:
-            self.browser.width(width)
-            for scheme in ["light", "dark"]:
-                self.browser.media(prefers_color_scheme=scheme)
-                for language in ["en", "de"]:
-                    self.speak(language)
-                    self.browser.shot(self.shots / f"{name}-{language}-{width}-{scheme}.png")
-        self.click("#en")
-        self.browser.media()
-        self.browser.width(1280)
-
-
-def digest(data):
-    return hashlib.sha256(data).hexdigest()
-
-
-def is_not(found, owed):
-    return None if found == owed else f"{found!r} and not {owed!r}"
-
-
-def lacks(text, *words):
-    """Those of the words that a text does not have."""
-    missing = [word for word in words if word not in (text or "")]
-    return f"{missing} not in {text!r}" if missing else None
-
-
-def receipt_facts(number, data):
-    digests = {"office_digest": digest(data), "own_digest": digest(data)}
-    return {"number": str(number), "length": f"{len(data):,} bytes"} | digests
-
-
-def of(found, owed):
-    """The facts of a result that are owed, among others."""
-    return {name: found["facts"].get(name) for name in owed}
-
-
 DATA = bytes(range(256)) * 300
 BOXES = [tables.Box("in", max_files=1000), tables.Box("closed", closes=1), tables.Box("full", max_files=0),
          tables.Box("small", quota=10), tables.Box("texts", rule_kind=1, rule_text=".txt")]
@@ -445,9 +338,34 @@ def test_links(case, count):
     count.add("a link that is pasted", is_not(case.result()["facts"]["office_digest"], digest(DATA)))
     found = case.fetch(target_of(case.links["get a"]))
     count.add("path and query alone", is_not(found["facts"].get("office_digest"), digest(DATA)))
+    case.open("get", "")
+    case.browser.js(paste, f"http://{case.front.host}/get.html#{case.links['get a']}")
+    case.browser.press(ENTER)
+    case.click("#go")
+    count.add("an address of the page that is pasted", is_not(case.result()["facts"]["office_digest"], digest(DATA)))
     case.open("get", "get elsewhere")
     note = case.browser.js("return document.getElementById('link_note').innerText")
     count.add("a link for another host", lacks(note, "This link is for elsewhere.example", case.front.host))
+
+
+def test_chosen_again(case, count):
+    """A file that was changed is read once more when it is chosen once more; one that can't be read is not kept."""
+    case.open("put", "put again")
+    for data in [b"first", b"second"]:
+        case.browser.js("document.getElementById('file').dispatchEvent(new Event('click'))")
+        case.choose("again", data)
+        facts = f"return document.getElementById('facts').innerText.includes('{digest(data)}')"
+        case.browser.wait_for(facts)
+    case.click("#go")
+    count.add("what was chosen last", is_not(case.result()["facts"]["office_digest"], digest(b"second")))
+    case.browser.js("Blob.prototype.arrayBuffer = () => Promise.reject(new DOMException('gone', 'NotFoundError'))")
+    case.browser.js("document.getElementById('file').dispatchEvent(new Event('click'))")
+    case.choose("again", b"third")
+    found = case.result("unreadable")
+    count.add("a file that is gone", lacks(found["what"], "Choose the file again") or is_not(found["again"], None))
+    case.click("#go")
+    said = case.browser.js("return document.getElementById('live').textContent")
+    count.add("it is not sent", lacks(said, "Choose a file first."))
 
 
 def tabbed(case, times):
@@ -712,8 +630,8 @@ def test_own_origin(case, count):
 
 
 TESTS = [test_put, test_receipt_file, test_refusals, test_table, test_too_large, test_faults, test_faults_of_get,
-         test_changed, test_get, test_links, test_keyboard, test_keyboard_of_get, test_progress, test_dropped,
-         test_insecure, test_reader, test_hints, test_looks, test_own_origin]
+         test_changed, test_get, test_links, test_chosen_again, test_keyboard, test_keyboard_of_get, test_progress,
+         test_dropped, test_insecure, test_reader, test_hints, test_looks, test_own_origin]
 
 
 def write_links(drop, file, front):
@@ -727,7 +645,7 @@ def write_links(drop, file, front):
         return ran.out.decode().strip()
 
     plain = f"files.example:{front.port}"
-    names = ["empty", "large", "new", "faults", "changed", "keys", "progress", "dragged"]
+    names = ["empty", "large", "new", "faults", "changed", "keys", "progress", "dragged", "again"]
     links = {f"put {name}": link("PUT", f"in/{name}") for name in names}
     links |= {f"get {name}": link("GET", f"in/{name}") for name in ["faults", "absent", "keys"]}
     for method in ["put", "get"]:

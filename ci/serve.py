@@ -17,10 +17,8 @@ import urllib.error
 import urllib.parse
 import urllib.request
 
-import boto3
-import botocore.config
-
 import kit
+import s3
 import tables
 from expected import SECRET, answer
 from front import BREAK, free_port
@@ -190,9 +188,7 @@ def test_curl(drop, count):
 
 
 def boto_client(server):
-    settings = {"signature_version": "s3v4", "s3": {"addressing_style": "path"}}
-    return boto3.client("s3", region_name="us-east-1", endpoint_url=f"http://{server.address}", aws_access_key_id=ID,
-                        aws_secret_access_key=SECRET.decode(), config=botocore.config.Config(**settings))
+    return s3.client(f"http://{server.address}", ID, SECRET.decode())
 
 
 def asked(url, method, data=None):

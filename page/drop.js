@@ -76,11 +76,12 @@
   }
 
   /**
-   * The link behind the #, a whole URL or its path and query. It is of use only where the browser sends path and query as
-   * they stand: it takes parts out of a path that are `.` or `..`, and respells some characters.
+   * The link behind the #, a whole URL or its path and query; or the address of such a page, as the office hands it out. It
+   * is of use only where the browser sends path and query as they stand: it takes parts out of a path that are `.` or `..`,
+   * and respells some characters.
    */
   function readLink() {
-    const raw = location.hash.slice(1);
+    const raw = location.hash.slice(1).replace(/^https?:\/\/[^/?#]+\/(put|get)\.html#/i, "");
     if (!raw) return { fault: "no_link" };
     const parts = /^(?:https?:\/\/([^/?#]+))?(\/[^#]*)$/i.exec(raw);
     if (!parts) return { fault: "form" };
@@ -128,7 +129,9 @@
       file.digest = await digestOf(bytes);
       file.bytes = bytes;
     } catch {
-      if (state.file === file) finish({ kind: "unreadable" });
+      if (state.file !== file) return;
+      state.file = null;
+      finish({ kind: "unreadable" });
       return;
     }
     if (state.file !== file) return;
@@ -218,8 +221,10 @@
     const number = asked.getResponseHeader("X-Drop-Receipt");
     const digest = asked.getResponseHeader("X-Drop-Sha256");
     if (status === 200 && !PUT && number && digest) {
+      const { link } = state;
       const length = Number(asked.getResponseHeader("Content-Length"));
-      return fetched({ number, digest, length, bytes, moment, own: await digestOf(bytes) });
+      const own = await digestOf(bytes);
+      return state.link === link ? fetched({ number, digest, length, bytes, moment, own }) : undefined;
     }
     if (status === 413) return finish({ kind: "refused", number: 5 });
     return finish({ kind: [502, 503, 504].includes(status) ? "away" : "strange", status });
@@ -469,6 +474,8 @@
     $("pasted").value = "";
   });
   if (PUT) {
+    // emptied first, so that a file that is chosen once more is read once more
+    $("file").addEventListener("click", () => { $("file").value = ""; });
     $("file").addEventListener("change", () => takeFile($("file").files));
     drops();
   }

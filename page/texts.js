@@ -104,8 +104,8 @@ const TEXTS = {
     remedy_again: "Try again.",
     remedy_page: "This points to something between this page and the office, not to you. Try again; if it stays " +
       "so, tell the office the number.",
-    remedy_copy: "Copy the whole link once more as you got it, without a line break or a sign at its end, and open " +
-      "it again. If it stays so, ask the office for a new link.",
+    remedy_copy: "Copy the whole link once more as you got it, without a line break or punctuation at its end, and " +
+      "open it again. If it stays so, ask the office for a new link.",
     remedy_match_put: "Copy the whole link once more as you got it, and open it again. If it is a link for " +
       "fetching a file, open it with get.html. If it stays so, ask the office for a new link for sending.",
     remedy_match_get: "Copy the whole link once more as you got it, and open it again. If it is a link for sending " +
@@ -273,7 +273,7 @@ const TEXTS = {
     remedy_page: "Das deutet auf etwas zwischen dieser Seite und der Stelle hin, nicht auf Sie. Versuchen Sie es " +
       "erneut; bleibt es so, nennen Sie der Stelle die Nummer.",
     remedy_copy: "Kopieren Sie noch einmal den ganzen Link, wie Sie ihn bekommen haben, ohne Zeilenumbruch und " +
-      "ohne Zeichen am Ende, und öffnen Sie ihn erneut. Bleibt es so, bitten Sie die Stelle um einen neuen Link.",
+      "ohne Satzzeichen am Ende, und öffnen Sie ihn erneut. Bleibt es so, bitten Sie die Stelle um einen neuen Link.",
     remedy_match_put: "Kopieren Sie noch einmal den ganzen Link, wie Sie ihn bekommen haben, und öffnen Sie ihn " +
       "erneut. Ist es ein Link zum Abholen, öffnen Sie ihn mit get.html. Bleibt es so, bitten Sie die Stelle um " +
       "einen neuen Link zum Senden.",
