@@ -6,27 +6,37 @@ use crate::rows::{BoxRow, Role};
 pub enum Command<'a> {
     /// Adds a key, unrevoked.
     AddKey {
+        /// 1 to 64 letters, digits, `-` or `_`.
         id: &'a [u8],
+        /// What it may do.
         role: Role,
+        /// The bytes by which it signs, 1 to 128 of 0x21 to 0x7E.
         secret: &'a [u8],
     },
     /// Marks the key of this id revoked.
     RevokeKey {
+        /// The key's id.
         id: &'a [u8],
     },
     /// Adds a box.
     AddBox {
+        /// The box's name.
         name: &'a [u8],
+        /// What the box is set to.
         row: &'a BoxRow,
     },
     /// Sets the second at which a box closes for good.
     CloseBox {
+        /// The box's name.
         name: &'a [u8],
+        /// In seconds since 1970-01-01T00:00:00Z.
         moment: u64,
     },
     /// Takes out a file. Its receipt stays.
     DropFile {
+        /// The box's name.
         in_box: &'a [u8],
+        /// The file's name in the box.
         name: &'a [u8],
     },
 }

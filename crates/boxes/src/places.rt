@@ -24,7 +24,7 @@ pub(crate) fn is_name(name: &[u8]) -> bool
     name.iter().all(|byte| *byte >= 0x20 && *byte != 0x7F)
 }
 
-// The box, where the box and the name hold the rules 27 to 29; else the least that fails. Takes no memory.
+/// The box, where the box and the name hold the rules 27 to 29; else the least that fails. Takes no memory.
 pub fn box_for<'a>(in_box: &'a Option<BoxRow>, name: &[u8]) -> Result<&'a BoxRow, Refusal>
     ensures { (s : State) (place : Place)
         → option_map settings_of in_box.entry.now ≡ get s.boxes place.box → place.name ≡ name.now

@@ -7,7 +7,9 @@ ghost use Rattle.boxes.specs.Totals.{used, count};
 /// The lengths of a box's files together, in bytes, and how many files they are.
 #[derive(Clone, Copy, Debug, PartialEq, Eq)]
 pub struct Totals {
+    /// In bytes.
     pub used: u64,
+    /// In files.
     pub count: u64,
 }
 

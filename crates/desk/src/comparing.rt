@@ -4,7 +4,6 @@ ghost use Rattle.std.specs.FinMap.{get};
 ghost use Rattle.std.proofs.Common.{refl, ◌∙◌};
 ghost use Rattle.csv.specs.Records.{fields_of};
 ghost use Rattle.sigtext.specs.Counts.{CountsErrors};
-ghost use Rattle.sigv4.specs.Hmac.{sha256};
 ghost use Rattle.boxes.specs.Rows.{file_of, IsFileAt};
 ghost use Rattle.boxes.specs.Sound.{IsSound};
 ghost use Rattle.boxes.specs.State.{State};
@@ -104,20 +103,12 @@ fn read_entry(row: &ByteRecord) -> Option<Entry<'_>>
     })
 }
 
-fn digest_of(bytes: &[u8]) -> [u8; 32]
-    ensures { result ≡ sha256 bytes.now }
-{
-    let mut hash = Sha::new();
-    hash.update(bytes);
-    hash.finish()
-}
-
 // Whether the file is as the manifest says.
 fn is_same(entry: &Entry<'_>, file: &FileRow) -> bool
     ensures { IsTrue result ↔ said.IsSame (entry_of entry.now) (file_of file.now) }
 {
     file.bytes.len() as u64 == entry.size
-        && hex_digits(digest_of(&file.bytes)).as_slice() == entry.digest
+        && hex_digits(Sha::digest(&file.bytes)).as_slice() == entry.digest
 }
 
 // What stands of an entry, where this file stands in its place.
@@ -195,14 +186,14 @@ impl<'k, K: Keeper> Comparer<'k, K> {
     }
 }
 
-/// Compares a manifest with what stands. The list in CSV has the manifest's head; each row has the number of a receipt, of 1 to
-/// 10 digits, and a length, of 1 to 7 digits, both without leading zeros, though a length may be `0`, a digest of 64 lower-case
-/// hexadecimal digits, and texts in UTF-8. For each row, in its order, one row is written under the head
-/// `receipt,box,name,state`, where the state is
+/// Compares a manifest with what stands. The list in CSV begins with the head of a manifest. In each row behind it all seven
+/// texts are UTF-8; the receipt has 1 to 10 digits and the length 1 to 7, with no zero in front of others, and a receipt is
+/// not 0; the digest has 64 lower-case hexadecimal digits. What is written begins with the head `receipt,box,name,state`, and
+/// has a row for each row, in order, which ends in its state:
 ///
-/// - `standing`: under box and name stands a file with this receipt, and its bytes are as many and have this digest;
-/// - `differs`: under box and name stands a file with this receipt, and its bytes are not as many, or have another digest;
-/// - `gone`: no file stands under box and name, or one with another receipt.
+/// - `standing`: the file of this box and name has this receipt, this length and this digest;
+/// - `differs`: it has this receipt, but another length or digest;
+/// - `gone`: there is none, or it has another receipt.
 ///
 /// # Errors
 ///

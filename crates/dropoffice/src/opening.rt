@@ -119,6 +119,7 @@ fn keeper_over<S: Alter + Drop>(
 ) -> Result<SqlKeeper<S>, Fault<'static>> {
     match SqlKeeper::open(alloc, conn) {
         Ok(keeper) => Ok(keeper),
+        Err((OpenFault::Store, _)) => Err(Fault::CannotOpen),
         Err((fault, _)) => Err(Fault::from(fault)),
     }
 }

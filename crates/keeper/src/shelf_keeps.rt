@@ -74,6 +74,10 @@ impl Keeper for Shelf {
 
 impl Shelf {
     /// The keeper of an office that begins, with one clerk's key of this id and secret.
+    ///
+    /// # Errors
+    ///
+    /// `Memory` where memory was refused.
     pub fn new(
         alloc: Global,
         office: OfficeRow,

@@ -40,10 +40,7 @@ pub fn judge(
     ensures { (r : Request) (p : LinkValues) → IsLinkOf link.now r p
         → Judges secret.now r (at now) p result }
 {
-    let scope = match Scope::read(link.six.credential(), link.six.date()) {
-        Ok(scope) => scope,
-        Err(refusal) => return Err(refusal),
-    };
+    let scope = Scope::read(link.six.credential(), link.six.date())?;
     if !is_signed_by(link, &scope, secret, last) {
         return Err(Refusal::SignatureMismatch);
     }

@@ -253,10 +253,10 @@ fn link_text(
     final_text(alloc, order.path, &parts.params, &digits)
 }
 
-/// Appends a link to `out`: `path?query&X-Amz-Signature=signature`, path and query in canonical form. Sent to
-/// the host with the order's method, with the order's headers once each and no other `x-amz-` header, it is
-/// admitted exactly from the order's start on, for as many seconds as the expiry says and no longer, wherever
-/// the key stands unrevoked with this secret.
+/// Appends the link that an order asks for to `out`: the encoded path, `?`, the canonical query and the signature. Whoever
+/// sends it to this host by the order's method, with each header of the order once and no more headers that begin with
+/// `x-amz-`, is admitted from the start until the expiry is over, in any office where the key has this secret and is not
+/// revoked; at no other moment is anybody.
 ///
 /// # Errors
 ///

@@ -11,7 +11,9 @@ use wire::{Answer, Message, Reply};
 /// An office over a keeper.
 #[derive(Drop)]
 pub struct Office<K> {
+    /// Keeps what the office holds.
     pub keeper: K,
+    /// Where each answer's memory comes from.
     pub alloc: Global,
     // Most links are signed by the key that the link before was.
     pub(crate) last_key: LastKey,

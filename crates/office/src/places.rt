@@ -22,10 +22,8 @@ pub(crate) fn decoded_path(alloc: Global, link: &LinkParts<'_>) -> Result<Vec<u8
     ensures { (r : Request) (p : LinkValues) → IsLinkOf link.now r p → IfOk result (λ path. path.items ≡ p.path) }
 {
     let mut path = Vec::new(alloc);
-    match link.path_into(&mut path) {
-        Ok(()) => Ok(path),
-        Err(fault) => Err(fault),
-    }
+    link.path_into(&mut path)?;
+    Ok(path)
 }
 
 // What stands behind the first byte.

@@ -1,6 +1,5 @@
 //! Uploads.
 ghost use Rattle.std.specs.Prelude.{◌≡◌};
-ghost use Rattle.sigv4.specs.Hmac.{sha256};
 
 use crate::office::Office;
 use crate::places::{FilePlace, decoded_path, read_place};
@@ -16,14 +15,6 @@ use wire::Reply;
 struct Standing {
     view: UploadView,
     stand: bool,
-}
-
-fn digest_of(bytes: &[u8]) -> [u8; 32]
-    ensures { result ≡ sha256 bytes.now }
-{
-    let mut hash = Sha::new();
-    hash.update(bytes);
-    hash.finish()
 }
 
 // What tells a receipt.
@@ -144,7 +135,7 @@ impl<K: Keeper> Office<K> {
         let Ok(Standing { view, stand }) = self.look_up(place, body) else {
             return Err(Refusal::TryAgain);
         };
-        let digest = digest_of(body);
+        let digest = Sha::digest(body);
         let bytes = NewBytes {
             length: body.len() as u64,
             digest,

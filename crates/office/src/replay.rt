@@ -46,7 +46,9 @@ pub fn replay<R: Read, W: Write>(
 /// What a connection was answered, and how it ended.
 #[derive(Debug, Drop)]
 pub struct Replayed {
+    /// All that was written.
     pub answers: Vec<u8>,
+    /// How the connection ended.
     pub end: SessionEnd,
 }
 

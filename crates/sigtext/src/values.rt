@@ -22,10 +22,10 @@ pub struct Values<'a> {
     pub(crate) fields: Vec<Field<'a>>,
 }
 
-/// The signed values of these names in a request's fields. Each name must be that of exactly one field,
-/// ASCII case aside, whose value without spaces and tabs at both ends holds bytes 0x20 to 0x7E alone and
-/// no two adjacent spaces: else refusal 17. Each field whose name begins with `x-amz-` must be signed:
-/// else refusal 18. Where memory is refused, refusal 40.
+/// The values that stand in a request's fields under these names, whatever the case of their ASCII letters. Refusal 17 where
+/// a name is that of no field or of several, or where its value, once blanks at both ends are gone, has a byte that is no
+/// printable ASCII or two spaces side by side. Refusal 18 where a field that begins with `x-amz-` is none of these. Refusal
+/// 40 where memory was refused.
 pub fn signed_values<'a>(
     alloc: Global,
     fields: &'a [Field<'a>],

@@ -37,7 +37,7 @@ pub keeps_same : (old new : State) → (HasCleanDisk new → HasCleanDisk old) �
 keeps_same old new honest looks office keeps = record {
   means = λ clean.
       let was = keeps.means (honest clean) in
-      let ours : HasOurs old = λ is_open. inr (inr (inr (inr (inr (inr (inl (was.tables is_open).holds.schema)))))) in
+      let ours : HasOurs old = λ is_open. inl (inr (inr (inr (inr (inr (inl (was.tables is_open).holds.schema)))))) in
       let same = looks ours clean in
       record {
         autocommit = same.mode ∙ was.autocommit;

@@ -1,11 +1,11 @@
 -- How many of an office's tables a schema of ours has.
-use Rattle.std.proofs.Common.{◌≡◌, ◌≢◌, inl, inr, codes, List, length, Some, slice_get, arith, refl, sym, subst, ◌∙◌}
+use Rattle.std.proofs.Common.{◌≡◌, ◌≢◌, inl, inr, List, length, Some, slice_get, arith, refl, sym, subst, ◌∙◌}
 use Rattle.sqlite_rules.specs.Lists.{Has}
 use Rattle.sqlite_rules.proofs.ListLemmas.{all_has}
 use Rattle.sqlite_schema.specs.declared.schema.Schema.{Schema}
 use Rattle.sqlite_schema.specs.declared.schema.Table.{Table}
-use Rattle.sqlkeeper.specs.Schema.{s0, s1, s2, s3, s4, s5, s6, begun_schemas, office_table}
-use Rattle.sqlkeeper.specs.Opened.{IsOurs, IsTableAt, AreNamed}
+use Rattle.sqlkeeper.specs.Schema.{s1, s2, s3, s4, s5, s6, begun_schemas, office_table}
+use Rattle.sqlkeeper.specs.Opened.{IsOurs, IsTableAt, BeginsAsOffice, AreNamed}
 use Rattle.sqlkeeper.proofs.Ours.{keys_at, boxes_at, receipts_at, files_at, pieces_at}
 
 -- what is known of the one table in a place
@@ -18,14 +18,11 @@ table_at tables at name columns t there is =
 abbrev office_at : Table
 office_at = record office_table { tree = 0 }
 
-abbrev First : Schema → Type 0
-First s = IsTableAt s.tables 0 (codes "office") 3
-
-begun : (s : Schema) → slice_get s.tables 0 ≡ Some office_at → First s
+begun : (s : Schema) → slice_get s.tables 0 ≡ Some office_at → BeginsAsOffice s
 begun s there = record { table = office_at; there = there; name_is = refl; columns_are = refl }
 
-pub begun_named : (schema : Schema) → Has begun_schemas schema → First schema
-begun_named schema = all_has First begun_schemas schema (begun s1 refl, (begun s2 refl, (begun s3 refl, (begun s4 refl, (begun s5 refl, (begun s6 refl, tt))))))
+pub begun_named : (schema : Schema) → Has begun_schemas schema → BeginsAsOffice schema
+begun_named schema = all_has BeginsAsOffice begun_schemas schema (begun s1 refl, (begun s2 refl, (begun s3 refl, (begun s4 refl, (begun s5 refl, (begun s6 refl, tt))))))
 
 pub whole_named : AreNamed s6
 whole_named = record {
@@ -40,9 +37,6 @@ whole_named = record {
   views = refl;
 }
 
-nothing_named : First s0 → ⊥
-nothing_named is = let e = is.there in cc
-
 -- five tables or fewer
 fewer : (s : Schema) → length s.tables ≢ 6 → AreNamed s → s ≡ s6
 fewer s less named = absurd (less named.six)
@@ -54,15 +48,11 @@ only_whole : (schema : Schema) → Has begun_schemas schema → Only schema
 only_whole schema = all_has Only begun_schemas schema
     (fewer s1 (λ e. omega (arith, e)), (fewer s2 (λ e. omega (arith, e)), (fewer s3 (λ e. omega (arith, e)), (fewer s4 (λ e. omega (arith, e)), (fewer s5 (λ e. omega (arith, e)), (λ named. refl, tt))))))
 
-pub is_nothing : (schema : Schema) → IsOurs schema → (First schema → ⊥) → schema ≡ s0
-is_nothing schema (inl is) none = is
-is_nothing schema (inr begun) none = absurd (none (begun_named schema begun))
+pub is_begun : (schema : Schema) → IsOurs schema → BeginsAsOffice schema → Has begun_schemas schema
+is_begun schema (inl begun) first = begun
+is_begun schema (inr none) first = absurd (none first)
 
-pub is_begun : (schema : Schema) → IsOurs schema → First schema → Has begun_schemas schema
-is_begun schema (inl is) first = absurd (nothing_named (subst First is first))
-is_begun schema (inr begun) first = begun
-
-pub is_whole : (schema : Schema) → IsOurs schema → First schema → AreNamed schema → schema ≡ s6
+pub is_whole : (schema : Schema) → IsOurs schema → BeginsAsOffice schema → AreNamed schema → schema ≡ s6
 is_whole schema ours first named = only_whole schema (is_begun schema ours first) named
 
 pub is_less : (schema : Schema) → (AreNamed schema → ⊥) → schema ≢ s6

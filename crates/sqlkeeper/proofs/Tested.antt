@@ -8,7 +8,7 @@ use Rattle.sqlite_rules.proofs.ListLemmas.{has_contained, contains_had}
 use Rattle.sqlite_schema.specs.declared.schema.Schema.{Schema}
 use Rattle.sqlite.specs.Effect.{Database}
 use Rattle.boxes.specs.State.{State as Office}
-use Rattle.sqlkeeper.specs.Schema.{s0, s6, begun_schemas}
+use Rattle.sqlkeeper.specs.Schema.{s6, begun_schemas}
 use Rattle.sqlkeeper.specs.Means.{IsWhole}
 use Rattle.sqlkeeper.specs.Lines.{AreLines, HaveRowids, IsOfficeLine, IsKeyLine, IsBoxLine, IsReceiptLine, IsFileLine, IsPieceLine}
 use Rattle.sqlkeeper.specs.Outlines.{AreSoundLines}
@@ -21,8 +21,9 @@ use Rattle.sqlkeeper.specs.declared.opening.Extent.{Extent}
 use Rattle.sqlkeeper.specs.declared.opening.Extent.TheVariants.{Nothing, Begun, Whole}
 use Rattle.sqlkeeper.specs.declared.opening.Finding.{Finding}
 use Rattle.sqlkeeper.specs.declared.opening.Finding.TheVariants.{Sound, Damaged}
-use Rattle.sqlkeeper.specs.Opened.{IsFound, IsExtent, AreOffice, SaysVersion, AreDamaged, AreListed, AreTables, AreOfVersion, HasBytes, LacksBytes}
+use Rattle.sqlkeeper.specs.Opened.{IsFound, BeginsAsOffice, IsExtent, AreOffice, SaysVersion, AreDamaged, AreListed, AreTables, AreOfVersion, HasBytes, LacksBytes}
 use Rattle.sqlkeeper.proofs.Accepting.{accepted}
+use Rattle.sqlkeeper.proofs.Extents.{begun_named, whole_named}
 use Rattle.sqlkeeper.proofs.Refusing.{sound_lines, no_bytes}
 
 pub record AreLent (lines : Lines) (first : List OfficeLine) (listed : Listed) : Type 0 where
@@ -107,11 +108,15 @@ AreDamagedBut db = ((office : Office) → AreOffice db office → ⊥) → AreDa
 
 -- ---- a schema that is not whole
 
-no_tables : s0 ≢ s6
-no_tables e = let n = ap (λ (s : Schema). length s.tables) e in omega (arith, n)
+-- such tables are no office's, and say no version
+pub no_office : (db : Database) → (BeginsAsOffice db.schema → ⊥) → AreDamaged db
+no_office db none = record {
+  none = λ office is. none (subst BeginsAsOffice (sym is.holds.schema) whole_named.office);
+  version = λ version says. absurd (none (begun_named db.schema says.begun));
+}
 
 pub less : (extent : Extent) (schema : Schema) → IsExtent extent schema → (extent ≡ Whole → ⊥) → schema ≢ s6
-less Nothing schema is not e = no_tables (sym is ∙ e)
+less Nothing schema is not e = is (subst BeginsAsOffice (sym e) whole_named.office)
 less Begun schema is not e = is.1 e
 less Whole schema is not e = not refl
 

@@ -1,5 +1,5 @@
 -- What is found in an office file that is opened.
-use Rattle.std.specs.Prelude.{◌≡◌, ◌≢◌, ◌⊎◌, ℕ, ℤ, ◌<◌, pos, codes, List, [], ◌∷◌, length, slice_get, Some, Contains, IsTrue, false}
+use Rattle.std.specs.Prelude.{◌≡◌, ◌≢◌, ◌⊎◌, ℕ, ℤ, ◌<◌, pos, codes, List, [], length, slice_get, Some, Contains, IsTrue, false}
 use Rattle.sqlite_value.specs.declared.value.Value.TheVariants.{Int}
 use Rattle.sqlite_value.specs.Order.{Row, column}
 use Rattle.sqlite_rules.specs.Lists.{Has}
@@ -11,7 +11,7 @@ use Rattle.sigtext.specs.Bytes.{AreBytes}
 use Rattle.sigv4.specs.Hmac.{sha256}
 use Rattle.boxes.specs.State.{State as Office, Place}
 use Rattle.boxes.specs.Sound.{IsSound}
-use Rattle.sqlkeeper.specs.Schema.{v1, s0, s6, begun_schemas}
+use Rattle.sqlkeeper.specs.Schema.{v1, s6, begun_schemas}
 use Rattle.sqlkeeper.specs.Tables.{tables_of}
 use Rattle.sqlkeeper.specs.Means.{Holds}
 use Rattle.sqlkeeper.specs.Lines.{AreLines, AreBytesOf, HaveRowids, IsOfficeLine, IsKeyLine, IsBoxLine, IsReceiptLine, IsFileLine, IsPieceLine}
@@ -27,11 +27,22 @@ use Rattle.sqlkeeper.specs.declared.opening.Finding.TheVariants.{Sound, OtherVer
 
 -- ---- which databases are looked at
 
--- Each table that is there has our definition, and each that it refers to is there.
-abbrev pub IsOurs : Schema → Type 0
-IsOurs schema = Has (s0 ∷ begun_schemas) schema
+-- the table in this place has this name and so many columns
+pub record IsTableAt (tables : List Table) (at : ℕ) (name : List ℕ) (columns : ℕ) : Type 0 where
+  pub table : Table
+  pub there : slice_get tables at ≡ Some table
+  pub name_is : table.name ≡ name
+  pub columns_are : length table.columns ≡ columns
 
--- while the connection is open its tables are ours
+-- the first table is an office's own, by its name and the number of its columns
+abbrev pub BeginsAsOffice : Schema → Type 0
+BeginsAsOffice schema = IsTableAt schema.tables 0 (codes "office") 3
+
+-- The tables are the first of ours, in the order in which they are made; or they don't begin as an office's.
+abbrev pub IsOurs : Schema → Type 0
+IsOurs schema = Has begun_schemas schema ⊎ (BeginsAsOffice schema → ⊥)
+
+-- while the connection is open its tables are so
 abbrev pub HasOurs : State → Type 0
 HasOurs s = IsTrue s.is_open → IsOurs s.now.schema
 
@@ -51,17 +62,10 @@ pub record IsAtRest (s : State) : Type 0 where
   pub autocommit : s.in_transaction ≡ false
   pub settled : IsTrue s.is_open → s.now ≡ s.committed
 
--- the table in this place has this name and so many columns
-pub record IsTableAt (tables : List Table) (at : ℕ) (name : List ℕ) (columns : ℕ) : Type 0 where
-  pub table : Table
-  pub there : slice_get tables at ≡ Some table
-  pub name_is : table.name ≡ name
-  pub columns_are : length table.columns ≡ columns
-
 -- an office's tables, by their names, with the indexes of their keys
 pub record AreNamed (schema : Schema) : Type 0 where
   pub six : length schema.tables ≡ 6
-  pub office : IsTableAt schema.tables 0 (codes "office") 3
+  pub office : BeginsAsOffice schema
   pub keys : IsTableAt schema.tables 1 (codes "keys") 4
   pub boxes : IsTableAt schema.tables 2 (codes "boxes") 13
   pub receipts : IsTableAt schema.tables 3 (codes "receipts") 7
@@ -71,7 +75,7 @@ pub record AreNamed (schema : Schema) : Type 0 where
   pub views : schema.views ≡ []
 
 abbrev pub IsExtent : Extent → Schema → Type 0
-IsExtent Nothing schema = schema ≡ s0
+IsExtent Nothing schema = BeginsAsOffice schema → ⊥
 IsExtent Begun schema = Has begun_schemas schema × (schema ≢ s6)
 IsExtent Whole schema = schema ≡ s6
 

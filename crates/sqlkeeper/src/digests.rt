@@ -35,9 +35,7 @@ fn have_digest(bytes: &[u8], given: &ReceiptLine) -> bool
     ensures told { IsTrue result ↔ sha256 bytes.now ≡ given.now.digest.items }
     ensures octets { AreBytes bytes.now }
 {
-    let mut sha = Sha::new();
-    sha.update(bytes);
-    sha.finish().as_slice() == given.digest.as_slice()
+    Sha::digest(bytes).as_slice() == given.digest.as_slice()
 }
 
 /// Whether the file's pieces are bytes of the length and the digest that its receipt tells. A receipt that is not found

@@ -198,12 +198,15 @@ impl<S: Alter> SqlKeeper<S> {
         }
     }
 
-    /// Gives the connection back as it is: what the keeper means and what a crash leaves of it, the connection holds.
+    /// Gives the connection back as it is: what the keeper means is what the connection holds, and what a crash leaves of
+    /// the one it leaves of the other.
     pub fn close(self) -> Connection<S>
         ensures same { result ≡ self.conn }
-        ensures honest { HasCleanDisk (state S.Store result) → ⟦<SqlKeeper<S> as Keeper>⟧.is_honest self }
-        ensures means { (s : State) → ⟦<SqlKeeper<S> as Keeper>⟧.means self s → KeepsState (state S.Store result) s }
-        ensures leaves { (s : State) → ⟦<SqlKeeper<S> as Keeper>⟧.leaves self s → MayLeave (state S.Store result) s }
+        ensures honest { ⟦<SqlKeeper<S> as Keeper>⟧.is_honest self ↔ HasCleanDisk (state S.Store result) }
+        ensures opened { ⟦<SqlKeeper<S> as Keeper>⟧.is_open self ↔ IsTrue (state S.Store result).is_open }
+        ensures means { (s : State) → (⟦<SqlKeeper<S> as Keeper>⟧.means self s ↔ KeepsState (state S.Store result) s) }
+        ensures leaves { (s : State) → (⟦<SqlKeeper<S> as Keeper>⟧.leaves self s ↔ MayLeave (state S.Store result) s) }
+        ensures whole { ⟦<SqlKeeper<S> as Keeper>⟧.leaves_whole self ↔ LeavesStates (state S.Store result) }
     {
         let SqlKeeper {
             conn,

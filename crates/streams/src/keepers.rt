@@ -10,6 +10,7 @@ use std::alloc::Global;
 use std::test::Fail;
 use trials::fakes::{Sink, Source};
 use trials::published::{DATE, REQUEST, SECRET, TRY_AGAIN};
+use trials::rows::holds;
 
 /// Answers for every key; no state is claimed of it.
 #[derive(Drop)]
@@ -119,61 +120,53 @@ const NO_CLERK: &[u8] =
 const REVOKED: &[u8] =
     b"HTTP/1.1 403 Forbidden\r\nContent-Type: text/plain\r\nContent-Length: 41\r\n\r\nInvalidAccessKeyId 20 the key is revoked\n";
 
-#[test]
-fn says_what_the_keeper_says(rt: HostRuntime) -> Result<(), Fail> {
-    let alloc = rt.alloc();
+/// What a session of one message says over this keeper, and how many faults the keeper then counts.
+fn expect(
+    alloc: Global,
+    keeper: Stub,
+    stream: &[u8],
+    (answer, end, faults): (&[u8], SessionEnd, u64),
+) -> Result<(), Fail> {
     let moment = Moment::read(DATE).ok_or("no moment")?;
-    for (stream, (role, revoked, fails), want, end, faults) in [
-        (
-            POST,
-            (Role::Link, false, false),
-            NO_CLERK,
-            SessionEnd::Ended,
-            0,
-        ),
-        (
-            REQUEST,
-            (Role::Clerk, true, false),
-            REVOKED,
-            SessionEnd::Ended,
-            0,
-        ),
-        (
-            POST,
-            (Role::Clerk, true, false),
-            REVOKED,
-            SessionEnd::Ended,
-            0,
-        ),
-        (
-            REQUEST,
-            (Role::Clerk, false, true),
-            TRY_AGAIN,
-            SessionEnd::Refused(40),
-            1,
-        ),
-        (
-            POST,
-            (Role::Clerk, false, true),
-            TRY_AGAIN,
-            SessionEnd::Refused(40),
-            1,
-        ),
+    let mut office = Office::new(alloc, keeper);
+    let mut reader = Counted::new(Source::whole(stream));
+    let mut writer = Counted::new(Sink::new(alloc, 4096, 4096));
+    let ended = office.session(&mut reader, &mut writer, &mut FixedClock::new(moment));
+    holds(ended == end, "another end")?;
+    holds(writer.inner.text.as_slice() == answer, "another answer")?;
+    holds(office.keeper.faults == faults, "another count")
+}
+
+#[test]
+fn says_what_the_key_may_not_do(rt: HostRuntime) -> Result<(), Fail> {
+    let alloc = rt.alloc();
+    for (stream, role, revoked, answer) in [
+        (POST, Role::Link, false, NO_CLERK),
+        (REQUEST, Role::Clerk, true, REVOKED),
+        (POST, Role::Clerk, true, REVOKED),
     ] {
         let keeper = Stub {
             role,
             revoked,
-            fails,
+            fails: false,
             faults: 0,
             alloc,
         };
-        let mut office = Office::new(alloc, keeper);
-        let mut reader = Counted::new(Source::whole(stream));
-        let mut writer = Counted::new(Sink::new(alloc, 4096, 4096));
-        let ended = office.session(&mut reader, &mut writer, &mut FixedClock::new(moment));
-        assert_eq!(rt; ended, end);
-        assert_eq!(rt; writer.inner.text.as_slice(), want);
-        assert_eq!(rt; office.keeper.faults, faults);
+        expect(alloc, keeper, stream, (answer, SessionEnd::Ended, 0))?;
+    }
+    Ok(())
+}
+
+#[test]
+fn says_that_the_keeper_failed(rt: HostRuntime) -> Result<(), Fail> {
+    let alloc = rt.alloc();
+    for stream in [REQUEST, POST] {
+        expect(
+            alloc,
+            failing(alloc),
+            stream,
+            (TRY_AGAIN, SessionEnd::Refused(40), 1),
+        )?;
     }
     Ok(())
 }

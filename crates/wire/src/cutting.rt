@@ -78,10 +78,8 @@ pub fn cut_piece<R: Read>(
     if !backlog.waiting().is_empty() {
         return Ok(cut(backlog, to_come));
     }
-    match backlog.read_more(reader) {
-        Ok(_) => Ok(cut(backlog, to_come)),
-        Err(fault) => Err(fault),
-    }
+    backlog.read_more(reader)?;
+    Ok(cut(backlog, to_come))
 }
 
 // Takes so many of the bytes that wait, or all, and no more than a piece has.

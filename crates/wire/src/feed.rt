@@ -117,6 +117,11 @@ impl<'r, R: Read> Feed<'r, R> {
 
     /// The next head, or what stands in its place. Where a body is open, and where the feed has ended, it
     /// is the end. After anything but a head the feed has ended.
+    ///
+    /// # Errors
+    ///
+    /// `Read` where a read failed, and `Memory` where memory was refused for the buffer, which is asked for once, in the first
+    /// call. The feed has then ended.
     pub fn next(&mut self) -> Result<Step<'_>, WireFault>
         ensures* after { sem 𝓛 (Rests (the_row (record { mir = named 1; lft = [] }) R.row) self.entry (λ new.
             SameReader self.old new
@@ -139,7 +144,11 @@ impl<'r, R: Read> Feed<'r, R> {
         }
     }
 
-    /// The next piece of the body that is open. Where none is, it is done.
+    /// The next piece of the body that is open, of 1 to 65536 bytes. Where none is, it is done.
+    ///
+    /// # Errors
+    ///
+    /// `Read` where a read failed. The feed has then ended.
     pub fn piece(&mut self) -> Result<Piece<'_>, WireFault>
         ensures* after { sem 𝓛 (Rests (the_row (record { mir = named 1; lft = [] }) R.row) self.entry (λ new.
             SameReader self.old new

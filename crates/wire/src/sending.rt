@@ -9,6 +9,10 @@ use std::io::Write;
 
 /// Writes the whole text, by as many writes as it takes. The first write that fails, or takes no
 /// byte, ends it: none is tried again.
+///
+/// # Errors
+///
+/// `Write` then. What was written is a beginning of the text.
 pub fn send<W: Write>(text: &[u8], writer: &mut Counted<W>) -> Result<(), WireFault>
     ensures sent { Sends text.now (W.contents writer.old.inner) (W.contents writer.new.inner) result }
     ensures count { CountsErrors writer.old.faults writer.new.faults result }

@@ -8,7 +8,17 @@ use Rattle.sqlkeeper.specs.declared.opening.Extent.TheVariants.{Nothing}
 use Rattle.sqlkeeper.specs.declared.opening.Finding.TheVariants.{Sound}
 use Rattle.sqlkeeper.specs.Opened.{IsOurs, IsExtent, IsFound, SeesSame}
 use Rattle.sqlkeeper.proofs.Looking.{Begins, looks_at, is_open, leaves_same, sees_same}
+use Rattle.sqlkeeper.proofs.Tested.{no_office}
 use Rattle.sqlkeeper.proofs.opening.find.Goals as goal
+
+pub returns-then-eq-clause-found : goal.returns-then-eq-clause-found
+returns-then-eq-clause-found g c ours clean was_open =
+    let old = state g.S.Store c.args.conn.now in
+    let schema = c.schema.ensures.value in
+    let extent = c.extent_of-extent.result in
+    let is : IsOurs old.now.schema → IsExtent extent old.now.schema = subst (λ s. IsOurs s → IsExtent extent s) schema c.extent_of-extent.ensures in
+    let nothing : extent ≡ Nothing = search rules in
+    no_office old.now (subst (λ x. IsExtent x old.now.schema) nothing (is (ours was_open)))
 
 pub returns-then-ne-clause-found : goal.returns-then-ne-clause-found
 returns-then-ne-clause-found g c ours clean was_open =

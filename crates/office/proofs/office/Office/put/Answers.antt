@@ -22,7 +22,7 @@ returns-in-Refused-clause-replies g c s r p kept is is_put body_is reached other
     let brings = brought (g.K.Keeper.means c.look_up.new.self.keeper) s r c.args.now p reached (subst (λ (b : List ℕ). length b ≤ most_body) (sym body_is) c.requires) (subst AreBytes (sym body_is) (are_bytes c.args.body.now c.type_inv.body)) (omega (arith, c.well_formed)) in
     not_put (g.K.Keeper.means c.look_up.new.self.keeper) s r c.args.now p reached c.in-Refused.refusal is_put
     (c.in-Refused.ensures s u kept.sound brings (subst (λ x. IsUploadViewOf s x c.in-Ok-look_up.field-0.view) same (c.in-Ok-look_up.ensures.view s kept))
-    (record { length_is = ap length (sym body_is); digest = c.digest_of-digest.ensures ∙ ap sha256 (sym body_is); stand = c.in-Ok-look_up.ensures.stand s u kept (sym same) body_is })
+    (record { length_is = ap length (sym body_is); digest = c.digest-digest.ensures ∙ ap sha256 (sym body_is); stand = c.in-Ok-look_up.ensures.stand s u kept (sym same) body_is })
     refl (sym (c.key_id.ensures r p is)) (sym same))
 
 pub returns-in-Again-clause-replies : goal.returns-in-Again-clause-replies
@@ -35,7 +35,7 @@ returns-in-Again-clause-replies g c s r p kept is is_put body_is reached =
     (again means s r c.args.now p reached c.in-Again.receipt is_put
     (record { means = record { meant = c.in-Ok-look_up.ensures.same s kept.means; lasts = unchanged refl (c.in-Ok-look_up.ensures.crash s kept.means kept.is_honest) }; sound = kept.sound })
     (c.in-Again.ensures s u kept.sound brings (subst (λ x. IsUploadViewOf s x c.in-Ok-look_up.field-0.view) same (c.in-Ok-look_up.ensures.view s kept))
-    (record { length_is = ap length (sym body_is); digest = c.digest_of-digest.ensures ∙ ap sha256 (sym body_is); stand = c.in-Ok-look_up.ensures.stand s u kept (sym same) body_is })
+    (record { length_is = ap length (sym body_is); digest = c.digest-digest.ensures ∙ ap sha256 (sym body_is); stand = c.in-Ok-look_up.ensures.stand s u kept (sym same) body_is })
     refl (sym (c.key_id.ensures r p is)) (sym same)))
 
 pub returns-clause-replies : goal.returns-clause-replies
@@ -47,7 +47,7 @@ returns-clause-replies g c s r p kept is is_put body_is reached =
     let same = c.read_place-place.ensures ∙ ap place_of (c.deref.ensures.value ∙ c.in-Ok.ensures r p is) in
     let brings = brought means s r c.args.now p reached (subst (λ (b : List ℕ). length b ≤ most_body) (sym body_is) c.requires) (subst AreBytes (sym body_is) (are_bytes c.args.body.now c.type_inv.body)) (omega (arith, c.well_formed)) in
     let decided = c.in-Taken.ensures s u kept.sound brings (subst (λ x. IsUploadViewOf s x c.in-Ok-look_up.field-0.view) same (c.in-Ok-look_up.ensures.view s still))
-    (record { length_is = ap length (sym body_is); digest = c.digest_of-digest.ensures ∙ ap sha256 (sym body_is); stand = c.in-Ok-look_up.ensures.stand s u still (sym same) body_is })
+    (record { length_is = ap length (sym body_is); digest = c.digest-digest.ensures ∙ ap sha256 (sym body_is); stand = c.in-Ok-look_up.ensures.stand s u still (sym same) body_is })
     refl (sym (c.key_id.ensures r p is)) (sym same) in
     let file_set = subst (λ (b : List ℕ). IsFileSet s c.in-Taken.file b (after_upload s u)) body_is (sets means s r c.args.now p reached c.in-Taken.file brings decided) in
     then_replied g.K.Keeper.means c.set_file.new.self.keeper s r c.args.now c.set_file.result
@@ -64,7 +64,7 @@ returns-clause-crash g c s r p kept is is_put body_is reached =
     let same = c.read_place-place.ensures ∙ ap place_of (c.deref.ensures.value ∙ c.in-Ok.ensures r p is) in
     let brings = brought means s r c.args.now p reached (subst (λ (b : List ℕ). length b ≤ most_body) (sym body_is) c.requires) (subst AreBytes (sym body_is) (are_bytes c.args.body.now c.type_inv.body)) (omega (arith, c.well_formed)) in
     let decided = c.in-Taken.ensures s u kept.sound brings (subst (λ x. IsUploadViewOf s x c.in-Ok-look_up.field-0.view) same (c.in-Ok-look_up.ensures.view s still))
-    (record { length_is = ap length (sym body_is); digest = c.digest_of-digest.ensures ∙ ap sha256 (sym body_is); stand = c.in-Ok-look_up.ensures.stand s u still (sym same) body_is })
+    (record { length_is = ap length (sym body_is); digest = c.digest-digest.ensures ∙ ap sha256 (sym body_is); stand = c.in-Ok-look_up.ensures.stand s u still (sym same) body_is })
     refl (sym (c.key_id.ensures r p is)) (sym same) in
     let file_set = subst (λ (b : List ℕ). IsFileSet s c.in-Taken.file b (after_upload s u)) body_is (sets means s r c.args.now p reached c.in-Taken.file brings decided) in
     unset c.set_file.new.self.keeper s (after_upload s u) r c.args.now c.set_file.result

@@ -22,3 +22,7 @@ returns-in-Ok-Sound-clause-durable g c clean s keeps =
 
 pub returns-in-Ok-Sound-clause-means : goal.returns-in-Ok-Sound-clause-means
 returns-in-Ok-Sound-clause-means g c = keeps_same (state g.S.Store c.args.conn) (state g.S.Store c.find.new.conn) c.in-Ok-Sound.ensures.honest c.in-Ok-Sound.ensures.same
+
+pub returns-in-Ok-OtherVersion-clause-version : goal.returns-in-Ok-OtherVersion-clause-version
+returns-in-Ok-OtherVersion-clause-version g c ours told clean was_open =
+    subst (λ f. IsFound f (state g.S.Store c.args.conn).now) c.in-Ok-OtherVersion.field-0-is (c.in-Ok-OtherVersion.ensures.found ours clean was_open)
