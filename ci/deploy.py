@@ -431,7 +431,7 @@ echo "${0##*/} $*" >"$MACHINE/asked"
 read -r status <"$MACHINE/told"
 exit "$status"
 """
-ASKED = ["apt-get", "useradd", "certbot", "systemctl", "nginx", "between"]
+ASKED = ["apt-get", "useradd", "certbot", "chown", "systemctl", "nginx", "between"]
 RUNUSER = """#!/bin/sh
 [ "$1 $2 $3" = "-u drop --" ] || exit 9
 shift 3
@@ -497,7 +497,7 @@ class Machine:
     def do(self, words):
         """Does what these words ask; why not, if it could not."""
         match words.split():
-            case ["apt-get" | "useradd" | "certbot", *_] | ["systemctl", "daemon-reload"]:
+            case ["apt-get" | "useradd" | "certbot" | "chown", *_] | ["systemctl", "daemon-reload"]:
                 return None
             case ["systemctl", "enable", "--now", "drop"]:
                 paths = [(it, self.here(it)) for it in ["/usr/local/bin/drop", "/var/lib/drop/office"]]

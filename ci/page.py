@@ -343,6 +343,9 @@ def test_links(case, count):
     case.browser.press(ENTER)
     case.click("#go")
     count.add("an address of the page that is pasted", is_not(case.result()["facts"]["office_digest"], digest(DATA)))
+    case.open("get", f"http://elsewhere.example/get.html#{target_of(case.links['get a'])}")
+    note = case.browser.js("return document.getElementById('link_note').innerText")
+    count.add("a page of another host", lacks(note, "This link is for elsewhere.example", case.front.host))
     case.open("get", "get elsewhere")
     note = case.browser.js("return document.getElementById('link_note').innerText")
     count.add("a link for another host", lacks(note, "This link is for elsewhere.example", case.front.host))
@@ -366,6 +369,21 @@ def test_chosen_again(case, count):
     case.click("#go")
     said = case.browser.js("return document.getElementById('live').textContent")
     count.add("it is not sent", lacks(said, "Choose a file first."))
+
+
+def test_left_meanwhile(case, count):
+    """A file whose digest is still computed when another link is opened is not shown as that one's."""
+    case.open("get", "get a")
+    case.browser.js("""window.held = [];
+        const digest = crypto.subtle.digest.bind(crypto.subtle);
+        crypto.subtle.digest = (...it) => new Promise((go) => { window.held.push(() => go(digest(...it))); });""")
+    case.click("#go")
+    case.browser.wait_for("return window.held.length === 1")
+    case.browser.js("location.hash = arguments[0]", f"#{case.links['get keys']}")
+    case.browser.wait_for("return document.getElementById('link_facts').innerText.includes('keys')")
+    case.browser.js("window.held[0]()")
+    time.sleep(0.5)
+    count.add("a file of the link before", is_not(case.result_now(), None))
 
 
 def tabbed(case, times):
@@ -630,8 +648,9 @@ def test_own_origin(case, count):
 
 
 TESTS = [test_put, test_receipt_file, test_refusals, test_table, test_too_large, test_faults, test_faults_of_get,
-         test_changed, test_get, test_links, test_chosen_again, test_keyboard, test_keyboard_of_get, test_progress,
-         test_dropped, test_insecure, test_reader, test_hints, test_looks, test_own_origin]
+         test_changed, test_get, test_links, test_chosen_again, test_left_meanwhile, test_keyboard,
+         test_keyboard_of_get, test_progress, test_dropped, test_insecure, test_reader, test_hints, test_looks,
+         test_own_origin]
 
 
 def write_links(drop, file, front):

@@ -49,6 +49,10 @@ class Case:
             return found if found and found["kind"] in kinds else None
         return until(f"a result {kinds}", shown)
 
+    def result_now(self):
+        """The result that is shown, or None."""
+        return self.browser.js(RESULT)
+
     def click(self, selector):
         self.browser.find(selector).click()
 

@@ -81,11 +81,11 @@
    * and respells some characters.
    */
   function readLink() {
-    const raw = location.hash.slice(1).replace(/^https?:\/\/[^/?#]+\/(put|get)\.html#/i, "");
+    const [, page, raw] = /^(?:https?:\/\/([^/?#]+)\/(?:put|get)\.html#)?(.*)$/is.exec(location.hash.slice(1));
     if (!raw) return { fault: "no_link" };
     const parts = /^(?:https?:\/\/([^/?#]+))?(\/[^#]*)$/i.exec(raw);
     if (!parts) return { fault: "form" };
-    const [, host, target] = parts;
+    const [, host = page, target] = parts;
     const sent = new URL(location.origin + target);
     if (sent.pathname + sent.search !== target) {
       const dots = /\/(\.|%2e){1,2}(\/|$)/i.test(target.split("?")[0]);
