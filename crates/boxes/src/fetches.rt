@@ -13,7 +13,8 @@ use sigtext::Refusal;
 /// Decides a fetch of a name from a box, from what the keeper said: the file that stands, or the refusal, of number
 /// 27 to 29 or 34. Takes no memory.
 pub fn fetch(view: FetchView, name: &[u8]) -> Result<FileRow, Refusal>
-    ensures { (s : State) (in_box : List ℕ) → IsSound s → IsFetchViewOf s (record { box = in_box; name = name.now }) view
+    ensures { (s : State) (in_box : List ℕ) → IsSound s
+        → IsFetchViewOf s (record { box = in_box; name = name.now }) view
         → DecidesFetch s (record { box = in_box; name = name.now }) result }
 {
     box_for(&view.in_box, name)?;

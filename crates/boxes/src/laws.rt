@@ -13,11 +13,13 @@ use crate::rows::Role;
 /// Each change that the rules give leaves a sound state: quotas, numbers of files, receipts without a gap, and each
 /// file's receipt of its length and digest.
 pub fn law_of_changes()
-    ensures { (s after : State) (change : Change) → IsSound s → IsChangeOf s change after → IsSound after }
+    ensures { (s after : State) (change : Change) → IsSound s → IsChangeOf s change after
+        → IsSound after }
 {}
 
 /// Beside an unrevoked clerk's key another one stands exactly where there are two or more.
 pub fn law_of_clerks()
-    ensures { (s : State) (id : List ℕ) (k : Key) → get s.keys id ≡ Some k → k.role ≡ Role.Clerk → IsFalse k.revoked
+    ensures { (s : State) (id : List ℕ) (k : Key) → get s.keys id ≡ Some k → k.role ≡ Role.Clerk
+        → IsFalse k.revoked
         → (2 ≤ clerks s) ↔ HasOtherClerk s id }
 {}

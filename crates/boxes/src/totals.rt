@@ -18,8 +18,10 @@ impl Totals {
 
     /// After a file of the new length was set, where one of the old length stood, if one did.
     pub fn set(self, old: Option<u64>, new: u64) -> Totals
-        ensures { (s : State) (place : Place) (f : File) → AreTotals s place.box self → length f.bytes ≡ new
-            → old ≡ option_map (λ g. length g.bytes) (get s.files place) → used s place.box + new < 2 ^ 64 → count s place.box + 1 < 2 ^ 64
+        ensures { (s : State) (place : Place) (f : File) → AreTotals s place.box self
+            → length f.bytes ≡ new
+            → old ≡ option_map (λ g. length g.bytes) (get s.files place)
+            → used s place.box + new < 2 ^ 64 → count s place.box + 1 < 2 ^ 64
             → AreTotals (record s { files = insert s.files place f }) place.box result }
     {
         let used = self
@@ -35,7 +37,8 @@ impl Totals {
 
     /// After a file of this length was taken out.
     pub fn take_out(self, old: u64) -> Totals
-        ensures { (s : State) (place : Place) (f : File) → AreTotals s place.box self → get s.files place ≡ Some f → length f.bytes ≡ old
+        ensures { (s : State) (place : Place) (f : File) → AreTotals s place.box self
+            → get s.files place ≡ Some f → length f.bytes ≡ old
             → AreTotals (record s { files = remove s.files place }) place.box result }
     {
         Totals {

@@ -66,7 +66,8 @@ fn check_place(
     ensures { (s : State) (u : Upload) → IsUploadViewOf s u.place view.now → u.now ≡ now
         → stood ≡ option_map (λ f. length f.bytes) (get s.files u.place)
         → MatchResult result
-        (λ done. NewBytesRule Refusal.BoxClosed s (settings_of row.now) u × NewBytesRule Refusal.OtherBytesKept s (settings_of row.now) u
+        (λ done. NewBytesRule Refusal.BoxClosed s (settings_of row.now) u
+        × NewBytesRule Refusal.OtherBytesKept s (settings_of row.now) u
         × NewBytesRule Refusal.TooManyFiles s (settings_of row.now) u)
         (λ q. IsLeastToFail (λ r. NewBytesRule r s (settings_of row.now) u) q) }
 {
@@ -109,8 +110,11 @@ pub fn upload<'a>(
     name: &'a [u8],
     bytes: &NewBytes,
 ) -> Uploading<'a>
-    ensures { (s : State) (u : Upload) → IsSound s → IsBrought s u → IsUploadViewOf s u.place view.entry.now → AreBytesOf s u bytes.now
-        → u.now ≡ now → u.key ≡ key.entry.now → u.place ≡ record { box = in_box.entry.now; name = name.entry.now } → DecidesUpload s u result }
+    ensures { (s : State) (u : Upload) → IsSound s → IsBrought s u
+        → IsUploadViewOf s u.place view.entry.now → AreBytesOf s u bytes.now
+        → u.now ≡ now → u.key ≡ key.entry.now
+        → u.place ≡ record { box = in_box.entry.now; name = name.entry.now }
+        → DecidesUpload s u result }
 {
     let row = match box_for(&view.in_box, name) {
         Ok(row) => row,

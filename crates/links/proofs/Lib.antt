@@ -9,7 +9,6 @@ pub mod PairLoops
 pub mod LinkRules
 pub mod Inspected
 pub mod LinkSigning
-pub mod Digits
 pub mod Texts
 pub mod SaidOnce
 pub mod SameParams

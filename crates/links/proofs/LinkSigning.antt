@@ -18,8 +18,8 @@ use Rattle.links.specs.LinkReadings.{IsLinkOf}
 use Rattle.links.specs.declared.link_parts.LinkParts.{LinkParts}
 
 -- the test is that of the signature of the one canonical request
-abbrev pub Tells : Bool → LinkParts → List ℕ → CredentialScope → Type 0
-Tells right l secret scope =
+abbrev pub DecidesSignature : Bool → LinkParts → List ℕ → CredentialScope → Type 0
+DecidesSignature right l secret scope =
     (signed : Signed) → AreOf l.parts signed
     → (text : List ℕ) × IsTheOnly (IsCanonicalRequest signed) text × ((date : List ℕ) → WritesMoment date l.start
     → (IsTrue right ↔ ((texts_of l.six).signature ≡ signature_of secret date scope text)))
@@ -28,7 +28,7 @@ date_of : (l : LinkParts) (r : Request) (p : LinkValues) → IsLinkOf l r p → 
 date_of l r p is = subst (WritesMoment p.date) is.start (is.well_formed rule.Date).1
 
 pub is_signed : (l : LinkParts) (r : Request) (p : LinkValues) (secret : List ℕ) (scope : CredentialScope) (right : Bool) → IsLinkOf l r p → scope ≡ p.scope
-    → right ≡ true → Tells right l secret scope → IsSignedBy secret r p
+    → right ≡ true → DecidesSignature right l secret scope → IsSignedBy secret r p
 is_signed l r p secret scope right is same holds tells =
     let (text, only, means) = tells (signed_of r p) is.signed in
     record {
@@ -38,7 +38,7 @@ is_signed l r p secret scope right is same holds tells =
     }
 
 pub not_signed : (l : LinkParts) (r : Request) (p : LinkValues) (secret : List ℕ) (scope : CredentialScope) (right : Bool) → IsLinkOf l r p → scope ≡ p.scope
-    → right ≡ false → Tells right l secret scope → IsSignedBy secret r p → ⊥
+    → right ≡ false → DecidesSignature right l secret scope → IsSignedBy secret r p → ⊥
 not_signed l r p secret scope right is same fails tells signed =
     let (text, only, means) = tells (signed_of r p) is.signed in
     let one = only.only signed.text signed.is_canonical in

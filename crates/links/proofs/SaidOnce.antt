@@ -8,7 +8,7 @@ use Rattle.std.proofs.lemmas.Str.Parse.{tells_digits, numerals_by_value}
 use Rattle.sigv4.specs.Signature.{CredentialScope, scope_text}
 use Rattle.sigv4.specs.Credential.{IsCredential}
 use Rattle.links.specs.Forms.{IsExpiry}
-use Rattle.links.proofs.Digits.{all_digits}
+use Rattle.sigtext.proofs.DigitTexts.{all_digits}
 
 -- ---- the expiry
 

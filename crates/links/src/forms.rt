@@ -1,44 +1,18 @@
 //! The forms of a link's parameters.
 ghost use Rattle.std.specs.Prelude.{◌≡◌, ◌↔◌, ℕ, IsTrue, IfSome, IfNone};
 ghost use Rattle.std.specs.List.{list_all};
-ghost use Rattle.std.specs.Char.{is_ascii_digit};
-ghost use Rattle.sigtext.specs.Bytes.{IsWord};
 ghost use Rattle.links.specs.Forms.{IsExpiry, IsHexDigest, is_hex_digit};
 
 use crate::orders::MOST_SECONDS;
-use sigtext::is_word;
-
-fn is_digit(byte: u8) -> bool
-    ensures { result ≡ is_ascii_digit byte }
-{
-    byte.is_ascii_digit()
-}
-
-// Whether the text is 1 to 6 digits.
-fn is_short_number(text: &[u8]) -> bool
-    ensures { IsTrue result ↔ IsWord is_ascii_digit 6 text.now }
-{
-    is_word(text, 6, is_digit)
-}
+use sigtext::read_digits;
 
 /// The seconds of an expiry: 1 to 604800, in 1 to 6 digits without a leading zero.
 pub fn read_expiry(text: &[u8]) -> Option<u64>
     ensures some { IfSome result (IsExpiry text.now) }
     ensures none { IfNone result ((n : ℕ) → IsExpiry text.now n → ⊥) }
 {
-    if !is_short_number(text) {
-        return None;
-    }
-    if text[0] == b'0' {
-        return None;
-    }
-    let Ok(digits) = str::from_utf8(text) else {
-        return None;
-    };
-    let Ok(seconds) = digits.parse::<u64>() else {
-        return None;
-    };
-    if seconds == 0 || seconds > MOST_SECONDS {
+    let seconds = read_digits(text, 6)?;
+    if text[0] == b'0' || seconds == 0 || seconds > MOST_SECONDS {
         return None;
     }
     Some(seconds)

@@ -75,14 +75,16 @@ pub fn inspect<'a>(
     target: &Target<'a>,
     fields: &'a [Field<'a>],
 ) -> Result<LinkParts<'a>, Refusal>
-    ensures ok { IfOk result (λ l. (r : Request) → IsAskedBy method target.now (map header_of fields.now) r
+    ensures ok { IfOk result
+        (λ l. (r : Request) → IsAskedBy method target.now (map header_of fields.now) r
         → (p : LinkValues) × IsLinkOf l r p) }
     ensures err { IfErr result (λ q. (q ≢ Refusal.TryAgain)
         → (r : Request) → IsAskedBy method target.now (map header_of fields.now) r
         → IsFirstToFail (λ x p. HeadRule x r p) q) }
     ensures named { IfErr result (λ q. q ≡ Refusal.TryAgain
         → (r : Request) → IsAskedBy method target.now (map header_of fields.now) r
-        → (path : List ℕ) (params : List Param) → IsTargetOf r.target path params → HaveNames params) }
+        → (path : List ℕ) (params : List Param) → IsTargetOf r.target path params
+        → HaveNames params) }
 {
     let (params, six) = read_six(alloc, target)?;
     let window = read_window(&six)?;

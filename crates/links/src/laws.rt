@@ -13,7 +13,8 @@ ghost use Rattle.links.specs.Alike.{SameText, SaysTheSame};
 pub fn law_of_parts()
     ensures one { (r : Request) (p q : LinkValues) → IsWellFormed r p → IsWellFormed r q → q ≡ p }
     ensures admitted { (look_up : List ℕ → Option KnownKey) (r : Request) (n : Now)
-        (p : LinkValues) (k : KnownKey) → IsWellFormed r p → look_up p.key_id ≡ Some k → IsFalse k.revoked
+        (p : LinkValues) (k : KnownKey) → IsWellFormed r p → look_up p.key_id ≡ Some k
+        → IsFalse k.revoked
         → Admits look_up r n
         ↔ (IsSignedBy k.secret r p × HasBegun n p.start × IsNotOver n p.start p.expires) }
 {}
@@ -33,7 +34,9 @@ pub fn law_of_texts()
 /// for both orders these are the same too, so that the secret alone is not read back.
 pub fn law_of_links()
     ensures only { (t : Terms) (a b : List ℕ) → IsLinkFor t a → IsLinkFor t b → b ≡ a }
-    ensures told_back { (t u : Terms) (target : List ℕ) → IsLinkFor t target → IsLinkFor u target → TellTheSame t u }
-    ensures read_back { (t u : Terms) (target : List ℕ) (r : Request) → IsLinkFor t target → IsLinkFor u target
+    ensures told_back { (t u : Terms) (target : List ℕ) → IsLinkFor t target → IsLinkFor u target
+        → TellTheSame t u }
+    ensures read_back { (t u : Terms) (target : List ℕ) (r : Request) → IsLinkFor t target
+        → IsLinkFor u target
         → IsRequestFor t target r → IsRequestFor u target r → OrdersTheSame t u }
 {}

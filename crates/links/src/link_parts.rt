@@ -36,7 +36,9 @@ impl LinkParts<'_> {
 
     /// Appends the decoded path. An error leaves the vector: memory was refused.
     pub fn path_into(&self, out: &mut Vec<u8>) -> Result<(), AllocError>
-        ensures ok { OnOk result ((r : Request) (p : LinkValues) → IsLinkOf self.now r p → out.new.items ≡ out.old.items ++ p.path) }
+        ensures ok { OnOk result
+            ((r : Request) (p : LinkValues) → IsLinkOf self.now r p
+            → out.new.items ≡ out.old.items ++ p.path) }
         ensures err { OnErr result (out.new.items ≡ out.old.items) }
     {
         self.parts.target.path_into(out)
@@ -48,8 +50,11 @@ impl LinkParts<'_> {
     /// Memory was refused. It is asked for where the parameter is there.
     pub fn param(&self, alloc: Global, name: &[u8]) -> Result<Option<Vec<u8>>, AllocError>
         ensures found { IfOk result (λ found. (r : Request) (p : LinkValues) → IsLinkOf self.now r p
-            → MatchOption found ((value : List ℕ) → HasValue p.params name.now value → ⊥) (λ value. HasValue p.params name.now value.items)) }
-        ensures memory { IfErr result (λ e. (r : Request) (p : LinkValues) → IsLinkOf self.now r p → (value : List ℕ) × HasValue p.params name.now value) }
+            → MatchOption found ((value : List ℕ) → HasValue p.params name.now value → ⊥)
+            (λ value. HasValue p.params name.now value.items)) }
+        ensures memory { IfErr result
+            (λ e. (r : Request) (p : LinkValues) → IsLinkOf self.now r p
+            → (value : List ℕ) × HasValue p.params name.now value) }
     {
         let Some(raw) = self.parts.params.get(name) else {
             return Ok(None);

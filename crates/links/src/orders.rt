@@ -109,7 +109,8 @@ fn is_own_param(params: &[OrderParam<'_>], param: &OrderParam<'_>) -> bool
 }
 
 fn are_own_params(params: &[OrderParam<'_>]) -> bool
-    ensures { IsTrue result ↔ AllByRecursion (IsOwnParam (map param_of params.now)) (map param_of params.now) }
+    ensures { IsTrue result
+        ↔ AllByRecursion (IsOwnParam (map param_of params.now)) (map param_of params.now) }
 {
     params.iter().all(|param| is_own_param(params, param))
 }
@@ -128,7 +129,8 @@ fn is_bare_value(value: &[u8]) -> bool
 
 // Whether one header alone has this name, ASCII case aside.
 fn is_alone(headers: &[Field<'_>], name: &[u8]) -> bool
-    ensures { IsTrue result ↔ (length (named (lower_case name.now) (map header_of headers.now)) ≡ 1) }
+    ensures { IsTrue result
+        ↔ (length (named (lower_case name.now) (map header_of headers.now)) ≡ 1) }
 {
     only_field(headers, name).is_some()
 }
@@ -143,7 +145,8 @@ fn is_own_header(headers: &[Field<'_>], header: &Field<'_>) -> bool
 }
 
 fn are_own_headers(headers: &[Field<'_>]) -> bool
-    ensures { IsTrue result ↔ AllByRecursion (IsOwnHeader (map header_of headers.now)) (map header_of headers.now) }
+    ensures { IsTrue result
+        ↔ AllByRecursion (IsOwnHeader (map header_of headers.now)) (map header_of headers.now) }
 {
     headers.iter().all(|header| is_own_header(headers, header))
 }
@@ -170,7 +173,9 @@ pub(crate) fn check_order(
     region: &[u8],
 ) -> Result<(), LinkFault>
     ensures ok { OnOk result (AreSound (terms_of order.now key.now host.now region.now)) }
-    ensures err { IfErr result (λ f. (f ≢ LinkFault.Memory) × IsFirstFault (terms_of order.now key.now host.now region.now) f) }
+    ensures err { IfErr result
+        (λ f. (f ≢ LinkFault.Memory)
+        × IsFirstFault (terms_of order.now key.now host.now region.now) f) }
 {
     if Method::read(order.method).is_none() {
         return Err(LinkFault::Method);

@@ -98,7 +98,8 @@ fn has_other_name(target: &Target<'_>) -> bool
 
 // The raw values of the six, where all are there.
 fn raw_six<'a>(params: &Params<'a>) -> Option<RawSix<'a>>
-    ensures some { IfSome result (λ six. (ps : List Param) → HoldsParams params.now ps → AreRawSix six ps) }
+    ensures some { IfSome result
+        (λ six. (ps : List Param) → HoldsParams params.now ps → AreRawSix six ps) }
     ensures none { IfNone result ((ps : List Param) → HoldsParams params.now ps → AreThere ps → ⊥) }
 {
     let algorithm = params.get(b"X-Amz-Algorithm")?;
@@ -124,11 +125,16 @@ pub(crate) fn read_six<'a>(
     alloc: Global,
     target: &Target<'a>,
 ) -> Result<(Params<'a>, SixValues), Refusal>
-    ensures ok { IfOk result (λ found. (path : List ℕ) (params : List Param) → SpellsReading target.now path params
+    ensures ok { IfOk result
+        (λ found. (path : List ℕ) (params : List Param) → SpellsReading target.now path params
         → AreRightParams found.0 (texts_of found.1) params) }
-    ensures err { IfErr result (λ q. (q ≢ Refusal.TryAgain) → (path : List ℕ) (params : List Param) → SpellsReading target.now path params
+    ensures err { IfErr result
+        (λ q. (q ≢ Refusal.TryAgain) → (path : List ℕ) (params : List Param)
+        → SpellsReading target.now path params
         → AreWrongParams q params) }
-    ensures named { IfErr result (λ q. q ≡ Refusal.TryAgain → (path : List ℕ) (params : List Param) → SpellsReading target.now path params
+    ensures named { IfErr result
+        (λ q. q ≡ Refusal.TryAgain → (path : List ℕ) (params : List Param)
+        → SpellsReading target.now path params
         → HaveNames params) }
 {
     if !has_signing_name(target) {

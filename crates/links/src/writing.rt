@@ -42,8 +42,12 @@ fn signed_fields<'a>(
     host: &'a [u8],
     headers: &[Field<'a>],
 ) -> Result<Vec<Field<'a>>, AllocError>
-    ensures moved { IfOk result (λ v. IsPermutation (record { name = codes "host"; value = host.now } ∷ map header_of headers.now) (map header_of v.items)) }
-    ensures sorted { IfOk result (λ v. IsSortedBy (λ a b. is_lt (bytes_cmp a.name.now b.name.now)) v.items) }
+    ensures moved { IfOk result
+        (λ v. IsPermutation
+        (record { name = codes "host"; value = host.now } ∷ map header_of headers.now)
+        (map header_of v.items)) }
+    ensures sorted { IfOk result
+        (λ v. IsSortedBy (λ a b. is_lt (bytes_cmp a.name.now b.name.now)) v.items) }
 {
     let mut fields = Vec::new(alloc);
     fields.push(Field {
@@ -71,7 +75,8 @@ fn names_text(alloc: Global, fields: &[Field<'_>]) -> Result<Vec<u8>, AllocError
 
 // `<key id>/<yyyyMMdd>/<region>/s3/aws4_request`
 fn credential_text(alloc: Global, scope: &Scope<'_>) -> Result<Vec<u8>, AllocError>
-    ensures { IfOk result (λ t. t.items ≡ scope.now.key_id.now ++ 47 ∷ scope_text (scope_of scope.now)) }
+    ensures { IfOk result
+        (λ t. t.items ≡ scope.now.key_id.now ++ 47 ∷ scope_text (scope_of scope.now)) }
 {
     let mut text = Vec::from_slice(alloc, scope.key_id)?;
     text.push(b'/')?;
@@ -97,7 +102,9 @@ fn all_params<'a>(
     five: &DraftTexts<'a>,
     others: &[OrderParam<'a>],
 ) -> Result<Vec<OrderParam<'a>>, AllocError>
-    ensures { IfOk result (λ v. map param_of v.items ≡ draft_params (draft_values five.now) (map param_of others.now)) }
+    ensures { IfOk result
+        (λ v. map param_of v.items ≡ draft_params (draft_values five.now)
+        (map param_of others.now)) }
 {
     let mut params = Vec::from_slice(
         alloc,
@@ -131,7 +138,8 @@ fn all_params<'a>(
 // Appends the encoded name, `=` and the encoded value. Clause `bytes`: these are bytes, as their types say. That
 // the text can be read again rests on it.
 fn append_param(name: &[u8], value: &[u8], text: &mut Vec<u8>) -> Result<(), AllocError>
-    ensures written { OnOk result (text.new.items ≡ text.old.items ++ param_text (param name.now value.now)) }
+    ensures written { OnOk result
+        (text.new.items ≡ text.old.items ++ param_text (param name.now value.now)) }
     ensures bytes { HasBytes (param name.now value.now) }
 {
     uri_encode(name, Slash::Encoded, text)?;
@@ -143,7 +151,8 @@ fn append_param(name: &[u8], value: &[u8], text: &mut Vec<u8>) -> Result<(), All
 fn draft_text(alloc: Global, path: &[u8], params: &[OrderParam<'_>]) -> Result<Vec<u8>, AllocError>
     requires { 0 < length params.now }
     ensures written { IfOk result (λ t. t.items ≡ target_text path.now (map param_of params.now)) }
-    ensures bytes { IfOk result (λ t. AreBytes path.now × AllByRecursion HasBytes (map param_of params.now)) }
+    ensures bytes { IfOk result
+        (λ t. AreBytes path.now × AllByRecursion HasBytes (map param_of params.now)) }
 {
     let mut text = Vec::new(alloc);
     uri_encode(path, Slash::Kept, &mut text)?;
@@ -172,11 +181,16 @@ fn read_parts<'a>(
     fields: &'a [Field<'a>],
     names: &[u8],
 ) -> Result<Parts<'a>, AllocError>
-    requires target { (path : List ℕ) × (params : List Param) × IsTargetOf draft.now path params × StandOnce params }
+    requires target { (path : List ℕ) × (params : List Param) × IsTargetOf draft.now path params
+        × StandOnce params }
     requires names { AreSignedNames names.now (map (λ f. f.name.now) fields.now) }
-    requires values { AllHold (ValueRule (map header_of fields.now) (map (λ f. f.name.now) fields.now)) (map header_of fields.now) }
-    ensures { IfOk result (λ parts. (path : List ℕ) (params : List Param) → IsTargetOf draft.now path params
-        → AreOf parts (record { method = method.now; path = path; params = params; headers = map header_of fields.now })) }
+    requires values { AllHold
+        (ValueRule (map header_of fields.now) (map (λ f. f.name.now) fields.now))
+        (map header_of fields.now) }
+    ensures { IfOk result
+        (λ parts. (path : List ℕ) (params : List Param) → IsTargetOf draft.now path params
+        → AreOf parts
+        (record { method = method.now; path = path; params = params; headers = map header_of fields.now })) }
 {
     let Ok(target) = Target::read(draft) else {
         unreachable!()
@@ -228,7 +242,8 @@ fn link_text(
     region: &[u8],
 ) -> Result<Vec<u8>, AllocError>
     requires { AreSound (terms_of order.now key.now host.now region.now) }
-    ensures { IfOk result (λ t. IsLinkFor (terms_of order.now key.now host.now region.now) t.items) }
+    ensures { IfOk result
+        (λ t. IsLinkFor (terms_of order.now key.now host.now region.now) t.items) }
 {
     let fields = signed_fields(alloc, host, order.headers)?;
     let names = names_text(alloc, &fields)?;
@@ -274,8 +289,11 @@ pub fn write_link(
     ensures ok { OnOk result ((target : List ℕ) × (out.new.items ≡ out.old.items ++ target)
         × IsLinkFor (terms_of order.now key.now host.now region.now) target) }
     ensures err { OnErr result (out.new.items ≡ out.old.items) }
-    ensures fault { IfErr result (λ f. (f ≢ LinkFault.Memory) → IsFirstFault (terms_of order.now key.now host.now region.now) f) }
-    ensures memory { IfErr result (λ f. f ≡ LinkFault.Memory → AreSound (terms_of order.now key.now host.now region.now)) }
+    ensures fault { IfErr result
+        (λ f. (f ≢ LinkFault.Memory)
+        → IsFirstFault (terms_of order.now key.now host.now region.now) f) }
+    ensures memory { IfErr result
+        (λ f. f ≡ LinkFault.Memory → AreSound (terms_of order.now key.now host.now region.now)) }
 {
     check_order(order, key, host, region)?;
     let Ok(text) = link_text(alloc, order, key, host, region) else {

@@ -28,3 +28,5 @@ pub mod EncodedSpells
 pub mod Keyed
 pub mod QueryTexts
 pub mod SameTexts
+pub mod DigitTexts
+pub mod Needles

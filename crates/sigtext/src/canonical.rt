@@ -39,9 +39,11 @@ pub struct Parts<'a> {
 /// in it. No memory is taken but the sink's, and the time is linear.
 pub fn canonical_into<S: ByteSink>(parts: &Parts<'_>, sink: &mut S) -> Result<(), AllocError>
     ensures ok { OnOk result ((signed : Signed) → AreOf parts.now signed
-        → (text : List ℕ) × IsTheOnly (IsCanonicalRequest signed) text × S.takes sink.old text sink.new) }
+        → (text : List ℕ) × IsTheOnly (IsCanonicalRequest signed) text
+        × S.takes sink.old text sink.new) }
     ensures err { OnErr result ((signed : Signed) → AreOf parts.now signed
-        → (text : List ℕ) × IsTheOnly (IsCanonicalRequest signed) text × TakesBeginning S.takes sink.old text sink.new) }
+        → (text : List ℕ) × IsTheOnly (IsCanonicalRequest signed) text
+        × TakesBeginning S.takes sink.old text sink.new) }
     ensures sure { S.never_fails ≡ true → IsOk result }
 {
     let items = parts.params.items.as_slice();
@@ -61,9 +63,11 @@ impl Params<'_> {
     /// signature, joined by `&`. An error is the sink's, and leaves a beginning of the text in it.
     pub fn query_into<S: ByteSink>(&self, sink: &mut S) -> Result<(), AllocError>
         ensures ok { OnOk result ((params : List Param) → HoldsParams self.now params
-            → (query : List ℕ) × IsTheOnly (IsCanonicalQuery params) query × S.takes sink.old query sink.new) }
+            → (query : List ℕ) × IsTheOnly (IsCanonicalQuery params) query
+            × S.takes sink.old query sink.new) }
         ensures err { OnErr result ((params : List Param) → HoldsParams self.now params
-            → (query : List ℕ) × IsTheOnly (IsCanonicalQuery params) query × TakesBeginning S.takes sink.old query sink.new) }
+            → (query : List ℕ) × IsTheOnly (IsCanonicalQuery params) query
+            × TakesBeginning S.takes sink.old query sink.new) }
         ensures sure { S.never_fails ≡ true → IsOk result }
     {
         send_query(self.items.as_slice(), sink)
@@ -82,8 +86,12 @@ fn send_line<S: ByteSink>(text: &[u8], sink: &mut S) -> Result<(), AllocError>
 
 // Sends the encoded form of the path that the raw one decodes to, with each `/` as it is, and a line feed.
 fn send_path<S: ByteSink>(raw: &[u8], sink: &mut S) -> Result<(), AllocError>
-    ensures ok { OnOk result (S.takes sink.old (uri_encoded Slash.Kept (percent.percent_decode raw.now) ++ 10 ∷ []) sink.new) }
-    ensures err { OnErr result (TakesBeginning S.takes sink.old (uri_encoded Slash.Kept (percent.percent_decode raw.now) ++ 10 ∷ []) sink.new) }
+    ensures ok { OnOk result
+        (S.takes sink.old
+        (uri_encoded Slash.Kept (percent.percent_decode raw.now) ++ 10 ∷ []) sink.new) }
+    ensures err { OnErr result
+        (TakesBeginning S.takes sink.old
+        (uri_encoded Slash.Kept (percent.percent_decode raw.now) ++ 10 ∷ []) sink.new) }
     ensures sure { S.never_fails ≡ true → IsOk result }
 {
     send_recoded(raw, Slash::Kept, sink)?;
@@ -92,7 +100,8 @@ fn send_path<S: ByteSink>(raw: &[u8], sink: &mut S) -> Result<(), AllocError>
 
 // Whether the decoded name is that of the signature.
 fn is_signature(raw: &RawParam<'_>) -> bool
-    ensures { result ≡ same_bytes (percent.percent_decode raw.now.name.now) (codes "X-Amz-Signature") }
+    ensures { result ≡ same_bytes (percent.percent_decode raw.now.name.now)
+        (codes "X-Amz-Signature") }
 {
     decodes_to(raw.name, b"X-Amz-Signature")
 }
@@ -100,7 +109,8 @@ fn is_signature(raw: &RawParam<'_>) -> bool
 // Sends the encoded name, `=` and the encoded value.
 fn send_param<S: ByteSink>(raw: &RawParam<'_>, sink: &mut S) -> Result<(), AllocError>
     ensures ok { OnOk result (S.takes sink.old (param_text (decoded_param raw.now)) sink.new) }
-    ensures err { OnErr result (TakesBeginning S.takes sink.old (param_text (decoded_param raw.now)) sink.new) }
+    ensures err { OnErr result
+        (TakesBeginning S.takes sink.old (param_text (decoded_param raw.now)) sink.new) }
     ensures sure { S.never_fails ≡ true → IsOk result }
 {
     send_recoded(raw.name, Slash::Encoded, sink)?;
@@ -110,8 +120,14 @@ fn send_param<S: ByteSink>(raw: &RawParam<'_>, sink: &mut S) -> Result<(), Alloc
 
 // Sends the parameters but the signature, joined by `&`.
 fn send_query<S: ByteSink>(items: &[RawParam<'_>], sink: &mut S) -> Result<(), AllocError>
-    ensures ok { OnOk result (S.takes sink.old (join_with_byte 38 (map param_text (signed_params (map decoded_param items.now)))) sink.new) }
-    ensures err { OnErr result (TakesBeginning S.takes sink.old (join_with_byte 38 (map param_text (signed_params (map decoded_param items.now)))) sink.new) }
+    ensures ok { OnOk result
+        (S.takes sink.old
+        (join_with_byte 38
+        (map param_text (signed_params (map decoded_param items.now)))) sink.new) }
+    ensures err { OnErr result
+        (TakesBeginning S.takes sink.old
+        (join_with_byte 38
+        (map param_text (signed_params (map decoded_param items.now)))) sink.new) }
     ensures sure { S.never_fails ≡ true → IsOk result }
 {
     let mut separator: &[u8] = b"";
@@ -128,8 +144,12 @@ fn send_query<S: ByteSink>(items: &[RawParam<'_>], sink: &mut S) -> Result<(), A
 
 // Sends the name in lower case, `:`, the value and a line feed.
 fn send_header<S: ByteSink>(field: &Field<'_>, sink: &mut S) -> Result<(), AllocError>
-    ensures ok { OnOk result (S.takes sink.old (lower_case field.now.name.now ++ 58 ∷ field.now.value.now ++ 10 ∷ []) sink.new) }
-    ensures err { OnErr result (TakesBeginning S.takes sink.old (lower_case field.now.name.now ++ 58 ∷ field.now.value.now ++ 10 ∷ []) sink.new) }
+    ensures ok { OnOk result
+        (S.takes sink.old
+        (lower_case field.now.name.now ++ 58 ∷ field.now.value.now ++ 10 ∷ []) sink.new) }
+    ensures err { OnErr result
+        (TakesBeginning S.takes sink.old
+        (lower_case field.now.name.now ++ 58 ∷ field.now.value.now ++ 10 ∷ []) sink.new) }
     ensures sure { S.never_fails ≡ true → IsOk result }
 {
     send_lower_case(field.name, sink)?;
@@ -139,8 +159,11 @@ fn send_header<S: ByteSink>(field: &Field<'_>, sink: &mut S) -> Result<(), Alloc
 
 // Sends the headers, one after another.
 fn send_headers<S: ByteSink>(fields: &[Field<'_>], sink: &mut S) -> Result<(), AllocError>
-    ensures ok { OnOk result (S.takes sink.old (canonical_headers (map signed_header fields.now)) sink.new) }
-    ensures err { OnErr result (TakesBeginning S.takes sink.old (canonical_headers (map signed_header fields.now)) sink.new) }
+    ensures ok { OnOk result
+        (S.takes sink.old (canonical_headers (map signed_header fields.now)) sink.new) }
+    ensures err { OnErr result
+        (TakesBeginning S.takes sink.old
+        (canonical_headers (map signed_header fields.now)) sink.new) }
     ensures sure { S.never_fails ≡ true → IsOk result }
 {
     for field in fields {
@@ -151,8 +174,10 @@ fn send_headers<S: ByteSink>(fields: &[Field<'_>], sink: &mut S) -> Result<(), A
 
 // Sends the names of the headers in lower case, joined by `;`.
 fn send_names<S: ByteSink>(fields: &[Field<'_>], sink: &mut S) -> Result<(), AllocError>
-    ensures ok { OnOk result (S.takes sink.old (signed_headers (map signed_header fields.now)) sink.new) }
-    ensures err { OnErr result (TakesBeginning S.takes sink.old (signed_headers (map signed_header fields.now)) sink.new) }
+    ensures ok { OnOk result
+        (S.takes sink.old (signed_headers (map signed_header fields.now)) sink.new) }
+    ensures err { OnErr result
+        (TakesBeginning S.takes sink.old (signed_headers (map signed_header fields.now)) sink.new) }
     ensures sure { S.never_fails ≡ true → IsOk result }
 {
     let mut separator: &[u8] = b"";

@@ -7,6 +7,7 @@ ghost use Rattle.sigtext.specs.SignedHeaders.{Header, is_blank, without_leading_
 ghost use Rattle.sigtext.specs.SignedValues.{IsFitValue};
 
 use crate::field::Field;
+use memchr::memmem;
 
 /// Whether the two names are one, ASCII case aside.
 pub(crate) fn is_same_name(a: &[u8], b: &[u8]) -> bool
@@ -24,8 +25,10 @@ pub(crate) fn is_amz_name(name: &[u8]) -> bool
 
 /// The one field of this name, ASCII case aside; `None` where there is none, or two.
 pub fn only_field<'a>(fields: &[Field<'a>], name: &[u8]) -> Option<Field<'a>>
-    ensures some { IfSome result (λ f. named (lower_case name.now) (map header_of fields.now) ≡ header_of f ∷ []) }
-    ensures none { IfNone result ((h : Header) → named (lower_case name.now) (map header_of fields.now) ≡ h ∷ [] → ⊥) }
+    ensures some { IfSome result
+        (λ f. named (lower_case name.now) (map header_of fields.now) ≡ header_of f ∷ []) }
+    ensures none { IfNone result
+        ((h : Header) → named (lower_case name.now) (map header_of fields.now) ≡ h ∷ [] → ⊥) }
 {
     let mut found: Option<Field<'a>> = None;
     for field in fields {
@@ -76,12 +79,7 @@ pub fn trim_blanks(value: &[u8]) -> &[u8]
 fn has_double_space(value: &[u8]) -> bool
     ensures { IsFalse result ↔ ((a b : List ℕ) → value.now ≢ a ++ 32 ∷ 32 ∷ b) }
 {
-    for i in 1..value.len() {
-        if value[i - 1] == b' ' && value[i] == b' ' {
-            return true;
-        }
-    }
-    false
+    memmem::find(value, b"  ").is_some()
 }
 
 fn is_plain(value: &[u8]) -> bool

@@ -2,6 +2,7 @@
 #![tactic(auto)]
 
 pub mod canonical;
+pub mod digits;
 pub mod encode;
 pub mod escapes;
 pub mod field;
@@ -18,6 +19,7 @@ pub mod values;
 pub mod words;
 
 pub use canonical::{Parts, canonical_into};
+pub use digits::{are_digits, read_digits};
 pub use encode::{Slash, uri_encode};
 pub use escapes::decodes_to;
 pub use field::Field;

@@ -17,8 +17,12 @@ impl<'a> SignedNames<'a> {
     /// Reads the names, which are joined by `;`. Each is 1 to 64 bytes of `a-z 0-9 - _ .`. Any other text
     /// is refused with number 15. Nothing is copied, and the time is linear.
     pub fn read(text: &'a [u8]) -> Result<SignedNames<'a>, Refusal>
-        ensures ok { IfOk result (λ n. (n.text.now ≡ text.now) × ((names : List (List ℕ)) × AreSignedNames text.now names)) }
-        ensures err { IfErr result (λ q. (q ≡ Refusal.SignedHeaders) × ((names : List (List ℕ)) → AreSignedNames text.now names → ⊥)) }
+        ensures ok { IfOk result
+            (λ n. (n.text.now ≡ text.now)
+            × ((names : List (List ℕ)) × AreSignedNames text.now names)) }
+        ensures err { IfErr result
+            (λ q. (q ≡ Refusal.SignedHeaders)
+            × ((names : List (List ℕ)) → AreSignedNames text.now names → ⊥)) }
     {
         if has_form(text) && are_ascending(text) && has_host(text) {
             Ok(SignedNames { text })

@@ -29,10 +29,12 @@ impl<'a> Params<'a> {
     /// Sorts the parameters of a target by their encoded names. Where two have one decoded name, that is
     /// refusal 10; where memory is refused, refusal 40. It takes O(n log n) comparisons of names.
     pub fn read(alloc: Global, target: &Target<'a>) -> Result<Params<'a>, Refusal>
-        ensures ok { IfOk result (λ sorted. (path : List ℕ) (params : List Param) → SpellsReading target.now path params
+        ensures ok { IfOk result
+            (λ sorted. (path : List ℕ) (params : List Param) → SpellsReading target.now path params
             → HoldsParams sorted params) }
         ensures err { IfErr result (λ q. (q ≢ Refusal.TryAgain) → (q ≡ Refusal.Parameters)
-            × ((path : List ℕ) (params : List Param) → SpellsReading target.now path params → StandOnce params → ⊥)) }
+            × ((path : List ℕ) (params : List Param) → SpellsReading target.now path params
+            → StandOnce params → ⊥)) }
     {
         let Ok(mut items) = collect(alloc, target) else {
             return Err(Refusal::TryAgain);
@@ -48,8 +50,11 @@ impl<'a> Params<'a> {
     /// The raw value of the parameter of this decoded name.
     pub fn get(&self, name: &[u8]) -> Option<&'a [u8]>
         ensures some { IfSome result (λ raw. (params : List Param) → HoldsParams self.now params
-            → (value : List ℕ) × Spells (38 ∷ []) raw.now value × (params_named name.now params ≡ record { name = name.now; value = value } ∷ [])) }
-        ensures none { IfNone result ((params : List Param) → HoldsParams self.now params → params_named name.now params ≡ []) }
+            → (value : List ℕ) × Spells (38 ∷ []) raw.now value
+            × (params_named name.now params ≡ record { name = name.now; value = value } ∷ [])) }
+        ensures none { IfNone result
+            ((params : List Param) → HoldsParams self.now params
+            → params_named name.now params ≡ []) }
     {
         for raw in &self.items {
             if decodes_to(raw.name, name) {
@@ -61,7 +66,8 @@ impl<'a> Params<'a> {
 }
 
 fn collect<'a>(alloc: Global, target: &Target<'a>) -> Result<Vec<RawParam<'a>>, AllocError>
-    ensures { IfOk result (λ items. (path : List ℕ) (params : List Param) → SpellsReading target.now path params
+    ensures { IfOk result
+        (λ items. (path : List ℕ) (params : List Param) → SpellsReading target.now path params
         → SpellRawParams items.items params) }
 {
     let mut items = Vec::with_capacity(alloc, target.pairs().count())?;
@@ -93,7 +99,8 @@ fn compare_names(a: &[u8], b: &[u8]) -> Ordering
 
 // Whether each encoded name is below the next one.
 fn names_ascend(items: &[RawParam]) -> bool
-    ensures { result ≡ ascends (map (λ raw. uri_encoded slash.Encoded (percent.percent_decode raw.name.now)) items.now) }
+    ensures { result ≡ ascends
+        (map (λ raw. uri_encoded slash.Encoded (percent.percent_decode raw.name.now)) items.now) }
 {
     items.is_sorted_by(|a, b| compare_names(a.name, b.name).is_lt())
 }

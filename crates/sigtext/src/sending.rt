@@ -17,7 +17,8 @@ pub(crate) fn send_encoded<S: ByteSink>(
     sink: &mut S,
 ) -> Result<(), AllocError>
     ensures ok { OnOk result (S.takes sink.old (uri_encoded slash bytes.now) sink.new) }
-    ensures err { OnErr result (TakesBeginning S.takes sink.old (uri_encoded slash bytes.now) sink.new) }
+    ensures err { OnErr result
+        (TakesBeginning S.takes sink.old (uri_encoded slash bytes.now) sink.new) }
     ensures sure { S.never_fails ≡ true → IsOk result }
 {
     for piece in percent_encode(bytes, escaped(slash)) {
@@ -33,8 +34,11 @@ pub(crate) fn send_recoded<S: ByteSink>(
     slash: Slash,
     sink: &mut S,
 ) -> Result<(), AllocError>
-    ensures ok { OnOk result (S.takes sink.old (uri_encoded slash (percent.percent_decode raw.now)) sink.new) }
-    ensures err { OnErr result (TakesBeginning S.takes sink.old (uri_encoded slash (percent.percent_decode raw.now)) sink.new) }
+    ensures ok { OnOk result
+        (S.takes sink.old (uri_encoded slash (percent.percent_decode raw.now)) sink.new) }
+    ensures err { OnErr result
+        (TakesBeginning S.takes sink.old
+        (uri_encoded slash (percent.percent_decode raw.now)) sink.new) }
     ensures sure { S.never_fails ≡ true → IsOk result }
 {
     for byte in percent_decode(raw) {

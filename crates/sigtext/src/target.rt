@@ -54,7 +54,8 @@ impl<'a> Target<'a> {
     /// text is an error. Nothing is copied, and the time is linear.
     pub fn read(text: &'a [u8]) -> Result<Target<'a>, TextFault>
         ensures ok { IfOk result (λ t. IsReadFrom text.now t) }
-        ensures err { OnErr result ((path : List ℕ) (params : List Param) → IsTargetOf text.now path params → ⊥) }
+        ensures err { OnErr result
+            ((path : List ℕ) (params : List Param) → IsTargetOf text.now path params → ⊥) }
     {
         if text.is_empty() || text[0] != b'/' {
             return Err(TextFault);
@@ -167,7 +168,8 @@ fn begins_escape(text: &[u8]) -> bool
 fn spelling_len(text: &[u8], barred: &[u8]) -> Option<usize>
     requires { 0 < length text.now }
     ensures within { IfSome result (λ n. (0 < n) × (n ≤ length text.now)) }
-    ensures some { IfSome result (λ n. SpellsSome barred.now (drop n text.now) ↔ SpellsSome barred.now text.now) }
+    ensures some { IfSome result
+        (λ n. SpellsSome barred.now (drop n text.now) ↔ SpellsSome barred.now text.now) }
     ensures none { IfNone result (¬ SpellsSome barred.now text.now) }
 {
     if begins_escape(text) {

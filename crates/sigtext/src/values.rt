@@ -33,7 +33,8 @@ pub fn signed_values<'a>(
 ) -> Result<Values<'a>, Refusal>
     ensures ok { IfOk result (λ v. (ns : List (List ℕ)) → AreSignedNames names.now.text.now ns
         → AllHold (ValueRule (map header_of fields.now) ns) (values_of v)) }
-    ensures err { IfErr result (λ q. (ns : List (List ℕ)) → AreSignedNames names.now.text.now ns → (q ≢ Refusal.TryAgain)
+    ensures err { IfErr result
+        (λ q. (ns : List (List ℕ)) → AreSignedNames names.now.text.now ns → (q ≢ Refusal.TryAgain)
         → IsFirstToFail (ValueRule (map header_of fields.now) ns) q) }
 {
     let values = values_named(alloc, fields, names.text())?;
@@ -49,9 +50,14 @@ fn values_named<'a>(
     fields: &'a [Field<'a>],
     names: &[u8],
 ) -> Result<Values<'a>, Refusal>
-    ensures ok { IfOk result (λ v. ValueRule (map header_of fields.now) (map lower_case (slice_split (λ b. b == 59) names.now)) Refusal.SignedValues (values_of v)) }
+    ensures ok { IfOk result
+        (λ v. ValueRule (map header_of fields.now)
+        (map lower_case (slice_split (λ b. b == 59) names.now)) Refusal.SignedValues
+        (values_of v)) }
     ensures err { IfErr result (λ q. (q ≢ Refusal.TryAgain) → (q ≡ Refusal.SignedValues)
-        × ((signed : List Header) → ValueRule (map header_of fields.now) (map lower_case (slice_split (λ b. b == 59) names.now)) Refusal.SignedValues signed → ⊥)) }
+        × ((signed : List Header)
+        → ValueRule (map header_of fields.now)
+        (map lower_case (slice_split (λ b. b == 59) names.now)) Refusal.SignedValues signed → ⊥)) }
 {
     let most = names.split(|byte| *byte == b';').count().min(fields.len());
     let Ok(mut values) = Vec::with_capacity(alloc, most) else {
@@ -71,8 +77,11 @@ fn values_named<'a>(
 // The one field of this name, with its value trimmed, which is fit.
 fn signed_field<'a>(fields: &[Field<'a>], name: &[u8]) -> Option<Field<'a>>
     ensures some { IfSome result (λ f. (lower_case f.name.now ≡ lower_case name.now)
-        × IsSignedValue (map header_of fields.now) (lower_case name.now) f.value.now × IsFitValue f.value.now) }
-    ensures none { IfNone result ((value : List ℕ) → IsSignedValue (map header_of fields.now) (lower_case name.now) value → IsFitValue value → ⊥) }
+        × IsSignedValue (map header_of fields.now) (lower_case name.now) f.value.now
+        × IsFitValue f.value.now) }
+    ensures none { IfNone result
+        ((value : List ℕ) → IsSignedValue (map header_of fields.now) (lower_case name.now) value
+        → IsFitValue value → ⊥) }
 {
     let field = only_field(fields, name)?;
     let value = trim_blanks(field.value);
@@ -99,7 +108,8 @@ fn covers(signed: &[Field<'_>], field: &Field<'_>) -> bool
 
 // Whether each field whose name begins with `x-amz-` is one of the signed ones.
 fn covers_all(signed: &[Field<'_>], fields: &[Field<'_>]) -> bool
-    ensures { result ≡ list_all (is_covered (map signed_header signed.now)) (map header_of fields.now) }
+    ensures { result ≡ list_all (is_covered (map signed_header signed.now))
+        (map header_of fields.now) }
 {
     fields.iter().all(|field| covers(signed, field))
 }

@@ -30,7 +30,8 @@ struct Derived {
     date: ArrayVec<u8, DAY>,
     region: ArrayVec<u8, MOST_REGION>,
     key: [u8; 32],
-    ghost is_derived: { key ≡ signing_key secret.items (record { date = date.items; region = region.items }) },
+    ghost is_derived: { key ≡ signing_key secret.items
+        (record { date = date.items; region = region.items }) },
 }
 
 impl Derived {

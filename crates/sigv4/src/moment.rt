@@ -9,9 +9,6 @@ use std::marker::Model;
 
 const SECONDS_PER_DAY: u64 = 86_400;
 
-// The days from -9999-01-01, the first date that `jiff` has, to 1970-01-01.
-const DAYS_TO_1970: u32 = 4_371_587;
-
 // 9999-12-31T23:59:59Z
 const LAST_SECOND: u64 = 253_402_300_799;
 
@@ -43,8 +40,12 @@ fn digit(number: u16, unit: u16) -> u8
 // The number that two digits write.
 fn pair(text: &[u8; 16], at: usize) -> Option<u8>
     requires { at < 15 }
-    ensures found { IfSome result (λ n. (n < 100) × (slice_index text.now at ≡ 48 + n / 10 % 10) × (slice_index text.now (at + 1) ≡ 48 + n % 10)) }
-    ensures absent { IfNone result ((n : ℕ) → slice_index text.now at ≡ 48 + n / 10 % 10 → slice_index text.now (at + 1) ≡ 48 + n % 10 → ⊥) }
+    ensures found { IfSome result
+        (λ n. (n < 100) × (slice_index text.now at ≡ 48 + n / 10 % 10)
+        × (slice_index text.now (at + 1) ≡ 48 + n % 10)) }
+    ensures absent { IfNone result
+        ((n : ℕ) → slice_index text.now at ≡ 48 + n / 10 % 10
+        → slice_index text.now (at + 1) ≡ 48 + n % 10 → ⊥) }
 {
     let tens = text[at];
     let ones = text[at + 1];
@@ -60,7 +61,7 @@ fn date_of(day: u32) -> civil::Date
     requires { day ≤ 2932896 }
     ensures { epoch_day result ≡ pos day }
 {
-    civil::Date::from_days_since_min(day + DAYS_TO_1970)
+    civil::Date::from_unix_epoch_day(i64::from(day)).unwrap()
 }
 
 impl Stamp {
@@ -87,7 +88,8 @@ impl Stamp {
 
     // The moment, where the calendar has the date and the clock the time, from 1970 on.
     fn seconds(&self) -> Option<u64>
-        ensures found { IfSome result (λ n. dates.IsCivilTime (stamp_of self.now) × dates.IsSeconds (stamp_of self.now) n) }
+        ensures found { IfSome result
+            (λ n. dates.IsCivilTime (stamp_of self.now) × dates.IsSeconds (stamp_of self.now) n) }
         ensures absent { IfNone result (dates.IsCivilTime (stamp_of self.now) → ⊥) }
     {
         if self.year < 1970 || self.hour > 23 || self.minute > 59 || self.second > 59 {
@@ -104,7 +106,8 @@ impl Stamp {
     // What the bytes write.
     fn read(text: &[u8; 16]) -> Option<Stamp>
         ensures found { IfSome result (λ s. text.now ≡ dates.civil_time_text (stamp_of s)) }
-        ensures absent { IfNone result ((s : dates.CivilTime) → text.now ≡ dates.civil_time_text s → ⊥) }
+        ensures absent { IfNone result
+            ((s : dates.CivilTime) → text.now ≡ dates.civil_time_text s → ⊥) }
     {
         if text[8] != b'T' || text[15] != b'Z' {
             return None;
@@ -214,6 +217,7 @@ impl Moment {
 /// The law of moments and their texts: a text writes one moment at most, and a moment has one text at
 /// most. So what `text` gives `read` gives back, and the other way round.
 pub fn law_read_back()
-    ensures one_moment { (text : List ℕ) (m n : ℕ) → WritesMoment text m → WritesMoment text n → n ≡ m }
+    ensures one_moment { (text : List ℕ) (m n : ℕ) → WritesMoment text m → WritesMoment text n
+        → n ≡ m }
     ensures one_text { (t u : List ℕ) (m : ℕ) → WritesMoment t m → WritesMoment u m → t ≡ u }
 {}

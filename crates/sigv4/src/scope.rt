@@ -7,7 +7,7 @@ ghost use Rattle.sigv4.specs.Signature.{CredentialScope, scope_text};
 ghost use Rattle.sigv4.specs.Credential.{is_key_byte, is_region_byte, IsKeyId, IsRegion, IsSecret, IsCredential};
 ghost use Rattle.sigv4.specs.Scopes.{scope_of};
 
-use sigtext::{Refusal, is_visible, is_word};
+use sigtext::{Refusal, are_digits, cut, is_visible, is_word};
 
 /// A credential: the key id, and what of its scope is not fixed.
 #[derive(Clone, Copy, Debug)]
@@ -53,36 +53,27 @@ pub fn is_region(text: &[u8]) -> bool
     is_word(text, 32, is_region_byte)
 }
 
-fn are_digits(text: &[u8]) -> bool
-    ensures { result ≡ list_all is_ascii_digit text.now }
-{
-    text.iter().all(u8::is_ascii_digit)
-}
-
 // Eight digits, with which the date begins.
 fn is_day_of(day: &[u8], date: &[u8]) -> bool
-    ensures { IsTrue result ↔ ((length day.now ≡ 8) × IsTrue (list_all is_ascii_digit day.now) × IsTrue (begins_with date.now day.now)) }
+    ensures { IsTrue result
+        ↔ ((length day.now ≡ 8) × IsTrue (list_all is_ascii_digit day.now)
+        × IsTrue (begins_with date.now day.now)) }
 {
-    day.len() == 8 && are_digits(day) && date.starts_with(day)
-}
-
-// What stands before the first `/`, and what after it.
-fn cut(text: &[u8]) -> Option<(&[u8], &[u8])>
-    ensures found { IfSome result (λ parts. (text.now ≡ parts.0.now ++ 47 ∷ parts.1.now) × All (λ b. b ≢ 47) parts.0.now) }
-    ensures absent { IfNone result (All (λ b. b ≢ 47) text.now) }
-{
-    let at = text.iter().position(|byte| *byte == b'/')?;
-    Some((&text[..at], &text[at + 1..]))
+    day.len() == 8 && are_digits(day, 8) && date.starts_with(day)
 }
 
 // The parts of a credential, of any form.
 fn parts(credential: &[u8]) -> Option<Scope<'_>>
-    ensures found { IfSome result (λ s. (credential.now ≡ s.key_id.now ++ 47 ∷ scope_text (scope_of s)) × All (λ b. b ≢ 47) s.key_id.now × All (λ b. b ≢ 47) s.date.now) }
-    ensures absent { IfNone result ((key_id : List ℕ) (scope : CredentialScope) → All (λ b. b ≢ 47) key_id → All (λ b. b ≢ 47) scope.date → credential.now ≡ key_id ++ 47 ∷ scope_text scope → ⊥) }
+    ensures found { IfSome result
+        (λ s. (credential.now ≡ s.key_id.now ++ 47 ∷ scope_text (scope_of s))
+        × All (λ b. b ≢ 47) s.key_id.now × All (λ b. b ≢ 47) s.date.now) }
+    ensures absent { IfNone result
+        ((key_id : List ℕ) (scope : CredentialScope) → All (λ b. b ≢ 47) key_id
+        → All (λ b. b ≢ 47) scope.date → credential.now ≡ key_id ++ 47 ∷ scope_text scope → ⊥) }
 {
     let front = credential.strip_suffix(b"/s3/aws4_request")?;
-    let (key_id, rest) = cut(front)?;
-    let (date, region) = cut(rest)?;
+    let (key_id, rest) = cut(front, b'/')?;
+    let (date, region) = cut(rest, b'/')?;
     Some(Scope {
         key_id,
         date,
@@ -92,7 +83,10 @@ fn parts(credential: &[u8]) -> Option<Scope<'_>>
 
 // Whether each part has its form.
 fn is_well_formed(scope: &Scope<'_>, date: &[u8]) -> bool
-    ensures { IsTrue result ↔ (IsKeyId scope.now.key_id.now × ((length scope.now.date.now ≡ 8) × IsTrue (list_all is_ascii_digit scope.now.date.now) × IsTrue (begins_with date.now scope.now.date.now)) × IsRegion scope.now.region.now) }
+    ensures { IsTrue result
+        ↔ (IsKeyId scope.now.key_id.now
+        × ((length scope.now.date.now ≡ 8) × IsTrue (list_all is_ascii_digit scope.now.date.now)
+        × IsTrue (begins_with date.now scope.now.date.now)) × IsRegion scope.now.region.now) }
 {
     is_key_id(scope.key_id) && is_day_of(scope.date, date) && is_region(scope.region)
 }
@@ -106,8 +100,12 @@ impl<'a> Scope<'a> {
     ///
     /// `Refusal::Credential` where the credential is of another form, or its day another one.
     pub fn read(credential: &'a [u8], date: &[u8]) -> Result<Scope<'a>, Refusal>
-        ensures ok { IfOk result (λ s. IsCredential credential.now date.now s.key_id.now (scope_of s)) }
-        ensures err { IfErr result (λ r. (r ≡ Refusal.Credential) × ((key_id : List ℕ) (scope : CredentialScope) → IsCredential credential.now date.now key_id scope → ⊥)) }
+        ensures ok { IfOk result
+            (λ s. IsCredential credential.now date.now s.key_id.now (scope_of s)) }
+        ensures err { IfErr result
+            (λ r. (r ≡ Refusal.Credential)
+            × ((key_id : List ℕ) (scope : CredentialScope)
+            → IsCredential credential.now date.now key_id scope → ⊥)) }
     {
         let scope = parts(credential).ok_or(Refusal::Credential)?;
         if is_well_formed(&scope, date) {
