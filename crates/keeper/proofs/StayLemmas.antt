@@ -1,6 +1,6 @@
 -- What a call leaves that only counts a fault of memory.
 use Rattle.std.proofs.Common.{◌≡◌, ◌∙◌, inr, sym, Ok, Err}
-use Rattle.std.specs.Prelude.{◌≢◌, Result, IfErr, IsErrOf}
+use Rattle.std.specs.Prelude.{◌≢◌, Result, IfErr, OnOk, IsErrOf}
 use Rattle.sigtext.specs.Counts.{CountsErrors}
 use Rattle.boxes.specs.State.{State}
 use Rattle.keeper.specs.declared.keep.KeepFault.{KeepFault}
@@ -27,11 +27,16 @@ not_store (Ok x) e is = ok_err x is
     ok_err x e = cc
 not_store (Err f) e is = let it : f ≡ Store = cc in memory_store (sym e ∙ it)
 
+still_open : {T : Type 0} (result : Result T KeepFault) → OnOk result (Unit {0})
+still_open (Ok x) = tt
+still_open (Err f) = tt
+
 pub stays : {T : Type 0} (old new : Shelf) (result : Result T KeepFault) → ((s : State) → Holds old s → Holds new s) → CountsErrors old.faults new.faults result
-    → IfErr result (λ f. f ≡ Memory) → Stays Holds (λ _. Unit {0}) (λ k. k.faults) Holds (λ _. Unit {0}) ⊥ old new result
+    → IfErr result (λ f. f ≡ Memory) → Stays Holds (λ _. Unit {0}) (λ _. Unit {0}) (λ k. k.faults) Holds (λ _. Unit {0}) ⊥ old new result
 stays old new result same count fault = record {
   same = same;
   honest = λ h. tt;
+  opened = λ h was. still_open result;
   count = count;
   room = not_full result fault;
   store = not_store result fault;

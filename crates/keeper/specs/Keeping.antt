@@ -1,5 +1,5 @@
 -- What the calls of a keeper say, over its ghost members.
-use Rattle.std.specs.Prelude.{◌≡◌, ◌≢◌, ℕ, ◌⊎◌, Result, IfOk, IfErr, IsErrOf}
+use Rattle.std.specs.Prelude.{◌≡◌, ◌≢◌, ℕ, ◌⊎◌, Result, IfOk, IfErr, OnOk, IsErrOf}
 use Rattle.sigtext.specs.Counts.{CountsErrors}
 use Rattle.boxes.specs.State.{State}
 use Rattle.boxes.specs.Sound.{IsSound}
@@ -11,11 +11,13 @@ abbrev pub Answers : {K T : Type 0} → (K → State → Type 0) → (K → Type
 Answers means is_honest old new result Holds = (s : State) → means old s → IsSound s → is_honest new → IfOk result (Holds s)
 
 -- What a call leaves that changes nothing, whatever it answers: the state is the same, a store that is honest now was
--- so before, an error is counted, the office is never too full, only a store refuses by itself, and a crash leaves
--- nothing new but the standing state.
-pub record Stays {K T : Type 0} (means : K → State → Type 0) (is_honest : K → Type 0) (faults : K → ℕ) (leaves : K → State → Type 0) (leaves_whole : K → Type 0) (has_store : Type 0) (old new : K) (result : Result T KeepFault) : Type 0 where
+-- so before, one that was open is open after an answer, an error is counted, the office is never too full, only a store
+-- refuses by itself, and a crash leaves nothing new but the standing state.
+pub record Stays {K T : Type 0} (means : K → State → Type 0) (is_honest is_open : K → Type 0) (faults : K → ℕ)
+    (leaves : K → State → Type 0) (leaves_whole : K → Type 0) (has_store : Type 0) (old new : K) (result : Result T KeepFault) : Type 0 where
   pub same : (s : State) → means old s → means new s
   pub honest : is_honest new → is_honest old
+  pub opened : is_honest new → is_open old → OnOk result (is_open new)
   pub count : CountsErrors (faults old) (faults new) result
   pub room : IfErr result (λ f. f ≢ Full)
   pub store : IsErrOf result Store → has_store

@@ -2,3 +2,4 @@ pub mod Keeping
 pub mod Maps
 pub mod Shelves
 pub mod OneState
+pub mod Bound

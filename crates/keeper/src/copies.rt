@@ -18,7 +18,8 @@ pub(crate) fn copy_key(alloc: Global, key: &KeyRow) -> Result<KeyRow, AllocError
 
 /// A copy of texts.
 fn copy_texts(alloc: Global, texts: &[Vec<u8>]) -> Result<Vec<Vec<u8>>, AllocError>
-    ensures { IfOk result (λ copies. map (λ t. t.items) copies.items ≡ map (λ t. t.items) texts.now) }
+    ensures { IfOk result (λ copies. map (λ t. t.items) copies.items
+        ≡ map (λ t. t.items) texts.now) }
 {
     let mut copies = Vec::new(alloc);
     'texts: for text in texts {
@@ -75,7 +76,8 @@ pub(crate) fn copy_receipts(
     alloc: Global,
     receipts: &[ReceiptRow],
 ) -> Result<Vec<ReceiptRow>, AllocError>
-    ensures { IfOk result (λ copies. map numbered_receipt copies.items ≡ map numbered_receipt receipts.now) }
+    ensures { IfOk result (λ copies. map numbered_receipt copies.items
+        ≡ map numbered_receipt receipts.now) }
 {
     let mut copies = Vec::new(alloc);
     'receipts: for receipt in receipts {

@@ -54,68 +54,90 @@ pub trait Keeper {
     /// What the office is set to. Takes no memory.
     fn settings(&mut self) -> Result<OfficeRow, KeepFault>
         ensures value { Answers means is_honest self.old self.new result IsOfficeOf }
-        ensures rest { Stays means is_honest faults leaves leaves_whole has_store self.old self.new result }
+        ensures rest { Stays means is_honest is_open faults leaves leaves_whole has_store
+            self.old self.new result }
         ensures sure { OnErr result has_store };
 
     /// The key of this id.
     fn key(&mut self, id: &[u8]) -> Result<Option<KeyRow>, KeepFault>
-        ensures value { Answers means is_honest self.old self.new result (λ s k. option_map key_of k ≡ get s.keys id.now) }
-        ensures rest { Stays means is_honest faults leaves leaves_whole has_store self.old self.new result };
+        ensures value { Answers means is_honest self.old self.new result
+            (λ s k. option_map key_of k ≡ get s.keys id.now) }
+        ensures rest { Stays means is_honest is_open faults leaves leaves_whole has_store
+            self.old self.new result };
 
     /// The box of this name.
     fn box_row(&mut self, name: &[u8]) -> Result<Option<BoxRow>, KeepFault>
-        ensures value { Answers means is_honest self.old self.new result (λ s b. option_map settings_of b ≡ get s.boxes name.now) }
-        ensures rest { Stays means is_honest faults leaves leaves_whole has_store self.old self.new result };
+        ensures value { Answers means is_honest self.old self.new result
+            (λ s b. option_map settings_of b ≡ get s.boxes name.now) }
+        ensures rest { Stays means is_honest is_open faults leaves leaves_whole has_store
+            self.old self.new result };
 
     /// The file of this box and name, with its receipt.
     fn file(&mut self, in_box: &[u8], name: &[u8]) -> Result<Option<FileRow>, KeepFault>
-        ensures value { Answers means is_honest self.old self.new result (λ s f. IsFileAt s (record { box = in_box.now; name = name.now }) f) }
-        ensures rest { Stays means is_honest faults leaves leaves_whole has_store self.old self.new result };
+        ensures value { Answers means is_honest self.old self.new result
+            (λ s f. IsFileAt s (record { box = in_box.now; name = name.now }) f) }
+        ensures rest { Stays means is_honest is_open faults leaves leaves_whole has_store
+            self.old self.new result };
 
     /// What the box of this name holds; nothing, where it is not there. Takes no memory.
     fn sizes(&mut self, in_box: &[u8]) -> Result<Totals, KeepFault>
-        ensures value { Answers means is_honest self.old self.new result (λ s t. AreTotals s in_box.now t) }
-        ensures rest { Stays means is_honest faults leaves leaves_whole has_store self.old self.new result }
+        ensures value { Answers means is_honest self.old self.new result
+            (λ s t. AreTotals s in_box.now t) }
+        ensures rest { Stays means is_honest is_open faults leaves leaves_whole has_store
+            self.old self.new result }
         ensures sure { OnErr result has_store };
 
     /// How many unrevoked clerk's keys stand. Takes no memory.
     fn clerks(&mut self) -> Result<u64, KeepFault>
         ensures value { Answers means is_honest self.old self.new result (λ s n. n ≡ clerks s) }
-        ensures rest { Stays means is_honest faults leaves leaves_whole has_store self.old self.new result }
+        ensures rest { Stays means is_honest is_open faults leaves leaves_whole has_store
+            self.old self.new result }
         ensures sure { OnErr result has_store };
 
     /// The number of the next receipt. Takes no memory.
     fn next_number(&mut self) -> Result<u64, KeepFault>
-        ensures value { Answers means is_honest self.old self.new result (λ s n. n ≡ length s.receipts + 1) }
-        ensures rest { Stays means is_honest faults leaves leaves_whole has_store self.old self.new result }
+        ensures value { Answers means is_honest self.old self.new result
+            (λ s n. n ≡ length s.receipts + 1) }
+        ensures rest { Stays means is_honest is_open faults leaves leaves_whole has_store
+            self.old self.new result }
         ensures sure { OnErr result has_store };
 
     /// The receipts numbered `from` or more, ascending, at most `most`.
     fn receipts(&mut self, from: u64, most: usize) -> Result<Vec<ReceiptRow>, KeepFault>
-        ensures value { Answers means is_honest self.old self.new result (λ s rs. map numbered_receipt rs.items ≡ receipts_from s from most) }
-        ensures rest { Stays means is_honest faults leaves leaves_whole has_store self.old self.new result };
+        ensures value { Answers means is_honest self.old self.new result
+            (λ s rs. map numbered_receipt rs.items ≡ receipts_from s from most) }
+        ensures rest { Stays means is_honest is_open faults leaves leaves_whole has_store
+            self.old self.new result };
 
     /// Makes a change that the rules give for the state, whole or not at all. Where the office has its greatest number
     /// of receipts and the change would add one, no change is made: the error is `Full`, or the store's own. Elsewhere
     /// `Full` never comes.
     fn apply(&mut self, change: &Change<'_>) -> Result<(), KeepFault>
-        ensures made { (s after : State) → means self.old s → IsSound s → IsChangeOf s change.now after → OnOk result (means self.new after) }
+        ensures made { (s after : State) → means self.old s → IsSound s
+            → IsChangeOf s change.now after → OnOk result (means self.new after) }
         ensures same { (s : State) → means self.old s → OnErr result (means self.new s) }
         ensures honest { is_honest self.new → is_honest self.old }
         ensures opened { is_honest self.new → OnOk result (is_open self.new) }
         ensures count { CountsErrors (faults self.old) (faults self.new) result }
-        ensures full { (s after : State) → means self.old s → IsSound s → IsChangeOf s change.now after → IsErrOf result KeepFault.Full → IsPastFull s change.now }
-        ensures room { (s after : State) → means self.old s → IsSound s → IsChangeOf s change.now after → OnOk result (IsPastFull s change.now → ⊥) }
-        ensures first { (s after : State) → means self.old s → IsSound s → IsChangeOf s change.now after → IsPastFull s change.now
+        ensures full { (s after : State) → means self.old s → IsSound s
+            → IsChangeOf s change.now after → IsErrOf result KeepFault.Full
+            → IsPastFull s change.now }
+        ensures room { (s after : State) → means self.old s → IsSound s
+            → IsChangeOf s change.now after → OnOk result (IsPastFull s change.now → ⊥) }
+        ensures first { (s after : State) → means self.old s → IsSound s
+            → IsChangeOf s change.now after → IsPastFull s change.now
             → IfErr result (λ f. (f ≡ KeepFault.Full) ⊎ has_store) }
         ensures store { IsErrOf result KeepFault.Store → has_store }
-        ensures durable { (s after : State) → means self.old s → IsSound s → IsChangeOf s change.now after → is_honest self.new
+        ensures durable { (s after : State) → means self.old s → IsSound s
+            → IsChangeOf s change.now after → is_honest self.new
             → OnOk result (LeavesAlone leaves leaves_whole self.new after) }
-        ensures crash { (s after : State) → means self.old s → IsSound s → IsChangeOf s change.now after → is_honest self.new
+        ensures crash { (s after : State) → means self.old s → IsSound s
+            → IsChangeOf s change.now after → is_honest self.new
             → OnErr result (LeavesEither leaves leaves_whole self.old self.new s after) };
 
     /// An honest keeper that is open means one state.
-    ghost one: { (k : Self) (s t : State) → is_honest k → is_open k → means k s → means k t → s ≡ t };
+    ghost one: { (k : Self) (s t : State) → is_honest k → is_open k → means k s → means k t
+        → s ≡ t };
 
     /// A keeper without a store is honest and open at all times.
     ghost always: { (has_store → ⊥) → (k : Self) → is_honest k × is_open k };

@@ -82,7 +82,8 @@ fn copy_file(
     stored: &StoredFile,
     receipt: &ReceiptRow,
 ) -> Result<FileRow, AllocError>
-    ensures { IfOk result (λ f. (f.bytes.items ≡ stored.now.bytes.items) × (numbered_receipt f.receipt ≡ numbered_receipt receipt.now)) }
+    ensures { IfOk result (λ f. (f.bytes.items ≡ stored.now.bytes.items)
+        × (numbered_receipt f.receipt ≡ numbered_receipt receipt.now)) }
 {
     Ok(FileRow {
         bytes: Vec::from_slice(alloc, &stored.bytes)?,
@@ -92,7 +93,8 @@ fn copy_file(
 
 /// The receipt in the place of this number.
 fn numbered_of(receipts: &[ReceiptRow], number: u64) -> Option<&ReceiptRow>
-    ensures there { IfSome result (λ r. (at : ℕ) × (number ≡ at + 1) × (slice_get receipts.now at ≡ Some r.now)) }
+    ensures there { IfSome result (λ r. (at : ℕ) × (number ≡ at + 1)
+        × (slice_get receipts.now at ≡ Some r.now)) }
 {
     if number == 0 {
         return None;
@@ -123,7 +125,8 @@ impl Shelf {
 
     /// The key of this id.
     pub(crate) fn find_key(&mut self, id: &[u8]) -> Result<Option<KeyRow>, KeepFault>
-        ensures value { (s : State) → Holds self.old s → IfOk result (λ k. option_map key_of k ≡ get s.keys id.now) }
+        ensures value { (s : State) → Holds self.old s
+            → IfOk result (λ k. option_map key_of k ≡ get s.keys id.now) }
         ensures same { (s : State) → Holds self.old s → Holds self.new s }
         ensures count { CountsErrors self.old.faults self.new.faults result }
         ensures fault { IfErr result (λ f. f ≡ KeepFault.Memory) }
@@ -139,7 +142,8 @@ impl Shelf {
 
     /// The box of this name.
     pub(crate) fn find_box(&mut self, name: &[u8]) -> Result<Option<BoxRow>, KeepFault>
-        ensures value { (s : State) → Holds self.old s → IfOk result (λ b. option_map settings_of b ≡ get s.boxes name.now) }
+        ensures value { (s : State) → Holds self.old s
+            → IfOk result (λ b. option_map settings_of b ≡ get s.boxes name.now) }
         ensures same { (s : State) → Holds self.old s → Holds self.new s }
         ensures count { CountsErrors self.old.faults self.new.faults result }
         ensures fault { IfErr result (λ f. f ≡ KeepFault.Memory) }
@@ -159,7 +163,8 @@ impl Shelf {
         in_box: &[u8],
         name: &[u8],
     ) -> Result<Option<FileRow>, KeepFault>
-        ensures value { (s : State) → Holds self.old s → IsSound s → IfOk result (λ f. IsFileAt s (record { box = in_box.now; name = name.now }) f) }
+        ensures value { (s : State) → Holds self.old s → IsSound s
+            → IfOk result (λ f. IsFileAt s (record { box = in_box.now; name = name.now }) f) }
         ensures same { (s : State) → Holds self.old s → Holds self.new s }
         ensures count { CountsErrors self.old.faults self.new.faults result }
         ensures fault { IfErr result (λ f. f ≡ KeepFault.Memory) }
@@ -195,7 +200,8 @@ impl Shelf {
         from: u64,
         most: usize,
     ) -> Result<Vec<ReceiptRow>, KeepFault>
-        ensures value { (s : State) → Holds self.old s → IfOk result (λ rs. map numbered_receipt rs.items ≡ receipts_from s from most) }
+        ensures value { (s : State) → Holds self.old s
+            → IfOk result (λ rs. map numbered_receipt rs.items ≡ receipts_from s from most) }
         ensures same { (s : State) → Holds self.old s → Holds self.new s }
         ensures count { CountsErrors self.old.faults self.new.faults result }
         ensures fault { IfErr result (λ f. f ≡ KeepFault.Memory) }

@@ -84,8 +84,10 @@ impl Shelf {
         id: &[u8],
         secret: &[u8],
     ) -> Result<Shelf, KeepFault>
-        ensures means { IfOk result (λ k. ⟦<Shelf as Keeper>⟧.means k (first_state office.east id.now secret.now)) }
-        ensures sound { neg_ℤ (pos 840) ≤ℤ office.east → office.east ≤ℤ pos 840 → IsKeyId id.now → IsSecret secret.now
+        ensures means { IfOk result (λ k. ⟦<Shelf as Keeper>⟧.means k
+            (first_state office.east id.now secret.now)) }
+        ensures sound { neg_ℤ (pos 840) ≤ℤ office.east → office.east ≤ℤ pos 840 → IsKeyId id.now
+            → IsSecret secret.now
             → IsSound (first_state office.east id.now secret.now) }
         ensures honest { IfOk result ⟦<Shelf as Keeper>⟧.is_honest }
         ensures opened { IfOk result ⟦<Shelf as Keeper>⟧.is_open }

@@ -41,7 +41,9 @@ pub(crate) fn new_key(
 
 /// A box that is added, as it is kept. It holds nothing.
 fn new_box(alloc: Global, name: &[u8], row: &BoxRow) -> Result<(Vec<u8>, ShelvedBox), AllocError>
-    ensures { IfOk result (λ b. (b.0.items ≡ name.now) × (shelved_settings b.1 ≡ settings_of row.now) × (b.1.totals ≡ record { used = 0; count = 0 })) }
+    ensures { IfOk result (λ b. (b.0.items ≡ name.now)
+        × (shelved_settings b.1 ≡ settings_of row.now)
+        × (b.1.totals ≡ record { used = 0; count = 0 })) }
 {
     Ok((
         Vec::from_slice(alloc, name)?,
@@ -58,8 +60,10 @@ fn new_file(
     file: &NewFile<'_>,
     bytes: &[u8],
 ) -> Result<((Vec<u8>, Vec<u8>), StoredFile, ReceiptRow), AllocError>
-    ensures { IfOk result (λ f. (place_of f.0 ≡ record { box = file.now.in_box.now; name = file.now.name.now })
-        × (stored_file f.1 ≡ record { bytes = bytes.now; receipt = file.now.number }) × (numbered_receipt f.2 ≡ set_receipt file.now)) }
+    ensures { IfOk result
+        (λ f. (place_of f.0 ≡ record { box = file.now.in_box.now; name = file.now.name.now })
+        × (stored_file f.1 ≡ record { bytes = bytes.now; receipt = file.now.number })
+        × (numbered_receipt f.2 ≡ set_receipt file.now)) }
 {
     Ok((
         new_place(alloc, file.in_box, file.name)?,
@@ -91,7 +95,8 @@ fn length_of(file: &Option<StoredFile>) -> Option<u64>
 
 /// 1 where this id has an unrevoked clerk's key, and else 0.
 fn acting_at(keys: &BTreeMap<Vec<u8>, KeyRow>, id: &[u8]) -> u64
-    ensures { (k : KeyRow) → found bytes_cmp bytes_of keys.now.entries id.now ≡ Some k → result ≡ cond (is_acting (key_of k)) 1 0 }
+    ensures { (k : KeyRow) → found bytes_cmp bytes_of keys.now.entries id.now ≡ Some k
+        → result ≡ cond (is_acting (key_of k)) 1 0 }
 {
     match keys.get(id) {
         Some(key) => acting(key),
@@ -102,7 +107,8 @@ fn acting_at(keys: &BTreeMap<Vec<u8>, KeyRow>, id: &[u8]) -> u64
 /// The key of this id is revoked.
 fn mark_revoked(keys: &mut BTreeMap<Vec<u8>, KeyRow>, id: &[u8])
     ensures set { (k : KeyRow) → found bytes_cmp bytes_of keys.old.entries id.now ≡ Some k
-        → Sets bytes_cmp bytes_of id.now (Some (record k { revoked = true })) keys.old.entries keys.new.entries }
+        → Sets bytes_cmp bytes_of id.now (Some
+        (record k { revoked = true })) keys.old.entries keys.new.entries }
     ensures len { length keys.new.entries ≡ length keys.old.entries }
 {
     if let Some(key) = keys.get_mut(id) {
@@ -113,7 +119,8 @@ fn mark_revoked(keys: &mut BTreeMap<Vec<u8>, KeyRow>, id: &[u8])
 /// The box of this name closes for good at this second.
 fn set_closing(boxes: &mut BTreeMap<Vec<u8>, ShelvedBox>, name: &[u8], moment: u64)
     ensures { (b : ShelvedBox) → found bytes_cmp bytes_of boxes.old.entries name.now ≡ Some b
-        → Sets bytes_cmp bytes_of name.now (Some (record b { row = record b.row { closes = moment } })) boxes.old.entries boxes.new.entries }
+        → Sets bytes_cmp bytes_of name.now (Some
+        (record b { row = record b.row { closes = moment } })) boxes.old.entries boxes.new.entries }
 {
     if let Some(shelved) = boxes.get_mut(name) {
         shelved.row.closes = moment;
@@ -123,7 +130,8 @@ fn set_closing(boxes: &mut BTreeMap<Vec<u8>, ShelvedBox>, name: &[u8], moment: u
 /// The box of this name holds these totals.
 fn set_totals(boxes: &mut BTreeMap<Vec<u8>, ShelvedBox>, name: &[u8], totals: Totals)
     ensures { (b : ShelvedBox) → found bytes_cmp bytes_of boxes.old.entries name.now ≡ Some b
-        → Sets bytes_cmp bytes_of name.now (Some (record b { totals = totals })) boxes.old.entries boxes.new.entries }
+        → Sets bytes_cmp bytes_of name.now (Some
+        (record b { totals = totals })) boxes.old.entries boxes.new.entries }
 {
     if let Some(shelved) = boxes.get_mut(name) {
         shelved.totals = totals;
@@ -133,10 +141,13 @@ fn set_totals(boxes: &mut BTreeMap<Vec<u8>, ShelvedBox>, name: &[u8], totals: To
 impl Shelf {
     /// Sets a file to these bytes, and adds its receipt.
     pub(crate) fn set_file(&mut self, file: &NewFile<'_>, bytes: &[u8]) -> Result<(), KeepFault>
-        ensures made { (s after : State) → Holds self.old s → IsSound s → IsFileSet s file.now bytes.now after → OnOk result (Holds self.new after) }
+        ensures made { (s after : State) → Holds self.old s → IsSound s
+            → IsFileSet s file.now bytes.now after → OnOk result (Holds self.new after) }
         ensures same { (s : State) → Holds self.old s → OnErr result (Holds self.new s) }
         ensures count { CountsErrors self.old.faults self.new.faults result }
-        ensures fault { IfErr result (λ f. ((f ≡ KeepFault.Memory) × (file.now.number ≤ most_receipts)) ⊎ ((f ≡ KeepFault.Full) × (most_receipts < file.now.number))) }
+        ensures fault { IfErr result
+            (λ f. ((f ≡ KeepFault.Memory) × (file.now.number ≤ most_receipts))
+            ⊎ ((f ≡ KeepFault.Full) × (most_receipts < file.now.number))) }
         ensures room { OnOk result (file.now.number ≤ most_receipts) }
     {
         if !has_room(file.number) {
@@ -163,7 +174,9 @@ impl Shelf {
 
     /// Adds a key.
     fn add_key(&mut self, id: &[u8], role: Role, secret: &[u8]) -> Result<(), KeepFault>
-        ensures made { (s after : State) → Holds self.old s → IsObeyed s (AddKey id.now role secret.now) after → OnOk result (Holds self.new after) }
+        ensures made { (s after : State) → Holds self.old s
+            → IsObeyed s (AddKey id.now role secret.now) after
+            → OnOk result (Holds self.new after) }
         ensures same { (s : State) → Holds self.old s → OnErr result (Holds self.new s) }
         ensures count { CountsErrors self.old.faults self.new.faults result }
         ensures fault { IfErr result (λ f. f ≡ KeepFault.Memory) }
@@ -184,7 +197,8 @@ impl Shelf {
 
     /// Revokes a key. Takes no memory.
     fn revoke_key(&mut self, id: &[u8])
-        ensures made { (s after : State) → Holds self.old s → IsObeyed s (RevokeKey id.now) after → Holds self.new after }
+        ensures made { (s after : State) → Holds self.old s → IsObeyed s (RevokeKey id.now) after
+            → Holds self.new after }
         ensures faults { self.new.faults ≡ self.old.faults }
     {
         let gone = acting_at(&self.keys, id);
@@ -194,7 +208,9 @@ impl Shelf {
 
     /// Adds a box.
     fn add_box(&mut self, name: &[u8], row: &BoxRow) -> Result<(), KeepFault>
-        ensures made { (s after : State) → Holds self.old s → IsSound s → IsObeyed s (AddBox name.now (settings_of row.now)) after → OnOk result (Holds self.new after) }
+        ensures made { (s after : State) → Holds self.old s → IsSound s
+            → IsObeyed s (AddBox name.now (settings_of row.now)) after
+            → OnOk result (Holds self.new after) }
         ensures same { (s : State) → Holds self.old s → OnErr result (Holds self.new s) }
         ensures count { CountsErrors self.old.faults self.new.faults result }
         ensures fault { IfErr result (λ f. f ≡ KeepFault.Memory) }
@@ -210,7 +226,8 @@ impl Shelf {
 
     /// Sets when a box closes for good. Takes no memory.
     fn close_box(&mut self, name: &[u8], moment: u64)
-        ensures made { (s after : State) → Holds self.old s → IsObeyed s (CloseBox name.now moment) after → Holds self.new after }
+        ensures made { (s after : State) → Holds self.old s
+            → IsObeyed s (CloseBox name.now moment) after → Holds self.new after }
         ensures faults { self.new.faults ≡ self.old.faults }
     {
         set_closing(&mut self.boxes, name, moment);
@@ -218,7 +235,9 @@ impl Shelf {
 
     /// Takes out a file. Its receipt stays.
     fn drop_file(&mut self, in_box: &[u8], name: &[u8]) -> Result<(), KeepFault>
-        ensures made { (s after : State) → Holds self.old s → IsSound s → IsObeyed s (DropFile (record { box = in_box.now; name = name.now })) after → OnOk result (Holds self.new after) }
+        ensures made { (s after : State) → Holds self.old s → IsSound s
+            → IsObeyed s (DropFile (record { box = in_box.now; name = name.now })) after
+            → OnOk result (Holds self.new after) }
         ensures same { (s : State) → Holds self.old s → OnErr result (Holds self.new s) }
         ensures count { CountsErrors self.old.faults self.new.faults result }
         ensures fault { IfErr result (λ f. f ≡ KeepFault.Memory) }
@@ -236,7 +255,8 @@ impl Shelf {
 
     /// Does what a command of the desk says.
     pub(crate) fn obey(&mut self, command: &Command<'_>) -> Result<(), KeepFault>
-        ensures made { (s after : State) → Holds self.old s → IsSound s → IsObeyed s (command_of command.now) after → OnOk result (Holds self.new after) }
+        ensures made { (s after : State) → Holds self.old s → IsSound s
+            → IsObeyed s (command_of command.now) after → OnOk result (Holds self.new after) }
         ensures same { (s : State) → Holds self.old s → OnErr result (Holds self.new s) }
         ensures count { CountsErrors self.old.faults self.new.faults result }
         ensures fault { IfErr result (λ f. f ≡ KeepFault.Memory) }
