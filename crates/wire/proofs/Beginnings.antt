@@ -3,13 +3,13 @@ use Rattle.std.proofs.Common.{◌≡◌, ℕ, Bool, List, Option, Result, Ok, Er
 use Rattle.wire.specs.declared.fault.WireFault.{WireFault}
 use Rattle.wire.specs.declared.feed.Place.{Place}
 use Rattle.wire.specs.declared.feed.Place.TheVariants as place
-use Rattle.wire.specs.Feeding.{Told, Opened, Finds, GivesStep, told}
+use Rattle.wire.specs.Feeding.{StepTold, Opened, Finds, GivesStep, told}
 use Rattle.wire.specs.Whole.{MayBegin}
 use Rattle.wire.specs.declared.feed.Opening.{Opening}
 use Rattle.wire.specs.declared.feed.Step.{Step}
 use Rattle.wire.specs.declared.feed.Step.TheVariants.{Head}
 
-differ : {t : Told} {f : WireFault} → Ok t ≡ Err f → ⊥
+differ : {t : StepTold} {f : WireFault} → Ok t ≡ Err f → ⊥
 differ e = cc
 
 pub fresh : (k : ℕ) → place.Body k ≡ place.Fresh → ⊥
@@ -35,7 +35,7 @@ opened_there place.Over q known reader text waits has_length n (inl e) s = absur
 opened_there place.Over q known reader text waits has_length n (inr e) s = absurd (over_between e)
 
 -- the same of what a call told
-pub opened_by : (p q : Place) (known reader : Option (List ℕ)) (waits : List ℕ) (result : Result Step WireFault) (h : Opening) → result ≡ Ok (Head h) → MayBegin p
+pub opened_by : (p q : Place) (known reader : Option (List ℕ)) (waits : List ℕ) (result : Result (Step Opening) WireFault) (h : Opening) → result ≡ Ok (Head h) → MayBegin p
     → GivesStep p known (told result) q waits reader → Finds known (Ok (Opened h.text.now h.has_length h.length)) waits reader
 opened_by p q known reader waits result h is m s =
-    opened_there p q known reader h.text.now waits h.has_length h.length m (subst (λ (r : Result Step WireFault). GivesStep p known (told r) q waits reader) is s)
+    opened_there p q known reader h.text.now waits h.has_length h.length m (subst (λ (r : Result (Step Opening) WireFault). GivesStep p known (told r) q waits reader) is s)

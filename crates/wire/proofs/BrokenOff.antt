@@ -8,6 +8,7 @@ use Rattle.wire.specs.Feeding.{AnnouncesBody, Awaits, a_head, a_body, Finds, Giv
 use Rattle.wire.specs.Whole.{BreaksOff, BreaksOffWithin, MayBegin}
 use Rattle.wire.specs.declared.fault.WireFault.{WireFault}
 use Rattle.wire.specs.declared.fault.WireFault.TheVariants as fault
+use Rattle.wire.specs.declared.feed.Opening.{Opening}
 use Rattle.wire.specs.declared.feed.Step.{Step}
 use Rattle.wire.specs.declared.feed.Place.{Place}
 use Rattle.wire.specs.declared.feed.Place.TheVariants as place
@@ -62,7 +63,7 @@ broken_there place.Over q f known reader waits (inl e) s = absurd (over_fresh e)
 broken_there place.Over q f known reader waits (inr e) s = absurd (over_between e)
 
 -- the same of what a call told
-pub broken_by : (p q : Place) (f : WireFault) (known reader : Option (List ℕ)) (waits : List ℕ) (result : Result Step WireFault) → result ≡ Err f → MayBegin p
+pub broken_by : (p q : Place) (f : WireFault) (known reader : Option (List ℕ)) (waits : List ℕ) (result : Result (Step Opening) WireFault) → result ≡ Err f → MayBegin p
     → GivesStep p known (told result) q waits reader → BreaksOff f p known reader
 broken_by p q f known reader waits result is m s =
-    broken_there p q f known reader waits m (subst (λ (r : Result Step WireFault). GivesStep p known (told r) q waits reader) is s)
+    broken_there p q f known reader waits m (subst (λ (r : Result (Step Opening) WireFault). GivesStep p known (told r) q waits reader) is s)

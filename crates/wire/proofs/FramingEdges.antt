@@ -61,7 +61,7 @@ pub large_body : (stream rest : List ℕ) (head : RequestHead) → HasHead strea
 large_body stream rest head has = too_large head 1048577 rest has (omega arith)
 
 -- what a body that is too large, one that is incomplete, and a message tell of the length
-pub record Tells (stream : List ℕ) (Holds : ℕ → Type 0) : Type 0 where
+pub record HasLengthOf (stream : List ℕ) (Holds : ℕ → Type 0) : Type 0 where
   pub head : RequestHead
   pub has_length : Bool
   pub n : ℕ
@@ -69,13 +69,13 @@ pub record Tells (stream : List ℕ) (Holds : ℕ → Type 0) : Type 0 where
   pub has : HasHead stream head has_length n rest
   pub holds : Holds n
 
-pub large_is : (stream rest : List ℕ) → Next stream (Refused rule.BodyTooLarge) rest → Tells stream (λ n. 1048576 < n)
+pub large_is : (stream rest : List ℕ) → Next stream (Refused rule.BodyTooLarge) rest → HasLengthOf stream (λ n. 1048576 < n)
 large_is stream _ (too_large head n rest has large) = record { head = head; has_length = true; n = n; rest = rest; has = has; holds = large }
 
-pub incomplete_is : (stream rest : List ℕ) → Next stream (Refused rule.BodyIncomplete) rest → Tells stream (λ n. n ≤ 1048576)
+pub incomplete_is : (stream rest : List ℕ) → Next stream (Refused rule.BodyIncomplete) rest → HasLengthOf stream (λ n. n ≤ 1048576)
 incomplete_is stream _ (incomplete head n rest has fits short) = record { head = head; has_length = true; n = n; rest = rest; has = has; holds = fits }
 
-pub message_is : (stream rest : List ℕ) (r : Request) → Next stream (Message r) rest → Tells stream (λ n. n ≤ 1048576)
+pub message_is : (stream rest : List ℕ) (r : Request) → Next stream (Message r) rest → HasLengthOf stream (λ n. n ≤ 1048576)
 message_is stream rest _ (whole head has_length n body _ has fits long) =
     record { head = head; has_length = has_length; n = n; rest = body ++ rest; has = has; holds = fits }
 

@@ -11,11 +11,11 @@ use Rattle.sigtext.specs.declared.refusal.Refusal.TheVariants as rule
 use Rattle.wire.specs.Framing.{IsFront, HasHead, Announces, Next, Message, Refused, request_of, headers_of}
 use Rattle.sigtext.specs.Limits.{most_body}
 use Rattle.wire.specs.Framing as next
-use Rattle.wire.specs.Judging.{Tells}
+use Rattle.wire.specs.Judging.{HeadAnnounces}
 use Rattle.wire.specs.Feeding.{Halfway, OfStream, Opens}
 use Rattle.wire.proofs.WaitingFronts.{front_further, has_head}
 
-pub begins : (stream text rest : List ℕ) (head : RequestHead) (has_length : Bool) (n : ℕ) → IsFront stream text rest → Tells text head has_length n → n ≤ most_body
+pub begins : (stream text rest : List ℕ) (head : RequestHead) (has_length : Bool) (n : ℕ) → IsFront stream text rest → HeadAnnounces text head has_length n → n ≤ most_body
     → Halfway stream head has_length n [] n rest
 begins stream text rest head has_length n f t small = record { has_head = has_head stream text rest head has_length n f t; small = small; count = omega arith }
 

@@ -5,7 +5,6 @@ pub mod Heads
 pub mod Fronts
 pub mod FramingEdges
 pub mod FieldLists
-pub mod Lengths
 pub mod Announced
 pub mod Backlogs
 pub mod WaitingFronts

@@ -10,7 +10,7 @@ use Rattle.sigtext.specs.declared.refusal.Refusal.TheVariants as rule
 use Rattle.wire.specs.Framing.{EndsHead, IsFront, HasNoFront, HasHead, Next, Message, Refused, Ended, Truncated}
 use Rattle.wire.specs.Framing as next
 use Rattle.wire.specs.Heads.{IsHeadEnd, HasNoHeadEnd}
-use Rattle.wire.specs.Judging.{Tells, Breaks}
+use Rattle.wire.specs.Judging.{HeadAnnounces, Breaks}
 use Rattle.wire.specs.Judging as breaks
 use Rattle.wire.specs.Feeding.{AwaitsHead, OfStream}
 
@@ -69,7 +69,7 @@ next_too_long waits rest long none =
 pub next_truncated : (stream : List ℕ) → 0 < length stream → length stream < 8192 → HasNoHeadEnd stream → Next stream Truncated []
 next_truncated stream some short none = next.truncated some short (no_front_short stream short none)
 
-pub has_head : (stream text rest : List ℕ) (head : _) (has_length : _) (n : ℕ) → IsFront stream text rest → Tells text head has_length n → HasHead stream head has_length n rest
+pub has_head : (stream text rest : List ℕ) (head : _) (has_length : _) (n : ℕ) → IsFront stream text rest → HeadAnnounces text head has_length n → HasHead stream head has_length n rest
 has_head stream text rest head has_length n f t = record { front = text; is_front = f; is_head = t.is_head; uncoded = t.uncoded; announces = t.announces }
 
 pub next_refused : (stream text rest : List ℕ) (r : Refusal) → IsFront stream text rest → Breaks text r → Next stream (Refused r) []

@@ -1,5 +1,6 @@
 -- What the calls of a `Feed` give, whatever pieces its reader gives.
 use Rattle.std.specs.Prelude.{◌≡◌, ℕ, ◌+◌, ◌-◌, ◌<◌, ◌≤◌, ◌⊎◌, Bool, List, [], ◌++◌, length, Option, Some, IfSome, Result, Ok, Err}
+use Rattle.std.specs.Borrow.{Bor}
 use Rattle.std.specs.Io.KnownBytes.{Consumes, IsAtEnd, Keeps, prepend_known}
 use Rattle.httparse.specs.Grammar.{RequestHead}
 use Rattle.sigtext.specs.Counts.{Rose}
@@ -9,11 +10,12 @@ use Rattle.sigtext.specs.declared.refusal.Refusal.{Refusal}
 use Rattle.sigtext.specs.declared.refusal.Refusal.TheVariants as rule
 use Rattle.wire.specs.Framing.{IsFront, HasNoFront, HasHead, Next}
 use Rattle.wire.specs.Framing as framing
-use Rattle.wire.specs.Judging.{Tells}
+use Rattle.wire.specs.Judging.{HeadAnnounces}
 use Rattle.wire.specs.declared.fault.WireFault.{WireFault}
 use Rattle.wire.specs.declared.fault.WireFault.TheVariants as fault
 use Rattle.wire.specs.declared.feed.Place.{Place}
 use Rattle.wire.specs.declared.feed.Place.TheVariants as place
+use Rattle.wire.specs.declared.feed.Opening.{Opening}
 use Rattle.wire.specs.declared.feed.Step.{Step}
 use Rattle.wire.specs.declared.feed.Step.TheVariants as step
 use Rattle.wire.specs.declared.feed.Piece.{Piece}
@@ -21,13 +23,13 @@ use Rattle.wire.specs.declared.feed.Piece.TheVariants as piece
 
 -- what a `next` tells: a head, by its text, whether a length was given, and the body's length; a refusal;
 -- the end; an end within a head
-pub data Told : Type 0 where
-  Opened : (text : List ℕ) → (has_length : Bool) → (n : ℕ) → Told
-  Barred : (refusal : Refusal) → Told
-  Ended : Told
-  CutShort : Told
+pub data StepTold : Type 0 where
+  Opened : (text : List ℕ) → (has_length : Bool) → (n : ℕ) → StepTold
+  Barred : (refusal : Refusal) → StepTold
+  Ended : StepTold
+  CutShort : StepTold
 
-abbrev pub told : Result Step WireFault → Result Told WireFault
+abbrev pub told : Result (Step Opening) WireFault → Result StepTold WireFault
 told (Ok (step.Head h)) = Ok (Opened h.text.now h.has_length h.length)
 told (Ok (step.Refused r)) = Ok (Barred r)
 told (Ok step.End) = Ok Ended
@@ -40,7 +42,7 @@ pub data Part : Type 0 where
   Done : Part
   Lacking : (refusal : Refusal) → Part
 
-abbrev pub part : Result Piece WireFault → Result Part WireFault
+abbrev pub part : Result (Piece (Bor (List ℕ))) WireFault → Result Part WireFault
 part (Ok (piece.Bytes bytes)) = Ok (Bytes bytes.now)
 part (Ok piece.Done) = Ok Done
 part (Ok (piece.Refused r)) = Ok (Lacking r)
@@ -56,7 +58,7 @@ pub record Opens (text : List ℕ) (has_length : Bool) (n : ℕ) : Type 0 where
   pub is_front : IsFront text text []
   pub small : n ≤ most_body
   pub head : RequestHead
-  pub tells : Tells text head has_length n
+  pub tells : HeadAnnounces text head has_length n
 
 -- no head ends in the bytes, and they are fewer than a head may have
 abbrev pub AwaitsHead : List ℕ → Type 0
@@ -86,7 +88,7 @@ pub record OfStream (known : Option (List ℕ)) (Holds : List ℕ → Type 0) : 
 
 -- What is told where a message may begin. known: the bytes of the stream that were left, where the
 -- reader's are known; waits and reader: those that wait now, and those that the reader has.
-abbrev pub Finds : Option (List ℕ) → Result Told WireFault → List ℕ → Option (List ℕ) → Type 0
+abbrev pub Finds : Option (List ℕ) → Result StepTold WireFault → List ℕ → Option (List ℕ) → Type 0
 Finds known (Ok (Opened text has_length n)) waits reader =
     Opens text has_length n × IfSome known (λ stream. (rest : List ℕ) × IsFront stream text rest × (prepend_known waits reader ≡ Some rest))
 Finds known (Ok (Barred r)) waits reader = (0 < number_of r) × (number_of r ≤ 5) × OfStream known (λ stream. Next stream (framing.Refused r) [])
@@ -96,12 +98,12 @@ Finds known (Err fault.Read) waits reader = AwaitsHead waits × Keeps known (pre
 Finds known (Err _) waits reader = ⊥
 
 -- where a feed stands behind what it told
-abbrev pub place_after : Result Told WireFault → Place
+abbrev pub place_after : Result StepTold WireFault → Place
 place_after (Ok (Opened text has_length n)) = place.Body n
 place_after _ = place.Over
 
 -- What a `next` gives, from where the feed stood. Memory is refused in the first alone.
-abbrev pub GivesStep : Place → Option (List ℕ) → Result Told WireFault → Place → List ℕ → Option (List ℕ) → Type 0
+abbrev pub GivesStep : Place → Option (List ℕ) → Result StepTold WireFault → Place → List ℕ → Option (List ℕ) → Type 0
 GivesStep place.Fresh known told new waits reader =
     (new ≡ place_after told) × (Finds known told waits reader ⊎ ((told ≡ Err fault.Memory) × (waits ≡ []) × Keeps known (prepend_known waits reader)))
 GivesStep place.Between known told new waits reader = (new ≡ place_after told) × Finds known told waits reader

@@ -8,7 +8,7 @@ use Rattle.sigtext.specs.Limits.{most_body}
 use Rattle.wire.specs.Framing.{IsHead, IsCoded, Announces, headers_of}
 
 -- the text is, as a whole, this head, which holds the rules on transfer codings and on the length's form
-pub record Tells (text : List ℕ) (head : RequestHead) (has_length : Bool) (n : ℕ) : Type 0 where
+pub record HeadAnnounces (text : List ℕ) (head : RequestHead) (has_length : Bool) (n : ℕ) : Type 0 where
   pub is_head : IsHead text head
   pub uncoded : named (codes "transfer-encoding") (headers_of head) ≡ []
   pub announces : Announces (headers_of head) has_length n
@@ -19,7 +19,7 @@ pub data Breaks (text : List ℕ) : Refusal → Type 0 where
   coded : (head : RequestHead) → IsHead text head → IsCoded (headers_of head) → Breaks text rule.TransferCoding
   no_length : (head : RequestHead) → IsHead text head → named (codes "transfer-encoding") (headers_of head) ≡ []
       → ((has_length : Bool) (n : ℕ) → Announces (headers_of head) has_length n → ⊥) → Breaks text rule.LengthMalformed
-  too_large : (head : RequestHead) (n : ℕ) → Tells text head true n → most_body < n → Breaks text rule.BodyTooLarge
+  too_large : (head : RequestHead) (n : ℕ) → HeadAnnounces text head true n → most_body < n → Breaks text rule.BodyTooLarge
 
 -- the first rule that the fields of a head break
 pub data FieldsBreak (headers : List Header) : Refusal → Type 0 where

@@ -1,11 +1,15 @@
 -- What waits in a `Backlog`, and the front of a stream that waits there.
-use Rattle.std.specs.Prelude.{◌≡◌, ◌≢◌, Bool, true, false, ℕ, ◌-◌, ◌<◌, ◌≤◌, List, [], ◌++◌, length, take, slice_range, Option}
-use Rattle.std.specs.Io.KnownBytes.{Consumes, IsAtEnd}
+use Rattle.std.specs.Prelude.{◌≡◌, ◌≢◌, Bool, true, false, ℕ, ◌-◌, ◌<◌, ◌≤◌, List, [], ◌++◌, length, take, slice_range, Option, Result, Ok, Err}
+use Rattle.std.specs.Io.KnownBytes.{Consumes, IsAtEnd, Keeps}
 use Rattle.sigtext.specs.Limits.{most_head}
 use Rattle.wire.specs.Heads.{IsHeadEnd, HasNoHeadEnd}
 use Rattle.wire.specs.declared.backlog.Backlog.{Backlog}
-use Rattle.wire.specs.declared.backlog.Front.{Front}
-use Rattle.wire.specs.declared.backlog.Front.TheVariants as front
+use Rattle.wire.specs.declared.counted.Counted.{Counted}
+use Rattle.sigtext.specs.declared.refusal.Refusal.TheVariants as rule
+use Rattle.wire.specs.declared.fault.WireFault.{WireFault}
+use Rattle.wire.specs.declared.fault.WireFault.TheVariants as fault
+use Rattle.wire.specs.declared.feed.Step.{Step}
+use Rattle.wire.specs.declared.feed.Step.TheVariants as step
 
 -- the bytes that were read and not taken
 unfoldable pub waiting : Backlog → List ℕ
@@ -21,10 +25,19 @@ abbrev pub Adds : Bool → List ℕ → List ℕ → Option (List ℕ) → Optio
 Adds more old new reader rest =
     (bytes : List ℕ) × (new ≡ old ++ bytes) × Consumes reader rest bytes × (more ≡ true → bytes ≢ []) × (more ≡ false → (bytes ≡ []) × IsAtEnd rest)
 
+-- the same of two backlogs and the reader from which they came
+abbrev pub AddsFrom : {R : Type 0} → (R → Option (List ℕ)) → Bool → Backlog → Backlog → Counted R → Counted R → Type 0
+AddsFrom remaining more old new reader rest = Adds more (waiting old) (waiting new) (remaining reader.inner) (remaining rest.inner)
+
+-- The read failed with f: no byte came, and no byte is lost.
+abbrev pub FailsToAdd : {R : Type 0} → (R → Option (List ℕ)) → WireFault → Backlog → Backlog → Counted R → Counted R → Type 0
+FailsToAdd remaining f old new reader rest =
+    (f ≡ fault.Read) × (waiting new ≡ waiting old) × Keeps (remaining reader.inner) (remaining rest.inner)
+
 -- what the bytes that wait say of the front of the stream; reader: what the reader has left
-abbrev pub Shows : Front → List ℕ → Option (List ℕ) → Type 0
-Shows (front.Whole n) bytes reader = IsHeadEnd (take most_head bytes) n
-Shows front.TooLong bytes reader = (most_head ≤ length bytes) × HasNoHeadEnd (take most_head bytes)
-Shows front.End bytes reader = (bytes ≡ []) × IsAtEnd reader
-Shows front.Truncated bytes reader = (0 < length bytes) × (length bytes < most_head) × HasNoHeadEnd bytes × IsAtEnd reader
-Shows front.Fault bytes reader = (length bytes < most_head) × HasNoHeadEnd bytes
+abbrev pub Shows : Result (Step ℕ) WireFault → List ℕ → Option (List ℕ) → Type 0
+Shows (Ok (step.Head n)) bytes reader = IsHeadEnd (take most_head bytes) n
+Shows (Ok (step.Refused r)) bytes reader = (r ≡ rule.HeadTooLong) × (most_head ≤ length bytes) × HasNoHeadEnd (take most_head bytes)
+Shows (Ok step.End) bytes reader = (bytes ≡ []) × IsAtEnd reader
+Shows (Ok step.Truncated) bytes reader = (0 < length bytes) × (length bytes < most_head) × HasNoHeadEnd bytes × IsAtEnd reader
+Shows (Err f) bytes reader = (length bytes < most_head) × HasNoHeadEnd bytes

@@ -6,6 +6,8 @@ use Rattle.sigtext.specs.Refusals.{number_of}
 use Rattle.wire.specs.Framing.{Next, Message, request_of}
 use Rattle.wire.specs.Framing as framing
 use Rattle.wire.specs.Feeding.{AnnouncesBody, Awaits, OfStream, Opens}
+use Rattle.wire.specs.Feeds.{left, place_of, reader_of}
+use Rattle.wire.specs.declared.feed.Feed.{Feed}
 use Rattle.wire.specs.declared.fault.WireFault.{WireFault}
 use Rattle.wire.specs.declared.fault.WireFault.TheVariants as fault
 use Rattle.wire.specs.declared.joining.Came.{Came}
@@ -47,3 +49,15 @@ abbrev pub BreaksOffWithin : ℕ → WireFault → Option (List ℕ) → Option 
 BreaksOffWithin n fault.Read old reader = (given : List ℕ) × Consumes old reader given × (length given < n)
 BreaksOffWithin n fault.Memory old reader = (given : List ℕ) × Consumes old reader given × (0 < n)
 BreaksOffWithin n fault.Write old reader = ⊥
+
+-- the body of n bytes that was open came whole
+abbrev pub TakesBody : {R : Type 0} → (R → Option (List ℕ)) → ℕ → Feed R → Feed R → List ℕ → Type 0
+TakesBody remaining n old new body = (length body ≡ n) × (place_of new ≡ place.Between) × Consumes (left remaining old) (left remaining new) body
+
+-- the stream ended in the body of n bytes that was open
+abbrev pub LacksBody : {R : Type 0} → (R → Option (List ℕ)) → ℕ → Feed R → Feed R → Type 0
+LacksBody remaining n old new = (place_of new ≡ place.Over) × (0 < n) × IfSome (left remaining old) (λ rest. length rest < n)
+
+-- reading broke off in the body of n bytes that was open
+abbrev pub BreaksOffBody : {R : Type 0} → (R → Option (List ℕ)) → ℕ → Feed R → Feed R → WireFault → Type 0
+BreaksOffBody remaining n old new f = BreaksOffWithin n f (left remaining old) (remaining (reader_of new).inner)

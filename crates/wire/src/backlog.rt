@@ -1,12 +1,14 @@
 //! Bytes that were read ahead.
-ghost use Rattle.std.specs.Prelude.{◌≡◌, ◌≢◌, ◌↔◌, ◌≤◌, ◌<◌, ◌-◌, ◌+◌, ℕ, List, [], ◌++◌, true, false, length, take, drop, vec_len, IfOk, IfErr, IsTrue, OnErr, OnOk};
+ghost use Rattle.std.specs.Prelude.{◌≡◌, ◌↔◌, ◌≤◌, ◌<◌, ◌-◌, ◌+◌, ℕ, List, [], ◌++◌, true, false, length, take, drop, vec_len, IfOk, IfErr, IsTrue, OnErr};
 ghost use Rattle.std.specs.Io.KnownBytes.{Consumes, IsAtEnd, Keeps, prepend_known};
 ghost use Rattle.sigtext.specs.Limits.{most_head};
-ghost use Rattle.sigtext.specs.Counts.{CountsErrors, Rose};
+ghost use Rattle.sigtext.specs.Counts.{CountsErrors};
 
 use crate::counted::Counted;
 use crate::fault::WireFault;
+use crate::feed::Step;
 use crate::head::head_end_behind;
+use sigtext::Refusal;
 use std::alloc::{AllocError, Global};
 use std::io::Read;
 
@@ -15,21 +17,6 @@ pub const ROOM: usize = 73_728;
 
 /// The most bytes that a head may have.
 pub const MOST_HEAD: usize = 8192;
-
-/// What the bytes that wait say of the front of the stream.
-#[derive(Clone, Copy, Debug, PartialEq, Eq)]
-pub enum Front {
-    /// So many of them are up to and with the first CR LF CR LF.
-    Whole(usize),
-    /// No head ends in the first 8192 of them.
-    TooLong,
-    /// The stream ended, and no byte waits.
-    End,
-    /// The stream ended, and those that wait are less than a head.
-    Truncated,
-    /// A read failed, and those that wait are less than a head.
-    Fault,
-}
 
 /// A buffer, and which of its bytes were read and not taken yet.
 #[derive(Drop)]
@@ -42,7 +29,7 @@ pub struct Backlog {
 }
 
 impl Backlog {
-    ghost use Rattle.wire.specs.Waiting.{Adds, Shows, taken, waiting};
+    ghost use Rattle.wire.specs.Waiting.{Adds, Shows, taken, waiting, AddsFrom, FailsToAdd};
 
     /// Nothing waits, and there is no room.
     pub fn new(alloc: Global) -> Backlog
@@ -113,8 +100,8 @@ impl Backlog {
     /// Reads once, behind the bytes that wait. Says whether bytes came.
     pub fn read_more<R: Read>(&mut self, reader: &mut Counted<R>) -> Result<bool, WireFault>
         requires { length (waiting self.old) < vec_len self.old.bytes }
-        ensures came { IfOk result (λ more. Adds more (waiting self.old) (waiting self.new) (R.remaining reader.old.inner) (R.remaining reader.new.inner)) }
-        ensures fault { IfErr result (λ f. (f ≡ WireFault.Read) × (waiting self.new ≡ waiting self.old) × Keeps (R.remaining reader.old.inner) (R.remaining reader.new.inner)) }
+        ensures came { IfOk result (λ more. AddsFrom R.remaining more self.old self.new reader.old reader.new) }
+        ensures fault { IfErr result (λ f. FailsToAdd R.remaining f self.old self.new reader.old reader.new) }
         ensures count { CountsErrors reader.old.faults reader.new.faults result }
         ensures room { vec_len self.new.bytes ≡ vec_len self.old.bytes }
     {
@@ -140,8 +127,8 @@ impl Backlog {
     fn read_behind<R: Read>(&mut self, reader: &mut Counted<R>) -> Result<bool, WireFault>
         requires front { self.old.start ≡ 0 }
         requires room { length (waiting self.old) < vec_len self.old.bytes }
-        ensures came { IfOk result (λ more. Adds more (waiting self.old) (waiting self.new) (R.remaining reader.old.inner) (R.remaining reader.new.inner)) }
-        ensures fault { IfErr result (λ f. (f ≡ WireFault.Read) × (waiting self.new ≡ waiting self.old) × Keeps (R.remaining reader.old.inner) (R.remaining reader.new.inner)) }
+        ensures came { IfOk result (λ more. AddsFrom R.remaining more self.old self.new reader.old reader.new) }
+        ensures fault { IfErr result (λ f. FailsToAdd R.remaining f self.old self.new reader.old reader.new) }
         ensures count { CountsErrors reader.old.faults reader.new.faults result }
         ensures room { vec_len self.new.bytes ≡ vec_len self.old.bytes }
     {
@@ -154,35 +141,41 @@ impl Backlog {
         }
     }
 
-    /// Reads until the bytes that wait show where the first head ends, or that there is none.
-    pub fn read_head<R: Read>(&mut self, reader: &mut Counted<R>) -> Front
+    /// Reads until the bytes that wait show where the first head ends, or that there is none: how many bytes are up
+    /// to and with the first CR LF CR LF; refusal 2 where no head ends in the first 8192; the end of the stream, with
+    /// no byte that waits or with less than a head.
+    ///
+    /// # Errors
+    ///
+    /// `Read` where a read failed. The bytes that wait are then less than a head.
+    pub fn read_head<R: Read>(&mut self, reader: &mut Counted<R>) -> Result<Step<usize>, WireFault>
         requires { vec_len self.old.bytes ≡ ROOM }
         ensures shows { Shows result (waiting self.new) (R.remaining reader.new.inner) }
-        ensures kept { Keeps (prepend_known (waiting self.old) (R.remaining reader.old.inner)) (prepend_known (waiting self.new) (R.remaining reader.new.inner)) }
-        ensures fault { result ≡ Front.Fault → Rose reader.old.faults reader.new.faults }
-        ensures clean { result ≢ Front.Fault → reader.new.faults ≡ reader.old.faults }
+        ensures kept { Keeps (prepend_known (waiting self.old) (R.remaining reader.old.inner))
+            (prepend_known (waiting self.new) (R.remaining reader.new.inner)) }
+        ensures fault { IfErr result (λ f. f ≡ WireFault.Read) }
+        ensures count { CountsErrors reader.old.faults reader.new.faults result }
         ensures room { vec_len self.new.bytes ≡ ROOM }
     {
         let mut searched = 0;
         'reads: loop {
-            match head_end_behind(self.window(), searched) {
-                Some(n) => return Front::Whole(n),
-                None => {}
+            if let Some(size) = head_end_behind(self.window(), searched) {
+                return Ok(Step::Head(size));
             }
             searched = self.waiting().len();
             if self.is_long() {
-                return Front::TooLong;
+                return Ok(Step::Refused(Refusal::HeadTooLong));
             }
             match self.read_more(reader) {
                 Ok(true) => {}
                 Ok(false) => {
-                    return if searched == 0 {
-                        Front::End
+                    return Ok(if searched == 0 {
+                        Step::End
                     } else {
-                        Front::Truncated
-                    };
+                        Step::Truncated
+                    });
                 }
-                Err(_) => return Front::Fault,
+                Err(fault) => return Err(fault),
             }
         }
     }
@@ -196,10 +189,15 @@ fn read_at<R: Read>(
 ) -> Result<usize, WireFault>
     requires { at ≤ length bytes.old }
     ensures within { IfOk result (λ n. at + n ≤ length bytes.new) }
-    ensures came { IfOk result (λ n. (came : List ℕ) × (length came ≡ n) × (take (at + n) bytes.new ≡ take at bytes.old ++ came)
+    ensures came { IfOk result
+        (λ n. (came : List ℕ) × (length came ≡ n)
+        × (take (at + n) bytes.new ≡ take at bytes.old ++ came)
         × Consumes (R.remaining reader.old.inner) (R.remaining reader.new.inner) came) }
-    ensures end { IfOk result (λ n. n ≡ 0 → at < length bytes.old → IsAtEnd (R.remaining reader.new.inner)) }
-    ensures fault { IfErr result (λ f. (f ≡ WireFault.Read) × Keeps (R.remaining reader.old.inner) (R.remaining reader.new.inner)) }
+    ensures end { IfOk result
+        (λ n. n ≡ 0 → at < length bytes.old → IsAtEnd (R.remaining reader.new.inner)) }
+    ensures fault { IfErr result
+        (λ f. (f ≡ WireFault.Read)
+        × Keeps (R.remaining reader.old.inner) (R.remaining reader.new.inner)) }
     ensures kept { OnErr result (take at bytes.new ≡ take at bytes.old) }
     ensures count { CountsErrors reader.old.faults reader.new.faults result }
 {

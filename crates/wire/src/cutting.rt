@@ -6,54 +6,40 @@ ghost use Rattle.wire.specs.Waiting.{taken, waiting};
 ghost use Rattle.wire.specs.Feeding.{Finds};
 ghost use Rattle.wire.specs.Cutting.{found_in, size_of};
 
-use crate::announce::read_announcement;
-use crate::backlog::{Backlog, Front, ROOM};
+use crate::announce::{Announced, read_announcement};
+use crate::backlog::{Backlog, ROOM};
 use crate::counted::Counted;
 use crate::fault::WireFault;
-use sigtext::Refusal;
+use crate::feed::Step;
 use std::io::Read;
 
 /// The most bytes of a piece.
 pub const MOST_PIECE: usize = 65_536;
 
-/// What was found where a message may begin.
-#[derive(Clone, Copy, Debug)]
-pub enum Found {
-    /// A head, of so many bytes that were taken, and the body that it announces.
-    Head {
-        size: usize,
-        has_length: bool,
-        length: usize,
-    },
-    Refused(Refusal),
-    End,
-    Truncated,
-}
-
-/// Finds what comes next on the stream.
-pub fn find<R: Read>(backlog: &mut Backlog, reader: &mut Counted<R>) -> Result<Found, WireFault>
+/// Finds what comes next on the stream. Of a head, so many bytes were taken; it announces that body.
+pub fn find<R: Read>(
+    backlog: &mut Backlog,
+    reader: &mut Counted<R>,
+) -> Result<Step<(usize, Announced)>, WireFault>
     requires { vec_len backlog.old.bytes ≡ ROOM }
-    ensures finds { Finds (prepend_known (waiting backlog.old) (R.remaining reader.old.inner)) (found_in backlog.new result) (waiting backlog.new) (R.remaining reader.new.inner) }
+    ensures finds { Finds (prepend_known (waiting backlog.old) (R.remaining reader.old.inner))
+        (found_in backlog.new result) (waiting backlog.new) (R.remaining reader.new.inner) }
     ensures size { size_of result ≤ backlog.new.start }
     ensures room { vec_len backlog.new.bytes ≡ ROOM }
     ensures count { CountsErrors reader.old.faults reader.new.faults result }
 {
     match backlog.read_head(reader) {
-        Front::Whole(size) => {
+        Ok(Step::Head(size)) => {
             backlog.take(size);
             match read_announcement(backlog.taken(size)) {
-                Ok(body) => Ok(Found::Head {
-                    size,
-                    has_length: body.has_length,
-                    length: body.length,
-                }),
-                Err(refusal) => Ok(Found::Refused(refusal)),
+                Ok(body) => Ok(Step::Head((size, body))),
+                Err(refusal) => Ok(Step::Refused(refusal)),
             }
         }
-        Front::TooLong => Ok(Found::Refused(Refusal::HeadTooLong)),
-        Front::End => Ok(Found::End),
-        Front::Truncated => Ok(Found::Truncated),
-        Front::Fault => Err(WireFault::Read),
+        Ok(Step::Refused(refusal)) => Ok(Step::Refused(refusal)),
+        Ok(Step::End) => Ok(Step::End),
+        Ok(Step::Truncated) => Ok(Step::Truncated),
+        Err(fault) => Err(fault),
     }
 }
 
@@ -66,24 +52,32 @@ pub fn cut_piece<R: Read>(
 ) -> Result<usize, WireFault>
     requires some { 0 < to_come }
     requires room { vec_len backlog.old.bytes ≡ ROOM }
-    ensures taken { IfOk result (λ size. Consumes (prepend_known (waiting backlog.old) (R.remaining reader.old.inner))
-        (prepend_known (waiting backlog.new) (R.remaining reader.new.inner)) (taken backlog.new size)) }
-    ensures size { IfOk result (λ size. (size ≤ to_come) × (size ≤ MOST_PIECE) × (size ≤ backlog.new.start) × (length (taken backlog.new size) ≡ size)) }
-    ensures end { IfOk result (λ size. size ≡ 0 → IsAtEnd (prepend_known (waiting backlog.old) (R.remaining reader.old.inner))) }
-    ensures fault { IfErr result (λ f. (f ≡ WireFault.Read) × (waiting backlog.new ≡ []) × Keeps (prepend_known (waiting backlog.old) (R.remaining reader.old.inner))
+    ensures taken { IfOk result
+        (λ size. Consumes (prepend_known (waiting backlog.old) (R.remaining reader.old.inner))
+        (prepend_known (waiting backlog.new) (R.remaining reader.new.inner))
+        (taken backlog.new size)) }
+    ensures size { IfOk result
+        (λ size. (size ≤ to_come) × (size ≤ MOST_PIECE) × (size ≤ backlog.new.start)
+        × (length (taken backlog.new size) ≡ size)) }
+    ensures end { IfOk result
+        (λ size. size ≡ 0
+        → IsAtEnd (prepend_known (waiting backlog.old) (R.remaining reader.old.inner))) }
+    ensures fault { IfErr result
+        (λ f. (f ≡ WireFault.Read) × (waiting backlog.new ≡ [])
+        × Keeps (prepend_known (waiting backlog.old) (R.remaining reader.old.inner))
         (prepend_known (waiting backlog.new) (R.remaining reader.new.inner))) }
     ensures room { vec_len backlog.new.bytes ≡ ROOM }
     ensures count { CountsErrors reader.old.faults reader.new.faults result }
 {
     if !backlog.waiting().is_empty() {
-        return Ok(cut(backlog, to_come));
+        return Ok(take_some(backlog, to_come));
     }
     backlog.read_more(reader)?;
-    Ok(cut(backlog, to_come))
+    Ok(take_some(backlog, to_come))
 }
 
 // Takes so many of the bytes that wait, or all, and no more than a piece has.
-fn cut(backlog: &mut Backlog, most: usize) -> usize
+fn take_some(backlog: &mut Backlog, most: usize) -> usize
     ensures taken { waiting backlog.old ≡ taken backlog.new result ++ waiting backlog.new }
     ensures size { length (taken backlog.new result) ≡ result }
     ensures within { result ≤ backlog.new.start }

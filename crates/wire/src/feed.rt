@@ -5,16 +5,17 @@ ghost use Rattle.std.specs.Io.BufRead.{Rests};
 ghost use Rattle.httparse.specs.Grammar.{RequestHead};
 ghost use Rattle.sigtext.specs.Limits.{most_body};
 ghost use Rattle.wire.specs.Framing.{IsFront, Next, Message, Refused, request_of};
-ghost use Rattle.wire.specs.Judging.{Tells};
+ghost use Rattle.wire.specs.Judging.{HeadAnnounces};
 ghost use Rattle.wire.specs.Feeding.{CountsReads, GivesPiece, GivesStep, Halfway, part, told};
 ghost use Rattle.wire.specs.Waiting.{taken, waiting};
 ghost use Rattle.wire.specs.Cutting.{found_in, piece_size, size_of, taken_from};
 ghost use Rattle.wire.specs.declared.feed.Place.TheVariants as stands;
 ghost use mir.Syntax.{named};
 
+use crate::announce::Announced;
 use crate::backlog::Backlog;
 use crate::counted::Counted;
-use crate::cutting::{Found, cut_piece, find};
+use crate::cutting::{cut_piece, find};
 use crate::fault::WireFault;
 use sigtext::Refusal;
 use std::alloc::Global;
@@ -32,11 +33,11 @@ pub struct Opening<'a> {
     pub length: usize,
 }
 
-/// What comes next.
+/// What comes where a message may begin.
 #[derive(Clone, Copy, Debug)]
-pub enum Step<'a> {
-    /// A head. Its body follows in pieces.
-    Head(Opening<'a>),
+pub enum Step<T> {
+    /// A head, of which this is told. Its body follows in pieces.
+    Head(T),
     /// The stream breaks a rule of framing, 1 to 5.
     Refused(Refusal),
     /// The stream ended, or the feed has ended.
@@ -47,21 +48,13 @@ pub enum Step<'a> {
 
 /// A piece of a body.
 #[derive(Clone, Copy, Debug)]
-pub enum Piece<'a> {
-    /// The next 1 to 65536 bytes.
-    Bytes(&'a [u8]),
+pub enum Piece<T> {
+    /// The next 1 to 65536 bytes, of which this is told.
+    Bytes(T),
     /// The body is whole, or none is open.
     Done,
     /// The stream ended in the body: refusal 6.
     Refused(Refusal),
-}
-
-// What was taken of a body: so many bytes; its end; nothing, since the stream has ended.
-#[derive(Clone, Copy, Debug)]
-enum Taken {
-    Bytes(usize),
-    Done,
-    Lacking,
 }
 
 /// Where a feed stands.
@@ -122,26 +115,24 @@ impl<'r, R: Read> Feed<'r, R> {
     ///
     /// `Read` where a read failed, and `Memory` where memory was refused for the buffer, which is asked for once, in the first
     /// call. The feed has then ended.
-    pub fn next(&mut self) -> Result<Step<'_>, WireFault>
-        ensures* after { sem 𝓛 (Rests (the_row (record { mir = named 1; lft = [] }) R.row) self.entry (λ new.
+    pub fn next(&mut self) -> Result<Step<Opening<'_>>, WireFault>
+        ensures* after { sem 𝓛
+            (Rests (the_row (record { mir = named 1; lft = [] }) R.row) self.entry (λ new.
             SameReader self.old new
-            × GivesStep (place_of self.old) (left R.remaining self.old) (told result) (place_of new) (waits_in new) (R.remaining (reader_of new).inner)
+            × GivesStep (place_of self.old) (left R.remaining self.old) (told result)
+            (place_of new) (waits_in new) (R.remaining (reader_of new).inner)
             × CountsReads result (reader_of self.old).faults (reader_of new).faults)) }
     {
-        match self.advance()? {
-            Found::Head {
-                size,
-                has_length,
-                length,
-            } => Ok(Step::Head(Opening {
+        Ok(match self.advance()? {
+            Step::Head((size, body)) => Step::Head(Opening {
                 text: self.backlog.taken(size),
-                has_length,
-                length,
-            })),
-            Found::Refused(refusal) => Ok(Step::Refused(refusal)),
-            Found::End => Ok(Step::End),
-            Found::Truncated => Ok(Step::Truncated),
-        }
+                has_length: body.has_length,
+                length: body.length,
+            }),
+            Step::Refused(refusal) => Step::Refused(refusal),
+            Step::End => Step::End,
+            Step::Truncated => Step::Truncated,
+        })
     }
 
     /// The next piece of the body that is open, of 1 to 65536 bytes. Where none is, it is done.
@@ -149,23 +140,27 @@ impl<'r, R: Read> Feed<'r, R> {
     /// # Errors
     ///
     /// `Read` where a read failed. The feed has then ended.
-    pub fn piece(&mut self) -> Result<Piece<'_>, WireFault>
-        ensures* after { sem 𝓛 (Rests (the_row (record { mir = named 1; lft = [] }) R.row) self.entry (λ new.
+    pub fn piece(&mut self) -> Result<Piece<&[u8]>, WireFault>
+        ensures* after { sem 𝓛
+            (Rests (the_row (record { mir = named 1; lft = [] }) R.row) self.entry (λ new.
             SameReader self.old new
-            × GivesPiece (place_of self.old) (left R.remaining self.old) (part result) (place_of new) (waits_in new) (R.remaining (reader_of new).inner)
+            × GivesPiece (place_of self.old) (left R.remaining self.old) (part result)
+            (place_of new) (waits_in new) (R.remaining (reader_of new).inner)
             × CountsReads result (reader_of self.old).faults (reader_of new).faults)) }
     {
-        match self.go_on()? {
-            Taken::Bytes(size) => Ok(Piece::Bytes(self.backlog.taken(size))),
-            Taken::Done => Ok(Piece::Done),
-            Taken::Lacking => Ok(Piece::Refused(Refusal::BodyIncomplete)),
-        }
+        Ok(match self.go_on()? {
+            Piece::Bytes(size) => Piece::Bytes(self.backlog.taken(size)),
+            Piece::Done => Piece::Done,
+            Piece::Refused(refusal) => Piece::Refused(refusal),
+        })
     }
 
     // Takes the next head, and says how long it is.
-    fn advance(&mut self) -> Result<Found, WireFault>
+    fn advance(&mut self) -> Result<Step<(usize, Announced)>, WireFault>
         ensures same { SameReader self.old self.new }
-        ensures step { GivesStep (place_of self.old) (left R.remaining self.old) (found_in self.new.backlog result) (place_of self.new) (waits_in self.new) (R.remaining (reader_of self.new).inner) }
+        ensures step { GivesStep (place_of self.old) (left R.remaining self.old)
+            (found_in self.new.backlog result) (place_of self.new) (waits_in self.new)
+            (R.remaining (reader_of self.new).inner) }
         ensures size { size_of result ≤ self.new.backlog.start }
         ensures count { CountsReads result (reader_of self.old).faults (reader_of self.new).faults }
     {
@@ -180,39 +175,41 @@ impl<'r, R: Read> Feed<'r, R> {
             Place::Between => {}
             Place::Body(_) | Place::Over => {
                 self.place = Place::Over;
-                return Ok(Found::End);
+                return Ok(Step::End);
             }
         }
         let found = find(&mut self.backlog, self.reader);
         self.place = match found {
-            Ok(Found::Head { length, .. }) => Place::Body(length),
+            Ok(Step::Head((_, body))) => Place::Body(body.length),
             _ => Place::Over,
         };
         found
     }
 
     // Takes the next piece, and says how long it is.
-    fn go_on(&mut self) -> Result<Taken, WireFault>
+    fn go_on(&mut self) -> Result<Piece<usize>, WireFault>
         ensures same { SameReader self.old self.new }
-        ensures piece { GivesPiece (place_of self.old) (left R.remaining self.old) (taken_from self.new.backlog result) (place_of self.new) (waits_in self.new) (R.remaining (reader_of self.new).inner) }
+        ensures piece { GivesPiece (place_of self.old) (left R.remaining self.old)
+            (taken_from self.new.backlog result) (place_of self.new) (waits_in self.new)
+            (R.remaining (reader_of self.new).inner) }
         ensures size { piece_size result ≤ self.new.backlog.start }
         ensures count { CountsReads result (reader_of self.old).faults (reader_of self.new).faults }
     {
         let Place::Body(to_come) = self.place else {
-            return Ok(Taken::Done);
+            return Ok(Piece::Done);
         };
         if to_come == 0 {
             self.place = Place::Between;
-            return Ok(Taken::Done);
+            return Ok(Piece::Done);
         }
         match cut_piece(&mut self.backlog, self.reader, to_come) {
             Ok(0) => {
                 self.place = Place::Over;
-                Ok(Taken::Lacking)
+                Ok(Piece::Refused(Refusal::BodyIncomplete))
             }
             Ok(size) => {
                 self.place = Place::Body(to_come - size);
-                Ok(Taken::Bytes(size))
+                Ok(Piece::Bytes(size))
             }
             Err(fault) => {
                 self.place = Place::Over;
@@ -226,14 +223,23 @@ impl<'r, R: Read> Feed<'r, R> {
 /// what was given is the body of the next message exactly where enough bytes follow; else the next step
 /// is refusal 6.
 pub fn pieces_join()
-    ensures begins { (stream text rest : List ℕ) (head : RequestHead) (has_length : Bool) (n : ℕ) → IsFront stream text rest → Tells text head has_length n → n ≤ most_body
+    ensures begins { (stream text rest : List ℕ) (head : RequestHead) (has_length : Bool) (n : ℕ)
+        → IsFront stream text rest → HeadAnnounces text head has_length n → n ≤ most_body
         → Halfway stream head has_length n [] n rest }
-    ensures goes_on { (stream : List ℕ) (head : RequestHead) (has_length : Bool) (size : ℕ) (given : List ℕ) (n : ℕ) (bytes rest : List ℕ)
-        → Halfway stream head has_length size given n (bytes ++ rest) → length bytes ≤ n → Halfway stream head has_length size (given ++ bytes) (n - length bytes) rest }
-    ensures whole { (stream : List ℕ) (head : RequestHead) (has_length : Bool) (size : ℕ) (given rest : List ℕ)
-        → Halfway stream head has_length size given 0 rest → Next stream (Message (request_of head has_length given)) rest }
-    ensures lacking { (stream : List ℕ) (head : RequestHead) (has_length : Bool) (size : ℕ) (given : List ℕ) (n : ℕ) (rest : List ℕ)
-        → Halfway stream head has_length size given n rest → length rest < n → Next stream (Refused Refusal.BodyIncomplete) [] }
-    ensures enough { (stream : List ℕ) (head : RequestHead) (has_length : Bool) (size : ℕ) (given : List ℕ) (n : ℕ) (rest : List ℕ)
-        → Halfway stream head has_length size given n rest → n ≤ length rest → Next stream (Message (request_of head has_length (given ++ take n rest))) (drop n rest) }
+    ensures goes_on { (stream : List ℕ) (head : RequestHead) (has_length : Bool) (size : ℕ)
+        (given : List ℕ) (n : ℕ) (bytes rest : List ℕ)
+        → Halfway stream head has_length size given n (bytes ++ rest) → length bytes ≤ n
+        → Halfway stream head has_length size (given ++ bytes) (n - length bytes) rest }
+    ensures whole { (stream : List ℕ) (head : RequestHead) (has_length : Bool) (size : ℕ)
+        (given rest : List ℕ)
+        → Halfway stream head has_length size given 0 rest
+        → Next stream (Message (request_of head has_length given)) rest }
+    ensures lacking { (stream : List ℕ) (head : RequestHead) (has_length : Bool) (size : ℕ)
+        (given : List ℕ) (n : ℕ) (rest : List ℕ)
+        → Halfway stream head has_length size given n rest → length rest < n
+        → Next stream (Refused Refusal.BodyIncomplete) [] }
+    ensures enough { (stream : List ℕ) (head : RequestHead) (has_length : Bool) (size : ℕ)
+        (given : List ℕ) (n : ℕ) (rest : List ℕ)
+        → Halfway stream head has_length size given n rest → n ≤ length rest
+        → Next stream (Message (request_of head has_length (given ++ take n rest))) (drop n rest) }
 {}

@@ -25,7 +25,8 @@ pub(crate) fn put_file<W: Write>(
     is_head: bool,
     writer: &mut Counted<W>,
 ) -> Result<(), WireFault>
-    ensures sent { Sends (answer_text is_head (said.Found number (encode_lower digest) bytes.now)) (W.contents writer.old.inner) (W.contents writer.new.inner) result }
+    ensures sent { Sends (answer_text is_head (said.Found number (encode_lower digest) bytes.now))
+        (W.contents writer.old.inner) (W.contents writer.new.inner) result }
     ensures count { CountsErrors writer.old.faults writer.new.faults result }
     ensures fault { IfErr result (λ f. f ≡ WireFault.Write) }
 {
@@ -50,7 +51,8 @@ fn front_text<'a>(
     out: &mut [u8; MOST_FRONT],
 ) -> (usize, &'a [u8])
     ensures within { result.0 ≤ MOST_FRONT }
-    ensures text { take result.0 out.new ++ result.1.now ≡ file_head number (encode_lower digest) bytes.now ++ bytes.now }
+    ensures text { take result.0 out.new ++ result.1.now ≡ file_head number
+        (encode_lower digest) bytes.now ++ bytes.now }
     ensures full { 0 < length result.1.now → result.0 ≡ MOST_FRONT }
 {
     let head = head_text(number, digest, bytes, out);

@@ -1,9 +1,8 @@
 //! Whole messages: heads, and bodies in one piece.
-ghost use Rattle.std.specs.Prelude.{◌≡◌, ◌≢◌, ◌≤◌, ◌<◌, ◌-◌, ◌+◌, ℕ, Bool, List, [], ◌++◌, length, take, vec_capacity, IfSome, IfErr, IfOk, Ok};
-ghost use Rattle.std.specs.Io.KnownBytes.{Consumes};
+ghost use Rattle.std.specs.Prelude.{◌≡◌, ◌≤◌, ◌<◌, ◌-◌, [], length, vec_capacity, IfErr, IfOk, Ok};
 ghost use Rattle.wire.specs.Feeding.{CountsReads};
 ghost use Rattle.wire.specs.Feeds.{SameReader, left, place_of, reader_of};
-ghost use Rattle.wire.specs.Whole.{BreaksOff, BreaksOffWithin, Brings, MayBegin};
+ghost use Rattle.wire.specs.Whole.{BreaksOff, BreaksOffBody, Brings, LacksBody, MayBegin, TakesBody};
 
 use crate::backlog::MOST_HEAD;
 use crate::fault::WireFault;
@@ -47,9 +46,13 @@ pub fn read_message<R: Read>(
 ) -> Result<Came, WireFault>
     requires { MayBegin (place_of feed.old) }
     ensures same { SameReader feed.old feed.new }
-    ensures brings { IfOk result (λ came. Brings came text.new body.new.items (left R.remaining feed.old) (left R.remaining feed.new)
+    ensures brings { IfOk result
+        (λ came. Brings came text.new body.new.items (left R.remaining feed.old)
+        (left R.remaining feed.new)
         (R.remaining (reader_of feed.new).inner) (place_of feed.new)) }
-    ensures fault { IfErr result (λ f. BreaksOff f (place_of feed.old) (left R.remaining feed.old) (R.remaining (reader_of feed.new).inner)) }
+    ensures fault { IfErr result
+        (λ f. BreaksOff f (place_of feed.old) (left R.remaining feed.old)
+        (R.remaining (reader_of feed.new).inner)) }
     ensures count { CountsReads result (reader_of feed.old).faults (reader_of feed.new).faults }
 {
     let (size, has_length, length) = match feed.next() {
@@ -78,10 +81,9 @@ fn join_body<R: Read>(
 ) -> Result<Joined, WireFault>
     requires { place_of feed.old ≡ Place.Body size }
     ensures same { SameReader feed.old feed.new }
-    ensures whole { result ≡ Ok Joined.Whole → (length body.new.items ≡ size) × (place_of feed.new ≡ Place.Between)
-        × Consumes (left R.remaining feed.old) (left R.remaining feed.new) body.new.items }
-    ensures lacking { result ≡ Ok Joined.Lacking → (place_of feed.new ≡ Place.Over) × (0 < size) × IfSome (left R.remaining feed.old) (λ rest. length rest < size) }
-    ensures fault { IfErr result (λ f. BreaksOffWithin size f (left R.remaining feed.old) (R.remaining (reader_of feed.new).inner)) }
+    ensures whole { result ≡ Ok Joined.Whole → TakesBody R.remaining size feed.old feed.new body.new.items }
+    ensures lacking { result ≡ Ok Joined.Lacking → LacksBody R.remaining size feed.old feed.new }
+    ensures fault { IfErr result (λ f. BreaksOffBody R.remaining size feed.old feed.new f) }
     ensures count { CountsReads result (reader_of feed.old).faults (reader_of feed.new).faults }
 {
     body.clear();
@@ -102,10 +104,9 @@ fn join_pieces<R: Read>(
     requires empty { body.old.items ≡ [] }
     requires room { size ≤ vec_capacity body.old }
     ensures same { SameReader feed.old feed.new }
-    ensures whole { result ≡ Ok Joined.Whole → (length body.new.items ≡ size) × (place_of feed.new ≡ Place.Between)
-        × Consumes (left R.remaining feed.old) (left R.remaining feed.new) body.new.items }
-    ensures lacking { result ≡ Ok Joined.Lacking → (place_of feed.new ≡ Place.Over) × (0 < size) × IfSome (left R.remaining feed.old) (λ rest. length rest < size) }
-    ensures fault { IfErr result (λ f. BreaksOffWithin size f (left R.remaining feed.old) (R.remaining (reader_of feed.new).inner)) }
+    ensures whole { result ≡ Ok Joined.Whole → TakesBody R.remaining size feed.old feed.new body.new.items }
+    ensures lacking { result ≡ Ok Joined.Lacking → LacksBody R.remaining size feed.old feed.new }
+    ensures fault { IfErr result (λ f. BreaksOffBody R.remaining size feed.old feed.new f) }
     ensures count { CountsReads result (reader_of feed.old).faults (reader_of feed.new).faults }
 {
     'pieces: loop {

@@ -14,7 +14,8 @@ use std::io::Write;
 ///
 /// `Write` then. What was written is a beginning of the text.
 pub fn send<W: Write>(text: &[u8], writer: &mut Counted<W>) -> Result<(), WireFault>
-    ensures sent { Sends text.now (W.contents writer.old.inner) (W.contents writer.new.inner) result }
+    ensures sent { Sends text.now (W.contents writer.old.inner)
+        (W.contents writer.new.inner) result }
     ensures count { CountsErrors writer.old.faults writer.new.faults result }
     ensures fault { IfErr result (λ f. f ≡ WireFault.Write) }
 {

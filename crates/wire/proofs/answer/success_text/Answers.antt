@@ -1,4 +1,4 @@
-use Rattle.std.proofs.Common.{length, lit≤}
+use Rattle.std.proofs.Common.{lit≤}
 use Rattle.wire.proofs.Texts.{success_fits}
 use Rattle.wire.proofs.answer.success_text.Goals as goal
 

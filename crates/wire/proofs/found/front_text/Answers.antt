@@ -1,4 +1,4 @@
-use Rattle.std.proofs.Common.{◌++◌, List, ℕ, length, ap, arith, append_assoc, sym, ◌∙◌, ◌≡◌, take, drop, take-append-drop}
+use Rattle.std.proofs.Common.{◌++◌, List, ℕ, length, ap, arith, append_assoc, ◌∙◌, ◌≡◌, take, drop, take-append-drop}
 use Rattle.std.proofs.lemmas.Slice.{take-put_mid}
 use Rattle.hex.specs.Hex.{encode_lower}
 use Rattle.wire.specs.Answers.{file_head}

@@ -1,20 +1,22 @@
-use Rattle.std.proofs.Common.{◌-◌, [], ◌∷◌, length, take, drop, length-drop, refl, sym, ap, ◌∙◌, arith}
+use Rattle.std.proofs.Common.{◌∙◌, arith}
 use Rattle.std.proofs.lemmas.List.{take_rest}
-use Rattle.std.proofs.lemmas.Slice.Eq.{bytes_eq-Decides}
-use Rattle.wire.proofs.Heads.{head_end_at, no_head_end, searched_before}
+use Rattle.wire.proofs.Heads.{head_end_behind_at, no_head_end_behind}
 use Rattle.wire.proofs.head.head_end_behind.Goals as goal
 
-pub returns-then-starts_with-clause-found : goal.returns-then-starts_with-clause-found
-returns-then-starts_with-clause-found c =
+pub returns-in_err-at-clause-none : goal.returns-in_err-at-clause-none
+returns-in_err-at-clause-none c =
     let bytes = c.args.bytes.now in
-    let at = c.places.at in
-    let rest = take_rest bytes at in
-    let long = c.if-starts_with.ensures.bound refl in
-    let same = (bytes_eq-Decides (13 ∷ 10 ∷ 13 ∷ 10 ∷ []) (take 4 (take (length bytes - at) (drop at bytes)))).0 (sym c.if-starts_with.ensures.value) in
-    head_end_at bytes at (ap (take 4) (sym rest) ∙ sym same) (omega (arith, ap length rest, length-drop at bytes)) c.places.invariant
+    let from = c.saturating_sub-from.result in
+    let rest = c.in_ok-get.ensures.lookup.0.2 ∙ take_rest bytes from in
+    rw c.from_residual-in_err-at.ensures
+    (no_head_end_behind bytes c.in_ok-get.field-0.now c.args.searched from rest c.requires (omega (arith, c.saturating_sub-from.ensures))
+    (λ j occurs. c.in_err-at.ensures j (omega arith) (omega (arith, occurs.fits)) occurs))
 
-pub returns-clause-none : goal.returns-clause-none
-returns-clause-none c = no_head_end c.args.bytes.now (λ k h. c.places.invariant k (omega arith))
-
-pub places-init : goal.places-init
-places-init c = λ k early. searched_before c.args.bytes.now c.args.searched k c.requires (omega (arith, early, c.saturating_sub-at.ensures))
+pub returns-clause-found : goal.returns-clause-found
+returns-clause-found c =
+    let bytes = c.args.bytes.now in
+    let from = c.saturating_sub-from.result in
+    let rest = c.in_ok-get.ensures.lookup.0.2 ∙ take_rest bytes from in
+    let first = c.in_ok-at.ensures in
+    head_end_behind_at bytes c.in_ok-get.field-0.now c.args.searched from c.in_ok-at.at rest c.requires (omega (arith, c.saturating_sub-from.ensures)) first.1
+    (λ j early occurs. first.0.before j (omega arith) early occurs)

@@ -33,7 +33,7 @@ reads-preserved g c =
       room = c.read_more.ensures.room ∙ c.reads.invariant.room;
       small = omega (arith, short, searched);
       none = subst (λ (n : ℕ). HasNoHeadEnd (take n (waiting c.read_more.new.self))) (sym searched)
-          (still_searched c.window.result.now old _ bytes c.window.ensures short more c.in-None.ensures.none);
+          (still_searched c.window.result.now old _ bytes c.window.ensures short more c.in_default.ensures.none);
     }
 
 pub returns-else-searched-eq0-clause-shows : goal.returns-else-searched-eq0-clause-shows
@@ -43,11 +43,11 @@ returns-else-searched-eq0-clause-shows g c =
     let (bytes, more, consumed, some, none) = c.in-Ok-false.ensures.came in
     let end = none c.in-Ok-false.field-0-test in
     let same = more ∙ ap (λ t. old ++ t) end.0 ∙ append-nil old in
-    let still = still_none c.window.result.now old _ c.window.ensures short same c.in-None.ensures.none in
+    let still = still_none c.window.result.now old _ c.window.ensures short same c.in_default.ensures.none in
     (omega (arith, c.if-searched-eq0.false, ap length c.waiting-searched.ensures, ap length same), still.0, still.1, end.1)
 
 pub returns-in-Err-clause-shows : goal.returns-in-Err-clause-shows
 returns-in-Err-clause-shows g c =
     let old = waiting c.reads.self in
     let short : length old < 8192 = is_short c.is_long.result (length old) c.is_long.ensures.1 c.if-is_long.false in
-    still_none c.window.result.now old _ c.window.ensures short c.in-Err.ensures.fault.1 c.in-None.ensures.none
+    still_none c.window.result.now old _ c.window.ensures short c.in-Err.ensures.fault.1 c.in_default.ensures.none
