@@ -8,7 +8,7 @@ use Rattle.wire.proofs.Written.{sends_both}
 use Rattle.csv.specs.Reading.{Reached, default_config, strip_bom}
 use Rattle.csv.specs.Machine.{next_record, Read as OneRecord}
 use Rattle.csv.specs.declared.parser.State.{State as Place}
-use Rattle.desk.specs.Lists.{line, all_sent, AreLines, Answers, BeginsList, IsOfReading, IsOfWriting, IsTable, Tells, TellsRest}
+use Rattle.desk.specs.Lists.{line, all_sent, AreLines, AnswersList, BeginsList, IsOfReading, IsOfWriting, IsTable, ListTells, TellsRest}
 use Rattle.csv.specs.declared.parser.State.TheVariants.{StartRecord}
 use Rattle.desk.specs.declared.list_fault.ListFault.{ListFault}
 use Rattle.desk.specs.declared.list_fault.ListFault.TheVariants as fault
@@ -92,7 +92,7 @@ of_writing_headed {T} {P} e is same = absurd (go e is (same_fault e fault.Head s
 
 -- no record was answered, and nothing written
 pub unanswered : {T W : Type 0} (head out_head : List (List ℕ)) (Form : List (List ℕ) → Type 0) (Known : W → Type 0) (IsLine : W → List (List ℕ) → List ℕ → Type 0) (read old : Option (List ℕ)) (e : ListFault)
-    → all_sent {T = T} (Err e) ≡ Err tt → ((text : List ℕ) → read ≡ Some text → Tells {T = T} head Form text [] (Err e)) → Answers {T = T} head out_head Form Known IsLine read old old (Err e)
+    → all_sent {T = T} (Err e) ≡ Err tt → ((text : List ℕ) → read ≡ Some text → ListTells {T = T} head Form text [] (Err e)) → AnswersList {T = T} head out_head Form Known IsLine read old old (Err e)
 unanswered head out_head Form Known IsLine read old e broke tells = record {
   rows = [];
   formed = tt;
@@ -105,7 +105,7 @@ unanswered head out_head Form Known IsLine read old e broke tells = record {
   unwritten = λ is. refl;
 }
 
-pub of_reading_tells : (T : Type 0) (head : List (List ℕ)) (Form : List (List ℕ) → Type 0) (text : List ℕ) (e : ListFault) → IsOfReading e → Tells {T = T} head Form text [] (Err e)
+pub of_reading_tells : (T : Type 0) (head : List (List ℕ)) (Form : List (List ℕ) → Type 0) (text : List ℕ) (e : ListFault) → IsOfReading e → ListTells {T = T} head Form text [] (Err e)
 of_reading_tells T head Form text fault.Read is = inr refl
 of_reading_tells T head Form text fault.Memory is = inr refl
 of_reading_tells T head Form text fault.Order is = absurd is
@@ -114,7 +114,7 @@ of_reading_tells T head Form text (fault.Row n) is = absurd is
 of_reading_tells T head Form text (fault.Keep f) is = absurd is
 of_reading_tells T head Form text fault.Write is = absurd is
 
-pub of_writing_tells : (T : Type 0) (head : List (List ℕ)) (Form : List (List ℕ) → Type 0) (text : List ℕ) (e : ListFault) → IsOfWriting e → BeginsList head text [] → Tells {T = T} head Form text [] (Err e)
+pub of_writing_tells : (T : Type 0) (head : List (List ℕ)) (Form : List (List ℕ) → Type 0) (text : List ℕ) (e : ListFault) → IsOfWriting e → BeginsList head text [] → ListTells {T = T} head Form text [] (Err e)
 of_writing_tells T head Form text fault.Write is begins = begins
 of_writing_tells T head Form text fault.Memory is begins = inl begins
 of_writing_tells T head Form text fault.Order is begins = absurd is
@@ -140,7 +140,7 @@ reached_behind s t u xs ys zs f rows (p, found, first, (state, rest)) more =
 
 -- what is told of the records behind the head is told of the list
 pub behind_tells : {T : Type 0} (head : List (List ℕ)) (Form : List (List ℕ) → Type 0) (text : List ℕ) (t : Place) (ys : List ℕ) (rows : List (List (List ℕ))) (r : Result T ListFault)
-    → Reached default_config StartRecord (strip_bom text) (head ∷ []) t ys → TellsRest Form t ys rows r → Tells head Form text rows r
+    → Reached default_config StartRecord (strip_bom text) (head ∷ []) t ys → TellsRest Form t ys rows r → ListTells head Form text rows r
 behind_tells head Form text t ys rows (Ok x) first (u, zs, more, none) = (u, zs, reached_behind _ _ _ _ _ _ _ _ first more, none)
 behind_tells head Form text t ys rows (Err (fault.Row n)) first (bad, is_bad, n_is, u, zs, more) =
     (record { bad = bad; begins = (u, zs, reached_behind _ _ _ _ _ _ _ _ first more); is_bad = is_bad }, n_is)

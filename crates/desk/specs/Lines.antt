@@ -1,10 +1,11 @@
 -- What a desk command that was read means.
-use Rattle.std.specs.Prelude.{◌≡◌, ◌⊎◌, ℕ, List, [], ◌∷◌, ◌++◌, codes}
+use Rattle.std.specs.Prelude.{◌≡◌, ◌⊎◌, ℕ, List, [], ◌∷◌, ◌++◌, codes, Option, Some, option_map}
 use Rattle.sigv4.specs.Dates.{WritesMoment}
+use Rattle.boxes.specs.Commands.{HasForm}
 use Rattle.boxes.specs.State.{Settings}
 use Rattle.boxes.specs.Steps.{Command, AddKey, RevokeKey, AddBox, CloseBox, DropFile}
 use Rattle.boxes.specs.Rows.{settings_of}
-use Rattle.desk.specs.Texts.{days_word, minute_word, mode_word, IsNumber}
+use Rattle.desk.specs.Texts.{days_word, minute_word, mode_word, IsCommand, IsNumber}
 use Rattle.desk.specs.declared.line.DeskLine.{DeskLine}
 use Rattle.desk.specs.declared.line.DeskLine.TheVariants as line
 use Rattle.desk.specs.declared.settings.SettingsWords.{SettingsWords}
@@ -15,6 +16,14 @@ said (line.RevokeKey id) = RevokeKey id.now
 said (line.AddBox name row) = AddBox name.now (settings_of row)
 said (line.CloseBox name moment) = CloseBox name.now moment
 said (line.DropFile box name) = DropFile (record { box = box.now; name = name.now })
+
+-- the line is the text's command
+abbrev pub SaysCommand : List ℕ → DeskLine → Type 0
+SaysCommand text l = IsCommand text (said l)
+
+-- where the text is a command of the form, it was found
+abbrev pub FindsCommand : List ℕ → Option DeskLine → Type 0
+FindsCommand text found = (c : Command) → IsCommand text c → HasForm c → option_map said found ≡ Some c
 
 -- the nine texts of a box's settings; the rule's is of one word or two
 abbrev pub texts_of : SettingsWords → List (List ℕ)

@@ -78,6 +78,10 @@ terms g w = record {
   region = g.region;
 }
 
+-- `http://`, the host and the target of a link that is asked for
+abbrev pub IsLinkText : Signing → Wish → List ℕ → Type 0
+IsLinkText g w text = (target : List ℕ) × IsLinkFor (terms g w) target × (text ≡ codes "http://" ++ g.host ++ target)
+
 -- the record, and behind it `http://`, the host and the link's target
 abbrev pub IsLinkLine : Signing → List (List ℕ) → List ℕ → Type 0
 IsLinkLine g fields text = (w : Wish) × (target : List ℕ) × IsWish fields w × IsLinkFor (terms g w) target

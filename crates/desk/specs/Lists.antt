@@ -1,9 +1,10 @@
 -- Lists in CSV (RFC 4180), read and written as the crate `csv` does by itself, and what answers them.
-use Rattle.std.specs.Prelude.{◌≡◌, ◌≢◌, ◌⊎◌, true, false, ℕ, ◌+◌, List, [], ◌∷◌, ◌++◌, length, Option, Some, Result, Ok, Err, ⊤}
+use Rattle.std.specs.Prelude.{◌≡◌, ◌≢◌, ◌⊎◌, true, false, ℕ, ◌+◌, List, [], ◌∷◌, ◌++◌, length, Option, Some, Result, Ok, Err, Vec, ⊤}
 use Rattle.std.specs.List.{AllByRecursion}
+use Rattle.std.specs.declared.alloc.Global.{Global}
 use Rattle.csv.specs.Machine.{next_record, Read as OneRecord}
 use Rattle.csv.specs.Reading.{default_config, strip_bom, AreRecords, Reached, Ready, is_flexible, reader_config, reader_state, reader_trim, source_of}
-use Rattle.csv.specs.Writing.{default_writer, row_text, fields_written, has_written, writer_setup}
+use Rattle.csv.specs.Writing.{default_writer, row_text, fields_written, has_written, text_written, writer_setup}
 use Rattle.csv.specs.declared.parser.State.{State as Place}
 use Rattle.csv.specs.declared.parser.State.TheVariants.{StartRecord}
 use Rattle.csv.specs.declared.reader.Reader.{Reader}
@@ -37,6 +38,10 @@ pub record IsClean {W : Type 0} (w : Writer W) : Type 0 where
   pub wrote : has_written w ≡ false
   pub setup : writer_setup w ≡ default_writer
 
+-- what a writer to memory wrote
+abbrev pub written_by : Writer (Vec ℕ Global) → Option (List ℕ)
+written_by w = text_written (λ v. Some v.items) w
+
 -- ---- what is read: a byte order mark in front is passed over
 
 -- the records of the text are the head and these
@@ -60,14 +65,14 @@ pub record HasBadRow (head : List (List ℕ)) (Form : List (List ℕ) → Type 0
 -- ---- how a list is answered
 
 -- what a result says of the text that was read, of which these records were answered
-abbrev pub Tells : {T : Type 0} → List (List ℕ) → (List (List ℕ) → Type 0) → List ℕ → List (List (List ℕ)) → Result T ListFault → Type 0
-Tells head Form text rows (Ok done) = IsList head text rows
-Tells head Form text rows (Err fault.Head) = HasOtherHead head text × (rows ≡ [])
-Tells head Form text rows (Err (fault.Row n)) = HasBadRow head Form text rows × (n ≡ length rows + 1)
-Tells head Form text rows (Err fault.Order) = rows ≡ []
-Tells head Form text rows (Err (fault.Keep f)) = BeginsList head text rows
-Tells head Form text rows (Err fault.Write) = BeginsList head text rows
-Tells head Form text rows (Err _) = BeginsList head text rows ⊎ (rows ≡ [])
+abbrev pub ListTells : {T : Type 0} → List (List ℕ) → (List (List ℕ) → Type 0) → List ℕ → List (List (List ℕ)) → Result T ListFault → Type 0
+ListTells head Form text rows (Ok done) = IsList head text rows
+ListTells head Form text rows (Err fault.Head) = HasOtherHead head text × (rows ≡ [])
+ListTells head Form text rows (Err (fault.Row n)) = HasBadRow head Form text rows × (n ≡ length rows + 1)
+ListTells head Form text rows (Err fault.Order) = rows ≡ []
+ListTells head Form text rows (Err (fault.Keep f)) = BeginsList head text rows
+ListTells head Form text rows (Err fault.Write) = BeginsList head text rows
+ListTells head Form text rows (Err _) = BeginsList head text rows ⊎ (rows ≡ [])
 
 -- whether all answers were written: so at a success, and where a record is not of the form
 abbrev pub all_sent : {T : Type 0} → Result T ListFault → Result ⊤ ⊤
@@ -78,11 +83,11 @@ all_sent (Err _) = Err tt
 -- Records of the form are answered, one after another. Where the text is known that was read, the result tells of it;
 -- and in each world that is known here a beginning of the table of their answers was written: the whole at a success, and
 -- where a record is not of the form. Where the head is another nothing was written.
-pub record Answers {T W : Type 0} (head out_head : List (List ℕ)) (Form : List (List ℕ) → Type 0) (Known : W → Type 0) (IsLine : W → List (List ℕ) → List ℕ → Type 0)
+pub record AnswersList {T W : Type 0} (head out_head : List (List ℕ)) (Form : List (List ℕ) → Type 0) (Known : W → Type 0) (IsLine : W → List (List ℕ) → List ℕ → Type 0)
     (read old new : Option (List ℕ)) (result : Result T ListFault) : Type 0 where
   pub rows : List (List (List ℕ))
   pub formed : AllByRecursion Form rows
-  pub tells : (text : List ℕ) → read ≡ Some text → Tells head Form text rows result
+  pub tells : (text : List ℕ) → read ≡ Some text → ListTells head Form text rows result
   pub written : (w : W) → Known w → (text : List ℕ) × IsTable out_head (IsLine w) rows text × Sends text old new (all_sent result)
   pub unwritten : result ≡ Err fault.Head → new ≡ old
 
@@ -104,7 +109,7 @@ TellsRest Form s text rows (Err fault.Head) = ⊥
 TellsRest Form s text rows (Err fault.Order) = ⊥
 TellsRest Form s text rows (Err _) = (t : Place) × (rest : List ℕ) × Reached default_config s text rows t rest
 
--- the records to come are answered, as `Answers` says of a whole list
+-- the records to come are answered, as `AnswersList` says of a whole list
 pub record AnswersRest {T W R : Type 0} (Form : List (List ℕ) → Type 0) (Known : W → Type 0) (IsLine : W → List (List ℕ) → List ℕ → Type 0)
     (rem : R → Option (List ℕ)) (reader : Reader R) (old new : Option (List ℕ)) (result : Result T ListFault) : Type 0 where
   pub rows : List (List (List ℕ))
@@ -140,6 +145,11 @@ IsOfWriting _ = ⊥
 abbrev pub by_keeper : {T : Type 0} → Result T ListFault → Result ⊤ KeepFault
 by_keeper (Err (fault.Keep f)) = Err f
 by_keeper _ = Ok tt
+
+-- what the reader said
+abbrev pub by_reader : {T : Type 0} → Result T ListFault → Result ⊤ ⊤
+by_reader (Err fault.Read) = Err tt
+by_reader _ = Ok tt
 
 -- what the writer said
 abbrev pub by_writer : {T : Type 0} → Result T ListFault → Result ⊤ ⊤

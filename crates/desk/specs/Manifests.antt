@@ -13,8 +13,8 @@ use Rattle.links.specs.Forms.{IsHexDigest}
 use Rattle.desk.specs.Texts.{IsNumber}
 use Rattle.desk.specs.Lists.{line, AreLines, IsTable}
 use Rattle.desk.specs.declared.comparing.Entry as comparing
-use Rattle.desk.specs.declared.comparing.Finding.{Finding}
-use Rattle.desk.specs.declared.comparing.Finding.TheVariants as finding
+use Rattle.desk.specs.declared.comparing.Comparison.{Comparison}
+use Rattle.desk.specs.declared.comparing.Comparison.TheVariants as comparison
 
 abbrev pub manifest_head : List (List ℕ)
 manifest_head = codes "receipt" ∷ codes "box" ∷ codes "name" ∷ codes "length" ∷ codes "sha256" ∷ codes "moment" ∷ codes "key" ∷ []
@@ -54,6 +54,10 @@ pub record IsEntry (fields : List (List ℕ)) (e : Entry) : Type 0 where
   pub texts : AllText fields
   pub are : fields ≡ number ∷ e.place.box ∷ e.place.name ∷ size ∷ e.digest ∷ moment ∷ key ∷ []
 
+-- the texts that say this word of an entry
+abbrev pub texts_with : comparing.Entry → List ℕ → List (List ℕ)
+texts_with e word = e.number_text.now ∷ e.in_box.now ∷ e.name.now ∷ word ∷ []
+
 abbrev pub IsManifestRow : List (List ℕ) → Type 0
 IsManifestRow fields = (e : Entry) × IsEntry fields e
 
@@ -67,22 +71,22 @@ pub record IsSame (e : Entry) (f : File) : Type 0 where
   pub size : length f.bytes ≡ e.size
   pub digest : encode_lower (sha256 f.bytes) ≡ e.digest
 
-abbrev pub IsFinding : State → Entry → Finding → Type 0
-IsFinding s e finding.Standing = (f : File) × Stands s e f × IsSame e f
-IsFinding s e finding.Differs = (f : File) × Stands s e f × (IsSame e f → ⊥)
-IsFinding s e finding.Gone = (f : File) → Stands s e f → ⊥
+abbrev pub IsComparison : State → Entry → Comparison → Type 0
+IsComparison s e comparison.Standing = (f : File) × Stands s e f × IsSame e f
+IsComparison s e comparison.Differs = (f : File) × Stands s e f × (IsSame e f → ⊥)
+IsComparison s e comparison.Gone = (f : File) → Stands s e f → ⊥
 
-abbrev pub word_of : Finding → List ℕ
-word_of finding.Standing = codes "standing"
-word_of finding.Differs = codes "differs"
-word_of finding.Gone = codes "gone"
+abbrev pub word_of : Comparison → List ℕ
+word_of comparison.Standing = codes "standing"
+word_of comparison.Differs = codes "differs"
+word_of comparison.Gone = codes "gone"
 
 abbrev pub findings_head : List (List ℕ)
 findings_head = codes "receipt" ∷ codes "box" ∷ codes "name" ∷ codes "state" ∷ []
 
 -- what stands of the record's file
-abbrev pub IsFindingLine : State → List (List ℕ) → List ℕ → Type 0
-IsFindingLine s fields text = (e : Entry) × (is : IsEntry fields e) × (found : Finding) × IsFinding s e found
+abbrev pub IsComparisonLine : State → List (List ℕ) → List ℕ → Type 0
+IsComparisonLine s fields text = (e : Entry) × (is : IsEntry fields e) × (found : Comparison) × IsComparison s e found
     × (text ≡ line (is.number ∷ e.place.box ∷ e.place.name ∷ word_of found ∷ []))
 
 -- ---- what a manifest says of an office

@@ -58,6 +58,10 @@ pub record SaysSettings (words : List (List ℕ)) (b : Settings) : Type 0 where
   pub are : words ≡ opens ∷ closes ∷ days_word b.days ∷ minute_word b.from_minute ∷ minute_word b.to_minute
       ∷ quota ∷ max_files ∷ mode_word b.mode ∷ rule_words b.rule
 
+-- the text is those words, one space apart
+abbrev pub SpellsSettings : List ℕ → Settings → Type 0
+SpellsSettings text b = (words : List (List ℕ)) × SaysSettings words b × (text ≡ join_with_byte 32 words)
+
 -- the words of a command
 pub data Says : List (List ℕ) → Command → Type 0 where
   adds_key : (id : List ℕ) (role : Role) (secret : List ℕ)

@@ -1,20 +1,21 @@
 //! What stands of a manifest.
-ghost use Rattle.std.specs.Prelude.{◌≡◌, ◌≢◌, ◌↔◌, ℕ, IsTrue, IfErr, IfOk, IfSome, IfNone, Err, Option, option_map, length, [], ◌∷◌};
-ghost use Rattle.std.specs.FinMap.{get};
+ghost use Rattle.std.specs.Prelude.{◌≡◌, ◌≢◌, ◌↔◌, IsTrue, IfErr, IfOk, IfSome, IfNone, Err, Option, length};
 ghost use Rattle.std.proofs.Common.{refl, ◌∙◌};
 ghost use Rattle.csv.specs.Records.{fields_of};
 ghost use Rattle.sigtext.specs.Counts.{CountsErrors};
 ghost use Rattle.boxes.specs.Rows.{file_of, IsFileAt};
 ghost use Rattle.boxes.specs.Sound.{IsSound};
 ghost use Rattle.boxes.specs.State.{State};
-ghost use Rattle.keeper.specs.Keeping.{Stays};
-ghost use Rattle.desk.specs.Asking.{stays_joined, stays_unasked};
-ghost use Rattle.desk.specs.Lists.{line, by_keeper, by_writer, Answers, IsOfAnswering};
+ghost use Rattle.keeper.specs.Bound.{StaysBy};
+ghost use Rattle.desk.specs.Asking.{stays_joined, stays_unasked, Meant};
+ghost use Rattle.desk.specs.Lists.{line, by_keeper, by_reader, by_writer, AnswersList};
 ghost use Rattle.desk.specs.Manifests as said;
-ghost use Rattle.desk.specs.Manifests.{entry_of, findings_head, manifest_head, word_of, IsEntry, IsFinding, IsFindingLine, IsManifestRow};
+ghost use Rattle.desk.specs.Manifests.{entry_of, findings_head, manifest_head, texts_with, word_of, IsEntry, IsComparison, IsComparisonLine, IsManifestRow};
 
-use crate::answering::{Answerer, Heads, answer_list};
+use crate::answerer::{Answerer, Heads};
+use crate::answering::answer_list;
 use crate::lines::line_of;
+use crate::list_end::ListEnd;
 use crate::list_fault::ListFault;
 use crate::manifests::MANIFEST_HEAD;
 use crate::records::{are_texts, read_fields};
@@ -39,7 +40,7 @@ const MOST_LENGTH_DIGITS: usize = 7;
 
 /// What stands of a receipt's file.
 #[derive(Clone, Copy, Debug, PartialEq, Eq)]
-pub(crate) enum Finding {
+pub(crate) enum Comparison {
     /// The file stands, as the manifest says.
     Standing,
     /// A file stands under the receipt, of another length or digest.
@@ -48,14 +49,14 @@ pub(crate) enum Finding {
     Gone,
 }
 
-impl Finding {
+impl Comparison {
     fn word(self) -> &'static [u8]
         ensures { result.now ≡ word_of self }
     {
         match self {
-            Finding::Standing => b"standing",
-            Finding::Differs => b"differs",
-            Finding::Gone => b"gone",
+            Comparison::Standing => b"standing",
+            Comparison::Differs => b"differs",
+            Comparison::Gone => b"gone",
         }
     }
 }
@@ -74,7 +75,8 @@ pub(crate) struct Entry<'a> {
 
 // What the record says, where it is of the form.
 fn read_entry(row: &ByteRecord) -> Option<Entry<'_>>
-    ensures some { IfSome result (λ e. (is : IsEntry (fields_of row.now) (entry_of e)) × (is.number ≡ e.number_text.now)) }
+    ensures some { IfSome result (λ e. (is : IsEntry (fields_of row.now) (entry_of e))
+        × (is.number ≡ e.number_text.now)) }
     ensures none { IfNone result (IsManifestRow (fields_of row.now) → ⊥) }
 {
     let mut texts = [b"".as_slice(); 7];
@@ -112,24 +114,25 @@ fn is_same(entry: &Entry<'_>, file: &FileRow) -> bool
 }
 
 // What stands of an entry, where this file stands in its place.
-fn find(entry: &Entry<'_>, standing: &Option<FileRow>) -> Finding
-    ensures { (s : State) → IsFileAt s (entry_of entry.now).place standing.now → IsFinding s (entry_of entry.now) result }
+fn find(entry: &Entry<'_>, standing: &Option<FileRow>) -> Comparison
+    ensures { (s : State) → IsFileAt s (entry_of entry.now).place standing.now
+        → IsComparison s (entry_of entry.now) result }
 {
     match standing {
         Some(file) if file.receipt.number == entry.number => {
             if is_same(entry, file) {
-                Finding::Standing
+                Comparison::Standing
             } else {
-                Finding::Differs
+                Comparison::Differs
             }
         }
-        _ => Finding::Gone,
+        _ => Comparison::Gone,
     }
 }
 
 // The line that says this word of an entry.
 fn entry_line<'a>(alloc: Global, entry: &Entry<'a>, word: &'a [u8]) -> Result<Vec<u8>, ListFault>
-    ensures line { IfOk result (λ text. text.items ≡ line (entry.now.number_text.now ∷ entry.now.in_box.now ∷ entry.now.name.now ∷ word.now ∷ [])) }
+    ensures line { IfOk result (λ text. text.items ≡ line (texts_with entry.now word.now)) }
     ensures memory { IfErr result (λ f. f ≡ ListFault.Memory) }
 {
     line_of(alloc, &[entry.number_text, entry.in_box, entry.name, word])
@@ -150,9 +153,10 @@ impl<K: Keeper> Answerer for Comparer<'_, K> {
 
     ghost is_honest = { λ c. K.is_honest c.keeper.now };
 
-    ghost is_line = { λ c s fields text. IsFindingLine s fields text };
+    ghost is_line = { λ c s fields text. IsComparisonLine s fields text };
 
-    ghost stays = { λ c d r. (d.keeper.ghost_name ≡ c.keeper.ghost_name) × Stays K.means K.is_honest K.faults K.leaves K.leaves_whole K.has_store c.keeper.now d.keeper.now r };
+    ghost stays = { λ c d r. (d.keeper.ghost_name ≡ c.keeper.ghost_name)
+        × StaysBy K.Keeper c.keeper.now d.keeper.now r };
 
     fn answer(&mut self, alloc: Global, row: &ByteRecord) -> Result<Option<Vec<u8>>, ListFault> {
         let Some(entry) = read_entry(row) else {
@@ -165,9 +169,9 @@ impl<K: Keeper> Answerer for Comparer<'_, K> {
         Ok(Some(entry_line(alloc, &entry, found.word())?))
     }
 
-    ghost unasked = { λ a. (refl, stays_unasked K.means K.is_honest K.faults K.leaves K.leaves_whole K.has_store a.keeper.now) };
+    ghost unasked = { λ a. (refl, stays_unasked _ a.keeper.now) };
 
-    ghost joins = { λ a b c r p q. (q.0 ∙ p.0, stays_joined K.means K.is_honest K.faults K.leaves K.leaves_whole K.has_store a.keeper.now b.keeper.now c.keeper.now r p.1 q.1) };
+    ghost joins = { λ a b c r p q. (q.0 ∙ p.0, stays_joined _ _ _ _ _ p.1 q.1) };
 
     ghost same = { λ a b s r p h. (p.1.same s h.0, h.1) };
 
@@ -195,6 +199,8 @@ impl<'k, K: Keeper> Comparer<'k, K> {
 /// - `differs`: it has this receipt, but another length or digest;
 /// - `gone`: there is none, or it has another receipt.
 ///
+/// The reader is given back, with the number of its reads that failed.
+///
 /// # Errors
 ///
 /// `Head` where the first row of the list is another, or missing; then nothing was written. `Row` with the number of the first
@@ -203,15 +209,17 @@ impl<'k, K: Keeper> Comparer<'k, K> {
 /// a beginning of the answers' text.
 pub fn compare<R: Read, K: Keeper, W: Write>(
     alloc: Global,
-    input: &mut R,
+    input: R,
     keeper: &mut K,
     out: &mut Counted<W>,
-) -> Result<(), ListFault>
-    ensures answers { Answers manifest_head findings_head IsManifestRow (λ s. K.means keeper.old s × IsSound s × K.is_honest keeper.new) IsFindingLine
-        (R.remaining input.old) (W.contents out.old.inner) (W.contents out.new.inner) result }
-    ensures stays { Stays K.means K.is_honest K.faults K.leaves K.leaves_whole K.has_store keeper.old keeper.new (by_keeper result) }
-    ensures count { CountsErrors out.old.faults out.new.faults (by_writer result) }
-    ensures order { result ≢ Err ListFault.Order }
+) -> ListEnd<R>
+    ensures answers { AnswersList manifest_head findings_head IsManifestRow
+        (Meant K.Keeper keeper.old keeper.new) IsComparisonLine
+        (R.remaining input) (W.contents out.old.inner) (W.contents out.new.inner) result.end }
+    ensures stays { StaysBy K.Keeper keeper.old keeper.new (by_keeper result.end) }
+    ensures reads { CountsErrors 0 result.reader.faults (by_reader result.end) }
+    ensures count { CountsErrors out.old.faults out.new.faults (by_writer result.end) }
+    ensures order { result.end ≢ Err ListFault.Order }
 {
     let mut comparer = Comparer { keeper };
     let heads = Heads {

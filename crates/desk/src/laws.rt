@@ -6,5 +6,6 @@ ghost use Rattle.desk.specs.Texts.{IsCommand};
 
 /// A text is one command at most.
 pub fn law_of_commands()
-    ensures one { (text : List ℕ) (a b : Command) → IsCommand text a → HasForm a → IsCommand text b → HasForm b → b ≡ a }
+    ensures one { (text : List ℕ) (a b : Command) → IsCommand text a → HasForm a
+        → IsCommand text b → HasForm b → b ≡ a }
 {}

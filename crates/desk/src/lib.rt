@@ -1,12 +1,14 @@
 //! The desk: what a clerk says to the office, and the lists that a clerk is given.
 #![tactic(auto)]
 
+mod answerer;
 mod answering;
 mod comparing;
 pub mod laws;
 mod line;
 mod lines;
 mod link_lists;
+mod list_end;
 mod list_fault;
 mod manifests;
 mod reading;
@@ -18,6 +20,7 @@ pub use comparing::compare;
 pub use laws::law_of_commands;
 pub use line::DeskLine;
 pub use link_lists::links_from;
+pub use list_end::ListEnd;
 pub use list_fault::ListFault;
 pub use manifests::manifest;
 pub use reading::read_command;

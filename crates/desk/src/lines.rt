@@ -1,10 +1,9 @@
 //! Writing the lines of a list.
 ghost use Rattle.std.specs.Prelude.{◌≡◌, Some, map, OnOk, IfOk, IfErr};
 ghost use Rattle.std.specs.Io.KnownBytes.{Appends};
-ghost use Rattle.csv.specs.Writing.{text_written};
 ghost use Rattle.sigtext.specs.Counts.{CountsErrors};
 ghost use Rattle.wire.specs.Sending.{Sends};
-ghost use Rattle.desk.specs.Lists.{line, by_writer, IsClean, IsOfWriting};
+ghost use Rattle.desk.specs.Lists.{line, by_writer, written_by, IsClean, IsOfWriting};
 
 use crate::list_fault::ListFault;
 use csv::{Writer, WriterBuilder};
@@ -16,7 +15,8 @@ use wire::{Counted, send};
 pub(crate) fn write_line(fields: &[&[u8]], writer: &mut Writer<Vec<u8>>) -> Result<(), ListFault>
     requires { IsClean writer.old }
     ensures clean { OnOk result (IsClean writer.new) }
-    ensures written { OnOk result (Appends (text_written (λ v. Some v.items) writer.old) (text_written (λ v. Some v.items) writer.new) (line (map (λ f. f.now) fields.now))) }
+    ensures written { OnOk result (Appends (written_by writer.old) (written_by writer.new)
+        (line (map (λ f. f.now) fields.now))) }
     ensures memory { IfErr result (λ f. f ≡ ListFault.Memory) }
 {
     match writer.write_fields(fields) {
@@ -27,7 +27,7 @@ pub(crate) fn write_line(fields: &[&[u8]], writer: &mut Writer<Vec<u8>>) -> Resu
 
 /// What was written to memory.
 pub(crate) fn text_of(writer: Writer<Vec<u8>>) -> Result<Vec<u8>, ListFault>
-    ensures text { IfOk result (λ text. Some text.items ≡ text_written (λ v. Some v.items) writer) }
+    ensures text { IfOk result (λ text. Some text.items ≡ written_by writer) }
     ensures memory { IfErr result (λ f. f ≡ ListFault.Memory) }
 {
     match writer.into_inner() {
@@ -64,7 +64,8 @@ pub(crate) fn send_line<W: Write>(
     fields: &[&[u8]],
     out: &mut Counted<W>,
 ) -> Result<(), ListFault>
-    ensures sent { Sends (line (map (λ f. f.now) fields.now)) (W.contents out.old.inner) (W.contents out.new.inner) result }
+    ensures sent { Sends (line (map (λ f. f.now) fields.now))
+        (W.contents out.old.inner) (W.contents out.new.inner) result }
     ensures count { CountsErrors out.old.faults out.new.faults (by_writer result) }
     ensures fault { IfErr result IsOfWriting }
 {

@@ -1,14 +1,14 @@
 //! Many links at once.
 ghost use Rattle.std.specs.Prelude.{◌≡◌, ◌↔◌, ◌∷◌, ◌++◌, ℕ, List, ⊤, IsTrue, IfErr, IfOk, IfSome, IfNone, Ok, Err, codes, map};
 ghost use Rattle.std.proofs.Common.{refl, subst, ◌∙◌};
-ghost use Rattle.csv.specs.Records.{fields_of};
 ghost use Rattle.sigtext.specs.Counts.{CountsErrors};
-ghost use Rattle.links.specs.Orders.{IsLinkFor};
-ghost use Rattle.desk.specs.Lists.{by_keeper, by_writer, Answers};
-ghost use Rattle.desk.specs.LinkLists.{links_head, written_links_head, signing_of, terms, wish_of, CanSign, IsLinkLine, IsLinkRow, IsWish};
+ghost use Rattle.desk.specs.Lists.{by_keeper, by_reader, by_writer, AnswersList};
+ghost use Rattle.desk.specs.LinkLists.{links_head, written_links_head, signing_of, wish_of, CanSign, IsLinkLine, IsLinkRow, IsLinkText, IsWish};
 
-use crate::answering::{Answerer, Heads, answer_list};
+use crate::answerer::{Answerer, Heads};
+use crate::answering::answer_list;
 use crate::lines::line_of;
+use crate::list_end::ListEnd;
 use crate::list_fault::ListFault;
 use crate::records::read_fields;
 use boxes::{Command, has_form};
@@ -87,8 +87,9 @@ impl Signer<'_> {
     // `http://`, the host and the link.
     fn link(&self, alloc: Global, wish: &Wish<'_>) -> Result<Vec<u8>, ListFault>
         requires { (fields : List (List ℕ)) × IsWish fields (wish_of wish.now) }
-        ensures link { IfOk result (λ text. (target : List ℕ) × IsLinkFor (terms (signing_of self.now.key self.now.host.now self.now.region.now) (wish_of wish.now)) target
-            × (text.items ≡ codes "http://" ++ self.now.host.now ++ target)) }
+        ensures link { IfOk result (λ text. IsLinkText
+            (signing_of self.now.key self.now.host.now self.now.region.now)
+            (wish_of wish.now) text.items) }
         ensures memory { IfErr result (λ f. f ≡ ListFault.Memory) }
     {
         let Ok(path) = path_of(alloc, wish.in_box, wish.name) else {
@@ -131,7 +132,8 @@ impl Answerer for Signer<'_> {
 
     ghost is_honest = { λ g. ⊤ };
 
-    ghost is_line = { λ g w fields text. IsLinkLine (signing_of g.key g.host.now g.region.now) fields text };
+    ghost is_line = { λ g w fields text.
+        IsLinkLine (signing_of g.key g.host.now g.region.now) fields text };
 
     ghost stays = { λ g h r. (h ≡ g) × (r ≡ Ok tt) };
 
@@ -157,13 +159,15 @@ impl Answerer for Signer<'_> {
 
     ghost honest = { λ a b r p h. tt };
 
-    ghost steady = { λ a b r w fields text p l. subst (λ g. IsLinkLine (signing_of g.key g.host.now g.region.now) fields text) p.0 l };
+    ghost steady = { λ a b r w fields text p l.
+        subst (λ g. IsLinkLine (signing_of g.key g.host.now g.region.now) fields text) p.0 l };
 }
 
 /// Writes a link for each row of a list in CSV, as `links::write_link` does. The list's head is `method,box,name,start,expires`;
 /// each row has `PUT`, `GET` or `HEAD`, the name of a box, a file's name, a moment as `20130524T000000Z`, and 1 to 604800 seconds
 /// without a leading zero. Whether the box is there isn't asked. For each row, in its order, the row is written again, and
-/// behind it `http://`, the host and the link's target, under a head with the column `link` more.
+/// behind it `http://`, the host and the link's target, under a head with the column `link` more. The reader is given back,
+/// with the number of its reads that failed.
 ///
 /// # Errors
 ///
@@ -173,21 +177,28 @@ impl Answerer for Signer<'_> {
 /// write failed, and `Memory` where memory was refused; what was written is then a beginning of the links' text.
 pub fn links_from<R: Read, W: Write>(
     alloc: Global,
-    input: &mut R,
+    input: R,
     out: &mut Counted<W>,
     key: &LinkKey<'_>,
     host: &[u8],
     region: &[u8],
-) -> Result<(), ListFault>
-    ensures answers { Answers links_head written_links_head IsLinkRow (λ (w : ⊤). ⊤) (λ w. IsLinkLine (signing_of key.now host.now region.now))
-        (R.remaining input.old) (W.contents out.old.inner) (W.contents out.new.inner) result }
-    ensures order { (result ≡ Err ListFault.Order) ↔ (CanSign (signing_of key.now host.now region.now) → ⊥) }
-    ensures untouched { result ≡ Err ListFault.Order → (input.new ≡ input.old) × (out.new ≡ out.old) }
-    ensures keeper { by_keeper result ≡ Ok tt }
-    ensures count { CountsErrors out.old.faults out.new.faults (by_writer result) }
+) -> ListEnd<R>
+    ensures answers { AnswersList links_head written_links_head IsLinkRow
+        (λ (w : ⊤). ⊤) (λ w. IsLinkLine (signing_of key.now host.now region.now))
+        (R.remaining input) (W.contents out.old.inner) (W.contents out.new.inner) result.end }
+    ensures order { (result.end ≡ Err ListFault.Order)
+        ↔ (CanSign (signing_of key.now host.now region.now) → ⊥) }
+    ensures untouched { result.end ≡ Err ListFault.Order
+        → (result.reader.inner ≡ input) × (out.new ≡ out.old) }
+    ensures keeper { by_keeper result.end ≡ Ok tt }
+    ensures reads { CountsErrors 0 result.reader.faults (by_reader result.end) }
+    ensures count { CountsErrors out.old.faults out.new.faults (by_writer result.end) }
 {
     if !can_sign(key, host, region) {
-        return Err(ListFault::Order);
+        return ListEnd {
+            end: Err(ListFault::Order),
+            reader: Counted::new(input),
+        };
     }
     let mut signer = Signer {
         key: *key,

@@ -2,14 +2,13 @@
 ghost use Rattle.std.specs.Prelude.{◌≡◌, ℕ, ◌+◌, List, Some, length, map, IfErr, IfOk, OnOk};
 ghost use Rattle.std.specs.List.{AllByRecursion};
 ghost use Rattle.std.specs.Io.KnownBytes.{Appends};
-ghost use Rattle.csv.specs.Writing.{text_written};
 ghost use Rattle.sigtext.specs.Counts.{CountsErrors};
 ghost use Rattle.sigv4.specs.Dates.{WritesMoment};
 ghost use Rattle.boxes.specs.Rows.{numbered_receipt};
 ghost use Rattle.boxes.specs.Sound.{IsMoment, IsSound};
 ghost use Rattle.boxes.specs.State.{State};
-ghost use Rattle.keeper.specs.Keeping.{Stays};
-ghost use Rattle.desk.specs.Lists.{by_keeper, by_writer, AreLines, IsClean, IsOfManifest};
+ghost use Rattle.keeper.specs.Bound.{StaysBy};
+ghost use Rattle.desk.specs.Lists.{by_keeper, by_writer, written_by, AreLines, IsClean, IsOfManifest};
 ghost use Rattle.desk.specs.Manifests.{HasMoment, IsReceiptLine, SendsReceipts, WritesManifest};
 
 use crate::lines::{send_line, send_text, text_of, write_line};
@@ -48,8 +47,9 @@ fn moment_text(seconds: u64) -> [u8; 16]
 fn write_receipt(receipt: &ReceiptRow, writer: &mut Writer<Vec<u8>>) -> Result<(), ListFault>
     requires { IsClean writer.old }
     ensures clean { OnOk result (IsClean writer.new) }
-    ensures written { IsMoment receipt.now.moment → OnOk result ((text : List ℕ) × IsReceiptLine (numbered_receipt receipt.now) text
-        × Appends (text_written (λ v. Some v.items) writer.old) (text_written (λ v. Some v.items) writer.new) text) }
+    ensures written { IsMoment receipt.now.moment → OnOk result ((text : List ℕ)
+        × IsReceiptLine (numbered_receipt receipt.now) text
+        × Appends (written_by writer.old) (written_by writer.new) text) }
     ensures memory { IfErr result (λ f. f ≡ ListFault.Memory) }
 {
     let mut number = Buffer::new();
@@ -68,7 +68,8 @@ fn write_receipt(receipt: &ReceiptRow, writer: &mut Writer<Vec<u8>>) -> Result<(
 
 // The lines of receipts.
 fn receipts_text(alloc: Global, receipts: &[ReceiptRow]) -> Result<Vec<u8>, ListFault>
-    ensures lines { AllByRecursion HasMoment (map numbered_receipt receipts.now) → IfOk result (λ text. AreLines IsReceiptLine (map numbered_receipt receipts.now) text.items) }
+    ensures lines { AllByRecursion HasMoment (map numbered_receipt receipts.now)
+        → IfOk result (λ text. AreLines IsReceiptLine (map numbered_receipt receipts.now) text.items) }
     ensures memory { IfErr result (λ f. f ≡ ListFault.Memory) }
 {
     let mut writer = WriterBuilder::new().from_writer(Vec::new(alloc));
@@ -85,9 +86,9 @@ fn send_receipts<K: Keeper, W: Write>(
     end: u64,
     out: &mut Counted<W>,
 ) -> Result<(), ListFault>
-    ensures sent { (s : State) → K.means keeper.old s → IsSound s → K.is_honest keeper.new → end ≡ length s.receipts + 1
-        → SendsReceipts s (W.contents out.old.inner) (W.contents out.new.inner) result }
-    ensures stays { Stays K.means K.is_honest K.faults K.leaves K.leaves_whole K.has_store keeper.old keeper.new (by_keeper result) }
+    ensures sent { (s : State) → K.means keeper.old s → IsSound s → K.is_honest keeper.new
+        → end ≡ length s.receipts + 1 → SendsReceipts s (W.contents out.old.inner) (W.contents out.new.inner) result }
+    ensures stays { StaysBy K.Keeper keeper.old keeper.new (by_keeper result) }
     ensures count { CountsErrors out.old.faults out.new.faults (by_writer result) }
     ensures fault { IfErr result IsOfManifest }
 {
@@ -119,7 +120,7 @@ pub fn manifest<K: Keeper, W: Write>(
 ) -> Result<(), ListFault>
     ensures writes { (s : State) → K.means keeper.old s → IsSound s → K.is_honest keeper.new
         → WritesManifest s (W.contents out.old.inner) (W.contents out.new.inner) result }
-    ensures stays { Stays K.means K.is_honest K.faults K.leaves K.leaves_whole K.has_store keeper.old keeper.new (by_keeper result) }
+    ensures stays { StaysBy K.Keeper keeper.old keeper.new (by_keeper result) }
     ensures count { CountsErrors out.old.faults out.new.faults (by_writer result) }
     ensures fault { IfErr result IsOfManifest }
 {

@@ -1,9 +1,8 @@
 //! Reading a desk command.
-ghost use Rattle.std.specs.Prelude.{◌≡◌, ◌++◌, IfErr, IfOk, IfSome, option_map, Some, codes};
+ghost use Rattle.std.specs.Prelude.{◌++◌, IfErr, IfOk, IfSome, codes};
 ghost use Rattle.boxes.specs.Commands.{HasForm};
-ghost use Rattle.boxes.specs.Steps.{Command};
-ghost use Rattle.desk.specs.Lines.{said, HasListedRule, HasRuleWord};
-ghost use Rattle.desk.specs.Texts.{IsCommand};
+ghost use Rattle.desk.specs.Finds.{IfFound};
+ghost use Rattle.desk.specs.Lines.{said, FindsCommand, HasListedRule, HasRuleWord, SaysCommand};
 
 use crate::line::DeskLine;
 use crate::settings::read_settings;
@@ -15,8 +14,8 @@ use std::alloc::{AllocError, Global};
 
 // What follows `key add `.
 fn read_key(words: &[u8]) -> Option<DeskLine<'_>>
-    ensures some { IfSome result (λ l. IsCommand (codes "key add " ++ words.now) (said l)) }
-    ensures all { (c : Command) → IsCommand (codes "key add " ++ words.now) c → HasForm c → option_map said result ≡ Some c }
+    ensures some { IfSome result (SaysCommand (codes "key add " ++ words.now)) }
+    ensures all { FindsCommand (codes "key add " ++ words.now) result }
 {
     let (id, rest) = cut(words, b' ')?;
     let (role, secret) = cut(rest, b' ')?;
@@ -26,8 +25,8 @@ fn read_key(words: &[u8]) -> Option<DeskLine<'_>>
 
 // What follows `box add `.
 fn read_box(alloc: Global, words: &[u8]) -> Result<Option<DeskLine<'_>>, AllocError>
-    ensures some { IfOk result (λ found. IfSome found (λ l. IsCommand (codes "box add " ++ words.now) (said l))) }
-    ensures all { IfOk result (λ found. (c : Command) → IsCommand (codes "box add " ++ words.now) c → HasForm c → option_map said found ≡ Some c) }
+    ensures some { IfFound result (SaysCommand (codes "box add " ++ words.now)) }
+    ensures all { IfOk result (FindsCommand (codes "box add " ++ words.now)) }
     ensures memory { IfErr result (λ e. HasRuleWord words.now) }
 {
     let Some((name, rest)) = cut(words, b' ') else {
@@ -41,8 +40,8 @@ fn read_box(alloc: Global, words: &[u8]) -> Result<Option<DeskLine<'_>>, AllocEr
 
 // What follows `box close `.
 fn read_closing(words: &[u8]) -> Option<DeskLine<'_>>
-    ensures some { IfSome result (λ l. IsCommand (codes "box close " ++ words.now) (said l)) }
-    ensures all { (c : Command) → IsCommand (codes "box close " ++ words.now) c → HasForm c → option_map said result ≡ Some c }
+    ensures some { IfSome result (SaysCommand (codes "box close " ++ words.now)) }
+    ensures all { FindsCommand (codes "box close " ++ words.now) result }
 {
     let (name, moment) = cut(words, b' ')?;
     let moment = read_moment(moment)?.seconds();
@@ -51,8 +50,8 @@ fn read_closing(words: &[u8]) -> Option<DeskLine<'_>>
 
 // What follows `file drop `. The name is all that stands behind the box, spaces too.
 fn read_drop(words: &[u8]) -> Option<DeskLine<'_>>
-    ensures some { IfSome result (λ l. IsCommand (codes "file drop " ++ words.now) (said l)) }
-    ensures all { (c : Command) → IsCommand (codes "file drop " ++ words.now) c → HasForm c → option_map said result ≡ Some c }
+    ensures some { IfSome result (SaysCommand (codes "file drop " ++ words.now)) }
+    ensures all { FindsCommand (codes "file drop " ++ words.now) result }
 {
     let (in_box, name) = cut(words, b' ')?;
     Some(DeskLine::DropFile { in_box, name })
@@ -60,8 +59,8 @@ fn read_drop(words: &[u8]) -> Option<DeskLine<'_>>
 
 // One of the five forms, whatever the forms of what it names.
 fn read_line(alloc: Global, line: &[u8]) -> Result<Option<DeskLine<'_>>, AllocError>
-    ensures some { IfOk result (λ found. IfSome found (λ l. IsCommand line.now (said l))) }
-    ensures all { IfOk result (λ found. (c : Command) → IsCommand line.now c → HasForm c → option_map said found ≡ Some c) }
+    ensures some { IfFound result (SaysCommand line.now) }
+    ensures all { IfOk result (FindsCommand line.now) }
     ensures memory { IfErr result (λ e. HasListedRule line.now) }
 {
     if let Some(words) = line.strip_prefix(b"key add ") {
@@ -101,8 +100,8 @@ fn read_line(alloc: Global, line: &[u8]) -> Result<Option<DeskLine<'_>>, AllocEr
 ///
 /// Memory was refused. It is asked for by `box add` with a rule `ends` or `begins` alone.
 pub fn read_command(alloc: Global, line: &[u8]) -> Result<Option<DeskLine<'_>>, AllocError>
-    ensures some { IfOk result (λ found. IfSome found (λ l. IsCommand line.now (said l) × HasForm (said l))) }
-    ensures all { IfOk result (λ found. (c : Command) → IsCommand line.now c → HasForm c → option_map said found ≡ Some c) }
+    ensures some { IfFound result (λ l. SaysCommand line.now l × HasForm (said l)) }
+    ensures all { IfOk result (FindsCommand line.now) }
     ensures memory { IfErr result (λ e. HasListedRule line.now) }
 {
     match read_line(alloc, line)? {

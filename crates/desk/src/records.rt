@@ -1,30 +1,36 @@
 //! Reading the records of a list.
-ghost use Rattle.std.specs.Prelude.{◌≡◌, ◌≢◌, ◌↔◌, ℕ, List, map, true, length, IsTrue, IfOk, IfErr, IfSome, IfNone, OnOk};
+ghost use Rattle.std.specs.Prelude.{◌≡◌, ◌↔◌, map, true, length, IsTrue, IfOk, IfErr, OnOk};
 ghost use Rattle.csv.specs.Records.{fields_of, AllText};
 ghost use Rattle.csv.specs.Reading.{ReadRecord};
-ghost use Rattle.desk.specs.Lists.{IsReading, IsOfReading};
+ghost use Rattle.sigtext.specs.Counts.{CountsErrors};
+ghost use Rattle.desk.specs.Answering.{failed_reads, left_in};
+ghost use Rattle.desk.specs.Lists.{by_reader, IsReading, IsOfReading};
 
 use crate::list_fault::ListFault;
-use csv::{ByteRecord, ErrorKind, Reader};
+use csv::{ByteRecord, Reader};
 use std::io::Read;
 use std::str;
+use wire::Counted;
 
-/// Reads the next record, if there is one.
+/// Reads the next record, if there is one. The reader's count tells whether a read failed.
 pub(crate) fn next_record<R: Read>(
-    reader: &mut Reader<R>,
+    reader: &mut Reader<Counted<R>>,
     row: &mut ByteRecord,
 ) -> Result<bool, ListFault>
     requires { IsReading reader.old }
-    ensures reads { IfOk result (λ found. ReadRecord R.remaining reader.old reader.new found (fields_of row.new)) }
+    ensures record { IfOk result (λ found.
+        ReadRecord (left_in R.remaining) reader.old reader.new found (fields_of row.new)) }
     ensures goes_on { OnOk result (IsReading reader.new) }
     ensures fault { IfErr result IsOfReading }
+    ensures reads { CountsErrors 0 (failed_reads reader.new) (by_reader result) }
 {
-    match reader.read_byte_record(row) {
+    let read = reader.read_byte_record(row);
+    if reader.get_ref().faults() > 0 {
+        return Err(ListFault::Read);
+    }
+    match read {
         Ok(found) => Ok(found),
-        Err(error) => match error.kind() {
-            ErrorKind::Io(_) => Err(ListFault::Read),
-            _ => Err(ListFault::Memory),
-        },
+        Err(_) => Err(ListFault::Memory),
     }
 }
 

@@ -8,7 +8,8 @@ ghost use Rattle.boxes.specs.State.{AnyName, Settings};
 ghost use Rattle.sigtext.specs.Bytes.{begins_with};
 ghost use Rattle.sigtext.specs.Targets.{Lacks};
 ghost use Rattle.desk.specs.Lines.{texts_of, HasRuleWord, SayRow};
-ghost use Rattle.desk.specs.Texts.{SaysSettings, rule_words};
+ghost use Rattle.desk.specs.Finds.{IfFound};
+ghost use Rattle.desk.specs.Texts.{SaysSettings, SpellsSettings, rule_words};
 
 use crate::values::{read_days, read_minute, read_mode, read_number};
 use boxes::{BoxRow, NameRule};
@@ -34,7 +35,8 @@ pub(crate) struct SettingsWords<'a> {
 fn cut_words(text: &[u8]) -> Option<SettingsWords<'_>>
     ensures some { IfSome result (λ w. text.now ≡ join_with_byte 32 (texts_of w)) }
     ensures all { (opens closes days from to quota max_files mode rule : List ℕ)
-        → Lacks 32 opens → Lacks 32 closes → Lacks 32 days → Lacks 32 from → Lacks 32 to → Lacks 32 quota → Lacks 32 max_files → Lacks 32 mode
+        → Lacks 32 opens → Lacks 32 closes → Lacks 32 days → Lacks 32 from → Lacks 32 to
+        → Lacks 32 quota → Lacks 32 max_files → Lacks 32 mode
         → let texts = opens ∷ closes ∷ days ∷ from ∷ to ∷ quota ∷ max_files ∷ mode ∷ rule ∷ [] in
         text.now ≡ join_with_byte 32 texts → option_map texts_of result ≡ Some texts }
 {
@@ -61,7 +63,8 @@ fn cut_words(text: &[u8]) -> Option<SettingsWords<'_>>
 
 // The texts of a list that are joined by commas.
 fn read_texts(alloc: Global, list: &[u8]) -> Result<Vec<Vec<u8>>, AllocError>
-    ensures { IfOk result (λ texts. map (λ t. t.items) texts.items ≡ slice_split (λ b. b == 44) list.now) }
+    ensures { IfOk result (λ texts.
+        map (λ t. t.items) texts.items ≡ slice_split (λ b. b == 44) list.now) }
 {
     let mut texts = Vec::new(alloc);
     for text in list.split(|byte| *byte == b',') {
@@ -72,9 +75,11 @@ fn read_texts(alloc: Global, list: &[u8]) -> Result<Vec<Vec<u8>>, AllocError>
 
 // The rule of these words: `any`, `ends T,T,..` or `begins T`.
 fn read_rule(alloc: Global, words: &[u8]) -> Result<Option<NameRule>, AllocError>
-    ensures some { IfOk result (λ found. IfSome found (λ r. words.now ≡ join_with_byte 32 (rule_words (name_rule_of r)))) }
-    ensures all { IfOk result (λ found. (r : state.NameRule) → IsNameRule r → words.now ≡ join_with_byte 32 (rule_words r) → option_map name_rule_of found ≡ Some r) }
-    ensures memory { IfErr result (λ e. (begins_with words.now (codes "ends ") ≡ true) ⊎ (begins_with words.now (codes "begins ") ≡ true)) }
+    ensures some { IfFound result (λ r. words.now ≡ join_with_byte 32 (rule_words (name_rule_of r))) }
+    ensures all { IfOk result (λ found. (r : state.NameRule) → IsNameRule r
+        → words.now ≡ join_with_byte 32 (rule_words r) → option_map name_rule_of found ≡ Some r) }
+    ensures memory { IfErr result (λ e. (begins_with words.now (codes "ends ") ≡ true)
+        ⊎ (begins_with words.now (codes "begins ") ≡ true)) }
 {
     if words == b"any".as_slice() {
         return Ok(Some(NameRule::Any));
@@ -90,8 +95,10 @@ fn read_rule(alloc: Global, words: &[u8]) -> Result<Option<NameRule>, AllocError
 
 // The settings of these words, where any name is taken.
 fn read_row(words: &SettingsWords<'_>) -> Option<BoxRow>
-    ensures some { IfSome result (λ row. SayRow words.now (settings_of row) × ((settings_of row).rule ≡ AnyName)) }
-    ensures all { (b : Settings) → SayRow words.now b → AreSettings b → option_map settings_of result ≡ Some (record b { rule = AnyName }) }
+    ensures some { IfSome result (λ row. SayRow words.now (settings_of row)
+        × ((settings_of row).rule ≡ AnyName)) }
+    ensures all { (b : Settings) → SayRow words.now b → AreSettings b
+        → option_map settings_of result ≡ Some (record b { rule = AnyName }) }
 {
     let opens = read_moment(words.opens)?.seconds();
     let closes = read_moment(words.closes)?.seconds();
@@ -116,9 +123,9 @@ fn read_row(words: &SettingsWords<'_>) -> Option<BoxRow>
 
 /// The settings of a box: `OPENS CLOSES DAYS FROM TO QUOTA FILES MODE RULE`.
 pub(crate) fn read_settings(alloc: Global, text: &[u8]) -> Result<Option<BoxRow>, AllocError>
-    ensures some { IfOk result (λ found. IfSome found (λ row. (words : List (List ℕ)) × SaysSettings words (settings_of row) × (text.now ≡ join_with_byte 32 words))) }
-    ensures all { IfOk result (λ found. (words : List (List ℕ)) (b : Settings) → SaysSettings words b → AreSettings b → text.now ≡ join_with_byte 32 words
-        → option_map settings_of found ≡ Some b) }
+    ensures some { IfFound result (λ row. SpellsSettings text.now (settings_of row)) }
+    ensures all { IfOk result (λ found. (words : List (List ℕ)) (b : Settings) → SaysSettings words b
+        → AreSettings b → text.now ≡ join_with_byte 32 words → option_map settings_of found ≡ Some b) }
     ensures memory { IfErr result (λ e. HasRuleWord text.now) }
 {
     let Some(words) = cut_words(text) else {

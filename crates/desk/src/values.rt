@@ -1,14 +1,11 @@
 //! The words that a desk command says by: roles, modes, days, minutes and numbers.
-ghost use Rattle.std.specs.Prelude.{◌≡◌, ◌+◌, ◌/◌, ◌%◌, ◌<◌, ◌↔◌, ℕ, Bool, List, IsTrue, IfSome, IfNone, length};
-ghost use Rattle.std.specs.Char.{is_ascii_digit};
-ghost use Rattle.sigtext.specs.Bytes.{IsWord};
+ghost use Rattle.std.specs.Prelude.{◌≡◌, ◌+◌, ◌/◌, ◌%◌, ◌<◌, ℕ, Bool, List, IfSome, IfNone, length};
 ghost use Rattle.boxes.specs.declared.rows.Role as role;
 ghost use Rattle.boxes.specs.declared.rows.Mode as mode;
 ghost use Rattle.desk.specs.Texts.{role_word, mode_word, day_digit, days_word, minute_word, IsNumber};
 
 use boxes::{Mode, Role};
-use sigtext::is_word;
-use std::str;
+use sigtext::read_digits;
 
 const MOST_DIGITS: usize = 13;
 
@@ -51,7 +48,8 @@ fn read_day(digit: u8) -> Option<bool>
 /// Seven digits 0 or 1, Monday first.
 pub(crate) fn read_days(word: &[u8]) -> Option<[bool; 7]>
     ensures some { IfSome result (λ days. word.now ≡ days_word days) }
-    ensures none { IfNone result ((days : List Bool) → length days ≡ 7 → word.now ≡ days_word days → ⊥) }
+    ensures none { IfNone result
+        ((days : List Bool) → length days ≡ 7 → word.now ≡ days_word days → ⊥) }
 {
     let [a, b, c, d, e, f, g] = word else {
         return None;
@@ -69,7 +67,8 @@ pub(crate) fn read_days(word: &[u8]) -> Option<[bool; 7]>
 
 // The number of two digits.
 fn read_two(high: u8, low: u8) -> Option<u16>
-    ensures some { IfSome result (λ n. (n < 100) × (high ≡ 48 + n / 10 % 10) × (low ≡ 48 + n % 10)) }
+    ensures some { IfSome result
+        (λ n. (n < 100) × (high ≡ 48 + n / 10 % 10) × (low ≡ 48 + n % 10)) }
     ensures none { IfNone result ((n : ℕ) → high ≡ 48 + n / 10 % 10 → low ≡ 48 + n % 10 → ⊥) }
 {
     if high.is_ascii_digit() && low.is_ascii_digit() {
@@ -97,35 +96,14 @@ pub(crate) fn read_minute(word: &[u8]) -> Option<u16>
     }
 }
 
-fn is_digit(byte: u8) -> bool
-    ensures { result ≡ is_ascii_digit byte }
-{
-    byte.is_ascii_digit()
-}
-
-// Whether the text is 1 to 13 digits.
-fn are_digits(text: &[u8]) -> bool
-    ensures { IsTrue result ↔ IsWord is_ascii_digit 13 text.now }
-{
-    is_word(text, MOST_DIGITS, is_digit)
-}
-
 /// A whole number of 1 to 13 digits without a leading zero, but for `0` itself.
 pub(crate) fn read_number(text: &[u8]) -> Option<u64>
     ensures some { IfSome result (IsNumber text.now) }
     ensures none { IfNone result ((n : ℕ) → IsNumber text.now n → ⊥) }
 {
-    if !are_digits(text) {
-        return None;
-    }
+    let number = read_digits(text, MOST_DIGITS)?;
     if text.len() > 1 && text[0] == b'0' {
         return None;
     }
-    let Ok(digits) = str::from_utf8(text) else {
-        return None;
-    };
-    let Ok(number) = digits.parse::<u64>() else {
-        return None;
-    };
     Some(number)
 }

@@ -6,6 +6,7 @@ use Rattle.csv.specs.Reading.{Reached, default_config, strip_bom}
 use Rattle.csv.specs.Records.{fields_of}
 use Rattle.csv.specs.declared.parser.State.TheVariants.{StartRecord}
 use Rattle.csv.proofs.ReadFacts.{rows-end, rows-more}
+use Rattle.desk.specs.Answering.{left_in}
 use Rattle.desk.specs.Lists.{line}
 use Rattle.desk.proofs.AnsweredLists.{behind_tells, first_record, none_table, of_reading_broke, of_reading_tells, of_writing_broke, of_writing_headed, of_writing_tells, reached_none, sends_err, sends_then, unanswered}
 use Rattle.desk.proofs.answering.answer_read.Goals as goal
@@ -17,10 +18,10 @@ returns-in_err-next_record-clause-answers g c =
 
 pub returns-then-not-branch-clause-answers : goal.returns-then-not-branch-clause-answers
 returns-then-not-branch-clause-answers g c =
-    let read_none = rw c.if-not-branch.true at c.in_ok-next_record.ensures.reads in
+    let read_none = rw c.if-not-branch.true at c.in_ok-next_record.ensures.record in
     λ read source. unanswered _ _ _ _ _ read _ _ refl (λ text known.
     let at = source ∙ ap (option_map strip_bom) known in
-    let none = rows-end g.R.Read.remaining c.args.reader.now c.next_record.new.reader _ default_config (strip_bom text) c.requires.reads.config at read_none in
+    let none = rows-end (left_in g.R.Read.remaining) c.args.reader.now c.next_record.new.reader _ default_config (strip_bom text) c.requires.reading.config at read_none in
     let none_there = subst (λ s. next_record default_config s [] [] (strip_bom text) ≡ None) c.requires.begins none in
     (λ p is. absurd (no_some p (sym none_there ∙ is)), refl))
   where
@@ -29,11 +30,11 @@ returns-then-not-branch-clause-answers g c =
 
 pub returns-then-not-is_record-clause-answers : goal.returns-then-not-is_record-clause-answers
 returns-then-not-is_record-clause-answers g c =
-    let read_one = rw c.if-not-branch.false at c.in_ok-next_record.ensures.reads in
+    let read_one = rw c.if-not-branch.false at c.in_ok-next_record.ensures.record in
     let fields = fields_of c.next_record.new.row in
     λ read source. unanswered _ _ _ _ _ read _ _ refl (λ text known.
     let at = source ∙ ap (option_map strip_bom) known in
-    let (after, at_after, more) = rows-more g.R.Read.remaining c.args.reader.now c.next_record.new.reader fields default_config StartRecord (strip_bom text) (strip_bom text) [] c.requires.reads.config at (reached_none StartRecord c.args.reader.now.state (strip_bom text) (sym c.requires.begins)) read_one in
+    let (after, at_after, more) = rows-more (left_in g.R.Read.remaining) c.args.reader.now c.next_record.new.reader fields default_config StartRecord (strip_bom text) (strip_bom text) [] c.requires.reading.config at (reached_none StartRecord c.args.reader.now.state (strip_bom text) (sym c.requires.begins)) read_one in
     (λ p is same. not_head (sym (first_record _ _ _ _ fields p more is) ∙ same), refl))
   where
     not_head : fields_of c.next_record.new.row ≡ map (λ f. f.now) c.args.heads.read.now → ⊥
@@ -45,7 +46,7 @@ returns-then-not-is_record-clause-answers g c =
 pub returns-in_err-send_line-clause-answers : goal.returns-in_err-send_line-clause-answers
 returns-in_err-send_line-clause-answers g c =
     let told = err_from_is_err_and c.from_residual-in_err-send_line.result c.from_residual-in_err-send_line.ensures.1 in
-    let read_one = rw c.if-not-branch.false at c.in_ok-next_record.ensures.reads in
+    let read_one = rw c.if-not-branch.false at c.in_ok-next_record.ensures.record in
     let fields = fields_of c.next_record.new.row in
     let is_head = c.if-not-is_record.ensures.0 refl in
     λ read source. rw told.1 (record {
@@ -53,7 +54,7 @@ returns-in_err-send_line-clause-answers g c =
       formed = tt;
       tells = λ text known.
           let at = source ∙ ap (option_map strip_bom) known in
-          let (after, at_after, more) = rows-more g.R.Read.remaining c.args.reader.now c.next_record.new.reader fields default_config StartRecord (strip_bom text) (strip_bom text) [] c.requires.reads.config at (reached_none StartRecord c.args.reader.now.state (strip_bom text) (sym c.requires.begins)) read_one in
+          let (after, at_after, more) = rows-more (left_in g.R.Read.remaining) c.args.reader.now c.next_record.new.reader fields default_config StartRecord (strip_bom text) (strip_bom text) [] c.requires.reading.config at (reached_none StartRecord c.args.reader.now.state (strip_bom text) (sym c.requires.begins)) read_one in
           let headed = subst (λ f. Reached default_config StartRecord (strip_bom text) (f ∷ []) c.next_record.new.reader.state after) is_head more in
           rw told.2 (of_writing_tells (Unit {0}) _ _ text c.in_err-send_line.field-0.0 c.in_err-send_line.ensures.fault (c.next_record.new.reader.state, after, headed));
       written = λ w k. (
@@ -66,7 +67,7 @@ returns-in_err-send_line-clause-answers g c =
 
 pub returns-clause-answers : goal.returns-clause-answers
 returns-clause-answers g c =
-    let read_one = rw c.if-not-branch.false at c.in_ok-next_record.ensures.reads in
+    let read_one = rw c.if-not-branch.false at c.in_ok-next_record.ensures.record in
     let fields = fields_of c.next_record.new.row in
     let is_head = c.if-not-is_record.ensures.0 refl in
     let rest = c.answer_records.ensures.answers in
@@ -75,7 +76,7 @@ returns-clause-answers g c =
       formed = rest.formed;
       tells = λ text known.
           let at = source ∙ ap (option_map strip_bom) known in
-          let (after, at_after, more) = rows-more g.R.Read.remaining c.args.reader.now c.next_record.new.reader fields default_config StartRecord (strip_bom text) (strip_bom text) [] c.requires.reads.config at (reached_none StartRecord c.args.reader.now.state (strip_bom text) (sym c.requires.begins)) read_one in
+          let (after, at_after, more) = rows-more (left_in g.R.Read.remaining) c.args.reader.now c.next_record.new.reader fields default_config StartRecord (strip_bom text) (strip_bom text) [] c.requires.reading.config at (reached_none StartRecord c.args.reader.now.state (strip_bom text) (sym c.requires.begins)) read_one in
           let headed = subst (λ f. Reached default_config StartRecord (strip_bom text) (f ∷ []) c.next_record.new.reader.state after) is_head more in
           behind_tells _ _ text c.next_record.new.reader.state after rest.rows c.answer_records.result headed (rest.tells after at_after);
       written = λ w k.

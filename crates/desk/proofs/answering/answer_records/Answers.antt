@@ -4,6 +4,7 @@ use Rattle.csv.specs.Reading.{Reached, default_config}
 use Rattle.csv.specs.Records.{fields_of}
 use Rattle.csv.proofs.ReadFacts.{rows-more}
 use Rattle.wire.proofs.Written.{sends_both, sends_same}
+use Rattle.desk.specs.Answering.{left_in}
 use Rattle.desk.specs.Lists.{by_keeper}
 use Rattle.desk.proofs.AnsweredLists.{all_push, lines_none, lines_push, sends_err, sends_nothing, sends_then, sends_whole}
 use Rattle.desk.proofs.answering.answer_records.Goals as goal
@@ -11,7 +12,8 @@ use Rattle.desk.proofs.answering.answer_records.Goals as goal
 pub records-init : goal.records-init
 unfolding Reached
 records-init g c = record {
-  reading = c.requires;
+  reading = c.requires.reading;
+  sound = c.requires.sound;
   stays = g.met.A.Answerer.unasked _;
   count = refl;
   answered = ([], refl, tt, λ text known. (text, known, (refl, refl)), λ w k h. ([], lines_none _, sends_nothing _));
@@ -19,10 +21,10 @@ records-init g c = record {
 
 pub returns-in_default-clause-answers : goal.returns-in_default-clause-answers
 returns-in_default-clause-answers g c =
-    let rem = g.R.Read.remaining in
+    let rem = left_in g.R.Read.remaining in
     let (rows, count, formed, told, written) = c.records.invariant.answered in
     let found : c.in_ok-next_record.field-0 ≡ true = search rules in
-    let read = rw found at c.in_ok-next_record.ensures.reads in
+    let read = rw found at c.in_ok-next_record.ensures.record in
     let bad = fields_of c.next_record.new.row in
     record {
       rows = rows;
@@ -38,11 +40,11 @@ returns-in_default-clause-answers g c =
 
 pub returns-in_err-send_text-clause-answers : goal.returns-in_err-send_text-clause-answers
 returns-in_err-send_text-clause-answers g c =
-    let rem = g.R.Read.remaining in
+    let rem = left_in g.R.Read.remaining in
     let told_err = err_from_is_err_and c.from_residual-in_err-send_text.result c.from_residual-in_err-send_text.ensures.1 in
     let (rows, count, formed, told, written) = c.records.invariant.answered in
     let found : c.in_ok-next_record.field-0 ≡ true = search rules in
-    let read = rw found at c.in_ok-next_record.ensures.reads in
+    let read = rw found at c.in_ok-next_record.ensures.record in
     let row = fields_of c.next_record.new.row in
     rw told_err.1 (record {
       rows = rows ++ row ∷ [];
@@ -63,13 +65,14 @@ returns-in_err-send_text-clause-answers g c =
 
 pub records-preserved : goal.records-preserved
 records-preserved g c =
-    let rem = g.R.Read.remaining in
+    let rem = left_in g.R.Read.remaining in
     let (rows, count, formed, told, written) = c.records.invariant.answered in
     let found : c.in_ok-next_record.field-0 ≡ true = search rules in
-    let read = rw found at c.in_ok-next_record.ensures.reads in
+    let read = rw found at c.in_ok-next_record.ensures.record in
     let row = fields_of c.next_record.new.row in
     record {
       reading = c.in_ok-next_record.ensures.goes_on;
+      sound = c.in_ok-next_record.ensures.reads.ok;
       stays = g.met.A.Answerer.joins _ _ _ _ c.records.invariant.stays (subst (λ r. g.A.Answerer.stays c.records.answerer c.answer.new.self (by_keeper r)) c.in_ok-text.was c.answer.ensures.stays);
       count = c.in_ok-send_text.ensures.count.ok ∙ c.records.invariant.count;
       answered = (

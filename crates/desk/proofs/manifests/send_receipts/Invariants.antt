@@ -2,7 +2,7 @@ use Rattle.std.proofs.Common.{◌≡◌, ℕ, ◌+◌, ◌-◌, ◌≤◌, List,
 use Rattle.boxes.specs.Rows.{numbered}
 use Rattle.boxes.specs.Sound.{IsSound}
 use Rattle.boxes.specs.State.{State}
-use Rattle.keeper.specs.Keeping.{Stays}
+use Rattle.keeper.specs.Bound.{StaysBy}
 use Rattle.wire.specs.Sending.{Sends}
 use Rattle.desk.specs.Lists.{AreLines}
 use Rattle.desk.specs.Manifests.{IsReceiptLine}
@@ -15,7 +15,7 @@ decreases-portions g l = l.end - l.from
 abbrev pub invariant-portions : goal.invariant-portions
 invariant-portions g l = record {
   from : 1 ≤ l.from;
-  stays : Stays {T = Unit {0}} g.K.Keeper.means g.K.Keeper.is_honest g.K.Keeper.faults g.K.Keeper.leaves g.K.Keeper.leaves_whole g.K.Keeper.has_store l.fn.keeper l.keeper (Ok tt);
+  stays : StaysBy {T = Unit {0}} g.K.Keeper l.fn.keeper l.keeper (Ok tt);
   count : l.out.faults ≡ l.fn.out.faults;
   sent : (s : State) → g.K.Keeper.means l.fn.keeper s → IsSound s → g.K.Keeper.is_honest l.keeper → l.end ≡ length s.receipts + 1
       → (text : List ℕ) × AreLines IsReceiptLine (take (l.from - 1) (numbered 1 s.receipts)) text
