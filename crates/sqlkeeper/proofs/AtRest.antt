@@ -1,14 +1,14 @@
 -- A connection that was looked at, and holds an office.
-use Rattle.std.proofs.Common.{◌≡◌, inl, inr, false, IsTrue, sym, subst, ◌∙◌}
+use Rattle.std.proofs.Common.{◌≡◌, false, IsTrue, sym, subst, ◌∙◌}
 use Rattle.sqlite_trees.specs.Tree.{Trees}
 use Rattle.sqlite.specs.State.{State, HasCleanDisk}
 use Rattle.boxes.specs.State.{State as Office}
-use Rattle.sqlkeeper.specs.Schema.{v1, s0}
-use Rattle.sqlkeeper.specs.Tables.{tables_of}
-use Rattle.sqlkeeper.specs.Means.{Means, Holds, OfficeMeans, LeavesOnly, IsBare}
-use Rattle.sqlkeeper.specs.Kept.{KeepsState}
+use Rattle.sqltables.specs.Schema.{v1, s0}
+use Rattle.sqltables.specs.Tables.{tables_of}
+use Rattle.sqltables.specs.Means.{Means, Holds, OfficeMeans, LeavesOnly, IsBare}
+use Rattle.sqltables.specs.Kept.{KeepsState}
 use Rattle.sqlkeeper.proofs.Taken.{by_rows}
-use Rattle.sqlkeeper.specs.Opened.{HasOurs, OnlyLooks, SeesSame, IsAtRest, AreOffice}
+use Rattle.sqlaudit.specs.Opened.{OnlyLooks, SeesSame, IsAtRest, AreOffice}
 
 -- what was found of the old one is kept by the new one
 pub keeps_found : (old new : State) → IsTrue new.is_open → SeesSame old new → IsAtRest new → (office : Office) × AreOffice old.now office → (office : Office) × KeepsState new office
@@ -33,12 +33,11 @@ leaves_kept s office is_open only means clean trees left =
     subst (λ t. OfficeMeans v1 t office) (sym (only trees left)) (by_rows v1 s.committed office (subst (λ db. Holds v1 db (tables_of office)) kept.settled kept.holds))
 
 -- an office that was looked at is kept
-pub keeps_same : (old new : State) → (HasCleanDisk new → HasCleanDisk old) → (HasOurs old → OnlyLooks old new) → (office : Office) → KeepsState old office → KeepsState new office
+pub keeps_same : (old new : State) → (HasCleanDisk new → HasCleanDisk old) → OnlyLooks old new → (office : Office) → KeepsState old office → KeepsState new office
 keeps_same old new honest looks office keeps = record {
   means = λ clean.
       let was = keeps.means (honest clean) in
-      let ours : HasOurs old = λ is_open. inl (inr (inr (inr (inr (inr (inl (was.tables is_open).holds.schema)))))) in
-      let same = looks ours clean in
+      let same = looks clean in
       record {
         autocommit = same.mode ∙ was.autocommit;
         tables = λ is_open.

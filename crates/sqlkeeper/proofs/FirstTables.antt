@@ -6,9 +6,9 @@ use Rattle.sigtext.specs.Bytes.{same_bytes, bytes_cmp}
 use Rattle.boxes.specs.declared.rows.Role.TheVariants.{Clerk}
 use Rattle.boxes.specs.State.{Key, Place, State, place_cmp}
 use Rattle.boxes.specs.FirstState.{first_state}
-use Rattle.sqlkeeper.specs.Tables.{tables_of, put, Part}
-use Rattle.sqlkeeper.specs.Changes.{no_rows, with_key}
-use Rattle.sqlkeeper.proofs.Commands.{get_put}
+use Rattle.sqltables.specs.Tables.{tables_of, put, Part}
+use Rattle.sqltables.specs.Changes.{no_rows, with_key}
+use Rattle.sqlstatements.proofs.Commands.{get_put}
 
 -- an entry of an empty map stays the same under a test
 put_on_none : {V : Type 0} (f : List ℕ → Option V) (k : List ℕ) (v : V) (q : List ℕ) → f q ≡ None → put same_bytes f k v q ≡ put same_bytes (λ x. None) k v q

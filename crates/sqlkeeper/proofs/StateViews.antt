@@ -7,8 +7,8 @@ use Rattle.boxes.specs.State.{Settings, Receipt, State}
 use Rattle.boxes.specs.Sound.{IsSound, IsReceipt, IsDigest}
 use Rattle.boxes.specs.Views.{AreTotals}
 use Rattle.boxes.proofs.NoBox.{none_used, none_counted}
-use Rattle.sqlkeeper.specs.Tables.{Box, tables_of}
-use Rattle.sqlkeeper.specs.Questions.{AreTotalsOf}
+use Rattle.sqltables.specs.Tables.{Box, tables_of}
+use Rattle.sqltables.specs.Questions.{AreTotalsOf}
 
 pub box_found : (s : State) (name : List ℕ) → option_map (λ (b : Box). b.settings) ((tables_of s).box name) ≡ get s.boxes name
 box_found s name = go (get s.boxes name) refl

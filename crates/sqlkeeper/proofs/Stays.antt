@@ -2,7 +2,7 @@
 use Rattle.std.proofs.Common.{◌≡◌, ◌≢◌, inl, inr, ℕ, Result, Ok, Err, IfOk, IfErr, OnOk, OnErr, IsTrue, arith, refl, subst}
 use Rattle.std.specs.Prelude.{IsErr, IsErrOf}
 use Rattle.sqlite.specs.declared.error.Error.{Error}
-use Rattle.sqlite.specs.State.{HasCleanDisk, Survives}
+use Rattle.sqlite.specs.State.{HasCleanDisk}
 use Rattle.sqlite.specs.State as sql
 use Rattle.sigtext.specs.Counts.{CountsErrors}
 use Rattle.boxes.specs.State.{State}
@@ -10,42 +10,48 @@ use Rattle.boxes.specs.Sound.{IsSound}
 use Rattle.keeper.specs.declared.keep.KeepFault.{KeepFault}
 use Rattle.keeper.specs.declared.keep.KeepFault.TheVariants.{Full, Store}
 use Rattle.keeper.specs.Keeping.{Answers, Stays, LeavesAlone, LeavesEither}
-use Rattle.sqlkeeper.specs.Schema.{Version, IsVersion, v1}
-use Rattle.sqlkeeper.specs.Means.{Means, LeavesOnly, AddsOnly, LeavesLast}
-use Rattle.sqlkeeper.specs.Kept.{KeepsState, MayLeave, LeavesStates}
-use Rattle.sqlkeeper.specs.OneState.{one_left}
+use Rattle.sqltables.specs.Schema.{Version, IsVersion, v1}
+use Rattle.sqltables.specs.Means.{Means, LeavesOnly, AddsOnly, LeavesLast}
+use Rattle.sqlkeeper.specs.Asking.{AnswersOf, Rests}
+use Rattle.sqltables.specs.Kept.{KeepsState, MayLeave, LeavesStates}
+use Rattle.sqltables.specs.OneState.{one_left}
 
 -- an answer, as it was counted
 pub carried : {T E F : Type 0} (P : T → Type 0) (answer : Result T E) (result : Result T F) → IfOk result (λ x. answer ≡ Ok x) → IfOk answer P → IfOk result P
 carried {T = T} {E = E} P answer (Ok x) same found = subst (λ (a : Result T E). IfOk a P) same found
 carried P answer (Err e) same found = tt
 
-module _ {K T : Type 0} (st : K → sql.State) (faults : K → ℕ) (old new : K) (result : Result T KeepFault) where
-  pub stays : ((v : Version) (s : State) → IsVersion v → Means v (st old) s → Means v (st new) s) → Survives (st old) (st new) (λ db. ⊥) → CountsErrors (faults old) (faults new) result → IfErr result (λ f. f ≢ Full)
-      → Stays (λ k. KeepsState (st k)) (λ k. HasCleanDisk (st k)) faults (λ k. MayLeave (st k)) (λ k. LeavesStates (st k)) (Unit {0}) old new result
-  stays kept survives count room = record {
-    same = λ s k. record { means = kept v1 s refl k.means; sound = k.sound };
-    honest = λ clean. omega (arith, survives.clean);
+-- what holds of an answer holds of it as it was counted
+opened_too : {T : Type 0} (answer : Result T Error) (result : Result T KeepFault) → IfOk result (λ x. answer ≡ Ok x) → (P : Type 0) → OnOk answer P → OnOk result P
+opened_too {T = T} answer (Ok x) is P h = subst (λ (a : Result T Error). OnOk a P) is h
+opened_too answer (Err e) is P h = tt
+
+module _ {K T : Type 0} (st : K → sql.State) (faults : K → ℕ) (old new : K) (answer : Result T Error) (result : Result T KeepFault) (value : IfOk result (λ x. answer ≡ Ok x)) where
+  pub stays : Rests (st old) (st new) answer → CountsErrors (faults old) (faults new) result → IfErr result (λ f. f ≢ Full)
+      → Stays (λ k. KeepsState (st k)) (λ k. HasCleanDisk (st k)) (λ k. IsTrue (st k).is_open) faults (λ k. MayLeave (st k)) (λ k. LeavesStates (st k)) (Unit {0}) old new result
+  stays rest count room = record {
+    same = λ s k. record { means = rest.kept v1 s refl k.means; sound = k.sound };
+    honest = rest.honest;
+    opened = λ clean was. opened_too answer result value (IsTrue (st new).is_open) (rest.opened clean);
     count = count;
     room = room;
     store = no_claim result;
-    crash = λ s t k clean leaves. elim (survives.crash clean leaves.trees leaves.left) [
+    crash = λ s t k clean leaves. elim (rest.crash v1 s refl k.means clean leaves.trees leaves.left) [
       | inl was ↦ inl (record { trees = leaves.trees; left = was; keep = leaves.keep })
-      | inr none ↦ absurd none
+      | inr means ↦ inr (one_left leaves.trees t s leaves.keep (record { means = means; sound = k.sound }))
     ];
-    whole = λ s k clean all again trees left. elim (survives.crash clean trees left) [
-      | inl was ↦ all (omega (arith, survives.clean)) trees was
-      | inr none ↦ absurd none
+    whole = λ s k clean all again trees left. elim (rest.crash v1 s refl k.means clean trees left) [
+      | inl was ↦ all (rest.honest clean) trees was
+      | inr means ↦ (s, record { means = means; sound = k.sound })
     ];
   }
     where
       no_claim : (r : Result T KeepFault) → IsErrOf r Store → Unit {0}
       no_claim r h = tt
 
-  pub answers : {E : Type 0} (answer : Result T E) (Holds : State → T → Type 0) → IfOk result (λ x. answer ≡ Ok x)
-      → ((v : Version) (s : State) → IsVersion v → Means v (st old) s → IsSound s → HasCleanDisk (st new) → IfOk answer (Holds s))
+  pub answers : (Holds : State → T → Type 0) → AnswersOf (st old) (st new) answer Holds
       → Answers (λ k. KeepsState (st k)) (λ k. HasCleanDisk (st k)) old new result Holds
-  answers answer Holds same found = λ s k sound clean. carried (Holds s) answer result same (found v1 s refl k.means k.sound clean)
+  answers Holds found = λ s k sound clean. carried (Holds s) answer result value (found v1 s refl k.means k.sound clean)
 
 -- a crash leaves the state that was committed, and no other
 pub left_alone : {K : Type 0} (st : K → sql.State) (new : K) (after : State) → IsSound after → HasCleanDisk (st new) → LeavesLast (st new) → LeavesOnly v1 (st new) after
@@ -101,11 +107,3 @@ kept_then new after (Err e) sound means = tt
 pub kept_at_error : {X E : Type 0} (new : sql.State) (s : State) (r : Result X E) → IsSound s → OnErr r (Means v1 new s) → OnErr r (KeepsState new s)
 kept_at_error new s (Ok x) sound means = tt
 kept_at_error new s (Err e) sound means = record { means = means; sound = sound }
-
-pub at_error : {X E P : Type 0} (r : Result X E) → P → OnErr r P
-at_error (Ok x) p = tt
-at_error (Err e) p = p
-
-pub at_answer : {X E P : Type 0} (r : Result X E) → P → OnOk r P
-at_answer (Ok x) p = p
-at_answer (Err e) p = tt

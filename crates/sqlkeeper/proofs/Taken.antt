@@ -4,9 +4,9 @@ use Rattle.sqlite_trees.specs.Tree.{Trees}
 use Rattle.sqlite.specs.Effect.{Database}
 use Rattle.sqlite.specs.State.{State, HasCleanDisk, Shows, KeepsCounts, Survives}
 use Rattle.boxes.specs.State.{State as Office}
-use Rattle.sqlkeeper.specs.Schema.{Version}
-use Rattle.sqlkeeper.specs.Tables.{tables_of}
-use Rattle.sqlkeeper.specs.Means.{Holds, IsWhole, Means, OfficeMeans, LeavesOnly, AddsOnly, LeavesLast}
+use Rattle.sqltables.specs.Schema.{Version}
+use Rattle.sqltables.specs.Tables.{tables_of}
+use Rattle.sqltables.specs.Means.{Holds, IsWhole, Means, OfficeMeans, LeavesOnly, AddsOnly, LeavesLast}
 
 -- by the rows alone
 pub by_rows : (v : Version) (db : Database) (office : Office) → Holds v db (tables_of office) → OfficeMeans v db.trees office

@@ -9,18 +9,18 @@ ghost use Rattle.sigtext.specs.Counts.{CountsErrors};
 ghost use Rattle.sqlite.specs.State.{HasCleanDisk};
 ghost use Rattle.sqlite.specs.Held.{state};
 ghost use Rattle.keeper.specs.Keeping.{LeavesAlone};
-ghost use Rattle.sqlkeeper.specs.Means.{IsBare, AddsOnly, AddsNothing};
-ghost use Rattle.sqlkeeper.specs.Schema.{v1, s0};
-ghost use Rattle.sqlkeeper.specs.Kept.{KeepsState, MayLeave, LeavesStates};
-ghost use Rattle.sqlkeeper.specs.OneState.{one_kept};
-ghost use Rattle.sqlkeeper.specs.Opened.{HasOurs, OnlyLooks, IsFound};
+ghost use Rattle.sqltables.specs.Means.{IsBare, AddsOnly, AddsNothing};
+ghost use Rattle.sqltables.specs.Schema.{v1, s0};
+ghost use Rattle.sqltables.specs.Kept.{KeepsState, MayLeave, LeavesStates};
+ghost use Rattle.sqltables.specs.OneState.{one_kept};
+ghost use Rattle.sqlaudit.specs.Opened.{HasOurs, AreNamed, OnlyLooks, IsFound};
 
+use crate::applying::apply_change;
 use crate::asking;
-use crate::changes::apply_change;
 use crate::creating::create;
-use crate::opening::{Finding, find};
 use boxes::{BoxRow, Change, FileRow, KeyRow, OfficeRow, ReceiptRow, Totals, law_of_changes};
 use keeper::{KeepFault, Keeper, has_room};
+use sqlaudit::opening::{Finding, find};
 use sqlite::{Alter, Connection, ErrorCode};
 use sqlite_schema::schema::Schema;
 use std::alloc::Global;
@@ -102,7 +102,8 @@ fn counted<T>(faults: &mut u64, answer: Result<T, sqlite::Error>) -> Result<T, K
 
 // The change adds a receipt, and there is no room for one.
 fn is_past_full(change: &Change<'_>) -> bool
-    ensures { (s after : State) → IsChangeOf s change.now after → (IsTrue result ↔ IsPastFull s change.now) }
+    ensures { (s after : State) → IsChangeOf s change.now after
+        → (IsTrue result ↔ IsPastFull s change.now) }
 {
     match change {
         Change::SetFile(file, _) => !has_room(file.number),
@@ -125,19 +126,29 @@ impl<S: Alter> SqlKeeper<S> {
         id: &[u8],
         secret: &[u8],
     ) -> Result<SqlKeeper<S>, (OpenFault, Connection<S>)>
-        ensures made { neg_ℤ (pos 840) ≤ℤ office.east → office.east ≤ℤ pos 840 → IsKeyId id.now → IsSecret secret.now
-            → IfOk result (λ k. ⟦<SqlKeeper<S> as Keeper>⟧.means k (first_state office.east id.now secret.now)) }
-        ensures honest { IfOk result (λ k. HasCleanDisk (state S.Store k.conn) → ⟦<SqlKeeper<S> as Keeper>⟧.is_honest k) }
-        ensures opened { IfOk result (λ k. ⟦<SqlKeeper<S> as Keeper>⟧.is_honest k → ⟦<SqlKeeper<S> as Keeper>⟧.is_open k) }
+        ensures made { neg_ℤ (pos 840) ≤ℤ office.east → office.east ≤ℤ pos 840 → IsKeyId id.now
+            → IsSecret secret.now
+            → IfOk result (λ k. ⟦<SqlKeeper<S> as Keeper>⟧.means k
+            (first_state office.east id.now secret.now)) }
+        ensures honest { IfOk result (λ k. HasCleanDisk (state S.Store k.conn)
+            → ⟦<SqlKeeper<S> as Keeper>⟧.is_honest k) }
+        ensures opened { IfOk result (λ k. ⟦<SqlKeeper<S> as Keeper>⟧.is_honest k
+            → ⟦<SqlKeeper<S> as Keeper>⟧.is_open k) }
         ensures none { IfOk result (λ k. ⟦<SqlKeeper<S> as Keeper>⟧.faults k ≡ 0) }
-        ensures durable { neg_ℤ (pos 840) ≤ℤ office.east → office.east ≤ℤ pos 840 → IsKeyId id.now → IsSecret secret.now
+        ensures durable { neg_ℤ (pos 840) ≤ℤ office.east → office.east ≤ℤ pos 840 → IsKeyId id.now
+            → IsSecret secret.now
             → IfOk result (λ k. ⟦<SqlKeeper<S> as Keeper>⟧.is_honest k
-            → LeavesAlone ⟦<SqlKeeper<S> as Keeper>⟧.leaves ⟦<SqlKeeper<S> as Keeper>⟧.leaves_whole k (first_state office.east id.now secret.now)) }
-        ensures crash { IfErr result (λ e. AddsOnly v1 (state S.Store conn) (state S.Store e.1) (first_state office.east id.now secret.now)) }
-        ensures exists { (state S.Store conn).now.schema ≢ s0 → IfErr result (λ e. e.0 ≡ OpenFault.Exists) × IsErr result }
-        ensures told { IfErr result (λ e. e.0 ≡ OpenFault.Exists → (state S.Store conn).now.schema ≢ s0) }
+            → LeavesAlone ⟦<SqlKeeper<S> as Keeper>⟧.leaves ⟦<SqlKeeper<S> as Keeper>⟧.leaves_whole
+            k (first_state office.east id.now secret.now)) }
+        ensures crash { IfErr result (λ e. AddsOnly v1 (state S.Store conn) (state S.Store e.1)
+            (first_state office.east id.now secret.now)) }
+        ensures exists { (state S.Store conn).now.schema ≢ s0
+            → IfErr result (λ e. e.0 ≡ OpenFault.Exists) × IsErr result }
+        ensures told { IfErr result (λ e. e.0 ≡ OpenFault.Exists
+            → (state S.Store conn).now.schema ≢ s0) }
         ensures untouched { IfErr result (λ e. e.0 ≡ OpenFault.Exists → e.1 ≡ conn) }
-        ensures kept { IsBare (state S.Store conn) → IfErr result (λ e. IsBare (state S.Store e.1)) }
+        ensures kept { IsBare (state S.Store conn)
+            → IfErr result (λ e. IsBare (state S.Store e.1)) }
     {
         if !is_empty(conn.schema()) {
             return Err((OpenFault::Exists, conn));
@@ -159,7 +170,8 @@ impl<S: Alter> SqlKeeper<S> {
     }
 
     /// Opens an office file, where its tables are those of an office that keeps every rule: the state of that office is what
-    /// the keeper means. Nothing is written.
+    /// the keeper means. What is opened has exactly the tables of an office, by their names and the number of their columns.
+    /// Nothing is written, and whatever file it is, opened or refused, it is as it was.
     ///
     /// # Errors
     ///
@@ -169,22 +181,33 @@ impl<S: Alter> SqlKeeper<S> {
         alloc: Global,
         mut conn: Connection<S>,
     ) -> Result<SqlKeeper<S>, (OpenFault, Connection<S>)>
-        ensures accepts { HasOurs (state S.Store conn) → IfOk result (λ k. ⟦<SqlKeeper<S> as Keeper>⟧.is_honest k → (s : State) × ⟦<SqlKeeper<S> as Keeper>⟧.means k s) }
-        ensures means { (s : State) → KeepsState (state S.Store conn) s → IfOk result (λ k. ⟦<SqlKeeper<S> as Keeper>⟧.means k s) }
-        ensures same { HasOurs (state S.Store conn) → IfOk result (λ k. OnlyLooks (state S.Store conn) (state S.Store k.conn)) }
-        ensures honest { IfOk result (λ k. HasCleanDisk (state S.Store k.conn) → ⟦<SqlKeeper<S> as Keeper>⟧.is_honest k) }
-        ensures opened { IfOk result (λ k. ⟦<SqlKeeper<S> as Keeper>⟧.is_honest k → ⟦<SqlKeeper<S> as Keeper>⟧.is_open k) }
+        ensures accepts { HasOurs (state S.Store conn)
+            → IfOk result (λ k. ⟦<SqlKeeper<S> as Keeper>⟧.is_honest k
+            → (s : State) × ⟦<SqlKeeper<S> as Keeper>⟧.means k s) }
+        ensures means { (s : State) → KeepsState (state S.Store conn) s
+            → IfOk result (λ k. ⟦<SqlKeeper<S> as Keeper>⟧.means k s) }
+        ensures named { IfOk result (λ k. AreNamed (state S.Store conn).now.schema) }
+        ensures same { IfOk result (λ k. OnlyLooks (state S.Store conn) (state S.Store k.conn)) }
+        ensures honest { IfOk result (λ k. HasCleanDisk (state S.Store k.conn)
+            → ⟦<SqlKeeper<S> as Keeper>⟧.is_honest k) }
+        ensures opened { IfOk result (λ k. ⟦<SqlKeeper<S> as Keeper>⟧.is_honest k
+            → ⟦<SqlKeeper<S> as Keeper>⟧.is_open k) }
         ensures none { IfOk result (λ k. ⟦<SqlKeeper<S> as Keeper>⟧.faults k ≡ 0) }
-        ensures durable { IfOk result (λ k. ⟦<SqlKeeper<S> as Keeper>⟧.is_honest k → (s : State) → ⟦<SqlKeeper<S> as Keeper>⟧.means k s
-            → LeavesAlone ⟦<SqlKeeper<S> as Keeper>⟧.leaves ⟦<SqlKeeper<S> as Keeper>⟧.leaves_whole k s) }
-        ensures crash { HasOurs (state S.Store conn) → IfOk result (λ k. AddsNothing (state S.Store conn) (state S.Store k.conn)) }
+        ensures durable { IfOk result (λ k. ⟦<SqlKeeper<S> as Keeper>⟧.is_honest k → (s : State)
+            → ⟦<SqlKeeper<S> as Keeper>⟧.means k s
+            → LeavesAlone ⟦<SqlKeeper<S> as Keeper>⟧.leaves ⟦<SqlKeeper<S> as Keeper>⟧.leaves_whole
+            k s) }
+        ensures crash { IfOk result (λ k. AddsNothing (state S.Store conn) (state S.Store k.conn)) }
         ensures version { HasOurs (state S.Store conn) → IfErr result (λ e. e.0 ≡ OpenFault.Version
-            → HasCleanDisk (state S.Store e.1) → IsTrue (state S.Store conn).is_open → IsFound Finding.OtherVersion (state S.Store conn).now) }
+            → HasCleanDisk (state S.Store e.1) → IsTrue (state S.Store conn).is_open
+            → IsFound Finding.OtherVersion (state S.Store conn).now) }
         ensures shape { HasOurs (state S.Store conn) → IfErr result (λ e. e.0 ≡ OpenFault.Shape
-            → HasCleanDisk (state S.Store e.1) → IsTrue (state S.Store conn).is_open → IsFound Finding.Damaged (state S.Store conn).now) }
+            → HasCleanDisk (state S.Store e.1) → IsTrue (state S.Store conn).is_open
+            → IsFound Finding.Damaged (state S.Store conn).now) }
         ensures told { IfErr result (λ e. e.0 ≢ OpenFault.Exists) }
-        ensures kept { HasOurs (state S.Store conn) → IfErr result (λ e. OnlyLooks (state S.Store conn) (state S.Store e.1)) }
-        ensures unharmed { HasOurs (state S.Store conn) → IfErr result (λ e. AddsNothing (state S.Store conn) (state S.Store e.1)) }
+        ensures kept { IfErr result (λ e. OnlyLooks (state S.Store conn) (state S.Store e.1)) }
+        ensures unharmed { IfErr result (λ e. AddsNothing (state S.Store conn)
+            (state S.Store e.1)) }
     {
         match find(&mut conn, alloc) {
             Ok(Finding::Sound) => Ok(SqlKeeper {
@@ -202,11 +225,16 @@ impl<S: Alter> SqlKeeper<S> {
     /// the one it leaves of the other.
     pub fn close(self) -> Connection<S>
         ensures same { result ≡ self.conn }
-        ensures honest { ⟦<SqlKeeper<S> as Keeper>⟧.is_honest self ↔ HasCleanDisk (state S.Store result) }
-        ensures opened { ⟦<SqlKeeper<S> as Keeper>⟧.is_open self ↔ IsTrue (state S.Store result).is_open }
-        ensures means { (s : State) → (⟦<SqlKeeper<S> as Keeper>⟧.means self s ↔ KeepsState (state S.Store result) s) }
-        ensures leaves { (s : State) → (⟦<SqlKeeper<S> as Keeper>⟧.leaves self s ↔ MayLeave (state S.Store result) s) }
-        ensures whole { ⟦<SqlKeeper<S> as Keeper>⟧.leaves_whole self ↔ LeavesStates (state S.Store result) }
+        ensures honest { ⟦<SqlKeeper<S> as Keeper>⟧.is_honest self
+            ↔ HasCleanDisk (state S.Store result) }
+        ensures opened { ⟦<SqlKeeper<S> as Keeper>⟧.is_open self
+            ↔ IsTrue (state S.Store result).is_open }
+        ensures means { (s : State) → (⟦<SqlKeeper<S> as Keeper>⟧.means self s
+            ↔ KeepsState (state S.Store result) s) }
+        ensures leaves { (s : State) → (⟦<SqlKeeper<S> as Keeper>⟧.leaves self s
+            ↔ MayLeave (state S.Store result) s) }
+        ensures whole { ⟦<SqlKeeper<S> as Keeper>⟧.leaves_whole self
+            ↔ LeavesStates (state S.Store result) }
     {
         let SqlKeeper {
             conn,

@@ -1,14 +1,13 @@
 use Rattle.std.proofs.Common.{◌≡◌, IsTrue, arith, rules, refl, sym, subst, ◌∙◌}
 use Rattle.sqlite.specs.State.{HasCleanDisk}
 use Rattle.sqlite.specs.Held.{state}
-use Rattle.sqlkeeper.specs.Tables.{tables_of}
-use Rattle.sqlkeeper.specs.Means.{Pends}
-use Rattle.std.specs.FinMap.{get}
-use Rattle.std.specs.Prelude.{option_map}
-use Rattle.boxes.specs.Rows.{settings_of}
-use Rattle.sqlkeeper.specs.Tables.{Box}
-use Rattle.sqlkeeper.specs.OneState.{known_box}
-use Rattle.sqlkeeper.proofs.StandingFiles.{if_ok_more}
+use Rattle.boxes.specs.State.{State}
+use Rattle.sqltables.specs.Schema.{Version}
+use Rattle.sqltables.specs.Tables.{tables_of}
+use Rattle.sqltables.specs.Means.{Means, Pends}
+use Rattle.sqlaudit.proofs.Looking.{Begins}
+use Rattle.sqlkeeper.proofs.NotCommitted.{Left, not_committed}
+use Rattle.sqltables.specs.OneState.{known_box}
 use Rattle.sqlkeeper.proofs.StateViews.{box_found}
 use Rattle.sqlkeeper.proofs.asking.box_row.Goals as goal
 
@@ -17,8 +16,21 @@ returns-clause-found g c v s ours means sound clean =
     let begun = state g.S.Store c.transaction-tx.result.conn.now in
     let first : Pends v begun (tables_of s) = rw c.transaction-tx.ensures.begun (λ was_clean _ is_open. ((means was_clean).tables is_open).holds) in
     let inside : IsTrue begun.in_transaction = rw c.transaction-tx.ensures.begun refl in
-    let same : c.drop-tx.new.self.0 ≡ c.conn-1.given.0 = search rules in
-    let ended : HasCleanDisk (state g.S.Store c.drop-tx.new.self.0) = subst (λ h. HasCleanDisk (state g.S.Store h)) (sym same) clean in
-    let early : HasCleanDisk (state g.S.Store c.box_row.new.tx.conn.now) = omega (arith, c.drop-tx.ensures.survives.clean, ended) in
-    if_ok_more (λ row. option_map settings_of row ≡ option_map (λ (b : Box). b.settings) ((tables_of s).box c.args.name.now)) (λ row. option_map settings_of row ≡ get s.boxes c.args.name.now) c.box_row.result
-    (λ row is. is ∙ box_found s c.args.name.now) (c.box_row.ensures.found v (tables_of s) ours first (known_box s sound c.args.name.now) inside early)
+    let same : c.commit.new.self.0 ≡ c.conn-2-1.given.0 = search rules in
+    let ended : HasCleanDisk (state g.S.Store c.commit.new.self.0) = subst (λ h. HasCleanDisk (state g.S.Store h)) (sym same) clean in
+    let early : HasCleanDisk (state g.S.Store c.box_row.new.tx.conn.now) = omega (arith, c.commit.ensures.survives.clean, ended) in
+    c.in_ok-row.ensures.found v (tables_of s) ours first (known_box s sound c.args.name.now) inside early ∙ box_found s c.args.name.now
+
+pub returns-in_err-commit-clause-rest : goal.returns-in_err-commit-clause-rest
+returns-in_err-commit-clause-rest g c =
+    let old = state g.S.Store c.args.conn.now in
+    let begun = state g.S.Store c.transaction-tx.result.conn.now in
+    let mid = state g.S.Store c.box_row.new.tx.conn.now in
+    let new = state g.S.Store c.commit.new.self.0 in
+    let same : c.commit.new.self.0 ≡ c.conn-2-1.given.0 = search rules in
+    let begins : Begins old begun = rw c.transaction-tx.ensures.begun (record { now_is = refl; committed_is = refl; was_open = λ is_open. is_open; clean = λ clean. clean; leaves = λ trees left. left; inside = refl }) in
+    let first : (v : Version) (s : State) → Means v old s → Pends v begun (tables_of s) = rw c.transaction-tx.ensures.begun (λ v s means was_clean _ is_open. ((means was_clean).tables is_open).holds) in
+    let e = c.in_err-commit.field-0.0 in
+    let left : Left old (state g.S.Store c.conn-2-1.given.0) = subst (λ h. Left old (state g.S.Store h)) same (not_committed old begun mid new e begins c.box_row.ensures.rest.survives (λ clean. c.box_row.ensures.rest.uncommitted clean begins.inside) (λ clean. c.in_ok-row.ensures.rest.running clean begins.inside)
+    (λ v s ours means. c.in_ok-row.ensures.still v (tables_of s) ours (first v s means)) c.commit.ensures.survives (λ clean. c.in_err-commit.ensures.err clean)) in
+    record { kept = left.kept; crash = left.crash; honest = left.honest; opened = search rules }

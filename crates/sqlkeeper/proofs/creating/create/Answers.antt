@@ -1,15 +1,15 @@
 use Rattle.std.proofs.Common.{◌≡◌, IsTrue, rules, arith, false, w16, sym, subst, OnOk}
 use Rattle.std.proofs.lemmas.Int.{to_z-of_z}
 use Rattle.boxes.specs.declared.rows.Role.TheVariants.{Clerk}
-use Rattle.sqlkeeper.specs.Changes.{no_rows, with_key}
+use Rattle.sqltables.specs.Changes.{no_rows, with_key}
 use Rattle.sqlite_trees.specs.Tree.{Trees}
 use Rattle.sqlite.specs.State.{HasCleanDisk}
 use Rattle.sqlite.specs.Held.{state}
 use Rattle.boxes.specs.State.{State}
 use Rattle.boxes.specs.FirstState.{first_state}
-use Rattle.sqlkeeper.specs.Schema.{v1, s0}
-use Rattle.sqlkeeper.specs.Tables.{tables_of}
-use Rattle.sqlkeeper.specs.Means.{Holds, Means, IsBare, SeesNothing, LeavesOnly, AddsOnly, LeavesLast}
+use Rattle.sqltables.specs.Schema.{v1, s0}
+use Rattle.sqltables.specs.Tables.{tables_of}
+use Rattle.sqltables.specs.Means.{Holds, Means, IsBare, SeesNothing, LeavesOnly, AddsOnly, LeavesLast}
 use Rattle.sqlkeeper.proofs.Taken.{made, durable, crash, open_still}
 use Rattle.sqlkeeper.proofs.FirstTables.{first_tables}
 use Rattle.sqlkeeper.proofs.creating.create.Given as given
@@ -26,7 +26,7 @@ module _ (g : given.Over) (c : goal.After-conn-2-1 g) where
       let mid = state g.S.Store c.make_office.new.tx.conn.now in
       let early : HasCleanDisk mid = omega (arith, c.commit.ensures.survives.clean) in
       let nothing : SeesNothing s0 begun = rw c.transaction-tx.ensures.begun (λ was_clean _ is_open. record { schema_is = ((bare was_clean).bare is_open).schema; empty = tt }) in
-      let running = c.in_ok-make_office.ensures.running early in
+      let running = c.in_ok-make_office.ensures.rest.running early in
       let done = c.in_ok-make_office.ensures.done nothing early running.0 running.1 in
       let written = subst (λ n. Holds v1 mid.now (with_key (no_rows n) c.args.id.now (record { role = Clerk; secret = c.args.secret.now; revoked = false }))) (to_z-of_z w16 c.args.east c.ranges.east) done in
       subst (Holds v1 mid.now) (sym (first_tables c.args.east c.args.id.now c.args.secret.now)) written

@@ -2,8 +2,8 @@ use Rattle.std.proofs.Common.{◌≡◌, subst, w16, to_z, of_z, rules}
 use Rattle.sqlite.specs.Held.{state}
 use Rattle.boxes.specs.FirstState.{first_state}
 use Rattle.boxes.proofs.SoundFirstState.{sound_first_state}
-use Rattle.sqlkeeper.specs.Schema.{v1}
-use Rattle.sqlkeeper.specs.Means.{Means, LeavesOnly, AddsOnly, IsBare}
+use Rattle.sqltables.specs.Schema.{v1}
+use Rattle.sqltables.specs.Means.{Means, LeavesOnly, AddsOnly, IsBare}
 use Rattle.sqlkeeper.proofs.AtRest.{bare_of}
 use Rattle.sqlkeeper.proofs.Stays.{left_alone}
 use Rattle.sqlkeeper.proofs.file_keeper.SqlKeeper.create.Goals as goal

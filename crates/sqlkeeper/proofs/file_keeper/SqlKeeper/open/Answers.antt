@@ -1,6 +1,6 @@
 use Rattle.std.proofs.Common.{IsTrue, subst}
 use Rattle.sqlite.specs.Held.{state}
-use Rattle.sqlkeeper.specs.Opened.{IsFound}
+use Rattle.sqlaudit.specs.Opened.{IsFound}
 use Rattle.sqlkeeper.proofs.AtRest.{keeps_found, keeps_same, leaves_kept}
 use Rattle.sqlkeeper.proofs.Stays.{left_alone}
 use Rattle.sqlkeeper.proofs.file_keeper.SqlKeeper.open.Goals as goal
@@ -9,9 +9,9 @@ pub returns-in-Ok-Sound-clause-accepts : goal.returns-in-Ok-Sound-clause-accepts
 returns-in-Ok-Sound-clause-accepts g c ours clean =
     let old = state g.S.Store c.args.conn in
     let end = state g.S.Store c.find.new.conn in
-    let looks = c.in-Ok-Sound.ensures.same ours clean in
+    let looks = c.in-Ok-Sound.ensures.rest.same clean in
     let is_open : IsTrue end.is_open = c.in-Ok-Sound.ensures.opened clean c.in-Ok-Sound.field-0-is in
-    keeps_found old end is_open looks (c.in-Ok-Sound.ensures.rest clean) (subst (λ f. IsFound f old.now) c.in-Ok-Sound.field-0-is (c.in-Ok-Sound.ensures.found ours clean (looks.was_open is_open)))
+    keeps_found old end is_open looks (c.in-Ok-Sound.ensures.at_rest clean) (subst (λ f. IsFound f old.now) c.in-Ok-Sound.field-0-is (c.in-Ok-Sound.ensures.found ours clean (looks.was_open is_open)))
 
 pub returns-in-Ok-Sound-clause-durable : goal.returns-in-Ok-Sound-clause-durable
 returns-in-Ok-Sound-clause-durable g c clean s keeps =
@@ -21,7 +21,7 @@ returns-in-Ok-Sound-clause-durable g c clean s keeps =
     (leaves_kept end s is_open (λ db. g.met.S.Store.settled c.find.new.conn.store db is_open) keeps.means)
 
 pub returns-in-Ok-Sound-clause-means : goal.returns-in-Ok-Sound-clause-means
-returns-in-Ok-Sound-clause-means g c = keeps_same (state g.S.Store c.args.conn) (state g.S.Store c.find.new.conn) c.in-Ok-Sound.ensures.honest c.in-Ok-Sound.ensures.same
+returns-in-Ok-Sound-clause-means g c = keeps_same (state g.S.Store c.args.conn) (state g.S.Store c.find.new.conn) c.in-Ok-Sound.ensures.rest.honest c.in-Ok-Sound.ensures.rest.same
 
 pub returns-in-Ok-OtherVersion-clause-version : goal.returns-in-Ok-OtherVersion-clause-version
 returns-in-Ok-OtherVersion-clause-version g c ours told clean was_open =

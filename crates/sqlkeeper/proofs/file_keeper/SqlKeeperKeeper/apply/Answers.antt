@@ -1,8 +1,9 @@
 use Rattle.std.proofs.Common.{refl}
 use Rattle.sqlite.specs.Held.{state}
-use Rattle.sqlkeeper.specs.Schema.{v1}
-use Rattle.sqlkeeper.specs.Kept.{KeepsState}
-use Rattle.sqlkeeper.proofs.Stays.{ok_too, err_too, alone, either, kept_then, kept_at_error, at_error}
+use Rattle.sqltables.specs.Schema.{v1}
+use Rattle.sqltables.specs.Kept.{KeepsState}
+use Rattle.sqlkeeper.proofs.Stays.{ok_too, err_too, alone, either, kept_then, kept_at_error}
+use Rattle.sqltables.proofs.Results.{at_error}
 use Rattle.sqlkeeper.proofs.file_keeper.SqlKeeperKeeper.apply.Goals as goal
 
 pub returns-clause-made : goal.returns-clause-made

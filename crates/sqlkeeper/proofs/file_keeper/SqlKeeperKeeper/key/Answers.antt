@@ -4,7 +4,7 @@ use Rattle.sqlkeeper.proofs.NotText.{no_key}
 use Rattle.std.specs.FinMap.{get}
 use Rattle.std.specs.Prelude.{◌≡◌, option_map, IfOk}
 use Rattle.std.proofs.Common.{refl, subst}
-use Rattle.sqlkeeper.specs.Schema.{v1}
+use Rattle.sqltables.specs.Schema.{v1}
 use Rattle.boxes.specs.Rows.{key_of}
 use Rattle.sqlkeeper.proofs.file_keeper.SqlKeeperKeeper.key.Goals as goal
 
@@ -18,4 +18,4 @@ returns-clause-value g c s keeps sound clean =
 
 pub returns-clause-rest : goal.returns-clause-rest
 returns-clause-rest g c =
-    stays (λ k. state g.S.Store k.conn) (λ k. k.faults) c.args.self.now (record { conn = c.key.new.conn; faults = c.counted.new.faults; alloc = c.args.self.now.alloc }) c.counted.result c.key.ensures.kept c.key.ensures.survives c.counted.ensures.count c.counted.ensures.room
+    stays (λ k. state g.S.Store k.conn) (λ k. k.faults) c.args.self.now (record { conn = c.key.new.conn; faults = c.counted.new.faults; alloc = c.args.self.now.alloc }) c.key.result c.counted.result c.counted.ensures.value c.key.ensures.rest c.counted.ensures.count c.counted.ensures.room

@@ -1,0 +1,110 @@
+-- Tables whose lines keep every rule are those of an office.
+use Rattle.std.proofs.Common.{◌≡◌, ◌∙◌, ℕ, ◌*◌, ◌<◌, pos, List, true, take, drop, length, Option, Some, None, option_map, option_and_then, refl, sym, ap, subst}
+use Rattle.std.specs.Prelude.{Contains, nat_lt}
+use Rattle.std.specs.FinMap.{get}
+use Rattle.std.proofs.lemmas.Bool.{lt-ltb}
+use Rattle.sqlite_value.specs.declared.value.Value.TheVariants.{Int}
+use Rattle.sqlite_value.specs.Order.{Row}
+use Rattle.sqlite_rules.specs.Lists.{Has}
+use Rattle.sqlite_rules.proofs.ListLemmas.{contains_had}
+use Rattle.sqlite.specs.Effect.{Database}
+use Rattle.boxes.specs.State.{Place, File, State as Office}
+use Rattle.boxes.proofs.Lookups.{some_none}
+use Rattle.sqltables.specs.Schema.{v1, s6}
+use Rattle.sqltables.specs.Tables.{Box, Part, RowsMean, IsBoxRow, IsFileRow, IsPieceRow, TablesMean, tables_of, piece_of}
+use Rattle.sqltables.specs.Means.{IsWhole}
+use Rattle.sqlaudit.specs.Lines.{AreLines, HaveRowids, IsPieceLine}
+use Rattle.sqlaudit.specs.declared.lines.OfficeLine.{OfficeLine}
+use Rattle.sqlaudit.specs.declared.lines.FileLine.{FileLine}
+use Rattle.sqlaudit.specs.declared.lines.PieceLine.{PieceLine}
+use Rattle.sqlaudit.specs.declared.rules.Lines.{Lines}
+use Rattle.sqlaudit.specs.Outlines.{Outline, AreSoundLines, ArePiecesOf}
+use Rattle.sqlaudit.specs.Opened.{AreListed, AreOffice, HasBytes}
+use Rattle.sqlaudit.proofs.PieceKeys.{one_piece_row}
+use Rattle.sqlaudit.proofs.AcceptedTables.{office_means, keys_mean, boxes_mean, receipts_mean, files_mean}
+use Rattle.sqlaudit.proofs.AcceptedFiles.{IsStored, told_size, bytes_at, bytes_stored}
+use Rattle.sqlaudit.proofs.AcceptedOffice.{office, file_found, box_same, number_same, office_sound}
+
+-- ---- the pieces
+
+-- the file whose piece was found
+file_of_piece : (found : Option File) (at : ℕ) (piece : List ℕ) → option_and_then (λ f. piece_of f.bytes at) found ≡ Some piece → (f : File) × (found ≡ Some f) × (piece_of f.bytes at ≡ Some piece)
+file_of_piece None at piece is = absurd (some_none piece (sym is))
+file_of_piece (Some f) at piece is = (f, refl, is)
+
+module _ (db : Database) (schema : db.schema ≡ s6) (whole : IsWhole db) (ids : HaveRowids (db.trees 9)) (lines : List PieceLine) (listed : AreLines IsPieceLine (db.trees 9) lines)
+    (o : Outline) (within : ArePiecesOf o lines) (bytes : Place → List ℕ) (stored : (place : Place) (number : ℕ) → get o.files place ≡ Some number → IsStored (db.trees 9) o place number (bytes place)) where
+  abbrev it : Office
+  it = office o bytes
+
+  file_there : (place : Place) (number : ℕ) → get o.files place ≡ Some number → get it.files place ≡ Some (record { bytes = bytes place; receipt = number })
+  file_there place number there = file_found o bytes place ∙ ap (option_map (λ n. record { bytes = bytes place; receipt = n })) there
+
+  file_was : (place : Place) (f : File) (found : Option ℕ) → get o.files place ≡ found → get it.files place ≡ Some f → (number : ℕ) × (get o.files place ≡ Some number) × (f.bytes ≡ bytes place)
+  file_was place f None none there = absurd (some_none f (sym there ∙ file_found o bytes place ∙ ap (option_map (λ n. record { bytes = bytes place; receipt = n })) none))
+  file_was place f (Some n) some there =
+      let both : Some f ≡ Some (record { bytes = bytes place; receipt = n }) = sym there ∙ file_there place n some in
+      let same : f ≡ record { bytes = bytes place; receipt = n } = cc in
+      (n, some, ap (λ (x : File). x.bytes) same)
+
+  row_is_piece : (row : Row) → Has (db.trees 9) row → (part : Part) × (piece : List ℕ) × IsPieceRow row part piece × ((tables_of it).piece part ≡ Some piece)
+  row_is_piece row there =
+      let line = listed.each row there in
+      let p = within line.0 (contains_had lines line.0 line.1) in
+      let place : Place = record { box = line.0.in_box.items; name = line.0.name.items } in
+      let s = stored place p.number p.there in
+      let begun : 65536 * p.part < length (bytes place) = subst (λ n. 65536 * p.part < n) (told_size (db.trees 9) o place p.number (bytes place) s) p.begun in
+      let hit : nat_lt (65536 * p.part) (length (bytes place)) ≡ true = lt-ltb (65536 * p.part) (length (bytes place)) begun in
+      let piece : List ℕ = take 65536 (drop (65536 * p.part) (bytes place)) in
+      let is : piece_of (bytes place) p.part ≡ Some piece = rw hit in
+      let held = s.pieces.pieces p.part piece is in
+      let same : held.row ≡ row = one_piece_row db schema whole ids held.row row place.box place.name (pos p.part) held.there there
+      (record { box_is = held.is.box_is; name_is = held.is.name_is; part_is = held.is.part_is })
+      (record { box_is = line.2.box_is; name_is = line.2.name_is; part_is = line.2.part_is ∙ ap Int p.part_is }) in (
+        record { place = place; at = p.part },
+        piece,
+        subst (λ (r : Row). IsPieceRow r (record { place = place; at = p.part }) piece) same held.is,
+        ap (option_and_then (λ (f : File). piece_of f.bytes p.part)) (file_there place p.number p.there) ∙ is,
+      )
+
+  pieces_mean : RowsMean IsPieceRow (tables_of it).piece (db.trees 9)
+  pieces_mean = record {
+    each = row_is_piece;
+    all = λ part piece is.
+        let f = file_of_piece (get it.files part.place) part.at piece is in
+        let n = file_was part.place f.0 (get o.files part.place) refl f.1 in
+        let held = (stored part.place n.0 n.1).pieces.pieces part.at piece (sym (ap (λ b. piece_of b part.at) n.2) ∙ f.2) in
+        (held.row, held.there, held.is);
+    keyed = ids.keyed;
+    apart = ids.apart;
+  }
+
+-- ---- the whole
+
+means_office : (db : Database) (lines : Lines) → db.schema ≡ s6 → IsWhole db → AreListed db lines → ((line : OfficeLine) → Contains lines.office.now line → line.version ≡ pos 1) → (a : AreSoundLines lines)
+    → (bytes : Place → List ℕ) → ((place : Place) (number : ℕ) → get a.office.files place ≡ Some number → IsStored (db.trees 9) a.office place number (bytes place))
+    → TablesMean v1.number db.trees (tables_of (office a.office bytes))
+means_office db lines schema whole listed first a bytes stored = record {
+  office = office_means db lines listed a.office a.lines_are first;
+  keys = keys_mean db lines listed a.office a.lines_are;
+  boxes = subst (λ (look : List ℕ → Option Box). RowsMean IsBoxRow look (db.trees 3)) (λ i name. box_same a.office bytes (db.trees 9) a.sound stored name i) (boxes_mean db lines listed a.office a.lines_are);
+  receipts = receipts_mean db lines listed a.office a.lines_are;
+  files = subst (λ (look : Place → Option ℕ). RowsMean IsFileRow look (db.trees 6)) (λ i place. number_same a.office bytes (db.trees 9) a.sound stored place i) (files_mean db lines listed a.office a.lines_are);
+  pieces = pieces_mean db schema whole listed.pieces_rowids lines.pieces.now listed.pieces a.office a.pieces bytes stored;
+}
+
+pub accepted : (db : Database) (lines : Lines) → db.schema ≡ s6 → IsWhole db → AreListed db lines
+    → ((line : OfficeLine) → Contains lines.office.now line → line.version ≡ pos 1)
+    → AreSoundLines lines
+    → ((file : FileLine) → Contains lines.files.now file → HasBytes (db.trees 9) lines.receipts.now file)
+    → (office : Office) × AreOffice db office
+accepted db lines schema whole listed first a has =
+    let o : Outline = a.office in
+    let bytes : Place → List ℕ = bytes_at (db.trees 9) lines o a.lines_are a.sound has in
+    let stored : (place : Place) (number : ℕ) → get o.files place ≡ Some number → IsStored (db.trees 9) o place number (bytes place) = bytes_stored (db.trees 9) lines o a.lines_are a.sound has in (
+      office o bytes,
+      record {
+        holds = record { schema = schema; sound = whole; means = means_office db lines schema whole listed first a bytes stored };
+        sound = office_sound o bytes (db.trees 9) a.sound stored;
+      },
+    )

@@ -1,0 +1,136 @@
+-- The lines of an office that keeps every rule, and the maps that are read from them.
+use Rattle.std.proofs.Common.{◌≡◌, ℕ, ℤ, suc, pos, List, [], ◌∷◌, slice_get, Option, Some, IsTrue, Bool, false, true, refl, sym, ap, subst, ◌∙◌}
+use Rattle.std.specs.Prelude.{Contains, neg_ℤ, ◌≤ℤ◌}
+use Rattle.std.specs.List.{AllByRecursion}
+use Rattle.std.specs.FinMap.{FinMap, get, same_map, nat_cmp-IsAntisymmetric}
+use Rattle.std.specs.Ordering.{nat_cmp}
+use Rattle.std.specs.Cmp.{nat_cmp_total}
+use Rattle.sigtext.specs.Bytes.{bytes_cmp}
+use Rattle.boxes.specs.State.{Key, place_cmp, Receipt}
+use Rattle.boxes.proofs.Lookups.{bytes_total, bytes_same, place_total}
+use Rattle.boxes.proofs.FileTotals.{place_same}
+use Rattle.boxes.proofs.NoBox.{all_at}
+use Rattle.sqltables.specs.Tables.{Box}
+use Rattle.sqlaudit.specs.declared.rules.Lines.{Lines}
+use Rattle.sqlaudit.specs.Outlines.{Outline, AreEntries, IsOfficeEntry, IsKeyEntry, IsKeyRule, IsBoxEntry, IsBoxRule, IsReceiptEntry, IsReceiptRule, IsFileEntry, IsFileRule, HasClerkIn, AreSoundLines, IsPieceIn, used_in, count_in}
+use Rattle.sqlaudit.specs.declared.lines.KeyLine.{KeyLine}
+use Rattle.sqlaudit.specs.declared.lines.BoxLine.{BoxLine}
+use Rattle.sqlaudit.specs.declared.lines.PieceLine.{PieceLine}
+use Rattle.sqlaudit.specs.Sorting.{IsGood, IsGiven, IsFiled, HasTotals}
+use Rattle.sqlaudit.proofs.Entries.{with_rule, without_rule, rule_of_entries, same_look}
+use Rattle.sqlaudit.proofs.KeyEntries.{one_key}
+use Rattle.sqlaudit.proofs.BoxEntries.{one_box}
+use Rattle.sqlaudit.proofs.ReceiptEntries.{one_given}
+use Rattle.sqlaudit.proofs.FileEntries.{one_filed}
+
+-- what is not so, where the answer is no
+pub no : (P : Type 0) → (P → ⊥) → (IsTrue false → P) × (P → IsTrue false)
+no P f = (λ h. absurd cc, λ p. absurd (f p))
+
+-- a test that was answered no
+pub refuted : {b : Bool} → b ≡ false → IsTrue b → ⊥
+refuted {b = b} is h = let e : false ≡ true = sym is ∙ h in cc
+
+pub told : {b : Bool} → b ≡ true → IsTrue b
+told is = is
+
+abbrev pub GoodKey : KeyLine → List ℕ → Key → Type 0
+GoodKey = IsGood IsKeyEntry IsKeyRule
+
+abbrev pub GoodBox : BoxLine → List ℕ → Box → Type 0
+GoodBox = IsGood IsBoxEntry IsBoxRule
+
+module _ (lines : Lines) (a : AreSoundLines lines) where
+  abbrev pub o : Outline
+  o = a.office
+
+  pub good_keys : AreEntries GoodKey (get o.keys) lines.keys.now
+  good_keys = with_rule IsKeyEntry IsKeyRule (get o.keys) lines.keys.now a.lines_are.keys a.sound.keys
+
+  pub good_boxes : AreEntries GoodBox (get o.boxes) lines.boxes.now
+  good_boxes = with_rule IsBoxEntry IsBoxRule (get o.boxes) lines.boxes.now a.lines_are.boxes a.sound.boxes
+
+  module _ (ks : FinMap bytes_cmp Key) (bs : FinMap bytes_cmp Box) (keys : AreEntries GoodKey (get ks) lines.keys.now) (boxes : AreEntries GoodBox (get bs) lines.boxes.now) where
+    keys_are : o.keys ≡ ks
+    keys_are = same_map bytes_total bytes_same o.keys ks (same_look bytes_cmp bytes_total bytes_same GoodKey one_key (get o.keys) (get ks) lines.keys.now good_keys keys)
+
+    boxes_are : o.boxes ≡ bs
+    boxes_are = same_map bytes_total bytes_same o.boxes bs (same_look bytes_cmp bytes_total bytes_same GoodBox one_box (get o.boxes) (get bs) lines.boxes.now good_boxes boxes)
+
+    pub given : AreEntries (IsGiven ks bs) (slice_get o.receipts) lines.receipts.now
+    given = with_rule IsReceiptEntry (λ at r. IsReceiptRule ks bs r) (slice_get o.receipts) lines.receipts.now a.lines_are.receipts
+        (λ at r there. subst (λ (m : FinMap bytes_cmp Key). IsReceiptRule m bs r) keys_are (subst (λ (m : FinMap bytes_cmp Box). IsReceiptRule o.keys m r) boxes_are (all_at (IsReceiptRule o.keys o.boxes) o.receipts at r a.sound.receipts there)))
+
+    pub has_clerk_too : HasClerkIn ks
+    has_clerk_too = subst HasClerkIn keys_are a.sound.clerk
+
+    module _ (rs : FinMap nat_cmp Receipt) (receipts : AreEntries (IsGiven ks bs) (get rs) lines.receipts.now) where
+      receipt_is : (at : ℕ) → slice_get o.receipts at ≡ get rs at
+      receipt_is = same_look nat_cmp nat_cmp_total nat_cmp-IsAntisymmetric (IsGiven ks bs) (one_given ks bs) (slice_get o.receipts) (get rs) lines.receipts.now given receipts
+
+      receipts_are : slice_get o.receipts ≡ get rs
+      receipts_are = λ i at. receipt_is at i
+
+      pub unbroken : (list : List Receipt) × ((at : ℕ) → get rs at ≡ slice_get list at)
+      unbroken = (o.receipts, λ at. sym (receipt_is at))
+
+      pub filed : AreEntries (IsFiled rs) (get o.files) lines.files.now
+      filed = with_rule IsFileEntry (IsFileRule (get rs)) (get o.files) lines.files.now a.lines_are.files (λ place n there. subst (λ (f : ℕ → Option Receipt). IsFileRule f place n) receipts_are (a.sound.files place n there))
+
+      module _ (fs : FinMap place_cmp ℕ) (files : AreEntries (IsFiled rs) (get fs) lines.files.now) where
+        files_are : o.files ≡ fs
+        files_are = same_map place_total place_same o.files fs (same_look place_cmp place_total place_same (IsFiled rs) (one_filed rs) (get o.files) (get fs) lines.files.now filed files)
+
+        pub totals_told : (line : BoxLine) → Contains lines.boxes.now line → HasTotals rs fs line
+        totals_told line there =
+            let e = a.lines_are.boxes.each line there in
+            let t = a.sound.totals e.0 e.1 e.3 in
+            record {
+              used = e.2.used_is ∙ ap (λ n. pos n) (t.0 ∙ (λ i. used_in (receipts_are i) (files_are i) ((sym e.2.name_is) i)));
+              count = e.2.count_is ∙ ap (λ n. pos n) (t.1 ∙ (λ i. count_in (files_are i) ((sym e.2.name_is) i)));
+            }
+
+        pub pieces_in : (line : PieceLine) → Contains lines.pieces.now line → IsPieceIn (get rs) fs line
+        pieces_in line there =
+            subst (λ (m : FinMap place_cmp ℕ). IsPieceIn (get rs) m line) files_are (subst (λ (f : ℕ → Option Receipt). IsPieceIn f o.files line) receipts_are (a.pieces line there))
+
+all_from : {X : Type 0} (P : X → Type 0) (xs : List X) → ((i : ℕ) (x : X) → slice_get xs i ≡ Some x → P x) → AllByRecursion P xs
+all_from P [] each = tt
+all_from P (x ∷ xs) each = (each 0 x refl, all_from P xs (λ i y there. each (suc i) y there))
+
+module _ (lines : Lines) (ks : FinMap bytes_cmp Key) (bs : FinMap bytes_cmp Box) (rs : FinMap nat_cmp Receipt) (fs : FinMap place_cmp ℕ)
+    (keys : AreEntries GoodKey (get ks) lines.keys.now) (boxes : AreEntries GoodBox (get bs) lines.boxes.now)
+    (receipts : AreEntries (IsGiven ks bs) (get rs) lines.receipts.now) (files : AreEntries (IsFiled rs) (get fs) lines.files.now) where
+  pub built : (east : ℤ) × AreEntries IsOfficeEntry (λ one. Some east) lines.office.now × ((neg_ℤ (pos 840) ≤ℤ east) × (east ≤ℤ pos 840)) → HasClerkIn ks
+      → (list : List Receipt) × ((at : ℕ) → get rs at ≡ slice_get list at) → ((line : BoxLine) → Contains lines.boxes.now line → HasTotals rs fs line)
+      → ((line : PieceLine) → Contains lines.pieces.now line → IsPieceIn (get rs) fs line) → AreSoundLines lines
+  built office clerk unbroken totals pieces =
+      let list = unbroken.0 in
+      let same : get rs ≡ slice_get list = λ i at. unbroken.1 at i in
+      record {
+        office = record { offset = office.0; keys = ks; boxes = bs; files = fs; receipts = list };
+        lines_are = record {
+          office = office.1;
+          keys = without_rule IsKeyEntry IsKeyRule (get ks) lines.keys.now keys;
+          boxes = without_rule IsBoxEntry IsBoxRule (get bs) lines.boxes.now boxes;
+          receipts = subst (λ (f : ℕ → Option Receipt). AreEntries IsReceiptEntry f lines.receipts.now) same (without_rule IsReceiptEntry (λ at r. IsReceiptRule ks bs r) (get rs) lines.receipts.now receipts);
+          files = without_rule IsFileEntry (IsFileRule (get rs)) (get fs) lines.files.now files;
+        };
+        sound = record {
+          east = office.2;
+          keys = rule_of_entries IsKeyEntry IsKeyRule (get ks) lines.keys.now keys;
+          boxes = rule_of_entries IsBoxEntry IsBoxRule (get bs) lines.boxes.now boxes;
+          files = λ place n there. subst (λ (f : ℕ → Option Receipt). IsFileRule f place n) same (rule_of_entries IsFileEntry (IsFileRule (get rs)) (get fs) lines.files.now files place n there);
+          receipts = all_from (IsReceiptRule ks bs) list (λ i r there. rule_of_entries IsReceiptEntry (λ at x. IsReceiptRule ks bs x) (get rs) lines.receipts.now receipts i r (unbroken.1 i ∙ there));
+          totals = λ name b there.
+              let l = boxes.all name b there in
+              let t = totals l.0 l.1 in
+              let used : pos b.used ≡ pos (used_in (get rs) fs l.0.name.items) = sym l.2.entry.used_is ∙ t.used in
+              let count : pos b.count ≡ pos (count_in fs l.0.name.items) = sym l.2.entry.count_is ∙ t.count in
+              let used_is : b.used ≡ used_in (get rs) fs l.0.name.items = cc in
+              let count_is : b.count ≡ count_in fs l.0.name.items = cc in
+              (used_is ∙ (λ i. used_in (same i) fs (l.2.entry.name_is i)), count_is ∙ ap (count_in fs) l.2.entry.name_is);
+          clerk = clerk;
+        };
+        pieces = λ line there. subst (λ (f : ℕ → Option Receipt). IsPieceIn f fs line) same (pieces line there);
+      }

@@ -1,0 +1,8 @@
+use Rattle.std.proofs.Common.{take}
+use Rattle.std.specs.Prelude.{Contains}
+use Rattle.sqlaudit.specs.declared.lines.OfficeLine.{OfficeLine}
+use Rattle.sqlaudit.specs.Outlines.{IsOfficeEntry}
+use Rattle.sqlaudit.proofs.rules.are_office_lines.Given as goal
+
+abbrev pub invariant-loop-line : goal.invariant-loop-line
+invariant-loop-line l = (line : OfficeLine) → Contains (take l.line-index l.lines) line → IsOfficeEntry line tt l.first.east

@@ -1,0 +1,5 @@
+pub mod Lines
+pub mod Outlines
+pub mod Sorting
+pub mod Opened
+pub mod Listing

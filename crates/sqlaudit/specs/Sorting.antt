@@ -1,0 +1,136 @@
+-- Lines that were read into a map.
+use denote.Bor.{Bor}
+use Rattle.std.specs.Prelude.{◌≡◌, ◌≤◌, ℕ, ℤ, pos, List, length, Option, Some, None, ◌+◌, ◌^◌, ◌-◌, min}
+use Rattle.std.specs.declared.cmp.Ordering.{Ordering}
+use Rattle.std.specs.FinMap.{FinMap, get}
+use Rattle.std.specs.BTreeMap.{BTreeMap}
+use Rattle.boxes.specs.State.{Key, NameRule, Place, place_cmp, Receipt, Settings}
+use Rattle.sigtext.specs.Limits.{most_body}
+use Rattle.boxes.specs.Rules.{IsName}
+use Rattle.boxes.specs.Sound.{IsBoxName, IsDigest, IsMoment, IsNameRule}
+use Rattle.boxes.specs.Rows.{settings_of}
+use Rattle.sigtext.specs.Bytes.{bytes_cmp}
+use Rattle.std.specs.Ordering.{nat_cmp}
+use Rattle.keeper.specs.Maps.{MapMeans, Sets, found}
+use Rattle.sqltables.specs.Tables.{Box, rule_number, rule_text}
+use Rattle.sqlaudit.specs.Outlines.{AreEntries, IsBoxRule, IsFileEntry, IsFileRule, used_in, count_in, IsReceiptEntry, IsReceiptRule}
+use Rattle.boxes.specs.declared.totals.Totals.{Totals}
+use Rattle.sqlaudit.specs.declared.lines.ReceiptLine.{ReceiptLine}
+use Rattle.sqlaudit.specs.declared.lines.BoxLine.{BoxLine}
+use Rattle.sqlaudit.specs.declared.lines.FileLine.{FileLine}
+use Rattle.sqlaudit.specs.declared.file_rules.Filed.{Filed}
+use Rattle.sqlaudit.specs.declared.box_rules.BoxEntry.{BoxEntry}
+use Rattle.sqlaudit.specs.declared.receipt_rules.ReceiptEntry.{ReceiptEntry}
+use Rattle.sqlaudit.specs.declared.key_rules.KeyEntry.{KeyEntry}
+
+-- the line is the entry, and the entry keeps its rule
+pub record IsGood {L K V : Type 0} (IsEntry : L → K → V → Type 0) (Rule : K → V → Type 0) (line : L) (k : K) (v : V) : Type 0 where
+  pub entry : IsEntry line k v
+  pub rule : Rule k v
+
+-- Where there is a map, it means the entries that the lines are; and where there is none, the lines are no map's entries.
+pub record AreIn {L K K' X Y : Type 0} (R : K' → K' → Ordering) (f : K → K') (g : X → Y) (IsEntry : L → K' → Y → Type 0) (lines : List L) (es : List (K × X)) : Type 0 where
+  pub map : FinMap R Y
+  pub means : MapMeans R f g es map
+  pub entries : AreEntries IsEntry (get map) lines
+
+abbrev pub IsRead : {L K K' X Y : Type 0} (R : K' → K' → Ordering) (f : K → K') (g : X → Y) (IsEntry : L → K' → Y → Type 0) (lines : List L) → Option (BTreeMap K X) → Type 0
+IsRead {K' = K'} {Y = Y} R f g E lines None = (look : K' → Option Y) → AreEntries E look lines → ⊥
+IsRead R f g E lines (Some m) = AreIn R f g E lines m.entries
+
+abbrev pub key_in : KeyEntry → Key
+key_in e = record { role = e.role; secret = e.secret.now; revoked = e.revoked }
+
+-- what a key of the code points to
+abbrev pub text_of : Bor (List ℕ) → List ℕ
+text_of text = text.now
+
+abbrev pub box_in : BoxEntry → Box
+box_in e = record { settings = settings_of e.row; used = e.used; count = e.count }
+
+abbrev pub given_in : ReceiptEntry → Receipt
+given_in e = record { box = e.in_box.now; name = e.name.now; size = e.size; digest = e.digest.now; moment = e.moment; key = e.key.now }
+
+abbrev pub HoldsKeys : BTreeMap (Bor (List ℕ)) KeyEntry → FinMap bytes_cmp Key → Type 0
+HoldsKeys keys m = MapMeans bytes_cmp text_of key_in keys.entries m
+
+-- the boxes of a map, which keep their rules
+pub record HoldsBoxes (boxes : BTreeMap (Bor (List ℕ)) BoxEntry) (m : FinMap bytes_cmp Box) : Type 0 where
+  pub means : MapMeans bytes_cmp text_of box_in boxes.entries m
+  pub good : (name : List ℕ) (b : Box) → get m name ≡ Some b → IsBoxRule name b
+
+-- a line that is a receipt among these keys and boxes
+abbrev pub IsGiven : FinMap bytes_cmp Key → FinMap bytes_cmp Box → ReceiptLine → ℕ → Receipt → Type 0
+IsGiven keys boxes = IsGood IsReceiptEntry (λ at r. IsReceiptRule keys boxes r)
+
+-- the forms of what a receipt says
+pub record HasReceiptForms (r : Receipt) : Type 0 where
+  pub box : IsBoxName r.box
+  pub name : IsName r.name
+  pub short : length r.name ≤ 1024
+  pub size : r.size ≤ most_body
+  pub digest : IsDigest r.digest
+  pub moment : IsMoment r.moment
+
+abbrev pub HoldsReceipts : BTreeMap ℕ ReceiptEntry → FinMap nat_cmp Receipt → Type 0
+HoldsReceipts receipts m = MapMeans nat_cmp (λ n. n) given_in receipts.entries m
+
+-- a line that is a file with its receipt among these
+abbrev pub IsFiled : FinMap nat_cmp Receipt → FileLine → Place → ℕ → Type 0
+IsFiled receipts = IsGood IsFileEntry (IsFileRule (get receipts))
+
+abbrev pub spot_of : Bor (List ℕ) × Bor (List ℕ) → Place
+spot_of k = record { box = k.0.now; name = k.1.now }
+
+-- ---- sums, which stop at the greatest number of 64 bits
+
+abbrev pub capped : ℕ → ℕ
+capped n = min n (2 ^ 64 - 1)
+
+abbrev pub used_at : Option Totals → ℕ
+used_at None = 0
+used_at (Some t) = t.used
+
+abbrev pub count_at : Option Totals → ℕ
+count_at None = 0
+count_at (Some t) = t.count
+
+-- the box holds one file more, of this size
+pub record AddsTo (box : List ℕ) (size : ℕ) (before after : List (Bor (List ℕ) × Totals)) : Type 0 where
+  pub totals : Totals
+  pub sets : Sets bytes_cmp text_of box (Some totals) before after
+  pub used : totals.used ≡ capped (used_at (found bytes_cmp text_of before box) + size)
+  pub count : totals.count ≡ capped (count_at (found bytes_cmp text_of before box) + 1)
+
+-- each box's sums over the files of the map
+pub record AreSums (receipts : FinMap nat_cmp Receipt) (files : FinMap place_cmp ℕ) (sums : List (Bor (List ℕ) × Totals)) : Type 0 where
+  pub used : (box : List ℕ) → used_at (found bytes_cmp text_of sums box) ≡ capped (used_in (get receipts) files box)
+  pub count : (box : List ℕ) → count_at (found bytes_cmp text_of sums box) ≡ capped (count_in files box)
+
+-- the files of the lines with the sums of the boxes, or else the lines are no map's entries
+abbrev pub AreFiled : FinMap nat_cmp Receipt → List FileLine → Option Filed → Type 0
+AreFiled receipts lines None = (look : Place → Option ℕ) → AreEntries (IsFiled receipts) look lines → ⊥
+AreFiled receipts lines (Some filed) = (is : AreIn place_cmp spot_of (λ n. n) (IsFiled receipts) lines filed.files.entries) × AreSums receipts is.map filed.sums.entries
+
+abbrev pub HoldsFiles : BTreeMap (Bor (List ℕ) × Bor (List ℕ)) ℕ → FinMap place_cmp ℕ → Type 0
+HoldsFiles files m = MapMeans place_cmp spot_of (λ n. n) files.entries m
+
+-- the line tells what its box holds
+pub record HasTotals (receipts : FinMap nat_cmp Receipt) (files : FinMap place_cmp ℕ) (line : BoxLine) : Type 0 where
+  pub used : line.used ≡ pos (used_in (get receipts) files line.name.items)
+  pub count : line.count ≡ pos (count_in files line.name.items)
+
+-- the number and the text are those of the rule, and of no other that has its form
+pub record TellsRule (kind : ℤ) (text : List ℕ) (rule : NameRule) : Type 0 where
+  pub kind_is : kind ≡ rule_number rule
+  pub text_is : text ≡ rule_text rule
+  pub alone : (other : NameRule) → IsNameRule other → kind ≡ rule_number other → text ≡ rule_text other → rule ≡ other
+
+-- all but the days, the mode and the rule for names
+pub record HaveSameNumbers (a b : Settings) : Type 0 where
+  pub opens : a.opens ≡ b.opens
+  pub closes : a.closes ≡ b.closes
+  pub from_minute : a.from_minute ≡ b.from_minute
+  pub to_minute : a.to_minute ≡ b.to_minute
+  pub quota : a.quota ≡ b.quota
+  pub max_files : a.max_files ≡ b.max_files

@@ -1,0 +1,13 @@
+//! Whether whole tables are those of an office that keeps every rule.
+#![tactic(auto)]
+
+mod box_rules;
+mod digests;
+mod file_rules;
+mod key_rules;
+mod lines;
+mod listing;
+pub mod opening;
+mod piece_rules;
+mod receipt_rules;
+mod rules;

@@ -1,0 +1,248 @@
+//! What is found in an office file that is opened.
+
+ghost use Rattle.std.specs.Prelude.{◌↔◌, ◌≡◌, false, ℤ, Contains, MatchBool, MatchOption, None, Some, IsTrue, IfOk, OnOk};
+ghost use Rattle.sqlite_schema.specs.declared.schema.Table.{Table};
+ghost use Rattle.sqlite.specs.State.{HasCleanDisk};
+ghost use Rattle.sqlite.specs.Held.{state};
+ghost use Rattle.boxes.specs.State.{State as Office};
+ghost use Rattle.sqlaudit.specs.declared.lines.OfficeLine.{OfficeLine};
+ghost use Rattle.sqltables.specs.Inside.{seen, GoesOnWhere, GoesOnBegun};
+ghost use Rattle.sqltables.specs.Means.{IsRunning};
+ghost use Rattle.sqlaudit.specs.Listing.{OfVersion};
+ghost use Rattle.sqlaudit.specs.Opened.{HasOurs, IsOurs, AreTables, IsExtent, IsTableAt, AreNamed, IsAtRest, IsSettled, IsBegunAs, LeavesUntouched, IsFound, AreOffice, AreOfVersion};
+
+use crate::digests::have_bytes;
+use crate::lines::OfficeLine;
+use crate::listing::{Listed, list_all, list_office};
+use crate::rules::{Lines, are_sound};
+use sqlite::{Alter, Connection, Error, ErrorCode, Transaction};
+use sqlite_schema::schema::{Schema, Table};
+use std::alloc::Global;
+
+/// What an office file is found to be.
+#[derive(Clone, Copy, Debug, PartialEq, Eq)]
+pub enum Finding {
+    /// The tables of an office that keeps every rule.
+    Sound,
+    /// An office of another version.
+    OtherVersion,
+    /// No office, or one that breaks a rule.
+    Damaged,
+}
+
+/// How many of an office's tables are there.
+#[derive(Clone, Copy, Debug, PartialEq, Eq)]
+pub(crate) enum Extent {
+    /// Not the first.
+    Nothing,
+    /// The first.
+    Begun,
+    /// All, and no others.
+    Whole,
+}
+
+// The version of the tables.
+const VERSION: i64 = 1;
+
+/// Whether the table in this place has this name and so many columns.
+fn is_table(tables: &[Table], at: usize, name: &str, columns: usize) -> bool
+    ensures { IsTrue result ↔ IsTableAt tables.now at name.now columns }
+{
+    let Some(table) = tables.get(at) else {
+        return false;
+    };
+    table.name.as_slice() == name.as_bytes() && table.columns.len() == columns
+}
+
+/// Whether these are an office's tables, by their names and the number of their columns, with the indexes of their keys
+/// and no others.
+fn are_named(schema: &Schema) -> bool
+    ensures { IsTrue result ↔ AreNamed schema.now }
+{
+    let tables = schema.tables.as_slice();
+    tables.len() == 6
+        && is_table(tables, 0, "office", 3)
+        && is_table(tables, 1, "keys", 4)
+        && is_table(tables, 2, "boxes", 13)
+        && is_table(tables, 3, "receipts", 7)
+        && is_table(tables, 4, "files", 3)
+        && is_table(tables, 5, "pieces", 4)
+        && schema.indexes.len() == 5
+        && schema.views.is_empty()
+}
+
+/// How many of an office's tables a database has.
+fn extent_of(schema: &Schema) -> Extent
+    ensures is { IsOurs schema.now → IsExtent result schema.now }
+    ensures named { result ≡ Extent.Whole → AreNamed schema.now }
+{
+    if !is_table(schema.tables.as_slice(), 0, "office", 3) {
+        Extent::Nothing
+    } else if are_named(schema) {
+        Extent::Whole
+    } else {
+        Extent::Begun
+    }
+}
+
+/// Whether the line is of the version of the other.
+fn is_of_version(line: &OfficeLine, first: &OfficeLine) -> bool
+    ensures { IsTrue result ↔ line.now.version ≡ first.now.version }
+{
+    line.version == first.version
+}
+
+/// Whether each line is of the version of this one.
+fn are_of_version(lines: &[OfficeLine], first: &OfficeLine) -> bool
+    ensures { IsTrue result ↔ ((line : OfficeLine) → Contains lines.now line
+        → line.version ≡ first.now.version) }
+{
+    for line in lines {
+        if !is_of_version(line, first) {
+            return false;
+        }
+    }
+    true
+}
+
+/// The row of the office, by whose version all go.
+fn versioned(lines: &[OfficeLine]) -> Option<&OfficeLine>
+    ensures { MatchOption result ((version : ℤ) → AreOfVersion lines.now version → ⊥)
+        (λ line. AreOfVersion lines.now line.now.version) }
+{
+    let first = lines.first()?;
+    if are_of_version(lines, first) {
+        Some(first)
+    } else {
+        None
+    }
+}
+
+/// Whether the lines are those of an office, and its files have their bytes.
+fn is_sound<S: Alter>(
+    tx: &mut Transaction<'_, S>,
+    alloc: Global,
+    office: &[OfficeLine],
+    listed: &Listed,
+) -> Result<bool, Error>
+    ensures found { OfVersion S.Store tx.old tx.new office.now
+        (AreTables (seen S.Store tx.old).now listed.now → IfOk result (λ sound. MatchBool sound
+        ((office : Office) × AreOffice (seen S.Store tx.old).now office)
+        ((office : Office) → AreOffice (seen S.Store tx.old).now office → ⊥))) }
+    ensures rest { GoesOnWhere (IsRunning (seen S.Store tx.old))
+        (IsRunning (seen S.Store tx.old)) S.Store tx.old tx.new result }
+{
+    let lines = Lines {
+        office,
+        keys: &listed.keys,
+        boxes: &listed.boxes,
+        receipts: &listed.receipts,
+        files: &listed.files,
+        pieces: &listed.pieces,
+    };
+    let Ok(sound) = are_sound(alloc, &lines) else {
+        return Err(Error::SqliteFailure(ErrorCode::OutOfMemory));
+    };
+    if !sound {
+        return Ok(false);
+    }
+    have_bytes(tx, alloc, &listed.receipts, &listed.files)
+}
+
+// What is found where the version is ours.
+fn finding_of(sound: bool) -> Finding
+    ensures { MatchBool sound (result ≡ Finding.Sound) (result ≡ Finding.Damaged) }
+{
+    if sound {
+        Finding::Sound
+    } else {
+        Finding::Damaged
+    }
+}
+
+/// Tests the whole tables of an office of this version.
+fn look_at_all<S: Alter>(
+    tx: &mut Transaction<'_, S>,
+    alloc: Global,
+    office: &[OfficeLine],
+) -> Result<Finding, Error>
+    ensures found { OfVersion S.Store tx.old tx.new office.now
+        (IfOk result (λ finding. IsFound finding (seen S.Store tx.old).now)) }
+    ensures rest { GoesOnWhere (IsRunning (seen S.Store tx.old))
+        (IsRunning (seen S.Store tx.old)) S.Store tx.old tx.new result }
+{
+    let listed = list_all(tx)?;
+    let sound = is_sound(tx, alloc, office, &listed)?;
+    Ok(finding_of(sound))
+}
+
+/// Tests the tables of an office, the version first.
+fn look<S: Alter>(
+    tx: &mut Transaction<'_, S>,
+    alloc: Global,
+    extent: Extent,
+) -> Result<Finding, Error>
+    ensures found { IsBegunAs extent (seen S.Store tx.old)
+        → IsTrue (seen S.Store tx.old).in_transaction → HasCleanDisk (seen S.Store tx.new)
+        → IfOk result (λ finding. IsFound finding (seen S.Store tx.old).now) }
+    ensures whole { IfOk result (λ finding. finding ≡ Finding.Sound → extent ≡ Extent.Whole) }
+    ensures rest { GoesOnBegun S.Store tx.old tx.new result }
+{
+    let office = list_office(tx)?;
+    let Some(line) = versioned(&office) else {
+        return Ok(Finding::Damaged);
+    };
+    if line.version != VERSION {
+        return Ok(Finding::OtherVersion);
+    }
+    if extent != Extent::Whole {
+        return Ok(Finding::Damaged);
+    }
+    look_at_all(tx, alloc, &office)
+}
+
+/// What the tables are found to be, in a transaction that is rolled back.
+fn examine<S: Alter>(
+    conn: &mut Connection<S>,
+    alloc: Global,
+    extent: Extent,
+) -> Result<Finding, Error>
+    requires { conn.old.in_transaction ≡ false }
+    ensures found { IsBegunAs extent (state S.Store conn.old) → HasCleanDisk (state S.Store conn.new)
+        → IfOk result (λ finding. IsFound finding (state S.Store conn.old).now) }
+    ensures whole { IfOk result (λ finding. finding ≡ Finding.Sound → extent ≡ Extent.Whole) }
+    ensures rest { IsSettled (state S.Store conn.old)
+        → LeavesUntouched (state S.Store conn.old) (state S.Store conn.new) }
+{
+    let mut tx = conn.transaction();
+    look(&mut tx, alloc, extent)
+}
+
+/// Tests the whole file. Nothing is written, and whatever file it is, it is found as it was. An office's file is found to be
+/// open still, and to have exactly the tables of an office, by their names.
+pub fn find<S: Alter>(conn: &mut Connection<S>, alloc: Global) -> Result<Finding, Error>
+    ensures found { HasOurs (state S.Store conn.old) → HasCleanDisk (state S.Store conn.new)
+        → IsTrue (state S.Store conn.old).is_open
+        → IfOk result (λ finding. IsFound finding (state S.Store conn.old).now) }
+    ensures named { IfOk result (λ finding. finding ≡ Finding.Sound
+        → AreNamed (state S.Store conn.old).now.schema) }
+    ensures opened { HasCleanDisk (state S.Store conn.new)
+        → IfOk result (λ finding. finding ≡ Finding.Sound → IsTrue (state S.Store conn.new).is_open) }
+    ensures at_rest { HasCleanDisk (state S.Store conn.new)
+        → OnOk result (IsAtRest (state S.Store conn.new)) }
+    ensures rest { LeavesUntouched (state S.Store conn.old) (state S.Store conn.new) }
+{
+    if !conn.is_autocommit() {
+        return Err(Error::SqliteFailure(ErrorCode::TransactionState));
+    }
+    let extent = extent_of(conn.schema());
+    if extent == Extent::Nothing {
+        return Ok(Finding::Damaged);
+    }
+    let finding = examine(conn, alloc, extent)?;
+    if finding == Finding::Sound {
+        // A store that shut itself compiles no statement.
+        conn.prepare("SELECT version FROM office")?;
+    }
+    Ok(finding)
+}

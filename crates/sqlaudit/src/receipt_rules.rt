@@ -1,0 +1,185 @@
+//! The lines of the receipts, as receipts among keys and boxes.
+
+ghost use Rattle.std.specs.Prelude.{◌≡◌, ◌↔◌, ℕ, ◌+◌, pos, Some, IsTrue, IsSomeAnd, IfOk, MatchOption, ⊤};
+ghost use Rattle.std.specs.FinMap.{FinMap, get};
+ghost use Rattle.std.specs.Ordering.{nat_cmp};
+ghost use Rattle.sigtext.specs.Bytes.{bytes_cmp};
+ghost use Rattle.boxes.specs.State.{Key, Receipt};
+ghost use Rattle.boxes.specs.Opening.{Fits};
+ghost use Rattle.boxes.specs.Sound.{IsDigest};
+ghost use Rattle.sqltables.specs.Tables.{Box};
+ghost use Rattle.sqlaudit.specs.Outlines.{IsReceiptEntry, IsReceiptRule};
+ghost use Rattle.sqlaudit.specs.Sorting.{HoldsBoxes, HoldsKeys, HasReceiptForms, IsGiven, IsRead, given_in};
+
+use crate::box_rules::Boxes;
+use crate::key_rules::Keys;
+use crate::lines::ReceiptLine;
+use boxes::{Command, has_form, name_fits};
+use sigtext::MOST_BODY;
+use std::alloc::{AllocError, Global};
+use std::collections::BTreeMap;
+
+/// A receipt, as its line has it.
+#[derive(Clone, Copy)]
+pub(crate) struct ReceiptEntry<'a> {
+    pub(crate) in_box: &'a [u8],
+    pub(crate) name: &'a [u8],
+    pub(crate) size: u64,
+    pub(crate) digest: &'a [u8],
+    pub(crate) moment: u64,
+    pub(crate) key: &'a [u8],
+}
+
+/// The receipts by their places: the first, of number 1, is at 0.
+pub(crate) type Receipts<'a> = BTreeMap<u64, ReceiptEntry<'a>>;
+
+const DIGEST_BYTES: usize = 32;
+
+/// The number, where it is not below 0.
+pub(crate) fn natural(number: i64) -> Option<u64>
+    ensures { MatchOption result ((n : ℕ) → number ≡ pos n → ⊥) (λ n. number ≡ pos n) }
+{
+    if number < 0 {
+        return None;
+    }
+    Some(number as u64)
+}
+
+/// The number less one, where it is above 0.
+pub(crate) fn place_of(number: i64) -> Option<u64>
+    ensures { MatchOption result ((n : ℕ) → number ≡ pos (n + 1) → ⊥) (λ n. number ≡ pos (n + 1)) }
+{
+    if number < 1 {
+        return None;
+    }
+    Some((number - 1) as u64)
+}
+
+/// The receipt of a line with its place, where its numbers are those of one.
+fn entry_of(line: &ReceiptLine) -> Option<(u64, ReceiptEntry<'_>)>
+    ensures { MatchOption result ((at : ℕ) (r : Receipt) → IsReceiptEntry line.now at r → ⊥)
+        (λ e. IsReceiptEntry line.now e.0 (given_in e.1)) }
+{
+    let (number, length, moment) = (line.number, line.length, line.moment);
+    Some((
+        place_of(number)?,
+        ReceiptEntry {
+            in_box: &line.in_box,
+            name: &line.name,
+            size: natural(length)?,
+            digest: &line.digest,
+            moment: natural(moment)?,
+            key: &line.key,
+        },
+    ))
+}
+
+/// Whether the bytes are as many as a digest's.
+fn is_digest(bytes: &[u8]) -> bool
+    ensures { IsTrue result ↔ IsDigest bytes.now }
+{
+    bytes.len() == DIGEST_BYTES
+}
+
+/// Whether the texts and numbers of a receipt have their forms.
+fn has_forms(entry: &ReceiptEntry<'_>) -> bool
+    ensures { IsTrue result ↔ HasReceiptForms (given_in entry.now) }
+{
+    let (in_box, name) = (entry.in_box, entry.name);
+    let moment = entry.moment;
+    if !has_form(&Command::DropFile { in_box, name }) {
+        return false;
+    }
+    if !has_form(&Command::CloseBox {
+        name: in_box,
+        moment,
+    }) {
+        return false;
+    }
+    entry.size <= MOST_BODY as u64 && is_digest(entry.digest)
+}
+
+/// Whether the box is there, and takes the name.
+fn takes<'a>(boxes: &Boxes<'a>, in_box: &'a [u8], name: &[u8]) -> bool
+    ensures { (bs : FinMap bytes_cmp Box) → HoldsBoxes boxes.now bs
+        → IsTrue result ↔ IsSomeAnd (get bs in_box.now) (λ b. Fits b.settings.rule name.now) }
+{
+    match boxes.get(&in_box) {
+        Some(entry) => name_fits(&entry.row.rule, name),
+        None => false,
+    }
+}
+
+/// Whether the key is there.
+fn has_key<'a>(keys: &Keys<'a>, id: &'a [u8]) -> bool
+    ensures { (ks : FinMap bytes_cmp Key) → HoldsKeys keys.now ks
+        → IsTrue result ↔ IsSomeAnd (get ks id.now) (λ k. ⊤) }
+{
+    keys.contains_key(&id)
+}
+
+/// Whether the receipt is one among these keys and boxes.
+fn is_receipt<'a>(entry: &ReceiptEntry<'a>, keys: &Keys<'a>, boxes: &Boxes<'a>) -> bool
+    ensures { (ks : FinMap bytes_cmp Key) (bs : FinMap bytes_cmp Box) → HoldsKeys keys.now ks
+        → HoldsBoxes boxes.now bs → IsTrue result ↔ IsReceiptRule ks bs (given_in entry.now) }
+{
+    if !has_forms(entry) {
+        return false;
+    }
+    has_key(keys, entry.key) && takes(boxes, entry.in_box, entry.name)
+}
+
+/// The receipt of a line with its place, where it is one among these keys and boxes.
+fn receipt_of<'a>(
+    line: &'a ReceiptLine,
+    keys: &Keys<'a>,
+    boxes: &Boxes<'a>,
+) -> Option<(u64, ReceiptEntry<'a>)>
+    ensures { (ks : FinMap bytes_cmp Key) (bs : FinMap bytes_cmp Box) → HoldsKeys keys.now ks
+        → HoldsBoxes boxes.now bs
+        → MatchOption result ((at : ℕ) (r : Receipt) → IsGiven ks bs line.now at r → ⊥)
+        (λ e. IsGiven ks bs line.now e.0 (given_in e.1)) }
+{
+    let (at, entry) = entry_of(line)?;
+    if !is_receipt(&entry, keys, boxes) {
+        return None;
+    }
+    Some((at, entry))
+}
+
+/// Whether two entries are the same receipt.
+fn is_same_receipt(a: &ReceiptEntry<'_>, b: &ReceiptEntry<'_>) -> bool
+    ensures { IsTrue result ↔ given_in a.now ≡ given_in b.now }
+{
+    a.in_box == b.in_box
+        && a.name == b.name
+        && a.size == b.size
+        && a.digest == b.digest
+        && a.moment == b.moment
+        && a.key == b.key
+}
+
+/// The receipts of the lines, where each line is one and no two differ in one place.
+pub(crate) fn receipts_by_place<'a>(
+    alloc: Global,
+    lines: &'a [ReceiptLine],
+    keys: &Keys<'a>,
+    boxes: &Boxes<'a>,
+) -> Result<Option<Receipts<'a>>, AllocError>
+    ensures { (ks : FinMap bytes_cmp Key) (bs : FinMap bytes_cmp Box) → HoldsKeys keys.now ks
+        → HoldsBoxes boxes.now bs
+        → IfOk result (IsRead nat_cmp (λ n. n) given_in (IsGiven ks bs) lines.now) }
+{
+    let mut receipts = BTreeMap::new(alloc);
+    for line in lines {
+        let Some((at, receipt)) = receipt_of(line, keys, boxes) else {
+            return Ok(None);
+        };
+        if let Some(first) = receipts.insert(at, receipt)? {
+            if !is_same_receipt(&first, &receipt) {
+                return Ok(None);
+            }
+        }
+    }
+    Ok(Some(receipts))
+}

@@ -1,0 +1,96 @@
+//! The rules between the lines of an office's tables, without SQL.
+
+ghost use Rattle.std.specs.Prelude.{◌↔◌, ◌≡◌, ◌≤ℤ◌, ℤ, pos, neg_ℤ, Contains, Some, IsTrue, IfOk};
+ghost use Rattle.sqlaudit.specs.declared.lines.OfficeLine.{OfficeLine};
+ghost use Rattle.sqlaudit.specs.Outlines.{AreEntries, IsOfficeEntry, AreSoundLines};
+
+use crate::box_rules::boxes_by_name;
+use crate::file_rules::files_by_place;
+use crate::key_rules::keys_by_id;
+use crate::lines::{BoxLine, FileLine, KeyLine, OfficeLine, PieceLine, ReceiptLine};
+use crate::piece_rules::{are_pieces, has_clerk, have_totals, is_unbroken};
+use crate::receipt_rules::receipts_by_place;
+use std::alloc::{AllocError, Global};
+
+/// The lines of all tables of an office, in any order.
+#[derive(Clone, Copy)]
+pub(crate) struct Lines<'a> {
+    pub(crate) office: &'a [OfficeLine],
+    pub(crate) keys: &'a [KeyLine],
+    pub(crate) boxes: &'a [BoxLine],
+    pub(crate) receipts: &'a [ReceiptLine],
+    pub(crate) files: &'a [FileLine],
+    pub(crate) pieces: &'a [PieceLine],
+}
+
+// The greatest offset of an office's clock, in minutes.
+const MOST_EAST: i64 = 840;
+
+/// Whether the line is the office's, with the offset of the first.
+fn is_office_line(line: &OfficeLine, first: &OfficeLine) -> bool
+    ensures { IsTrue result ↔ IsOfficeEntry line.now tt first.now.east }
+{
+    line.id == 1 && line.east == first.east
+}
+
+/// Whether each line is the office's, with the offset of the first.
+fn are_office_lines(lines: &[OfficeLine], first: &OfficeLine) -> bool
+    ensures { IsTrue result ↔ ((line : OfficeLine) → Contains lines.now line
+        → IsOfficeEntry line tt first.now.east) }
+{
+    for line in lines {
+        if !is_office_line(line, first) {
+            return false;
+        }
+    }
+    true
+}
+
+/// Whether the offset is within a clock's limits.
+fn is_offset(line: &OfficeLine) -> bool
+    ensures { IsTrue result ↔ ((neg_ℤ (pos 840) ≤ℤ line.now.east) × (line.now.east ≤ℤ pos 840)) }
+{
+    line.east >= -MOST_EAST && line.east <= MOST_EAST
+}
+
+/// Whether the lines are one, with an offset within a clock's limits.
+pub(crate) fn is_office(lines: &[OfficeLine]) -> bool
+    ensures { IsTrue result ↔ ((east : ℤ) × AreEntries IsOfficeEntry (λ one. Some east) lines.now
+        × ((neg_ℤ (pos 840) ≤ℤ east) × (east ≤ℤ pos 840))) }
+{
+    let Some(first) = lines.first() else {
+        return false;
+    };
+    if !is_offset(first) {
+        return false;
+    }
+    are_office_lines(lines, first)
+}
+
+/// Whether the lines are those of an office that keeps every rule which needs no bytes of a file.
+pub(crate) fn are_sound(alloc: Global, lines: &Lines<'_>) -> Result<bool, AllocError>
+    ensures { IfOk result (λ b. IsTrue b ↔ AreSoundLines lines.now) }
+{
+    if !is_office(lines.office) {
+        return Ok(false);
+    }
+    let Some(keys) = keys_by_id(alloc, lines.keys)? else {
+        return Ok(false);
+    };
+    let Some(boxes) = boxes_by_name(alloc, lines.boxes)? else {
+        return Ok(false);
+    };
+    let Some(receipts) = receipts_by_place(alloc, lines.receipts, &keys, &boxes)? else {
+        return Ok(false);
+    };
+    let Some(filed) = files_by_place(alloc, lines.files, &receipts)? else {
+        return Ok(false);
+    };
+    if !has_clerk(lines.keys) || !is_unbroken(&receipts) {
+        return Ok(false);
+    }
+    if !have_totals(lines.boxes, &filed.sums) {
+        return Ok(false);
+    }
+    Ok(are_pieces(lines.pieces, &filed.files, &receipts))
+}

@@ -1,7 +1,0 @@
-use Rattle.std.proofs.Common.{◌≡◌, ◌++◌, map, drop}
-use Rattle.sqlkeeper.specs.Tables.{joined}
-use Rattle.sqlkeeper.proofs.RuleTexts.{behind}
-use Rattle.sqlkeeper.proofs.box_rows.join.Given as goal
-
-abbrev pub invariant-others : goal.invariant-others
-invariant-others l = l.text.items ++ behind (map (λ t. t.items) (drop l.other-index l.others)) ≡ joined (map (λ t. t.items) l.texts)

@@ -1,7 +1,0 @@
-use Rattle.std.proofs.Common.{◌≡◌, take}
-use Rattle.std.specs.Prelude.{Contains}
-use Rattle.sqlkeeper.specs.declared.lines.OfficeLine.{OfficeLine}
-use Rattle.sqlkeeper.proofs.opening.are_of_version.Given as goal
-
-abbrev pub invariant-loop-line : goal.invariant-loop-line
-invariant-loop-line l = (line : OfficeLine) → Contains (take l.line-index l.lines) line → line.version ≡ l.first.version

@@ -1,5 +1,0 @@
-use Rattle.sqlkeeper.proofs.Readings.{days_are}
-use Rattle.sqlkeeper.proofs.reading.days_told.Goals as goal
-
-pub returns : goal.returns
-returns c days is = days_are c.args.marks.now days c.told-marks is

@@ -1,0 +1,53 @@
+//! A change that is made, in a transaction of its own.
+
+ghost use Rattle.std.specs.Prelude.{◌≡◌, ◌+◌, ℕ, length, option_map, IsTrue, None, Some, is_some, IfOk, OnOk, OnErr};
+ghost use Rattle.std.specs.FinMap.{get};
+ghost use Rattle.sqlite.specs.State.{HasCleanDisk, KeepsCommit, Survives};
+ghost use Rattle.sqlite.specs.Held.{state};
+ghost use Rattle.boxes.specs.State.{Place, Receipt, State};
+ghost use Rattle.boxes.specs.Steps.{AddKey, RevokeKey, AddBox, CloseBox, DropFile};
+ghost use Rattle.boxes.specs.Rows.{settings_of};
+ghost use Rattle.boxes.specs.Sound.{IsSound};
+ghost use Rattle.boxes.specs.Changes.{IsFileSet, IsObeyed, IsChangeOf, command_of};
+ghost use Rattle.sqltables.specs.Schema.{Version, IsVersion};
+ghost use Rattle.sqltables.specs.Tables.{Tables, Box, tables_of};
+ghost use Rattle.sqltables.specs.Changes.{with_file, with_receipt, without_pieces, with_upload, with_drop, with_totals, with_box};
+ghost use Rattle.sqltables.specs.Means.{Pends, IsRunning, Means, LeavesOnly, AddsOnly, LeavesLast};
+
+use boxes::Change;
+use sqlite::{Alter, Connection, Error, ErrorCode};
+use sqlstatements::changes::write_change;
+
+/// Makes a change that the rules give for the office, all of it or nothing. It is committed when the call returns `Ok`.
+///
+/// # Errors
+///
+/// Those of the database, a pending transaction among them, and one for a text that is not UTF-8 or a number that the
+/// file has no room for. The office is then as it was.
+pub(crate) fn apply_change<S: Alter>(
+    conn: &mut Connection<S>,
+    change: &Change<'_>,
+) -> Result<(), Error>
+    ensures made { (v : Version) (s after : State) → IsVersion v
+        → Means v (state S.Store conn.old) s → IsSound s → IsChangeOf s change.now after
+        → OnOk result (Means v (state S.Store conn.new) after) }
+    ensures kept { (v : Version) (s : State) → IsVersion v → Means v (state S.Store conn.old) s
+        → OnErr result (Means v (state S.Store conn.new) s) }
+    ensures durable { (v : Version) (s after : State) → IsVersion v
+        → Means v (state S.Store conn.old) s → IsSound s → IsChangeOf s change.now after
+        → OnOk result (LeavesOnly v (state S.Store conn.new) after) }
+    ensures crash { (v : Version) (s after : State) → IsVersion v
+        → Means v (state S.Store conn.old) s → IsSound s → IsChangeOf s change.now after
+        → AddsOnly v (state S.Store conn.old) (state S.Store conn.new) after }
+    ensures honest { HasCleanDisk (state S.Store conn.new) → HasCleanDisk (state S.Store conn.old) }
+    ensures opened { HasCleanDisk (state S.Store conn.new)
+        → OnOk result (IsTrue (state S.Store conn.new).is_open
+        × LeavesLast (state S.Store conn.new)) }
+{
+    if !conn.is_autocommit() {
+        return Err(Error::SqliteFailure(ErrorCode::TransactionState));
+    }
+    let mut tx = conn.transaction();
+    write_change(&mut tx, change)?;
+    tx.commit()
+}

@@ -1,0 +1,13 @@
+use Rattle.std.proofs.Common.{refl, subst, w16}
+use Rattle.std.proofs.lemmas.Int.{to_z-of_z}
+use Rattle.sqlite.specs.Held.{state}
+use Rattle.sqltables.specs.Schema.{v1}
+use Rattle.sqltables.specs.Changes.{no_rows}
+use Rattle.sqltables.specs.Means.{Pends}
+use Rattle.sqlstatements.proofs.making.make_office.Goals as goal
+
+pub returns-clause-done : goal.returns-clause-done
+returns-clause-done g c sees =
+    let new = state g.S.Store c.insert_office.new.tx.conn.now in
+    let made = c.in_ok-insert_office.ensures.done (c.in_ok-create_last.ensures.done (c.in_ok-create_first.ensures.done sees)) in
+    c.insert_key.ensures.done v1 (no_rows c.args.east) refl (subst (λ east. Pends v1 new (no_rows east)) (to_z-of_z w16 c.args.east c.ranges.east) made) refl

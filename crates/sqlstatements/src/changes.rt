@@ -1,0 +1,295 @@
+//! What a change writes, inside its transaction.
+
+ghost use Rattle.std.specs.Prelude.{◌≡◌, ◌+◌, ℕ, IsTrue, None, Some, is_some, IfOk, OnOk};
+ghost use Rattle.boxes.specs.State.{Place, Receipt, State};
+ghost use Rattle.boxes.specs.Steps.{AddKey, RevokeKey, AddBox, CloseBox, DropFile};
+ghost use Rattle.boxes.specs.Rows.{settings_of};
+ghost use Rattle.boxes.specs.Sound.{IsSound};
+ghost use Rattle.boxes.specs.Changes.{IsFileSet, IsObeyed, IsChangeOf, command_of};
+ghost use Rattle.sqltables.specs.Schema.{Version, IsVersion};
+ghost use Rattle.sqltables.specs.Tables.{Tables, Box, tables_of};
+ghost use Rattle.sqltables.specs.Changes.{with_file, with_receipt, without_pieces, with_upload, with_drop, with_totals, with_box};
+ghost use Rattle.sqltables.specs.Inside.{seen, GoesOn, GoesOnBegun};
+ghost use Rattle.sqltables.specs.Means.{Pends};
+
+use crate::box_rows::insert_box;
+use crate::questions::totals;
+use crate::standing::standing_size;
+use crate::statements::{
+    delete_file, delete_pieces, insert_file, insert_key, insert_pieces, insert_receipt,
+    update_closes, update_file, update_revoked, update_totals,
+};
+use boxes::{BoxRow, Change, Command, NewFile, Role, Totals};
+use sqlite::{Alter, Error, ErrorCode, Transaction};
+use std::str;
+
+/// The most bytes that are cut into pieces: 8 MiB.
+const MOST_BYTES: usize = 8_388_608;
+
+/// For a number that a column has no room for.
+const TOO_BIG: Error = Error::SqliteFailure(ErrorCode::TooBig);
+
+/// The text of these bytes.
+fn text_of(bytes: &[u8]) -> Result<&str, Error>
+    ensures { IfOk result (λ text. text.now ≡ bytes.now) }
+{
+    match str::from_utf8(bytes) {
+        Ok(text) => Ok(text),
+        Err(error) => Err(Error::Utf8Error(error.valid_up_to())),
+    }
+}
+
+/// The row of a file, which may stand already.
+fn set_row<S: Alter>(
+    tx: &mut Transaction<'_, S>,
+    in_box: &str,
+    name: &str,
+    stands: bool,
+    receipt: u32,
+) -> Result<(), Error>
+    ensures done { let place : Place = record { box = in_box.now; name = name.now } in
+        (v : Version) (tables : Tables) → IsVersion v → Pends v (seen S.Store tx.old) tables
+        → stands ≡ is_some (tables.file place)
+        → OnOk result (Pends v (seen S.Store tx.new) (with_file tables place receipt)) }
+    ensures rest { GoesOn S.Store tx.old tx.new result }
+{
+    if stands {
+        update_file(tx, in_box, name, receipt)
+    } else {
+        insert_file(tx, in_box, name, receipt)
+    }
+}
+
+/// What the box of this name holds.
+fn set_totals<S: Alter>(
+    tx: &mut Transaction<'_, S>,
+    name: &str,
+    totals: Totals,
+) -> Result<(), Error>
+    ensures done { (v : Version) (tables : Tables) (b : Box) → IsVersion v
+        → Pends v (seen S.Store tx.old) tables → tables.box name.now ≡ Some b
+        → OnOk result (Pends v (seen S.Store tx.new)
+        (with_box tables name.now (with_totals totals.used totals.count b))) }
+    ensures rest { GoesOn S.Store tx.old tx.new result }
+{
+    let (Ok(used), Ok(count)) = (i64::try_from(totals.used), u32::try_from(totals.count)) else {
+        return Err(TOO_BIG);
+    };
+    update_totals(tx, name, used, count)
+}
+
+/// The receipt of a file that is set.
+fn add_receipt<S: Alter>(
+    tx: &mut Transaction<'_, S>,
+    number: u32,
+    file: &NewFile<'_>,
+    in_box: &str,
+    name: &str,
+) -> Result<(), Error>
+    ensures done { (v : Version) (tables : Tables) (at : ℕ) (r : Receipt) → IsVersion v
+        → Pends v (seen S.Store tx.old) tables → tables.receipt at ≡ None
+        → number ≡ at + 1 → r.box ≡ in_box.now → r.name ≡ name.now → r.size ≡ file.now.size
+        → r.digest ≡ file.now.digest → r.moment ≡ file.now.moment → r.key ≡ file.now.key.now
+        → OnOk result (Pends v (seen S.Store tx.new) (with_receipt tables at r)) }
+    ensures rest { GoesOn S.Store tx.old tx.new result }
+{
+    let key = text_of(file.key)?;
+    let (Ok(size), Ok(moment)) = (u32::try_from(file.size), i64::try_from(file.moment)) else {
+        return Err(TOO_BIG);
+    };
+    insert_receipt(tx, number, in_box, name, size, &file.digest, moment, key)
+}
+
+/// The rows of a file that is set: the old pieces go, and its receipt and its own row come.
+fn write_rows<S: Alter>(
+    tx: &mut Transaction<'_, S>,
+    file: &NewFile<'_>,
+    in_box: &str,
+    name: &str,
+    stands: bool,
+) -> Result<(), Error>
+    ensures done { let place : Place = record { box = in_box.now; name = name.now } in
+        (v : Version) (tables : Tables) (at : ℕ) (r : Receipt) → IsVersion v
+        → Pends v (seen S.Store tx.old) tables
+        → tables.receipt at ≡ None → stands ≡ is_some (tables.file place)
+        → file.now.number ≡ at + 1 → r.box ≡ in_box.now → r.name ≡ name.now → r.size ≡ file.now.size
+        → r.digest ≡ file.now.digest → r.moment ≡ file.now.moment → r.key ≡ file.now.key.now
+        → OnOk result (Pends v (seen S.Store tx.new)
+        (with_file (with_receipt (without_pieces tables place) at r) place (at + 1))) }
+    ensures rest { GoesOn S.Store tx.old tx.new result }
+{
+    let Ok(number) = u32::try_from(file.number) else {
+        return Err(TOO_BIG);
+    };
+    delete_pieces(tx, in_box, name)?;
+    add_receipt(tx, number, file, in_box, name)?;
+    set_row(tx, in_box, name, stands, number)
+}
+
+/// A file with its receipt and its pieces, and what its box holds then.
+fn write_file<S: Alter>(
+    tx: &mut Transaction<'_, S>,
+    file: &NewFile<'_>,
+    in_box: &str,
+    name: &str,
+    bytes: &[u8],
+    stands: bool,
+    totals: Totals,
+) -> Result<(), Error>
+    ensures done { let place : Place = record { box = in_box.now; name = name.now } in
+        (v : Version) (tables : Tables) (b : Box) (at : ℕ) (r : Receipt) → IsVersion v
+        → Pends v (seen S.Store tx.old) tables
+        → tables.receipt at ≡ None → stands ≡ is_some (tables.file place)
+        → tables.box in_box.now ≡ Some b
+        → file.now.number ≡ at + 1 → r.box ≡ in_box.now → r.name ≡ name.now → r.size ≡ file.now.size
+        → r.digest ≡ file.now.digest → r.moment ≡ file.now.moment → r.key ≡ file.now.key.now
+        → OnOk result (Pends v (seen S.Store tx.new)
+        (with_upload tables place bytes.now at r (with_totals totals.used totals.count b))) }
+    ensures rest { GoesOn S.Store tx.old tx.new result }
+{
+    if bytes.len() > MOST_BYTES {
+        return Err(TOO_BIG);
+    }
+    write_rows(tx, file, in_box, name, stands)?;
+    insert_pieces(tx, in_box, name, bytes)?;
+    set_totals(tx, in_box, totals)
+}
+
+/// Sets a file to these bytes, and adds its receipt.
+fn set_file<S: Alter>(
+    tx: &mut Transaction<'_, S>,
+    file: &NewFile<'_>,
+    bytes: &[u8],
+) -> Result<(), Error>
+    ensures done { (v : Version) (s after : State) → IsVersion v
+        → Pends v (seen S.Store tx.old) (tables_of s) → IsSound s
+        → IsFileSet s file.now bytes.now after
+        → IsTrue (seen S.Store tx.old).in_transaction
+        → OnOk result (Pends v (seen S.Store tx.new) (tables_of after)) }
+    ensures rest { GoesOnBegun S.Store tx.old tx.new result }
+{
+    let in_box = text_of(file.in_box)?;
+    let name = text_of(file.name)?;
+    let old = standing_size(tx, in_box, name)?;
+    let held = totals(tx, in_box)?.set(old, bytes.len() as u64);
+    write_file(tx, file, in_box, name, bytes, old.is_some(), held)
+}
+
+/// Adds a key, unrevoked.
+fn add_key<S: Alter>(
+    tx: &mut Transaction<'_, S>,
+    id: &[u8],
+    role: Role,
+    secret: &[u8],
+) -> Result<(), Error>
+    ensures done { (v : Version) (s after : State) → IsVersion v
+        → Pends v (seen S.Store tx.old) (tables_of s)
+        → IsObeyed s (AddKey id.now role secret.now) after
+        → OnOk result (Pends v (seen S.Store tx.new) (tables_of after)) }
+    ensures rest { GoesOn S.Store tx.old tx.new result }
+{
+    insert_key(tx, text_of(id)?, role, secret)
+}
+
+/// Marks a key revoked.
+fn revoke_key<S: Alter>(tx: &mut Transaction<'_, S>, id: &[u8]) -> Result<(), Error>
+    ensures done { (v : Version) (s after : State) → IsVersion v
+        → Pends v (seen S.Store tx.old) (tables_of s) → IsObeyed s (RevokeKey id.now) after
+        → OnOk result (Pends v (seen S.Store tx.new) (tables_of after)) }
+    ensures rest { GoesOn S.Store tx.old tx.new result }
+{
+    update_revoked(tx, text_of(id)?)
+}
+
+/// Adds a box. It holds nothing.
+fn add_box<S: Alter>(tx: &mut Transaction<'_, S>, name: &[u8], row: &BoxRow) -> Result<(), Error>
+    ensures done { (v : Version) (s after : State) → IsVersion v
+        → Pends v (seen S.Store tx.old) (tables_of s) → IsSound s
+        → IsObeyed s (AddBox name.now (settings_of row.now)) after
+        → OnOk result (Pends v (seen S.Store tx.new) (tables_of after)) }
+    ensures rest { GoesOn S.Store tx.old tx.new result }
+{
+    insert_box(tx, text_of(name)?, row)
+}
+
+/// Sets the second at which a box closes for good, since 1970-01-01T00:00:00Z.
+fn close_box<S: Alter>(tx: &mut Transaction<'_, S>, name: &[u8], moment: u64) -> Result<(), Error>
+    ensures done { (v : Version) (s after : State) → IsVersion v
+        → Pends v (seen S.Store tx.old) (tables_of s) → IsObeyed s (CloseBox name.now moment) after
+        → OnOk result (Pends v (seen S.Store tx.new) (tables_of after)) }
+    ensures rest { GoesOn S.Store tx.old tx.new result }
+{
+    let Ok(moment) = i64::try_from(moment) else {
+        return Err(TOO_BIG);
+    };
+    update_closes(tx, text_of(name)?, moment)
+}
+
+/// The rows of a file go, and the totals of its box come.
+fn take_rows<S: Alter>(
+    tx: &mut Transaction<'_, S>,
+    in_box: &str,
+    name: &str,
+    totals: Totals,
+) -> Result<(), Error>
+    ensures done { let place : Place = record { box = in_box.now; name = name.now } in
+        (v : Version) (tables : Tables) (b : Box) → IsVersion v
+        → Pends v (seen S.Store tx.old) tables → tables.box in_box.now ≡ Some b
+        → OnOk result (Pends v (seen S.Store tx.new)
+        (with_drop tables place (with_totals totals.used totals.count b))) }
+    ensures rest { GoesOn S.Store tx.old tx.new result }
+{
+    delete_pieces(tx, in_box, name)?;
+    delete_file(tx, in_box, name)?;
+    set_totals(tx, in_box, totals)
+}
+
+/// Takes out a file. Its receipt stays.
+fn drop_file<S: Alter>(tx: &mut Transaction<'_, S>, in_box: &[u8], name: &[u8]) -> Result<(), Error>
+    ensures done { (v : Version) (s after : State) → IsVersion v
+        → Pends v (seen S.Store tx.old) (tables_of s) → IsSound s
+        → IsObeyed s (DropFile (record { box = in_box.now; name = name.now })) after
+        → IsTrue (seen S.Store tx.old).in_transaction
+        → OnOk result (Pends v (seen S.Store tx.new) (tables_of after)) }
+    ensures rest { GoesOnBegun S.Store tx.old tx.new result }
+{
+    let in_box = text_of(in_box)?;
+    let name = text_of(name)?;
+    let Some(size) = standing_size(tx, in_box, name)? else {
+        return Err(Error::QueryReturnedNoRows);
+    };
+    let left = totals(tx, in_box)?.take_out(size);
+    take_rows(tx, in_box, name, left)
+}
+
+/// Does what a command of the desk says.
+fn obey<S: Alter>(tx: &mut Transaction<'_, S>, command: &Command<'_>) -> Result<(), Error>
+    ensures done { (v : Version) (s after : State) → IsVersion v
+        → Pends v (seen S.Store tx.old) (tables_of s) → IsSound s
+        → IsObeyed s (command_of command.now) after
+        → IsTrue (seen S.Store tx.old).in_transaction
+        → OnOk result (Pends v (seen S.Store tx.new) (tables_of after)) }
+    ensures rest { GoesOnBegun S.Store tx.old tx.new result }
+{
+    match command {
+        Command::AddKey { id, role, secret } => add_key(tx, id, *role, secret),
+        Command::RevokeKey { id } => revoke_key(tx, id),
+        Command::AddBox { name, row } => add_box(tx, name, row),
+        Command::CloseBox { name, moment } => close_box(tx, name, *moment),
+        Command::DropFile { in_box, name } => drop_file(tx, in_box, name),
+    }
+}
+
+/// Writes what the change says.
+pub fn write_change<S: Alter>(tx: &mut Transaction<'_, S>, change: &Change<'_>) -> Result<(), Error>
+    ensures done { (v : Version) (s after : State) → IsVersion v
+        → Pends v (seen S.Store tx.old) (tables_of s) → IsSound s → IsChangeOf s change.now after
+        → IsTrue (seen S.Store tx.old).in_transaction
+        → OnOk result (Pends v (seen S.Store tx.new) (tables_of after)) }
+    ensures rest { GoesOnBegun S.Store tx.old tx.new result }
+{
+    match change {
+        Change::SetFile(file, bytes) => set_file(tx, file, bytes),
+        Change::Desk(command) => obey(tx, command),
+    }
+}

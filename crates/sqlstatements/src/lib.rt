@@ -1,0 +1,9 @@
+//! What is asked and written inside a transaction on an office file.
+#![tactic(auto)]
+
+mod box_rows;
+pub mod changes;
+pub mod making;
+pub mod questions;
+pub mod standing;
+mod statements;

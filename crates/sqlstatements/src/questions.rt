@@ -1,0 +1,365 @@
+//! Questions inside a transaction. They change nothing.
+
+ghost use Rattle.std.specs.Prelude.{◌≡◌, ◌+◌, ◌-◌, ℕ, List, length, map, take, drop, slice_get, None, Some, IsTrue, OnOk, IfOk, option_map};
+ghost use Rattle.std.specs.FinMap.{get};
+ghost use Rattle.std.specs.List.{AllByRecursion};
+ghost use Rattle.sqlite.specs.State.{HasCleanDisk};
+ghost use Rattle.sqlite.specs.Held.{state};
+ghost use Rattle.sqlite.specs.Values.{bound};
+ghost use Rattle.sqlite.specs.Given.{IsPlain};
+ghost use Rattle.sqlite.specs.Listing.{understood};
+ghost use Rattle.boxes.specs.State.{Receipt, State};
+ghost use Rattle.boxes.specs.Rows.{key_of, settings_of, numbered, numbered_receipt};
+ghost use Rattle.boxes.specs.Clerks.{clerks};
+ghost use Rattle.boxes.specs.Sound.{AreSettings, IsDigest};
+ghost use Rattle.sqltables.specs.Schema.{Version, IsVersion};
+ghost use Rattle.sqltables.specs.Tables.{Tables, Box, piece_of};
+ghost use Rattle.sqltables.specs.Inside.{seen, GoesOnWhere, GoesOnBegun, Still, Finds};
+ghost use Rattle.sqltables.specs.Means.{Pends, IsRunning};
+ghost use Rattle.sqltables.specs.Questions.{last_rows, ShowsRow, shown_office, shown_key, shown_box, shown_totals, shown_receipt, shown_number, AreTotalsOf, IsReceiptOf, AreActing, different_texts};
+
+use boxes::{BoxRow, KeyRow, ReceiptRow, Totals};
+use sqlite::types::ValueRef;
+use sqlite::{Alter, Error, ErrorCode, Row, Transaction, params};
+use sqltables::calls::query;
+use sqltables::pieces::read_file;
+use sqltables::reading::{read_box, read_key, read_receipt, read_text};
+use std::alloc::Global;
+use std::collections::BTreeSet;
+
+/// The last of the rows that a query of the office's own tables shows, if it shows one.
+fn select_row<S: Alter>(
+    tx: &mut Transaction<'_, S>,
+    sql: &str,
+    params: &[ValueRef<'_>],
+) -> Result<Option<Row>, Error>
+    ensures shown { HasCleanDisk (seen S.Store tx.new)
+        → IfOk result (ShowsRow sql.now (bound params.now) (seen S.Store tx.old)
+        (seen S.Store tx.new)) }
+    ensures still { (v : Version) (tables : Tables) → IsPlain (understood v.schema sql.now)
+        → Pends v (seen S.Store tx.old) tables
+        → OnOk result (Pends v (seen S.Store tx.new) tables) }
+    ensures rest { GoesOnBegun S.Store tx.old tx.new result }
+{
+    let mut rows = query(tx, sql, params)?;
+    Ok(rows.pop())
+}
+
+/// The row of a key: its role, secret and whether it is revoked.
+fn select_key<S: Alter>(tx: &mut Transaction<'_, S>, id: &str) -> Result<Option<Row>, Error>
+    ensures found { Finds S.Store tx.old tx.new result
+        (λ tables row. row ≡ option_map shown_key (tables.key id.now)) }
+    ensures still { Still S.Store tx.old tx.new result }
+    ensures rest { GoesOnBegun S.Store tx.old tx.new result }
+{
+    select_row(
+        tx,
+        "SELECT role, secret, revoked FROM keys WHERE id = ?1",
+        params![id],
+    )
+}
+
+/// The office's own row: its version and its offset.
+fn select_office<S: Alter>(tx: &mut Transaction<'_, S>) -> Result<Option<Row>, Error>
+    ensures found { (v : Version) (tables : Tables) → IsVersion v → Pends v (seen S.Store tx.old) tables
+        → IsTrue (seen S.Store tx.old).in_transaction → HasCleanDisk (seen S.Store tx.new)
+        → IfOk result (λ row. row ≡ Some (shown_office v.number tables.offset)) }
+    ensures still { Still S.Store tx.old tx.new result }
+    ensures rest { GoesOnBegun S.Store tx.old tx.new result }
+{
+    select_row(tx, "SELECT version, east FROM office", &[])
+}
+
+/// The row of a box, without its name.
+fn select_box<S: Alter>(tx: &mut Transaction<'_, S>, name: &str) -> Result<Option<Row>, Error>
+    ensures found { Finds S.Store tx.old tx.new result
+        (λ tables row. row ≡ option_map shown_box (tables.box name.now)) }
+    ensures still { Still S.Store tx.old tx.new result }
+    ensures rest { GoesOnBegun S.Store tx.old tx.new result }
+{
+    select_row(
+        tx,
+        "SELECT opens, closes, days, from_minute, to_minute, quota, max_files, mode, rule_kind, rule_text, used, count FROM boxes WHERE name = ?1",
+        params![name],
+    )
+}
+
+/// The totals in the row of a box.
+fn select_totals<S: Alter>(tx: &mut Transaction<'_, S>, name: &str) -> Result<Option<Row>, Error>
+    ensures found { Finds S.Store tx.old tx.new result
+        (λ tables row. row ≡ option_map shown_totals (tables.box name.now)) }
+    ensures still { Still S.Store tx.old tx.new result }
+    ensures rest { GoesOnBegun S.Store tx.old tx.new result }
+{
+    select_row(
+        tx,
+        "SELECT used, count FROM boxes WHERE name = ?1",
+        params![name],
+    )
+}
+
+/// The number in the row of a file.
+fn select_file<S: Alter>(
+    tx: &mut Transaction<'_, S>,
+    in_box: &str,
+    name: &str,
+) -> Result<Option<Row>, Error>
+    ensures found { Finds S.Store tx.old tx.new result
+        (λ tables row. row ≡ option_map shown_number
+        (tables.file (record { box = in_box.now; name = name.now }))) }
+    ensures still { Still S.Store tx.old tx.new result }
+    ensures rest { GoesOnBegun S.Store tx.old tx.new result }
+{
+    select_row(
+        tx,
+        "SELECT receipt FROM files WHERE box = ?1 AND name = ?2",
+        params![in_box, name],
+    )
+}
+
+/// The row of a receipt, without its number.
+fn select_receipt<S: Alter>(tx: &mut Transaction<'_, S>, number: u64) -> Result<Option<Row>, Error>
+    ensures found { (v : Version) (tables : Tables) (at : ℕ) → IsVersion v
+        → Pends v (seen S.Store tx.old) tables → number ≡ at + 1
+        → IsTrue (seen S.Store tx.old).in_transaction → HasCleanDisk (seen S.Store tx.new)
+        → IfOk result (λ row. row ≡ option_map shown_receipt (tables.receipt at)) }
+    ensures still { Still S.Store tx.old tx.new result }
+    ensures rest { GoesOnBegun S.Store tx.old tx.new result }
+{
+    let Ok(number) = i64::try_from(number) else {
+        return Err(Error::SqliteFailure(ErrorCode::TooBig));
+    };
+    select_row(
+        tx,
+        "SELECT box, name, length, digest, moment, key_id FROM receipts WHERE number = ?1",
+        params![number],
+    )
+}
+
+/// The offset of the office's clock east of UTC, in minutes.
+pub fn east<S: Alter>(tx: &mut Transaction<'_, S>) -> Result<i16, Error>
+    ensures found { Finds S.Store tx.old tx.new result (λ tables east. east ≡ tables.offset) }
+    ensures still { Still S.Store tx.old tx.new result }
+    ensures rest { GoesOnBegun S.Store tx.old tx.new result }
+{
+    let Some(row) = select_office(tx)? else {
+        return Err(Error::QueryReturnedNoRows);
+    };
+    match i16::try_from(row.get::<i64>(1)?) {
+        Ok(east) => Ok(east),
+        Err(_) => Err(Error::IntegralValueOutOfRange(1)),
+    }
+}
+
+/// The key of this id.
+pub fn key<S: Alter>(tx: &mut Transaction<'_, S>, id: &str) -> Result<Option<KeyRow>, Error>
+    ensures found { Finds S.Store tx.old tx.new result
+        (λ tables key. option_map key_of key ≡ tables.key id.now) }
+    ensures still { Still S.Store tx.old tx.new result }
+    ensures rest { GoesOnBegun S.Store tx.old tx.new result }
+{
+    let Some(row) = select_key(tx, id)? else {
+        return Ok(None);
+    };
+    Ok(Some(read_key(&row)?))
+}
+
+/// The box of this name. Its settings are to be those of a sound state.
+pub fn box_row<S: Alter>(tx: &mut Transaction<'_, S>, name: &str) -> Result<Option<BoxRow>, Error>
+    ensures found { (v : Version) (tables : Tables) → IsVersion v
+        → Pends v (seen S.Store tx.old) tables
+        → ((b : Box) → tables.box name.now ≡ Some b → AreSettings b.settings)
+        → IsTrue (seen S.Store tx.old).in_transaction → HasCleanDisk (seen S.Store tx.new)
+        → IfOk result (λ row. option_map settings_of row ≡ option_map (λ b. b.settings)
+        (tables.box name.now)) }
+    ensures still { Still S.Store tx.old tx.new result }
+    ensures rest { GoesOnBegun S.Store tx.old tx.new result }
+{
+    let Some(row) = select_box(tx, name)? else {
+        return Ok(None);
+    };
+    Ok(Some(read_box(&row)?))
+}
+
+/// What the box of this name holds; nothing, where it is not there.
+pub fn totals<S: Alter>(tx: &mut Transaction<'_, S>, name: &str) -> Result<Totals, Error>
+    ensures found { Finds S.Store tx.old tx.new result
+        (λ tables. AreTotalsOf (tables.box name.now)) }
+    ensures still { Still S.Store tx.old tx.new result }
+    ensures rest { GoesOnBegun S.Store tx.old tx.new result }
+{
+    let Some(row) = select_totals(tx, name)? else {
+        return Ok(Totals { used: 0, count: 0 });
+    };
+    Ok(Totals {
+        used: row.get(0)?,
+        count: row.get(1)?,
+    })
+}
+
+/// The number of the receipt of the file of this box and name.
+pub(crate) fn file_number<S: Alter>(
+    tx: &mut Transaction<'_, S>,
+    in_box: &str,
+    name: &str,
+) -> Result<Option<u64>, Error>
+    ensures found { Finds S.Store tx.old tx.new result
+        (λ tables number. number ≡ tables.file (record { box = in_box.now; name = name.now })) }
+    ensures still { Still S.Store tx.old tx.new result }
+    ensures rest { GoesOnBegun S.Store tx.old tx.new result }
+{
+    let Some(row) = select_file(tx, in_box, name)? else {
+        return Ok(None);
+    };
+    Ok(Some(row.get(0)?))
+}
+
+/// The receipt of this number. Its digest is to have 32 bytes.
+pub(crate) fn receipt<S: Alter>(
+    tx: &mut Transaction<'_, S>,
+    number: u64,
+) -> Result<Option<ReceiptRow>, Error>
+    ensures found { (v : Version) (tables : Tables) (at : ℕ) → IsVersion v
+        → Pends v (seen S.Store tx.old) tables → number ≡ at + 1
+        → ((r : Receipt) → tables.receipt at ≡ Some r → IsDigest r.digest)
+        → IsTrue (seen S.Store tx.old).in_transaction → HasCleanDisk (seen S.Store tx.new)
+        → IfOk result (IsReceiptOf number (tables.receipt at)) }
+    ensures still { Still S.Store tx.old tx.new result }
+    ensures rest { GoesOnBegun S.Store tx.old tx.new result }
+{
+    let Some(row) = select_receipt(tx, number)? else {
+        return Ok(None);
+    };
+    Ok(Some(read_receipt(&row, number)?))
+}
+
+/// The file's bytes, so many, from its pieces.
+pub(crate) fn file_bytes<S: Alter>(
+    tx: &mut Transaction<'_, S>,
+    alloc: Global,
+    in_box: &str,
+    name: &str,
+    size: u64,
+) -> Result<Vec<u8>, Error>
+    ensures found { (v : Version) (tables : Tables) (bytes : List ℕ) → IsVersion v
+        → Pends v (seen S.Store tx.old) tables → length bytes ≡ size
+        → ((at : ℕ)
+        → tables.piece (record { place = record { box = in_box.now; name = name.now }; at = at })
+        ≡ piece_of bytes at)
+        → IsTrue (seen S.Store tx.old).in_transaction → HasCleanDisk (seen S.Store tx.new)
+        → IfOk result (λ found. found.items ≡ bytes) }
+    ensures still { Still S.Store tx.old tx.new result }
+    ensures rest { GoesOnWhere (IsRunning (seen S.Store tx.old))
+        (IsTrue (seen S.Store tx.old).in_transaction) S.Store tx.old tx.new result }
+{
+    match read_file(tx, alloc, in_box, name, size)? {
+        Some(bytes) => Ok(bytes),
+        None => Err(Error::QueryReturnedNoRows),
+    }
+}
+
+/// The rows of the unrevoked clerk's keys, each an id, in no order.
+fn select_clerks<S: Alter>(tx: &mut Transaction<'_, S>) -> Result<Vec<Row>, Error>
+    ensures found { Finds S.Store tx.old tx.new result
+        (λ tables rows. AreActing tables.key rows.items) }
+    ensures still { Still S.Store tx.old tx.new result }
+    ensures rest { GoesOnBegun S.Store tx.old tx.new result }
+{
+    query(
+        tx,
+        "SELECT id FROM keys WHERE role = 1 AND revoked = 0",
+        &[],
+    )
+}
+
+/// How many different texts stand first in the rows. A row that begins with no text is an error.
+fn count_texts(alloc: Global, rows: &[Row]) -> Result<u64, Error>
+    ensures { IfOk result (λ count. count ≡ different_texts rows.now) }
+{
+    let mut texts = BTreeSet::new(alloc);
+    for row in rows {
+        texts.insert(read_text(row, 0)?)?;
+    }
+    Ok(texts.len() as u64)
+}
+
+/// How many unrevoked clerk's keys stand.
+pub fn clerks<S: Alter>(tx: &mut Transaction<'_, S>, alloc: Global) -> Result<u64, Error>
+    ensures found { (v : Version) (tables : Tables) (s : State) → IsVersion v
+        → Pends v (seen S.Store tx.old) tables → tables.key ≡ get s.keys
+        → IsTrue (seen S.Store tx.old).in_transaction → HasCleanDisk (seen S.Store tx.new)
+        → IfOk result (λ count. count ≡ clerks s) }
+    ensures still { Still S.Store tx.old tx.new result }
+    ensures rest { GoesOnBegun S.Store tx.old tx.new result }
+{
+    let rows = select_clerks(tx)?;
+    count_texts(alloc, &rows)
+}
+
+/// The row of the last receipt, which is its number.
+fn select_last<S: Alter>(tx: &mut Transaction<'_, S>) -> Result<Vec<Row>, Error>
+    ensures found { (v : Version) (tables : Tables) (receipts : List Receipt) → IsVersion v
+        → Pends v (seen S.Store tx.old) tables → tables.receipt ≡ slice_get receipts
+        → IsTrue (seen S.Store tx.old).in_transaction → HasCleanDisk (seen S.Store tx.new)
+        → IfOk result (λ rows. rows.items ≡ last_rows (length receipts)) }
+    ensures still { Still S.Store tx.old tx.new result }
+    ensures rest { GoesOnBegun S.Store tx.old tx.new result }
+{
+    query(
+        tx,
+        "SELECT number FROM receipts ORDER BY number DESC LIMIT 1",
+        &[],
+    )
+}
+
+/// The number that the next receipt gets.
+pub fn next_number<S: Alter>(tx: &mut Transaction<'_, S>) -> Result<u32, Error>
+    ensures found { (v : Version) (tables : Tables) (receipts : List Receipt) → IsVersion v
+        → Pends v (seen S.Store tx.old) tables → tables.receipt ≡ slice_get receipts
+        → IsTrue (seen S.Store tx.old).in_transaction → HasCleanDisk (seen S.Store tx.new)
+        → IfOk result (λ number. number ≡ length receipts + 1) }
+    ensures still { Still S.Store tx.old tx.new result }
+    ensures rest { GoesOnBegun S.Store tx.old tx.new result }
+{
+    let rows = select_last(tx)?;
+    let Some(row) = rows.first() else {
+        return Ok(1);
+    };
+    let last: u32 = row.get(0)?;
+    match last.checked_add(1) {
+        Some(next) => Ok(next),
+        None => Err(Error::SqliteFailure(ErrorCode::TooBig)),
+    }
+}
+
+/// The receipts numbered `from` or more, ascending, at most `most`. Their digests are to have 32 bytes.
+pub fn receipts<S: Alter>(
+    tx: &mut Transaction<'_, S>,
+    alloc: Global,
+    from: u64,
+    most: usize,
+) -> Result<Vec<ReceiptRow>, Error>
+    ensures found { (v : Version) (tables : Tables) (receipts : List Receipt) → IsVersion v
+        → Pends v (seen S.Store tx.old) tables → tables.receipt ≡ slice_get receipts
+        → AllByRecursion (λ r. IsDigest r.digest) receipts
+        → IsTrue (seen S.Store tx.old).in_transaction → HasCleanDisk (seen S.Store tx.new)
+        → IfOk result (λ rows. map numbered_receipt rows.items ≡ take most
+        (drop (from - 1) (numbered 1 receipts))) }
+    ensures still { Still S.Store tx.old tx.new result }
+    ensures rest { GoesOnWhere (IsRunning (seen S.Store tx.old))
+        (IsTrue (seen S.Store tx.old).in_transaction) S.Store tx.old tx.new result }
+{
+    let mut rows = Vec::new(alloc);
+    let mut number = from.max(1);
+    while rows.len() < most {
+        let Some(row) = receipt(tx, number)? else {
+            return Ok(rows);
+        };
+        rows.push(row)?;
+        match number.checked_add(1) {
+            Some(next) => number = next,
+            None => return Err(Error::SqliteFailure(ErrorCode::TooBig)),
+        }
+    }
+    Ok(rows)
+}

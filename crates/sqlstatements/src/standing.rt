@@ -1,0 +1,75 @@
+//! The file that stands under a name, inside a transaction.
+
+ghost use Rattle.std.specs.Prelude.{◌≡◌, length, option_map, IsTrue, IfOk};
+ghost use Rattle.std.specs.FinMap.{get};
+ghost use Rattle.sqlite.specs.State.{HasCleanDisk};
+ghost use Rattle.sqlite.specs.Held.{state};
+ghost use Rattle.boxes.specs.State.{Place, State};
+ghost use Rattle.boxes.specs.Rows.{IsFileAt};
+ghost use Rattle.boxes.specs.Views.{IsReceiptAt};
+ghost use Rattle.boxes.specs.Sound.{IsSound};
+ghost use Rattle.sqltables.specs.Schema.{Version, IsVersion};
+ghost use Rattle.sqltables.specs.Tables.{tables_of};
+ghost use Rattle.sqltables.specs.Inside.{seen, GoesOnBegun, Still, FindsOf};
+ghost use Rattle.sqltables.specs.Means.{Pends};
+
+use crate::questions::{file_bytes, file_number, receipt};
+use boxes::{FileRow, ReceiptRow};
+use sqlite::{Alter, Error, Transaction};
+use std::alloc::Global;
+
+/// The receipt of the file of this box and name.
+pub(crate) fn standing_receipt<S: Alter>(
+    tx: &mut Transaction<'_, S>,
+    in_box: &str,
+    name: &str,
+) -> Result<Option<ReceiptRow>, Error>
+    ensures found { FindsOf S.Store tx.old tx.new result
+        (λ s. IsReceiptAt s (record { box = in_box.now; name = name.now })) }
+    ensures still { Still S.Store tx.old tx.new result }
+    ensures rest { GoesOnBegun S.Store tx.old tx.new result }
+{
+    match file_number(tx, in_box, name)? {
+        Some(number) => receipt(tx, number),
+        None => Ok(None),
+    }
+}
+
+/// How long the file of this box and name is, in bytes, in a sound state: its receipt tells it.
+pub(crate) fn standing_size<S: Alter>(
+    tx: &mut Transaction<'_, S>,
+    in_box: &str,
+    name: &str,
+) -> Result<Option<u64>, Error>
+    ensures found { let place : Place = record { box = in_box.now; name = name.now } in
+        (v : Version) (s : State) → IsVersion v → Pends v (seen S.Store tx.old) (tables_of s)
+        → IsSound s
+        → IsTrue (seen S.Store tx.old).in_transaction → HasCleanDisk (seen S.Store tx.new)
+        → IfOk result (λ size. size ≡ option_map (λ f. length f.bytes) (get s.files place)) }
+    ensures still { Still S.Store tx.old tx.new result }
+    ensures rest { GoesOnBegun S.Store tx.old tx.new result }
+{
+    let Some(receipt) = standing_receipt(tx, in_box, name)? else {
+        return Ok(None);
+    };
+    Ok(Some(receipt.size))
+}
+
+/// The file of this box and name, with its receipt.
+pub fn file<S: Alter>(
+    tx: &mut Transaction<'_, S>,
+    alloc: Global,
+    in_box: &str,
+    name: &str,
+) -> Result<Option<FileRow>, Error>
+    ensures found { FindsOf S.Store tx.old tx.new result
+        (λ s. IsFileAt s (record { box = in_box.now; name = name.now })) }
+    ensures still { Still S.Store tx.old tx.new result }
+    ensures rest { GoesOnBegun S.Store tx.old tx.new result }
+{
+    let Some(receipt) = standing_receipt(tx, in_box, name)? else {
+        return Ok(None);
+    };
+    let bytes = file_bytes(tx, alloc, in_box, name, receipt.size)?;
+    Ok(Some(FileRow { bytes, receipt }))
+}

@@ -1,0 +1,63 @@
+-- What the schemas of both versions have in common, and what a statement on one table leaves of the others.
+use Rattle.std.proofs.Common.{◌≡◌, ◌≢◌, ℕ, List, Some, slice_get, refl, sym, subst}
+use Rattle.std.specs.List.{AllByRecursion}
+use Rattle.sqlite_trees.specs.Tree.{Trees}
+use Rattle.sqlite_schema.specs.declared.schema.Table.{Table}
+use Rattle.sqlite_schema.specs.declared.schema.Schema.{Schema}
+use Rattle.sqltables.specs.Schema.{Version, IsVersion, s6, keys_table, boxes_table, receipts_table, files_table, pieces_table}
+use Rattle.sqlite_schema.specs.declared.command.Command.{Command}
+use Rattle.sqltables.proofs.Says.{Says, Asks}
+use Rattle.sqltables.proofs.Restrict.{AllRestrict}
+
+-- the tables of version 1 but for one have the rows that they had
+pub record OthersStay (tree : ℕ) (db after : Trees) : Type 0 where
+  pub office : 0 ≢ tree → after 0 ≡ db 0
+  pub keys : 1 ≢ tree → after 1 ≡ db 1
+  pub boxes : 3 ≢ tree → after 3 ≡ db 3
+  pub receipts : 5 ≢ tree → after 5 ≡ db 5
+  pub files : 6 ≢ tree → after 6 ≡ db 6
+  pub pieces : 9 ≢ tree → after 9 ≡ db 9
+
+abbrev pub boxes_at : Table
+boxes_at = record boxes_table { tree = 3 }
+
+abbrev pub receipts_at : Table
+receipts_at = record receipts_table { tree = 5 }
+
+abbrev pub files_at : Table
+files_at = record files_table { tree = 6 }
+
+abbrev pub pieces_at : Table
+pieces_at = record pieces_table { tree = 9 }
+
+abbrev pub keys_at : Table
+keys_at = record keys_table { tree = 1 }
+
+pub record IsOurs (schema : Schema) : Type 0 where
+  pub restricts : AllRestrict schema
+  pub keys : slice_get schema.tables 1 ≡ Some keys_at
+  pub boxes : slice_get schema.tables 2 ≡ Some boxes_at
+  pub receipts : slice_get schema.tables 3 ≡ Some receipts_at
+  pub files : slice_get schema.tables 4 ≡ Some files_at
+  pub pieces : slice_get schema.tables 5 ≡ Some pieces_at
+  pub stay : (tree : ℕ) (db after : Trees) → AllByRecursion (λ t. t.tree ≢ tree → after t.tree ≡ db t.tree) schema.tables → OthersStay tree db after
+
+pub ours_1 : IsOurs s6
+ours_1 = record {
+  restricts = (tt, (tt, (tt, (((refl, refl), ((refl, refl), tt)), (((refl, refl), ((refl, refl), tt)), (((refl, refl), tt), tt))))));
+  keys = refl;
+  boxes = refl;
+  receipts = refl;
+  files = refl;
+  pieces = refl;
+  stay = λ tree db after all. record { office = all.0; keys = all.1.0; boxes = all.1.1.0; receipts = all.1.1.1.0; files = all.1.1.1.1.0; pieces = all.1.1.1.1.1.0 };
+}
+
+pub ours_of : (v : Version) → IsVersion v → IsOurs v.schema
+ours_of v is = subst (λ (w : Version). IsOurs w.schema) (sym is) ours_1
+
+pub says_of : (v : Version) → IsVersion v → (text : List ℕ) (command : Command) → Says s6 text command → Says v.schema text command
+says_of v is text command one = subst (λ (w : Version). Says w.schema text command) (sym is) one
+
+pub asks_of : (v : Version) → IsVersion v → (text : List ℕ) (command : Command) → Asks s6 text command → Asks v.schema text command
+asks_of v is text command one = subst (λ (w : Version). Asks w.schema text command) (sym is) one

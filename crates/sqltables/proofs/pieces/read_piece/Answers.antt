@@ -1,0 +1,54 @@
+use Rattle.std.proofs.Common.{◌≡◌, Some, slice_get, sym, ap, ◌∙◌}
+use Rattle.sqlite_rules.proofs.ListLemmas.{has_got}
+use Rattle.sqlite.specs.Held.{state}
+use Rattle.boxes.specs.State.{Place}
+use Rattle.sqltables.proofs.Ours.{asks_of}
+use Rattle.sqltables.proofs.Runs.{shown_runs}
+use Rattle.sqltables.proofs.Texts.{select_piece, select_piece_command, select_piece_is}
+use Rattle.sqltables.proofs.Shown.{shown_open, shown_unchanged}
+use Rattle.sqltables.proofs.PieceAt.{given, piece_shown, no_piece_shown, nothing_first}
+use Rattle.sqltables.proofs.pieces.read_piece.Goals as goal
+
+pub returns-clause-read : goal.returns-clause-read
+returns-clause-read g c v ours has whole inside clean =
+    let old = state g.S.Store c.args.tx.now.conn.now in
+    let new = state g.S.Store c.query.new.tx.conn.now in
+    let place : Place = record { box = c.args.in_box.now; name = c.args.name.now } in
+    let shown = rw (c.params-to_sql.ensures, c.params-to_sql-2.ensures, c.params-to_sql-3.ensures) at (c.in_ok-rows.ensures.ok clean) in
+    let is_open = shown_open select_piece (given c.args.in_box.now c.args.name.now c.args.part) old new c.in_ok-rows.rows.items shown in
+    let first : slice_get c.in_ok-rows.rows.items 0 ≡ Some c.in-Some.row.now = ap (λ l. slice_get l 0) (sym c.deref.ensures.value) ∙ sym c.in-Some.ensures.value in
+    let there = has_got c.in_ok-rows.rows.items 0 c.in-Some.row.now first in
+    piece_shown v ours old new (has is_open) (whole is_open) c.args.in_box.now c.args.name.now c.args.part c.in_ok-rows.rows.items shown c.in-Some.row.now c.in_ok-piece.piece.items there c.in_ok-piece.ensures.ok.1
+
+pub returns-in_default-clause-read : goal.returns-in_default-clause-read
+returns-in_default-clause-read g c v ours has whole inside clean =
+    let old = state g.S.Store c.args.tx.now.conn.now in
+    let new = state g.S.Store c.query.new.tx.conn.now in
+    let shown = rw (c.params-to_sql.ensures, c.params-to_sql-2.ensures, c.params-to_sql-3.ensures) at (c.in_ok-rows.ensures.ok clean) in
+    let is_open = shown_open select_piece (given c.args.in_box.now c.args.name.now c.args.part) old new c.in_ok-rows.rows.items shown in
+    let none = nothing_first c.first.result c.in_ok-rows.rows.items (c.first.ensures.value ∙ ap (λ l. slice_get l 0) c.deref.ensures.value) c.in_default.not-Some in
+    no_piece_shown v ours old new (has is_open) (whole is_open) c.args.in_box.now c.args.name.now c.args.part c.in_ok-rows.rows.items shown none
+
+pub returns-clause-same : goal.returns-clause-same
+returns-clause-same g c v ours has inside clean =
+    let old = state g.S.Store c.args.tx.now.conn.now in
+    let new = state g.S.Store c.query.new.tx.conn.now in
+    let shown = c.in_ok-rows.ensures.ok clean in
+    let is_open = shown_open select_piece _ old new c.in_ok-rows.rows.items shown in
+    (shown_unchanged v select_piece select_piece_command (asks_of v ours select_piece select_piece_command select_piece_is) _ old new (has is_open) c.in_ok-rows.rows.items shown).0.now_is
+
+pub returns-in_default-clause-same : goal.returns-in_default-clause-same
+returns-in_default-clause-same g c v ours has inside clean =
+    let old = state g.S.Store c.args.tx.now.conn.now in
+    let new = state g.S.Store c.query.new.tx.conn.now in
+    let shown = c.in_ok-rows.ensures.ok clean in
+    let is_open = shown_open select_piece _ old new c.in_ok-rows.rows.items shown in
+    (shown_unchanged v select_piece select_piece_command (asks_of v ours select_piece select_piece_command select_piece_is) _ old new (has is_open) c.in_ok-rows.rows.items shown).0.now_is
+
+pub returns-clause-mode : goal.returns-clause-mode
+returns-clause-mode g c clean =
+    (shown_runs select_piece _ (state g.S.Store c.args.tx.now.conn.now) (state g.S.Store c.query.new.tx.conn.now) c.in_ok-rows.rows.items (c.in_ok-rows.ensures.ok clean)).2
+
+pub returns-in_default-clause-mode : goal.returns-in_default-clause-mode
+returns-in_default-clause-mode g c clean =
+    (shown_runs select_piece _ (state g.S.Store c.args.tx.now.conn.now) (state g.S.Store c.query.new.tx.conn.now) c.in_ok-rows.rows.items (c.in_ok-rows.ensures.ok clean)).2

@@ -1,0 +1,9 @@
+pub mod Schema
+pub mod Tables
+pub mod Changes
+pub mod Means
+pub mod Questions
+pub mod Kept
+pub mod OneState
+pub mod Inside
+pub mod Pieces

@@ -1,0 +1,84 @@
+-- What a connection holds, and what a crash of it leaves.
+use Rattle.std.specs.Prelude.{◌≡◌, ◌⊎◌, [], IsTrue, false}
+use Rattle.sqlite_trees.specs.Tree.{Trees}
+use Rattle.sqlite.specs.Effect.{Database, IsDatabase}
+use Rattle.sqlite.specs.State.{State, HasCleanDisk}
+use Rattle.std.specs.List.{AllByRecursion}
+use Rattle.boxes.specs.State.{State as Office}
+use Rattle.sqlite_schema.specs.declared.schema.Schema.{Schema}
+use Rattle.sqltables.specs.Schema.{Version, s0}
+use Rattle.sqltables.specs.Tables.{Tables, TablesMean, tables_of}
+
+-- ---- SQL level: what a transaction sees, which may be no office's tables
+
+-- Every row obeys the schema. It does not unfold, or else the search of a proof goes astray in it.
+unfoldable pub IsWhole : Database → Type 0
+IsWhole db = IsDatabase db
+
+pub record Holds (v : Version) (db : Database) (tables : Tables) : Type 0 where
+  pub schema : db.schema ≡ v.schema
+  pub sound : IsWhole db
+  pub means : TablesMean v.number db.trees tables
+
+-- what a transaction sees means these tables, if the database is open
+abbrev pub Pends : Version → State → Tables → Type 0
+Pends v s tables = HasCleanDisk s → IsTrue s.in_transaction → IsTrue s.is_open → Holds v s.now tables
+
+-- no table of the schema has a row
+pub record HoldsNothing (schema : Schema) (db : Database) : Type 0 where
+  pub schema_is : db.schema ≡ schema
+  pub empty : AllByRecursion (λ t. db.trees t.tree ≡ []) schema.tables
+
+-- what a transaction sees is this schema without a row, if the database is open
+abbrev pub SeesNothing : Schema → State → Type 0
+SeesNothing schema s = HasCleanDisk s → IsTrue s.in_transaction → IsTrue s.is_open → HoldsNothing schema s.now
+
+abbrev pub IsRunning : State → Type 0
+IsRunning s = IsTrue s.in_transaction × IsTrue s.is_open
+
+-- ---- office level
+
+-- a database by its rows, as a crash leaves it
+abbrev pub OfficeMeans : Version → Trees → Office → Type 0
+OfficeMeans v trees office = Holds v (record { schema = v.schema; trees = trees }) (tables_of office)
+
+pub record IsOffice (v : Version) (s : State) (office : Office) : Type 0 where
+  pub holds : Holds v s.now (tables_of office)
+  pub settled : s.now ≡ s.committed
+
+-- While the disk has returned what was written no transaction is pending, and while the database is open its tables mean the office.
+pub record IsKept (v : Version) (s : State) (office : Office) : Type 0 where
+  pub autocommit : s.in_transaction ≡ false
+  pub tables : IsTrue s.is_open → IsOffice v s office
+
+abbrev pub Means : Version → State → Office → Type 0
+Means v s office = HasCleanDisk s → IsKept v s office
+
+-- each database that a crash now may leave means this office
+abbrev pub LeavesOnly : Version → State → Office → Type 0
+LeavesOnly v s office = HasCleanDisk s → (trees : Trees) → s.may_leave trees → OfficeMeans v trees office
+
+-- a crash leaves what it could leave before, or tables that mean this office
+abbrev pub AddsOnly : Version → State → State → Office → Type 0
+AddsOnly v old new office = HasCleanDisk new → (trees : Trees) → new.may_leave trees → old.may_leave trees ⊎ OfficeMeans v trees office
+
+-- a crash leaves what it could leave before
+abbrev pub AddsNothing : State → State → Type 0
+AddsNothing old new = HasCleanDisk new → (trees : Trees) → new.may_leave trees → old.may_leave trees
+
+-- a crash now may leave what was committed last
+abbrev pub LeavesLast : State → Type 0
+LeavesLast s = s.may_leave s.committed.trees
+
+-- no table is there, and no transaction is pending
+pub record IsBareNow (s : State) : Type 0 where
+  pub schema : s.now.schema ≡ s0
+  pub settled : s.now ≡ s.committed
+
+pub record IsBareKept (s : State) : Type 0 where
+  pub autocommit : s.in_transaction ≡ false
+  pub bare : IsTrue s.is_open → IsBareNow s
+
+-- while the disk has returned what was written, the database is empty
+abbrev pub IsBare : State → Type 0
+IsBare s = HasCleanDisk s → IsBareKept s

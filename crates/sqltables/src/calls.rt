@@ -1,0 +1,46 @@
+//! What a transaction is asked to run.
+
+ghost use Rattle.std.specs.Prelude.{IfOk, IsTrue, Ok};
+ghost use Rattle.sqlite.specs.State.{HasCleanDisk, ExecutesInside, Shown};
+ghost use Rattle.sqlite.specs.Values.{bound};
+ghost use Rattle.sqltables.specs.Inside.{seen, GoesOn, GoesOnBegun};
+
+use sqlite::types::ValueRef;
+use sqlite::{Alter, Error, Row, Transaction};
+
+/// Runs a statement that writes, inside a transaction, and tells how many rows it wrote.
+///
+/// # Errors
+///
+/// Those of the database; where the transaction is over, that of its state.
+pub fn execute<S: Alter>(
+    tx: &mut Transaction<'_, S>,
+    sql: &str,
+    params: &[ValueRef<'_>],
+) -> Result<usize, Error>
+    ensures ran { HasCleanDisk (seen S.Store tx.new)
+        → IfOk result (λ count. IsTrue (seen S.Store tx.old).in_transaction
+        × ExecutesInside 0 sql.now (bound params.now) (seen S.Store tx.old) (seen S.Store tx.new)
+        (Ok count)) }
+    ensures rest { GoesOn S.Store tx.old tx.new result }
+{
+    tx.execute(sql, params)
+}
+
+/// The rows that a query shows, inside a transaction.
+///
+/// # Errors
+///
+/// Those of the database.
+pub fn query<S: Alter>(
+    tx: &mut Transaction<'_, S>,
+    sql: &str,
+    params: &[ValueRef<'_>],
+) -> Result<Vec<Row>, Error>
+    ensures ok { HasCleanDisk (seen S.Store tx.new)
+        → IfOk result (λ rows. Shown sql.now (bound params.now) (seen S.Store tx.old)
+        (seen S.Store tx.new) rows.items) }
+    ensures rest { GoesOnBegun S.Store tx.old tx.new result }
+{
+    tx.query_all(sql, params)
+}

@@ -1,0 +1,77 @@
+//! The bytes of a file, read piece by piece inside a transaction. The database may mean no office.
+
+ghost use Rattle.std.specs.Prelude.{◌≡◌, ◌⊎◌, IsTrue, OnOk, IfOk};
+ghost use Rattle.sqlite.specs.State.{HasCleanDisk};
+ghost use Rattle.sqltables.specs.Inside.{seen, GoesOnWhere, GoesOnBegun, SameOffice, OfWholeOffice};
+ghost use Rattle.sqltables.specs.Means.{IsRunning};
+ghost use Rattle.sqltables.specs.Pieces.{IsPieceAt, AreFound};
+
+use crate::PIECE;
+use crate::calls::query;
+use sqlite::{Alter, Error, ErrorCode, Transaction, params};
+use std::alloc::Global;
+
+/// One piece of a file, if it is there.
+fn read_piece<S: Alter>(
+    tx: &mut Transaction<'_, S>,
+    in_box: &str,
+    name: &str,
+    part: u32,
+) -> Result<Option<Vec<u8>>, Error>
+    ensures read { OfWholeOffice S.Store tx.old tx.new
+        (IfOk result (IsPieceAt ((seen S.Store tx.old).now.trees 9)
+        (record { box = in_box.now; name = name.now }) part)) }
+    ensures same { SameOffice S.Store tx.old tx.new result }
+    ensures mode { HasCleanDisk (seen S.Store tx.new)
+        → OnOk result ((seen S.Store tx.new).in_transaction ≡ (seen S.Store tx.old).in_transaction) }
+    ensures rest { GoesOnBegun S.Store tx.old tx.new result }
+{
+    let rows = query(
+        tx,
+        "SELECT bytes FROM pieces WHERE box = ?1 AND name = ?2 AND part = ?3",
+        params![in_box, name, part],
+    )?;
+    let Some(row) = rows.first() else {
+        return Ok(None);
+    };
+    let piece: Vec<u8> = row.get(0)?;
+    Ok(Some(piece))
+}
+
+/// The bytes of a file of this size, if each of its pieces is there. A piece of another length is `DatabaseCorrupt`.
+pub fn read_file<S: Alter>(
+    tx: &mut Transaction<'_, S>,
+    alloc: Global,
+    in_box: &str,
+    name: &str,
+    size: u64,
+) -> Result<Option<Vec<u8>>, Error>
+    ensures read { OfWholeOffice S.Store tx.old tx.new
+        (IfOk result (AreFound ((seen S.Store tx.old).now.trees 9)
+        (record { box = in_box.now; name = name.now }) size)) }
+    ensures same { SameOffice S.Store tx.old tx.new result }
+    ensures opened { HasCleanDisk (seen S.Store tx.new) → IsTrue (seen S.Store tx.old).in_transaction
+        → OnOk result ((size ≡ 0) ⊎ IsTrue (seen S.Store tx.old).is_open) }
+    ensures mode { HasCleanDisk (seen S.Store tx.new)
+        → OnOk result ((seen S.Store tx.new).in_transaction ≡ (seen S.Store tx.old).in_transaction) }
+    ensures rest { GoesOnWhere (IsRunning (seen S.Store tx.old))
+        (IsTrue (seen S.Store tx.old).in_transaction) S.Store tx.old tx.new result }
+{
+    let mut bytes = Vec::new(alloc);
+    let mut part: u32 = 0;
+    while (bytes.len() as u64) < size {
+        let Some(piece) = read_piece(tx, in_box, name, part)? else {
+            return Ok(None);
+        };
+        let rest = size - bytes.len() as u64;
+        if piece.len() as u64 != rest.min(PIECE as u64) {
+            return Err(Error::SqliteFailure(ErrorCode::DatabaseCorrupt));
+        }
+        bytes.extend_from_slice(&piece)?;
+        match part.checked_add(1) {
+            Some(next) => part = next,
+            None => return Err(Error::SqliteFailure(ErrorCode::TooBig)),
+        }
+    }
+    Ok(Some(bytes))
+}

@@ -1,0 +1,192 @@
+//! Rows that questions show, as what they mean.
+
+ghost use Rattle.std.specs.Prelude.{◌≡◌, ◌==◌, List, Bool, map, pos, IfOk};
+ghost use Rattle.std.specs.List.{slice_split};
+ghost use Rattle.sqlite_value.specs.declared.value.Value.TheVariants.{Int, Text, Blob};
+ghost use Rattle.sqlite_value.specs.Order.{column};
+ghost use Rattle.boxes.specs.State.{Key, Receipt, NameRule as Rule};
+ghost use Rattle.boxes.specs.Rows.{key_of, name_rule_of, settings_of, receipt_in};
+ghost use Rattle.boxes.specs.Sound.{AreSettings, IsNameRule};
+ghost use Rattle.sqltables.specs.Tables.{Box, role_number, mode_number, rule_number, rule_text, days_text, flag};
+ghost use Rattle.sqltables.specs.Questions.{shown_key, shown_box, shown_receipt};
+
+use boxes::{BoxRow, KeyRow, Mode, NameRule, ReceiptRow, Role};
+use sqlite::{Error, Row};
+use std::alloc::{AllocError, Global};
+
+/// A role by its number: 0 is a link's, 1 a clerk's. Another number is an error.
+fn read_role(row: &Row, at: usize) -> Result<Role, Error>
+    ensures { IfOk result (λ role. column row.now at ≡ Int (role_number role)) }
+{
+    match row.get::<i64>(at)? {
+        0 => Ok(Role::Link),
+        1 => Ok(Role::Clerk),
+        _ => Err(Error::IntegralValueOutOfRange(at)),
+    }
+}
+
+/// A flag by its number, 0 or 1. Another number is an error.
+fn read_flag(row: &Row, at: usize) -> Result<bool, Error>
+    ensures { IfOk result (λ is. column row.now at ≡ Int (flag is)) }
+{
+    match row.get::<i64>(at)? {
+        0 => Ok(false),
+        1 => Ok(true),
+        _ => Err(Error::IntegralValueOutOfRange(at)),
+    }
+}
+
+/// A mode by its number: 0 keeps, 1 replaces. Another number is an error.
+fn read_mode(row: &Row, at: usize) -> Result<Mode, Error>
+    ensures { IfOk result (λ mode. column row.now at ≡ Int (mode_number mode)) }
+{
+    match row.get::<i64>(at)? {
+        0 => Ok(Mode::Keep),
+        1 => Ok(Mode::Replace),
+        _ => Err(Error::IntegralValueOutOfRange(at)),
+    }
+}
+
+/// A text's bytes.
+pub fn read_text(row: &Row, at: usize) -> Result<Vec<u8>, Error>
+    ensures { IfOk result (λ text. column row.now at ≡ Text text.items) }
+{
+    Ok(row.get::<String>(at)?.into_bytes())
+}
+
+/// A minute of the day. A number over 65535 is an error.
+fn read_minute(row: &Row, at: usize) -> Result<u16, Error>
+    ensures { IfOk result (λ minute. column row.now at ≡ Int (pos minute)) }
+{
+    let minute: u64 = row.get(at)?;
+    match u16::try_from(minute) {
+        Ok(minute) => Ok(minute),
+        Err(_) => Err(Error::IntegralValueOutOfRange(at)),
+    }
+}
+
+/// A digest. Bytes that are not 32 are an error.
+fn read_digest(row: &Row, at: usize) -> Result<[u8; 32], Error>
+    ensures { IfOk result (λ digest. column row.now at ≡ Blob digest) }
+{
+    let bytes: Vec<u8> = row.get(at)?;
+    match <[u8; 32]>::try_from(bytes.as_slice()) {
+        Ok(digest) => Ok(digest),
+        Err(_) => Err(Error::IntegralValueOutOfRange(at)),
+    }
+}
+
+/// The days that seven marks tell: `1` for a day on which a box is open.
+pub fn days_told(marks: &[u8; 7]) -> [bool; 7]
+    ensures { (days : List Bool) → marks.now ≡ days_text days → result ≡ days }
+{
+    let [
+        monday,
+        tuesday,
+        wednesday,
+        thursday,
+        friday,
+        saturday,
+        sunday,
+    ] = *marks;
+    [
+        monday == b'1',
+        tuesday == b'1',
+        wednesday == b'1',
+        thursday == b'1',
+        friday == b'1',
+        saturday == b'1',
+        sunday == b'1',
+    ]
+}
+
+/// The days of a box. A text that has not seven bytes is an error.
+fn read_days(row: &Row, at: usize) -> Result<[bool; 7], Error>
+    ensures { (days : List Bool) → column row.now at ≡ Text (days_text days)
+        → IfOk result (λ found. found ≡ days) }
+{
+    let text = read_text(row, at)?;
+    match <&[u8; 7]>::try_from(text.as_slice()) {
+        Ok(marks) => Ok(days_told(marks)),
+        Err(_) => Err(Error::IntegralValueOutOfRange(at)),
+    }
+}
+
+/// The texts between a text's commas.
+pub fn cut_texts(alloc: Global, text: &[u8]) -> Result<Vec<Vec<u8>>, AllocError>
+    ensures { IfOk result (λ texts. map (λ t. t.items) texts.items
+        ≡ slice_split (λ b. b == 44) text.now) }
+{
+    let mut texts = Vec::new(alloc);
+    for piece in text.split(|byte| *byte == b',') {
+        texts.push(Vec::from_slice(alloc, piece)?)?;
+    }
+    Ok(texts)
+}
+
+/// A name rule, of its number and its text: 0 takes all, 1 the texts' ends, 2 the text's beginning.
+fn read_rule(row: &Row) -> Result<NameRule, Error>
+    ensures { (rule : Rule) → IsNameRule rule → column row.now 8 ≡ Int (rule_number rule)
+        → column row.now 9 ≡ Text (rule_text rule)
+        → IfOk result (λ found. name_rule_of found ≡ rule) }
+{
+    let text = read_text(row, 9)?;
+    match row.get::<i64>(8)? {
+        0 => Ok(NameRule::Any),
+        1 => Ok(NameRule::Ends(cut_texts(*text.allocator(), &text)?)),
+        2 => Ok(NameRule::Begins(text)),
+        _ => Err(Error::IntegralValueOutOfRange(8)),
+    }
+}
+
+/// A key, of its role, secret and whether it is revoked.
+pub fn read_key(row: &Row) -> Result<KeyRow, Error>
+    ensures { (k : Key) → row.now ≡ shown_key k → IfOk result (λ key. key_of key ≡ k) }
+{
+    Ok(KeyRow {
+        role: read_role(row, 0)?,
+        secret: row.get(1)?,
+        revoked: read_flag(row, 2)?,
+    })
+}
+
+/// A box, of all that its row has beside its name.
+pub fn read_box(row: &Row) -> Result<BoxRow, Error>
+    ensures { (b : Box) → row.now ≡ shown_box b → AreSettings b.settings
+        → IfOk result (λ found. settings_of found ≡ b.settings) }
+{
+    Ok(BoxRow {
+        opens: row.get(0)?,
+        closes: row.get(1)?,
+        days: read_days(row, 2)?,
+        from_minute: read_minute(row, 3)?,
+        to_minute: read_minute(row, 4)?,
+        quota: row.get(5)?,
+        max_files: row.get(6)?,
+        mode: read_mode(row, 7)?,
+        rule: read_rule(row)?,
+    })
+}
+
+/// A receipt, of its number and all that its row has beside it.
+pub fn read_receipt(row: &Row, number: u64) -> Result<ReceiptRow, Error>
+    ensures { (r : Receipt) → row.now ≡ shown_receipt r
+        → IfOk result (λ found. (receipt_in found ≡ r) × (found.number ≡ number)) }
+{
+    Ok(ReceiptRow {
+        number,
+        in_box: read_text(row, 0)?,
+        name: read_text(row, 1)?,
+        size: row.get(2)?,
+        digest: read_digest(row, 3)?,
+        moment: row.get(4)?,
+        key: read_text(row, 5)?,
+    })
+}
+
+/// The days, Monday first: '1' for each on which the box is open, else '0'.
+pub fn digits_of_days(days: [bool; 7]) -> [u8; 7]
+    ensures value { result ≡ days_text days }
+{
+    days.map(|is_open| if is_open { b'1' } else { b'0' })
+}
