@@ -4,11 +4,13 @@ use Rattle.std.specs.List.{count_by}
 use Rattle.std.proofs.lemmas.List.{length-append}
 use Rattle.std.proofs.lemmas.List.Sums.{sum_by-append}
 use Rattle.boxes.specs.State.{State}
+use Rattle.keeper.specs.declared.keep.Keeper.{Ghosts}
 use Rattle.wire.specs.declared.counted.Counted.{Counted}
-use Rattle.office.specs.Connections.{AreServed, Runs, is_fault}
-use Rattle.office.specs.Serving.{Accepts}
+use Rattle.office.specs.Connections.{AreServed, NoneGaveUp, Runs, is_fault}
+use Rattle.office.specs.Premise.{IsLeft}
+use Rattle.office.specs.Serving.{AcceptsConnections}
 use Rattle.office.specs.Sessions.{Connection, Run}
-use Rattle.office.proofs.RunSoFar.{told_more}
+use Rattle.office.proofs.RunSoFar.{MeansOne, none_opened, told_more}
 
 -- how many of these ended by a fault
 faulty_in : List Connection → ℕ
@@ -24,21 +26,28 @@ faulty_joined : (cs ds : List Connection) → faulty_in (cs ++ ds) ≡ faulty_in
 unfolding faulty_in
 faulty_joined cs ds = sum_by-append (λ c. cond (is_fault c.end) 1 0) cs ds
 
+none_joined : (cs ds : List Connection) → NoneGaveUp (cs ++ ds) → NoneGaveUp cs × NoneGaveUp ds
+none_joined [] ds none = (tt, none)
+none_joined (c ∷ cs) ds none = let more = none_joined cs ds none.1 in ((none.0, more.0), more.1)
+
 -- ---- turns
 
 -- none yet
-pub no_turn : {C : Type 0} (gives : C → ℕ → C → Type 0) (clock : C) (s : State) → Accepts gives clock clock 0 s s 0
-no_turn gives clock s = record { connections = []; moments = []; told = refl; run = (refl, refl); within = omega arith; all = refl }
+pub no_turn : {C K : Type 0} (gives : C → ℕ → C → Type 0) (clock : C) (k : Ghosts K) (keeper : K) (s : State) → MeansOne k keeper → IsLeft (k.means keeper) s
+    → AcceptsConnections gives clock clock k keeper keeper 0 s s 0
+no_turn gives clock k keeper s one left = record { connections = []; moments = []; told = refl; run = (refl, refl); opened = none_opened k keeper s one left; within = omega arith; all = refl }
 
 -- one in which no connection came
-pub none_came : {C : Type 0} (gives : C → ℕ → C → Type 0) (clock : C) (s : State) → Accepts gives clock clock 1 s s 1
-none_came gives clock s = record { connections = []; moments = []; told = refl; run = (refl, refl); within = omega arith; all = refl }
+pub none_came : {C K : Type 0} (gives : C → ℕ → C → Type 0) (clock : C) (k : Ghosts K) (keeper : K) (s : State) → MeansOne k keeper → IsLeft (k.means keeper) s
+    → AcceptsConnections gives clock clock k keeper keeper 1 s s 1
+none_came gives clock k keeper s one left = record { connections = []; moments = []; told = refl; run = (refl, refl); opened = none_opened k keeper s one left; within = omega arith; all = refl }
 
 -- turns, and more turns
-pub turns_joined : {C : Type 0} (gives : C → ℕ → C → Type 0) (first clock clock' : C) (turns more : ℕ) (s mid after : State) (failed failed' : ℕ)
-    → Accepts gives first clock turns s mid failed → Accepts gives clock clock' more mid after failed' → Accepts gives first clock' (turns + more) s after (failed + failed')
+pub turns_joined : {C K : Type 0} (gives : C → ℕ → C → Type 0) (first clock clock' : C) (k : Ghosts K) (keeper keeper' keeper'' : K) (turns more : ℕ) (s mid after : State) (failed failed' : ℕ)
+    → AcceptsConnections gives first clock k keeper keeper' turns s mid failed → AcceptsConnections gives clock clock' k keeper' keeper'' more mid after failed'
+    → AcceptsConnections gives first clock' k keeper keeper'' (turns + more) s after (failed + failed')
 unfolding faulty_in
-turns_joined gives first clock clock' turns more s mid after failed failed' a b =
+turns_joined gives first clock clock' k keeper keeper' keeper'' turns more s mid after failed failed' a b =
     let many : length (a.connections ++ b.connections) ≡ length a.connections + length b.connections = length-append a.connections b.connections in
     let faulty = faulty_joined a.connections b.connections in
     let all_a = a.all in
@@ -50,6 +59,7 @@ turns_joined gives first clock clock' turns more s mid after failed failed' a b 
       moments = a.moments ++ b.moments;
       told = told_more gives first clock clock' a.moments b.moments a.told b.told;
       run = run_joined s mid after a.connections b.connections a.moments b.moments a.run b.run;
+      opened = λ none was. let both = none_joined a.connections b.connections none in b.opened both.1 (a.opened both.0 was).0;
       within = omega (arith, many, within_a, within_b);
       all = omega (arith, many, faulty, all_a, all_b);
     }
@@ -77,17 +87,18 @@ one_faulty (c ∷ []) one = go (is_fault c.end)
 one_faulty (c ∷ d ∷ cs) one = omega (arith, one)
 
 -- what a list of one connection says of a turn: so many failed in it
-pub one_more : {C R W : Type 0} (gives : C → ℕ → C → Type 0) (remaining : R → Option (List ℕ)) (contents : W → Option (List ℕ)) (clock clock' : C) (old : Counted R × Counted W) (news : List (Counted R × Counted W))
-    (count count' : ℕ) (s after : State) (faults failed : ℕ) → (faults ≡ 0 → failed ≡ 0) → (1 ≤ faults → failed ≡ 1)
-    → Runs gives remaining contents clock clock' (old ∷ []) news count count' s after faults → Accepts gives clock clock' 1 s after failed
+pub one_more : {C R W K : Type 0} (gives : C → ℕ → C → Type 0) (remaining : R → Option (List ℕ)) (contents : W → Option (List ℕ)) (clock clock' : C) (old : Counted R × Counted W) (news : List (Counted R × Counted W))
+    (k : Ghosts K) (keeper keeper' : K) (s after : State) (faults failed : ℕ) → (faults ≡ 0 → failed ≡ 0) → (1 ≤ faults → failed ≡ 1)
+    → Runs gives remaining contents clock clock' (old ∷ []) news k keeper keeper' s after faults → AcceptsConnections gives clock clock' k keeper keeper' 1 s after failed
 unfolding faulty_in
-one_more gives remaining contents clock clock' old news count count' s after faults failed none some r =
+one_more gives remaining contents clock clock' old news k keeper keeper' s after faults failed none some r =
     let one = one_served remaining contents old news r.connections r.served in
     record {
       connections = r.connections;
       moments = r.moments;
       told = r.told;
       run = r.run;
+      opened = r.opened;
       within = omega (arith, one);
       all = go (faulty_in r.connections) (one_faulty r.connections one) r.faulty one;
     }

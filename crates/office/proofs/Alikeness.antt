@@ -1,6 +1,6 @@
 -- Requests that are alike hold the same rules, and are answered alike.
-use Rattle.std.proofs.Common.{◌≡◌, ℕ, ◌<◌, ◌≤◌, Bool, true, false, cond, List, [], ◌∷◌, Option, Some, None, refl, sym, ap, subst, ◌∙◌, inl, inr, ⊎_elim, arith}
-use Rattle.std.specs.Prelude.{◌≢◌, IsFalse, IsTrue, IsSome, IfSome, filter, not, codes}
+use Rattle.std.proofs.Common.{◌≡◌, ℕ, ◌≤◌, Bool, true, List, [], ◌∷◌, Option, Some, None, refl, sym, ap, subst, ◌∙◌, inl, inr, ⊎_elim, arith}
+use Rattle.std.specs.Prelude.{IsFalse, IsTrue, IsSome, IfSome, filter, not, codes}
 use Rattle.std.proofs.lemmas.Bool.{cases_lt, cases_Bool, cond-true, cond-false}
 use Rattle.std.proofs.lemmas.List.Sorted.{IsPermutation-sym}
 use Rattle.std.proofs.lemmas.Slice.Eq.{bytes_eq-Decides}
@@ -12,7 +12,6 @@ use Rattle.sigtext.specs.Bytes.{same_bytes}
 use Rattle.sigtext.specs.Target.{Param}
 use Rattle.sigtext.specs.Params.{params_named}
 use Rattle.sigtext.specs.CanonicalQuery.{signed_params}
-use Rattle.sigtext.specs.CanonicalRequest.{IsCanonicalRequest}
 use Rattle.sigtext.specs.Request.{Request}
 use Rattle.sigtext.specs.Rules.{HoldBefore, AllHold, IsFirstToFail}
 use Rattle.sigtext.proofs.Filters.{moved_one}
@@ -35,9 +34,9 @@ use Rattle.boxes.specs.Steps as step
 use Rattle.wire.specs.Answers.{Said, answer_text}
 use Rattle.wire.specs.declared.answer.Answer.{Answer}
 use Rattle.office.specs.Alike.{AreAlike}
-use Rattle.office.specs.Answering.{Accepts, Replies, Answers, is_head, put, fetch, post, refuses, accepts}
+use Rattle.office.specs.Answering.{AcceptsRequest, Replies, AnswersRequest, is_head, put, fetch, post, refuses, accepts}
 use Rattle.office.specs.Offices.{IsAnswered, IsTheAnswer}
-use Rattle.office.specs.Rules.{IsPut, IsPost, IsFetch, known, place_of, upload_of, FormRule, DeskRule, Asks, Rule}
+use Rattle.office.specs.Rules.{IsPut, IsFetch, known, place_of, upload_of, FormRule, DeskRule, Asks, Rule}
 
 -- ---- the parameters beside the signature
 
@@ -208,7 +207,7 @@ module _ (st : State) (r s : Request) (now : ℕ) (p q : LinkValues) (formed : I
       (λ least. late x least f)
       (cases_lt (number_of x) 19)
 
-  accepted_too : (reply : step.StepReply) (after : State) → Accepts st r now reply after → Accepts st s now reply after
+  accepted_too : (reply : step.StepReply) (after : State) → AcceptsRequest st r now reply after → AcceptsRequest st s now reply after
   accepted_too _ _ (put other reply after all is_put does) =
       let (is, hold) = all_too other all in
       put q reply after hold (sym h.says.method ∙ is_put)
@@ -226,14 +225,14 @@ module _ (st : State) (r s : Request) (now : ℕ) (p q : LinkValues) (formed : I
   replied_too _ _ (refuses x fails) = refuses x (refused_too x fails)
   replied_too _ _ (accepts reply after does) = accepts reply after (accepted_too reply after does)
 
-  answered_too : (text : List ℕ) (after : State) → Answers st r now text after → Answers st s now text after
+  answered_too : (text : List ℕ) (after : State) → AnswersRequest st r now text after → AnswersRequest st s now text after
   answered_too text after a = record {
     reply = a.reply;
     replies = replied_too a.reply after a.replies;
     is = a.is ∙ ap (λ (method : List ℕ). answer_text (same_bytes method (codes "HEAD")) a.reply) h.says.method;
   }
 
-answers_once : (st : State) (r : Request) (now : ℕ) (text other : List ℕ) (x y : State) → Answers st r now text x → Answers st r now other y → (other ≡ text) × (y ≡ x)
+answers_once : (st : State) (r : Request) (now : ℕ) (text other : List ℕ) (x y : State) → AnswersRequest st r now text x → AnswersRequest st r now other y → (other ≡ text) × (y ≡ x)
 answers_once st r now text other x y a b =
     let same = replies_once st r now a.reply b.reply x y a.replies b.replies in
     (b.is ∙ ap (answer_text (is_head r)) same.0 ∙ sym a.is, same.1)

@@ -12,13 +12,13 @@ use Rattle.wire.specs.declared.answer.Reply.TheVariants as reply
 use Rattle.wire.specs.Shown.{whole_text}
 use Rattle.wire.specs.Answers.{answer_text}
 use Rattle.wire.specs.Answers as said
-use Rattle.office.specs.Asked.{IsReadable}
-use Rattle.office.specs.Answering.{Answers, is_head, refuses}
+use Rattle.office.specs.Answering.{AnswersRequest, is_head, refuses}
 use Rattle.office.specs.Offices.{IsTryAgain}
+use Rattle.office.specs.Readable.{IsReadable}
 use Rattle.office.specs.Rules.{Rule}
 
 -- the answer of a refusal, which is not a HEAD's where the connection closes
-pub refused_text : (s : State) (r : Request) (now : ℕ) (a : Answer) (q : Refusal) → whole_text a ≡ answer_text (is_head r) (said.Refused q) → IsFirstToFail (Rule s r now) q → Answers s r now (whole_text a) s
+pub refused_text : (s : State) (r : Request) (now : ℕ) (a : Answer) (q : Refusal) → whole_text a ≡ answer_text (is_head r) (said.Refused q) → IsFirstToFail (Rule s r now) q → AnswersRequest s r now (whole_text a) s
 refused_text s r now a q is fails = record { reply = said.Refused q; replies = refuses q fails; is = is }
 
 refused_is : (p q : Refusal) → reply.Refused p ≡ reply.Refused q → p ≡ q

@@ -19,8 +19,8 @@ use Rattle.boxes.specs.Deciding.{IsLeastToFail}
 use Rattle.boxes.specs.Rules.{UploadRule, Upload, FetchRule}
 use Rattle.boxes.specs.State.{Place}
 use Rattle.boxes.specs.Steps.{Command, IsPossible}
-use Rattle.office.specs.Rules.{IsPut, IsPost, IsFetch, known, place_of, upload_of, FormRule, DeskRule, Asks, Rule}
 use Rattle.office.specs.Admitted.{IsAdmitted, ReachesBoxes}
+use Rattle.office.specs.Rules.{IsPut, IsPost, IsFetch, known, place_of, upload_of, FormRule, DeskRule, Asks, Rule}
 use Rattle.links.proofs.Texts.{clash}
 
 -- ---- methods

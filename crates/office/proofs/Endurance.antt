@@ -7,10 +7,13 @@ use Rattle.sigtext.specs.Request.{Request}
 use Rattle.boxes.specs.State.{State}
 use Rattle.wire.specs.declared.answer.Answer.{Answer}
 use Rattle.wire.specs.declared.answer.Reply.{Reply}
+use Rattle.keeper.specs.Bound.{StaysBy}
 use Rattle.keeper.specs.Keeping.{LeavesEither}
-use Rattle.office.specs.declared.commanding.DeskFault.{DeskFault}
-use Rattle.office.specs.declared.commanding.DeskFault.TheVariants as fault
-use Rattle.office.specs.Enduring.{AddsStanding, AddsAsked, Lasts, changed, unchanged, Endures, IsAsked, RefusedLasts, UndoneLasts}
+use Rattle.keeper.specs.declared.keep.KeepFault.{KeepFault}
+use Rattle.keeper.specs.declared.keep.Keeper.{Ghosts}
+use Rattle.office.specs.declared.requests.commanding.DeskFault.{DeskFault}
+use Rattle.office.specs.declared.requests.commanding.DeskFault.TheVariants as fault
+use Rattle.office.specs.Crashes.{AddsStanding, AddsAsked, Lasts, changed, unchanged, Endures, IsAsked, RefusedLasts, UndoneLasts}
 use Rattle.office.specs.Offices.{IsAnswered}
 use Rattle.office.specs.Replying.{IsReplied}
 
@@ -32,72 +35,76 @@ asked_for f (inl a) = inl a
 asked_for f (inr (inl s)) = inr (inl s)
 asked_for f (inr (inr c)) = inr (inr (f c))
 
-module _ {K : Type 0} {leaves : K → State → Type 0} {leaves_whole : K → Type 0} where
+module _ {K : Type 0} {k : Ghosts K} where
+  -- a question was asked
+  pub asked_standing : {T : Type 0} {a b : K} {s : State} {result : Result T KeepFault} → StaysBy k a b result → k.means a s → k.is_honest b → AddsStanding k a b s
+  asked_standing {s = s} rest means honest = record { adds = λ t at. rest.crash s t means honest at; whole = rest.whole s means honest }
+
   -- nothing was called
-  pub still : {k : K} {s : State} → AddsStanding leaves leaves_whole k k s
+  pub still : {a : K} {s : State} → AddsStanding k a a s
   still = record { adds = λ t at. inl at; whole = λ w. w }
 
-  pub then_adds : {a b c : K} {s : State} → AddsStanding leaves leaves_whole a b s → AddsStanding leaves leaves_whole b c s → AddsStanding leaves leaves_whole a c s
+  pub then_adds : {a b c : K} {s : State} → AddsStanding k a b s → AddsStanding k b c s → AddsStanding k a c s
   then_adds x y = record { adds = λ t at. joined (x.adds t) (y.adds t at); whole = λ w. y.whole (x.whole w) }
 
   -- nothing new is less than what was asked for
-  pub adds_less : {a b : K} {s : State} {D : State → Type 0} → AddsStanding leaves leaves_whole a b s → AddsAsked leaves leaves_whole a b s D
+  pub adds_less : {a b : K} {s : State} {D : State → Type 0} → AddsStanding k a b s → AddsAsked k a b s D
   adds_less x = record { adds = λ t at. widened (x.adds t at); whole = x.whole }
 
-  pub then_asked : {a b c : K} {s : State} {D : State → Type 0} → AddsStanding leaves leaves_whole a b s → AddsAsked leaves leaves_whole b c s D → AddsAsked leaves leaves_whole a c s D
+  pub then_asked : {a b c : K} {s : State} {D : State → Type 0} → AddsStanding k a b s → AddsAsked k b c s D → AddsAsked k a c s D
   then_asked x y = record { adds = λ t at. earlier (x.adds t) (y.adds t at); whole = λ w. y.whole (x.whole w) }
 
-  pub of_either : {a b : K} {s after : State} {D : State → Type 0} → D after → LeavesEither leaves leaves_whole a b s after → AddsAsked leaves leaves_whole a b s D
+  pub of_either : {a b : K} {s after : State} {D : State → Type 0} → D after → LeavesEither k.leaves k.leaves_whole a b s after → AddsAsked k a b s D
   of_either {D = D} done x = record { adds = λ t at. asked_for (λ e. subst D (sym e) done) (x.either t at); whole = x.whole }
 
-  pub more_asked : {a b : K} {s : State} {C D : State → Type 0} → ((t : State) → C t → D t) → AddsAsked leaves leaves_whole a b s C → AddsAsked leaves leaves_whole a b s D
+  pub more_asked : {a b : K} {s : State} {C D : State → Type 0} → ((t : State) → C t → D t) → AddsAsked k a b s C → AddsAsked k a b s D
   more_asked f x = record { adds = λ t at. asked_for (f t) (x.adds t at); whole = x.whole }
 
-  then_lasts : {a b c : K} {s after : State} → AddsStanding leaves leaves_whole a b s → Lasts leaves leaves_whole b c s after → Lasts leaves leaves_whole a c s after
+  then_lasts : {a b c : K} {s after : State} → AddsStanding k a b s → Lasts k b c s after → Lasts k a c s after
   then_lasts x (changed alone) = changed alone
   then_lasts x (unchanged same y) = unchanged same (then_adds x y)
 
   -- a question came before the reply
-  pub then_replied : (means : K → State → Type 0) {a b : K} (c : K) (s : State) (r : Request) (now : ℕ) (result : Result Reply Refusal) → AddsStanding leaves leaves_whole a b s
-      → IsReplied (Endures means leaves leaves_whole b c s) s r now result → IsReplied (Endures means leaves leaves_whole a c s) s r now result
-  then_replied means c s r now (Ok x) adds is =
+  pub then_replied : {a b : K} (c : K) (s : State) (r : Request) (now : ℕ) (result : Result Reply Refusal) → AddsStanding k a b s
+      → IsReplied (Endures k b c s) s r now result → IsReplied (Endures k a c s) s r now result
+  then_replied c s r now (Ok x) adds is =
       let left = is.3 in
       (is.0, is.1, is.2, record { means = record { meant = left.means.meant; lasts = then_lasts adds left.means.lasts }; sound = left.sound }, is.4)
-  then_replied means c s r now (Err q) adds is = is
+  then_replied c s r now (Err q) adds is = is
 
   -- a state that endures is meant
-  pub meant_only : (means : K → State → Type 0) {a b : K} (s : State) (r : Request) (now : ℕ) (answer : Answer) → IsAnswered (Endures means leaves leaves_whole a b s) s r now answer → IsAnswered (means b) s r now answer
-  meant_only means s r now answer is = λ other. let x = is other in (x.0, record { means = x.1.means.meant; sound = x.1.sound }, x.2)
+  pub meant_only : {a b : K} (s : State) (r : Request) (now : ℕ) (answer : Answer) → IsAnswered (Endures k a b s) s r now answer → IsAnswered (k.means b) s r now answer
+  meant_only s r now answer is = λ other. let x = is other in (x.0, record { means = x.1.means.meant; sound = x.1.sound }, x.2)
 
-  pub then_refused : {T : Type 0} {a b : K} (c : K) (s : State) (r : Request) (now : ℕ) (result : Result T Refusal) → AddsStanding leaves leaves_whole a b s
-      → RefusedLasts leaves leaves_whole b c s r now result → RefusedLasts leaves leaves_whole a c s r now result
+  pub then_refused : {T : Type 0} {a b : K} (c : K) (s : State) (r : Request) (now : ℕ) (result : Result T Refusal) → AddsStanding k a b s
+      → RefusedLasts k b c s r now result → RefusedLasts k a c s r now result
   then_refused c s r now (Ok x) adds is = tt
   then_refused c s r now (Err q) adds is = (then_asked adds is.0, λ other. then_adds adds (is.1 other))
 
   -- refused, and nothing was changed
-  pub refused_same : {a b : K} {s : State} {r : Request} {now : ℕ} (q : Refusal) → AddsStanding leaves leaves_whole a b s
-      → AddsAsked leaves leaves_whole a b s (IsAsked s r now) × ((q ≢ rule.TryAgain) → AddsStanding leaves leaves_whole a b s)
+  pub refused_same : {a b : K} {s : State} {r : Request} {now : ℕ} (q : Refusal) → AddsStanding k a b s
+      → AddsAsked k a b s (IsAsked s r now) × ((q ≢ rule.TryAgain) → AddsStanding k a b s)
   refused_same q adds = (adds_less adds, λ other. adds)
 
-  pub refused_adds : {T : Type 0} {a b : K} (s : State) (r : Request) (now : ℕ) (result : Result T Refusal) → AddsStanding leaves leaves_whole a b s
-      → RefusedLasts leaves leaves_whole a b s r now result
+  pub refused_adds : {T : Type 0} {a b : K} (s : State) (r : Request) (now : ℕ) (result : Result T Refusal) → AddsStanding k a b s
+      → RefusedLasts k a b s r now result
   refused_adds s r now (Ok x) adds = tt
   refused_adds s r now (Err q) adds = refused_same q adds
 
   -- memory was refused, or the keeper failed
-  pub refused_asked : {a b : K} {s : State} {r : Request} {now : ℕ} → AddsAsked leaves leaves_whole a b s (IsAsked s r now)
-      → AddsAsked leaves leaves_whole a b s (IsAsked s r now) × ((rule.TryAgain ≢ rule.TryAgain) → AddsStanding leaves leaves_whole a b s)
+  pub refused_asked : {a b : K} {s : State} {r : Request} {now : ℕ} → AddsAsked k a b s (IsAsked s r now)
+      → AddsAsked k a b s (IsAsked s r now) × ((rule.TryAgain ≢ rule.TryAgain) → AddsStanding k a b s)
   refused_asked asked = (asked, λ other. absurd (other refl))
 
   -- a change that was asked for was made, or was not
-  pub unset : {T : Type 0} {a b : K} (c : K) (s after : State) (r : Request) (now : ℕ) (result : Result T Refusal) → AddsStanding leaves leaves_whole a b s
-      → OnErr result (LeavesEither leaves leaves_whole b c s after) → IfErr result (λ q. q ≡ rule.TryAgain) → IsAsked s r now after → RefusedLasts leaves leaves_whole a c s r now result
+  pub unset : {T : Type 0} {a b : K} (c : K) (s after : State) (r : Request) (now : ℕ) (result : Result T Refusal) → AddsStanding k a b s
+      → OnErr result (LeavesEither k.leaves k.leaves_whole b c s after) → IfErr result (λ q. q ≡ rule.TryAgain) → IsAsked s r now after → RefusedLasts k a c s r now result
   unset c s after r now (Ok x) adds either again asked = tt
   unset c s after r now (Err q) adds either again asked = (then_asked adds (of_either asked either), λ other. absurd (other again))
 
-pub undone_more : {T K : Type 0} (leaves : K → State → Type 0) (leaves_whole : K → Type 0) (a b : K) (s : State) (C D : State → Type 0) (result : Result T DeskFault)
-    → ((t : State) → C t → D t) → UndoneLasts leaves leaves_whole a b s C result → UndoneLasts leaves leaves_whole a b s D result
-undone_more leaves leaves_whole a b s C D (Ok x) f is = tt
-undone_more leaves leaves_whole a b s C D (Err fault.Malformed) f is = is
-undone_more leaves leaves_whole a b s C D (Err fault.NotPossible) f is = is
-undone_more leaves leaves_whole a b s C D (Err (fault.Kept g)) f is = more_asked f is
+pub undone_more : {T K : Type 0} (k : Ghosts K) (a b : K) (s : State) (C D : State → Type 0) (result : Result T DeskFault)
+    → ((t : State) → C t → D t) → UndoneLasts k a b s C result → UndoneLasts k a b s D result
+undone_more k a b s C D (Ok x) f is = tt
+undone_more k a b s C D (Err fault.Malformed) f is = is
+undone_more k a b s C D (Err fault.NotPossible) f is = is
+undone_more k a b s C D (Err (fault.Kept g)) f is = more_asked f is

@@ -1,5 +1,5 @@
 -- What became of a message, by what was sent.
-use Rattle.std.proofs.Common.{◌≡◌, ◌≤◌, ℕ, Bool, List, [], Option, refl, ap, subst, ◌∙◌, ⊎_elim}
+use Rattle.std.proofs.Common.{◌≡◌, ℕ, Bool, false, List, [], Option, refl, ap, subst, ◌∙◌, ⊎_elim}
 use Rattle.std.specs.Io.KnownBytes.{Appends}
 use Rattle.sigtext.specs.declared.refusal.Refusal.TheVariants as rule
 use Rattle.httparse.specs.Grammar.{RequestHead}
@@ -8,17 +8,18 @@ use Rattle.sigtext.specs.Request.{Request}
 use Rattle.sigtext.specs.SignedHeaders.{Header}
 use Rattle.wire.specs.Framing.{IsHead, headers_of, request_of}
 use Rattle.boxes.specs.State.{State}
+use Rattle.keeper.specs.declared.keep.Keeper.{Ghosts}
 use Rattle.wire.specs.declared.answer.Answer.{Answer}
 use Rattle.sigtext.specs.Bytes.{IsBeginning}
 use Rattle.wire.specs.Answers.{answer_text}
 use Rattle.wire.specs.Answers as said
 use Rattle.wire.specs.Shown.{said_of, whole_text}
-use Rattle.office.specs.declared.handling.Handled.{Handled}
-use Rattle.office.specs.declared.handling.Handled.TheVariants.{Answered, GaveUp, Broken}
+use Rattle.office.specs.declared.connections.handling.Handled.{Handled}
+use Rattle.office.specs.declared.connections.handling.Handled.TheVariants.{Answered, GaveUp, Broken}
 use Rattle.office.specs.Handling.{Handles, answered, gave_up_at, broke, broke_giving_up_at}
-use Rattle.office.specs.Asked.{IsReadable}
-use Rattle.office.specs.Kept.{IsLeft}
 use Rattle.office.specs.Offices.{IsTryAgain, IsAnswered}
+use Rattle.office.specs.Premise.{HoldsUnless, HoldsUp, IsLeft}
+use Rattle.office.specs.Readable.{IsReadable}
 use Rattle.office.specs.Sent.{IsSent}
 use Rattle.office.specs.Sessions.{closing}
 
@@ -30,29 +31,32 @@ closes_always is_head = refl
 again_written : (a : Answer) → IsTryAgain a → whole_text a ≡ closing rule.TryAgain
 again_written a e = ap (λ r. answer_text a.is_head (said_of r)) e ∙ closes_always a.is_head
 
+held_up : {K : Type 0} {k : Ghosts K} {keeper keeper' : K} {gave_up : Type 0} → HoldsUnless k keeper keeper' gave_up → k.is_honest keeper' → (gave_up → ⊥) → HoldsUp k false keeper keeper'
+held_up rest honest other = (rest.counted other, λ was. rest.opened honest was other)
+
 -- a message whose moment was taken
-pub handled_at : {C : Type 0} (gives : C → ℕ → C → Type 0) (clock clock' : C) (old new : Option (List ℕ)) (count count' : ℕ) (means : State → Type 0) (s : State) (r : Request) (now : ℕ) (a : Answer) (h : Handled)
-    → gives clock now clock' → (IsTryAgain a → IsLeft means s) → ((IsTryAgain a → ⊥) → count' ≡ count) → count ≤ count' → (IsTryAgain a → IsReadable r) → IsAnswered means s r now a → IsSent old new a h
-    → Handles gives clock clock' old new count count' means s r h
-handled_at gives clock clock' old new count count' means s r now a Answered told same still less readable answers sent =
-    let x = answers sent.0 in answered now (whole_text a) x.0 told sent.1 (still sent.0) x.1 x.2
-handled_at gives clock clock' old new count count' means s r now a GaveUp told same still less readable answers sent =
-    gave_up_at now told (subst (Appends old new) (again_written a sent.0) sent.1) less (readable sent.0) (same sent.0)
-handled_at gives clock clock' old new count count' means s r now a Broken told same still less readable answers sent =
+pub handled_at : {C K : Type 0} (gives : C → ℕ → C → Type 0) (clock clock' : C) (old new : Option (List ℕ)) (k : Ghosts K) (keeper keeper' : K) (s : State) (r : Request) (now : ℕ) (a : Answer) (h : Handled)
+    → gives clock now clock' → (IsTryAgain a → IsLeft (k.means keeper') s) → HoldsUnless k keeper keeper' (IsTryAgain a) → k.is_honest keeper' → (IsTryAgain a → IsReadable r) → IsAnswered (k.means keeper') s r now a → IsSent old new a h
+    → Handles gives clock clock' old new k keeper keeper' s r h
+handled_at gives clock clock' old new k keeper keeper' s r now a Answered told same rest honest readable answers sent =
+    let x = answers sent.0 in answered now (whole_text a) x.0 told sent.1 (held_up rest honest sent.0) x.1 x.2
+handled_at gives clock clock' old new k keeper keeper' s r now a GaveUp told same rest honest readable answers sent =
+    gave_up_at now told (subst (Appends old new) (again_written a sent.0) sent.1) rest.never_less (readable sent.0) (same sent.0)
+handled_at gives clock clock' old new k keeper keeper' s r now a Broken told same rest honest readable answers sent =
     ⊎_elim
-    (λ again. broke_giving_up_at now sent.1 told sent.2 (subst (IsBeginning sent.1) (again_written a again) sent.3) less (readable again) (same again))
-    (λ other. let x = answers other in broke now (whole_text a) sent.1 x.0 told sent.2 sent.3 (still other) x.1 x.2)
+    (λ again. broke_giving_up_at now sent.1 told sent.2 (subst (IsBeginning sent.1) (again_written a again) sent.3) rest.never_less (readable again) (same again))
+    (λ other. let x = answers other in broke now (whole_text a) sent.1 x.0 told sent.2 sent.3 (held_up rest honest other) x.1 x.2)
     sent.0
 
 -- the request of the parts that were read of a head is the request of that head
-pub handles_head : {C : Type 0} (gives : C → ℕ → C → Type 0) (clock clock' : C) (old new : Option (List ℕ)) (count count' : ℕ) (means : State → Type 0) (s : State) (h : Handled)
+pub handles_head : {C K : Type 0} (gives : C → ℕ → C → Type 0) (clock clock' : C) (old new : Option (List ℕ)) (k : Ghosts K) (keeper keeper' : K) (s : State) (h : Handled)
     (text : List ℕ) (found head : RequestHead) (method target : List ℕ) (headers : List Header) (has_length : Bool) (body : List ℕ)
     → IsHead text found → IsHead text head → method ≡ found.method → target ≡ found.target → headers ≡ headers_of found
-    → Handles gives clock clock' old new count count' means s (record { method = method; target = target; headers = headers; has_length = has_length; body = body }) h
-    → Handles gives clock clock' old new count count' means s (request_of head has_length body) h
-handles_head gives clock clock' old new count count' means s h text found head method target headers has_length body is_found is_head a b c handles =
+    → Handles gives clock clock' old new k keeper keeper' s (record { method = method; target = target; headers = headers; has_length = has_length; body = body }) h
+    → Handles gives clock clock' old new k keeper keeper' s (request_of head has_length body) h
+handles_head gives clock clock' old new k keeper keeper' s h text found head method target headers has_length body is_found is_head a b c handles =
     let once : found ≡ head = (request_unique text found head [] [] is_found.reads is_head.reads).0 in
-    subst (λ (x : RequestHead). Handles gives clock clock' old new count count' means s (request_of x has_length body) h) once
-    (subst (λ (x : List Header). Handles gives clock clock' old new count count' means s (record { method = found.method; target = found.target; headers = x; has_length = has_length; body = body }) h) c
-    (subst (λ (x : List ℕ). Handles gives clock clock' old new count count' means s (record { method = found.method; target = x; headers = headers; has_length = has_length; body = body }) h) b
-    (subst (λ (x : List ℕ). Handles gives clock clock' old new count count' means s (record { method = x; target = target; headers = headers; has_length = has_length; body = body }) h) a handles)))
+    subst (λ (x : RequestHead). Handles gives clock clock' old new k keeper keeper' s (request_of x has_length body) h) once
+    (subst (λ (x : List Header). Handles gives clock clock' old new k keeper keeper' s (record { method = found.method; target = found.target; headers = x; has_length = has_length; body = body }) h) c
+    (subst (λ (x : List ℕ). Handles gives clock clock' old new k keeper keeper' s (record { method = found.method; target = x; headers = headers; has_length = has_length; body = body }) h) b
+    (subst (λ (x : List ℕ). Handles gives clock clock' old new k keeper keeper' s (record { method = x; target = target; headers = headers; has_length = has_length; body = body }) h) a handles)))

@@ -7,6 +7,7 @@ pub mod Deciding
 pub mod Endurance
 pub mod Forming
 pub mod Handlings
+pub mod Holding
 pub mod Judged
 pub mod Marked
 pub mod ReplayLemmas

@@ -12,9 +12,9 @@ use Rattle.boxes.specs.Steps as step
 use Rattle.wire.specs.declared.answer.Reply.TheVariants as reply
 use Rattle.office.specs.Admitted.{ReachesBoxes}
 use Rattle.office.specs.Answering.{post}
-use Rattle.office.specs.Enduring.{IsAsked, IsToldBy}
-use Rattle.office.specs.Kept.{IsLeft}
-use Rattle.office.specs.Obeying.{Tells, TellsNone, TellsNonePossible}
+use Rattle.office.specs.Crashes.{IsAsked, IsToldBy}
+use Rattle.office.specs.DeskLines.{IsDeskLine, IsNoDeskLine, IsImpossibleLine}
+use Rattle.office.specs.Premise.{IsLeft}
 use Rattle.office.specs.Replying.{IsReplied}
 use Rattle.office.specs.Rules.{IsPost, Asks, Rule}
 use Rattle.office.proofs.Deciding.{no_command, no_possible, holds_post}
@@ -30,12 +30,12 @@ same_value params name a b x y = only (sym x ∙ y)
 
 module _ (means : State → Type 0) (s : State) (r : Request) (now : ℕ) (p : LinkValues) (reached : ReachesBoxes s r now p) (is_post : IsPost r) where
   module _ (line : List ℕ) (at : p.path ≡ 47 ∷ []) (given : HasValue p.params (codes "desk") line) where
-    asks : (command : Command) → Tells line command → Asks p command
+    asks : (command : Command) → IsDeskLine line command → Asks p command
     asks command tells = record { at_desk = at; text = line; given = given; is_command = tells.is_command; form = tells.form }
 
-    tells : (command : Command) → Asks p command → Tells line command
+    tells : (command : Command) → Asks p command → IsDeskLine line command
     tells command asked =
-        subst (λ (t : List ℕ). Tells t command) (same_value p.params (codes "desk") line asked.text given asked.given)
+        subst (λ (t : List ℕ). IsDeskLine t command) (same_value p.params (codes "desk") line asked.text given asked.given)
         (record { is_command = asked.is_command; form = asked.form })
 
     -- the state after the line
@@ -44,16 +44,16 @@ module _ (means : State → Type 0) (s : State) (r : Request) (now : ℕ) (p : L
         let asked = asks told.command told.tells in
         record { reply = step.Done; accepts = post p told.command after (holds_post s r now p reached is_post told.command asked told.obeyed.possible) is_post asked told.obeyed.step }
 
-    pub obeyed : (command : Command) (after : State) → Tells line command → IsObeyed s command after → IsLeft means after → IsReplied means s r now (Ok reply.Done)
+    pub obeyed : (command : Command) (after : State) → IsDeskLine line command → IsObeyed s command after → IsLeft means after → IsReplied means s r now (Ok reply.Done)
     unfolding asked_by
     obeyed command after told does left =
         let asked = asked_by after (record { command = command; tells = told; obeyed = does }) in
         (asked.reply, after, asked.accepts, left, refl)
 
-    pub no_line : TellsNone line → IsFirstToFail (Rule s r now) rule.CommandMalformed
+    pub no_line : IsNoDeskLine line → IsFirstToFail (Rule s r now) rule.CommandMalformed
     no_line none = no_command s r now p reached is_post (λ command asked. none command (tells command asked))
 
-    pub not_obeyed : TellsNonePossible s line → IsFirstToFail (Rule s r now) rule.CommandNotPossible
+    pub not_obeyed : IsImpossibleLine s line → IsFirstToFail (Rule s r now) rule.CommandNotPossible
     not_obeyed told = no_possible s r now p reached is_post told.command (asks told.command told.tells) (λ other asked. told.none other (tells other asked))
 
   -- the path is another one, or no command is given

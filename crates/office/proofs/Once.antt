@@ -15,7 +15,7 @@ use Rattle.boxes.specs.Steps.{AddBox, AddKey, CloseBox, Command, CommandStep, Dr
 use Rattle.boxes.specs.Steps as step
 use Rattle.boxes.proofs.CommandSteps.{box_added_is, box_closed_is, file_dropped_is, key_added_is, key_revoked_is}
 use Rattle.wire.specs.Answers.{Said, Refused}
-use Rattle.office.specs.Answering.{Accepts, Replies, accepts, fetch, post, put, refuses, shown}
+use Rattle.office.specs.Answering.{AcceptsRequest, Replies, accepts, fetch, post, put, refuses, shown}
 use Rattle.office.specs.Rules.{Asks, Rule, place_of, upload_of}
 use Rattle.office.proofs.Deciding.{fetch_no_post, fetch_no_put, put_no_post}
 use Rattle.office.proofs.Repeats.{command_asked}
@@ -126,12 +126,12 @@ module _ (s : State) (r : Request) (now : ℕ) where
   one_parts p q a b = parts_once r p q (λ x. (a x).head) (λ x. (b x).head)
 
   -- what is accepted is not refused
-  not_refused : (q : Refusal) (reply : step.StepReply) (after : State) → IsFirstToFail (Rule s r now) q → Accepts s r now reply after → ⊥
+  not_refused : (q : Refusal) (reply : step.StepReply) (after : State) → IsFirstToFail (Rule s r now) q → AcceptsRequest s r now reply after → ⊥
   not_refused q _ _ f (put p reply after all is_put does) = f.fails p (λ x lt. all x) (all q)
   not_refused q _ _ f (fetch p reply after all is_fetch does) = f.fails p (λ x lt. all x) (all q)
   not_refused q _ _ f (post p command after all is_post asks does) = f.fails p (λ x lt. all x) (all q)
 
-  accepts_once : (a b : step.StepReply) (x y : State) → Accepts s r now a x → Accepts s r now b y → (b ≡ a) × (y ≡ x)
+  accepts_once : (a b : step.StepReply) (x y : State) → AcceptsRequest s r now a x → AcceptsRequest s r now b y → (b ≡ a) × (y ≡ x)
   accepts_once _ _ _ _ (put p a x all is does) (put q b y all' is' does') =
       upload_once s (upload_of r now p) a b x y does (subst (λ (z : LinkValues). UploadStep s (upload_of r now z) b y) (one_parts p q all all') does')
   accepts_once _ _ _ _ (fetch p a x all is does) (fetch q b y all' is' does') =

@@ -9,10 +9,10 @@ use Rattle.boxes.specs.Deciding.{DecidesCommand}
 use Rattle.boxes.specs.State.{State}
 use Rattle.boxes.specs.Steps.{Command, AddKey, RevokeKey, AddBox, CloseBox, DropFile, CommandStep, CanRevoke, IsPossible, key_added, key_revoked, box_added, box_closed, file_dropped}
 use Rattle.keeper.specs.declared.keep.KeepFault.TheVariants.{Full}
-use Rattle.office.specs.declared.commanding.DeskFault.{DeskFault}
-use Rattle.office.specs.declared.commanding.DeskFault.TheVariants as fault
-use Rattle.office.specs.Kept.{IsLeft}
-use Rattle.office.specs.Obeying.{IsObeyedBy, Tells}
+use Rattle.office.specs.declared.requests.commanding.DeskFault.{DeskFault}
+use Rattle.office.specs.declared.requests.commanding.DeskFault.TheVariants as fault
+use Rattle.office.specs.DeskLines.{IsObeyedBy, IsDeskLine}
+use Rattle.office.specs.Premise.{IsLeft}
 
 there : {A : Type 0} (o : Option A) → IsSome o → (x : A) × (o ≡ Some x)
 there None h = absurd cc
@@ -38,8 +38,8 @@ pub obeys : (s : State) (command : Command) → HasForm command → IsPossible s
 obeys s command form possible = let x = step_of s command possible in (x.0, record { form = form; possible = possible; step = x.1 })
 
 -- what became of the command that the line is
-pub obeyed_by : {T : Type 0} (means : State → Type 0) (s : State) (line : List ℕ) (result : Result T DeskFault) (command : Command) → Tells line command
-    → ((other : Command) → Tells line other → other ≡ command) → OnOk result ((after : State) × IsObeyed s command after × IsLeft means after)
+pub obeyed_by : {T : Type 0} (means : State → Type 0) (s : State) (line : List ℕ) (result : Result T DeskFault) (command : Command) → IsDeskLine line command
+    → ((other : Command) → IsDeskLine line other → other ≡ command) → OnOk result ((after : State) × IsObeyed s command after × IsLeft means after)
     → (result ≡ Err fault.NotPossible → IsPossible s command → ⊥) → result ≢ Err fault.Malformed → result ≢ Err (fault.Kept Full) → IsObeyedBy means s line result
 obeyed_by means s line (Ok x) command tells only done refused formed room = (command, done.0, tells, done.1, done.2)
 obeyed_by means s line (Err fault.Malformed) command tells only done refused formed room = absurd (formed refl)

@@ -19,16 +19,16 @@ use Rattle.wire.specs.Answers.{Said, Refused, Kept, Done, answer_text}
 use Rattle.wire.specs.Framing.{Next}
 use Rattle.wire.specs.Framing as frame
 use Rattle.office.specs.Admitted.{ReachesBoxes}
-use Rattle.office.specs.Answering.{Answers, Replies, accepts, fetch, post, put, refuses, shown}
-use Rattle.office.specs.Asked.{IsReadable}
+use Rattle.office.specs.Answering.{AnswersRequest, Replies, accepts, fetch, post, put, refuses, shown}
+use Rattle.office.specs.Readable.{IsReadable}
 use Rattle.office.specs.Repeats.{Act, Acts, text_of, AreSessionActs, AreActs, IsUploadOf, GotReceipt, DropsFile, LeavesFile}
 use Rattle.office.specs.Repeats as act
 use Rattle.office.specs.Rules.{IsPut, IsPost, IsFetch, Asks, place_of, upload_of}
 use Rattle.office.specs.Sessions.{Session, Connection, Run, most_messages}
 use Rattle.office.specs.Sessions as session
-use Rattle.office.specs.Without.{IsLastRefusal}
-use Rattle.office.specs.declared.session.SessionEnd.{SessionEnd}
-use Rattle.office.specs.declared.session.SessionEnd.TheVariants as ends
+use Rattle.office.specs.WithoutTryAgain.{IsLastRefusal}
+use Rattle.office.specs.declared.connections.session.SessionEnd.{SessionEnd}
+use Rattle.office.specs.declared.connections.session.SessionEnd.TheVariants as ends
 use Rattle.office.proofs.Deciding.{fetch_no_post, fetch_no_put, put_no_post}
 use Rattle.office.proofs.Repeats.{command_asked, repeats_once}
 
@@ -103,12 +103,12 @@ pub session_of : (n : ℕ) (stream : List ℕ) (s : State) (moments out : List �
 session_of _ _ _ _ _ _ _ _ _ (act.over n stream s out e given_up h) by_rules = h
 session_of _ _ _ _ _ _ _ _ _ (act.given_up n stream rest s r now out e next readable last) by_rules = gave_up n stream rest s r now out e next readable last
 session_of _ _ _ _ _ _ _ _ _ (act.answered n stream rest s after a acts moments out e given_up next from more) by_rules =
-    let answers : Answers a.before a.request a.now (text_of a) a.after = record { reply = a.reply; replies = by_rules.1; is = refl } in
+    let answers : AnswersRequest a.before a.request a.now (text_of a) a.after = record { reply = a.reply; replies = by_rules.1; is = refl } in
     session.served n stream rest s a.after after a.request a.now moments (text_of a) out e given_up next
-    (subst (λ x. Answers x a.request a.now (text_of a) a.after) from answers) (session_of n rest a.after moments out e given_up acts after more by_rules.2)
+    (subst (λ x. AnswersRequest x a.request a.now (text_of a) a.after) from answers) (session_of n rest a.after moments out e given_up acts after more by_rules.2)
 session_of _ _ _ _ _ _ _ _ _ (act.lost n stream rest s a front next from begins) by_rules =
-    let answers : Answers a.before a.request a.now (text_of a) a.after = record { reply = a.reply; replies = by_rules.1; is = refl } in
-    session.write_failed n stream rest s a.after a.request a.now (text_of a) front next (subst (λ x. Answers x a.request a.now (text_of a) a.after) from answers) begins
+    let answers : AnswersRequest a.before a.request a.now (text_of a) a.after = record { reply = a.reply; replies = by_rules.1; is = refl } in
+    session.write_failed n stream rest s a.after a.request a.now (text_of a) front next (subst (λ x. AnswersRequest x a.request a.now (text_of a) a.after) from answers) begins
 
 -- the acts of a session, and those behind it
 acts_parted : (n : ℕ) (stream : List ℕ) (s : State) (moments out : List ℕ) (e : SessionEnd) (given_up : Bool) (here : List Act) (mid : State) (more : List Act) (after : State)
@@ -129,7 +129,7 @@ run_of s after (c ∷ cs) moments acts (first, others, here, more, mid, joined, 
 -- ---- an example: an upload's answer was lost, and on the next connection it came again
 
 module _ (s mid after : State) (first second : List ℕ) (r q : Request) (now later : ℕ) (text front again : List ℕ) (next : Next first (frame.Message r) []) (next' : Next second (frame.Message q) [])
-    (answers : Answers s r now text mid) (begins : IsBeginning front text) (answers' : Answers mid q later again after) where
+    (answers : AnswersRequest s r now text mid) (begins : IsBeginning front text) (answers' : AnswersRequest mid q later again after) where
   abbrev cut_off : Connection
   cut_off = record { stream = first; answers = front; end = ends.WriteFault; gave_up = false }
 

@@ -17,13 +17,13 @@ use Rattle.desk.specs.Texts.{IsCommand}
 use Rattle.desk.proofs.OneCommand.{command_once}
 use Rattle.wire.specs.Answers.{Said}
 use Rattle.office.specs.Admitted.{ReachesBoxes}
-use Rattle.office.specs.Answering.{Accepts, put, fetch, post, Replies, refuses, accepts, shown}
+use Rattle.office.specs.Answering.{AcceptsRequest, put, fetch, post, Replies, refuses, accepts, shown}
 use Rattle.office.specs.Repeats.{Act, Acts, text_of, AreSessionActs, AreActs, IsUploadOf, GotReceipt, DropsFile, LeavesFile, RepeatsOnce, ActsOnce}
 use Rattle.office.specs.Repeats as act
 use Rattle.office.specs.Rules.{IsPut, Asks, Rule, place_of, upload_of}
 use Rattle.office.specs.Sessions.{Session, Connection, Run, most_messages}
 use Rattle.office.specs.Sessions as session
-use Rattle.office.specs.declared.session.SessionEnd.{SessionEnd}
+use Rattle.office.specs.declared.connections.session.SessionEnd.{SessionEnd}
 use Rattle.office.proofs.Deciding.{holds_put, put_no_post, fetch_no_put}
 use Rattle.office.proofs.Obeyed.{same_value}
 use Rattle.office.proofs.Standing.{StandsWith, command_keeps, upload_keeps, upload_stands, upload_rules, upload_again}
@@ -54,7 +54,7 @@ module _ (place : Place) (bytes : List ℕ) where
   fetched_same : (s : State) (at : Place) (reply : step.StepReply) (after : State) → FetchStep s at reply after → after ≡ s
   fetched_same s at _ _ (found f r there listed) = refl
 
-  accepted_keeps : (said : Said) (s : State) (r : Request) (now : ℕ) (reply : step.StepReply) (after : State) → Accepts s r now reply after
+  accepted_keeps : (said : Said) (s : State) (r : Request) (now : ℕ) (reply : step.StepReply) (after : State) → AcceptsRequest s r now reply after
       → LeavesFile place bytes (the_act s r now (shown reply) after) → StandsWith place bytes said s → StandsWith place bytes said after
   accepted_keeps said s r now _ _ (put p reply after all is_put does) leaves h =
       upload_keeps place bytes said s (upload_of r now p) reply after
@@ -73,7 +73,7 @@ module _ (place : Place) (bytes : List ℕ) where
   act_keeps said s r now _ _ (refuses q first) leaves h = h
   act_keeps said s r now _ _ (accepts reply after accepted) leaves h = accepted_keeps said s r now reply after accepted leaves h
 
-  accepted_stands : (s : State) (r : Request) (now : ℕ) (reply : step.StepReply) (after : State) → Accepts s r now reply after
+  accepted_stands : (s : State) (r : Request) (now : ℕ) (reply : step.StepReply) (after : State) → AcceptsRequest s r now reply after
       → IsUploadOf place bytes (the_act s r now (shown reply) after) → StandsWith place bytes (shown reply) after
   accepted_stands s r now _ _ (put p reply after all is_put does) up =
       let same : p ≡ up.parts = parts_once r up.parts p up.reaches.head (λ q. (all q).head) in
@@ -94,7 +94,7 @@ module _ (place : Place) (bytes : List ℕ) where
     rules_hold : AllHold (Rule s r now) p
     rules_hold = holds_put s r now p reaches is_put (upload_rules said s (upload_of r now p) h)
 
-    accepted_again : (reply : step.StepReply) (after : State) → Accepts s r now reply after → (shown reply ≡ said) × (after ≡ s)
+    accepted_again : (reply : step.StepReply) (after : State) → AcceptsRequest s r now reply after → (shown reply ≡ said) × (after ≡ s)
     accepted_again _ _ (put q reply after all is does) =
         let same : q ≡ p = parts_once r p q reaches.head (λ x. (all x).head) in
         upload_again said s (upload_of r now p) reply after h (subst (λ (x : LinkValues). UploadStep s (upload_of r now x) reply after) same does)

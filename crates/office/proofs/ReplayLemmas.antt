@@ -3,16 +3,17 @@ use Rattle.std.proofs.Common.{◌≡◌, ◌≢◌, ℕ, List, [], ◌++◌, Boo
 use Rattle.std.specs.Io.KnownBytes.{Appends, Consumes}
 use Rattle.std.proofs.lemmas.List.{append-nil}
 use Rattle.boxes.specs.State.{State}
-use Rattle.office.specs.declared.session.SessionEnd.{SessionEnd}
-use Rattle.office.specs.declared.session.SessionEnd.TheVariants.{Ended, Truncated, Refused, Limit, ReadFault, WriteFault}
-use Rattle.office.specs.Connections.{IsStream, Told, Serves}
+use Rattle.keeper.specs.declared.keep.Keeper.{Ghosts}
+use Rattle.office.specs.declared.connections.session.SessionEnd.{SessionEnd}
+use Rattle.office.specs.declared.connections.session.SessionEnd.TheVariants.{Ended, Truncated, Refused, Limit, ReadFault, WriteFault}
+use Rattle.office.specs.Connections.{IsStream, TellsMoments, Serves}
 use Rattle.office.specs.Replays.{Replays, IsReplay}
 use Rattle.office.specs.Sessions.{Session, most_messages}
 
-pub replayed : {C : Type 0} (gives : C → ℕ → C → Type 0) (input input' output output' : Option (List ℕ)) (clock clock' : C) (count count' : ℕ) (s after : State) (moment : ℕ) (e : SessionEnd)
-    → ((moments : List ℕ) (later : C) → Told gives clock moments later → moments ≡ replicate (length moments) moment)
-    → Serves most_messages gives input input' output output' clock clock' count count' s after e → Replays input input' output output' s moment e
-replayed gives input input' output output' clock clock' count count' s after moment e tells served = record {
+pub replayed : {C K : Type 0} (gives : C → ℕ → C → Type 0) (input input' output output' : Option (List ℕ)) (clock clock' : C) (k : Ghosts K) (keeper keeper' : K) (s after : State) (moment : ℕ) (e : SessionEnd)
+    → ((moments : List ℕ) (later : C) → TellsMoments gives clock moments later → moments ≡ replicate (length moments) moment)
+    → Serves most_messages gives input input' output output' clock clock' k keeper keeper' s after e → Replays input input' output output' s moment e
+replayed gives input input' output output' clock clock' k keeper keeper' s after moment e tells served = record {
   stream = served.stream;
   messages = length served.moments;
   answers = served.answers;

@@ -26,10 +26,10 @@ use Rattle.hex.specs.Hex.{encode_lower}
 use Rattle.wire.specs.Answers as said
 use Rattle.wire.specs.declared.answer.Reply.{Reply}
 use Rattle.wire.specs.declared.answer.Reply.TheVariants as reply
-use Rattle.office.specs.Answering.{put, fetch}
 use Rattle.office.specs.Admitted.{ReachesBoxes}
-use Rattle.office.specs.Enduring.{IsAsked}
-use Rattle.office.specs.Kept.{IsLeft}
+use Rattle.office.specs.Answering.{put, fetch}
+use Rattle.office.specs.Crashes.{IsAsked}
+use Rattle.office.specs.Premise.{IsLeft}
 use Rattle.office.specs.Replying.{IsReceiptFor, IsReplied}
 use Rattle.office.specs.Rules.{IsPut, IsFetch, Rule, known, place_of, upload_of}
 use Rattle.office.proofs.Deciding.{known_none, none_some, holds_put, holds_fetch, first_put, first_fetch}

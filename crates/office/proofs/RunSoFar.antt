@@ -1,23 +1,24 @@
 -- A run as far as it has come, and one connection more.
-use Rattle.std.proofs.Common.{◌≡◌, ℕ, suc, ◌+◌, ◌<◌, ◌≤◌, cond, List, [], ◌∷◌, ◌++◌, length, take, drop, set, get_or, Option, refl, sym, ap, subst, ◌∙◌, append_assoc, arith}
+use Rattle.std.proofs.Common.{◌≡◌, ℕ, suc, Bool, true, false, ◌+◌, ◌<◌, ◌≤◌, cond, List, [], ◌∷◌, ◌++◌, length, take, drop, set, get_or, Option, refl, sym, ap, subst, ◌∙◌, append_assoc, arith}
 use Rattle.std.specs.List.{count_by, sum_by}
 use Rattle.std.specs.Io.KnownBytes.{Appends}
 use Rattle.std.proofs.lemmas.List.{append-nil, take_more_set, drop_more, drop-set-lt, take_all}
 use Rattle.std.proofs.lemmas.List.Sums.{sum_by-append}
 use Rattle.std.proofs.Math.Seq.{take-suc}
 use Rattle.boxes.specs.State.{State}
+use Rattle.keeper.specs.declared.keep.Keeper.{Ghosts}
 use Rattle.wire.specs.declared.counted.Counted.{Counted}
-use Rattle.office.specs.declared.session.SessionEnd.{SessionEnd}
-use Rattle.office.specs.Connections.{Told, IsStream, Serves, TellsFaults, KeepsCount, KeepsCounts, AreServed, is_fault, Runs}
-use Rattle.office.specs.Kept.{IsLeft}
+use Rattle.office.specs.declared.connections.session.SessionEnd.{SessionEnd}
+use Rattle.office.specs.Connections.{TellsMoments, IsStream, Serves, TellsFaults, HoldsUpOver, NoneGaveUp, StaysOpen, AreServed, is_fault, Runs}
+use Rattle.office.specs.Premise.{HoldsUp, IsLeft}
 use Rattle.office.specs.Sessions.{Session, Connection, Run, most_messages}
 use Rattle.office.proofs.Repeats.{runs_act_once}
 use Rattle.office.proofs.Without.{runs_without}
 
 -- ---- one more at the end of each part
 
-pub told_more : {C : Type 0} (gives : C → ℕ → C → Type 0) (c d e : C) (moments more : List ℕ) → Told gives c moments d → Told gives d more e → Told gives c (moments ++ more) e
-told_more gives c d e [] more t u = subst (λ x. Told gives x more e) (sym t) u
+pub told_more : {C : Type 0} (gives : C → ℕ → C → Type 0) (c d e : C) (moments more : List ℕ) → TellsMoments gives c moments d → TellsMoments gives d more e → TellsMoments gives c (moments ++ more) e
+told_more gives c d e [] more t u = subst (λ x. TellsMoments gives x more e) (sym t) u
 told_more gives c d e (m ∷ moments) more t u = (t.0, t.1, told_more gives t.0 d e moments more t.2 u)
 
 served_more : {R W : Type 0} (remaining : R → Option (List ℕ)) (contents : W → Option (List ℕ)) (old new : Counted R × Counted W) (c : Connection) (olds news : List (Counted R × Counted W)) (cs : List Connection)
@@ -42,15 +43,38 @@ count_more cs c =
     let one : sum_by (λ d. cond (is_fault d.end) 1 0) (c ∷ []) ≡ cond (is_fault c.end) 1 0 = omega arith in
     sum_by-append (λ d. cond (is_fault d.end) 1 0) cs (c ∷ []) ∙ ap (λ n. count_by (λ d. is_fault d.end) cs + n) one
 
-counts_more : (cs : List Connection) (c : Connection) (first mid last : ℕ) → KeepsCounts cs first mid → KeepsCount c.gave_up mid last → KeepsCounts (cs ++ c ∷ []) first last
-counts_more [] c first mid last same keeps = (last, subst (λ n. KeepsCount c.gave_up n last) same keeps, refl)
-counts_more (d ∷ cs) c first mid last h keeps = (h.0, h.1, counts_more cs c h.0 mid last h.2 keeps)
+held_more : {K : Type 0} (k : Ghosts K) (cs : List Connection) (c : Connection) (first mid last : K) → HoldsUpOver k cs first mid → HoldsUp k c.gave_up mid last → HoldsUpOver k (cs ++ c ∷ []) first last
+held_more k [] c first mid last same held = (last, subst (λ n. HoldsUp k c.gave_up n last) same held, refl)
+held_more k (d ∷ cs) c first mid last h held = (h.0, h.1, held_more k cs c h.0 mid last h.2 held)
 
-runs_more : {C R W : Type 0} (gives : C → ℕ → C → Type 0) (remaining : R → Option (List ℕ)) (contents : W → Option (List ℕ)) (first clock clock' : C) (olds news : List (Counted R × Counted W)) (old new : Counted R × Counted W)
-    (count count' count'' : ℕ) (s mid after : State) (faults faults' : ℕ) (e : SessionEnd) → Runs gives remaining contents first clock olds news count count' s mid faults
-    → Serves most_messages gives (remaining old.0.inner) (remaining new.0.inner) (contents old.1.inner) (contents new.1.inner) clock clock' count' count'' mid after e → TellsFaults e old.0 new.0 old.1 new.1 → faults' ≡ faults + cond (is_fault e) 1 0
-    → Runs gives remaining contents first clock' (olds ++ old ∷ []) (news ++ new ∷ []) count count'' s after faults'
-runs_more gives remaining contents first clock clock' olds news old new count count' count'' s mid after faults faults' e r served risen counted =
+none_more : (cs : List Connection) (c : Connection) → NoneGaveUp (cs ++ c ∷ []) → NoneGaveUp cs × (c.gave_up ≡ false)
+none_more [] c none = (tt, none.0)
+none_more (d ∷ cs) c none = let more = none_more cs c none.1 in ((none.0, more.0), more.1)
+
+held_open : {K : Type 0} (k : Ghosts K) (gave_up : Bool) (old new : K) → gave_up ≡ false → HoldsUp k gave_up old new → k.is_open old → k.is_open new
+held_open k true old new is held = absurd cc
+held_open k false old new is held = held.1
+
+-- a keeper means one state, if it is open
+abbrev pub MeansOne : {K : Type 0} → Ghosts K → K → Type 0
+MeansOne k keeper = (s t : State) → k.is_open keeper → k.means keeper s → k.means keeper t → s ≡ t
+
+-- no connection came
+pub none_opened : {K : Type 0} (k : Ghosts K) (keeper : K) (s : State) → MeansOne k keeper → IsLeft (k.means keeper) s → StaysOpen k [] keeper keeper s
+none_opened k keeper s one left none was = (was, λ t means. one t s was means left.means)
+
+pub opened_more : {K : Type 0} (k : Ghosts K) (cs : List Connection) (c : Connection) (first mid last : K) (before after : State) → MeansOne k last → IsLeft (k.means last) after
+    → StaysOpen k cs first mid before → HoldsUp k c.gave_up mid last → StaysOpen k (cs ++ c ∷ []) first last after
+opened_more k cs c first mid last before after one left opened held none was =
+    let both = none_more cs c none in
+    let now = held_open k c.gave_up mid last both.1 held (opened both.0 was).0 in
+    (now, λ t means. one t after now means left.means)
+
+runs_more : {C R W K : Type 0} (gives : C → ℕ → C → Type 0) (remaining : R → Option (List ℕ)) (contents : W → Option (List ℕ)) (first clock clock' : C) (olds news : List (Counted R × Counted W)) (old new : Counted R × Counted W)
+    (k : Ghosts K) (keeper keeper' keeper'' : K) (s mid after : State) (faults faults' : ℕ) (e : SessionEnd) → MeansOne k keeper'' → IsLeft (k.means keeper'') after → Runs gives remaining contents first clock olds news k keeper keeper' s mid faults
+    → Serves most_messages gives (remaining old.0.inner) (remaining new.0.inner) (contents old.1.inner) (contents new.1.inner) clock clock' k keeper' keeper'' mid after e → TellsFaults e old.0 new.0 old.1 new.1 → faults' ≡ faults + cond (is_fault e) 1 0
+    → Runs gives remaining contents first clock' (olds ++ old ∷ []) (news ++ new ∷ []) k keeper keeper'' s after faults'
+runs_more gives remaining contents first clock clock' olds news old new k keeper keeper' keeper'' s mid after faults faults' e one left r served risen counted =
     let c : Connection = record { stream = served.stream; answers = served.answers; end = e; gave_up = served.gave_up } in
     let run = run_more s mid after c r.connections r.moments served.moments r.run served.session in
     record {
@@ -58,7 +82,8 @@ runs_more gives remaining contents first clock clock' olds news old new count co
       moments = r.moments ++ served.moments;
       told = told_more gives first clock clock' r.moments served.moments r.told served.told;
       served = served_more remaining contents old new c olds news r.connections r.served served.read served.written risen;
-      counted = counts_more r.connections c count count' count'' r.counted served.counted;
+      held = held_more k r.connections c keeper keeper' keeper'' r.held served.held;
+      opened = opened_more k r.connections c keeper keeper' keeper'' mid after one left r.opened served.held;
       run = run;
       without = runs_without s after (r.connections ++ c ∷ []) (r.moments ++ served.moments) run;
       repeats = runs_act_once s after (r.connections ++ c ∷ []) (r.moments ++ served.moments) run;
@@ -68,29 +93,29 @@ runs_more gives remaining contents first clock clock' olds news old new count co
 -- ---- the connections below an index
 
 -- the state now, and the run of the connections below the index
-pub record SoFar {C R W : Type 0} (means : State → Type 0) (gives : C → ℕ → C → Type 0) (remaining : R → Option (List ℕ)) (contents : W → Option (List ℕ)) (first clock : C)
-    (old now : List (Counted R × Counted W)) (i : ℕ) (count count' : ℕ) (s : State) (faults : ℕ) : Type 0 where
+pub record SoFar {C R W K : Type 0} (gives : C → ℕ → C → Type 0) (remaining : R → Option (List ℕ)) (contents : W → Option (List ℕ)) (first clock : C)
+    (old now : List (Counted R × Counted W)) (i : ℕ) (k : Ghosts K) (keeper keeper' : K) (s : State) (faults : ℕ) : Type 0 where
   pub state : State
-  pub same : IsLeft means state
-  pub runs : Runs gives remaining contents first clock (take i old) (take i now) count count' s state faults
+  pub same : IsLeft (k.means keeper') state
+  pub runs : Runs gives remaining contents first clock (take i old) (take i now) k keeper keeper' s state faults
 
-pub starts : {C R W : Type 0} (means : State → Type 0) (gives : C → ℕ → C → Type 0) (remaining : R → Option (List ℕ)) (contents : W → Option (List ℕ)) (clock : C) (old : List (Counted R × Counted W)) (count : ℕ) (s : State)
-    → IsLeft means s → SoFar means gives remaining contents clock clock old old 0 count count s 0
-starts means gives remaining contents clock old count s same = record {
+pub starts : {C R W K : Type 0} (gives : C → ℕ → C → Type 0) (remaining : R → Option (List ℕ)) (contents : W → Option (List ℕ)) (clock : C) (old : List (Counted R × Counted W)) (k : Ghosts K) (keeper : K) (s : State)
+    → MeansOne k keeper → IsLeft (k.means keeper) s → SoFar gives remaining contents clock clock old old 0 k keeper keeper s 0
+starts gives remaining contents clock old k keeper s one same = record {
   state = s;
   same = same;
-  runs = record { connections = []; moments = []; told = refl; served = tt; counted = refl; run = (refl, refl); without = runs_without s s [] [] (refl, refl); repeats = runs_act_once s s [] [] (refl, refl); faulty = refl };
+  runs = record { connections = []; moments = []; told = refl; served = tt; held = refl; opened = none_opened k keeper s one same; run = (refl, refl); without = runs_without s s [] [] (refl, refl); repeats = runs_act_once s s [] [] (refl, refl); faulty = refl };
 }
 
 -- at the end of the list
-pub finishes : {C R W : Type 0} (means : State → Type 0) (gives : C → ℕ → C → Type 0) (remaining : R → Option (List ℕ)) (contents : W → Option (List ℕ)) (first clock : C)
-    (old now : List (Counted R × Counted W)) (i : ℕ) (count count' : ℕ) (s : State) (faults : ℕ) → length old ≤ i → length now ≤ i → SoFar means gives remaining contents first clock old now i count count' s faults
-    → (after : State) × IsLeft means after × Runs gives remaining contents first clock old now count count' s after faults
-finishes means gives remaining contents first clock old now i count count' s faults all all' f = (
+pub finishes : {C R W K : Type 0} (gives : C → ℕ → C → Type 0) (remaining : R → Option (List ℕ)) (contents : W → Option (List ℕ)) (first clock : C)
+    (old now : List (Counted R × Counted W)) (i : ℕ) (k : Ghosts K) (keeper keeper' : K) (s : State) (faults : ℕ) → length old ≤ i → length now ≤ i → SoFar gives remaining contents first clock old now i k keeper keeper' s faults
+    → (after : State) × IsLeft (k.means keeper') after × Runs gives remaining contents first clock old now k keeper keeper' s after faults
+finishes gives remaining contents first clock old now i k keeper keeper' s faults all all' f = (
   f.state,
   f.same,
-  subst (λ xs. Runs gives remaining contents first clock xs now count count' s f.state faults) (take_all i old all)
-      (subst (λ xs. Runs gives remaining contents first clock (take i old) xs count count' s f.state faults) (take_all i now all') f.runs),
+  subst (λ xs. Runs gives remaining contents first clock xs now k keeper keeper' s f.state faults) (take_all i old all)
+      (subst (λ xs. Runs gives remaining contents first clock (take i old) xs k keeper keeper' s f.state faults) (take_all i now all') f.runs),
 )
 
 -- the connection at the index is as it was at first
@@ -109,24 +134,24 @@ as_at_first old now i d lt lt' same =
 pub others_stay : {X : Type 0} (old now : List X) (i : ℕ) (d new : X) → i < length old → i < length now → drop i now ≡ drop i old → drop (i + 1) (set now i new) ≡ drop (i + 1) old
 others_stay old now i d new lt lt' same = drop-set-lt (i + 1) now i new (omega arith) ∙ (as_at_first old now i d lt lt' same).1
 
-pub goes_on : {C R W : Type 0} (means means' : State → Type 0) (gives : C → ℕ → C → Type 0) (remaining : R → Option (List ℕ)) (contents : W → Option (List ℕ)) (first clock clock' : C)
-    (old now : List (Counted R × Counted W)) (i : ℕ) (count count' count'' : ℕ) (s : State) (faults faults' : ℕ) (d new : Counted R × Counted W) (e : SessionEnd)
+pub goes_on : {C R W K : Type 0} (gives : C → ℕ → C → Type 0) (remaining : R → Option (List ℕ)) (contents : W → Option (List ℕ)) (first clock clock' : C)
+    (old now : List (Counted R × Counted W)) (i : ℕ) (k : Ghosts K) (keeper keeper' keeper'' : K) (s : State) (faults faults' : ℕ) (d new : Counted R × Counted W) (e : SessionEnd)
     → i < length old → i < length now → drop i now ≡ drop i old
-    → ((mid : State) → IsLeft means mid
-    → (after : State) × IsLeft means' after × Serves most_messages gives (remaining (get_or now i d).0.inner) (remaining new.0.inner) (contents (get_or now i d).1.inner) (contents new.1.inner) clock clock' count' count'' mid after e)
+    → MeansOne k keeper'' → ((mid : State) → IsLeft (k.means keeper') mid
+    → (after : State) × IsLeft (k.means keeper'') after × Serves most_messages gives (remaining (get_or now i d).0.inner) (remaining new.0.inner) (contents (get_or now i d).1.inner) (contents new.1.inner) clock clock' k keeper' keeper'' mid after e)
     → TellsFaults e (get_or now i d).0 new.0 (get_or now i d).1 new.1 → faults' ≡ faults + cond (is_fault e) 1 0
-    → SoFar means gives remaining contents first clock old now i count count' s faults → SoFar means' gives remaining contents first clock' old (set now i new) (i + 1) count count'' s faults'
-goes_on means means' gives remaining contents first clock clock' old now i count count' count'' s faults faults' d new e lt lt' rest serves risen counted f =
+    → SoFar gives remaining contents first clock old now i k keeper keeper' s faults → SoFar gives remaining contents first clock' old (set now i new) (i + 1) k keeper keeper'' s faults'
+goes_on gives remaining contents first clock clock' old now i k keeper keeper' keeper'' s faults faults' d new e lt lt' rest one serves risen counted f =
     let item = get_or now i d in
     let first_is : item ≡ get_or old i d = (as_at_first old now i d lt lt' rest).0 in
     let h = serves f.state f.same in
-    let more = runs_more gives remaining contents first clock clock' (take i old) (take i now) item new count count' count'' s f.state h.0 faults faults' e f.runs h.2 risen counted in
+    let more = runs_more gives remaining contents first clock clock' (take i old) (take i now) item new k keeper keeper' keeper'' s f.state h.0 faults faults' e one h.1 f.runs h.2 risen counted in
     let before : take (i + 1) old ≡ take i old ++ item ∷ [] = take_one_more old i d lt ∙ ap (λ c. take i old ++ c ∷ []) (sym first_is) in
     record {
       state = h.0;
       same = h.1;
-      runs = subst (λ xs. Runs gives remaining contents first clock' xs (take (i + 1) (set now i new)) count count'' s h.0 faults') (sym before)
-          (subst (λ xs. Runs gives remaining contents first clock' (take i old ++ item ∷ []) xs count count'' s h.0 faults') (sym (take_more_set now i new lt')) more);
+      runs = subst (λ xs. Runs gives remaining contents first clock' xs (take (i + 1) (set now i new)) k keeper keeper'' s h.0 faults') (sym before)
+          (subst (λ xs. Runs gives remaining contents first clock' (take i old ++ item ∷ []) xs k keeper keeper'' s h.0 faults') (sym (take_more_set now i new lt')) more);
     }
   where
     take_one_more : {X : Type 0} (xs : List X) (i : ℕ) (d : X) → i < length xs → take (i + 1) xs ≡ take i xs ++ get_or xs i d ∷ []

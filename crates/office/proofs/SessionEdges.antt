@@ -3,8 +3,8 @@ use Rattle.std.proofs.Common.{◌≡◌, ℕ, suc, true, false, List, [], ◌⊎
 use Rattle.boxes.specs.State.{State}
 use Rattle.wire.specs.Framing.{Next, Step}
 use Rattle.wire.proofs.Awaiting.{IsAnnounced, IsAwaited, announced, awaited}
-use Rattle.office.specs.declared.session.SessionEnd.{SessionEnd}
-use Rattle.office.specs.declared.session.SessionEnd.TheVariants.{ReadFault}
+use Rattle.office.specs.declared.connections.session.SessionEnd.{SessionEnd}
+use Rattle.office.specs.declared.connections.session.SessionEnd.TheVariants.{ReadFault}
 use Rattle.office.specs.Sessions.{Session, most_messages}
 use Rattle.office.specs.Sessions as session
 

@@ -6,6 +6,7 @@ use Rattle.sigtext.specs.declared.refusal.Refusal.{Refusal}
 use Rattle.sigtext.specs.declared.refusal.Refusal.TheVariants as rule
 use Rattle.sigtext.specs.Request.{Request}
 use Rattle.boxes.specs.State.{State}
+use Rattle.keeper.specs.declared.keep.Keeper.{Ghosts}
 use Rattle.wire.specs.Feeding.{AnnouncesBody, Awaits, OfStream}
 use Rattle.wire.specs.Framing.{IsHead, Next, Message, request_of}
 use Rattle.wire.specs.Framing as frame
@@ -15,13 +16,13 @@ use Rattle.wire.specs.declared.feed.Place.TheVariants as place
 use Rattle.wire.specs.declared.joining.Came.{Came}
 use Rattle.wire.specs.Whole.{BreaksOff, Brings, IsNextMessage}
 use Rattle.wire.proofs.Halves.{message_stands}
-use Rattle.office.specs.declared.session.SessionEnd.{SessionEnd}
-use Rattle.office.specs.declared.session.SessionEnd.TheVariants.{Ended, Truncated, Refused, Limit, ReadFault, WriteFault}
-use Rattle.office.specs.declared.handling.Handled.{Handled}
-use Rattle.office.specs.declared.handling.Handled.TheVariants.{Answered, GaveUp, Broken}
-use Rattle.office.specs.Connections.{IsKnown, IsStream, KeepsCount, Serves}
+use Rattle.office.specs.declared.connections.session.SessionEnd.{SessionEnd}
+use Rattle.office.specs.declared.connections.session.SessionEnd.TheVariants.{Ended, Truncated, Refused, Limit, ReadFault, WriteFault}
+use Rattle.office.specs.declared.connections.handling.Handled.{Handled}
+use Rattle.office.specs.declared.connections.handling.Handled.TheVariants.{Answered, GaveUp, Broken}
+use Rattle.office.specs.Connections.{IsKnown, IsStream, Serves}
 use Rattle.office.specs.Handling.{Handles, answered, gave_up_at, broke, broke_giving_up_at}
-use Rattle.office.specs.Kept.{IsLeft}
+use Rattle.office.specs.Premise.{HoldsUp, IsLeft}
 use Rattle.office.specs.Sessions.{Session, MayGiveUpReading}
 use Rattle.office.specs.Sessions as session
 use Rattle.office.specs.Stepping.{Goes, IsClosed, Steps, ToCome}
@@ -82,10 +83,19 @@ broke_off_by p old reader x y is h = subst (λ (z : WireFault). BreaksOff z p ol
 
 -- ---- a step, and those that follow
 
-pub serves_more : {C : Type 0} (gives : C → ℕ → C → Type 0) (n : ℕ) (left left' reader output output' output'' : Option (List ℕ)) (clock clock' clock'' : C) (count count' count'' : ℕ) (s mid after : State) (e : SessionEnd)
-    → Goes gives left left' output output' clock clock' count count' s mid → Serves n gives left' reader output' output'' clock' clock'' count' count'' mid after e
-    → Serves (suc n) gives left reader output output'' clock clock'' count count'' s after e
-serves_more gives n left left' reader output output' output'' clock clock' clock'' count count' count'' s mid after e g r = record {
+holds_more : {K : Type 0} (k : Ghosts K) (a b c : K) (gave_up : Bool) → HoldsUp k false a b → HoldsUp k gave_up b c → HoldsUp k gave_up a c
+holds_more k a b c true x y = let same = x.0 in omega (arith, same, y)
+holds_more k a b c false x y = (y.0 ∙ x.0, λ was. y.1 (x.1 was))
+
+-- nothing was asked
+pub holds_still : {K : Type 0} (k : Ghosts K) (a : K) (gave_up : Bool) → HoldsUp k gave_up a a
+holds_still k a true = omega arith
+holds_still k a false = (refl, λ was. was)
+
+pub serves_more : {C K : Type 0} (gives : C → ℕ → C → Type 0) (n : ℕ) (left left' reader output output' output'' : Option (List ℕ)) (clock clock' clock'' : C) (k : Ghosts K) (keeper keeper' keeper'' : K) (s mid after : State) (e : SessionEnd)
+    → Goes gives left left' output output' clock clock' k keeper keeper' s mid → Serves n gives left' reader output' output'' clock' clock'' k keeper' keeper'' mid after e
+    → Serves (suc n) gives left reader output output'' clock clock'' k keeper keeper'' s after e
+serves_more gives n left left' reader output output' output'' clock clock' clock'' k keeper keeper' keeper'' s mid after e g r = record {
   stream = g.front ++ r.stream;
   moments = g.moment ∷ r.moments;
   answers = g.text ++ r.answers;
@@ -93,7 +103,7 @@ serves_more gives n left left' reader output output' output'' clock clock' clock
   read = stream_more r.gave_up e left left' reader g.front r.stream g.taken r.read;
   told = (clock', g.told, r.told);
   written = appends_more output output' output'' g.text r.answers g.written r.written;
-  counted = subst (λ (k : ℕ). KeepsCount r.gave_up k count'') g.counted r.counted;
+  held = holds_more k keeper keeper' keeper'' r.gave_up g.held r.held;
   session = session.served n (g.front ++ r.stream) r.stream s mid after g.request g.moment r.moments g.text r.answers e r.gave_up (g.message r.stream) g.answers r.session;
 }
 
@@ -106,8 +116,8 @@ nothing_written None = tt
 nothing_written (Some p) = sym (append-nil p)
 
 -- no message is served any more
-pub serves_none : {C : Type 0} (gives : C → ℕ → C → Type 0) (left reader output : Option (List ℕ)) (clock : C) (count : ℕ) (s : State) → Serves 0 gives left reader output output clock clock count count s s Limit
-serves_none gives left reader output clock count s = record {
+pub serves_none : {C K : Type 0} (gives : C → ℕ → C → Type 0) (left reader output : Option (List ℕ)) (clock : C) (k : Ghosts K) (keeper : K) (s : State) → Serves 0 gives left reader output output clock clock k keeper keeper s s Limit
+serves_none gives left reader output clock k keeper s = record {
   stream = rest_of left;
   moments = [];
   answers = [];
@@ -115,20 +125,20 @@ serves_none gives left reader output clock count s = record {
   read = known_whole left;
   told = refl;
   written = nothing_written output;
-  counted = refl;
+  held = holds_still k keeper false;
   session = session.limit (rest_of left) s;
 }
 
 -- ---- steps with a message
 
-module _ {C : Type 0} (gives : C → ℕ → C → Type 0) (p : Place) (left reader output output' : Option (List ℕ)) (clock clock' : C) (count count' : ℕ) (means : State → Type 0) (s : State)
+module _ {C K : Type 0} (gives : C → ℕ → C → Type 0) (p : Place) (left reader output output' : Option (List ℕ)) (clock clock' : C) (k : Ghosts K) (keeper keeper' : K) (s : State)
     (text : List ℕ) (has_length : Bool) (body waits : List ℕ) (m : IsNextMessage text has_length body left (prepend_known waits reader)) (given : List ℕ) (same_body : given ≡ body) where
   abbrev r : Request
   r = request_of m.opens.head has_length body
 
   -- as it was handled
-  of_body : (h : Handled) → Handles gives clock clock' output output' count count' means s (request_of m.opens.head has_length given) h → Handles gives clock clock' output output' count count' means s r h
-  of_body h handles = subst (λ (b : List ℕ). Handles gives clock clock' output output' count count' means s (request_of m.opens.head has_length b) h) same_body handles
+  of_body : (h : Handled) → Handles gives clock clock' output output' k keeper keeper' s (request_of m.opens.head has_length given) h → Handles gives clock clock' output output' k keeper keeper' s r h
+  of_body h handles = subst (λ (b : List ℕ). Handles gives clock clock' output output' k keeper keeper' s (request_of m.opens.head has_length b) h) same_body handles
 
   stands : (more : List ℕ) → Next ((text ++ body) ++ more) (Message r) more
   stands more = subst (λ (t : List ℕ). Next t (Message r) more) (sym (append_assoc text body more)) (message_stands text body more has_length m.opens)
@@ -136,11 +146,11 @@ module _ {C : Type 0} (gives : C → ℕ → C → Type 0) (p : Place) (left rea
   all_read : Consumes left reader ((text ++ body) ++ waits)
   all_read = consumes_more left (prepend_known waits reader) reader (text ++ body) waits m.taken (all_taken reader waits)
 
-  answered_done : Handles gives clock clock' output output' count count' means s r Answered → Steps gives p left (prepend_known waits reader) reader output output' clock clock' count count' means s None
+  answered_done : Handles gives clock clock' output output' k keeper keeper' s r Answered → Steps gives p left (prepend_known waits reader) reader output output' clock clock' k keeper keeper' s None
   answered_done (answered now written after told appends same keeps answers) =
-      (after, keeps, record { front = text ++ body; request = r; moment = now; text = written; taken = m.taken; message = stands; told = told; written = appends; answers = answers; counted = same })
+      (after, keeps, record { front = text ++ body; request = r; moment = now; text = written; taken = m.taken; message = stands; told = told; written = appends; answers = answers; held = same })
 
-  gave_up_done : Handles gives clock clock' output output' count count' means s r GaveUp → Steps gives p left (prepend_known waits reader) reader output output' clock clock' count count' means s (Some (Refused 40))
+  gave_up_done : Handles gives clock clock' output output' k keeper keeper' s r GaveUp → Steps gives p left (prepend_known waits reader) reader output output' clock clock' k keeper keeper' s (Some (Refused 40))
   gave_up_done (gave_up_at now told appends less readable keeps) = (
     s,
     keeps,
@@ -152,12 +162,12 @@ module _ {C : Type 0} (gives : C → ℕ → C → Type 0) (p : Place) (left rea
       read = all_read;
       told = (clock', told, refl);
       written = appends;
-      counted = less;
+      held = less;
       session = session.gave_up_at n ((text ++ body) ++ waits) waits s r now (stands waits) readable;
     },
   )
 
-  broken_done : Handles gives clock clock' output output' count count' means s r Broken → Steps gives p left (prepend_known waits reader) reader output output' clock clock' count count' means s (Some WriteFault)
+  broken_done : Handles gives clock clock' output output' k keeper keeper' s r Broken → Steps gives p left (prepend_known waits reader) reader output output' clock clock' k keeper keeper' s (Some WriteFault)
   broken_done (broke now written front after told appends begins same keeps answers) =
       let rest = rest_of (prepend_known waits reader) in (
         after,
@@ -170,7 +180,7 @@ module _ {C : Type 0} (gives : C → ℕ → C → Type 0) (p : Place) (left rea
           read = known_rest left (prepend_known waits reader) (text ++ body) m.taken;
           told = (clock', told, refl);
           written = appends;
-          counted = same;
+          held = same;
           session = session.write_failed n ((text ++ body) ++ rest) rest s after r now written front (stands rest) answers begins;
         },
       )
@@ -185,42 +195,42 @@ module _ {C : Type 0} (gives : C → ℕ → C → Type 0) (p : Place) (left rea
       read = all_read;
       told = (clock', told, refl);
       written = appends;
-      counted = less;
+      held = less;
       session = session.write_failed_giving_up_at n ((text ++ body) ++ waits) waits s r now front (stands waits) readable begins;
     },
   )
 
-  pub answered_step : Handles gives clock clock' output output' count count' means s (request_of m.opens.head has_length given) Answered
-      → Steps gives p left (prepend_known waits reader) reader output output' clock clock' count count' means s None
+  pub answered_step : Handles gives clock clock' output output' k keeper keeper' s (request_of m.opens.head has_length given) Answered
+      → Steps gives p left (prepend_known waits reader) reader output output' clock clock' k keeper keeper' s None
   answered_step handles = answered_done (of_body Answered handles)
 
-  pub gave_up_step : Handles gives clock clock' output output' count count' means s (request_of m.opens.head has_length given) GaveUp
-      → Steps gives p left (prepend_known waits reader) reader output output' clock clock' count count' means s (Some (Refused 40))
+  pub gave_up_step : Handles gives clock clock' output output' k keeper keeper' s (request_of m.opens.head has_length given) GaveUp
+      → Steps gives p left (prepend_known waits reader) reader output output' clock clock' k keeper keeper' s (Some (Refused 40))
   gave_up_step handles = gave_up_done (of_body GaveUp handles)
 
-  pub broken_step : Handles gives clock clock' output output' count count' means s (request_of m.opens.head has_length given) Broken
-      → Steps gives p left (prepend_known waits reader) reader output output' clock clock' count count' means s (Some WriteFault)
+  pub broken_step : Handles gives clock clock' output output' k keeper keeper' s (request_of m.opens.head has_length given) Broken
+      → Steps gives p left (prepend_known waits reader) reader output output' clock clock' k keeper keeper' s (Some WriteFault)
   broken_step handles = broken_done (of_body Broken handles)
 
 -- ---- steps without a message
 
-module _ {C : Type 0} (gives : C → ℕ → C → Type 0) (p : Place) (left left' reader output output' : Option (List ℕ)) (clock : C) (count : ℕ) (means : State → Type 0) (s : State) (keeps : IsLeft means s) where
+module _ {C K : Type 0} (gives : C → ℕ → C → Type 0) (p : Place) (left left' reader output output' : Option (List ℕ)) (clock : C) (k : Ghosts K) (keeper : K) (s : State) (keeps : IsLeft (k.means keeper) s) where
   -- the session ends, and the state stays
-  ends : (e : SessionEnd) (gave_up : Bool) (stream text : List ℕ) → IsStream gave_up e left reader stream → Appends output output' text → KeepsCount gave_up count count
-      → ((n : ℕ) → ToCome p (suc n) → Session (suc n) stream s [] text e gave_up s) → Steps gives p left left' reader output output' clock clock count count means s (Some e)
-  ends e gave_up stream text read written counted whole = (
+  ends : (e : SessionEnd) (gave_up : Bool) (stream text : List ℕ) → IsStream gave_up e left reader stream → Appends output output' text
+      → ((n : ℕ) → ToCome p (suc n) → Session (suc n) stream s [] text e gave_up s) → Steps gives p left left' reader output output' clock clock k keeper keeper s (Some e)
+  ends e gave_up stream text read written whole = (
     s,
     keeps,
-    λ n all. record { stream = stream; moments = []; answers = text; gave_up = gave_up; read = read; told = refl; written = written; counted = counted; session = whole n all },
+    λ n all. record { stream = stream; moments = []; answers = text; gave_up = gave_up; read = read; told = refl; written = written; held = holds_still k keeper gave_up; session = whole n all },
   )
 
   pub closed_step : (q : Refusal) (e : SessionEnd) → OfStream left (λ stream. Next stream (frame.Refused q) []) → IsClosed output output' q e
-      → Steps gives p left left' reader output output' clock clock count count means s (Some e)
+      → Steps gives p left left' reader output output' clock clock k keeper keeper s (Some e)
   closed_step q (Refused number) o closed =
-      ends (Refused number) false o.stream (session.closing q) (is_stream left (λ stream. Next stream (frame.Refused q) []) o) closed.1 refl
-      (λ n _. subst (λ (k : ℕ). Session (suc n) o.stream s [] (session.closing q) (Refused k) false s) (sym closed.0) (session.unframed n o.stream s q o.holds))
+      ends (Refused number) false o.stream (session.closing q) (is_stream left (λ stream. Next stream (frame.Refused q) []) o) closed.1
+      (λ n _. subst (λ (m : ℕ). Session (suc n) o.stream s [] (session.closing q) (Refused m) false s) (sym closed.0) (session.unframed n o.stream s q o.holds))
   closed_step q WriteFault o closed =
-      ends WriteFault false o.stream closed.0 (is_stream left (λ stream. Next stream (frame.Refused q) []) o) closed.1 refl
+      ends WriteFault false o.stream closed.0 (is_stream left (λ stream. Next stream (frame.Refused q) []) o) closed.1
       (λ n _. session.write_failed_unframed n o.stream s q closed.0 o.holds closed.2)
   closed_step q Ended o closed = absurd closed
   closed_step q Truncated o closed = absurd closed
@@ -232,64 +242,64 @@ module _ {C : Type 0} (gives : C → ℕ → C → Type 0) (p : Place) (left lef
   why_reading n front (inr a) all = inr a
 
   pub no_memory_step : (e : SessionEnd) (front : List ℕ) → Consumes left reader front → ((p ≡ place.Fresh) × (front ≡ [])) ⊎ AnnouncesBody front → IsClosed output output' rule.TryAgain e
-      → Steps gives p left left' reader output output' clock clock count count means s (Some e)
+      → Steps gives p left left' reader output output' clock clock k keeper keeper s (Some e)
   no_memory_step (Refused number) front taken why closed =
-      ends (Refused number) true front (session.closing rule.TryAgain) taken closed.1 (omega arith)
-      (λ n all. subst (λ (k : ℕ). Session (suc n) front s [] (session.closing rule.TryAgain) (Refused k) true s) (sym closed.0) (session.gave_up_reading n front s (why_reading n front why all)))
+      ends (Refused number) true front (session.closing rule.TryAgain) taken closed.1
+      (λ n all. subst (λ (m : ℕ). Session (suc n) front s [] (session.closing rule.TryAgain) (Refused m) true s) (sym closed.0) (session.gave_up_reading n front s (why_reading n front why all)))
   no_memory_step WriteFault front taken why closed =
-      ends WriteFault true front closed.0 taken closed.1 (omega arith) (λ n all. session.write_failed_giving_up_reading n front s closed.0 (why_reading n front why all) closed.2)
+      ends WriteFault true front closed.0 taken closed.1 (λ n all. session.write_failed_giving_up_reading n front s closed.0 (why_reading n front why all) closed.2)
   no_memory_step Ended front taken none closed = absurd closed
   no_memory_step Truncated front taken none closed = absurd closed
   no_memory_step Limit front taken none closed = absurd closed
   no_memory_step ReadFault front taken none closed = absurd closed
 
-module _ {C : Type 0} (gives : C → ℕ → C → Type 0) (p : Place) (left left' reader output : Option (List ℕ)) (clock : C) (count : ℕ) (means : State → Type 0) (s : State) (keeps : IsLeft means s) where
-  pub ended_step : IsAtEnd reader → OfStream left (λ stream. Next stream frame.Ended []) → Steps gives p left left' reader output output clock clock count count means s (Some Ended)
+module _ {C K : Type 0} (gives : C → ℕ → C → Type 0) (p : Place) (left left' reader output : Option (List ℕ)) (clock : C) (k : Ghosts K) (keeper : K) (s : State) (keeps : IsLeft (k.means keeper) s) where
+  pub ended_step : IsAtEnd reader → OfStream left (λ stream. Next stream frame.Ended []) → Steps gives p left left' reader output output clock clock k keeper keeper s (Some Ended)
   ended_step at_end o =
-      ends gives p left left' reader output output clock count means s keeps Ended false o.stream [] (is_stream left (λ stream. Next stream frame.Ended []) o, at_end) (nothing_written output) refl
+      ends gives p left left' reader output output clock k keeper s keeps Ended false o.stream [] (is_stream left (λ stream. Next stream frame.Ended []) o, at_end) (nothing_written output)
       (λ n _. session.ended n o.stream s o.holds)
 
-  pub truncated_step : IsAtEnd reader → OfStream left (λ stream. Next stream frame.Truncated []) → Steps gives p left left' reader output output clock clock count count means s (Some Truncated)
+  pub truncated_step : IsAtEnd reader → OfStream left (λ stream. Next stream frame.Truncated []) → Steps gives p left left' reader output output clock clock k keeper keeper s (Some Truncated)
   truncated_step at_end o =
-      ends gives p left left' reader output output clock count means s keeps Truncated false o.stream [] (is_stream left (λ stream. Next stream frame.Truncated []) o, at_end) (nothing_written output) refl
+      ends gives p left left' reader output output clock k keeper s keeps Truncated false o.stream [] (is_stream left (λ stream. Next stream frame.Truncated []) o, at_end) (nothing_written output)
       (λ n _. session.truncated n o.stream s o.holds)
 
-  pub read_failed_step : (front : List ℕ) → Consumes left reader front → Awaits front → Steps gives p left left' reader output output clock clock count count means s (Some ReadFault)
+  pub read_failed_step : (front : List ℕ) → Consumes left reader front → Awaits front → Steps gives p left left' reader output output clock clock k keeper keeper s (Some ReadFault)
   read_failed_step front taken none =
-      ends gives p left left' reader output output clock count means s keeps ReadFault false front [] taken (nothing_written output) refl
+      ends gives p left left' reader output output clock k keeper s keeps ReadFault false front [] taken (nothing_written output)
       (λ n _. session.read_failed n front s none)
 
 -- ---- the messages so far
 
--- What follows the messages so far makes the session whole. left, output, clock, count and s: at first; those with a
+-- What follows the messages so far makes the session whole. left, output, clock, keeper and s: at first; those with a
 -- dash: now.
-pub record Follows {C : Type 0} (gives : C → ℕ → C → Type 0) (counter : ℕ) (left left' output output' : Option (List ℕ)) (clock clock' : C) (count count' : ℕ) (s mid : State) : Type 0 where
-  pub whole : (n : ℕ) (reader last : Option (List ℕ)) (end : C) (sum : ℕ) (after : State) (e : SessionEnd) → n + counter ≡ session.most_messages
-      → Serves n gives left' reader output' last clock' end count' sum mid after e → Serves session.most_messages gives left reader output last clock end count sum s after e
+pub record Follows {C K : Type 0} (gives : C → ℕ → C → Type 0) (counter : ℕ) (left left' output output' : Option (List ℕ)) (clock clock' : C) (k : Ghosts K) (keeper keeper' : K) (s mid : State) : Type 0 where
+  pub whole : (n : ℕ) (reader last : Option (List ℕ)) (end : C) (sum : K) (after : State) (e : SessionEnd) → n + counter ≡ session.most_messages
+      → Serves n gives left' reader output' last clock' end k keeper' sum mid after e → Serves session.most_messages gives left reader output last clock end k keeper sum s after e
 
-pub follows_first : {C : Type 0} (gives : C → ℕ → C → Type 0) (left output : Option (List ℕ)) (clock : C) (count : ℕ) (s : State) → Follows gives 0 left left output output clock clock count count s s
-follows_first gives left output clock count s = record {
+pub follows_first : {C K : Type 0} (gives : C → ℕ → C → Type 0) (left output : Option (List ℕ)) (clock : C) (k : Ghosts K) (keeper : K) (s : State) → Follows gives 0 left left output output clock clock k keeper keeper s s
+follows_first gives left output clock k keeper s = record {
   whole = λ n reader last end sum after e is serves.
       let all : n ≡ session.most_messages = omega (arith, is) in
-      subst (λ (k : ℕ). Serves k gives left reader output last clock end count sum s after e) all serves;
+      subst (λ (m : ℕ). Serves m gives left reader output last clock end k keeper sum s after e) all serves;
 }
 
-module _ {C : Type 0} (gives : C → ℕ → C → Type 0) (counter : ℕ) (left left' output output' : Option (List ℕ)) (clock clock' : C) (count count' : ℕ) (s mid : State) (f : Follows gives counter left left' output output' clock clock' count count' s mid) where
-  pub follows_more : (left'' output'' : Option (List ℕ)) (clock'' : C) (count'' : ℕ) (next : State) → Goes gives left' left'' output' output'' clock' clock'' count' count'' mid next
-      → Follows gives (counter + 1) left left'' output output'' clock clock'' count count'' s next
-  follows_more left'' output'' clock'' count'' next goes = record {
+module _ {C K : Type 0} (gives : C → ℕ → C → Type 0) (counter : ℕ) (left left' output output' : Option (List ℕ)) (clock clock' : C) (k : Ghosts K) (keeper keeper' : K) (s mid : State) (f : Follows gives counter left left' output output' clock clock' k keeper keeper' s mid) where
+  pub follows_more : (left'' output'' : Option (List ℕ)) (clock'' : C) (keeper'' : K) (next : State) → Goes gives left' left'' output' output'' clock' clock'' k keeper' keeper'' mid next
+      → Follows gives (counter + 1) left left'' output output'' clock clock'' k keeper keeper'' s next
+  follows_more left'' output'' clock'' keeper'' next goes = record {
     whole = λ n reader last end sum after e is serves.
         f.whole (suc n) reader last end sum after e (omega (arith, is))
-        (serves_more gives n left' left'' reader output' output'' last clock' clock'' end count' count'' sum mid next after e goes serves);
+        (serves_more gives n left' left'' reader output' output'' last clock' clock'' end k keeper' keeper'' sum mid next after e goes serves);
   }
 
-  pub follows_end : (p : Place) (reader last : Option (List ℕ)) (end : C) (sum : ℕ) (after : State) (e : SessionEnd) → counter < session.most_messages → (p ≡ place.Fresh → counter ≡ 0)
-      → ((n : ℕ) → ToCome p (suc n) → Serves (suc n) gives left' reader output' last clock' end count' sum mid after e) → Serves session.most_messages gives left reader output last clock end count sum s after e
+  pub follows_end : (p : Place) (reader last : Option (List ℕ)) (end : C) (sum : K) (after : State) (e : SessionEnd) → counter < session.most_messages → (p ≡ place.Fresh → counter ≡ 0)
+      → ((n : ℕ) → ToCome p (suc n) → Serves (suc n) gives left' reader output' last clock' end k keeper' sum mid after e) → Serves session.most_messages gives left reader output last clock end k keeper sum s after e
   follows_end p reader last end sum after e lt first serves =
       f.whole (suc (999 - counter)) reader last end sum after e (omega (arith, lt)) (serves (999 - counter) (λ fresh. omega (arith, first fresh)))
 
-  pub follows_limit : (reader : Option (List ℕ)) → counter ≡ session.most_messages → Serves session.most_messages gives left reader output output' clock clock' count count' s mid Limit
-  follows_limit reader all = f.whole 0 reader output' clock' count' mid Limit (omega (arith, all)) (serves_none gives left' reader output' clock' count' mid)
+  pub follows_limit : (reader : Option (List ℕ)) → counter ≡ session.most_messages → Serves session.most_messages gives left reader output output' clock clock' k keeper keeper' s mid Limit
+  follows_limit reader all = f.whole 0 reader output' clock' keeper' mid Limit (omega (arith, all)) (serves_none gives left' reader output' clock' k keeper' mid)
 
 -- ---- the feed of a reader
 

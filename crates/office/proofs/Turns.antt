@@ -1,15 +1,17 @@
 -- Connections served in turn, and one more.
-use Rattle.std.proofs.Common.{◌≡◌, ℕ, zero, suc, ◌+◌, ◌<◌, cond, List, [], ◌∷◌, ◌++◌, length, map, replicate, slice_index_or, Bor, Option, Some, refl, sym, ap, subst, ◌∙◌, append_assoc, arith}
+use Rattle.std.proofs.Common.{◌≡◌, ℕ, zero, suc, ◌+◌, ◌<◌, cond, List, [], ◌∷◌, ◌++◌, length, map, replicate, slice_index_or, Bor, Option, Some, Result, Ok, Err, refl, sym, ap, subst, ◌∙◌, append_assoc, arith}
 use Rattle.std.proofs.KnownBytes.{Appends-nil, Appends-trans}
 use Rattle.std.specs.Prelude.{slice_get}
 use Rattle.std.proofs.lemmas.List.{append-nil, length-append}
 use Rattle.std.specs.Io.KnownBytes.{Appends}
 use Rattle.boxes.specs.State.{State}
-use Rattle.office.specs.declared.session.SessionEnd.{SessionEnd}
-use Rattle.office.specs.Connections.{Told, Serves, is_fault}
-use Rattle.office.specs.Replays.{AreAll, InTurn, answers_in}
+use Rattle.keeper.specs.declared.keep.Keeper.{Ghosts}
+use Rattle.office.specs.declared.connections.session.SessionEnd.{SessionEnd}
+use Rattle.office.specs.Connections.{TellsMoments, Serves, is_fault}
+use Rattle.office.specs.Premise.{IsLeft}
+use Rattle.office.specs.Replays.{AreAll, InTurn, InTurnOver, TakesTurns, answers_in}
 use Rattle.office.specs.Sessions.{Connection, most_messages}
-use Rattle.office.proofs.RunSoFar.{count_more, run_more}
+use Rattle.office.proofs.RunSoFar.{MeansOne, count_more, none_opened, opened_more, run_more}
 
 all_more : (moment : ℕ) (xs ys : List ℕ) → AreAll moment xs → AreAll moment ys → AreAll moment (xs ++ ys)
 all_more moment [] ys a b = b
@@ -36,12 +38,12 @@ no_turn output s moment = record {
 }
 
 -- one more was served
-pub turn_more : {C : Type 0} (gives : C → ℕ → C → Type 0) (output mid_output output' input input' : Option (List ℕ)) (clock clock' : C) (count count' : ℕ) (s mid after : State)
+pub turn_more : {C K : Type 0} (gives : C → ℕ → C → Type 0) (output mid_output output' input input' : Option (List ℕ)) (clock clock' : C) (k : Ghosts K) (keeper keeper' : K) (s mid after : State)
     (moment n n' faults faults' : ℕ) (e : SessionEnd) → InTurn output mid_output s mid moment n faults
-    → ((moments : List ℕ) (later : C) → Told gives clock moments later → moments ≡ replicate (length moments) moment)
-    → Serves most_messages gives input input' mid_output output' clock clock' count count' mid after e
+    → ((moments : List ℕ) (later : C) → TellsMoments gives clock moments later → moments ≡ replicate (length moments) moment)
+    → Serves most_messages gives input input' mid_output output' clock clock' k keeper keeper' mid after e
     → n' ≡ n + 1 → faults' ≡ faults + cond (is_fault e) 1 0 → InTurn output output' s after moment n' faults'
-turn_more gives output mid_output output' input input' clock clock' count count' s mid after moment n n' faults faults' e t tells served more counted =
+turn_more gives output mid_output output' input input' clock clock' k keeper keeper' s mid after moment n n' faults faults' e t tells served more counted =
     let c : Connection = record { stream = served.stream; answers = served.answers; end = e; gave_up = served.gave_up } in
     let same : AreAll moment served.moments = subst (AreAll moment) (sym (tells served.moments clock' served.told)) (all_repeated moment (length served.moments)) in
     record {
@@ -53,6 +55,30 @@ turn_more gives output mid_output output' input input' clock clock' count count'
       many = length-append t.connections (c ∷ []) ∙ ap (λ k. k + 1) t.many ∙ sym more;
       faulty = counted ∙ ap (λ k. k + cond (is_fault e) 1 0) t.faulty ∙ sym (count_more t.connections c);
     }
+
+-- none was served yet over a keeper
+pub none_over : {K : Type 0} (k : Ghosts K) (keeper : K) (output : Option (List ℕ)) (s : State) (moment : ℕ) → MeansOne k keeper → IsLeft (k.means keeper) s
+    → InTurnOver k keeper keeper output output s s moment 0 0
+unfolding no_turn
+none_over k keeper output s moment one left = record { turn = no_turn output s moment; opened = none_opened k keeper s one left }
+
+-- one more was served over the keeper
+pub over_more : {C K : Type 0} (gives : C → ℕ → C → Type 0) (output mid_output output' input input' : Option (List ℕ)) (clock clock' : C) (k : Ghosts K) (first keeper keeper' : K) (s mid after : State)
+    (moment n n' faults faults' : ℕ) (e : SessionEnd) → MeansOne k keeper' → IsLeft (k.means keeper') after → InTurnOver k first keeper output mid_output s mid moment n faults
+    → ((moments : List ℕ) (later : C) → TellsMoments gives clock moments later → moments ≡ replicate (length moments) moment)
+    → Serves most_messages gives input input' mid_output output' clock clock' k keeper keeper' mid after e
+    → n' ≡ n + 1 → faults' ≡ faults + cond (is_fault e) 1 0 → InTurnOver k first keeper' output output' s after moment n' faults'
+unfolding turn_more
+over_more gives output mid_output output' input input' clock clock' k first keeper keeper' s mid after moment n n' faults faults' e one left t tells served more counted = record {
+  turn = turn_more gives output mid_output output' input input' clock clock' k keeper keeper' s mid after moment n n' faults faults' e t.turn tells served more counted;
+  opened = opened_more k t.turn.connections (record { stream = served.stream; answers = served.answers; end = e; gave_up = served.gave_up }) first keeper keeper' mid after one left t.opened served.held;
+}
+
+-- whatever became of the keeper
+pub turns_only : {K : Type 0} (k : Ghosts K) (keeper keeper' : K) (output output' : Option (List ℕ)) (s after : State) (moment : ℕ) (streams : List (Bor (List ℕ))) (result : Result ℕ (Bor (List ℕ)))
+    → TakesTurns (InTurnOver k keeper keeper' output output' s after moment) streams result → TakesTurns (InTurn output output' s after moment) streams result
+turns_only k keeper keeper' output output' s after moment streams (Ok faults) t = t.turn
+turns_only k keeper keeper' output output' s after moment streams (Err name) t = (t.0, t.1, t.2.turn, t.3)
 
 -- the name at which a loop over names stands
 pub name_at : (xs : List (Bor (List ℕ))) (i : ℕ) (d : Bor (List ℕ)) → i < length xs → slice_get (map (λ t. t.now) xs) i ≡ Some (slice_index_or xs i d).now

@@ -5,14 +5,14 @@ use Rattle.sigtext.specs.declared.refusal.Refusal.TheVariants as rule
 use Rattle.boxes.specs.State.{State}
 use Rattle.wire.specs.Framing.{HasHead, Next}
 use Rattle.wire.specs.Framing as frame
-use Rattle.office.specs.Answering.{Answers}
-use Rattle.office.specs.Asked.{IsReadable}
+use Rattle.office.specs.Answering.{AnswersRequest}
+use Rattle.office.specs.Readable.{IsReadable}
 use Rattle.office.specs.Sessions.{Session, Connection, Run, MayGiveUpReading, closing, most_messages}
 use Rattle.office.specs.Sessions as session
-use Rattle.office.specs.Without.{GivesUp, IsLastRefusal, IsCut, RunsWithout}
-use Rattle.office.specs.Without as without
-use Rattle.office.specs.declared.session.SessionEnd.{SessionEnd}
-use Rattle.office.specs.declared.session.SessionEnd.TheVariants.{Ended, Refused}
+use Rattle.office.specs.WithoutTryAgain.{GivesUp, IsLastRefusal, IsCutShort, RunsWithout}
+use Rattle.office.specs.WithoutTryAgain as without
+use Rattle.office.specs.declared.connections.session.SessionEnd.{SessionEnd}
+use Rattle.office.specs.declared.connections.session.SessionEnd.TheVariants.{Ended, Refused}
 
 -- ---- a message does not depend on what follows it
 
@@ -132,7 +132,7 @@ one_more s mid after c cs first others false is here w = record {
 one_more s mid after c cs first others true is here w =
     let k = session_cut most_messages c.stream s first c.answers c.end mid (omega arith) here in
     let d : Connection = record { stream = k.front; answers = k.written; end = Ended; gave_up = false } in
-    let is_cut : IsCut c d first k.told = record {
+    let is_cut : IsCutShort c d first k.told = record {
       rest = k.rest;
       others = k.others;
       last = k.last;
@@ -160,7 +160,7 @@ runs_without s after (c ∷ cs) moments (first, others, mid, joined, here, more)
 
 -- ---- an example: of two messages the first was answered, and at the second the session gave up
 
-module _ (s mid : State) (stream rest more text : List ℕ) (q r : Request) (now later : ℕ) (first : Next stream (frame.Message q) rest) (answered : Answers s q now text mid)
+module _ (s mid : State) (stream rest more text : List ℕ) (q r : Request) (now later : ℕ) (first : Next stream (frame.Message q) rest) (answered : AnswersRequest s q now text mid)
     (second : Next rest (frame.Message r) more) (readable : IsReadable r) where
   abbrev both : Connection
   both = record { stream = stream; answers = text ++ closing rule.TryAgain; end = Refused 40; gave_up = true }

@@ -18,24 +18,24 @@ shown (step.Found number receipt bytes) = Found number (encode_lower receipt.dig
 shown step.Done = Done
 
 -- a request that holds every rule is done by its method
-pub data Accepts (s : State) (r : Request) (now : ℕ) : step.StepReply → State → Type 0 where
+pub data AcceptsRequest (s : State) (r : Request) (now : ℕ) : step.StepReply → State → Type 0 where
   put : (p : LinkValues) (reply : step.StepReply) (after : State) → AllHold (Rule s r now) p → IsPut r
-      → step.UploadStep s (upload_of r now p) reply after → Accepts s r now reply after
+      → step.UploadStep s (upload_of r now p) reply after → AcceptsRequest s r now reply after
   fetch : (p : LinkValues) (reply : step.StepReply) (after : State) → AllHold (Rule s r now) p → IsFetch r
-      → step.FetchStep s (place_of p.path) reply after → Accepts s r now reply after
+      → step.FetchStep s (place_of p.path) reply after → AcceptsRequest s r now reply after
   post : (p : LinkValues) (command : step.Command) (after : State) → AllHold (Rule s r now) p → IsPost r
-      → Asks p command → step.CommandStep s command after → Accepts s r now step.Done after
+      → Asks p command → step.CommandStep s command after → AcceptsRequest s r now step.Done after
 
 -- the least rule that fails refuses the request, and nothing changes; else it is accepted
 pub data Replies (s : State) (r : Request) (now : ℕ) : Said → State → Type 0 where
   refuses : (q : Refusal) → IsFirstToFail (Rule s r now) q → Replies s r now (Refused q) s
-  accepts : (reply : step.StepReply) (after : State) → Accepts s r now reply after → Replies s r now (shown reply) after
+  accepts : (reply : step.StepReply) (after : State) → AcceptsRequest s r now reply after → Replies s r now (shown reply) after
 
 abbrev pub is_head : Request → Bool
 is_head r = same_bytes r.method (codes "HEAD")
 
 -- the text of the answer, and the state after it
-pub record Answers (s : State) (r : Request) (now : ℕ) (text : List ℕ) (after : State) : Type 0 where
+pub record AnswersRequest (s : State) (r : Request) (now : ℕ) (text : List ℕ) (after : State) : Type 0 where
   pub reply : Said
   pub replies : Replies s r now reply after
   pub is : text ≡ answer_text (is_head r) reply

@@ -1,19 +1,22 @@
--- What a session says of its reader, its writer, its clock and its keeper's count of faults.
-use Rattle.std.specs.Prelude.{◌≡◌, ◌≢◌, ◌≤◌, ℕ, List, [], ◌∷◌, Bool, true, false, count_by, Option, Some, None, ⊤}
+-- What a session says of its reader, its writer, its clock and its keeper.
+use Rattle.std.specs.Prelude.{◌≡◌, ◌≢◌, ◌⊎◌, ℕ, List, [], ◌∷◌, Bool, true, false, count_by, Option, Some, None, ⊤}
 use Rattle.std.specs.Io.KnownBytes.{Appends, Consumes, IsAtEnd}
+use Rattle.std.specs.List.{AllByRecursion}
 use Rattle.sigtext.specs.Counts.{Rose}
 use Rattle.boxes.specs.State.{State}
+use Rattle.keeper.specs.declared.keep.Keeper.{Ghosts}
 use Rattle.wire.specs.declared.counted.Counted.{Counted}
-use Rattle.office.specs.declared.session.SessionEnd.{SessionEnd}
-use Rattle.office.specs.declared.session.SessionEnd.TheVariants.{Ended, Truncated, Refused, Limit, ReadFault, WriteFault}
+use Rattle.office.specs.declared.connections.session.SessionEnd.{SessionEnd}
+use Rattle.office.specs.declared.connections.session.SessionEnd.TheVariants.{Ended, Truncated, Refused, Limit, ReadFault, WriteFault}
+use Rattle.office.specs.Premise.{HoldsUp}
 use Rattle.office.specs.Repeats.{ActsOnce}
 use Rattle.office.specs.Sessions.{Session, Connection, Run}
-use Rattle.office.specs.Without.{RunsWithout}
+use Rattle.office.specs.WithoutTryAgain.{RunsWithout}
 
 -- the clock told these moments, one after another
-abbrev pub Told : {C : Type 0} → (C → ℕ → C → Type 0) → C → List ℕ → C → Type 0
-Told gives c [] d = c ≡ d
-Told {C} gives c (moment ∷ moments) d = (e : C) × gives c moment e × Told gives e moments d
+abbrev pub TellsMoments : {C : Type 0} → (C → ℕ → C → Type 0) → C → List ℕ → C → Type 0
+TellsMoments gives c [] d = c ≡ d
+TellsMoments {C} gives c (moment ∷ moments) d = (e : C) × gives c moment e × TellsMoments gives e moments d
 
 -- the known bytes are these
 abbrev pub IsKnown : Option (List ℕ) → List ℕ → Type 0
@@ -31,22 +34,22 @@ IsStream false (Refused number) old new stream = IsKnown old stream
 IsStream false Limit old new stream = IsKnown old stream
 IsStream false WriteFault old new stream = IsKnown old stream
 
--- the keeper's count of faults is free where a session gave up, and else it stays
-abbrev pub KeepsCount : Bool → ℕ → ℕ → Type 0
-KeepsCount true old new = old ≤ new
-KeepsCount false old new = new ≡ old
+-- the session may have given up: refusal 40 closed it, or the writing of an answer broke off
+abbrev pub MayGiveUp : SessionEnd → Type 0
+MayGiveUp e = (e ≡ Refused 40) ⊎ (e ≡ WriteFault)
 
--- what was read, which moments were told, what was written, what the keeper counted, and that these are
--- a session of up to n messages
-pub record Serves {C : Type 0} (n : ℕ) (gives : C → ℕ → C → Type 0) (input input' output output' : Option (List ℕ)) (clock clock' : C) (count count' : ℕ) (s after : State) (e : SessionEnd) : Type 0 where
+-- what was read, which moments were told, what was written, that the keeper held up, and that these are a session of up
+-- to n messages
+pub record Serves {C K : Type 0} (n : ℕ) (gives : C → ℕ → C → Type 0) (input input' output output' : Option (List ℕ)) (clock clock' : C)
+    (k : Ghosts K) (keeper keeper' : K) (s after : State) (e : SessionEnd) : Type 0 where
   pub stream : List ℕ
   pub moments : List ℕ
   pub answers : List ℕ
   pub gave_up : Bool
   pub read : IsStream gave_up e input input' stream
-  pub told : Told gives clock moments clock'
+  pub told : TellsMoments gives clock moments clock'
   pub written : Appends output output' answers
-  pub counted : KeepsCount gave_up count count'
+  pub held : HoldsUp k gave_up keeper keeper'
   pub session : Session n stream s moments answers e gave_up after
 
 -- A fault of the reader or the writer that was counted is the end that is told, and no other end is told as one.
@@ -65,10 +68,17 @@ AreServed remaining contents (old ∷ olds) (new ∷ news) (c ∷ cs) =
     × TellsFaults c.end old.0 new.0 old.1 new.1 × AreServed remaining contents olds news cs
 AreServed remaining contents olds news cs = ⊥
 
--- the keeper's count of faults over the connections, one after another
-abbrev pub KeepsCounts : List Connection → ℕ → ℕ → Type 0
-KeepsCounts [] old new = new ≡ old
-KeepsCounts (c ∷ cs) old new = (mid : ℕ) × KeepsCount c.gave_up old mid × KeepsCounts cs mid new
+-- the keeper over the connections, one after another
+abbrev pub HoldsUpOver : {K : Type 0} → Ghosts K → List Connection → K → K → Type 0
+HoldsUpOver k [] old new = new ≡ old
+HoldsUpOver {K} k (c ∷ cs) old new = (mid : K) × HoldsUp k c.gave_up old mid × HoldsUpOver k cs mid new
+
+abbrev pub NoneGaveUp : List Connection → Type 0
+NoneGaveUp cs = AllByRecursion (λ c. c.gave_up ≡ false) cs
+
+-- where no connection gave up, a keeper that was open is open, and means this state after and no other
+abbrev pub StaysOpen : {K : Type 0} → Ghosts K → List Connection → K → K → State → Type 0
+StaysOpen k cs old new after = NoneGaveUp cs → k.is_open old → k.is_open new × ((t : State) → k.means new t → t ≡ after)
 
 -- the connection ended by a read or a write that failed
 abbrev pub is_fault : SessionEnd → Bool
@@ -79,15 +89,17 @@ is_fault Truncated = false
 is_fault (Refused number) = false
 is_fault Limit = false
 
--- the whole run: the connections in order, their moments, the state after, what the keeper counted, and how
--- many connections ended by a fault; and that it is a run without what was answered with refusal 40, too, and one in
--- which an upload acts once
-pub record Runs {C R W : Type 0} (gives : C → ℕ → C → Type 0) (remaining : R → Option (List ℕ)) (contents : W → Option (List ℕ)) (clock clock' : C) (old new : List (Counted R × Counted W)) (count count' : ℕ) (s after : State) (faults : ℕ) : Type 0 where
+-- the whole run: the connections in order, their moments, the state after, how the keeper held up, and how many
+-- connections ended by a fault; and that it is a run without what was answered with refusal 40, too, and one in which an
+-- upload acts once
+pub record Runs {C R W K : Type 0} (gives : C → ℕ → C → Type 0) (remaining : R → Option (List ℕ)) (contents : W → Option (List ℕ)) (clock clock' : C)
+    (old new : List (Counted R × Counted W)) (k : Ghosts K) (keeper keeper' : K) (s after : State) (faults : ℕ) : Type 0 where
   pub connections : List Connection
   pub moments : List ℕ
-  pub told : Told gives clock moments clock'
+  pub told : TellsMoments gives clock moments clock'
   pub served : AreServed remaining contents old new connections
-  pub counted : KeepsCounts connections count count'
+  pub held : HoldsUpOver k connections keeper keeper'
+  pub opened : StaysOpen k connections keeper keeper' after
   pub run : Run s connections moments after
   pub without : RunsWithout s connections moments after
   pub repeats : ActsOnce s connections moments after

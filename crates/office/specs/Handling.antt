@@ -1,25 +1,31 @@
--- What handling one message does to the clock, the writer, the state and the keeper's count of faults.
-use Rattle.std.specs.Prelude.{◌≡◌, ◌≤◌, ℕ, List, Option}
+-- What handling one message does to the clock, the writer, the state and the keeper.
+use Rattle.std.specs.Prelude.{◌≡◌, ◌⊎◌, ℕ, List, Option, true, false}
 use Rattle.std.specs.Io.KnownBytes.{Appends}
 use Rattle.sigtext.specs.declared.refusal.Refusal.TheVariants as rule
 use Rattle.sigtext.specs.Request.{Request}
 use Rattle.boxes.specs.State.{State}
+use Rattle.keeper.specs.declared.keep.Keeper.{Ghosts}
 use Rattle.sigtext.specs.Bytes.{IsBeginning}
-use Rattle.office.specs.declared.handling.Handled.{Handled}
-use Rattle.office.specs.declared.handling.Handled.TheVariants.{Answered, GaveUp, Broken}
-use Rattle.office.specs.Answering.{Answers}
-use Rattle.office.specs.Asked.{IsReadable}
-use Rattle.office.specs.Kept.{IsLeft}
+use Rattle.office.specs.declared.connections.handling.Handled.{Handled}
+use Rattle.office.specs.declared.connections.handling.Handled.TheVariants.{Answered, GaveUp, Broken}
+use Rattle.office.specs.Answering.{AnswersRequest}
+use Rattle.office.specs.Premise.{HoldsUp, IsLeft}
+use Rattle.office.specs.Readable.{IsReadable}
 use Rattle.office.specs.Sessions.{closing}
+
+-- refusal 40 was written, or the writing broke off
+abbrev pub MayBeGivenUp : Handled → Type 0
+MayBeGivenUp h = (h ≡ GaveUp) ⊎ (h ≡ Broken)
 
 -- a message that is the request r was handled at a moment: it was answered or given up, or the answer's
 -- writing broke off
-pub data Handles {C : Type 0} (gives : C → ℕ → C → Type 0) (clock clock' : C) (output output' : Option (List ℕ)) (count count' : ℕ) (means : State → Type 0) (s : State) (r : Request) : Handled → Type 0 where
-  answered : (now : ℕ) (text : List ℕ) (after : State) → gives clock now clock' → Appends output output' text → count' ≡ count → IsLeft means after → Answers s r now text after
-      → Handles gives clock clock' output output' count count' means s r Answered
-  gave_up_at : (now : ℕ) → gives clock now clock' → Appends output output' (closing rule.TryAgain) → count ≤ count' → IsReadable r → IsLeft means s
-      → Handles gives clock clock' output output' count count' means s r GaveUp
-  broke : (now : ℕ) (text front : List ℕ) (after : State) → gives clock now clock' → Appends output output' front → IsBeginning front text → count' ≡ count → IsLeft means after → Answers s r now text after
-      → Handles gives clock clock' output output' count count' means s r Broken
-  broke_giving_up_at : (now : ℕ) (front : List ℕ) → gives clock now clock' → Appends output output' front → IsBeginning front (closing rule.TryAgain) → count ≤ count' → IsReadable r → IsLeft means s
-      → Handles gives clock clock' output output' count count' means s r Broken
+pub data Handles {C K : Type 0} (gives : C → ℕ → C → Type 0) (clock clock' : C) (output output' : Option (List ℕ)) (k : Ghosts K) (keeper keeper' : K) (s : State) (r : Request)
+    : Handled → Type 0 where
+  answered : (now : ℕ) (text : List ℕ) (after : State) → gives clock now clock' → Appends output output' text → HoldsUp k false keeper keeper' → IsLeft (k.means keeper') after → AnswersRequest s r now text after
+      → Handles gives clock clock' output output' k keeper keeper' s r Answered
+  gave_up_at : (now : ℕ) → gives clock now clock' → Appends output output' (closing rule.TryAgain) → HoldsUp k true keeper keeper' → IsReadable r → IsLeft (k.means keeper') s
+      → Handles gives clock clock' output output' k keeper keeper' s r GaveUp
+  broke : (now : ℕ) (text front : List ℕ) (after : State) → gives clock now clock' → Appends output output' front → IsBeginning front text → HoldsUp k false keeper keeper' → IsLeft (k.means keeper') after → AnswersRequest s r now text after
+      → Handles gives clock clock' output output' k keeper keeper' s r Broken
+  broke_giving_up_at : (now : ℕ) (front : List ℕ) → gives clock now clock' → Appends output output' front → IsBeginning front (closing rule.TryAgain) → HoldsUp k true keeper keeper' → IsReadable r → IsLeft (k.means keeper') s
+      → Handles gives clock clock' output output' k keeper keeper' s r Broken

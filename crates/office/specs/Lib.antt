@@ -1,15 +1,15 @@
 pub mod Admitted
 pub mod Alike
 pub mod Answering
-pub mod Asked
 pub mod Clocks
 pub mod Connections
-pub mod Enduring
+pub mod Crashes
+pub mod DeskLines
 pub mod Handling
-pub mod Kept
-pub mod Obeying
 pub mod Offices
 pub mod Places
+pub mod Premise
+pub mod Readable
 pub mod Repeats
 pub mod Replays
 pub mod Replying
@@ -18,4 +18,4 @@ pub mod Sent
 pub mod Serving
 pub mod Sessions
 pub mod Stepping
-pub mod Without
+pub mod WithoutTryAgain

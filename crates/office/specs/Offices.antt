@@ -6,8 +6,8 @@ use Rattle.boxes.specs.State.{State}
 use Rattle.wire.specs.declared.answer.Answer.{Answer}
 use Rattle.wire.specs.declared.answer.Reply.TheVariants as reply
 use Rattle.wire.specs.Shown.{whole_text}
-use Rattle.office.specs.Answering.{Answers}
-use Rattle.office.specs.Kept.{IsLeft}
+use Rattle.office.specs.Answering.{AnswersRequest}
+use Rattle.office.specs.Premise.{IsLeft}
 
 -- it is refusal 40
 abbrev pub IsTryAgain : Answer → Type 0
@@ -15,10 +15,10 @@ IsTryAgain a = a.reply ≡ reply.Refused rule.TryAgain
 
 -- unless it is refusal 40: the text is the machine's, and the keeper means the state after it, which is sound
 abbrev pub IsAnswered : (State → Type 0) → State → Request → ℕ → Answer → Type 0
-IsAnswered means s r now a = (IsTryAgain a → ⊥) → (after : State) × IsLeft means after × Answers s r now (whole_text a) after
+IsAnswered means s r now a = (IsTryAgain a → ⊥) → (after : State) × IsLeft means after × AnswersRequest s r now (whole_text a) after
 
 -- the same, and it is the machine's only one: neither another text nor another state after is the machine's
 abbrev pub IsTheAnswer : (State → Type 0) → State → Request → ℕ → Answer → Type 0
 IsTheAnswer means s r now a =
-    (IsTryAgain a → ⊥) → (after : State) × IsLeft means after × Answers s r now (whole_text a) after
-    × ((text : List ℕ) (other : State) → Answers s r now text other → (text ≡ whole_text a) × (other ≡ after))
+    (IsTryAgain a → ⊥) → (after : State) × IsLeft means after × AnswersRequest s r now (whole_text a) after
+    × ((text : List ℕ) (other : State) → AnswersRequest s r now text other → (text ≡ whole_text a) × (other ≡ after))

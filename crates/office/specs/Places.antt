@@ -1,6 +1,6 @@
 -- What a `FilePlace` means.
 use Rattle.boxes.specs.State.{Place}
-use Rattle.office.specs.declared.places.FilePlace.{FilePlace}
+use Rattle.office.specs.declared.requests.places.FilePlace.{FilePlace}
 
 abbrev pub place_at : FilePlace → Place
 place_at p = record { box = p.in_box.now; name = p.name.now }

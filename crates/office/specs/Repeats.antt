@@ -11,12 +11,12 @@ use Rattle.wire.specs.Framing.{Next}
 use Rattle.wire.specs.Framing as frame
 use Rattle.office.specs.Admitted.{ReachesBoxes}
 use Rattle.office.specs.Answering.{Replies, is_head}
-use Rattle.office.specs.Asked.{IsReadable}
+use Rattle.office.specs.Readable.{IsReadable}
 use Rattle.office.specs.Rules.{IsPut, IsPost, place_of, Asks}
 use Rattle.office.specs.Sessions.{Session, Connection, most_messages}
-use Rattle.office.specs.Without.{IsLastRefusal}
-use Rattle.office.specs.declared.session.SessionEnd.{SessionEnd}
-use Rattle.office.specs.declared.session.SessionEnd.TheVariants.{WriteFault}
+use Rattle.office.specs.WithoutTryAgain.{IsLastRefusal}
+use Rattle.office.specs.declared.connections.session.SessionEnd.{SessionEnd}
+use Rattle.office.specs.declared.connections.session.SessionEnd.TheVariants.{WriteFault}
 
 -- what was done for one message
 pub record Act : Type 0 where

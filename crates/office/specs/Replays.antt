@@ -4,9 +4,10 @@ use Rattle.std.specs.Borrow.{Bor}
 use Rattle.std.specs.List.{count_by}
 use Rattle.std.specs.Io.KnownBytes.{Appends}
 use Rattle.boxes.specs.State.{State}
-use Rattle.office.specs.declared.session.SessionEnd.{SessionEnd}
-use Rattle.office.specs.declared.session.SessionEnd.TheVariants.{ReadFault}
-use Rattle.office.specs.Connections.{IsStream, is_fault}
+use Rattle.keeper.specs.declared.keep.Keeper.{Ghosts}
+use Rattle.office.specs.declared.connections.session.SessionEnd.{SessionEnd}
+use Rattle.office.specs.declared.connections.session.SessionEnd.TheVariants.{ReadFault}
+use Rattle.office.specs.Connections.{IsStream, StaysOpen, is_fault}
 use Rattle.office.specs.Sessions.{Connection, Run, Session, most_messages}
 
 -- what was read and written is a session from the state, each of whose messages was handled at the moment
@@ -52,8 +53,14 @@ pub record InTurn (output output' : Option (List ℕ)) (s after : State) (moment
   pub many : length connections ≡ n
   pub faulty : faults ≡ count_by (λ c. is_fault c.end) connections
 
--- all the streams were served in turn, where the result counts the faults; or those before the one that it names
-abbrev pub TakesTurns : Option (List ℕ) → Option (List ℕ) → State → State → ℕ → List (Bor (List ℕ)) → Result ℕ (Bor (List ℕ)) → Type 0
-TakesTurns output output' s after moment streams result = MatchResult result
-    (λ faults. InTurn output output' s after moment (length streams) faults)
-    (λ name. (n faults : ℕ) × InTurn output output' s after moment n faults × (slice_get (map (λ t. t.now) streams) n ≡ Some name.now))
+-- the same, over a keeper: where none of the connections gave up, it is open if it was
+pub record InTurnOver {K : Type 0} (k : Ghosts K) (keeper keeper' : K) (output output' : Option (List ℕ)) (s after : State) (moment n faults : ℕ) : Type 0 where
+  pub turn : InTurn output output' s after moment n faults
+  pub opened : StaysOpen k turn.connections keeper keeper' after
+
+-- All the streams were served in turn, where the result counts the faults; or those before the one that it names. Served n
+-- faults: n connections were served in turn, and so many of them ended by a fault.
+abbrev pub TakesTurns : (ℕ → ℕ → Type 0) → List (Bor (List ℕ)) → Result ℕ (Bor (List ℕ)) → Type 0
+TakesTurns Served streams result = MatchResult result
+    (λ faults. Served (length streams) faults)
+    (λ name. (n faults : ℕ) × Served n faults × (slice_get (map (λ t. t.now) streams) n ≡ Some name.now))

@@ -10,14 +10,14 @@ use Rattle.boxes.specs.declared.change.NewFile.{NewFile}
 use Rattle.wire.specs.declared.answer.Reply.{Reply}
 use Rattle.wire.specs.declared.answer.Reply.TheVariants as reply
 use Rattle.wire.specs.Shown.{said_of}
-use Rattle.office.specs.Answering.{Accepts, shown}
-use Rattle.office.specs.Kept.{IsLeft}
+use Rattle.office.specs.Answering.{AcceptsRequest, shown}
+use Rattle.office.specs.Premise.{IsLeft}
 use Rattle.office.specs.Rules.{Rule}
 
 -- the request is accepted, this is its reply, and the keeper means the state after it; or, unless memory was
 -- refused or the keeper counted a fault, it is refused by the least rule that fails
 abbrev pub IsReplied : (State → Type 0) → State → Request → ℕ → Result Reply Refusal → Type 0
-IsReplied means s r now (Ok x) = (step : StepReply) × (after : State) × Accepts s r now step after × IsLeft means after × (said_of x ≡ shown step)
+IsReplied means s r now (Ok x) = (step : StepReply) × (after : State) × AcceptsRequest s r now step after × IsLeft means after × (said_of x ≡ shown step)
 IsReplied means s r now (Err q) = (q ≢ rule.TryAgain) → IsFirstToFail (Rule s r now) q
 
 abbrev pub IsNoRefusal : Reply → Type 0

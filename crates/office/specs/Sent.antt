@@ -4,8 +4,8 @@ use Rattle.std.specs.Io.KnownBytes.{Appends}
 use Rattle.wire.specs.declared.answer.Answer.{Answer}
 use Rattle.sigtext.specs.Bytes.{IsBeginning}
 use Rattle.wire.specs.Shown.{whole_text}
-use Rattle.office.specs.declared.handling.Handled.{Handled}
-use Rattle.office.specs.declared.handling.Handled.TheVariants.{Answered, GaveUp, Broken}
+use Rattle.office.specs.declared.connections.handling.Handled.{Handled}
+use Rattle.office.specs.declared.connections.handling.Handled.TheVariants.{Answered, GaveUp, Broken}
 use Rattle.office.specs.Offices.{IsTryAgain}
 
 -- the whole text was written, or a beginning of it

@@ -11,10 +11,10 @@ use Rattle.wire.specs.Framing.{Next}
 use Rattle.wire.specs.Framing as frame
 use Rattle.wire.specs.Feeding.{AnnouncesBody, Awaits}
 use Rattle.sigtext.specs.Bytes.{IsBeginning}
-use Rattle.office.specs.declared.session.SessionEnd.{SessionEnd}
-use Rattle.office.specs.declared.session.SessionEnd.TheVariants.{Ended, Truncated, Refused, Limit, ReadFault, WriteFault}
-use Rattle.office.specs.Answering.{Answers}
-use Rattle.office.specs.Asked.{IsReadable}
+use Rattle.office.specs.declared.connections.session.SessionEnd.{SessionEnd}
+use Rattle.office.specs.declared.connections.session.SessionEnd.TheVariants.{Ended, Truncated, Refused, Limit, ReadFault, WriteFault}
+use Rattle.office.specs.Answering.{AnswersRequest}
+use Rattle.office.specs.Readable.{IsReadable}
 
 -- the text of a refusal that closes the connection
 abbrev pub closing : Refusal → List ℕ
@@ -39,7 +39,7 @@ pub data Session : ℕ → List ℕ → State → List ℕ → List ℕ → Sess
   unframed : (n : ℕ) (stream : List ℕ) (s : State) (q : Refusal) → Next stream (frame.Refused q) []
       → Session (suc n) stream s [] (closing q) (Refused (number_of q)) false s
   served : (n : ℕ) (stream rest : List ℕ) (s mid after : State) (r : Request) (now : ℕ) (moments text out : List ℕ) (e : SessionEnd) (gave_up : Bool)
-      → Next stream (frame.Message r) rest → Answers s r now text mid → Session n rest mid moments out e gave_up after
+      → Next stream (frame.Message r) rest → AnswersRequest s r now text mid → Session n rest mid moments out e gave_up after
       → Session (suc n) stream s (now ∷ moments) (text ++ out) e gave_up after
   -- memory was refused, or the keeper counted a fault, at a message
   gave_up_at : (n : ℕ) (stream rest : List ℕ) (s : State) (r : Request) (now : ℕ) → Next stream (frame.Message r) rest → IsReadable r
@@ -51,7 +51,7 @@ pub data Session : ℕ → List ℕ → State → List ℕ → List ℕ → Sess
   read_failed : (n : ℕ) (stream : List ℕ) (s : State) → Awaits stream → Session (suc n) stream s [] [] ReadFault false s
   -- a write failed, and a beginning of the answer was written; the request has taken effect, or was refused
   write_failed : (n : ℕ) (stream rest : List ℕ) (s after : State) (r : Request) (now : ℕ) (text front : List ℕ)
-      → Next stream (frame.Message r) rest → Answers s r now text after → IsBeginning front text
+      → Next stream (frame.Message r) rest → AnswersRequest s r now text after → IsBeginning front text
       → Session (suc n) stream s (now ∷ []) front WriteFault false after
   write_failed_unframed : (n : ℕ) (stream : List ℕ) (s : State) (q : Refusal) (front : List ℕ) → Next stream (frame.Refused q) []
       → IsBeginning front (closing q) → Session (suc n) stream s [] front WriteFault false s

@@ -1,24 +1,26 @@
 -- What one step of a session does: it handles a message, or it ends the session.
-use Rattle.std.specs.Prelude.{◌≡◌, ℕ, suc, List, ◌++◌, Option, Some, None}
+use Rattle.std.specs.Prelude.{◌≡◌, ℕ, suc, List, ◌++◌, Option, Some, None, false}
 use Rattle.std.specs.Io.KnownBytes.{Appends, Consumes}
 use Rattle.sigtext.specs.Bytes.{IsBeginning}
 use Rattle.sigtext.specs.declared.refusal.Refusal.{Refusal}
 use Rattle.sigtext.specs.Refusals.{number_of}
 use Rattle.sigtext.specs.Request.{Request}
 use Rattle.boxes.specs.State.{State}
+use Rattle.keeper.specs.declared.keep.Keeper.{Ghosts}
 use Rattle.wire.specs.Framing.{Next, Message}
 use Rattle.wire.specs.declared.counted.Counted.{Counted}
 use Rattle.wire.specs.declared.feed.Place.{Place}
 use Rattle.wire.specs.declared.feed.Place.TheVariants as place
-use Rattle.office.specs.declared.session.SessionEnd.{SessionEnd}
-use Rattle.office.specs.declared.session.SessionEnd.TheVariants.{Refused, WriteFault}
-use Rattle.office.specs.Answering.{Answers}
+use Rattle.office.specs.declared.connections.session.SessionEnd.{SessionEnd}
+use Rattle.office.specs.declared.connections.session.SessionEnd.TheVariants.{Refused, WriteFault}
+use Rattle.office.specs.Answering.{AnswersRequest}
 use Rattle.office.specs.Connections.{Serves, TellsFaults}
+use Rattle.office.specs.Premise.{HoldsUp, IsLeft}
 use Rattle.office.specs.Sessions.{closing, most_messages}
-use Rattle.office.specs.Kept.{IsLeft}
 
 -- One message was answered, and the session goes on. left and left': what is left of the stream before and after.
-pub record Goes {C : Type 0} (gives : C → ℕ → C → Type 0) (left left' output output' : Option (List ℕ)) (clock clock' : C) (count count' : ℕ) (s after : State) : Type 0 where
+pub record Goes {C K : Type 0} (gives : C → ℕ → C → Type 0) (left left' output output' : Option (List ℕ)) (clock clock' : C) (k : Ghosts K) (keeper keeper' : K)
+    (s after : State) : Type 0 where
   pub front : List ℕ
   pub request : Request
   pub moment : ℕ
@@ -27,8 +29,8 @@ pub record Goes {C : Type 0} (gives : C → ℕ → C → Type 0) (left left' ou
   pub message : (more : List ℕ) → Next (front ++ more) (Message request) more
   pub told : gives clock moment clock'
   pub written : Appends output output' text
-  pub answers : Answers s request moment text after
-  pub counted : count' ≡ count
+  pub answers : AnswersRequest s request moment text after
+  pub held : HoldsUp k false keeper keeper'
 
 -- up to n messages are to come of a feed that stands there: all of a connection's, where it is fresh
 abbrev pub ToCome : Place → ℕ → Type 0
@@ -36,11 +38,11 @@ ToCome p n = p ≡ place.Fresh → n ≡ most_messages
 
 -- A step goes on, or it ends the session, however many messages were to come. p: where the feed stood before; reader: what the
 -- reader has now.
-abbrev pub Steps : {C : Type 0} → (C → ℕ → C → Type 0) → Place → Option (List ℕ) → Option (List ℕ) → Option (List ℕ) → Option (List ℕ) → Option (List ℕ) → C → C → ℕ → ℕ → (State → Type 0) → State → Option SessionEnd → Type 0
-Steps gives p left left' reader output output' clock clock' count count' means s None =
-    (after : State) × IsLeft means after × Goes gives left left' output output' clock clock' count count' s after
-Steps gives p left left' reader output output' clock clock' count count' means s (Some e) =
-    (after : State) × IsLeft means after × ((n : ℕ) → ToCome p (suc n) → Serves (suc n) gives left reader output output' clock clock' count count' s after e)
+abbrev pub Steps : {C K : Type 0} → (C → ℕ → C → Type 0) → Place → Option (List ℕ) → Option (List ℕ) → Option (List ℕ) → Option (List ℕ) → Option (List ℕ) → C → C → Ghosts K → K → K → State → Option SessionEnd → Type 0
+Steps gives p left left' reader output output' clock clock' k keeper keeper' s None =
+    (after : State) × IsLeft (k.means keeper') after × Goes gives left left' output output' clock clock' k keeper keeper' s after
+Steps gives p left left' reader output output' clock clock' k keeper keeper' s (Some e) =
+    (after : State) × IsLeft (k.means keeper') after × ((n : ℕ) → ToCome p (suc n) → Serves (suc n) gives left reader output output' clock clock' k keeper keeper' s after e)
 
 -- the faults that were counted in a step
 abbrev pub TellsStep : {R W : Type 0} → Option SessionEnd → Counted R → Counted R → Counted W → Counted W → Type 0

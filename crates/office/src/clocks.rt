@@ -21,11 +21,12 @@ pub struct FixedClock {
 
 impl FixedClock {
     ghost use Rattle.std.specs.Prelude.{◌≡◌, ℕ, List, length, replicate};
-    ghost use Rattle.office.specs.Connections.{Told};
+    ghost use Rattle.office.specs.Connections.{TellsMoments};
 
     /// A clock that tells this moment, however often it is asked.
     pub fn new(moment: Moment) -> FixedClock
-        ensures { (moments : List ℕ) (later : FixedClock) → Told ⟦<FixedClock as Clock>⟧.now_gives result moments later
+        ensures { (moments : List ℕ) (later : FixedClock)
+            → TellsMoments ⟦<FixedClock as Clock>⟧.now_gives result moments later
             → moments ≡ replicate (length moments) moment }
     {
         FixedClock { moment }
@@ -54,11 +55,12 @@ pub struct ListedClock<'a> {
 impl<'a> ListedClock<'a> {
     ghost use Rattle.std.specs.Prelude.{◌≡◌, ℕ, List, length};
     ghost use Rattle.office.specs.Clocks.{listed};
-    ghost use Rattle.office.specs.Connections.{Told};
+    ghost use Rattle.office.specs.Connections.{TellsMoments};
 
     /// A clock that tells the first moment, then the others in their order, and then the last of them for ever.
     pub fn new(first: Moment, others: &'a [Moment]) -> ListedClock<'a>
-        ensures { (moments : List ℕ) (later : ListedClock) → Told ⟦<ListedClock<'a> as Clock>⟧.now_gives result moments later
+        ensures { (moments : List ℕ) (later : ListedClock)
+            → TellsMoments ⟦<ListedClock<'a> as Clock>⟧.now_gives result moments later
             → moments ≡ listed (length moments) first others.entry.now }
     {
         ListedClock { first, others }

@@ -10,7 +10,8 @@ ghost use Rattle.office.specs.Sessions.{Connection, Run};
 
 /// At a moment a request has one reply, and one state after it.
 pub fn law_of_replies()
-    ensures one { (s : State) (r : Request) (now : ℕ) (a b : Said) (x y : State) → Replies s r now a x
+    ensures one { (s : State) (r : Request) (now : ℕ) (a b : Said) (x y : State)
+        → Replies s r now a x
         → Replies s r now b y → (b ≡ a) × (y ≡ x) }
 {}
 
@@ -24,7 +25,8 @@ pub fn law_of_alike()
 /// Connections are a run just where there are acts of theirs that are by the rules. Over any acts that are by the rules an
 /// upload acts once.
 pub fn law_of_acts()
-    ensures are { (s after : State) (cs : List Connection) (moments : List ℕ) → Run s cs moments after
+    ensures are { (s after : State) (cs : List Connection) (moments : List ℕ)
+        → Run s cs moments after
         ↔ ((acts : List Act) × AreActs s cs moments acts after × Acts s acts after) }
     ensures once { (s after : State) (acts : List Act) → Acts s acts after → RepeatsOnce acts }
 {}

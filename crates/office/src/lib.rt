@@ -1,30 +1,19 @@
 //! The office: one request, one connection, a list of connections, and a listener's, over any keeper.
 #![tactic(auto)]
 
-mod admitting;
 pub mod clocks;
-pub mod commanding;
-mod fetching;
-mod forms;
-mod handling;
+pub mod connections;
 mod laws;
 mod machine_clock;
 pub mod office;
-mod places;
-mod putting;
-mod reading;
-pub mod replay;
-pub mod run;
-pub mod serving;
-pub mod session;
-mod stepping;
+pub mod requests;
 
 pub use clocks::{Clock, FixedClock, ListedClock};
-pub use commanding::{DESK, DeskFault};
+pub use connections::replay::{Replayed, replay_bytes, replay_in_memory, replay_over};
+pub use connections::serving::serve;
+pub use connections::session::SessionEnd;
 pub use laws::{law_of_acts, law_of_alike, law_of_replies};
 pub use machine_clock::MachineClock;
 pub use office::Office;
-pub use replay::{Replayed, replay_bytes, replay_in_memory, replay_over};
-pub use serving::serve;
-pub use session::SessionEnd;
+pub use requests::commanding::{DESK, DeskFault};
 pub use wire::{Answer, Counted, Message};

@@ -5,7 +5,7 @@ use Rattle.wire.specs.Answers as said
 use Rattle.wire.specs.Messages.{request_in}
 use Rattle.wire.specs.Shown.{said_of}
 use Rattle.office.specs.Answering.{accepts, shown}
-use Rattle.office.specs.Enduring.{unchanged}
+use Rattle.office.specs.Crashes.{unchanged}
 use Rattle.office.proofs.Alikeness.{the_answer}
 use Rattle.office.proofs.Answered.{is_again, refused_text}
 use Rattle.office.proofs.office.Office.answer.Goals as goal

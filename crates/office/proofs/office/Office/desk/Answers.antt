@@ -2,8 +2,8 @@ use Rattle.std.proofs.Common.{◌≡◌, Some, sym, subst, ◌∙◌}
 use Rattle.boxes.specs.Changes.{command_of}
 use Rattle.boxes.specs.Steps.{Command}
 use Rattle.desk.specs.Lines.{said}
-use Rattle.office.specs.Obeying.{Tells}
-use Rattle.office.specs.Enduring.{Endures}
+use Rattle.office.specs.Crashes.{Endures}
+use Rattle.office.specs.DeskLines.{IsDeskLine}
 use Rattle.office.proofs.Endurance.{undone_more}
 use Rattle.office.proofs.Possible.{obeyed_by}
 use Rattle.office.proofs.office.Office.desk.Goals as goal
@@ -17,8 +17,8 @@ returns-in-Ok-Some-clause-obeys g c s kept =
     let command = command_of c.command.result in
     let is : command ≡ said c.in-Ok-Some.read = c.command.ensures in
     let told = rw c.in-Ok-Some.field-0-is at c.in-Ok-Some.ensures.some in
-    let tells = subst (Tells line) (sym is) (record { is_command = told.0; form = told.1 }) in
-    obeyed_by (Endures g.K.Keeper.means g.K.Keeper.leaves g.K.Keeper.leaves_whole c.args.self.now.keeper c.obey.new.self.keeper s) s line c.obey.result command tells
+    let tells = subst (IsDeskLine line) (sym is) (record { is_command = told.0; form = told.1 }) in
+    obeyed_by (Endures g.K.Keeper c.args.self.now.keeper c.obey.new.self.keeper s) s line c.obey.result command tells
     (λ other tells.
     let all = rw c.in-Ok-Some.field-0-is at (c.in-Ok-Some.ensures.all other tells.is_command tells.form) in
     some_is (said c.in-Ok-Some.read) other all ∙ sym is)
@@ -29,5 +29,5 @@ returns-in-Ok-Some-clause-crash g c s kept =
     let line = c.args.line.now in
     let command = command_of c.command.result in
     let told = rw c.in-Ok-Some.field-0-is at c.in-Ok-Some.ensures.some in
-    let tells = subst (Tells line) (sym c.command.ensures) (record { is_command = told.0; form = told.1 }) in
-    undone_more g.K.Keeper.leaves g.K.Keeper.leaves_whole c.args.self.now.keeper c.obey.new.self.keeper s _ _ c.obey.result (λ t obeyed. record { command = command; tells = tells; obeyed = obeyed }) (c.obey.ensures.crash s kept tells.form)
+    let tells = subst (IsDeskLine line) (sym c.command.ensures) (record { is_command = told.0; form = told.1 }) in
+    undone_more g.K.Keeper c.args.self.now.keeper c.obey.new.self.keeper s _ _ c.obey.result (λ t obeyed. record { command = command; tells = tells; obeyed = obeyed }) (c.obey.ensures.crash s kept tells.form)

@@ -1,19 +1,20 @@
 use Rattle.std.proofs.Common.{◌∙◌, ap, refl}
-use Rattle.office.specs.Rules.{place_of}
+use Rattle.office.specs.Crashes.{Endures, unchanged}
 use Rattle.office.specs.Places.{place_at}
-use Rattle.office.specs.Enduring.{Endures, unchanged}
+use Rattle.office.specs.Rules.{place_of}
+use Rattle.office.proofs.Endurance.{asked_standing}
 use Rattle.office.proofs.Replies.{fetched, not_fetched}
 use Rattle.office.proofs.office.Office.fetch.Goals as goal
 
 pub returns-in-Ok-fetch-clause-replies : goal.returns-in-Ok-fetch-clause-replies
 returns-in-Ok-fetch-clause-replies g c s r p now kept is is_fetch reached =
     let same = c.read_place-place.ensures ∙ ap place_of (c.deref.ensures.value ∙ c.in-Ok.ensures r p is) in
-    fetched (Endures g.K.Keeper.means g.K.Keeper.leaves g.K.Keeper.leaves_whole c.args.self.now.keeper c.look_for.new.self.keeper s) s r now p reached (place_at c.read_place-place.result) c.in-Ok-fetch.file is_fetch same
-    (record { means = record { meant = c.look_for.ensures.same s kept.means; lasts = unchanged refl (c.look_for.ensures.crash s kept.means kept.is_honest) }; sound = kept.sound })
+    fetched (Endures g.K.Keeper c.args.self.now.keeper c.look_for.new.self.keeper s) s r now p reached (place_at c.read_place-place.result) c.in-Ok-fetch.file is_fetch same
+    (record { means = record { meant = c.look_for.ensures.rest.same s kept.means; lasts = unchanged refl (asked_standing c.look_for.ensures.rest kept.means kept.is_honest) }; sound = kept.sound })
     (c.in-Ok-fetch.ensures s c.read_place-place.result.in_box.now kept.sound (c.in-Ok-look_for.ensures.view s kept))
 
 pub returns-clause-replies : goal.returns-clause-replies
 returns-clause-replies g c s r p now kept is is_fetch reached other =
     let same = c.read_place-place.ensures ∙ ap place_of (c.deref.ensures.value ∙ c.in-Ok.ensures r p is) in
-    not_fetched (Endures g.K.Keeper.means g.K.Keeper.leaves g.K.Keeper.leaves_whole c.args.self.now.keeper c.look_for.new.self.keeper s) s r now p reached (place_at c.read_place-place.result) c.in-Err.refusal is_fetch same
+    not_fetched (Endures g.K.Keeper c.args.self.now.keeper c.look_for.new.self.keeper s) s r now p reached (place_at c.read_place-place.result) c.in-Err.refusal is_fetch same
     (c.in-Err.ensures s c.read_place-place.result.in_box.now kept.sound (c.in-Ok-look_for.ensures.view s kept))

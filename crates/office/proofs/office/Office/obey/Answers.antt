@@ -1,12 +1,12 @@
 use Rattle.std.proofs.Common.{◌≡◌, ◌∙◌, Result, Err, ap, rules}
 use Rattle.keeper.specs.declared.keep.KeepFault.{KeepFault}
 use Rattle.keeper.specs.declared.keep.KeepFault.TheVariants.{Full}
-use Rattle.office.specs.declared.commanding.DeskFault.{DeskFault}
-use Rattle.office.specs.declared.commanding.DeskFault.TheVariants as fault
+use Rattle.office.specs.declared.requests.commanding.DeskFault.{DeskFault}
+use Rattle.office.specs.declared.requests.commanding.DeskFault.TheVariants as fault
 use Rattle.boxes.specs.Changes.{command_of}
 use Rattle.boxes.specs.declared.change.Change.TheVariants as change
-use Rattle.office.specs.Enduring.{changed}
-use Rattle.office.proofs.Endurance.{of_either, then_asked}
+use Rattle.office.specs.Crashes.{changed}
+use Rattle.office.proofs.Endurance.{asked_standing, of_either, then_asked}
 use Rattle.office.proofs.Possible.{decided, obeys}
 use Rattle.office.proofs.office.Office.obey.Goals as goal
 
@@ -16,7 +16,7 @@ returns-in-Ok-apply-clause-does g c s kept form =
     let view = c.in-Ok.ensures.view s (record { means = kept.means; is_honest = c.apply.ensures.honest kept.is_honest; sound = kept.sound }) in
     let possible = decided s command c.desk.result (c.desk.ensures s kept.sound view) (search rules) in
     let it = obeys s command form possible in
-    let means = c.look_at.ensures.same s kept.means in (
+    let means = c.look_at.ensures.rest.same s kept.means in (
       it.0,
       it.1,
       record {
@@ -40,7 +40,7 @@ returns-clause-room g c s kept form full =
     let view = c.in-Ok.ensures.view s (record { means = kept.means; is_honest = c.apply.ensures.honest kept.is_honest; sound = kept.sound }) in
     let possible = decided s command c.desk.result (c.desk.ensures s kept.sound view) (search rules) in
     let it = obeys s command form possible in
-    c.apply.ensures.full s it.0 (c.look_at.ensures.same s kept.means) kept.sound it.1 (c.in-Err-apply.is ∙ ap Err (kept_full c.in-Err-apply.fault full))
+    c.apply.ensures.full s it.0 (c.look_at.ensures.rest.same s kept.means) kept.sound it.1 (c.in-Err-apply.is ∙ ap Err (kept_full c.in-Err-apply.fault full))
 
 pub returns-clause-crash : goal.returns-clause-crash
 returns-clause-crash g c s kept form =
@@ -49,5 +49,5 @@ returns-clause-crash g c s kept form =
     let view = c.in-Ok.ensures.view s (record { means = kept.means; is_honest = before; sound = kept.sound }) in
     let possible = decided s command c.desk.result (c.desk.ensures s kept.sound view) (search rules) in
     let it = obeys s command form possible in
-    then_asked (c.look_at.ensures.crash s kept.means before)
-    (of_either it.1 (c.in-Err-apply.ensures.crash s it.0 (c.look_at.ensures.same s kept.means) kept.sound it.1 kept.is_honest))
+    then_asked (asked_standing c.look_at.ensures.rest kept.means before)
+    (of_either it.1 (c.in-Err-apply.ensures.crash s it.0 (c.look_at.ensures.rest.same s kept.means) kept.sound it.1 kept.is_honest))

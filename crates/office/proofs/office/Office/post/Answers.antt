@@ -2,7 +2,7 @@ use Rattle.std.proofs.Common.{◌∙◌, codes, sym, subst, rules}
 use Rattle.sigtext.specs.declared.refusal.Refusal.TheVariants as rule
 use Rattle.links.specs.WellFormed.{HasValue}
 use Rattle.links.proofs.Texts.{texts_differ, texts_equal}
-use Rattle.office.specs.Enduring.{Endures}
+use Rattle.office.specs.Crashes.{Endures}
 use Rattle.office.proofs.Endurance.{more_asked, refused_asked, refused_same}
 use Rattle.office.proofs.Obeyed.{asked_by, elsewhere, no_line, not_given, not_obeyed, obeyed}
 use Rattle.office.proofs.office.Office.post.Goals as goal
@@ -18,7 +18,7 @@ returns-in-Ok-None-clause-replies g c s r p now kept is is_post reached other =
 
 pub returns-in-Ok-desk-clause-replies : goal.returns-in-Ok-desk-clause-replies
 returns-in-Ok-desk-clause-replies g c s r p now kept is is_post reached =
-    let means = Endures g.K.Keeper.means g.K.Keeper.leaves g.K.Keeper.leaves_whole c.args.self.now.keeper c.desk.new.self.keeper s in
+    let means = Endures g.K.Keeper c.args.self.now.keeper c.desk.new.self.keeper s in
     let at = sym (c.in-Ok.ensures r p is) ∙ sym c.as_slice.ensures.value ∙ texts_equal c.as_slice.result.now c.as_slice-2.result.now (search rules) ∙ c.as_slice-2.ensures in
     let given = subst (HasValue p.params (codes "desk")) (sym c.deref.ensures.value) (rw c.in-Ok-Some.field-0-is at (c.in-Ok-Some.ensures.found r p is)) in
     let done = c.in-Ok-desk.ensures.obeys s kept in
@@ -26,14 +26,14 @@ returns-in-Ok-desk-clause-replies g c s r p now kept is is_post reached =
 
 pub returns-in-Err-Malformed-clause-replies : goal.returns-in-Err-Malformed-clause-replies
 returns-in-Err-Malformed-clause-replies g c s r p now kept is is_post reached other =
-    let means = Endures g.K.Keeper.means g.K.Keeper.leaves g.K.Keeper.leaves_whole c.args.self.now.keeper c.desk.new.self.keeper s in
+    let means = Endures g.K.Keeper c.args.self.now.keeper c.desk.new.self.keeper s in
     let at = sym (c.in-Ok.ensures r p is) ∙ sym c.as_slice.ensures.value ∙ texts_equal c.as_slice.result.now c.as_slice-2.result.now (search rules) ∙ c.as_slice-2.ensures in
     let given = subst (HasValue p.params (codes "desk")) (sym c.deref.ensures.value) (rw c.in-Ok-Some.field-0-is at (c.in-Ok-Some.ensures.found r p is)) in
     no_line means s r now p reached is_post c.deref.result.now at given (rw c.in-Err-Malformed.field-0-is at (c.in-Err-Malformed.ensures.obeys s kept))
 
 pub returns-in-Err-NotPossible-clause-replies : goal.returns-in-Err-NotPossible-clause-replies
 returns-in-Err-NotPossible-clause-replies g c s r p now kept is is_post reached other =
-    let means = Endures g.K.Keeper.means g.K.Keeper.leaves g.K.Keeper.leaves_whole c.args.self.now.keeper c.desk.new.self.keeper s in
+    let means = Endures g.K.Keeper c.args.self.now.keeper c.desk.new.self.keeper s in
     let at = sym (c.in-Ok.ensures r p is) ∙ sym c.as_slice.ensures.value ∙ texts_equal c.as_slice.result.now c.as_slice-2.result.now (search rules) ∙ c.as_slice-2.ensures in
     let given = subst (HasValue p.params (codes "desk")) (sym c.deref.ensures.value) (rw c.in-Ok-Some.field-0-is at (c.in-Ok-Some.ensures.found r p is)) in
     not_obeyed means s r now p reached is_post c.deref.result.now at given (rw c.in-Err-NotPossible.field-0-is at (c.in-Err-NotPossible.ensures.obeys s kept))
@@ -48,7 +48,7 @@ returns-in-Err-NotPossible-clause-crash g c s r p now kept is is_post reached =
 
 pub returns-clause-crash : goal.returns-clause-crash
 returns-clause-crash g c s r p now kept is is_post reached =
-    let means = Endures g.K.Keeper.means g.K.Keeper.leaves g.K.Keeper.leaves_whole c.args.self.now.keeper c.desk.new.self.keeper s in
+    let means = Endures g.K.Keeper c.args.self.now.keeper c.desk.new.self.keeper s in
     let at = sym (c.in-Ok.ensures r p is) ∙ sym c.as_slice.ensures.value ∙ texts_equal c.as_slice.result.now c.as_slice-2.result.now (search rules) ∙ c.as_slice-2.ensures in
     let given = subst (HasValue p.params (codes "desk")) (sym c.deref.ensures.value) (rw c.in-Ok-Some.field-0-is at (c.in-Ok-Some.ensures.found r p is)) in
     refused_asked

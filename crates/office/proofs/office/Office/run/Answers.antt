@@ -6,8 +6,8 @@ use Rattle.office.proofs.office.Office.run.Goals.{then-is_fault, else-is_fault}
 
 pub connections-init : goal.connections-init
 connections-init g c = (
-  λ s kept. starts (g.K.Keeper.means c.args.self.now.keeper) g.C.Clock.now_gives g.R.Read.remaining g.W.Write.contents c.args.clock.now c.args.connections.now (g.K.Keeper.faults c.args.self.now.keeper) s
-      (record { means = kept.means; sound = kept.sound }),
+  λ s kept. starts g.C.Clock.now_gives g.R.Read.remaining g.W.Write.contents c.args.clock.now c.args.connections.now g.K.Keeper c.args.self.now.keeper s
+      (λ a b. g.met.K.Keeper.one c.args.self.now.keeper a b kept.is_honest) (record { means = kept.means; sound = kept.sound }),
   λ honest. honest,
   refl,
   omega arith,
@@ -28,21 +28,22 @@ connections-preserved g c =
       | else-is_fault w ↦ w.faulty-is ∙ omega arith ∙ ap (λ b. c.connections.faulty + cond b 1 0) (sym w.if-is_fault.false ∙ c.is_fault.ensures)
     ] in (
       λ s kept.
-          goes_on (g.K.Keeper.means c.connections.self.keeper) (g.K.Keeper.means c.session-end.new.self.keeper) g.C.Clock.now_gives g.R.Read.remaining g.W.Write.contents c.args.clock.now c.connections.clock c.session-end.new.clock
-          old now i (g.K.Keeper.faults c.args.self.now.keeper) (g.K.Keeper.faults c.connections.self.keeper) (g.K.Keeper.faults c.session-end.new.self.keeper) s c.connections.faulty c.if-is_fault.faulty c.connection-item.result (c.session-end.new.reader, c.session-end.new.writer) c.session-end.result
-          lt lt' c.connections.invariant.2 (λ mid left. c.session-end.ensures.serves mid (record { means = left.means; is_honest = kept.is_honest; sound = left.sound })) c.session-end.ensures.faults counted
-          (c.connections.invariant.0 s (record { means = kept.means; is_honest = c.session-end.ensures.honest kept.is_honest; sound = kept.sound })),
-      λ honest. c.connections.invariant.1 (c.session-end.ensures.honest honest),
+          goes_on g.C.Clock.now_gives g.R.Read.remaining g.W.Write.contents c.args.clock.now c.connections.clock c.session-end.new.clock
+          old now i g.K.Keeper c.args.self.now.keeper c.connections.self.keeper c.session-end.new.self.keeper s c.connections.faulty c.if-is_fault.faulty c.connection-item.result (c.session-end.new.reader, c.session-end.new.writer) c.session-end.result
+          lt lt' c.connections.invariant.2 (λ a b. g.met.K.Keeper.one c.session-end.new.self.keeper a b kept.is_honest)
+          (λ mid left. c.session-end.ensures.serves mid (record { means = left.means; is_honest = kept.is_honest; sound = left.sound })) c.session-end.ensures.faults counted
+          (c.connections.invariant.0 s (record { means = kept.means; is_honest = c.session-end.ensures.rest.honest kept.is_honest; sound = kept.sound })),
+      λ honest. c.connections.invariant.1 (c.session-end.ensures.rest.honest honest),
       others_stay old now i c.connection-item.result (c.session-end.new.reader, c.session-end.new.writer) lt lt' c.connections.invariant.2,
       elim c.if-is_fault.branch [ then-is_fault w ↦ omega arith | else-is_fault w ↦ omega arith ],
-      omega (arith, c.connections.invariant.4, c.session-end.ensures.never_less),
+      omega (arith, c.connections.invariant.4, c.session-end.ensures.rest.never_less),
     )
 
 pub returns-clause-runs : goal.returns-clause-runs
 returns-clause-runs g c s kept =
     let sizes : length c.connections.connections ≡ length c.args.connections.now = c.connections.auto.connections in
-    finishes (g.K.Keeper.means c.connections.self.keeper) g.C.Clock.now_gives g.R.Read.remaining g.W.Write.contents c.args.clock.now c.connections.clock c.args.connections.now c.connections.connections
-    c.connections.connection-index (g.K.Keeper.faults c.args.self.now.keeper) (g.K.Keeper.faults c.connections.self.keeper) s c.connections.faulty (omega arith) (omega arith) (c.connections.invariant.0 s kept)
+    finishes g.C.Clock.now_gives g.R.Read.remaining g.W.Write.contents c.args.clock.now c.connections.clock c.args.connections.now c.connections.connections
+    c.connections.connection-index g.K.Keeper c.args.self.now.keeper c.connections.self.keeper s c.connections.faulty (omega arith) (omega arith) (c.connections.invariant.0 s kept)
 
 pub returns-clause-honest : goal.returns-clause-honest
 returns-clause-honest g c = c.connections.invariant.1

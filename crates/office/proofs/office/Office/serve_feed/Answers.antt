@@ -1,6 +1,7 @@
 use Rattle.std.proofs.Common.{◌∙◌, ℕ, inr, refl, subst, arith}
 use Rattle.sigtext.specs.Counts.{Rose}
 use Rattle.wire.specs.Feeds.{left, place_of, reader_of}
+use Rattle.office.proofs.Holding.{holds_less, holds_still, holds_then}
 use Rattle.office.proofs.SessionSteps.{follows_first, follows_more, follows_end, follows_limit, not_fresh}
 use Rattle.office.proofs.office.Office.serve_feed.Goals as goal
 
@@ -10,12 +11,11 @@ messages-init g c = (
   refl,
   refl,
   refl,
-  refl,
-  λ honest. honest,
+  holds_still,
   λ s kept. (
     s,
     record { means = kept.means; sound = kept.sound },
-    follows_first g.C.Clock.now_gives (left g.R.Read.remaining c.args.feed.now) (g.W.Write.contents c.args.writer.now.inner) c.args.clock.now (g.K.Keeper.faults c.args.self.now.keeper) s,
+    follows_first g.C.Clock.now_gives (left g.R.Read.remaining c.args.feed.now) (g.W.Write.contents c.args.writer.now.inner) c.args.clock.now g.K.Keeper c.args.self.now.keeper s,
   ),
 )
 
@@ -27,12 +27,12 @@ returns-in-Some-clause-same g c = c.step.ensures.same ∙ c.messages.invariant.1
 
 pub returns-in-Some-clause-serves : goal.returns-in-Some-clause-serves
 returns-in-Some-clause-serves g c s kept =
-    let x = c.messages.invariant.6 s (record { means = kept.means; is_honest = c.in-Some.ensures.honest kept.is_honest; sound = kept.sound }) in
+    let x = c.messages.invariant.5 s (record { means = kept.means; is_honest = c.in-Some.ensures.rest.honest kept.is_honest; sound = kept.sound }) in
     let h = c.in-Some.ensures.steps x.0 (record { means = x.1.means; is_honest = kept.is_honest; sound = x.1.sound }) in (
       h.0,
       h.1,
-      follows_end g.C.Clock.now_gives c.messages.counter (left g.R.Read.remaining c.args.feed.now) (left g.R.Read.remaining c.messages.feed) (g.W.Write.contents c.args.writer.now.inner) (g.W.Write.contents c.messages.writer.inner) c.args.clock.now c.messages.clock (g.K.Keeper.faults c.args.self.now.keeper) (g.K.Keeper.faults c.messages.self.keeper) s x.0 x.2
-          (place_of c.messages.feed) (g.R.Read.remaining (reader_of c.step.new.feed).inner) (g.W.Write.contents c.step.new.writer.inner) c.step.new.clock (g.K.Keeper.faults c.step.new.self.keeper) h.0 c.in-Some.end c.messages-test.true c.messages.invariant.0.1 h.2,
+      follows_end g.C.Clock.now_gives c.messages.counter (left g.R.Read.remaining c.args.feed.now) (left g.R.Read.remaining c.messages.feed) (g.W.Write.contents c.args.writer.now.inner) (g.W.Write.contents c.messages.writer.inner) c.args.clock.now c.messages.clock g.K.Keeper c.args.self.now.keeper c.messages.self.keeper s x.0 x.2
+          (place_of c.messages.feed) (g.R.Read.remaining (reader_of c.step.new.feed).inner) (g.W.Write.contents c.step.new.writer.inner) c.step.new.clock c.step.new.self.keeper h.0 c.in-Some.end c.messages-test.true c.messages.invariant.0.1 h.2,
     )
 
 pub returns-in-Some-clause-faults : goal.returns-in-Some-clause-faults
@@ -45,43 +45,32 @@ returns-in-Some-clause-faults g c =
       not_written = λ other. f.not_written other ∙ c.messages.invariant.3;
     }
 
-pub returns-in-Some-clause-honest : goal.returns-in-Some-clause-honest
-returns-in-Some-clause-honest g c honest = c.messages.invariant.5 (c.in-Some.ensures.honest honest)
-
-pub returns-in-Some-clause-counted : goal.returns-in-Some-clause-counted
-returns-in-Some-clause-counted g c not_refused not_written = c.in-Some.ensures.counted (λ e. not_refused cc) (λ e. not_written cc) ∙ c.messages.invariant.4
-
-pub returns-in-Some-clause-never_less : goal.returns-in-Some-clause-never_less
-returns-in-Some-clause-never_less g c = omega (arith, c.messages.invariant.4, c.in-Some.ensures.never_less)
-
 pub messages-preserved : goal.messages-preserved
-messages-preserved g c =
-    let counted = c.in-None.ensures.counted (λ e. cc) (λ e. cc) in (
-      (inr c.in-None.ensures.goes_on, λ fresh. absurd (not_fresh _ c.in-None.ensures.goes_on fresh)),
-      c.step.ensures.same ∙ c.messages.invariant.1,
-      c.in-None.ensures.faults.0 ∙ c.messages.invariant.2,
-      c.in-None.ensures.faults.1 ∙ c.messages.invariant.3,
-      counted ∙ c.messages.invariant.4,
-      λ honest. c.messages.invariant.5 (c.in-None.ensures.honest honest),
-      λ s kept.
-          let x = c.messages.invariant.6 s (record { means = kept.means; is_honest = c.in-None.ensures.honest kept.is_honest; sound = kept.sound }) in
-          let h = c.in-None.ensures.steps x.0 (record { means = x.1.means; is_honest = kept.is_honest; sound = x.1.sound }) in (
-            h.0,
-            h.1,
-            follows_more g.C.Clock.now_gives c.messages.counter (left g.R.Read.remaining c.args.feed.now) (left g.R.Read.remaining c.messages.feed) (g.W.Write.contents c.args.writer.now.inner) (g.W.Write.contents c.messages.writer.inner) c.args.clock.now c.messages.clock (g.K.Keeper.faults c.args.self.now.keeper) (g.K.Keeper.faults c.messages.self.keeper) s x.0 x.2
-                (left g.R.Read.remaining c.step.new.feed) (g.W.Write.contents c.step.new.writer.inner) c.step.new.clock (g.K.Keeper.faults c.step.new.self.keeper) h.0 h.2,
-          ),
-    )
+messages-preserved g c = (
+  (inr c.in-None.ensures.goes_on, λ fresh. absurd (not_fresh _ c.in-None.ensures.goes_on fresh)),
+  c.step.ensures.same ∙ c.messages.invariant.1,
+  c.in-None.ensures.faults.0 ∙ c.messages.invariant.2,
+  c.in-None.ensures.faults.1 ∙ c.messages.invariant.3,
+  holds_then c.messages.invariant.4 c.in-None.ensures.rest,
+  λ s kept.
+      let x = c.messages.invariant.5 s (record { means = kept.means; is_honest = c.in-None.ensures.rest.honest kept.is_honest; sound = kept.sound }) in
+      let h = c.in-None.ensures.steps x.0 (record { means = x.1.means; is_honest = kept.is_honest; sound = x.1.sound }) in (
+        h.0,
+        h.1,
+        follows_more g.C.Clock.now_gives c.messages.counter (left g.R.Read.remaining c.args.feed.now) (left g.R.Read.remaining c.messages.feed) (g.W.Write.contents c.args.writer.now.inner) (g.W.Write.contents c.messages.writer.inner) c.args.clock.now c.messages.clock g.K.Keeper c.args.self.now.keeper c.messages.self.keeper s x.0 x.2
+            (left g.R.Read.remaining c.step.new.feed) (g.W.Write.contents c.step.new.writer.inner) c.step.new.clock c.step.new.self.keeper h.0 h.2,
+      ),
+)
 
 pub returns-clause-same : goal.returns-clause-same
 returns-clause-same g c = c.messages.invariant.1
 
 pub returns-clause-serves : goal.returns-clause-serves
 returns-clause-serves g c s kept =
-    let x = c.messages.invariant.6 s kept in (
+    let x = c.messages.invariant.5 s kept in (
       x.0,
       x.1,
-      follows_limit g.C.Clock.now_gives c.messages.counter (left g.R.Read.remaining c.args.feed.now) (left g.R.Read.remaining c.messages.feed) (g.W.Write.contents c.args.writer.now.inner) (g.W.Write.contents c.messages.writer.inner) c.args.clock.now c.messages.clock (g.K.Keeper.faults c.args.self.now.keeper) (g.K.Keeper.faults c.messages.self.keeper) s x.0 x.2
+      follows_limit g.C.Clock.now_gives c.messages.counter (left g.R.Read.remaining c.args.feed.now) (left g.R.Read.remaining c.messages.feed) (g.W.Write.contents c.args.writer.now.inner) (g.W.Write.contents c.messages.writer.inner) c.args.clock.now c.messages.clock g.K.Keeper c.args.self.now.keeper c.messages.self.keeper s x.0 x.2
           (g.R.Read.remaining (reader_of c.messages.feed).inner) (omega (arith, c.messages.auto.counter-end, c.messages-test.false)),
     )
 
@@ -93,11 +82,8 @@ returns-clause-faults g c = record {
   not_written = λ other. c.messages.invariant.3;
 }
 
-pub returns-clause-honest : goal.returns-clause-honest
-returns-clause-honest g c = c.messages.invariant.5
+pub returns-in-Some-clause-rest : goal.returns-in-Some-clause-rest
+returns-in-Some-clause-rest g c = holds_then c.messages.invariant.4 c.in-Some.ensures.rest
 
-pub returns-clause-counted : goal.returns-clause-counted
-returns-clause-counted g c not_refused not_written = c.messages.invariant.4
-
-pub returns-clause-never_less : goal.returns-clause-never_less
-returns-clause-never_less g c = omega (arith, c.messages.invariant.4)
+pub returns-clause-rest : goal.returns-clause-rest
+returns-clause-rest g c = holds_less (λ none. absurd none) c.messages.invariant.4

@@ -14,9 +14,9 @@ returns-clause-serves g c s kept =
     let last : reader_of c.serve_feed-end.new.feed ≡ c.reader-1.given.0 =
     sym (c.reader-1.given.1 (sym (c.into_reader.ensures.same ∙ c.serve_feed-end.ensures.same ∙ c.new-feed.ensures.same)) ∙ c.into_reader.ensures.now) in
     let served = subst (λ r. Serves most_messages g.C.Clock.now_gives (left remaining c.new-feed.result) (remaining r.inner) (g.W.Write.contents c.args.writer.now.inner) (g.W.Write.contents c.serve_feed-end.new.writer.inner)
-    c.args.clock.now c.serve_feed-end.new.clock (g.K.Keeper.faults c.args.self.now.keeper) (g.K.Keeper.faults c.serve_feed-end.new.self.keeper) s h.0 c.serve_feed-end.result) last h.2 in (
+    c.args.clock.now c.serve_feed-end.new.clock g.K.Keeper c.args.self.now.keeper c.serve_feed-end.new.self.keeper s h.0 c.serve_feed-end.result) last h.2 in (
       h.0,
       h.1,
       subst (λ (input : Option (List ℕ)). Serves most_messages g.C.Clock.now_gives input (remaining c.reader-1.given.0.inner) (g.W.Write.contents c.args.writer.now.inner) (g.W.Write.contents c.serve_feed-end.new.writer.inner)
-          c.args.clock.now c.serve_feed-end.new.clock (g.K.Keeper.faults c.args.self.now.keeper) (g.K.Keeper.faults c.serve_feed-end.new.self.keeper) s h.0 c.serve_feed-end.result) first served,
+          c.args.clock.now c.serve_feed-end.new.clock g.K.Keeper c.args.self.now.keeper c.serve_feed-end.new.self.keeper s h.0 c.serve_feed-end.result) first served,
     )

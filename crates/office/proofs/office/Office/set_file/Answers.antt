@@ -1,5 +1,5 @@
 use Rattle.boxes.specs.declared.change.Change.TheVariants as change
-use Rattle.office.specs.Enduring.{changed}
+use Rattle.office.specs.Crashes.{changed}
 use Rattle.office.proofs.office.Office.set_file.Goals as goal
 
 pub returns-in-Ok-clause-sets : goal.returns-in-Ok-clause-sets

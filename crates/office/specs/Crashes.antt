@@ -1,0 +1,57 @@
+-- What a crash may leave of an office after a call.
+use Rattle.std.specs.Prelude.{◌≡◌, ◌≢◌, ℕ, ◌⊎◌, List, ⊤, Result, Ok, Err}
+use Rattle.sigtext.specs.declared.refusal.Refusal.{Refusal}
+use Rattle.sigtext.specs.declared.refusal.Refusal.TheVariants as rule
+use Rattle.sigtext.specs.Request.{Request}
+use Rattle.boxes.specs.Changes.{IsObeyed}
+use Rattle.boxes.specs.State.{State}
+use Rattle.boxes.specs.Steps.{Command, StepReply}
+use Rattle.keeper.specs.Keeping.{LeavesAlone}
+use Rattle.keeper.specs.declared.keep.Keeper.{Ghosts}
+use Rattle.office.specs.declared.requests.commanding.DeskFault.{DeskFault}
+use Rattle.office.specs.declared.requests.commanding.DeskFault.TheVariants as fault
+use Rattle.office.specs.Answering.{AcceptsRequest}
+use Rattle.office.specs.DeskLines.{IsDeskLine}
+
+-- a crash leaves nothing that it could not leave before, but the standing state
+pub record AddsStanding {K : Type 0} (k : Ghosts K) (old new : K) (s : State) : Type 0 where
+  pub adds : (t : State) → k.leaves new t → k.leaves old t ⊎ (t ≡ s)
+  pub whole : k.leaves_whole old → k.leaves_whole new
+
+-- a crash leaves nothing that it could not leave before, but the standing state and one of those that are asked for
+pub record AddsAsked {K : Type 0} (k : Ghosts K) (old new : K) (s : State) (asked : State → Type 0) : Type 0 where
+  pub adds : (t : State) → k.leaves new t → k.leaves old t ⊎ (t ≡ s) ⊎ asked t
+  pub whole : k.leaves_whole old → k.leaves_whole new
+
+-- a crash leaves the state after, and nothing else; or nothing was changed, and it leaves nothing new but the standing state
+pub data Lasts {K : Type 0} (k : Ghosts K) (old new : K) (s after : State) : Type 0 where
+  changed : LeavesAlone k.leaves k.leaves_whole new after → Lasts k old new s after
+  unchanged : after ≡ s → AddsStanding k old new s → Lasts k old new s after
+
+-- the keeper means the state after, and this outlasts a crash
+pub record Endures {K : Type 0} (k : Ghosts K) (old new : K) (s after : State) : Type 0 where
+  pub meant : k.means new after
+  pub lasts : Lasts k old new s after
+
+-- the state after the request, where that holds every rule
+pub record IsAsked (s : State) (r : Request) (now : ℕ) (after : State) : Type 0 where
+  pub reply : StepReply
+  pub accepts : AcceptsRequest s r now reply after
+
+-- the state after a command that the line is
+pub record IsToldBy (s : State) (line : List ℕ) (after : State) : Type 0 where
+  pub command : Command
+  pub tells : IsDeskLine line command
+  pub obeyed : IsObeyed s command after
+
+-- What a crash leaves where a request was refused: by 40 perhaps the state with that request; by another number nothing new.
+abbrev pub RefusedLasts : {K T : Type 0} → Ghosts K → K → K → State → Request → ℕ → Result T Refusal → Type 0
+RefusedLasts k old new s r now (Ok x) = ⊤
+RefusedLasts k old new s r now (Err q) =
+    AddsAsked k old new s (IsAsked s r now) × ((q ≢ rule.TryAgain) → AddsStanding k old new s)
+
+-- What a crash leaves where a line was not done: of a keeper's fault perhaps the state with that line; else nothing new.
+abbrev pub UndoneLasts : {K T : Type 0} → Ghosts K → K → K → State → (State → Type 0) → Result T DeskFault → Type 0
+UndoneLasts k old new s asked (Ok done) = ⊤
+UndoneLasts k old new s asked (Err (fault.Kept f)) = AddsAsked k old new s asked
+UndoneLasts k old new s asked (Err _) = AddsStanding k old new s

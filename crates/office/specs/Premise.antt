@@ -1,0 +1,35 @@
+-- What an office's promises stand on, and what its calls leave: of the keeper's state, and of the keeper beside it.
+use Rattle.std.specs.Prelude.{◌≡◌, ◌≤◌, Bool, true, false, Result, Err}
+use Rattle.sigtext.specs.declared.refusal.Refusal.{Refusal}
+use Rattle.sigtext.specs.declared.refusal.Refusal.TheVariants as rule
+use Rattle.boxes.specs.State.{State}
+use Rattle.boxes.specs.Sound.{IsSound}
+use Rattle.keeper.specs.declared.keep.Keeper.{Ghosts}
+
+-- before a call the keeper meant this state, which is sound; and it is honest after the call
+pub record WasKept {K : Type 0} (k : Ghosts K) (old new : K) (s : State) : Type 0 where
+  pub means : k.means old s
+  pub is_honest : k.is_honest new
+  pub sound : IsSound s
+
+-- after the call the keeper means this state, which is sound
+pub record IsLeft (meant : State → Type 0) (s : State) : Type 0 where
+  pub means : meant s
+  pub sound : IsSound s
+
+-- What a call leaves of the keeper beside its state: one that is honest now was so before; unless the call gave up, no
+-- fault was counted, and an honest one that was open is open; and the count never falls.
+pub record HoldsUnless {K : Type 0} (k : Ghosts K) (old new : K) (gave_up : Type 0) : Type 0 where
+  pub honest : k.is_honest new → k.is_honest old
+  pub opened : k.is_honest new → k.is_open old → (gave_up → ⊥) → k.is_open new
+  pub counted : (gave_up → ⊥) → k.faults new ≡ k.faults old
+  pub never_less : k.faults old ≤ k.faults new
+
+-- it is refusal 40
+abbrev pub IsGivenUp : {T : Type 0} → Result T Refusal → Type 0
+IsGivenUp result = result ≡ Err rule.TryAgain
+
+-- where something was given up the keeper's count of faults has not fallen; else it stays, and one that was open is open
+abbrev pub HoldsUp : {K : Type 0} → Ghosts K → Bool → K → K → Type 0
+HoldsUp k true old new = k.faults old ≤ k.faults new
+HoldsUp k false old new = (k.faults new ≡ k.faults old) × (k.is_open old → k.is_open new)

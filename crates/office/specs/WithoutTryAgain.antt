@@ -1,0 +1,61 @@
+-- A run without the messages that were answered with refusal 40.
+use Rattle.std.specs.Prelude.{◌≡◌, ℕ, true, false, List, [], ◌∷◌, ◌++◌}
+use Rattle.sigtext.specs.Bytes.{IsBeginning}
+use Rattle.sigtext.specs.Request.{Request}
+use Rattle.sigtext.specs.declared.refusal.Refusal.TheVariants as rule
+use Rattle.boxes.specs.State.{State}
+use Rattle.wire.specs.Feeding.{AnnouncesBody}
+use Rattle.wire.specs.Framing.{Next}
+use Rattle.wire.specs.Framing as frame
+use Rattle.office.specs.Readable.{IsReadable}
+use Rattle.office.specs.Sessions.{Session, Connection, Run, closing, most_messages}
+use Rattle.office.specs.declared.connections.session.SessionEnd.{SessionEnd}
+use Rattle.office.specs.declared.connections.session.SessionEnd.TheVariants.{Ended, Refused, WriteFault}
+
+-- Where a connection gave up: what of its stream was answered, what was left, and the moments that it took there. This
+-- was at a readable message, at one moment; or within a message with a body, or before anything was read, at none.
+pub data GivesUp (front rest : List ℕ) : List ℕ → Type 0 where
+  at_message : (r : Request) (now : ℕ) (more : List ℕ) → Next rest (frame.Message r) more → IsReadable r → GivesUp front rest (now ∷ [])
+  within_message : AnnouncesBody rest → GivesUp front rest []
+  before_all : front ≡ [] → rest ≡ [] → GivesUp front rest []
+
+-- refusal 40 was the last answer: it was written, or a beginning of it where the write failed
+abbrev pub IsLastRefusal : List ℕ → SessionEnd → Type 0
+IsLastRefusal last (Refused number) = (number ≡ 40) × (last ≡ closing rule.TryAgain)
+IsLastRefusal last WriteFault = IsBeginning last (closing rule.TryAgain)
+IsLastRefusal last _ = ⊥
+
+-- d is the connection c, which gave up, as it is where its stream ends before the message at which c gave up: all
+-- before that is answered as it was, and refusal 40 is not written. moments and told: those of c and of d.
+pub record IsCutShort (c d : Connection) (moments told : List ℕ) : Type 0 where
+  pub rest : List ℕ
+  pub others : List ℕ
+  pub last : List ℕ
+  pub marked : c.gave_up ≡ true
+  pub stream : c.stream ≡ d.stream ++ rest
+  pub gives_up : GivesUp d.stream rest others
+  pub taken : moments ≡ told ++ others
+  pub answers : c.answers ≡ d.answers ++ last
+  pub refused : IsLastRefusal last c.end
+  pub ended : d.end ≡ Ended
+  pub unmarked : d.gave_up ≡ false
+
+-- the connection is served so from a state, at these moments, and leaves this state
+abbrev pub IsServed : State → Connection → List ℕ → State → Type 0
+IsServed s c moments after = Session most_messages c.stream s moments c.answers c.end c.gave_up after
+
+-- A run, and the same without what was answered with refusal 40: a connection that did not give up stays as it is, and
+-- one that did is cut. Each is served from the same state as before, and leaves the same state.
+pub data IsWithout : State → List Connection → List ℕ → List Connection → List ℕ → State → Type 0 where
+  none : (s : State) → IsWithout s [] [] [] [] s
+  stays : (s mid after : State) (c : Connection) (cs ds : List Connection) (first ms ns : List ℕ) → c.gave_up ≡ false → IsServed s c first mid
+      → IsWithout mid cs ms ds ns after → IsWithout s (c ∷ cs) (first ++ ms) (c ∷ ds) (first ++ ns) after
+  cut : (s mid after : State) (c d : Connection) (cs ds : List Connection) (first told ms ns : List ℕ) → IsCutShort c d first told → IsServed s c first mid → IsServed s d told mid
+      → IsWithout mid cs ms ds ns after → IsWithout s (c ∷ cs) (first ++ ms) (d ∷ ds) (told ++ ns) after
+
+-- the connections without what was answered with refusal 40 are a run too, from the same state and to the same state
+pub record RunsWithout (s : State) (cs : List Connection) (moments : List ℕ) (after : State) : Type 0 where
+  pub connections : List Connection
+  pub told : List ℕ
+  pub without : IsWithout s cs moments connections told after
+  pub run : Run s connections told after

@@ -1,0 +1,101 @@
+//! One connection: its messages are read and answered one after another, and its end is told.
+use crate::clocks::Clock;
+use crate::office::Office;
+use keeper::Keeper;
+use std::io::{Read, Write};
+use wire::{Counted, Feed};
+
+/// The greatest number of messages that a connection is served.
+const MOST_MESSAGES: usize = 1000;
+
+/// How a session ended.
+#[derive(Clone, Copy, Debug, PartialEq, Eq)]
+pub enum SessionEnd {
+    /// The input ended where a message would begin.
+    Ended,
+    /// The input ended in a head; nothing was answered.
+    Truncated,
+    /// A refusal of this number closed the connection: 1 to 6, or 40.
+    Refused(u8),
+    /// The greatest number of messages was served.
+    Limit,
+    /// A read failed.
+    ReadFault,
+    /// A write failed, or took no bytes.
+    WriteFault,
+}
+
+impl SessionEnd {
+    ghost use Rattle.std.specs.Prelude.{◌≡◌};
+    ghost use Rattle.office.specs.Connections.{is_fault};
+
+    /// Whether it is a read or a write that failed.
+    pub fn is_fault(self) -> bool
+        ensures { result ≡ is_fault self }
+    {
+        matches!(self, SessionEnd::ReadFault | SessionEnd::WriteFault)
+    }
+}
+
+impl<K: Keeper> Office<K> {
+    ghost use Rattle.boxes.specs.State.{State};
+    ghost use Rattle.wire.specs.Feeds.{SameReader, left, place_of, reader_of};
+    ghost use Rattle.wire.specs.Whole.{MayBegin};
+    ghost use Rattle.office.specs.Connections.{MayGiveUp, Serves, TellsFaults};
+    ghost use Rattle.office.specs.Premise.{HoldsUnless, IsLeft, WasKept};
+    ghost use Rattle.office.specs.Sessions.{most_messages};
+
+    // Serves the messages of a feed, at most 1000.
+    fn serve_feed<R: Read, W: Write, C: Clock>(
+        &mut self,
+        feed: &mut Feed<'_, R>,
+        writer: &mut Counted<W>,
+        clock: &mut C,
+    ) -> SessionEnd
+        requires { MayBegin (place_of feed.old) }
+        ensures same { SameReader feed.old feed.new }
+        ensures serves { (s : State) → WasKept K.Keeper self.old.keeper self.new.keeper s
+            → (after : State) × IsLeft (K.means self.new.keeper) after
+            × Serves most_messages C.now_gives
+            (left R.remaining feed.old) (R.remaining (reader_of feed.new).inner)
+            (W.contents writer.old.inner) (W.contents writer.new.inner) clock.old clock.new
+            K.Keeper self.old.keeper self.new.keeper s after result }
+        ensures faults { TellsFaults result
+            (reader_of feed.old) (reader_of feed.new) writer.old writer.new }
+        ensures rest { HoldsUnless K.Keeper self.old.keeper self.new.keeper (MayGiveUp result) }
+    {
+        let mut body = Vec::new(self.alloc);
+        'messages: for _ in 0..MOST_MESSAGES {
+            match self.step(feed, &mut body, writer, clock) {
+                None => {}
+                Some(end) => return end,
+            }
+        }
+        SessionEnd::Limit
+    }
+
+    /// Serves a connection: reads its messages, at most 1000, and answers one after another. What was read,
+    /// which moments were told, what was written, how it ended, what the keeper counted and the state after it are
+    /// those of a session of the machine. Its end tells the fault of the reader or the writer, where one was counted.
+    /// A keeper that was open is open, unless the session gave up.
+    pub fn session<R: Read, W: Write, C: Clock>(
+        &mut self,
+        reader: &mut Counted<R>,
+        writer: &mut Counted<W>,
+        clock: &mut C,
+    ) -> SessionEnd
+        ensures serves { (s : State) → WasKept K.Keeper self.old.keeper self.new.keeper s
+            → (after : State) × IsLeft (K.means self.new.keeper) after
+            × Serves most_messages C.now_gives
+            (R.remaining reader.old.inner) (R.remaining reader.new.inner)
+            (W.contents writer.old.inner) (W.contents writer.new.inner) clock.old clock.new
+            K.Keeper self.old.keeper self.new.keeper s after result }
+        ensures faults { TellsFaults result reader.old reader.new writer.old writer.new }
+        ensures rest { HoldsUnless K.Keeper self.old.keeper self.new.keeper (MayGiveUp result) }
+    {
+        let mut feed = Feed::new(self.alloc, reader);
+        let end = self.serve_feed(&mut feed, writer, clock);
+        feed.into_reader();
+        end
+    }
+}

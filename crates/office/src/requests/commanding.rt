@@ -1,0 +1,176 @@
+//! Desk commands.
+
+use super::places::decoded_path;
+use crate::office::Office;
+use boxes::{Change, Command, DeskView, desk as decide, law_of_changes};
+use desk::read_command;
+use keeper::{KeepFault, Keeper};
+use links::LinkParts;
+use sigtext::Refusal;
+use thiserror::Error;
+use wire::Reply;
+
+/// The name of the parameter that holds a command.
+pub const DESK: &[u8] = b"desk";
+
+/// Why a line of the desk was not done. The state is then as it was.
+#[derive(Clone, Copy, Debug, PartialEq, Eq, Error)]
+pub enum DeskFault {
+    /// The line is no command, or something that it names has another form.
+    #[error("the desk command is malformed")]
+    Malformed,
+    /// The office's state bars the command.
+    #[error("the desk command is not possible")]
+    NotPossible,
+    /// The keeper failed, or memory was refused.
+    #[error("{0}")]
+    Kept(KeepFault),
+}
+
+impl<K: Keeper> Office<K> {
+    ghost use Rattle.std.specs.Prelude.{◌≡◌, ◌≢◌, ◌⊎◌, ℕ, Err, IfErr, IfOk, IsErrAnd, OnErr, OnOk};
+    ghost use Rattle.sigtext.specs.Counts.{Rose};
+    ghost use Rattle.sigtext.specs.Request.{Request};
+    ghost use Rattle.boxes.specs.Changes.{command_of, IsObeyed};
+    ghost use Rattle.boxes.specs.Commands.{HasForm};
+    ghost use Rattle.boxes.specs.State.{State};
+    ghost use Rattle.boxes.specs.Steps.{IsPossible};
+    ghost use Rattle.boxes.specs.Views.{IsDeskViewOf};
+    ghost use Rattle.keeper.specs.Bound.{StaysBy};
+    ghost use Rattle.links.specs.LinkReadings.{IsLinkOf};
+    ghost use Rattle.links.specs.WellFormed.{LinkValues};
+    ghost use Rattle.desk.specs.Lines.{HasListedRule};
+    ghost use Rattle.office.specs.Admitted.{ReachesBoxes};
+    ghost use Rattle.office.specs.Crashes.{Endures, IsToldBy, RefusedLasts, UndoneLasts};
+    ghost use Rattle.office.specs.DeskLines.{IsKeepers, IsObeyedBy};
+    ghost use Rattle.office.specs.Premise.{HoldsUnless, IsGivenUp, IsLeft, WasKept};
+    ghost use Rattle.office.specs.Replying.{IsReplied, IsNoRefusal};
+    ghost use Rattle.office.specs.Rules.{IsPost};
+
+    // Asks the keeper what the rule of a command looks at.
+    fn look_at(&mut self, command: &Command<'_>) -> Result<DeskView, KeepFault>
+        ensures view { (s : State) → WasKept K.Keeper self.old.keeper self.new.keeper s
+            → IfOk result (IsDeskViewOf s (command_of command.now)) }
+        ensures rest { StaysBy K.Keeper self.old.keeper self.new.keeper result }
+    {
+        let mut view = DeskView {
+            key: None,
+            clerks: 0,
+            has_box: false,
+            has_file: false,
+        };
+        match command {
+            Command::AddKey { id, .. } => view.key = self.keeper.key(id)?,
+            Command::RevokeKey { id } => {
+                view.key = self.keeper.key(id)?;
+                view.clerks = self.keeper.clerks()?;
+            }
+            Command::AddBox { name, .. } => view.has_box = self.keeper.box_row(name)?.is_some(),
+            Command::CloseBox { name, .. } => view.has_box = self.keeper.box_row(name)?.is_some(),
+            Command::DropFile { in_box, name } => {
+                view.has_file = self.keeper.file(in_box, name)?.is_some();
+            }
+        }
+        Ok(view)
+    }
+
+    // Does a command that has its form, where it is possible.
+    fn obey(&mut self, command: &Command<'_>) -> Result<(), DeskFault>
+        ensures does { (s : State) → WasKept K.Keeper self.old.keeper self.new.keeper s
+            → HasForm (command_of command.now)
+            → OnOk result ((after : State) × IsObeyed s (command_of command.now) after
+            × IsLeft (Endures K.Keeper self.old.keeper self.new.keeper s) after) }
+        ensures refused { (s : State) → WasKept K.Keeper self.old.keeper self.new.keeper s
+            → result ≡ Err DeskFault.NotPossible → IsPossible s (command_of command.now) → ⊥ }
+        ensures formed { result ≢ Err DeskFault.Malformed }
+        ensures room { (s : State) → WasKept K.Keeper self.old.keeper self.new.keeper s
+            → HasForm (command_of command.now)
+            → result ≢ Err (DeskFault.Kept KeepFault.Full) }
+        ensures kept { IfErr result (λ f. IsKeepers f
+            → Rose (K.faults self.old.keeper) (K.faults self.new.keeper)) }
+        ensures store { result ≡ Err (DeskFault.Kept KeepFault.Store) → K.has_store }
+        ensures same { (s : State) → K.means self.old.keeper s
+            → OnErr result (K.means self.new.keeper s) }
+        ensures crash { (s : State) → WasKept K.Keeper self.old.keeper self.new.keeper s
+            → HasForm (command_of command.now)
+            → UndoneLasts K.Keeper self.old.keeper self.new.keeper s
+            (IsObeyed s (command_of command.now)) result }
+        ensures rest { HoldsUnless K.Keeper self.old.keeper self.new.keeper
+            (IsErrAnd result IsKeepers) }
+    {
+        law_of_changes();
+        let view = match self.look_at(command) {
+            Ok(view) => view,
+            Err(fault) => return Err(DeskFault::Kept(fault)),
+        };
+        if decide(&view, command).is_err() {
+            return Err(DeskFault::NotPossible);
+        }
+        match self.keeper.apply(&Change::Desk(*command)) {
+            Ok(()) => Ok(()),
+            Err(fault) => Err(DeskFault::Kept(fault)),
+        }
+    }
+
+    /// Does what a line of the desk says; `desk::read_command` tells its forms. What was done outlasts a crash. A keeper that
+    /// was open is open, unless its own fault is the error.
+    ///
+    /// # Errors
+    ///
+    /// The state is as it was. `Malformed` comes where the line is no command, and `NotPossible` where the office's state bars
+    /// the command that it is; `Kept` where the keeper failed, or memory was refused for the rule of a box.
+    /// After `Kept` a crash may leave the state with the line done, whole.
+    pub fn desk(&mut self, line: &[u8]) -> Result<(), DeskFault>
+        ensures obeys { (s : State) → WasKept K.Keeper self.old.keeper self.new.keeper s
+            → IsObeyedBy (Endures K.Keeper self.old.keeper self.new.keeper s) s line.now result }
+        ensures kept { IfErr result (λ f. IsKeepers f
+            → Rose (K.faults self.old.keeper) (K.faults self.new.keeper) ⊎ HasListedRule line.now) }
+        ensures store { result ≡ Err (DeskFault.Kept KeepFault.Store) → K.has_store }
+        ensures same { (s : State) → K.means self.old.keeper s
+            → OnErr result (K.means self.new.keeper s) }
+        ensures crash { (s : State) → WasKept K.Keeper self.old.keeper self.new.keeper s
+            → UndoneLasts K.Keeper self.old.keeper self.new.keeper s (IsToldBy s line.now) result }
+        ensures rest { HoldsUnless K.Keeper self.old.keeper self.new.keeper
+            (IsErrAnd result IsKeepers) }
+    {
+        match read_command(self.alloc, line) {
+            Ok(Some(read)) => self.obey(&read.command()),
+            Ok(None) => Err(DeskFault::Malformed),
+            Err(_) => Err(DeskFault::Kept(KeepFault::Memory)),
+        }
+    }
+
+    // Does the command of a message whose link is admitted and whose form is right, or refuses it.
+    pub(crate) fn post(&mut self, link: &LinkParts<'_>) -> Result<Reply, Refusal>
+        ensures replies { (s : State) (r : Request) (p : LinkValues) (now : ℕ)
+            → WasKept K.Keeper self.old.keeper self.new.keeper s
+            → IsLinkOf link.now r p → IsPost r → ReachesBoxes s r now p
+            → IsReplied (Endures K.Keeper self.old.keeper self.new.keeper s) s r now result }
+        ensures same { (s : State) → K.means self.old.keeper s
+            → OnErr result (K.means self.new.keeper s) }
+        ensures plain { IfOk result IsNoRefusal }
+        ensures crash { (s : State) (r : Request) (p : LinkValues) (now : ℕ)
+            → WasKept K.Keeper self.old.keeper self.new.keeper s
+            → IsLinkOf link.now r p → IsPost r → ReachesBoxes s r now p
+            → RefusedLasts K.Keeper self.old.keeper self.new.keeper s r now result }
+        ensures rest { HoldsUnless K.Keeper self.old.keeper self.new.keeper (IsGivenUp result) }
+    {
+        let Ok(path) = decoded_path(self.alloc, link) else {
+            return Err(Refusal::TryAgain);
+        };
+        if path.as_slice() != b"/".as_slice() {
+            return Err(Refusal::CommandMalformed);
+        }
+        let line = match link.param(self.alloc, DESK) {
+            Ok(Some(line)) => line,
+            Ok(None) => return Err(Refusal::CommandMalformed),
+            Err(_) => return Err(Refusal::TryAgain),
+        };
+        match self.desk(&line) {
+            Ok(()) => Ok(Reply::Done),
+            Err(DeskFault::Malformed) => Err(Refusal::CommandMalformed),
+            Err(DeskFault::NotPossible) => Err(Refusal::CommandNotPossible),
+            Err(DeskFault::Kept(_)) => Err(Refusal::TryAgain),
+        }
+    }
+}
