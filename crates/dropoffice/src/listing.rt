@@ -20,7 +20,7 @@ struct LinksWork<'w, R: Drop, W: Drop> {
 }
 
 impl<'a, R: Read + Drop, W: Write + Drop> OfficeWork<'a> for LinksWork<'_, R, W> {
-    fn run<K: Keeper>(mut self, rt: &HostRuntime, office: &mut Office<K>) -> Result<(), Fault<'a>> {
+    fn run<K: Keeper>(self, rt: &HostRuntime, office: &mut Office<K>) -> Result<(), Fault<'a>> {
         let words = self.words;
         let Some(row) = office.keeper.key(words.key.as_bytes())? else {
             return Err(Fault::UnknownKey);
@@ -31,8 +31,8 @@ impl<'a, R: Read + Drop, W: Write + Drop> OfficeWork<'a> for LinksWork<'_, R, W>
         };
         let (host, region) = (words.host.as_bytes(), words.region.as_bytes());
         let mut writer = buffered(rt.alloc(), self.out)?;
-        let written = links_from(rt.alloc(), &mut self.input, &mut writer, &key, host, region);
-        told(written, &mut writer)
+        let written = links_from(rt.alloc(), self.input, &mut writer, &key, host, region);
+        told(written.end, &mut writer)
     }
 }
 
@@ -83,10 +83,10 @@ struct CompareWork<R: Drop, W: Drop> {
 }
 
 impl<'a, R: Read + Drop, W: Write + Drop> OfficeWork<'a> for CompareWork<R, W> {
-    fn run<K: Keeper>(mut self, rt: &HostRuntime, office: &mut Office<K>) -> Result<(), Fault<'a>> {
+    fn run<K: Keeper>(self, rt: &HostRuntime, office: &mut Office<K>) -> Result<(), Fault<'a>> {
         let mut writer = buffered(rt.alloc(), self.out)?;
-        let compared = compare(rt.alloc(), &mut self.input, &mut office.keeper, &mut writer);
-        told(compared, &mut writer)
+        let compared = compare(rt.alloc(), self.input, &mut office.keeper, &mut writer);
+        told(compared.end, &mut writer)
     }
 }
 

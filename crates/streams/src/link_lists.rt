@@ -118,13 +118,8 @@ pub(crate) fn links_to<R: Read>(
     (key, host, region): (&LinkKey<'_>, &[u8], &[u8]),
 ) -> Listed {
     let mut writer = Counted::new(sink);
-    let end = links_from(alloc, input, &mut writer, key, host, region);
-    let faults = writer.faults();
-    Listed {
-        text: writer.inner.text,
-        end,
-        faults,
-    }
+    let linked = links_from(alloc, input, &mut writer, key, host, region);
+    Listed::of(&linked, writer)
 }
 
 /// The same by the clerk's key, for one host.

@@ -115,6 +115,7 @@ fn reads_fail(office: &mut Office<Shelf>, list: List, at_once: usize) -> Result<
         let got = list.write(office, &mut source, sink);
         holds(got.end == Err(ListFault::Read), "another end")?;
         holds(got.faults == 0, "a fault of the writer")?;
+        holds(got.failed_reads == 1, "other faults of the reader")?;
         holds(list.owed().starts_with(&got.text), "another text")?;
     }
     Ok(())
@@ -152,6 +153,7 @@ fn writes_fail(office: &mut Office<Shelf>, list: List, at_once: usize) -> Result
         let got = list.write(office, &mut Source::whole(list.read()), sink);
         holds(got.end == Err(ListFault::Write), "another end")?;
         holds(got.faults == 1, "other faults of the writer")?;
+        holds(got.failed_reads == 0, "a fault of the reader")?;
         holds(got.text.as_slice() == written, "another text")?;
     }
     let sink = Sink::new(office.alloc, at_once, owed.len());
@@ -213,15 +215,13 @@ fn a_failed_write_is_one_call(rt: HostRuntime) -> Result<(), Fail> {
     assert_eq!(rt; (writer.inner.calls, writer.faults()), (1, 1));
     let mut writer = Counted::new(FailsOnce { calls: 0 });
     let mut source = Source::whole(MANIFEST);
-    assert_eq!(rt;
-        compare(alloc, &mut source, &mut office.keeper, &mut writer),
-        broken
-    );
+    let compared = compare(alloc, &mut source, &mut office.keeper, &mut writer);
+    assert_eq!(rt; compared.end, broken);
     assert_eq!(rt; (writer.inner.calls, writer.faults()), (1, 1));
     let mut writer = Counted::new(FailsOnce { calls: 0 });
     let mut source = Source::whole(ASKED);
     let links = links_from(alloc, &mut source, &mut writer, &CLERK, b"h", b"r");
-    assert_eq!(rt; links, broken);
+    assert_eq!(rt; links.end, broken);
     assert_eq!(rt; (writer.inner.calls, writer.faults()), (1, 1));
     Ok(())
 }

@@ -10,9 +10,10 @@ use std::io::Read;
 /// one. Takes no memory.
 pub fn line_in(text: &[u8]) -> Option<&[u8]>
     ensures line { IfSome result (λ line. IsLineOf text.now line.now) }
-    ensures only { (line : List ℕ) → IsLineOf text.now line → IsSomeAnd result (λ found. found.now ≡ line) }
+    ensures only { (line : List ℕ) → IsLineOf text.now line
+        → IsSomeAnd result (λ found. found.now ≡ line) }
 {
-    let (line, end) = cut(text);
+    let (line, end) = split_at_end(text);
     if is_end(end) { Some(line) } else { None }
 }
 
@@ -27,24 +28,24 @@ fn is_end(text: &[u8]) -> bool
 }
 
 // What stands before the first LF or CR, and the rest from there on.
-fn cut(text: &[u8]) -> (&[u8], &[u8])
+fn split_at_end(text: &[u8]) -> (&[u8], &[u8])
     ensures whole { text.now ≡ result.0.now ++ result.1.now }
     ensures front { IsWithoutEnd result.0.now }
     ensures back { IsRest result.1.now }
 {
-    match text
+    let end = text
         .iter()
-        .position(|byte| *byte == b'\n' || *byte == b'\r')
-    {
-        Some(at) => text.split_at(at),
-        None => (text, &[]),
-    }
+        .position(|byte| matches!(byte, b'\n' | b'\r'))
+        .unwrap_or(text.len());
+    text.split_at(end)
 }
 
 /// The line that the whole text of a reader is, where it is one, of at most so many bytes; `None` where it is not. No more of
 /// the text is read than tells this: three bytes more than the line may have.
 pub fn read_line<R: Read + Drop>(alloc: Global, reader: R, most: u16) -> io::Result<Option<Vec<u8>>>
-    ensures line { IfOk result (λ found. IfSome (R.remaining reader) (λ text. IsShortLineOf most text (option_map (λ line. line.items) found))) }
+    ensures line { IfOk result
+        (λ found. IfSome (R.remaining reader)
+        (λ text. IsShortLineOf most text (option_map (λ line. line.items) found))) }
 {
     let mut text = Vec::new(alloc);
     // The end has two bytes, and one more tells that something follows.
@@ -57,7 +58,8 @@ pub fn read_line<R: Read + Drop>(alloc: Global, reader: R, most: u16) -> io::Res
 
 // The line of a text that begins so: with all of its bytes, or with three more than the line may have.
 fn short_line_in(start: &[u8], most: u16) -> Option<&[u8]>
-    ensures { (text : List ℕ) → start.now ≡ take (most + 3) text → IsShortLineOf most text (option_map (λ line. line.now) result) }
+    ensures { (text : List ℕ) → start.now ≡ take (most + 3) text
+        → IsShortLineOf most text (option_map (λ line. line.now) result) }
 {
     let line = line_in(start)?;
     if line.len() <= usize::from(most) {

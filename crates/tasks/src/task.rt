@@ -140,10 +140,15 @@ impl<'a> Task<'a> {
     pub fn read(alloc: Global, words: &'a [&'a str]) -> Result<Task<'a>, Error>
         ensures task { IfOk result (IsTaskOf (map (λ w. w.now) words.entry.now)) }
         ensures passes { IfErr result (λ e. takes drop_app (map (λ w. w.now) words.entry.now) ≡ true
-            → (kind_of e ≡ ErrorKind.OutOfMemory) ⊎ IsSecretFault (subcommand_of drop_app (map (λ w. w.now) words.entry.now)) (kind_of e)) }
-        ensures kinds { MatchResult result (λ _. fault_of drop_app (map (λ w. w.now) words.entry.now) ≡ [])
-            (λ e. (kind_of e ≡ ErrorKind.OutOfMemory) ⊎ IsFaultOf (map (λ w. w.now) words.entry.now) (kind_of e)) }
-        ensures secrets { (kind : ErrorKind) → IsSecretFault (subcommand_of drop_app (map (λ w. w.now) words.entry.now)) kind
+            → (kind_of e ≡ ErrorKind.OutOfMemory)
+            ⊎ IsSecretFault (subcommand_of drop_app (map (λ w. w.now) words.entry.now))
+            (kind_of e)) }
+        ensures kinds { MatchResult result
+            (λ _. fault_of drop_app (map (λ w. w.now) words.entry.now) ≡ [])
+            (λ e. (kind_of e ≡ ErrorKind.OutOfMemory)
+            ⊎ IsFaultOf (map (λ w. w.now) words.entry.now) (kind_of e)) }
+        ensures secrets { (kind : ErrorKind)
+            → IsSecretFault (subcommand_of drop_app (map (λ w. w.now) words.entry.now)) kind
             → fault_of drop_app (map (λ w. w.now) words.entry.now) ≡ []
             → IsErrAnd result (λ e. (kind_of e ≡ ErrorKind.OutOfMemory) ⊎ (kind_of e ≡ kind)) }
     {
@@ -161,8 +166,10 @@ impl<'a> Task<'a> {
 
     // The task that the words named.
     fn of_matches(alloc: Global, matches: &ArgMatches<'a>) -> Result<Option<Task<'a>>, AllocError>
-        ensures task { IfOk result (λ found. IfSome found (IsTaskIn (subcommand_rows_of matches.now))) }
-        ensures named { NamesTask (subcommand_rows_of matches.now) → IfOk result (λ found. IsSome found) }
+        ensures task { IfOk result
+            (λ found. IfSome found (IsTaskIn (subcommand_rows_of matches.now))) }
+        ensures named { NamesTask (subcommand_rows_of matches.now)
+            → IfOk result (λ found. IsSome found) }
     {
         if let Some(task) = Task::init_in(matches) {
             return Ok(Some(task));
@@ -253,8 +260,10 @@ impl<'a> Task<'a> {
     }
 
     fn replay_in(alloc: Global, matches: &ArgMatches<'a>) -> Result<Option<Task<'a>>, AllocError>
-        ensures task { IfOk result (λ found. IfSome found (IsTaskIn (subcommand_rows_of matches.now))) }
-        ensures named { NamesReplay (subcommand_rows_of matches.now) → IfOk result (λ found. IsSome found) }
+        ensures task { IfOk result
+            (λ found. IfSome found (IsTaskIn (subcommand_rows_of matches.now))) }
+        ensures named { NamesReplay (subcommand_rows_of matches.now)
+            → IfOk result (λ found. IsSome found) }
     {
         let Some(values) = matches.subcommand_matches("replay") else {
             return Ok(None);
@@ -366,8 +375,10 @@ impl<'a> Serve<'a> {
 
 impl<'a> Replay<'a> {
     fn of_matches(alloc: Global, values: &ArgMatches<'a>) -> Result<Option<Replay<'a>>, AllocError>
-        ensures values { IfOk result (λ found. IfSome found (IsReplayOf (rows_of (found_of values.now)))) }
-        ensures given { HasReplay (rows_of (found_of values.now)) → IfOk result (λ found. IsSome found) }
+        ensures values { IfOk result
+            (λ found. IfSome found (IsReplayOf (rows_of (found_of values.now)))) }
+        ensures given { HasReplay (rows_of (found_of values.now))
+            → IfOk result (λ found. IsSome found) }
     {
         let Some(file) = value_of(values, "file") else {
             return Ok(None);
@@ -410,7 +421,8 @@ fn secret_error(alloc: Global, kind: ErrorKind) -> Result<Error, AllocError>
 
 // The value of an argument that has one value.
 fn value_of<'a>(values: &ArgMatches<'a>, id: &str) -> Option<&'a str>
-    ensures value { IfSome result (λ s. first_of id.now (rows_of (found_of values.now)) ≡ Some s.now) }
+    ensures value { IfSome result
+        (λ s. first_of id.now (rows_of (found_of values.now)) ≡ Some s.now) }
     ensures given { HasValue id.now (rows_of (found_of values.now)) → IsSome result }
     ensures absent { (result ≡ None) → first_of id.now (rows_of (found_of values.now)) ≡ None }
 {
@@ -423,8 +435,11 @@ fn values_of<'a>(
     values: &ArgMatches<'a>,
     id: &str,
 ) -> Result<Option<Vec<&'a str>>, AllocError>
-    ensures values { IfOk result (λ found. IfSome found (λ v. all_of id.now (rows_of (found_of values.now)) ≡ Some (map (λ s. s.now) v.items))) }
-    ensures given { is_some (all_of id.now (rows_of (found_of values.now))) ≡ true → IfOk result (λ found. IsSome found) }
+    ensures values { IfOk result
+        (λ found. IfSome found
+        (λ v. all_of id.now (rows_of (found_of values.now)) ≡ Some (map (λ s. s.now) v.items))) }
+    ensures given { is_some (all_of id.now (rows_of (found_of values.now))) ≡ true
+        → IfOk result (λ found. IsSome found) }
 {
     match values.get_strs(id) {
         Some(texts) => Ok(Some(Vec::from_slice(alloc, texts)?)),

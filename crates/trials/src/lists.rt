@@ -6,7 +6,7 @@ use crate::owed::{DONE, FIRST_ABC, SECOND_ABD, THIRD_X};
 use crate::published::DATE;
 use crate::rows::{holds, obey, upload};
 use boxes::Mode;
-use desk::{ListFault, compare, manifest};
+use desk::{ListEnd, ListFault, compare, manifest};
 use keeper::Keeper;
 use office::Office;
 use std::alloc::Global;
@@ -169,18 +169,34 @@ const ENDS: [&[u8]; 6] = [b"", b"\r", b"\r\n", b"\n", b"\n\n\r\r\n", b"\n\r\n"];
 // Rows of too few or too many fields.
 const OTHER_ROWS: [&[u8]; 5] = [b"1", b"\"\"", b" ", b",,,,,", b",,,,,,,"];
 
-/// What was written of a list, how it ended, and how many faults its writer counted.
+/// What was written of a list, how it ended, and how many faults its writer and its reader counted.
 #[derive(Debug, Drop)]
 pub struct Listed {
     pub text: Vec<u8>,
     pub end: Result<(), ListFault>,
     pub faults: u64,
+    pub failed_reads: u64,
 }
 
 impl Listed {
-    /// Fails where the list ended otherwise, where another text was written, or where its writer counted a fault.
+    /// What came of a list that was read.
+    pub fn of<R>(list: &ListEnd<R>, writer: Counted<Sink>) -> Listed {
+        let faults = writer.faults();
+        Listed {
+            text: writer.inner.text,
+            end: list.end,
+            faults,
+            failed_reads: list.reader.faults(),
+        }
+    }
+
+    /// Fails where the list ended otherwise, where another text was written, where its writer counted a fault, or its
+    /// reader one that is not told.
     pub fn comes_to(&self, end: Result<(), ListFault>, text: &[u8]) -> Result<(), Fail> {
         holds(self.faults == 0, "a fault was counted")?;
+        let told = self.end == Err(ListFault::Read);
+        holds(told == (self.failed_reads == 1), "a read is told")?;
+        holds(self.failed_reads <= 1, "reads go on")?;
         if self.text.as_slice() == text && self.end == end {
             return Ok(());
         }
@@ -198,6 +214,7 @@ pub fn manifest_to<K: Keeper>(office: &mut Office<K>, sink: Sink) -> Listed {
         text: writer.inner.text,
         end,
         faults,
+        failed_reads: 0,
     }
 }
 
@@ -208,13 +225,8 @@ pub fn compared_to<K: Keeper, R: Read>(
     sink: Sink,
 ) -> Listed {
     let mut writer = Counted::new(sink);
-    let end = compare(office.alloc, input, &mut office.keeper, &mut writer);
-    let faults = writer.faults();
-    Listed {
-        text: writer.inner.text,
-        end,
-        faults,
-    }
+    let compared = compare(office.alloc, input, &mut office.keeper, &mut writer);
+    Listed::of(&compared, writer)
 }
 
 /// Texts one behind another.
