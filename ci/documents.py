@@ -135,7 +135,7 @@ def test_refusals(_, count):
 def texts_of(enum):
     """What each variant of this enum tells, its name, and the type of what it holds."""
     form = re.compile(rf"^pub(?:\(crate\))? enum {enum}\b.*?^}}", re.MULTILINE | re.DOTALL)
-    [body] = [it for file in (kit.ROOT / "crates").glob("*/src/*.rt") for it in form.findall(file.read_text())]
+    [body] = [it for file in (kit.ROOT / "crates").glob("*/src/**/*.rt") for it in form.findall(file.read_text())]
     return re.findall(r"""#\[error\("(.+?)"\)\]\n +(\w+)(?:\((?:&'a )?(\w+)\))?""", body)
 
 

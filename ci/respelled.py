@@ -8,6 +8,7 @@ the same in each run. The last line is `N passed, M failed`.
 """
 
 import dataclasses
+import hashlib
 import random
 import re
 import shutil
@@ -396,12 +397,18 @@ def quiet(source):
 
 
 class Left(typing.NamedTuple):
-    """How a run ended, what the manifest of its office says, and what is in the tables."""
+    """How a run ended, what the manifest of its office says, the digest of the office file, and what is in the tables."""
 
     status: int
     err: bytes
     manifest: kit.Run
+    file: str
     dump: list
+
+
+def digest(file):
+    """The SHA-256 of a file's bytes."""
+    return hashlib.sha256(file.read_bytes()).hexdigest()
 
 
 def over_copy(drop, office, number, requests):
@@ -409,7 +416,7 @@ def over_copy(drop, office, number, requests):
     file = drop.path(f"copy-{number}")
     shutil.copy(office, file)
     ran = drop.replay(file, b"".join(it.text() for it in requests))
-    left = Left(ran.status, ran.err, drop.run("manifest", file), tables.dump(file))
+    left = Left(ran.status, ran.err, drop.run("manifest", file), digest(file), tables.dump(file))
     for ending in ["", "-wal", "-shm"]:
         drop.path(file.name + ending).unlink(missing_ok=True)
     return ran.out, left
@@ -453,6 +460,7 @@ def test_plain(drop, count, office, plains):
     for it, found in zip(plains, answers):
         count.add(f"plain {it.name}", unlike(found, it.owed))
     count.add("the run", ended_well(left) or (None if left.dump == before else "the tables were changed"))
+    count.add("the file", None if left.file == digest(office) else "it was written")
     return answers, left
 
 
