@@ -1,5 +1,5 @@
 //! What is decided of a fetch.
-ghost use Rattle.std.specs.Prelude.{◌≡◌, List, ℕ};
+ghost use Rattle.std.specs.Prelude.{List, ℕ};
 ghost use Rattle.boxes.specs.Sound.{IsSound};
 ghost use Rattle.boxes.specs.State.{State};
 ghost use Rattle.boxes.specs.Views.{IsFetchViewOf};

@@ -1,5 +1,5 @@
 //! What a box holds, kept from change to change.
-ghost use Rattle.std.specs.Prelude.{◌≡◌, ℕ, ◌≤◌, ◌<◌, ◌^◌, ◌+◌, length, Some, option_map};
+ghost use Rattle.std.specs.Prelude.{◌≡◌, ◌<◌, ◌^◌, ◌+◌, length, Some, option_map};
 ghost use Rattle.std.specs.FinMap.{get, insert, remove};
 ghost use Rattle.boxes.specs.State.{File, Place, State};
 ghost use Rattle.boxes.specs.Totals.{used, count};

@@ -1,13 +1,16 @@
 -- What the ordered maps of a shelf mean.
-use Rattle.std.specs.Prelude.{◌≡◌, ℕ, ◌≤◌, List, length, map, Vec, Some, false}
+use Rattle.std.specs.Prelude.{◌≡◌, ℕ, ◌≤◌, List, length, map, Vec, Some, Result, IfErr, false}
 use Rattle.std.specs.declared.alloc.Global.{Global}
 use Rattle.sigtext.specs.Bytes.{bytes_cmp}
+use Rattle.sigtext.specs.Counts.{CountsErrors}
 use Rattle.boxes.specs.declared.rows.Role.{Role}
 use Rattle.boxes.specs.declared.change.NewFile.{NewFile}
 use Rattle.boxes.specs.State.{Key, Place, place_cmp, File, Receipt, Settings, State}
 use Rattle.boxes.specs.Rows.{key_of, settings_of, numbered, numbered_receipt}
 use Rattle.boxes.specs.Clerks.{clerks}
 use Rattle.boxes.specs.Views.{AreTotals}
+use Rattle.keeper.specs.declared.keep.KeepFault.{KeepFault}
+use Rattle.keeper.specs.declared.keep.KeepFault.TheVariants.{Memory}
 use Rattle.keeper.specs.declared.shelf.ShelvedBox.{ShelvedBox}
 use Rattle.keeper.specs.declared.shelf.StoredFile.{StoredFile}
 use Rattle.keeper.specs.declared.shelf.Shelf.{Shelf}
@@ -36,6 +39,12 @@ pub record Holds (k : Shelf) (s : State) : Type 0 where
   pub totals : (name : List ℕ) (b : ShelvedBox) → found bytes_cmp bytes_of k.boxes.entries name ≡ Some b → AreTotals s name b.totals
   pub clerks : k.clerks ≡ clerks s
   pub fewer : k.clerks ≤ length k.keys.entries
+
+-- What a call leaves that only asks: the shelf means what it meant, and an error, of memory alone, is counted.
+pub record Looks {T : Type 0} (old new : Shelf) (result : Result T KeepFault) : Type 0 where
+  pub same : (s : State) → Holds old s → Holds new s
+  pub count : CountsErrors old.faults new.faults result
+  pub fault : IfErr result (λ f. f ≡ Memory)
 
 -- a key that is added
 abbrev pub added_key : Role → List ℕ → Key

@@ -1,5 +1,5 @@
 //! Copies of what an office keeps.
-ghost use Rattle.std.specs.Prelude.{◌≡◌, ℕ, List, map, IfOk};
+ghost use Rattle.std.specs.Prelude.{◌≡◌, map, IfOk};
 ghost use Rattle.boxes.specs.Rows.{key_of, name_rule_of, settings_of, numbered_receipt};
 
 use boxes::{BoxRow, KeyRow, NameRule, ReceiptRow};

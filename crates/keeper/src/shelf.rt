@@ -1,14 +1,14 @@
 //! A keeper in memory, and what it is asked.
-ghost use Rattle.std.specs.Prelude.{◌≡◌, ℕ, ◌+◌, ◌-◌, ◌≤◌, ◌↔◌, map, take, drop, length, cond, slice_get, option_map, IsTrue, IfSome, IfOk, IfErr};
+ghost use Rattle.std.specs.Prelude.{◌≡◌, ℕ, ◌+◌, ◌-◌, ◌≤◌, ◌↔◌, map, take, drop, cond, slice_get, option_map, IsTrue, IfSome, IfOk};
 ghost use Rattle.std.specs.FinMap.{get};
-ghost use Rattle.sigtext.specs.Counts.{Rose, CountsErrors};
+ghost use Rattle.sigtext.specs.Counts.{Rose};
 ghost use Rattle.boxes.specs.State.{State};
 ghost use Rattle.boxes.specs.Sound.{IsSound};
 ghost use Rattle.boxes.specs.Clerks.{is_acting};
 ghost use Rattle.boxes.specs.Rows.{key_of, settings_of, receipts_from, numbered_receipt, IsFileAt};
 ghost use Rattle.boxes.specs.Views.{AreTotals};
 ghost use Rattle.boxes.specs.Changes.{most_receipts};
-ghost use Rattle.keeper.specs.Shelves.{Holds, place_of};
+ghost use Rattle.keeper.specs.Shelves.{Holds, Looks, place_of};
 
 use crate::copies::{copy_box, copy_key, copy_receipt, copy_receipts};
 use crate::keep::KeepFault;
@@ -127,9 +127,7 @@ impl Shelf {
     pub(crate) fn find_key(&mut self, id: &[u8]) -> Result<Option<KeyRow>, KeepFault>
         ensures value { (s : State) → Holds self.old s
             → IfOk result (λ k. option_map key_of k ≡ get s.keys id.now) }
-        ensures same { (s : State) → Holds self.old s → Holds self.new s }
-        ensures count { CountsErrors self.old.faults self.new.faults result }
-        ensures fault { IfErr result (λ f. f ≡ KeepFault.Memory) }
+        ensures rest { Looks self.old self.new result }
     {
         let Some(key) = self.keys.get(id) else {
             return Ok(None);
@@ -144,9 +142,7 @@ impl Shelf {
     pub(crate) fn find_box(&mut self, name: &[u8]) -> Result<Option<BoxRow>, KeepFault>
         ensures value { (s : State) → Holds self.old s
             → IfOk result (λ b. option_map settings_of b ≡ get s.boxes name.now) }
-        ensures same { (s : State) → Holds self.old s → Holds self.new s }
-        ensures count { CountsErrors self.old.faults self.new.faults result }
-        ensures fault { IfErr result (λ f. f ≡ KeepFault.Memory) }
+        ensures rest { Looks self.old self.new result }
     {
         let Some(shelved) = self.boxes.get(name) else {
             return Ok(None);
@@ -165,9 +161,7 @@ impl Shelf {
     ) -> Result<Option<FileRow>, KeepFault>
         ensures value { (s : State) → Holds self.old s → IsSound s
             → IfOk result (λ f. IsFileAt s (record { box = in_box.now; name = name.now }) f) }
-        ensures same { (s : State) → Holds self.old s → Holds self.new s }
-        ensures count { CountsErrors self.old.faults self.new.faults result }
-        ensures fault { IfErr result (λ f. f ≡ KeepFault.Memory) }
+        ensures rest { Looks self.old self.new result }
     {
         let Ok(place) = new_place(self.alloc, in_box, name) else {
             return Err(self.count());
@@ -202,9 +196,7 @@ impl Shelf {
     ) -> Result<Vec<ReceiptRow>, KeepFault>
         ensures value { (s : State) → Holds self.old s
             → IfOk result (λ rs. map numbered_receipt rs.items ≡ receipts_from s from most) }
-        ensures same { (s : State) → Holds self.old s → Holds self.new s }
-        ensures count { CountsErrors self.old.faults self.new.faults result }
-        ensures fault { IfErr result (λ f. f ≡ KeepFault.Memory) }
+        ensures rest { Looks self.old self.new result }
     {
         match copy_receipts(self.alloc, stretch(&self.receipts, from, most)) {
             Ok(copies) => Ok(copies),

@@ -5,7 +5,6 @@ ghost use Rattle.sigtext.specs.Fields.{header_of};
 ghost use Rattle.sigtext.specs.Request.{Request};
 ghost use Rattle.sigtext.specs.Rules.{IsFirstToFail, AllHold};
 ghost use Rattle.sigv4.specs.Dates.{WritesMoment};
-ghost use Rattle.links.specs.Methods.{method_text};
 ghost use Rattle.links.specs.WellFormed.{LinkValues, HeadRule};
 ghost use Rattle.links.specs.SixValues.{SixParts, SixRule, HaveNames, texts_of};
 ghost use Rattle.sigtext.specs.Target.{Param, IsTargetOf};

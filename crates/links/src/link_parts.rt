@@ -1,5 +1,5 @@
 //! What a well-formed link says.
-ghost use Rattle.std.specs.Prelude.{◌≡◌, ◌++◌, ℕ, List, IfErr, IfOk, MatchOption, OnErr, OnOk};
+ghost use Rattle.std.specs.Prelude.{◌≡◌, ◌<◌, ◌+◌, ◌++◌, ℕ, List, length, vec_len, vec_capacity, IfErr, IfOk, MatchOption, OnErr, OnOk};
 ghost use Rattle.sigtext.specs.Request.{Request};
 ghost use Rattle.links.specs.WellFormed.{LinkValues, HasValue};
 ghost use Rattle.links.specs.LinkReadings.{IsLinkOf};
@@ -34,12 +34,14 @@ impl LinkParts<'_> {
         }
     }
 
-    /// Appends the decoded path. An error leaves the vector: memory was refused.
+    /// Appends the decoded path. An error leaves the vector: memory was refused, where it had no room for the path.
     pub fn path_into(&self, out: &mut Vec<u8>) -> Result<(), AllocError>
         ensures ok { OnOk result
             ((r : Request) (p : LinkValues) → IsLinkOf self.now r p
             → out.new.items ≡ out.old.items ++ p.path) }
         ensures err { OnErr result (out.new.items ≡ out.old.items) }
+        ensures full { OnErr result ((r : Request) (p : LinkValues) → IsLinkOf self.now r p
+            → vec_capacity out.old < vec_len out.old + length p.path) }
     {
         self.parts.target.path_into(out)
     }

@@ -4,6 +4,7 @@ use Rattle.std.specs.List.{count_by}
 use Rattle.boxes.specs.State.{State}
 use Rattle.keeper.specs.declared.keep.Keeper.{Ghosts}
 use Rattle.office.specs.Connections.{StaysOpen, TellsMoments, is_fault}
+use Rattle.office.specs.Premise.{IsLeft, WasKept}
 use Rattle.office.specs.Sessions.{Connection, Run}
 
 -- In so many turns connections were accepted and served one after another, from one state to another, each message at a
@@ -17,3 +18,8 @@ pub record AcceptsConnections {C K : Type 0} (gives : C → ℕ → C → Type 0
   pub opened : StaysOpen k connections keeper keeper' after
   pub within : length connections ≤ turns
   pub all : failed + length connections ≡ turns + count_by (λ c. is_fault c.end) connections
+
+-- the same of a keeper that meant a sound state before and is honest after: it means the state after, which is sound
+abbrev pub ServesInTurn : {C K : Type 0} → (C → ℕ → C → Type 0) → C → C → Ghosts K → K → K → ℕ → ℕ → Type 0
+ServesInTurn gives clock clock' k keeper keeper' turns failed = (s : State) → WasKept k keeper keeper' s
+    → (after : State) × IsLeft (k.means keeper') after × AcceptsConnections gives clock clock' k keeper keeper' turns s after failed

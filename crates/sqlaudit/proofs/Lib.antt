@@ -24,3 +24,4 @@ pub mod Digested
 pub mod Tested
 pub mod Looking
 pub mod PieceLines
+pub mod WholeTables

@@ -1,31 +1,16 @@
--- Whole tables, as they are listed inside a transaction.
-use Rattle.std.specs.Prelude.{◌≡◌, ℕ, pos, List, Result, OnOk, IfOk, IsTrue, Vec}
-use Rattle.std.specs.declared.alloc.Global.{Global}
+-- Which tables a transaction has that is asked for whole tables.
+use Rattle.std.specs.Prelude.{pos, List, IsTrue}
 use Rattle.sqlite_trees.specs.declared.store.Store.{Ghosts}
-use Rattle.sqlite_value.specs.Order.{Row}
 use Rattle.sqlite_rules.specs.Lists.{Has}
-use Rattle.sqlite.specs.declared.error.Error.{Error}
 use Rattle.sqlite.specs.declared.transaction.Transaction.{Transaction}
 use Rattle.sqlite.specs.State.{HasCleanDisk}
 use Rattle.sqltables.specs.Schema.{Version, IsVersion, begun_schemas}
 use Rattle.sqltables.specs.Tables.{HaveRowids}
 use Rattle.sqltables.specs.Means.{IsRunning}
-use Rattle.sqltables.specs.Inside.{seen, HasSchema, HasWhole, OfOffice, OfWholeOffice}
+use Rattle.sqltables.specs.Inside.{seen, HasSchema, HasWhole}
 use Rattle.sqlaudit.specs.Lines.{AreLines, IsOfficeLine}
 use Rattle.sqlaudit.specs.Opened.{AreOfVersion}
 use Rattle.sqlaudit.specs.declared.lines.OfficeLine.{OfficeLine}
-
--- the lines are those of the table in this place, where the tables are an office's
-abbrev pub ListsTable : {S L : Type 0} → Ghosts S → Transaction S → Transaction S → (Row → L → Type 0) → ℕ → Result (Vec L Global) Error → Type 0
-ListsTable g old new IsLine tree result = OfOffice g old new (IfOk result (λ lines. AreLines IsLine ((seen g old).now.trees tree) lines.items))
-
--- the same where, besides, each row obeys the tables
-abbrev pub ListsWholeTable : {S L : Type 0} → Ghosts S → Transaction S → Transaction S → (Row → L → Type 0) → ℕ → Result (Vec L Global) Error → Type 0
-ListsWholeTable g old new IsLine tree result = OfWholeOffice g old new (IfOk result (λ lines. AreLines IsLine ((seen g old).now.trees tree) lines.items))
-
--- each row of the table in this place has a number of its own
-abbrev pub NumbersRows : {S T : Type 0} → Ghosts S → Transaction S → Transaction S → ℕ → Result T Error → Type 0
-NumbersRows g old new tree result = OfOffice g old new (OnOk result (HaveRowids ((seen g old).now.trees tree)))
 
 -- so it is where the tables begin as an office's
 abbrev pub OfBegunOffice : {S : Type 0} → Ghosts S → Transaction S → Transaction S → Type 0 → Type 0

@@ -1,7 +1,6 @@
 //! The lines of the boxes, as boxes.
 
-ghost use Rattle.std.specs.Prelude.{◌≡◌, ◌↔◌, ◌≤◌, ◌==◌, ℕ, Bool, List, length, map, pos, IsTrue, IfOk, MatchOption};
-ghost use Rattle.std.specs.List.{slice_split};
+ghost use Rattle.std.specs.Prelude.{◌≡◌, ◌↔◌, ◌≤◌, ◌==◌, ℕ, Bool, List, length, pos, IsTrue, IfOk, MatchOption};
 ghost use Rattle.sigtext.specs.Bytes.{bytes_cmp};
 ghost use Rattle.boxes.specs.declared.rows.Mode.{Mode};
 ghost use Rattle.boxes.specs.State.{NameRule as Rule};

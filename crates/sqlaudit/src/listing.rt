@@ -4,8 +4,8 @@ ghost use Rattle.std.specs.Prelude.{◌≡◌, OnOk, IfOk};
 ghost use Rattle.sqlite.specs.State.{HasCleanDisk};
 ghost use Rattle.sqltables.specs.Inside.{seen, GoesOnBegun, SameOffice, OfWholeOffice};
 ghost use Rattle.sqlaudit.specs.Opened.{AreTables};
-ghost use Rattle.sqlaudit.specs.Listing.{ListsTable, ListsWholeTable, NumbersRows, OfBegunOffice};
-ghost use Rattle.sqlaudit.specs.Lines.{IsOfficeLine, IsKeyLine, IsBoxLine, IsReceiptLine, IsFileLine, IsPieceLine, AreLines, AreRead, HaveRowids};
+ghost use Rattle.sqlaudit.specs.Listing.{OfBegunOffice};
+ghost use Rattle.sqlaudit.specs.Lines.{IsOfficeLine, AreLines, AreRead, HaveRowids};
 
 use crate::lines::{
     BoxLine, FileLine, KeyLine, Line, OfficeLine, PieceLine, ReceiptLine, are_apart, lines_of,
@@ -44,73 +44,6 @@ pub(crate) fn list_office<S: Alter>(tx: &mut Transaction<'_, S>) -> Result<Vec<O
     )
 }
 
-/// Each key.
-pub(crate) fn list_keys<S: Alter>(tx: &mut Transaction<'_, S>) -> Result<Vec<KeyLine>, Error>
-    ensures listed { ListsTable S.Store tx.old tx.new IsKeyLine 1 result }
-    ensures rowids { NumbersRows S.Store tx.old tx.new 1 result }
-    ensures same { SameOffice S.Store tx.old tx.new result }
-    ensures rest { GoesOnBegun S.Store tx.old tx.new result }
-{
-    list(
-        tx,
-        "SELECT rowid, id, role, secret, revoked FROM keys ORDER BY id",
-    )
-}
-
-/// Each box.
-pub(crate) fn list_boxes<S: Alter>(tx: &mut Transaction<'_, S>) -> Result<Vec<BoxLine>, Error>
-    ensures listed { ListsTable S.Store tx.old tx.new IsBoxLine 3 result }
-    ensures rowids { NumbersRows S.Store tx.old tx.new 3 result }
-    ensures same { SameOffice S.Store tx.old tx.new result }
-    ensures rest { GoesOnBegun S.Store tx.old tx.new result }
-{
-    list(
-        tx,
-        "SELECT rowid, name, opens, closes, days, from_minute, to_minute, quota, max_files, mode, rule_kind, rule_text, used, count FROM boxes ORDER BY name",
-    )
-}
-
-/// Each receipt.
-pub(crate) fn list_receipts<S: Alter>(
-    tx: &mut Transaction<'_, S>,
-) -> Result<Vec<ReceiptLine>, Error>
-    ensures listed { ListsTable S.Store tx.old tx.new IsReceiptLine 5 result }
-    ensures rowids { NumbersRows S.Store tx.old tx.new 5 result }
-    ensures same { SameOffice S.Store tx.old tx.new result }
-    ensures rest { GoesOnBegun S.Store tx.old tx.new result }
-{
-    list(
-        tx,
-        "SELECT rowid, number, box, name, length, digest, moment, key_id FROM receipts ORDER BY number",
-    )
-}
-
-/// Each file.
-pub(crate) fn list_files<S: Alter>(tx: &mut Transaction<'_, S>) -> Result<Vec<FileLine>, Error>
-    ensures listed { ListsTable S.Store tx.old tx.new IsFileLine 6 result }
-    ensures rowids { NumbersRows S.Store tx.old tx.new 6 result }
-    ensures same { SameOffice S.Store tx.old tx.new result }
-    ensures rest { GoesOnBegun S.Store tx.old tx.new result }
-{
-    list(
-        tx,
-        "SELECT rowid, box, name, receipt FROM files ORDER BY box, name",
-    )
-}
-
-/// Each piece of a file, with the length of its bytes.
-pub(crate) fn list_pieces<S: Alter>(tx: &mut Transaction<'_, S>) -> Result<Vec<PieceLine>, Error>
-    ensures listed { ListsWholeTable S.Store tx.old tx.new IsPieceLine 9 result }
-    ensures rowids { NumbersRows S.Store tx.old tx.new 9 result }
-    ensures same { SameOffice S.Store tx.old tx.new result }
-    ensures rest { GoesOnBegun S.Store tx.old tx.new result }
-{
-    list(
-        tx,
-        "SELECT rowid, box, name, part, length(bytes) FROM pieces ORDER BY box, name, part",
-    )
-}
-
 /// The rows of each table but the office's own.
 #[derive(Drop)]
 pub(crate) struct Listed {
@@ -129,10 +62,25 @@ pub(crate) fn list_all<S: Alter>(tx: &mut Transaction<'_, S>) -> Result<Listed, 
     ensures rest { GoesOnBegun S.Store tx.old tx.new result }
 {
     Ok(Listed {
-        keys: list_keys(tx)?,
-        boxes: list_boxes(tx)?,
-        receipts: list_receipts(tx)?,
-        files: list_files(tx)?,
-        pieces: list_pieces(tx)?,
+        keys: list(
+            tx,
+            "SELECT rowid, id, role, secret, revoked FROM keys ORDER BY id",
+        )?,
+        boxes: list(
+            tx,
+            "SELECT rowid, name, opens, closes, days, from_minute, to_minute, quota, max_files, mode, rule_kind, rule_text, used, count FROM boxes ORDER BY name",
+        )?,
+        receipts: list(
+            tx,
+            "SELECT rowid, number, box, name, length, digest, moment, key_id FROM receipts ORDER BY number",
+        )?,
+        files: list(
+            tx,
+            "SELECT rowid, box, name, receipt FROM files ORDER BY box, name",
+        )?,
+        pieces: list(
+            tx,
+            "SELECT rowid, box, name, part, length(bytes) FROM pieces ORDER BY box, name, part",
+        )?,
     })
 }

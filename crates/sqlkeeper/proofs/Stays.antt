@@ -12,7 +12,7 @@ use Rattle.keeper.specs.declared.keep.KeepFault.TheVariants.{Full, Store}
 use Rattle.keeper.specs.Keeping.{Answers, Stays, LeavesAlone, LeavesEither}
 use Rattle.sqltables.specs.Schema.{Version, IsVersion, v1}
 use Rattle.sqltables.specs.Means.{Means, LeavesOnly, AddsOnly, LeavesLast}
-use Rattle.sqlkeeper.specs.Asking.{AnswersOf, Rests}
+use Rattle.sqlkeeper.specs.Asking.{AnswersOf, LeavesOffice}
 use Rattle.sqltables.specs.Kept.{KeepsState, MayLeave, LeavesStates}
 use Rattle.sqltables.specs.OneState.{one_left}
 
@@ -27,7 +27,7 @@ opened_too {T = T} answer (Ok x) is P h = subst (λ (a : Result T Error). OnOk a
 opened_too answer (Err e) is P h = tt
 
 module _ {K T : Type 0} (st : K → sql.State) (faults : K → ℕ) (old new : K) (answer : Result T Error) (result : Result T KeepFault) (value : IfOk result (λ x. answer ≡ Ok x)) where
-  pub stays : Rests (st old) (st new) answer → CountsErrors (faults old) (faults new) result → IfErr result (λ f. f ≢ Full)
+  pub stays : LeavesOffice (st old) (st new) answer → CountsErrors (faults old) (faults new) result → IfErr result (λ f. f ≢ Full)
       → Stays (λ k. KeepsState (st k)) (λ k. HasCleanDisk (st k)) (λ k. IsTrue (st k).is_open) faults (λ k. MayLeave (st k)) (λ k. LeavesStates (st k)) (Unit {0}) old new result
   stays rest count room = record {
     same = λ s k. record { means = rest.kept v1 s refl k.means; sound = k.sound };

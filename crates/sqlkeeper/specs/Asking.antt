@@ -13,7 +13,7 @@ AnswersOf old new result Says = (v : Version) (s : Office) → IsVersion v → M
 
 -- What a question leaves, whatever came of it: the office is the same, a crash leaves nothing new but that office, no fault
 -- of the disk is forgotten, and after an answer the database is open.
-pub record Rests {T : Type 0} (old new : State) (result : Result T Error) : Type 0 where
+pub record LeavesOffice {T : Type 0} (old new : State) (result : Result T Error) : Type 0 where
   pub kept : (v : Version) (s : Office) → IsVersion v → Means v old s → Means v new s
   pub crash : (v : Version) (s : Office) → IsVersion v → Means v old s → AddsOnly v old new s
   pub honest : HasCleanDisk new → HasCleanDisk old

@@ -1,18 +1,14 @@
 //! A change that is made, in a transaction of its own.
 
-ghost use Rattle.std.specs.Prelude.{◌≡◌, ◌+◌, ℕ, length, option_map, IsTrue, None, Some, is_some, IfOk, OnOk, OnErr};
-ghost use Rattle.std.specs.FinMap.{get};
-ghost use Rattle.sqlite.specs.State.{HasCleanDisk, KeepsCommit, Survives};
+ghost use Rattle.std.specs.Prelude.{OnOk, OnErr};
+ghost use Rattle.sqlite.specs.State.{HasCleanDisk};
 ghost use Rattle.sqlite.specs.Held.{state};
-ghost use Rattle.boxes.specs.State.{Place, Receipt, State};
-ghost use Rattle.boxes.specs.Steps.{AddKey, RevokeKey, AddBox, CloseBox, DropFile};
-ghost use Rattle.boxes.specs.Rows.{settings_of};
+ghost use Rattle.boxes.specs.State.{State};
 ghost use Rattle.boxes.specs.Sound.{IsSound};
-ghost use Rattle.boxes.specs.Changes.{IsFileSet, IsObeyed, IsChangeOf, command_of};
+ghost use Rattle.boxes.specs.Changes.{IsChangeOf};
 ghost use Rattle.sqltables.specs.Schema.{Version, IsVersion};
-ghost use Rattle.sqltables.specs.Tables.{Tables, Box, tables_of};
-ghost use Rattle.sqltables.specs.Changes.{with_file, with_receipt, without_pieces, with_upload, with_drop, with_totals, with_box};
-ghost use Rattle.sqltables.specs.Means.{Pends, IsRunning, Means, LeavesOnly, AddsOnly, LeavesLast};
+ghost use Rattle.sqltables.specs.Means.{Means, LeavesOnly, AddsOnly};
+ghost use Rattle.sqlkeeper.specs.Committing.{EndsOpen};
 
 use boxes::Change;
 use sqlite::{Alter, Connection, Error, ErrorCode};
@@ -40,9 +36,7 @@ pub(crate) fn apply_change<S: Alter>(
         → Means v (state S.Store conn.old) s → IsSound s → IsChangeOf s change.now after
         → AddsOnly v (state S.Store conn.old) (state S.Store conn.new) after }
     ensures honest { HasCleanDisk (state S.Store conn.new) → HasCleanDisk (state S.Store conn.old) }
-    ensures opened { HasCleanDisk (state S.Store conn.new)
-        → OnOk result (IsTrue (state S.Store conn.new).is_open
-        × LeavesLast (state S.Store conn.new)) }
+    ensures opened { EndsOpen (state S.Store conn.new) result }
 {
     if !conn.is_autocommit() {
         return Err(Error::SqliteFailure(ErrorCode::TransactionState));

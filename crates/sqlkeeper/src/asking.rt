@@ -7,7 +7,8 @@ ghost use Rattle.sqlite.specs.Held.{state};
 ghost use Rattle.boxes.specs.Rows.{IsOfficeOf, key_of, settings_of, IsFileAt, numbered_receipt, receipts_from};
 ghost use Rattle.boxes.specs.Views.{AreTotals};
 ghost use Rattle.boxes.specs.Clerks.{clerks};
-ghost use Rattle.sqlkeeper.specs.Asking.{AnswersOf, Rests};
+ghost use Rattle.sqltables.specs.Tables.{placed};
+ghost use Rattle.sqlkeeper.specs.Asking.{AnswersOf, LeavesOffice};
 
 use boxes::{BoxRow, FileRow, KeyRow, OfficeRow, ReceiptRow, Totals};
 use sqlite::{Alter, Connection, Error, ErrorCode};
@@ -18,7 +19,7 @@ use std::alloc::Global;
 pub(crate) fn settings<S: Alter>(conn: &mut Connection<S>) -> Result<OfficeRow, Error>
     ensures found { AnswersOf (state S.Store conn.old) (state S.Store conn.new) result
         IsOfficeOf }
-    ensures rest { Rests (state S.Store conn.old) (state S.Store conn.new) result }
+    ensures rest { LeavesOffice (state S.Store conn.old) (state S.Store conn.new) result }
 {
     if !conn.is_autocommit() {
         return Err(Error::SqliteFailure(ErrorCode::TransactionState));
@@ -33,7 +34,7 @@ pub(crate) fn settings<S: Alter>(conn: &mut Connection<S>) -> Result<OfficeRow, 
 pub(crate) fn key<S: Alter>(conn: &mut Connection<S>, id: &str) -> Result<Option<KeyRow>, Error>
     ensures found { AnswersOf (state S.Store conn.old) (state S.Store conn.new) result
         (λ s key. option_map key_of key ≡ get s.keys id.now) }
-    ensures rest { Rests (state S.Store conn.old) (state S.Store conn.new) result }
+    ensures rest { LeavesOffice (state S.Store conn.old) (state S.Store conn.new) result }
 {
     if !conn.is_autocommit() {
         return Err(Error::SqliteFailure(ErrorCode::TransactionState));
@@ -51,7 +52,7 @@ pub(crate) fn box_row<S: Alter>(
 ) -> Result<Option<BoxRow>, Error>
     ensures found { AnswersOf (state S.Store conn.old) (state S.Store conn.new) result
         (λ s row. option_map settings_of row ≡ get s.boxes name.now) }
-    ensures rest { Rests (state S.Store conn.old) (state S.Store conn.new) result }
+    ensures rest { LeavesOffice (state S.Store conn.old) (state S.Store conn.new) result }
 {
     if !conn.is_autocommit() {
         return Err(Error::SqliteFailure(ErrorCode::TransactionState));
@@ -70,8 +71,8 @@ pub(crate) fn file<S: Alter>(
     name: &str,
 ) -> Result<Option<FileRow>, Error>
     ensures found { AnswersOf (state S.Store conn.old) (state S.Store conn.new) result
-        (λ s. IsFileAt s (record { box = in_box.now; name = name.now })) }
-    ensures rest { Rests (state S.Store conn.old) (state S.Store conn.new) result }
+        (λ s. IsFileAt s (placed in_box.now name.now)) }
+    ensures rest { LeavesOffice (state S.Store conn.old) (state S.Store conn.new) result }
 {
     if !conn.is_autocommit() {
         return Err(Error::SqliteFailure(ErrorCode::TransactionState));
@@ -86,7 +87,7 @@ pub(crate) fn file<S: Alter>(
 pub(crate) fn totals<S: Alter>(conn: &mut Connection<S>, name: &str) -> Result<Totals, Error>
     ensures found { AnswersOf (state S.Store conn.old) (state S.Store conn.new) result
         (λ s. AreTotals s name.now) }
-    ensures rest { Rests (state S.Store conn.old) (state S.Store conn.new) result }
+    ensures rest { LeavesOffice (state S.Store conn.old) (state S.Store conn.new) result }
 {
     if !conn.is_autocommit() {
         return Err(Error::SqliteFailure(ErrorCode::TransactionState));
@@ -101,7 +102,7 @@ pub(crate) fn totals<S: Alter>(conn: &mut Connection<S>, name: &str) -> Result<T
 pub(crate) fn clerks<S: Alter>(conn: &mut Connection<S>, alloc: Global) -> Result<u64, Error>
     ensures found { AnswersOf (state S.Store conn.old) (state S.Store conn.new) result
         (λ s count. count ≡ clerks s) }
-    ensures rest { Rests (state S.Store conn.old) (state S.Store conn.new) result }
+    ensures rest { LeavesOffice (state S.Store conn.old) (state S.Store conn.new) result }
 {
     if !conn.is_autocommit() {
         return Err(Error::SqliteFailure(ErrorCode::TransactionState));
@@ -116,7 +117,7 @@ pub(crate) fn clerks<S: Alter>(conn: &mut Connection<S>, alloc: Global) -> Resul
 pub(crate) fn next_number<S: Alter>(conn: &mut Connection<S>) -> Result<u64, Error>
     ensures found { AnswersOf (state S.Store conn.old) (state S.Store conn.new) result
         (λ s number. number ≡ length s.receipts + 1) }
-    ensures rest { Rests (state S.Store conn.old) (state S.Store conn.new) result }
+    ensures rest { LeavesOffice (state S.Store conn.old) (state S.Store conn.new) result }
 {
     if !conn.is_autocommit() {
         return Err(Error::SqliteFailure(ErrorCode::TransactionState));
@@ -136,7 +137,7 @@ pub(crate) fn receipts<S: Alter>(
 ) -> Result<Vec<ReceiptRow>, Error>
     ensures found { AnswersOf (state S.Store conn.old) (state S.Store conn.new) result
         (λ s rows. map numbered_receipt rows.items ≡ receipts_from s from most) }
-    ensures rest { Rests (state S.Store conn.old) (state S.Store conn.new) result }
+    ensures rest { LeavesOffice (state S.Store conn.old) (state S.Store conn.new) result }
 {
     if !conn.is_autocommit() {
         return Err(Error::SqliteFailure(ErrorCode::TransactionState));

@@ -1,13 +1,12 @@
 //! A new office, made in a transaction of its own.
 
-ghost use Rattle.std.specs.Prelude.{◌≡◌, IsTrue, OnOk, OnErr, false};
-ghost use Rattle.sqlite.specs.State.{HasCleanDisk, KeepsCommit, Survives};
+ghost use Rattle.std.specs.Prelude.{OnOk, OnErr};
+ghost use Rattle.sqlite.specs.State.{HasCleanDisk};
 ghost use Rattle.sqlite.specs.Held.{state};
 ghost use Rattle.boxes.specs.FirstState.{first_state};
-ghost use Rattle.boxes.specs.declared.rows.Role.TheVariants.{Clerk};
-ghost use Rattle.sqltables.specs.Schema.{v1, s0, s1, s2, s3, s4, s5, s6};
-ghost use Rattle.sqltables.specs.Changes.{no_rows, with_key};
-ghost use Rattle.sqltables.specs.Means.{SeesNothing, Pends, IsRunning, IsBare, Means, LeavesOnly, AddsOnly, LeavesLast};
+ghost use Rattle.sqltables.specs.Schema.{v1};
+ghost use Rattle.sqltables.specs.Means.{IsBare, Means, LeavesOnly, AddsOnly};
+ghost use Rattle.sqlkeeper.specs.Committing.{EndsOpen};
 
 use sqlite::{Alter, Connection, Error, ErrorCode};
 use sqlstatements::making::make_office;
@@ -34,9 +33,7 @@ pub(crate) fn create<S: Alter>(
         → AddsOnly v1 (state S.Store conn.old) (state S.Store conn.new)
         (first_state east id.now secret.now) }
     ensures honest { HasCleanDisk (state S.Store conn.new) → HasCleanDisk (state S.Store conn.old) }
-    ensures opened { HasCleanDisk (state S.Store conn.new)
-        → OnOk result (IsTrue (state S.Store conn.new).is_open
-        × LeavesLast (state S.Store conn.new)) }
+    ensures opened { EndsOpen (state S.Store conn.new) result }
 {
     if !conn.is_autocommit() {
         return Err(Error::SqliteFailure(ErrorCode::TransactionState));

@@ -19,3 +19,4 @@ pub mod Different
 pub mod ClerkRows
 pub mod Numbers
 pub mod FileBytes
+pub mod Chained

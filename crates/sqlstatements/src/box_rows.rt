@@ -6,7 +6,7 @@ ghost use Rattle.boxes.specs.Rows.{settings_of, name_rule_of};
 ghost use Rattle.sqltables.specs.Schema.{Version, IsVersion};
 ghost use Rattle.sqltables.specs.Tables.{Tables, mode_number, rule_number, rule_text, days_text, joined};
 ghost use Rattle.sqltables.specs.Changes.{with_box};
-ghost use Rattle.sqltables.specs.Inside.{seen, GoesOn};
+ghost use Rattle.sqltables.specs.Inside.{seen, GoesOnInside};
 ghost use Rattle.sqltables.specs.Means.{Pends};
 ghost use Rattle.sqlstatements.specs.BoxRows.{AreValuesOf};
 
@@ -55,7 +55,7 @@ pub(crate) fn insert_values<S: Alter>(
         → AreValuesOf values.now b
         → OnOk result (Pends v (seen S.Store tx.new)
         (with_box tables name.now (record { settings = b; used = 0; count = 0 }))) }
-    ensures rest { GoesOn S.Store tx.old tx.new result }
+    ensures rest { GoesOnInside S.Store tx.old tx.new result }
 {
     execute(
         tx,
@@ -154,7 +154,7 @@ fn insert_with_text<S: Alter>(
         → OnOk result (Pends v (seen S.Store tx.new)
         (with_box tables name.now
         (record { settings = settings_of row.now; used = 0; count = 0 }))) }
-    ensures rest { GoesOn S.Store tx.old tx.new result }
+    ensures rest { GoesOnInside S.Store tx.old tx.new result }
 {
     let digits = digits_of_days(row.days);
     let days = str::from_utf8(&digits).unwrap();
@@ -176,7 +176,7 @@ pub fn insert_box<S: Alter>(
         → OnOk result (Pends v (seen S.Store tx.new)
         (with_box tables name.now
         (record { settings = settings_of row.now; used = 0; count = 0 }))) }
-    ensures rest { GoesOn S.Store tx.old tx.new result }
+    ensures rest { GoesOnInside S.Store tx.old tx.new result }
 {
     match &row.rule {
         NameRule::Any => insert_with_text(tx, name, row, b""),

@@ -1,15 +1,15 @@
 //! What a change writes, inside its transaction.
 
 ghost use Rattle.std.specs.Prelude.{◌≡◌, ◌+◌, ℕ, IsTrue, None, Some, is_some, IfOk, OnOk};
-ghost use Rattle.boxes.specs.State.{Place, Receipt, State};
+ghost use Rattle.boxes.specs.State.{Receipt, State};
 ghost use Rattle.boxes.specs.Steps.{AddKey, RevokeKey, AddBox, CloseBox, DropFile};
 ghost use Rattle.boxes.specs.Rows.{settings_of};
 ghost use Rattle.boxes.specs.Sound.{IsSound};
 ghost use Rattle.boxes.specs.Changes.{IsFileSet, IsObeyed, IsChangeOf, command_of};
 ghost use Rattle.sqltables.specs.Schema.{Version, IsVersion};
-ghost use Rattle.sqltables.specs.Tables.{Tables, Box, tables_of};
+ghost use Rattle.sqltables.specs.Tables.{Tables, Box, placed, tables_of};
 ghost use Rattle.sqltables.specs.Changes.{with_file, with_receipt, without_pieces, with_upload, with_drop, with_totals, with_box};
-ghost use Rattle.sqltables.specs.Inside.{seen, GoesOn, GoesOnBegun};
+ghost use Rattle.sqltables.specs.Inside.{seen, GoesOnInside, GoesOnBegun};
 ghost use Rattle.sqltables.specs.Means.{Pends};
 
 use crate::box_rows::insert_box;
@@ -47,11 +47,11 @@ fn set_row<S: Alter>(
     stands: bool,
     receipt: u32,
 ) -> Result<(), Error>
-    ensures done { let place : Place = record { box = in_box.now; name = name.now } in
-        (v : Version) (tables : Tables) → IsVersion v → Pends v (seen S.Store tx.old) tables
-        → stands ≡ is_some (tables.file place)
-        → OnOk result (Pends v (seen S.Store tx.new) (with_file tables place receipt)) }
-    ensures rest { GoesOn S.Store tx.old tx.new result }
+    ensures done { (v : Version) (tables : Tables) → IsVersion v → Pends v (seen S.Store tx.old) tables
+        → stands ≡ is_some (tables.file (placed in_box.now name.now))
+        → OnOk result (Pends v (seen S.Store tx.new)
+        (with_file tables (placed in_box.now name.now) receipt)) }
+    ensures rest { GoesOnInside S.Store tx.old tx.new result }
 {
     if stands {
         update_file(tx, in_box, name, receipt)
@@ -70,7 +70,7 @@ fn set_totals<S: Alter>(
         → Pends v (seen S.Store tx.old) tables → tables.box name.now ≡ Some b
         → OnOk result (Pends v (seen S.Store tx.new)
         (with_box tables name.now (with_totals totals.used totals.count b))) }
-    ensures rest { GoesOn S.Store tx.old tx.new result }
+    ensures rest { GoesOnInside S.Store tx.old tx.new result }
 {
     let (Ok(used), Ok(count)) = (i64::try_from(totals.used), u32::try_from(totals.count)) else {
         return Err(TOO_BIG);
@@ -91,7 +91,7 @@ fn add_receipt<S: Alter>(
         → number ≡ at + 1 → r.box ≡ in_box.now → r.name ≡ name.now → r.size ≡ file.now.size
         → r.digest ≡ file.now.digest → r.moment ≡ file.now.moment → r.key ≡ file.now.key.now
         → OnOk result (Pends v (seen S.Store tx.new) (with_receipt tables at r)) }
-    ensures rest { GoesOn S.Store tx.old tx.new result }
+    ensures rest { GoesOnInside S.Store tx.old tx.new result }
 {
     let key = text_of(file.key)?;
     let (Ok(size), Ok(moment)) = (u32::try_from(file.size), i64::try_from(file.moment)) else {
@@ -108,15 +108,15 @@ fn write_rows<S: Alter>(
     name: &str,
     stands: bool,
 ) -> Result<(), Error>
-    ensures done { let place : Place = record { box = in_box.now; name = name.now } in
-        (v : Version) (tables : Tables) (at : ℕ) (r : Receipt) → IsVersion v
+    ensures done { (v : Version) (tables : Tables) (at : ℕ) (r : Receipt) → IsVersion v
         → Pends v (seen S.Store tx.old) tables
-        → tables.receipt at ≡ None → stands ≡ is_some (tables.file place)
+        → tables.receipt at ≡ None → stands ≡ is_some (tables.file (placed in_box.now name.now))
         → file.now.number ≡ at + 1 → r.box ≡ in_box.now → r.name ≡ name.now → r.size ≡ file.now.size
         → r.digest ≡ file.now.digest → r.moment ≡ file.now.moment → r.key ≡ file.now.key.now
         → OnOk result (Pends v (seen S.Store tx.new)
-        (with_file (with_receipt (without_pieces tables place) at r) place (at + 1))) }
-    ensures rest { GoesOn S.Store tx.old tx.new result }
+        (with_file (with_receipt (without_pieces tables (placed in_box.now name.now)) at r)
+        (placed in_box.now name.now) (at + 1))) }
+    ensures rest { GoesOnInside S.Store tx.old tx.new result }
 {
     let Ok(number) = u32::try_from(file.number) else {
         return Err(TOO_BIG);
@@ -136,16 +136,16 @@ fn write_file<S: Alter>(
     stands: bool,
     totals: Totals,
 ) -> Result<(), Error>
-    ensures done { let place : Place = record { box = in_box.now; name = name.now } in
-        (v : Version) (tables : Tables) (b : Box) (at : ℕ) (r : Receipt) → IsVersion v
+    ensures done { (v : Version) (tables : Tables) (b : Box) (at : ℕ) (r : Receipt) → IsVersion v
         → Pends v (seen S.Store tx.old) tables
-        → tables.receipt at ≡ None → stands ≡ is_some (tables.file place)
+        → tables.receipt at ≡ None → stands ≡ is_some (tables.file (placed in_box.now name.now))
         → tables.box in_box.now ≡ Some b
         → file.now.number ≡ at + 1 → r.box ≡ in_box.now → r.name ≡ name.now → r.size ≡ file.now.size
         → r.digest ≡ file.now.digest → r.moment ≡ file.now.moment → r.key ≡ file.now.key.now
         → OnOk result (Pends v (seen S.Store tx.new)
-        (with_upload tables place bytes.now at r (with_totals totals.used totals.count b))) }
-    ensures rest { GoesOn S.Store tx.old tx.new result }
+        (with_upload tables (placed in_box.now name.now) bytes.now at r
+        (with_totals totals.used totals.count b))) }
+    ensures rest { GoesOnInside S.Store tx.old tx.new result }
 {
     if bytes.len() > MOST_BYTES {
         return Err(TOO_BIG);
@@ -186,7 +186,7 @@ fn add_key<S: Alter>(
         → Pends v (seen S.Store tx.old) (tables_of s)
         → IsObeyed s (AddKey id.now role secret.now) after
         → OnOk result (Pends v (seen S.Store tx.new) (tables_of after)) }
-    ensures rest { GoesOn S.Store tx.old tx.new result }
+    ensures rest { GoesOnInside S.Store tx.old tx.new result }
 {
     insert_key(tx, text_of(id)?, role, secret)
 }
@@ -196,7 +196,7 @@ fn revoke_key<S: Alter>(tx: &mut Transaction<'_, S>, id: &[u8]) -> Result<(), Er
     ensures done { (v : Version) (s after : State) → IsVersion v
         → Pends v (seen S.Store tx.old) (tables_of s) → IsObeyed s (RevokeKey id.now) after
         → OnOk result (Pends v (seen S.Store tx.new) (tables_of after)) }
-    ensures rest { GoesOn S.Store tx.old tx.new result }
+    ensures rest { GoesOnInside S.Store tx.old tx.new result }
 {
     update_revoked(tx, text_of(id)?)
 }
@@ -207,7 +207,7 @@ fn add_box<S: Alter>(tx: &mut Transaction<'_, S>, name: &[u8], row: &BoxRow) -> 
         → Pends v (seen S.Store tx.old) (tables_of s) → IsSound s
         → IsObeyed s (AddBox name.now (settings_of row.now)) after
         → OnOk result (Pends v (seen S.Store tx.new) (tables_of after)) }
-    ensures rest { GoesOn S.Store tx.old tx.new result }
+    ensures rest { GoesOnInside S.Store tx.old tx.new result }
 {
     insert_box(tx, text_of(name)?, row)
 }
@@ -217,7 +217,7 @@ fn close_box<S: Alter>(tx: &mut Transaction<'_, S>, name: &[u8], moment: u64) ->
     ensures done { (v : Version) (s after : State) → IsVersion v
         → Pends v (seen S.Store tx.old) (tables_of s) → IsObeyed s (CloseBox name.now moment) after
         → OnOk result (Pends v (seen S.Store tx.new) (tables_of after)) }
-    ensures rest { GoesOn S.Store tx.old tx.new result }
+    ensures rest { GoesOnInside S.Store tx.old tx.new result }
 {
     let Ok(moment) = i64::try_from(moment) else {
         return Err(TOO_BIG);
@@ -232,12 +232,11 @@ fn take_rows<S: Alter>(
     name: &str,
     totals: Totals,
 ) -> Result<(), Error>
-    ensures done { let place : Place = record { box = in_box.now; name = name.now } in
-        (v : Version) (tables : Tables) (b : Box) → IsVersion v
+    ensures done { (v : Version) (tables : Tables) (b : Box) → IsVersion v
         → Pends v (seen S.Store tx.old) tables → tables.box in_box.now ≡ Some b
         → OnOk result (Pends v (seen S.Store tx.new)
-        (with_drop tables place (with_totals totals.used totals.count b))) }
-    ensures rest { GoesOn S.Store tx.old tx.new result }
+        (with_drop tables (placed in_box.now name.now) (with_totals totals.used totals.count b))) }
+    ensures rest { GoesOnInside S.Store tx.old tx.new result }
 {
     delete_pieces(tx, in_box, name)?;
     delete_file(tx, in_box, name)?;
@@ -248,7 +247,7 @@ fn take_rows<S: Alter>(
 fn drop_file<S: Alter>(tx: &mut Transaction<'_, S>, in_box: &[u8], name: &[u8]) -> Result<(), Error>
     ensures done { (v : Version) (s after : State) → IsVersion v
         → Pends v (seen S.Store tx.old) (tables_of s) → IsSound s
-        → IsObeyed s (DropFile (record { box = in_box.now; name = name.now })) after
+        → IsObeyed s (DropFile (placed in_box.now name.now)) after
         → IsTrue (seen S.Store tx.old).in_transaction
         → OnOk result (Pends v (seen S.Store tx.new) (tables_of after)) }
     ensures rest { GoesOnBegun S.Store tx.old tx.new result }

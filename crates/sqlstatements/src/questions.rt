@@ -13,8 +13,8 @@ ghost use Rattle.boxes.specs.Rows.{key_of, settings_of, numbered, numbered_recei
 ghost use Rattle.boxes.specs.Clerks.{clerks};
 ghost use Rattle.boxes.specs.Sound.{AreSettings, IsDigest};
 ghost use Rattle.sqltables.specs.Schema.{Version, IsVersion};
-ghost use Rattle.sqltables.specs.Tables.{Tables, Box, piece_of};
-ghost use Rattle.sqltables.specs.Inside.{seen, GoesOnWhere, GoesOnBegun, Still, Finds};
+ghost use Rattle.sqltables.specs.Tables.{Tables, Box, piece_of, placed};
+ghost use Rattle.sqltables.specs.Inside.{seen, GoesOnWhere, GoesOnBegun, Still, FindsIn};
 ghost use Rattle.sqltables.specs.Means.{Pends, IsRunning};
 ghost use Rattle.sqltables.specs.Questions.{last_rows, ShowsRow, shown_office, shown_key, shown_box, shown_totals, shown_receipt, shown_number, AreTotalsOf, IsReceiptOf, AreActing, different_texts};
 
@@ -47,7 +47,7 @@ fn select_row<S: Alter>(
 
 /// The row of a key: its role, secret and whether it is revoked.
 fn select_key<S: Alter>(tx: &mut Transaction<'_, S>, id: &str) -> Result<Option<Row>, Error>
-    ensures found { Finds S.Store tx.old tx.new result
+    ensures found { FindsIn S.Store tx.old tx.new result
         (λ tables row. row ≡ option_map shown_key (tables.key id.now)) }
     ensures still { Still S.Store tx.old tx.new result }
     ensures rest { GoesOnBegun S.Store tx.old tx.new result }
@@ -72,7 +72,7 @@ fn select_office<S: Alter>(tx: &mut Transaction<'_, S>) -> Result<Option<Row>, E
 
 /// The row of a box, without its name.
 fn select_box<S: Alter>(tx: &mut Transaction<'_, S>, name: &str) -> Result<Option<Row>, Error>
-    ensures found { Finds S.Store tx.old tx.new result
+    ensures found { FindsIn S.Store tx.old tx.new result
         (λ tables row. row ≡ option_map shown_box (tables.box name.now)) }
     ensures still { Still S.Store tx.old tx.new result }
     ensures rest { GoesOnBegun S.Store tx.old tx.new result }
@@ -86,7 +86,7 @@ fn select_box<S: Alter>(tx: &mut Transaction<'_, S>, name: &str) -> Result<Optio
 
 /// The totals in the row of a box.
 fn select_totals<S: Alter>(tx: &mut Transaction<'_, S>, name: &str) -> Result<Option<Row>, Error>
-    ensures found { Finds S.Store tx.old tx.new result
+    ensures found { FindsIn S.Store tx.old tx.new result
         (λ tables row. row ≡ option_map shown_totals (tables.box name.now)) }
     ensures still { Still S.Store tx.old tx.new result }
     ensures rest { GoesOnBegun S.Store tx.old tx.new result }
@@ -104,9 +104,8 @@ fn select_file<S: Alter>(
     in_box: &str,
     name: &str,
 ) -> Result<Option<Row>, Error>
-    ensures found { Finds S.Store tx.old tx.new result
-        (λ tables row. row ≡ option_map shown_number
-        (tables.file (record { box = in_box.now; name = name.now }))) }
+    ensures found { FindsIn S.Store tx.old tx.new result
+        (λ tables row. row ≡ option_map shown_number (tables.file (placed in_box.now name.now))) }
     ensures still { Still S.Store tx.old tx.new result }
     ensures rest { GoesOnBegun S.Store tx.old tx.new result }
 {
@@ -138,7 +137,7 @@ fn select_receipt<S: Alter>(tx: &mut Transaction<'_, S>, number: u64) -> Result<
 
 /// The offset of the office's clock east of UTC, in minutes.
 pub fn east<S: Alter>(tx: &mut Transaction<'_, S>) -> Result<i16, Error>
-    ensures found { Finds S.Store tx.old tx.new result (λ tables east. east ≡ tables.offset) }
+    ensures found { FindsIn S.Store tx.old tx.new result (λ tables east. east ≡ tables.offset) }
     ensures still { Still S.Store tx.old tx.new result }
     ensures rest { GoesOnBegun S.Store tx.old tx.new result }
 {
@@ -153,7 +152,7 @@ pub fn east<S: Alter>(tx: &mut Transaction<'_, S>) -> Result<i16, Error>
 
 /// The key of this id.
 pub fn key<S: Alter>(tx: &mut Transaction<'_, S>, id: &str) -> Result<Option<KeyRow>, Error>
-    ensures found { Finds S.Store tx.old tx.new result
+    ensures found { FindsIn S.Store tx.old tx.new result
         (λ tables key. option_map key_of key ≡ tables.key id.now) }
     ensures still { Still S.Store tx.old tx.new result }
     ensures rest { GoesOnBegun S.Store tx.old tx.new result }
@@ -183,7 +182,7 @@ pub fn box_row<S: Alter>(tx: &mut Transaction<'_, S>, name: &str) -> Result<Opti
 
 /// What the box of this name holds; nothing, where it is not there.
 pub fn totals<S: Alter>(tx: &mut Transaction<'_, S>, name: &str) -> Result<Totals, Error>
-    ensures found { Finds S.Store tx.old tx.new result
+    ensures found { FindsIn S.Store tx.old tx.new result
         (λ tables. AreTotalsOf (tables.box name.now)) }
     ensures still { Still S.Store tx.old tx.new result }
     ensures rest { GoesOnBegun S.Store tx.old tx.new result }
@@ -203,8 +202,8 @@ pub(crate) fn file_number<S: Alter>(
     in_box: &str,
     name: &str,
 ) -> Result<Option<u64>, Error>
-    ensures found { Finds S.Store tx.old tx.new result
-        (λ tables number. number ≡ tables.file (record { box = in_box.now; name = name.now })) }
+    ensures found { FindsIn S.Store tx.old tx.new result
+        (λ tables number. number ≡ tables.file (placed in_box.now name.now)) }
     ensures still { Still S.Store tx.old tx.new result }
     ensures rest { GoesOnBegun S.Store tx.old tx.new result }
 {
@@ -243,8 +242,7 @@ pub(crate) fn file_bytes<S: Alter>(
 ) -> Result<Vec<u8>, Error>
     ensures found { (v : Version) (tables : Tables) (bytes : List ℕ) → IsVersion v
         → Pends v (seen S.Store tx.old) tables → length bytes ≡ size
-        → ((at : ℕ)
-        → tables.piece (record { place = record { box = in_box.now; name = name.now }; at = at })
+        → ((at : ℕ) → tables.piece (record { place = placed in_box.now name.now; at = at })
         ≡ piece_of bytes at)
         → IsTrue (seen S.Store tx.old).in_transaction → HasCleanDisk (seen S.Store tx.new)
         → IfOk result (λ found. found.items ≡ bytes) }
@@ -260,7 +258,7 @@ pub(crate) fn file_bytes<S: Alter>(
 
 /// The rows of the unrevoked clerk's keys, each an id, in no order.
 fn select_clerks<S: Alter>(tx: &mut Transaction<'_, S>) -> Result<Vec<Row>, Error>
-    ensures found { Finds S.Store tx.old tx.new result
+    ensures found { FindsIn S.Store tx.old tx.new result
         (λ tables rows. AreActing tables.key rows.items) }
     ensures still { Still S.Store tx.old tx.new result }
     ensures rest { GoesOnBegun S.Store tx.old tx.new result }

@@ -4,12 +4,12 @@ ghost use Rattle.std.specs.Prelude.{◌≡◌, length, option_map, IsTrue, IfOk}
 ghost use Rattle.std.specs.FinMap.{get};
 ghost use Rattle.sqlite.specs.State.{HasCleanDisk};
 ghost use Rattle.sqlite.specs.Held.{state};
-ghost use Rattle.boxes.specs.State.{Place, State};
+ghost use Rattle.boxes.specs.State.{State};
 ghost use Rattle.boxes.specs.Rows.{IsFileAt};
 ghost use Rattle.boxes.specs.Views.{IsReceiptAt};
 ghost use Rattle.boxes.specs.Sound.{IsSound};
 ghost use Rattle.sqltables.specs.Schema.{Version, IsVersion};
-ghost use Rattle.sqltables.specs.Tables.{tables_of};
+ghost use Rattle.sqltables.specs.Tables.{placed, tables_of};
 ghost use Rattle.sqltables.specs.Inside.{seen, GoesOnBegun, Still, FindsOf};
 ghost use Rattle.sqltables.specs.Means.{Pends};
 
@@ -25,7 +25,7 @@ pub(crate) fn standing_receipt<S: Alter>(
     name: &str,
 ) -> Result<Option<ReceiptRow>, Error>
     ensures found { FindsOf S.Store tx.old tx.new result
-        (λ s. IsReceiptAt s (record { box = in_box.now; name = name.now })) }
+        (λ s. IsReceiptAt s (placed in_box.now name.now)) }
     ensures still { Still S.Store tx.old tx.new result }
     ensures rest { GoesOnBegun S.Store tx.old tx.new result }
 {
@@ -41,11 +41,11 @@ pub(crate) fn standing_size<S: Alter>(
     in_box: &str,
     name: &str,
 ) -> Result<Option<u64>, Error>
-    ensures found { let place : Place = record { box = in_box.now; name = name.now } in
-        (v : Version) (s : State) → IsVersion v → Pends v (seen S.Store tx.old) (tables_of s)
+    ensures found { (v : Version) (s : State) → IsVersion v → Pends v (seen S.Store tx.old) (tables_of s)
         → IsSound s
         → IsTrue (seen S.Store tx.old).in_transaction → HasCleanDisk (seen S.Store tx.new)
-        → IfOk result (λ size. size ≡ option_map (λ f. length f.bytes) (get s.files place)) }
+        → IfOk result (λ size. size ≡ option_map (λ f. length f.bytes)
+        (get s.files (placed in_box.now name.now))) }
     ensures still { Still S.Store tx.old tx.new result }
     ensures rest { GoesOnBegun S.Store tx.old tx.new result }
 {
@@ -63,7 +63,7 @@ pub fn file<S: Alter>(
     name: &str,
 ) -> Result<Option<FileRow>, Error>
     ensures found { FindsOf S.Store tx.old tx.new result
-        (λ s. IsFileAt s (record { box = in_box.now; name = name.now })) }
+        (λ s. IsFileAt s (placed in_box.now name.now)) }
     ensures still { Still S.Store tx.old tx.new result }
     ensures rest { GoesOnBegun S.Store tx.old tx.new result }
 {

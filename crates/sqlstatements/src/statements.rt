@@ -1,11 +1,11 @@
 //! One statement each, inside a transaction.
 
 ghost use Rattle.std.specs.Prelude.{⊤, ◌≡◌, ◌≤◌, ◌+◌, ℕ, length, pos, None, Some, true, false, OnOk};
-ghost use Rattle.boxes.specs.State.{Key, Place, Receipt};
+ghost use Rattle.boxes.specs.State.{Key, Receipt};
 ghost use Rattle.sqltables.specs.Schema.{Version, IsVersion};
-ghost use Rattle.sqltables.specs.Tables.{Tables, Box};
+ghost use Rattle.sqltables.specs.Tables.{Tables, Box, placed};
 ghost use Rattle.sqltables.specs.Changes.{with_key, closing_at, without_file, with_receipt, without_pieces, with_totals, with_box, with_bytes, with_file, NoPieces, AddsPiece};
-ghost use Rattle.sqltables.specs.Inside.{seen, GoesOn, GoesOnWhere};
+ghost use Rattle.sqltables.specs.Inside.{seen, GoesOnInside, GoesOnWhere, Turns};
 ghost use Rattle.sqltables.specs.Means.{Pends, IsRunning};
 
 use boxes::Role;
@@ -29,7 +29,7 @@ pub(crate) fn insert_receipt<S: Alter>(
         → number ≡ at + 1 → r.box ≡ box_name.now → r.name ≡ name.now → r.size ≡ length
         → r.digest ≡ digest.now → pos r.moment ≡ moment → r.key ≡ key.now
         → OnOk result (Pends v (seen S.Store tx.new) (with_receipt tables at r)) }
-    ensures rest { GoesOn S.Store tx.old tx.new result }
+    ensures rest { GoesOnInside S.Store tx.old tx.new result }
 {
     execute(
         tx,
@@ -50,9 +50,9 @@ pub(crate) fn insert_piece<S: Alter>(
     ensures done { (v : Version) (tables after : Tables) → IsVersion v
         → Pends v (seen S.Store tx.old) tables
         → AddsPiece tables after
-        (record { place = record { box = box_name.now; name = name.now }; at = part }) bytes.now
+        (record { place = placed box_name.now name.now; at = part }) bytes.now
         → OnOk result (Pends v (seen S.Store tx.new) after) }
-    ensures rest { GoesOn S.Store tx.old tx.new result }
+    ensures rest { GoesOnInside S.Store tx.old tx.new result }
 {
     execute(
         tx,
@@ -68,11 +68,9 @@ pub(crate) fn delete_pieces<S: Alter>(
     box_name: &str,
     name: &str,
 ) -> Result<(), Error>
-    ensures done { (v : Version) (tables : Tables) → IsVersion v
-        → Pends v (seen S.Store tx.old) tables
-        → OnOk result (Pends v (seen S.Store tx.new)
-        (without_pieces tables (record { box = box_name.now; name = name.now }))) }
-    ensures rest { GoesOn S.Store tx.old tx.new result }
+    ensures done { Turns S.Store tx.old tx.new result
+        (λ tables. without_pieces tables (placed box_name.now name.now)) }
+    ensures rest { GoesOnInside S.Store tx.old tx.new result }
 {
     execute(
         tx,
@@ -93,7 +91,7 @@ pub(crate) fn update_totals<S: Alter>(
         → Pends v (seen S.Store tx.old) tables → tables.box name.now ≡ Some b → pos sum ≡ used
         → OnOk result (Pends v (seen S.Store tx.new)
         (with_box tables name.now (with_totals sum count b))) }
-    ensures rest { GoesOn S.Store tx.old tx.new result }
+    ensures rest { GoesOnInside S.Store tx.old tx.new result }
 {
     execute(
         tx,
@@ -111,10 +109,10 @@ pub(crate) fn insert_pieces<S: Alter>(
     bytes: &[u8],
 ) -> Result<(), Error>
     requires short { length bytes.now ≤ 8388608 }
-    ensures done { let place : Place = record { box = box_name.now; name = name.now } in
-        (v : Version) (tables : Tables) → IsVersion v → Pends v (seen S.Store tx.old) tables
-        → NoPieces tables place
-        → OnOk result (Pends v (seen S.Store tx.new) (with_bytes tables place bytes.now)) }
+    ensures done { (v : Version) (tables : Tables) → IsVersion v → Pends v (seen S.Store tx.old) tables
+        → NoPieces tables (placed box_name.now name.now)
+        → OnOk result (Pends v (seen S.Store tx.new)
+        (with_bytes tables (placed box_name.now name.now) bytes.now)) }
     ensures rest { GoesOnWhere (IsRunning (seen S.Store tx.old)) ⊤ S.Store tx.old tx.new result }
 {
     let mut rest = bytes;
@@ -135,11 +133,11 @@ pub(crate) fn insert_file<S: Alter>(
     name: &str,
     receipt: u32,
 ) -> Result<(), Error>
-    ensures done { let place : Place = record { box = box_name.now; name = name.now } in
-        (v : Version) (tables : Tables) → IsVersion v → Pends v (seen S.Store tx.old) tables
-        → tables.file place ≡ None
-        → OnOk result (Pends v (seen S.Store tx.new) (with_file tables place receipt)) }
-    ensures rest { GoesOn S.Store tx.old tx.new result }
+    ensures done { (v : Version) (tables : Tables) → IsVersion v → Pends v (seen S.Store tx.old) tables
+        → tables.file (placed box_name.now name.now) ≡ None
+        → OnOk result (Pends v (seen S.Store tx.new)
+        (with_file tables (placed box_name.now name.now) receipt)) }
+    ensures rest { GoesOnInside S.Store tx.old tx.new result }
 {
     execute(
         tx,
@@ -156,11 +154,11 @@ pub(crate) fn update_file<S: Alter>(
     name: &str,
     receipt: u32,
 ) -> Result<(), Error>
-    ensures done { let place : Place = record { box = box_name.now; name = name.now } in
-        (v : Version) (tables : Tables) (was : ℕ) → IsVersion v
-        → Pends v (seen S.Store tx.old) tables → tables.file place ≡ Some was
-        → OnOk result (Pends v (seen S.Store tx.new) (with_file tables place receipt)) }
-    ensures rest { GoesOn S.Store tx.old tx.new result }
+    ensures done { (v : Version) (tables : Tables) (was : ℕ) → IsVersion v
+        → Pends v (seen S.Store tx.old) tables → tables.file (placed box_name.now name.now) ≡ Some was
+        → OnOk result (Pends v (seen S.Store tx.new)
+        (with_file tables (placed box_name.now name.now) receipt)) }
+    ensures rest { GoesOnInside S.Store tx.old tx.new result }
 {
     execute(
         tx,
@@ -181,7 +179,7 @@ pub(crate) fn insert_key<S: Alter>(
         → Pends v (seen S.Store tx.old) tables → tables.key id.now ≡ None
         → OnOk result (Pends v (seen S.Store tx.new)
         (with_key tables id.now (record { role = role; secret = secret.now; revoked = false }))) }
-    ensures rest { GoesOn S.Store tx.old tx.new result }
+    ensures rest { GoesOnInside S.Store tx.old tx.new result }
 {
     let number: i32 = match role {
         Role::Link => 0,
@@ -201,7 +199,7 @@ pub(crate) fn update_revoked<S: Alter>(tx: &mut Transaction<'_, S>, id: &str) ->
         → Pends v (seen S.Store tx.old) tables → tables.key id.now ≡ Some key
         → OnOk result (Pends v (seen S.Store tx.new)
         (with_key tables id.now (record key { revoked = true }))) }
-    ensures rest { GoesOn S.Store tx.old tx.new result }
+    ensures rest { GoesOnInside S.Store tx.old tx.new result }
 {
     execute(tx, "UPDATE keys SET revoked = 1 WHERE id = ?1", params![id])?;
     Ok(())
@@ -217,7 +215,7 @@ pub(crate) fn update_closes<S: Alter>(
         → Pends v (seen S.Store tx.old) tables → tables.box name.now ≡ Some b → pos second ≡ moment
         → OnOk result (Pends v (seen S.Store tx.new)
         (with_box tables name.now (closing_at second b))) }
-    ensures rest { GoesOn S.Store tx.old tx.new result }
+    ensures rest { GoesOnInside S.Store tx.old tx.new result }
 {
     execute(
         tx,
@@ -233,11 +231,9 @@ pub(crate) fn delete_file<S: Alter>(
     in_box: &str,
     name: &str,
 ) -> Result<(), Error>
-    ensures done { (v : Version) (tables : Tables) → IsVersion v
-        → Pends v (seen S.Store tx.old) tables
-        → OnOk result (Pends v (seen S.Store tx.new)
-        (without_file tables (record { box = in_box.now; name = name.now }))) }
-    ensures rest { GoesOn S.Store tx.old tx.new result }
+    ensures done { Turns S.Store tx.old tx.new result
+        (λ tables. without_file tables (placed in_box.now name.now)) }
+    ensures rest { GoesOnInside S.Store tx.old tx.new result }
 {
     execute(
         tx,

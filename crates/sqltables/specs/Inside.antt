@@ -18,7 +18,7 @@ seen g tx = state g tx.conn.now
 
 -- What a call leaves that asks or writes, whatever came of it: it is the same transaction, which goes on after an answer;
 -- nothing was committed; and a crash leaves nothing new.
-pub record GoesOn {S T : Type 0} (g : Ghosts S) (old new : Transaction S) (result : Result T Error) : Type 0 where
+pub record GoesOnInside {S T : Type 0} (g : Ghosts S) (old new : Transaction S) (result : Result T Error) : Type 0 where
   pub same_reference : new.conn.ghost_name ≡ old.conn.ghost_name
   pub running : HasCleanDisk (seen g new) → OnOk result (IsRunning (seen g new))
   pub uncommitted : HasCleanDisk (seen g new) → KeepsCommit (seen g old) (seen g new)
@@ -39,9 +39,13 @@ GoesOnBegun g old new result = GoesOnWhere (IsTrue (seen g old).in_transaction) 
 abbrev pub Still : {S T : Type 0} → Ghosts S → Transaction S → Transaction S → Result T Error → Type 0
 Still g old new result = (v : Version) (tables : Tables) → IsVersion v → Pends v (seen g old) tables → OnOk result (Pends v (seen g new) tables)
 
+-- after an answer the transaction sees what this makes of the tables
+abbrev pub Turns : {S T : Type 0} → Ghosts S → Transaction S → Transaction S → Result T Error → (Tables → Tables) → Type 0
+Turns g old new result after = (v : Version) (tables : Tables) → IsVersion v → Pends v (seen g old) tables → OnOk result (Pends v (seen g new) (after tables))
+
 -- an answer says this of the tables
-abbrev pub Finds : {S T : Type 0} → Ghosts S → Transaction S → Transaction S → Result T Error → (Tables → T → Type 0) → Type 0
-Finds g old new result Says = (v : Version) (tables : Tables) → IsVersion v → Pends v (seen g old) tables
+abbrev pub FindsIn : {S T : Type 0} → Ghosts S → Transaction S → Transaction S → Result T Error → (Tables → T → Type 0) → Type 0
+FindsIn g old new result Says = (v : Version) (tables : Tables) → IsVersion v → Pends v (seen g old) tables
     → IsTrue (seen g old).in_transaction → HasCleanDisk (seen g new) → IfOk result (Says tables)
 
 -- while the connection is open it has this schema

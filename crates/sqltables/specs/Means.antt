@@ -1,8 +1,8 @@
 -- What a connection holds, and what a crash of it leaves.
-use Rattle.std.specs.Prelude.{◌≡◌, ◌⊎◌, [], IsTrue, false}
+use Rattle.std.specs.Prelude.{◌≡◌, ◌⊎◌, ℕ, List, [], Ok, IsTrue, false}
 use Rattle.sqlite_trees.specs.Tree.{Trees}
 use Rattle.sqlite.specs.Effect.{Database, IsDatabase}
-use Rattle.sqlite.specs.State.{State, HasCleanDisk}
+use Rattle.sqlite.specs.State.{State, HasCleanDisk, Executes}
 use Rattle.std.specs.List.{AllByRecursion}
 use Rattle.boxes.specs.State.{State as Office}
 use Rattle.sqlite_schema.specs.declared.schema.Schema.{Schema}
@@ -32,6 +32,10 @@ pub record HoldsNothing (schema : Schema) (db : Database) : Type 0 where
 -- what a transaction sees is this schema without a row, if the database is open
 abbrev pub SeesNothing : Schema → State → Type 0
 SeesNothing schema s = HasCleanDisk s → IsTrue s.in_transaction → IsTrue s.is_open → HoldsNothing schema s.now
+
+-- the text was run in a database of the first schema without a row: then it left one of the other, without a row too
+abbrev pub Creates : List ℕ → Schema → Schema → State → State → Type 0
+Creates sql before after old new = (count : ℕ) → HoldsNothing before old.now → Executes sql [] old new (Ok count) → HoldsNothing after new.now
 
 abbrev pub IsRunning : State → Type 0
 IsRunning s = IsTrue s.in_transaction × IsTrue s.is_open

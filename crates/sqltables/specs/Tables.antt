@@ -21,6 +21,10 @@ pub record Box : Type 0 where
   pub used : ℕ  -- in bytes
   pub count : ℕ
 
+-- where a file of this name lies in this box
+abbrev pub placed : List ℕ → List ℕ → Place
+placed in_box name = record { box = in_box; name = name }
+
 -- where a piece of a file lies
 pub record Part : Type 0 where
   pub place : Place

@@ -3,7 +3,7 @@
 ghost use Rattle.std.specs.Prelude.{IfOk, IsTrue, Ok};
 ghost use Rattle.sqlite.specs.State.{HasCleanDisk, ExecutesInside, Shown};
 ghost use Rattle.sqlite.specs.Values.{bound};
-ghost use Rattle.sqltables.specs.Inside.{seen, GoesOn, GoesOnBegun};
+ghost use Rattle.sqltables.specs.Inside.{seen, GoesOnInside, GoesOnBegun};
 
 use sqlite::types::ValueRef;
 use sqlite::{Alter, Error, Row, Transaction};
@@ -22,7 +22,7 @@ pub fn execute<S: Alter>(
         → IfOk result (λ count. IsTrue (seen S.Store tx.old).in_transaction
         × ExecutesInside 0 sql.now (bound params.now) (seen S.Store tx.old) (seen S.Store tx.new)
         (Ok count)) }
-    ensures rest { GoesOn S.Store tx.old tx.new result }
+    ensures rest { GoesOnInside S.Store tx.old tx.new result }
 {
     tx.execute(sql, params)
 }

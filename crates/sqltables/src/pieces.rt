@@ -5,6 +5,7 @@ ghost use Rattle.sqlite.specs.State.{HasCleanDisk};
 ghost use Rattle.sqltables.specs.Inside.{seen, GoesOnWhere, GoesOnBegun, SameOffice, OfWholeOffice};
 ghost use Rattle.sqltables.specs.Means.{IsRunning};
 ghost use Rattle.sqltables.specs.Pieces.{IsPieceAt, AreFound};
+ghost use Rattle.sqltables.specs.Tables.{placed};
 
 use crate::PIECE;
 use crate::calls::query;
@@ -19,8 +20,7 @@ fn read_piece<S: Alter>(
     part: u32,
 ) -> Result<Option<Vec<u8>>, Error>
     ensures read { OfWholeOffice S.Store tx.old tx.new
-        (IfOk result (IsPieceAt ((seen S.Store tx.old).now.trees 9)
-        (record { box = in_box.now; name = name.now }) part)) }
+        (IfOk result (IsPieceAt ((seen S.Store tx.old).now.trees 9) (placed in_box.now name.now) part)) }
     ensures same { SameOffice S.Store tx.old tx.new result }
     ensures mode { HasCleanDisk (seen S.Store tx.new)
         → OnOk result ((seen S.Store tx.new).in_transaction ≡ (seen S.Store tx.old).in_transaction) }
@@ -47,8 +47,7 @@ pub fn read_file<S: Alter>(
     size: u64,
 ) -> Result<Option<Vec<u8>>, Error>
     ensures read { OfWholeOffice S.Store tx.old tx.new
-        (IfOk result (AreFound ((seen S.Store tx.old).now.trees 9)
-        (record { box = in_box.now; name = name.now }) size)) }
+        (IfOk result (AreFound ((seen S.Store tx.old).now.trees 9) (placed in_box.now name.now) size)) }
     ensures same { SameOffice S.Store tx.old tx.new result }
     ensures opened { HasCleanDisk (seen S.Store tx.new) → IsTrue (seen S.Store tx.old).in_transaction
         → OnOk result ((size ≡ 0) ⊎ IsTrue (seen S.Store tx.old).is_open) }

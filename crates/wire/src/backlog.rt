@@ -29,7 +29,7 @@ pub struct Backlog {
 }
 
 impl Backlog {
-    ghost use Rattle.wire.specs.Waiting.{Adds, Shows, taken, waiting, AddsFrom, FailsToAdd};
+    ghost use Rattle.wire.specs.Waiting.{Shows, taken, waiting, AddsFrom, FailsToAdd};
 
     /// Nothing waits, and there is no room.
     pub fn new(alloc: Global) -> Backlog

@@ -1,5 +1,5 @@
 //! Cutting heads and pieces from the bytes that were read ahead.
-ghost use Rattle.std.specs.Prelude.{◌≡◌, ◌≢◌, ◌≤◌, ◌<◌, ◌⊎◌, ℕ, List, [], ◌++◌, length, take, vec_len, IfErr, IfOk};
+ghost use Rattle.std.specs.Prelude.{◌≡◌, ◌≤◌, ◌<◌, [], ◌++◌, length, vec_len, IfErr, IfOk};
 ghost use Rattle.std.specs.Io.KnownBytes.{Consumes, IsAtEnd, Keeps, prepend_known};
 ghost use Rattle.sigtext.specs.Counts.{CountsErrors};
 ghost use Rattle.wire.specs.Waiting.{taken, waiting};

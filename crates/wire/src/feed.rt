@@ -1,5 +1,5 @@
 //! The messages of a stream, their bodies in pieces.
-ghost use Rattle.std.specs.Prelude.{◌≡◌, ◌≢◌, ◌≤◌, ◌<◌, ◌-◌, ℕ, Bool, List, [], ◌++◌, length, take, drop, vec_len, IfErr, IfOk};
+ghost use Rattle.std.specs.Prelude.{◌≡◌, ◌≢◌, ◌≤◌, ◌<◌, ◌-◌, ℕ, Bool, List, [], ◌++◌, length, take, drop, vec_len};
 ghost use Rattle.std.specs.Borrow.{sem};
 ghost use Rattle.std.specs.Io.BufRead.{Rests};
 ghost use Rattle.httparse.specs.Grammar.{RequestHead};
@@ -7,7 +7,7 @@ ghost use Rattle.sigtext.specs.Limits.{most_body};
 ghost use Rattle.wire.specs.Framing.{IsFront, Next, Message, Refused, request_of};
 ghost use Rattle.wire.specs.Judging.{HeadAnnounces};
 ghost use Rattle.wire.specs.Feeding.{CountsReads, GivesPiece, GivesStep, Halfway, part, told};
-ghost use Rattle.wire.specs.Waiting.{taken, waiting};
+ghost use Rattle.wire.specs.Waiting.{waiting};
 ghost use Rattle.wire.specs.Cutting.{found_in, piece_size, size_of, taken_from};
 ghost use Rattle.wire.specs.declared.feed.Place.TheVariants as stands;
 ghost use mir.Syntax.{named};

@@ -1,8 +1,6 @@
 //! Connections over sockets: each that a listener accepts is served by the office.
 ghost use Rattle.std.specs.Prelude.{◌≤◌, cond};
-ghost use Rattle.boxes.specs.State.{State};
-ghost use Rattle.office.specs.Premise.{IsLeft, WasKept};
-ghost use Rattle.office.specs.Serving.{AcceptsConnections};
+ghost use Rattle.office.specs.Serving.{ServesInTurn};
 
 use crate::clocks::Clock;
 use crate::office::Office;
@@ -34,10 +32,8 @@ pub fn serve<K: Keeper, C: Clock>(
     patience: Option<Duration>,
     clock: &mut C,
 ) -> u64
-    ensures accepts { (s : State) → WasKept K.Keeper office.old.keeper office.new.keeper s
-        → (after : State) × IsLeft (K.means office.new.keeper) after
-        × AcceptsConnections C.now_gives clock.old clock.new
-        K.Keeper office.old.keeper office.new.keeper connections s after result }
+    ensures accepts { ServesInTurn C.now_gives clock.old clock.new
+        K.Keeper office.old.keeper office.new.keeper connections result }
     ensures honest { K.is_honest office.new.keeper → K.is_honest office.old.keeper }
     ensures never_less { K.faults office.old.keeper ≤ K.faults office.new.keeper }
 {
@@ -57,10 +53,8 @@ fn serve_next<K: Keeper, C: Clock>(
     patience: Option<Duration>,
     clock: &mut C,
 ) -> bool
-    ensures accepts { (s : State) → WasKept K.Keeper office.old.keeper office.new.keeper s
-        → (after : State) × IsLeft (K.means office.new.keeper) after
-        × AcceptsConnections C.now_gives clock.old clock.new
-        K.Keeper office.old.keeper office.new.keeper 1 s after (cond result 0 1) }
+    ensures accepts { ServesInTurn C.now_gives clock.old clock.new
+        K.Keeper office.old.keeper office.new.keeper 1 (cond result 0 1) }
     ensures honest { K.is_honest office.new.keeper → K.is_honest office.old.keeper }
     ensures never_less { K.faults office.old.keeper ≤ K.faults office.new.keeper }
 {

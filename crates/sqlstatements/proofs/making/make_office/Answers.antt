@@ -9,5 +9,5 @@ use Rattle.sqlstatements.proofs.making.make_office.Goals as goal
 pub returns-clause-done : goal.returns-clause-done
 returns-clause-done g c sees =
     let new = state g.S.Store c.insert_office.new.tx.conn.now in
-    let made = c.in_ok-insert_office.ensures.done (c.in_ok-create_last.ensures.done (c.in_ok-create_first.ensures.done sees)) in
+    let made = c.in_ok-insert_office.ensures.done (c.in_ok-create_tables.ensures.done sees) in
     c.insert_key.ensures.done v1 (no_rows c.args.east) refl (subst (λ east. Pends v1 new (no_rows east)) (to_z-of_z w16 c.args.east c.ranges.east) made) refl

@@ -1,0 +1,60 @@
+#!/usr/bin/env bash
+# Proves and builds `drop` with all crates below it, and runs it in crates/drop with the words that are given.
+#
+# `rt run` does the same, but takes one crate after another, and loads the proofs of those below with each. So the first time
+# `rt ci` proves them, which loads statements alone, in a copy that has the program's crates and no edits. Several runs of it share
+# what they prove, so crates that do not need each other are proved side by side; and the gate takes it from there.
+set -euo pipefail
+cd "$(dirname "$0")/.."
+
+# The crates of this repository that a crate stands on, and the crate.
+crates_to() {
+    local crate
+    echo "$1"
+    for crate in $(sed -n "s/^$1://p" crates.txt); do
+        if [ -d "crates/$crate" ]; then crates_to "$crate"; fi
+    done
+}
+
+# Whether the program is there, and no file that it was made of has changed since.
+is_built() {
+    local crate folders=()
+    [ -e crates/drop/out/drop ] || return 1
+    for crate in $(crates_to drop | sort -u); do
+        folders+=("crates/$crate/src" "crates/$crate/specs" "crates/$crate/proofs")
+    done
+    [ -z "$(find "${folders[@]}" HANDLES crates.txt -newer crates/drop/out/drop 2>/dev/null)" ]
+}
+
+# Copies the program's crates to a folder.
+copy_crates() {
+    local crate
+    cp HANDLES "$1"
+    for crate in $(crates_to drop | sort -u); do
+        grep "^$crate:" crates.txt >>"$1/crates.txt"
+        mkdir -p "$1/crates/$crate"
+        tar -C "crates/$crate" -c --exclude=./out --exclude=./edits --exclude=./must-fail . | tar -C "$1/crates/$crate" -x
+    done
+}
+
+# Proves and builds the program in that folder: three parts that need little of each other, and then all.
+prove() (
+    cd "$1"
+    unset CI
+    nice rt ci tasks &
+    rt ci office &
+    rt ci sqlkeeper &
+    wait
+    rt ci
+)
+
+if ! is_built; then
+    copy=$(mktemp -d)
+    trap 'rm -rf "$copy"' EXIT
+    copy_crates "$copy"
+    prove "$copy" >&2
+    mkdir -p crates/drop/out
+    cp "$copy/crates/drop/out/drop" crates/drop/out/
+fi
+cd crates/drop
+out/drop "$@"

@@ -1,0 +1,81 @@
+-- The tables of an office, as its queries list them.
+use Rattle.std.proofs.Common.{◌≡◌, ℕ, List, [], IsTrue, refl}
+use Rattle.sqlite_value.specs.Order.{Row}
+use Rattle.sqlite.specs.State.{State}
+use Rattle.sqltables.specs.Schema.{Version, IsVersion}
+use Rattle.sqltables.specs.Means.{IsWhole}
+use Rattle.sqltables.proofs.Ours.{asks_of}
+use Rattle.sqltables.proofs.Texts.{list_keys, list_keys_command, list_keys_is, list_boxes, list_boxes_command, list_boxes_is, list_receipts, list_receipts_command, list_receipts_is, list_files, list_files_command, list_files_is, list_pieces, list_pieces_command, list_pieces_is}
+use Rattle.sqltables.proofs.Shown.{shown_open}
+use Rattle.sqlaudit.specs.Lines.{AreLines, AreRead, HaveRowids, IsKeyLine, IsBoxLine, IsReceiptLine, IsFileLine, IsPieceLine, ShowsPiece}
+use Rattle.sqlaudit.specs.declared.lines.KeyLine.{KeyLine}
+use Rattle.sqlaudit.specs.declared.lines.BoxLine.{BoxLine}
+use Rattle.sqlaudit.specs.declared.lines.ReceiptLine.{ReceiptLine}
+use Rattle.sqlaudit.specs.declared.lines.FileLine.{FileLine}
+use Rattle.sqlaudit.specs.declared.lines.PieceLine.{PieceLine}
+use Rattle.sqlaudit.proofs.Listed.{lines_listed, rowids_listed, unchanged}
+use Rattle.sqlaudit.proofs.PieceLines.{piece_line}
+
+-- each row of the table in this place has a line, its rows have numbers of their own, and the query wrote nothing
+pub record Lists {L : Type 0} (IsLine : Row → L → Type 0) (tree : ℕ) (old new : State) (lines : List L) : Type 0 where
+  pub lines_are : AreLines IsLine (old.now.trees tree) lines
+  pub rowids : HaveRowids (old.now.trees tree)
+  pub same : new.now ≡ old.now
+
+module _ (v : Version) (ours : IsVersion v) (old new : State) (has : IsTrue old.is_open → old.now.schema ≡ v.schema) where
+  pub lists_keys : (lines : List KeyLine) → AreRead IsKeyLine list_keys old new lines → Lists IsKeyLine 1 old new lines
+  lists_keys lines read =
+      let asks = asks_of v ours list_keys list_keys_command list_keys_is in
+      let schema = has (shown_open list_keys [] old new read.rows read.shown) in
+      record {
+        lines_are = lines_listed IsKeyLine IsKeyLine v list_keys 1 _ _ _ asks old new schema lines read (λ row line there is. record { id_is = is.id_is; role_is = is.role_is; secret_is = is.secret_is; revoked_is = is.revoked_is });
+        rowids = rowids_listed IsKeyLine IsKeyLine v list_keys 1 _ _ _ asks old new schema lines read (λ row. refl);
+        same = (unchanged IsKeyLine IsKeyLine v list_keys 1 _ _ _ asks old new schema lines read).0.now_is;
+      }
+
+  pub lists_boxes : (lines : List BoxLine) → AreRead IsBoxLine list_boxes old new lines → Lists IsBoxLine 3 old new lines
+  lists_boxes lines read =
+      let asks = asks_of v ours list_boxes list_boxes_command list_boxes_is in
+      let schema = has (shown_open list_boxes [] old new read.rows read.shown) in
+      record {
+        lines_are = lines_listed IsBoxLine IsBoxLine v list_boxes 3 _ _ _ asks old new schema lines read (λ row line there is. record { name_is = is.name_is; opens_is = is.opens_is; closes_is = is.closes_is; days_is = is.days_is; from_is = is.from_is; to_is = is.to_is; quota_is = is.quota_is; max_is = is.max_is; mode_is = is.mode_is; kind_is = is.kind_is; text_is = is.text_is; used_is = is.used_is; count_is = is.count_is });
+        rowids = rowids_listed IsBoxLine IsBoxLine v list_boxes 3 _ _ _ asks old new schema lines read (λ row. refl);
+        same = (unchanged IsBoxLine IsBoxLine v list_boxes 3 _ _ _ asks old new schema lines read).0.now_is;
+      }
+
+  pub lists_receipts : (lines : List ReceiptLine) → AreRead IsReceiptLine list_receipts old new lines → Lists IsReceiptLine 5 old new lines
+  lists_receipts lines read =
+      let asks = asks_of v ours list_receipts list_receipts_command list_receipts_is in
+      let schema = has (shown_open list_receipts [] old new read.rows read.shown) in
+      record {
+        lines_are = lines_listed IsReceiptLine IsReceiptLine v list_receipts 5 _ _ _ asks old new schema lines read (λ row line there is. record { number_is = is.number_is; box_is = is.box_is; name_is = is.name_is; length_is = is.length_is; digest_is = is.digest_is; moment_is = is.moment_is; key_is = is.key_is });
+        rowids = rowids_listed IsReceiptLine IsReceiptLine v list_receipts 5 _ _ _ asks old new schema lines read (λ row. refl);
+        same = (unchanged IsReceiptLine IsReceiptLine v list_receipts 5 _ _ _ asks old new schema lines read).0.now_is;
+      }
+
+  pub lists_files : (lines : List FileLine) → AreRead IsFileLine list_files old new lines → Lists IsFileLine 6 old new lines
+  lists_files lines read =
+      let asks = asks_of v ours list_files list_files_command list_files_is in
+      let schema = has (shown_open list_files [] old new read.rows read.shown) in
+      record {
+        lines_are = lines_listed IsFileLine IsFileLine v list_files 6 _ _ _ asks old new schema lines read (λ row line there is. record { box_is = is.box_is; name_is = is.name_is; receipt_is = is.receipt_is });
+        rowids = rowids_listed IsFileLine IsFileLine v list_files 6 _ _ _ asks old new schema lines read (λ row. refl);
+        same = (unchanged IsFileLine IsFileLine v list_files 6 _ _ _ asks old new schema lines read).0.now_is;
+      }
+
+  pub pieces_same : (lines : List PieceLine) → AreRead ShowsPiece list_pieces old new lines → new.now ≡ old.now
+  pieces_same lines read =
+      let asks = asks_of v ours list_pieces list_pieces_command list_pieces_is in
+      let schema = has (shown_open list_pieces [] old new read.rows read.shown) in
+      (unchanged ShowsPiece IsPieceLine v list_pieces 9 _ _ _ asks old new schema lines read).0.now_is
+
+  pub lists_pieces : (IsTrue old.is_open → IsWhole old.now) → (lines : List PieceLine) → AreRead ShowsPiece list_pieces old new lines → Lists IsPieceLine 9 old new lines
+  lists_pieces whole lines read =
+      let asks = asks_of v ours list_pieces list_pieces_command list_pieces_is in
+      let is_open = shown_open list_pieces [] old new read.rows read.shown in
+      let schema = has is_open in
+      record {
+        lines_are = lines_listed ShowsPiece IsPieceLine v list_pieces 9 _ _ _ asks old new schema lines read (λ row line there is. piece_line v ours old.now schema (whole is_open) row line there is);
+        rowids = rowids_listed ShowsPiece IsPieceLine v list_pieces 9 _ _ _ asks old new schema lines read (λ row. refl);
+        same = pieces_same lines read;
+      }
