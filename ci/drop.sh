@@ -37,14 +37,23 @@ copy_crates() {
     done
 }
 
-# Proves and builds the program in that folder: three parts that need little of each other, and then all.
+# Whether what rt proves can be kept, beside the kit.
+keeps_proofs() {
+    local kept
+    kept=$(dirname "$(dirname "$(rt doc)")")/rattle-kept
+    [ -w "$kept" ] || mkdir "$kept" 2>/dev/null
+}
+
+# Proves and builds the program in that folder: first three parts that need little of each other, and then all.
 prove() (
     cd "$1"
     unset CI
-    nice rt ci tasks &
-    rt ci office &
-    rt ci sqlkeeper &
-    wait
+    if keeps_proofs; then
+        nice rt ci tasks &
+        rt ci office &
+        rt ci sqlkeeper &
+        wait
+    fi
     rt ci
 )
 
