@@ -2,8 +2,8 @@
 # Proves and builds `drop` with all crates below it, and runs it in crates/drop with the words that are given.
 #
 # `rt run` does the same, but takes one crate after another, and loads the proofs of those below with each. So the first time
-# `rt ci` proves them, which loads statements alone, in a copy that has the program's crates and no edits. Several runs of it share
-# what they prove, so crates that do not need each other are proved side by side; and the gate takes it from there.
+# `rt ci` proves them, which loads statements alone, in a copy that has the program's crates without their tests and edits: those
+# are the gate's. Several runs of it share what they prove, so crates that do not need each other are proved side by side.
 set -euo pipefail
 cd "$(dirname "$0")/.."
 
@@ -33,8 +33,10 @@ copy_crates() {
     for crate in $(crates_to drop | sort -u); do
         grep "^$crate:" crates.txt >>"$1/crates.txt"
         mkdir -p "$1/crates/$crate"
-        tar -C "crates/$crate" -c --exclude=./out --exclude=./edits --exclude=./must-fail . | tar -C "$1/crates/$crate" -x
+        tar -C "crates/$crate" -c --exclude=./out --exclude=./edits --exclude=./must-fail --exclude=tests.rt . |
+            tar -C "$1/crates/$crate" -x
     done
+    find "$1" -name '*.rt' -exec sed -zi 's/\n#\[cfg(test)\]\nmod tests;\n//' {} +
 }
 
 # Whether what rt proves can be kept, beside the kit.
