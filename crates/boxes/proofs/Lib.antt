@@ -1,5 +1,7 @@
 pub mod Weekdays
 pub mod Lookups
+pub mod LimitedKeys
+pub mod LimitEdges
 pub mod SoundFirstState
 pub mod HourEdges
 pub mod NameEdges

@@ -2,6 +2,7 @@ pub mod State
 pub mod Totals
 pub mod Opening
 pub mod Rules
+pub mod Limits
 pub mod Steps
 pub mod Sound
 pub mod Rows
