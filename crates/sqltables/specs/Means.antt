@@ -18,7 +18,7 @@ IsWhole db = IsDatabase db
 pub record Holds (v : Version) (db : Database) (tables : Tables) : Type 0 where
   pub schema : db.schema ≡ v.schema
   pub sound : IsWhole db
-  pub means : TablesMean v.number db.trees tables
+  pub means : TablesMean v db.trees tables
 
 -- what a transaction sees means these tables, if the database is open
 abbrev pub Pends : Version → State → Tables → Type 0
