@@ -1,21 +1,21 @@
--- What the texts mean that are run in version 2 alone.
+-- What the texts mean that are run in one version alone.
 use Rattle.std.proofs.Common.{codes, List, ℕ, [], ◌∷◌, refl}
 use Rattle.sqlite_value.specs.declared.value.Value.TheVariants.{Null}
 use Rattle.sqlite_schema.specs.declared.command.Command.{Command}
 use Rattle.sqlite.specs.Term.{lit, col}
 use Rattle.sqlite_tied.specs.Compute.{everything}
 use Rattle.sqlite.specs.Listing.{understood}
-use Rattle.sqltables.specs.Schema.{s9}
+use Rattle.sqltables.specs.Schema.{s6, s9}
 use Rattle.sqltables.proofs.Forms.{query, some_rows, no_limit, is, rising, whole_number, select, update, insert}
 use Rattle.sqltables.proofs.Says.{Says, Asks}
 
 abbrev pub insert_office : List ℕ
-insert_office = codes "INSERT INTO office VALUES (1, 2, ?1)"
+insert_office = codes "INSERT INTO office VALUES (1, 1, ?1)"
 
 abbrev pub insert_office_command : Command
-insert_office_command = insert 0 (whole_number 1 ∷ lit Null ∷ whole_number 2 ∷ col 0 0 ∷ []) 4
+insert_office_command = insert 0 (whole_number 1 ∷ lit Null ∷ whole_number 1 ∷ col 0 0 ∷ []) 4
 
-pub insert_office_is : Says s9 insert_office insert_office_command
+pub insert_office_is : Says s6 insert_office insert_office_command
 unfolding understood everything
 insert_office_is = record { is = refl; plain = (refl, refl) }
 
