@@ -24,10 +24,10 @@ some_of g None y e = absurd cc
 some_of g (Some x) y e = (x, refl, cc)
 
 module _ {K K' : Type 0} (R : K' → K' → Ordering) (f : K → K') (o : IsTotalOrder R) where
-  key_test : (q : K') → IsKeyTest (eq_by_cmp (λ x y. R (f x) (f y))) (λ k. is_eq (R q (f k)))
+  pub key_test : (q : K') → IsKeyTest (eq_by_cmp (λ x y. R (f x) (f y))) (λ k. is_eq (R q (f k)))
   key_test q x y e = ap is_eq (o.congr q (f x) (f y) (equal_is (R q (f x)) e))
 
-  apart : (q n : K') → eq_by_cmp R q n ≡ false → AreApart (λ (k : K). is_eq (R n (f k))) (λ k. is_eq (R q (f k)))
+  pub apart : (q n : K') → eq_by_cmp R q n ≡ false → AreApart (λ (k : K). is_eq (R n (f k))) (λ k. is_eq (R q (f k)))
   apart q n t k e = ap is_eq (sym (alike_right o n (f k) q (equal_is (R n (f k)) e))) ∙ t
 
 module _ {K K' X : Type 0} (R : K' → K' → Ordering) (f : K → K') (o : IsTotalOrder R) where

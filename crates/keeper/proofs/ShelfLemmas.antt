@@ -37,6 +37,7 @@ pub holds_keys : (k : Shelf) (s : State) (keys : BTreeMap (Vec ℕ Global) KeyRo
     → Holds (record k { keys = keys; clerks = n }) (record s { keys = insert s.keys id (key_of row) })
 holds_keys k s keys id row n h sets counted fewer = record {
   offset = h.offset;
+  allowance = h.allowance;
   keys = means-set bytes_cmp bytes_of bytes_total key_of k.keys.entries keys.entries s.keys id row h.keys sets;
   boxes = h.boxes;
   files = h.files;
@@ -44,6 +45,7 @@ holds_keys k s keys id row n h sets counted fewer = record {
   totals = λ name b e. let t = h.totals name b e in record { used = t.used; count = t.count };
   clerks = counted;
   fewer = fewer;
+  limits = h.limits;
 }
 
 -- a box was set
@@ -52,6 +54,7 @@ pub holds_boxes : (k : Shelf) (s : State) (boxes : BTreeMap (Vec ℕ Global) She
     → Holds (record k { boxes = boxes }) (record s { boxes = insert s.boxes name (shelved_settings b) })
 holds_boxes k s boxes name b h sets are = record {
   offset = h.offset;
+  allowance = h.allowance;
   keys = h.keys;
   boxes = means-set bytes_cmp bytes_of bytes_total shelved_settings k.boxes.entries boxes.entries s.boxes name b h.boxes sets;
   files = h.files;
@@ -67,6 +70,7 @@ holds_boxes k s boxes name b h sets are = record {
       ] refl (sym (sets.each q) ∙ e);
   clerks = h.clerks;
   fewer = h.fewer;
+  limits = h.limits;
 }
 
 -- the files of one box changed, and receipts were added
@@ -79,6 +83,7 @@ pub holds_files : (k : Shelf) (s : State) (files : BTreeMap (Vec ℕ Global × V
     → Holds (record k { files = files; boxes = boxes; receipts = receipts }) (record s { files = fs; receipts = rs })
 holds_files k s files boxes receipts fs rs name b t h means listed there sets are others = record {
   offset = h.offset;
+  allowance = h.allowance;
   keys = h.keys;
   boxes = means-same bytes_cmp bytes_of bytes_total shelved_settings k.boxes.entries boxes.entries s.boxes name b (record b { totals = t }) h.boxes there refl sets;
   files = means;
@@ -99,6 +104,7 @@ holds_files k s files boxes receipts fs rs name b t h means listed there sets ar
       ] refl (sym (sets.each q) ∙ e);
   clerks = h.clerks;
   fewer = h.fewer;
+  limits = h.limits;
 }
 
 pub there_is : {X : Type 0} (o : Option X) → IsSome o → (x : X) × (o ≡ Some x)
@@ -138,6 +144,7 @@ long_of (Some x) = refl
 pub same_boxes : (k : Shelf) (s : State) (boxes : BTreeMap (Vec ℕ Global) ShelvedBox) → Holds k s → boxes.entries ≡ k.boxes.entries → Holds (record k { boxes = boxes }) s
 same_boxes k s boxes h e = record {
   offset = h.offset;
+  allowance = h.allowance;
   keys = h.keys;
   boxes = subst (λ es. MapMeans bytes_cmp bytes_of shelved_settings es s.boxes) (sym e) h.boxes;
   files = h.files;
@@ -145,6 +152,7 @@ same_boxes k s boxes h e = record {
   totals = λ name b there. h.totals name b (ap (λ es. found bytes_cmp bytes_of es name) (sym e) ∙ there);
   clerks = h.clerks;
   fewer = h.fewer;
+  limits = h.limits;
 }
 
 -- a receipt was added
