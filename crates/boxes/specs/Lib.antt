@@ -12,3 +12,4 @@ pub mod Clerks
 pub mod Changes
 pub mod Views
 pub mod Deciding
+pub mod Maps

@@ -20,6 +20,7 @@ use Rattle.boxes.specs.Views.{AreTotals}
 use Rattle.boxes.proofs.Lookups.{bytes_total, bytes_same, equal_is}
 use Rattle.boxes.proofs.FileTotals.{texts_apart}
 use Rattle.boxes.proofs.NoBox.{all_at}
+pub use Rattle.boxes.proofs.FileBoxes.{there_is, file_in_box}
 use Rattle.keeper.specs.declared.shelf.Shelf.{Shelf}
 use Rattle.keeper.specs.declared.shelf.ShelvedBox.{ShelvedBox}
 use Rattle.keeper.specs.declared.shelf.StoredFile.{StoredFile}
@@ -107,10 +108,6 @@ holds_files k s files boxes receipts fs rs name b t h means listed there sets ar
   limits = h.limits;
 }
 
-pub there_is : {X : Type 0} (o : Option X) → IsSome o → (x : X) × (o ≡ Some x)
-there_is None h = absurd cc
-there_is (Some x) h = (x, refl)
-
 -- the box of a name that stands
 pub box_there : (k : Shelf) (s : State) (name : List ℕ) → Holds k s → IsSome (get s.boxes name)
     → (b : ShelvedBox) × (found bytes_cmp bytes_of k.boxes.entries name ≡ Some b) × (get s.boxes name ≡ Some (shelved_settings b))
@@ -118,17 +115,6 @@ box_there k s name h some =
     let b = there_is (get s.boxes name) some in
     let it = some_of shelved_settings (found bytes_cmp bytes_of k.boxes.entries name) b.0 (sym (h.boxes.each name) ∙ b.1) in
     (it.0, it.1, b.1 ∙ ap (λ (x : Settings). Some x) (sym it.2))
-
-and_some : {X : Type 0} (P : X → Type 0) (o : Option X) → IsSomeAnd o P → IsSome o
-and_some P None h = absurd h
-and_some P (Some x) h = refl
-
--- a file that stands lies in a box that stands
-pub file_in_box : (s : State) (place : Place) (f : File) → IsSound s → get s.files place ≡ Some f → IsSome (get s.boxes place.box)
-file_in_box s place f sound there =
-    let it = sound.files place f there in
-    let r = all_at (IsReceipt s) s.receipts it.listed.place it.receipt sound.receipts it.listed.listed in
-    subst (λ (b : List ℕ). IsSome (get s.boxes b)) it.box (and_some _ (get s.boxes it.receipt.box) r.box)
 
 pub numbered-push : (n : ℕ) (rs : List Receipt) (r : Receipt) → numbered n (rs ++ r ∷ []) ≡ numbered n rs ++ (n + length rs, r) ∷ []
 numbered-push n [] r = ap (λ k. (k, r) ∷ []) (let e : n ≡ n + 0 = omega arith in e)

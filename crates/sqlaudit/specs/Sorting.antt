@@ -11,7 +11,7 @@ use Rattle.boxes.specs.Sound.{IsBoxName, IsDigest, IsMoment, IsNameRule}
 use Rattle.boxes.specs.Rows.{settings_of}
 use Rattle.sigtext.specs.Bytes.{bytes_cmp}
 use Rattle.std.specs.Ordering.{nat_cmp}
-use Rattle.keeper.specs.Maps.{MapMeans, Sets, found}
+use Rattle.boxes.specs.Maps.{MapMeans, Sets, found}
 use Rattle.sqltables.specs.Tables.{Box, rule_number, rule_text}
 use Rattle.sqlaudit.specs.Outlines.{AreEntries, IsBoxRule, IsFileEntry, IsFileRule, used_in, count_in, IsReceiptEntry, IsReceiptRule}
 use Rattle.boxes.specs.declared.totals.Totals.{Totals}

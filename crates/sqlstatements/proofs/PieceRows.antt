@@ -50,6 +50,9 @@ others_mean v tables after old new means stay pieces same =
       receipts = rw (stay.receipts (λ e. omega (arith, e))) means.receipts;
       files = rw (stay.files (λ e. omega (arith, e))) means.files;
       pieces = pieces;
+      unlimited = means.unlimited;
+      rules = λ two. rw (stay.rules (ap (λ (w : Version). w.schema) two) (λ e. omega (arith, e))) (means.rules two);
+      limits = λ two. rw (stay.limits (ap (λ (w : Version). w.schema) two) (λ e. omega (arith, e))) (means.limits two);
     } in
     subst (TablesMean v new.now.trees) (sym same) at_tables
 

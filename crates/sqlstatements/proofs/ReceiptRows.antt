@@ -1,5 +1,5 @@
 -- The INSERT of a receipt.
-use Rattle.std.proofs.Common.{◌≡◌, ℕ, ◌+◌, pos, List, [], ◌∷◌, map, drop, None, Ok, arith, refl}
+use Rattle.std.proofs.Common.{◌≡◌, ℕ, ◌+◌, pos, List, [], ◌∷◌, map, drop, None, Ok, arith, refl, ap}
 use Rattle.std.specs.Prelude.{nat_eq}
 use Rattle.sqlite_value.specs.declared.value.Value.TheVariants.{Null, Int, Text, Blob}
 use Rattle.sqlite_value.specs.Order.{Row}
@@ -55,5 +55,8 @@ puts_receipt v ours says old new count tables at r has means free ran =
         receipts = receipts;
         files = rw (stay.files (λ e. omega (arith, e))) means.files;
         pieces = rw (stay.pieces (λ e. omega (arith, e))) means.pieces;
+        unlimited = means.unlimited;
+        rules = λ two. rw (stay.rules (ap (λ (w : Version). w.schema) two) (λ e. omega (arith, e))) (means.rules two);
+        limits = λ two. rw (stay.limits (ap (λ (w : Version). w.schema) two) (λ e. omega (arith, e))) (means.limits two);
       };
     }

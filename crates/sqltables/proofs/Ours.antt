@@ -1,10 +1,10 @@
 -- What the schemas of both versions have in common, and what a statement on one table leaves of the others.
-use Rattle.std.proofs.Common.{◌≡◌, ◌≢◌, inl, inr, ℕ, List, length, Some, slice_get, arith, refl, sym, ap, subst}
+use Rattle.std.proofs.Common.{◌≡◌, ◌≢◌, inl, inr, ℕ, ℤ, pos, List, length, Some, slice_get, arith, refl, sym, ap, subst}
 use Rattle.std.specs.List.{AllByRecursion}
 use Rattle.sqlite_trees.specs.Tree.{Trees}
 use Rattle.sqlite_schema.specs.declared.schema.Table.{Table}
 use Rattle.sqlite_schema.specs.declared.schema.Schema.{Schema}
-use Rattle.sqltables.specs.Schema.{Version, IsVersion, s6, s9, keys_table, boxes_table, receipts_table, files_table, pieces_table, rules_table, key_box_table}
+use Rattle.sqltables.specs.Schema.{Version, IsVersion, v1, v2, s6, s9, keys_table, boxes_table, receipts_table, files_table, pieces_table, rules_table, key_box_table}
 use Rattle.sqlite_schema.specs.declared.command.Command.{Command}
 use Rattle.sqltables.proofs.Says.{Says, Asks, BothSay, BothAsk}
 use Rattle.sqltables.proofs.Restrict.{AllRestrict}
@@ -49,6 +49,9 @@ pub record IsOurs (schema : Schema) : Type 0 where
   pub files : slice_get schema.tables 4 ≡ Some files_at
   pub pieces : slice_get schema.tables 5 ≡ Some pieces_at
   pub stay : (tree : ℕ) (db after : Trees) → AllByRecursion (λ t. t.tree ≢ tree → after t.tree ≡ db t.tree) schema.tables → OthersStay schema tree db after
+
+pub versions_differ : v1 ≡ v2 → ⊥
+versions_differ same = let n : ◌≡◌ {A = ℤ} (pos 1) (pos 2) = ap (λ (v : Version). v.number) same in absurd cc
 
 -- version 1 lacks tables of version 2
 lacks : s6 ≡ s9 → ⊥
