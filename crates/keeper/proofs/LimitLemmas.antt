@@ -1,6 +1,6 @@
 -- The limits that a shelf keeps.
-use Rattle.std.proofs.Common.{◌≡◌, ◌∙◌, ℕ, Bool, true, false, cond, List, [], Option, Some, None, Less, Equal, Greater, refl, sym, ap, subst}
-use Rattle.std.specs.Prelude.{Vec, is_some, option_map, unwrap_or, ◌↔◌, IsTrue}
+use Rattle.std.proofs.Common.{◌≡◌, ◌∙◌, ℕ, Bool, true, false, cond, List, [], Option, Some, None, Ok, Err, Less, Equal, Greater, refl, sym, ap}
+use Rattle.std.specs.Prelude.{Vec, is_some, option_map, unwrap_or, ◌↔◌, IsTrue, Result, OnErr}
 use Rattle.std.specs.declared.alloc.Global.{Global}
 use Rattle.std.specs.declared.cmp.Ordering.{Ordering}
 use Rattle.std.specs.Ordering.{is_eq, eq_by_cmp, ordering_then}
@@ -109,3 +109,7 @@ module _ (s : State) (es : List (Vec ℕ Global × BTreeSet (Vec ℕ Global))) (
   -- nothing is kept under the key
   pub no_limit : found bytes_cmp bytes_of es id ≡ None → IsLimitedTo s id box → ⊥
   no_limit none held = not_held (sym (ap (λ o. unwrap_or (option_map (λ x. has_box x box) o) false) none) ∙ sym (h.each (record { key = id; box = box })) ∙ held)
+
+pub on_err : {T E : Type 0} (result : Result T E) (P : Type 0) → P → OnErr result P
+on_err (Ok x) P p = tt
+on_err (Err e) P p = p

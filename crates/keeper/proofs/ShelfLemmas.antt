@@ -6,12 +6,13 @@ use Rattle.std.specs.Ordering.{is_eq, eq_by_cmp}
 use Rattle.std.specs.Cmp.{tied_itself}
 use Rattle.std.specs.FinMap.{FinMap, get, insert}
 use Rattle.std.specs.BTreeMap.{BTreeMap}
+use Rattle.std.specs.BTreeSet.{BTreeSet}
 use Rattle.std.proofs.lemmas.List.{map-append}
 use Rattle.sigtext.specs.Bytes.{bytes_cmp, same_bytes}
 use Rattle.boxes.specs.declared.rows.KeyRow.{KeyRow}
 use Rattle.boxes.specs.declared.rows.ReceiptRow.{ReceiptRow}
 use Rattle.boxes.specs.declared.totals.Totals.{Totals}
-use Rattle.boxes.specs.State.{Settings, Place, place_cmp, File, Receipt, State}
+use Rattle.boxes.specs.State.{Settings, Place, place_cmp, File, Receipt, limit_cmp, State}
 use Rattle.boxes.specs.Rows.{key_of, numbered, numbered_receipt}
 use Rattle.boxes.specs.Totals.{used, count}
 use Rattle.boxes.specs.Clerks.{clerks}
@@ -25,7 +26,7 @@ use Rattle.keeper.specs.declared.shelf.Shelf.{Shelf}
 use Rattle.keeper.specs.declared.shelf.ShelvedBox.{ShelvedBox}
 use Rattle.keeper.specs.declared.shelf.StoredFile.{StoredFile}
 use Rattle.keeper.specs.Maps.{found, MapMeans, Sets}
-use Rattle.keeper.specs.Shelves.{Holds, bytes_of, place_of, shelved_settings, stored_file}
+use Rattle.keeper.specs.Shelves.{Holds, LimitsMean, bytes_of, place_of, shelved_settings, stored_file}
 use Rattle.keeper.proofs.MapLemmas.{means-set, means-same, some_of}
 
 clash : false ≡ true → ⊥
@@ -106,6 +107,22 @@ holds_files k s files boxes receipts fs rs name b t h means listed there sets ar
   clerks = h.clerks;
   fewer = h.fewer;
   limits = h.limits;
+}
+
+-- the kept limits mean others
+pub holds_limits : (k : Shelf) (s : State) (limits : BTreeMap (Vec ℕ Global) (BTreeSet (Vec ℕ Global))) (ls : FinMap limit_cmp (Unit {0})) → Holds k s
+    → LimitsMean limits.entries ls → Holds (record k { limits = limits }) (record s { limits = ls })
+holds_limits k s limits ls h means = record {
+  offset = h.offset;
+  allowance = h.allowance;
+  keys = h.keys;
+  boxes = h.boxes;
+  files = h.files;
+  receipts = h.receipts;
+  totals = λ name b e. let t = h.totals name b e in record { used = t.used; count = t.count };
+  clerks = h.clerks;
+  fewer = h.fewer;
+  limits = means;
 }
 
 -- the box of a name that stands

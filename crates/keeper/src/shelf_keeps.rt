@@ -103,6 +103,8 @@ impl Shelf {
         ensures no_store { ⟦<Shelf as Keeper>⟧.has_store → ⊥ }
         ensures fault { IfErr result (λ f. f ≡ KeepFault.Memory) }
     {
+        // The clause of this call says how great an allowance is at most.
+        let _ = office.allowance.seconds();
         let Ok((id, row)) = new_key(alloc, id, Role::Clerk, secret) else {
             return Err(KeepFault::Memory);
         };

@@ -9,6 +9,7 @@ use std::process::Abort;
 use std::test::Fail;
 
 const NAME: &[u8] = b"a.pdf";
+
 const LINK: &[u8] = b"lin";
 
 // An office, and how many of its calls were refused memory.
@@ -196,12 +197,18 @@ fn keeps_limits(rt: &impl Abort, office: &mut Tried) -> Result<(), Fail> {
 }
 
 fn keeps_the_allowance(rt: &impl Abort, office: &mut Tried) -> Result<(), Fail> {
-    assert_eq!(rt; office.call(|shelf| shelf.settings())?.allowance.seconds(), 0);
+    assert_eq!(rt;
+        office.call(|shelf| shelf.settings())?.allowance.seconds(),
+        0
+    );
     office.change(Change::Desk(Command::SetAllowance { seconds: 900 }))?;
     let set = office.call(|shelf| shelf.settings())?;
     assert!(rt; set.allowance.seconds() == 900 && set.east == -120);
     office.change(Change::Desk(Command::SetAllowance { seconds: 60 }))?;
-    assert_eq!(rt; office.call(|shelf| shelf.settings())?.allowance.seconds(), 60);
+    assert_eq!(rt;
+        office.call(|shelf| shelf.settings())?.allowance.seconds(),
+        60
+    );
     Ok(())
 }
 

@@ -1,6 +1,7 @@
-use Rattle.std.proofs.Common.{◌≡◌, ◌∙◌, ℕ, ◌+◌, List, [], length, map, Some, None, refl, sym, ap, subst, arith}
+use Rattle.std.proofs.Common.{◌≡◌, ◌∙◌, ℕ, ◌+◌, ◌≤◌, List, [], length, map, Some, None, refl, sym, ap, subst, arith}
 use Rattle.std.specs.FinMap.{empty, insert, get-empty}
 use Rattle.sigtext.specs.Bytes.{bytes_cmp}
+use Rattle.sigv4.specs.Allowances.{most_allowance}
 use Rattle.boxes.specs.declared.rows.Role.TheVariants.{Clerk}
 use Rattle.boxes.specs.State.{State, place_cmp}
 use Rattle.boxes.specs.Rows.{key_of, numbered_receipt}
@@ -15,14 +16,17 @@ use Rattle.keeper.proofs.ClerkCounts.{no_clerks, clerks_added}
 use Rattle.keeper.proofs.LimitLemmas.{no_limits}
 use Rattle.keeper.proofs.shelf.Shelf.new.Goals as goal
 
+few : (allowance seconds : ℕ) → seconds ≡ allowance → seconds ≤ most_allowance → allowance ≤ most_allowance
+few allowance seconds is bound = subst (λ n. n ≤ most_allowance) is bound
+
 pub returns-in_default-clause-sound : goal.returns-in_default-clause-sound
-returns-in_default-clause-sound c = λ west east id secret. sound_first_state c.args.office.east c.args.office.allowance c.args.id.now c.args.secret.now west east c.args.office-invariant.allowance id secret
+returns-in_default-clause-sound c = λ west east id secret. sound_first_state c.args.office.east c.args.office.allowance c.args.id.now c.args.secret.now west east (few c.args.office.allowance c.seconds.result c.seconds.ensures.value c.seconds.ensures.bound) id secret
 
 pub returns-in-Ok-insert-clause-sound : goal.returns-in-Ok-insert-clause-sound
-returns-in-Ok-insert-clause-sound c = λ west east id secret. sound_first_state c.args.office.east c.args.office.allowance c.args.id.now c.args.secret.now west east c.args.office-invariant.allowance id secret
+returns-in-Ok-insert-clause-sound c = λ west east id secret. sound_first_state c.args.office.east c.args.office.allowance c.args.id.now c.args.secret.now west east (few c.args.office.allowance c.seconds.result c.seconds.ensures.value c.seconds.ensures.bound) id secret
 
 pub returns-in-Err-clause-sound : goal.returns-in-Err-clause-sound
-returns-in-Err-clause-sound c = λ west east id secret. sound_first_state c.args.office.east c.args.office.allowance c.args.id.now c.args.secret.now west east c.args.office-invariant.allowance id secret
+returns-in-Err-clause-sound c = λ west east id secret. sound_first_state c.args.office.east c.args.office.allowance c.args.id.now c.args.secret.now west east (few c.args.office.allowance c.seconds.result c.seconds.ensures.value c.seconds.ensures.bound) id secret
 
 pub returns-in-Ok-insert-clause-means : goal.returns-in-Ok-insert-clause-means
 unfolding first_state
@@ -45,9 +49,9 @@ returns-in-Ok-insert-clause-means c =
       keys = subst (MapMeans bytes_cmp bytes_of key_of c.insert.new.self.entries) keyed means;
       boxes = rw c.new.ensures.empty (means-empty bytes_cmp bytes_of bytes_total shelved_settings);
       files = rw c.new-in-Ok-insert.ensures.empty (means-empty place_cmp place_of place_total stored_file);
-      receipts = ap (map numbered_receipt) c.new-in-Ok-insert-2.ensures.items;
+      receipts = ap (map numbered_receipt) c.new-in-Ok-insert-3.ensures.items;
       totals = λ name b e. absurd (some_none b (sym e ∙ ap (λ es. found bytes_cmp bytes_of es name) c.new.ensures.empty));
       clerks = sym one;
       fewer = omega (arith, longer, long);
-      limits = rw c.new-in-Ok-insert-3.ensures.empty no_limits;
+      limits = rw c.new-in-Ok-insert-2.ensures.empty no_limits;
     }
