@@ -329,7 +329,9 @@ fn migrate_command<'a>(alloc: Global) -> Result<Command<'a>, AllocError>
     ensures local { IfOk result (λ c. (out-Command c).has_globals ≡ false) }
 {
     Command::new(alloc, "migrate")
-        .about("Takes an office file of version 1 over to version 2, and leaves one of version 2 as it is")
+        .about(
+            "Takes an office file of version 1 over to version 2, and leaves one of version 2 as it is",
+        )
         .after_help(UPGRADE)
         .arg(word(alloc, "file", "FILE", "The office file"))
 }
