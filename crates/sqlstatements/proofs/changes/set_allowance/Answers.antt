@@ -7,8 +7,8 @@ use Rattle.sqltables.specs.Means.{Pends}
 use Rattle.sqlstatements.proofs.Commands.{sets_seconds}
 use Rattle.sqlstatements.proofs.changes.set_allowance.Goals as goal
 
-pub returns-in-Ok-clause-done : goal.returns-in-Ok-clause-done
-returns-in-Ok-clause-done g c s after pends obeyed =
+pub returns-clause-done : goal.returns-clause-done
+returns-clause-done g c s after pends obeyed =
     let it = sets_seconds s c.args.seconds after obeyed in
     let same : c.in-Ok.seconds ≡ c.args.seconds = c.in-Ok.ensures in
     subst (λ t. OnOk c.update_allowance.result (Pends v2 (state g.S.Store c.update_allowance.new.tx.conn.now) t)) (ap (with_allowance (tables_of s)) same ∙ sym it) (c.update_allowance.ensures.done (tables_of s) pends)
