@@ -6,9 +6,9 @@ pub record Now : Type 0 where
   pub moment : ℕ
   pub allowance : ℕ
 
--- a moment, with no allowance
-abbrev pub at : ℕ → Now
-at m = record { moment = m; allowance = 0 }
+-- a moment, and by how many seconds links may begin early
+abbrev pub moment_with : ℕ → ℕ → Now
+moment_with allowance moment = record { moment = moment; allowance = allowance }
 
 -- a window from the start on has begun
 abbrev pub HasBegun : Now → ℕ → Type 0
