@@ -10,7 +10,7 @@ ghost use Rattle.sqlite.specs.State.{HasCleanDisk};
 ghost use Rattle.sqlite.specs.Held.{state};
 ghost use Rattle.keeper.specs.Keeping.{LeavesAlone};
 ghost use Rattle.sqltables.specs.Means.{IsBare, AddsOnly, AddsNothing};
-ghost use Rattle.sqltables.specs.Schema.{v1, s0};
+ghost use Rattle.sqltables.specs.Schema.{v2, s0};
 ghost use Rattle.sqltables.specs.Kept.{KeepsState, MayLeave, LeavesStates};
 ghost use Rattle.sqltables.specs.OneState.{one_kept};
 ghost use Rattle.sqlaudit.specs.Opened.{HasOurs, AreNamed, OnlyLooks, IsFound};
@@ -129,7 +129,7 @@ impl<S: Alter> SqlKeeper<S> {
         ensures made { neg_ℤ (pos 840) ≤ℤ office.east → office.east ≤ℤ pos 840 → IsKeyId id.now
             → IsSecret secret.now
             → IfOk result (λ k. ⟦<SqlKeeper<S> as Keeper>⟧.means k
-            (first_state office.east id.now secret.now)) }
+            (first_state office.east office.allowance id.now secret.now)) }
         ensures honest { IfOk result (λ k. HasCleanDisk (state S.Store k.conn)
             → ⟦<SqlKeeper<S> as Keeper>⟧.is_honest k) }
         ensures opened { IfOk result (λ k. ⟦<SqlKeeper<S> as Keeper>⟧.is_honest k
@@ -139,9 +139,9 @@ impl<S: Alter> SqlKeeper<S> {
             → IsSecret secret.now
             → IfOk result (λ k. ⟦<SqlKeeper<S> as Keeper>⟧.is_honest k
             → LeavesAlone ⟦<SqlKeeper<S> as Keeper>⟧.leaves ⟦<SqlKeeper<S> as Keeper>⟧.leaves_whole
-            k (first_state office.east id.now secret.now)) }
-        ensures crash { IfErr result (λ e. AddsOnly v1 (state S.Store conn) (state S.Store e.1)
-            (first_state office.east id.now secret.now)) }
+            k (first_state office.east office.allowance id.now secret.now)) }
+        ensures crash { IfErr result (λ e. AddsOnly v2 (state S.Store conn) (state S.Store e.1)
+            (first_state office.east office.allowance id.now secret.now)) }
         ensures exists { (state S.Store conn).now.schema ≢ s0
             → IfErr result (λ e. e.0 ≡ OpenFault.Exists) × IsErr result }
         ensures told { IfErr result (λ e. e.0 ≡ OpenFault.Exists
@@ -159,7 +159,7 @@ impl<S: Alter> SqlKeeper<S> {
         let Ok(id) = str::from_utf8(id) else {
             return Err((OpenFault::Store, conn));
         };
-        match create(&mut conn, office.east, id, secret) {
+        match create(&mut conn, office.east, office.allowance, id, secret) {
             Ok(()) => Ok(SqlKeeper {
                 conn,
                 faults: 0,
@@ -269,6 +269,20 @@ impl<S: Alter> Keeper for SqlKeeper<S> {
             return Ok(None);
         };
         counted(&mut self.faults, asking::key(&mut self.conn, id))
+    }
+
+    fn may_use(&mut self, id: &[u8], in_box: &[u8]) -> Result<bool, KeepFault> {
+        let Ok(id) = str::from_utf8(id) else {
+            return Ok(true);
+        };
+        counted(&mut self.faults, asking::may_use(&mut self.conn, id, in_box))
+    }
+
+    fn has_limit(&mut self, id: &[u8], in_box: &[u8]) -> Result<bool, KeepFault> {
+        let Ok(id) = str::from_utf8(id) else {
+            return Ok(false);
+        };
+        counted(&mut self.faults, asking::has_limit(&mut self.conn, id, in_box))
     }
 
     fn box_row(&mut self, name: &[u8]) -> Result<Option<BoxRow>, KeepFault> {
