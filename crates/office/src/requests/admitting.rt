@@ -37,7 +37,10 @@ impl<K: Keeper> Office<K> {
                 if key.revoked {
                     return Err(Refusal::KeyRevoked);
                 }
-                match judge(link, &key.secret, &mut self.last_key, now) {
+                let Ok(office) = self.keeper.settings() else {
+                    return Err(Refusal::TryAgain);
+                };
+                match judge(link, &key.secret, &mut self.last_key, office.allowance, now) {
                     Ok(()) => Ok(key.role),
                     Err(refusal) => Err(refusal),
                 }
