@@ -67,14 +67,14 @@ module _ (rules : List RulesLine) (limits : List LimitLine) (say : SayUnlimited 
   none_said allowance is =
       let z : RulesLine = record { id = pos 1; allowance = pos 0 } in
       let each : (l : RulesLine) → Contains (z ∷ []) l → (l.id ≡ pos 1) × (l.allowance ≡ pos 0) =
-          λ l h. (ap (λ (x : RulesLine). x.id) (sym (only z l h)), ap (λ (x : RulesLine). x.allowance) (sym (only z l h))) in
+      λ l h. (ap (λ (x : RulesLine). x.id) (sym (only z l h)), ap (λ (x : RulesLine). x.allowance) (sym (only z l h))) in
       subst (λ n. RulesAre rules n) (sym is) (subst (λ ls. RulesAre ls 0) (sym say.rules_are) (rules_are (z ∷ []) z 0 (itself z) refl each))
 
   pub none_limited : (look : Limit → Option (Unit {0})) → ((limit : Limit) → look limit ≡ None) → AreEntries IsLimitEntry look limits
   none_limited look none = subst (AreEntries IsLimitEntry look) (sym say.limits_are) (record {
-        each = λ l h. absurd (omega (arith, h.1));
-        all = λ limit there e. absurd (some_none there (sym e ∙ none limit));
-      })
+    each = λ l h. absurd (omega (arith, h.1));
+    all = λ limit there e. absurd (some_none there (sym e ∙ none limit));
+  })
 
 -- ---- the set of the limits
 

@@ -95,11 +95,7 @@ fn is_limit<'a>(line: &'a LimitLine, keys: &Keys<'a>, boxes: &Boxes<'a>) -> bool
 }
 
 /// Whether each line limits a link's key that is there to a box that is there.
-pub(crate) fn are_limits<'a>(
-    lines: &'a [LimitLine],
-    keys: &Keys<'a>,
-    boxes: &Boxes<'a>,
-) -> bool
+pub(crate) fn are_limits<'a>(lines: &'a [LimitLine], keys: &Keys<'a>, boxes: &Boxes<'a>) -> bool
     ensures { (ks : FinMap bytes_cmp Key) (bs : FinMap bytes_cmp Box) → HoldsKeys keys.now ks
         → HoldsBoxes boxes.now bs
         → IsTrue result ↔ ((line : LimitLine) → Contains lines.now line

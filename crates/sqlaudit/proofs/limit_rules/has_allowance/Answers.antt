@@ -24,7 +24,7 @@ returns c =
     let told = c.is_allowance.ensures.0 c.if-not-is_allowance.false in (
       λ t. (told.0, rules_are c.args.lines.now c.in-Some.first.now told.0 there told.1 (c.are_rules_lines.ensures.0 t), told.2),
       λ o. c.are_rules_lines.ensures.1 (λ l h.
-        let first = rules_line c.args.lines.now c.in-Some.first.now o.0 there o.1 in
-        let line = rules_line c.args.lines.now l o.0 h o.1 in
-        (line.id_is, line.allowance_is ∙ sym first.allowance_is)),
+          let first = rules_line c.args.lines.now c.in-Some.first.now o.0 there o.1 in
+          let line = rules_line c.args.lines.now l o.0 h o.1 in
+          (line.id_is, line.allowance_is ∙ sym first.allowance_is)),
     )
