@@ -1,5 +1,6 @@
-use Rattle.std.proofs.Common.{◌≡◌, subst, w16, to_z, of_z, rules}
+use Rattle.std.proofs.Common.{◌≡◌, ◌≤◌, ℕ, subst, w16, to_z, of_z, rules}
 use Rattle.sqlite.specs.Held.{state}
+use Rattle.sigv4.specs.Allowances.{most_allowance}
 use Rattle.boxes.specs.FirstState.{first_state}
 use Rattle.boxes.proofs.SoundFirstState.{sound_first_state}
 use Rattle.sqltables.specs.Schema.{v2}
@@ -7,6 +8,9 @@ use Rattle.sqltables.specs.Means.{Means, LeavesOnly, AddsOnly, IsBare}
 use Rattle.sqlkeeper.proofs.AtRest.{bare_of}
 use Rattle.sqlkeeper.proofs.Stays.{left_alone}
 use Rattle.sqlkeeper.proofs.file_keeper.SqlKeeper.create.Goals as goal
+
+few : (allowance seconds : ℕ) → seconds ≡ allowance → seconds ≤ most_allowance → allowance ≤ most_allowance
+few allowance seconds is bound = subst (λ n. n ≤ most_allowance) is bound
 
 pub returns-in-Ok-create-clause-made : goal.returns-in-Ok-create-clause-made
 returns-in-Ok-create-clause-made g c west east is_id is_secret =
