@@ -1,6 +1,6 @@
 -- The INSERT of a box that a key is limited to, the UPDATE of the allowance, and the rows that a key is limited to.
-use Rattle.std.proofs.Common.{◌≡◌, inl, ℕ, ℤ, pos, List, [], ◌∷◌, map, drop, Option, true, false, None, Some, Result, Ok, Err, IfOk, IsTrue, arith, refl, sym, ap, subst, ◌∙◌}
-use Rattle.std.specs.Prelude.{is_some, IsSome}
+use Rattle.std.proofs.Common.{◌≡◌, inl, ℕ, ℤ, pos, List, [], ◌∷◌, map, drop, Bool, Option, true, false, None, Some, Result, Ok, Err, IfOk, IsTrue, arith, refl, sym, ap, subst, ◌∙◌}
+use Rattle.std.specs.Prelude.{◌↔◌, is_some, IsSome}
 use Rattle.std.specs.List.{list_all}
 use Rattle.sigtext.specs.Bytes.{same_bytes}
 use Rattle.sqlite_value.specs.declared.value.Value.TheVariants.{Null, Int, Text}
@@ -21,7 +21,7 @@ use Rattle.sqltables.specs.Schema.{v2, s9}
 use Rattle.sqltables.specs.Tables.{Tables, TablesMean, RowsMean, IsLimitRow, IsRulesRow, put, same_limit}
 use Rattle.sqltables.specs.Changes.{with_limit, with_allowance}
 use Rattle.sqltables.specs.Means.{Holds}
-use Rattle.sqltables.specs.Questions.{AreLimits, shown_name}
+use Rattle.sqltables.specs.Questions.{AreLimits, HasLimit, ReachesBox, ShowsText, first_text, shown_name}
 use Rattle.sqltables.proofs.Forms.{is}
 use Rattle.sqltables.proofs.AddedTexts.{insert_limit, insert_limit_is, update_allowance, update_allowance_is, select_limits, select_limits_command, select_limits_is}
 use Rattle.sqltables.proofs.Ours.{ours_2, limits_at, rules_at, versions_differ}
@@ -167,3 +167,24 @@ shows_limits rows_of (Ok x) id old new tables inside pends h =
     let read = reads_as select_limits (Text id ∷ []) old new s9 it.schema select_limits_command select_limits_is.says.is select_limits_is.says.plain select_limits_is.unlisted (rows_of x) h in
     let are : AreFound tests shows (old.now.trees 12) (Text id ∷ []) (rows_of x) = answered 12 tests shows (overlay old.now.trees []) (Text id ∷ []) (rows_of x) (read.answer Null) in
     limit_rows tables.limit id (old.now.trees 12) (rows_of x) (it.means.limits refl) are
+
+-- ---- what the rows say
+
+-- a row is there: so the key is limited, and may use the boxes that are shown
+reaches : (tables : Tables) (id box : List ℕ) (rows : List Row) (b : Bool) → AreLimits tables.limit id rows → (row : Row) → Has rows row → (IsTrue b ↔ ShowsText rows box)
+    → IsTrue b ↔ ReachesBox tables id box
+reaches tables id box rows b are row has shows = (
+  λ shown limited.
+      let s = shows.0 shown in
+      let e = are.sound s.row s.there in
+      let same : e.0 ≡ box = sym (ap first_text e.1) ∙ s.first in
+      subst (λ q. HasLimit tables id q) same e.2,
+  λ may.
+      let first = are.sound row has in
+      shows.1 (record { row = shown_name box; there = are.complete box (may (first.0, first.2)); first = refl }),
+)
+
+pub reaches_box : (tables : Tables) (id box : List ℕ) (rows : List Row) (r : Result Bool Error) → AreLimits tables.limit id rows → (row : Row) → Has rows row
+    → IfOk r (λ b. IsTrue b ↔ ShowsText rows box) → IfOk r (λ b. IsTrue b ↔ ReachesBox tables id box)
+reaches_box tables id box rows (Ok b) are row has shows = reaches tables id box rows b are row has shows
+reaches_box tables id box rows (Err e) are row has shows = tt
