@@ -6,9 +6,13 @@ pub record Now : Type 0 where
   pub moment : ℕ
   pub allowance : ℕ
 
+-- a moment, and by how many seconds links may begin early
+abbrev pub moment_with : ℕ → ℕ → Now
+moment_with allowance moment = record { moment = moment; allowance = allowance }
+
 -- a moment, with no allowance
 abbrev pub at : ℕ → Now
-at m = record { moment = m; allowance = 0 }
+at moment = moment_with 0 moment
 
 -- a window from the start on has begun
 abbrev pub HasBegun : Now → ℕ → Type 0

@@ -10,11 +10,11 @@ ghost use Rattle.links.specs.WellFormed.{LinkValues};
 ghost use Rattle.links.specs.SixValues.{texts_of};
 ghost use Rattle.links.specs.LinkReadings.{IsLinkOf};
 ghost use Rattle.links.specs.Judging.{Judges};
-ghost use Rattle.links.specs.Moments.{at};
+ghost use Rattle.links.specs.Moments.{moment_with};
 
 use crate::link_parts::LinkParts;
 use sigtext::Refusal;
-use sigv4::{LastKey, Moment, Scope, sign};
+use sigv4::{Allowance, LastKey, Moment, Scope, sign};
 
 // Whether the link's signature is that of its canonical request under the secret.
 fn is_signed_by(link: &LinkParts<'_>, scope: &Scope<'_>, secret: &[u8], last: &mut LastKey) -> bool
@@ -29,16 +29,18 @@ fn is_signed_by(link: &LinkParts<'_>, scope: &Scope<'_>, secret: &[u8], last: &m
 }
 
 /// Judges a link that was read, under its key's secret and at a moment: refusal 21 where the signature is
-/// not that of the canonical request, 22 before the window and 23 at its end or past it. A signing key that
-/// was not the last one is derived, and then is. What is answered does not depend on memory.
+/// not that of the canonical request, 22 before the window and 23 at its end or past it. The window begins
+/// earlier by the allowance, and ends no later for it. A signing key that was not the last one is derived, and
+/// then is. What is answered does not depend on memory.
 pub fn judge(
     link: &LinkParts<'_>,
     secret: &[u8],
     last: &mut LastKey,
+    allowance: Allowance,
     now: Moment,
 ) -> Result<(), Refusal>
     ensures { (r : Request) (p : LinkValues) → IsLinkOf link.now r p
-        → Judges secret.now r (at now) p result }
+        → Judges secret.now r (moment_with allowance now) p result }
 {
     let scope = Scope::read(link.six.credential(), link.six.date())?;
     if !is_signed_by(link, &scope, secret, last) {
@@ -46,7 +48,7 @@ pub fn judge(
     }
     let moment = now.seconds();
     let start = link.start.seconds();
-    if moment < start {
+    if moment + allowance.seconds() < start {
         return Err(Refusal::NotYetValid);
     }
     if moment >= start.saturating_add(link.expires) {

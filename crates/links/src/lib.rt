@@ -19,4 +19,5 @@ pub use laws::{law_of_links, law_of_parts, law_of_texts};
 pub use link_parts::LinkParts;
 pub use methods::Method;
 pub use orders::{LinkFault, LinkKey, LinkOrder, OrderParam, is_host};
+pub use sigv4::Allowance;
 pub use writing::write_link;

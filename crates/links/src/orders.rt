@@ -38,7 +38,7 @@ pub struct LinkOrder<'a> {
     /// of `a-z 0-9 - _ .`. The values hold bytes 0x20 to 0x7E, with no two spaces side by side and none at an
     /// end.
     pub headers: &'a [Field<'a>],
-    /// The first moment at which the link is admitted.
+    /// The first moment at which the link is admitted, where no allowance lets it begin earlier.
     pub start: Moment,
     /// For how many seconds it is admitted: 1 to 604800, which is seven days.
     pub expires: u64,

@@ -3,7 +3,7 @@ use crate::row::{Line, Row, RowFault};
 use crate::texts::want_of_memory;
 use links::{LinkFault, LinkKey, LinkOrder, Method, OrderParam, inspect, judge, write_link};
 use sigtext::{Field, Refusal, Target};
-use sigv4::{LastKey, Moment};
+use sigv4::{Allowance, LastKey, Moment};
 use std::alloc::{AllocError, Global};
 
 /// Whether the row is one of these calls; then it is answered.
@@ -108,6 +108,12 @@ fn judge_fields<'a>(
     let method = Method::read(row.word(0)?).ok_or(Refusal::Method)?;
     let target = Target::read(row.word(1)?)?;
     let link = inspect(alloc, method, &target, fields)?;
-    judge(&link, row.word(2)?, &mut LastKey::new(), now)?;
+    judge(
+        &link,
+        row.word(2)?,
+        &mut LastKey::new(),
+        Allowance::none(),
+        now,
+    )?;
     Ok(line.put(link.key_id())?)
 }

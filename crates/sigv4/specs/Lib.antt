@@ -6,3 +6,4 @@ pub mod Credential
 pub mod Scopes
 pub mod Stamps
 pub mod Feeding
+pub mod Allowances

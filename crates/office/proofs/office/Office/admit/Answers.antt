@@ -19,7 +19,7 @@ returns-then-key-clause-admits g c s r p kept is other =
 pub returns-in-Ok-clause-admits : goal.returns-in-Ok-clause-admits
 returns-in-Ok-clause-admits g c s r p kept is =
     let there = asked_some s c.key_id.result.now p.key_id c.in-Ok-Some.field-0 c.in-Ok-Some.key (c.in-Ok-Some.ensures.value s kept.means kept.sound kept.is_honest) c.in-Ok-Some.field-0-is (c.key_id.ensures r p is) in
-    let right = c.in-Ok.ensures r p is in (
+    let right = rw c.none.ensures at (c.in-Ok.ensures r p is) in (
       key_of c.in-Ok-Some.key,
       record { well_formed = is.well_formed; there = there; unrevoked = c.if-key.false; signed = subst (λ (t : List ℕ). IsSignedBy t r p) c.deref.ensures.value right.0; begun = right.1; not_over = right.2 },
       refl,
@@ -29,4 +29,4 @@ pub returns-in-Ok-Some-clause-admits : goal.returns-in-Ok-Some-clause-admits
 returns-in-Ok-Some-clause-admits g c s r p kept is other =
     let there = asked_some s c.key_id.result.now p.key_id c.in-Ok-Some.field-0 c.in-Ok-Some.key (c.in-Ok-Some.ensures.value s kept.means kept.sound kept.is_honest) c.in-Ok-Some.field-0-is (c.key_id.ensures r p is) in
     let key : HasKey s p (key_of c.in-Ok-Some.key) = record { there = there; unrevoked = c.if-key.false } in
-    judged s r c.args.now p (key_of c.in-Ok-Some.key) c.in-Err-judge.refusal is.well_formed key (subst (λ (t : List ℕ). FailsAt c.in-Err-judge.refusal t r (at c.args.now) p) c.deref.ensures.value (c.in-Err-judge.ensures r p is))
+    judged s r c.args.now p (key_of c.in-Ok-Some.key) c.in-Err-judge.refusal is.well_formed key (subst (λ (t : List ℕ). FailsAt c.in-Err-judge.refusal t r (at c.args.now) p) c.deref.ensures.value (rw c.none.ensures at (c.in-Err-judge.ensures r p is)))
