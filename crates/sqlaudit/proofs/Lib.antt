@@ -9,6 +9,7 @@ pub mod Unbroken
 pub mod BoxEntries
 pub mod SameTexts
 pub mod OfficeEntries
+pub mod LimitEntries
 pub mod Mapped
 pub mod PieceKeys
 pub mod AcceptedTables

@@ -3,7 +3,7 @@ use Rattle.std.proofs.Common.{◌≡◌, false, IsTrue, sym, subst, ◌∙◌}
 use Rattle.sqlite_trees.specs.Tree.{Trees}
 use Rattle.sqlite.specs.State.{State, HasCleanDisk}
 use Rattle.boxes.specs.State.{State as Office}
-use Rattle.sqltables.specs.Schema.{v1, s0}
+use Rattle.sqltables.specs.Schema.{v2, s0}
 use Rattle.sqltables.specs.Tables.{tables_of}
 use Rattle.sqltables.specs.Means.{Means, Holds, OfficeMeans, LeavesOnly, IsBare}
 use Rattle.sqltables.specs.Kept.{KeepsState}
@@ -18,7 +18,7 @@ keeps_found old new is_open same rest (office, found) = (
     means = λ clean. record {
       autocommit = rest.autocommit;
       tables = λ open_now. record {
-        holds = subst (λ db. Holds v1 db (tables_of office)) (sym (same.now_is open_now)) found.holds;
+        holds = subst (λ db. Holds v2 db (tables_of office)) (sym (same.now_is open_now)) found.holds;
         settled = rest.settled open_now;
       };
     };
@@ -27,10 +27,10 @@ keeps_found old new is_open same rest (office, found) = (
 )
 
 -- a crash leaves what was committed, which is what the connection sees
-pub leaves_kept : (s : State) (office : Office) → IsTrue s.is_open → ((trees : Trees) → s.may_leave trees → trees ≡ s.committed.trees) → Means v1 s office → LeavesOnly v1 s office
+pub leaves_kept : (s : State) (office : Office) → IsTrue s.is_open → ((trees : Trees) → s.may_leave trees → trees ≡ s.committed.trees) → Means v2 s office → LeavesOnly v2 s office
 leaves_kept s office is_open only means clean trees left =
     let kept = (means clean).tables is_open in
-    subst (λ t. OfficeMeans v1 t office) (sym (only trees left)) (by_rows v1 s.committed office (subst (λ db. Holds v1 db (tables_of office)) kept.settled kept.holds))
+    subst (λ t. OfficeMeans v2 t office) (sym (only trees left)) (by_rows v2 s.committed office (subst (λ db. Holds v2 db (tables_of office)) kept.settled kept.holds))
 
 -- an office that was looked at is kept
 pub keeps_same : (old new : State) → (HasCleanDisk new → HasCleanDisk old) → OnlyLooks old new → (office : Office) → KeepsState old office → KeepsState new office
@@ -43,7 +43,7 @@ keeps_same old new honest looks office keeps = record {
         tables = λ is_open.
             let kept = was.tables (same.was_open is_open) in
             record {
-              holds = subst (λ db. Holds v1 db (tables_of office)) (sym (same.now_is is_open)) kept.holds;
+              holds = subst (λ db. Holds v2 db (tables_of office)) (sym (same.now_is is_open)) kept.holds;
               settled = same.now_is is_open ∙ kept.settled ∙ sym (same.committed_is is_open);
             };
       };

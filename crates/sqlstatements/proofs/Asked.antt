@@ -83,7 +83,7 @@ module _ {K V : Type 0} (IsRow : Row → K → V → Type 0) (lookup : K → Opt
 pub finds_row : {K V : Type 0} (IsRow : Row → K → V → Type 0) (lookup : K → Option V) (same : K → K → Bool) (tells : Tells same) (filter project : List Term) (shown : V → Row) (given : Row) (k : K)
     → Picks IsRow lookup same tells filter project shown given k
     → (v : Version) (tree : ℕ) (names : List (List ℕ)) (sql : List ℕ) (asks : Asks v.schema sql (select (some_rows tree filter project) names)) (old new : State) (tables : Tables)
-    → (own : (db : Trees) → overlay db [] tree ≡ db tree) → (TablesMean v.number old.now.trees tables → RowsMean IsRow lookup (old.now.trees tree))
+    → (own : (db : Trees) → overlay db [] tree ≡ db tree) → (TablesMean v old.now.trees tables → RowsMean IsRow lookup (old.now.trees tree))
     → IsTrue old.in_transaction → (IsTrue old.is_open → Holds v old.now tables)
     → (r : Result (Option Row) Error) → IfOk r (ShowsRow sql given old new) → IfOk r (λ row. row ≡ option_map shown (lookup k))
 finds_row IsRow lookup same tells filter project shown given k picks v tree names sql asks old new tables own means inside pends (Err e) h = tt

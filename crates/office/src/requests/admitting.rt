@@ -4,7 +4,7 @@ use boxes::Role;
 use keeper::Keeper;
 use links::{LinkParts, judge};
 use sigtext::Refusal;
-use sigv4::{Allowance, Moment};
+use sigv4::Moment;
 
 impl<K: Keeper> Office<K> {
     ghost use Rattle.std.specs.Prelude.{◌≡◌, ◌≢◌, Err, MatchResult};
@@ -37,13 +37,10 @@ impl<K: Keeper> Office<K> {
                 if key.revoked {
                     return Err(Refusal::KeyRevoked);
                 }
-                match judge(
-                    link,
-                    &key.secret,
-                    &mut self.last_key,
-                    Allowance::none(),
-                    now,
-                ) {
+                let Ok(office) = self.keeper.settings() else {
+                    return Err(Refusal::TryAgain);
+                };
+                match judge(link, &key.secret, &mut self.last_key, office.allowance, now) {
                     Ok(()) => Ok(key.role),
                     Err(refusal) => Err(refusal),
                 }
