@@ -23,6 +23,7 @@ pub mod Extents
 pub mod StillReads
 pub mod Digested
 pub mod Tested
+pub mod EitherVersion
 pub mod Looking
 pub mod PieceLines
 pub mod WholeTables

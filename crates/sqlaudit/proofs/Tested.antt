@@ -55,6 +55,17 @@ are_listed v db lines office listed lent are rowids tables = record {
 
 -- ---- the version
 
+-- an office of this version says so
+pub office_version : (v : Version) → IsVersion v → (db : Database) (office : Office) → AreOffice v db office → SaysVersion db v.number
+office_version v ours db office is =
+    let row = is.holds.means.office.all tt office.offset refl in
+    record {
+      begun = subst (Has begun_schemas) (sym is.holds.schema) (ours_begun v ours);
+      row = row.0;
+      there = row.1;
+      each = λ row has. (is.holds.means.office.each row has).2.version_is;
+    }
+
 module _ (v : Version) (ours : IsVersion v) (db : Database) (lines : List OfficeLine) (are : AreLines IsOfficeLine (db.trees 0) lines) where
   rows_version : (version : ℤ) → SaysVersion db version → AreOfVersion lines version
   rows_version version says = record {
@@ -87,19 +98,9 @@ module _ (v : Version) (ours : IsVersion v) (db : Database) (lines : List Office
       let is = of.each l.0 (contains_had lines l.0 l.1) in
       cc
 
-  office_version : (office : Office) → AreOffice v db office → SaysVersion db v.number
-  office_version office is =
-      let row = is.holds.means.office.all tt office.offset refl in
-      record {
-        begun = subst (Has begun_schemas) (sym is.holds.schema) (ours_begun v ours);
-        row = row.0;
-        there = row.1;
-        each = λ row has. (is.holds.means.office.each row has).2.version_is;
-      }
-
   pub unversioned : ((version : ℤ) → AreOfVersion lines version → ⊥) → AreDamaged v db
   unversioned none = record {
-    none = λ office is. none v.number (rows_version v.number (office_version office is));
+    none = λ office is. none v.number (rows_version v.number (office_version v ours db office is));
     version = λ version says. absurd (none version (rows_version version says));
   }
 

@@ -29,6 +29,8 @@ use Rattle.sqlaudit.specs.declared.opening.Extent.{Extent}
 use Rattle.sqlaudit.specs.declared.opening.Extent.TheVariants.{Nothing, Begun, Whole}
 use Rattle.sqlaudit.specs.declared.opening.Finding.{Finding}
 use Rattle.sqlaudit.specs.declared.opening.Finding.TheVariants.{Sound, OtherVersion, Damaged}
+use Rattle.sqlaudit.specs.declared.opening.Found.{Found}
+use Rattle.sqlaudit.specs.declared.opening.Found.TheVariants as found
 
 -- ---- which databases are looked at
 
@@ -142,6 +144,19 @@ abbrev pub IsFound : Version → Finding → Database → Type 0
 IsFound v Sound db = (office : Office) × AreOffice v db office
 IsFound v OtherVersion db = (version : ℤ) × SaysVersion db version × (version ≢ v.number)
 IsFound v Damaged db = AreDamaged v db
+
+-- the tables are those of no office of either version that keeps every rule, and no other version is said
+pub record AreNeither (db : Database) : Type 0 where
+  pub first : (office : Office) → AreOffice v1 db office → ⊥
+  pub second : (office : Office) → AreOffice v2 db office → ⊥
+  pub version : (version : ℤ) → SaysVersion db version → (version ≡ v1.number) ⊎ (version ≡ v2.number)
+
+-- what a file is found to be where both versions are looked for
+pub IsEither : Found → Database → Type 0
+IsEither found.First db = (office : Office) × AreOffice v1 db office
+IsEither found.Second db = (office : Office) × AreOffice v2 db office
+IsEither found.OtherVersion db = (version : ℤ) × SaysVersion db version × (version ≢ v1.number) × (version ≢ v2.number)
+IsEither found.Damaged db = AreNeither db
 
 -- ---- what is read of them
 

@@ -1,17 +1,17 @@
 //! What is found in an office file that is opened.
 
-ghost use Rattle.std.specs.Prelude.{◌↔◌, ◌≡◌, false, ℤ, Contains, MatchBool, MatchOption, None, Some, IsTrue, IfOk, OnOk};
+ghost use Rattle.std.specs.Prelude.{◌↔◌, ◌≡◌, ◌≢◌, false, ℤ, Contains, MatchBool, MatchOption, None, Some, IsTrue, IfOk, OnOk};
 ghost use Rattle.sqlite_schema.specs.declared.schema.Table.{Table};
 ghost use Rattle.sqlite.specs.State.{HasCleanDisk};
 ghost use Rattle.sqlite.specs.Held.{state};
 ghost use Rattle.boxes.specs.State.{State as Office};
 ghost use Rattle.sqlaudit.specs.declared.lines.OfficeLine.{OfficeLine};
-ghost use Rattle.sqltables.specs.Schema.{Version, IsVersion, v1, v2};
+ghost use Rattle.sqltables.specs.Schema.{Version, IsVersion, v2};
 ghost use Rattle.sqltables.specs.Inside.{seen, GoesOnWhere, GoesOnBegun};
 ghost use Rattle.sqltables.specs.Means.{IsRunning};
 ghost use Rattle.sqlaudit.specs.Formats.{version_of};
 ghost use Rattle.sqlaudit.specs.Listing.{OfVersion};
-ghost use Rattle.sqlaudit.specs.Opened.{HasOurs, IsOurs, AreTables, IsExtent, IsTableAt, BeginNamed, AreNamed, AreFirstNamed, AreNamedAs, IsAtRest, IsSettled, IsBegunAs, LeavesUntouched, IsFound, AreOffice, AreOfVersion};
+ghost use Rattle.sqlaudit.specs.Opened.{HasOurs, IsOurs, AreTables, IsExtent, IsTableAt, BeginNamed, AreNamed, AreFirstNamed, AreNamedAs, IsAtRest, IsSettled, IsBegunAs, LeavesUntouched, IsFound, IsEither, AreOffice, AreOfVersion};
 
 use crate::digests::have_bytes;
 use crate::formats::Format;
@@ -28,6 +28,19 @@ pub enum Finding {
     /// The tables of an office that keeps every rule.
     Sound,
     /// An office of another version.
+    OtherVersion,
+    /// No office, or one that breaks a rule.
+    Damaged,
+}
+
+/// Of which version an office file is found to be.
+#[derive(Clone, Copy, Debug, PartialEq, Eq)]
+pub enum Found {
+    /// The tables of an office of version 1 that keeps every rule.
+    First,
+    /// The tables of an office of version 2 that keeps every rule.
+    Second,
+    /// An office of a version that is neither 1 nor 2.
     OtherVersion,
     /// No office, or one that breaks a rule.
     Damaged,
@@ -268,7 +281,7 @@ fn find_as<S: Alter>(
     ensures named { IfOk result (λ finding. finding ≡ Finding.Sound
         → AreNamedAs format (state S.Store conn.old).now.schema) }
     ensures opened { HasCleanDisk (state S.Store conn.new)
-        → IfOk result (λ finding. finding ≡ Finding.Sound → IsTrue (state S.Store conn.new).is_open) }
+        → IfOk result (λ finding. finding ≢ Finding.Damaged → IsTrue (state S.Store conn.new).is_open) }
     ensures at_rest { HasCleanDisk (state S.Store conn.new)
         → OnOk result (IsAtRest (state S.Store conn.new)) }
     ensures rest { LeavesUntouched (state S.Store conn.old) (state S.Store conn.new) }
@@ -281,15 +294,15 @@ fn find_as<S: Alter>(
         return Ok(Finding::Damaged);
     }
     let finding = examine(conn, alloc, extent, format)?;
-    if finding == Finding::Sound {
+    if finding != Finding::Damaged {
         // A store that shut itself compiles no statement.
         conn.prepare("SELECT version FROM office")?;
     }
     Ok(finding)
 }
 
-/// Tests the whole file. Nothing is written, and whatever file it is, it is found as it was. An office's file is found to be
-/// open still, and to have exactly the tables of an office of version 2, by their names.
+/// Tests the whole file as one of version 2. Nothing is written, and whatever file it is, it is found as it was. An office's
+/// file is found to be open still, and to have exactly the tables of an office of version 2, by their names.
 pub fn find<S: Alter>(conn: &mut Connection<S>, alloc: Global) -> Result<Finding, Error>
     ensures found { HasOurs (state S.Store conn.old) → HasCleanDisk (state S.Store conn.new)
         → IsTrue (state S.Store conn.old).is_open
@@ -297,7 +310,7 @@ pub fn find<S: Alter>(conn: &mut Connection<S>, alloc: Global) -> Result<Finding
     ensures named { IfOk result (λ finding. finding ≡ Finding.Sound
         → AreNamed (state S.Store conn.old).now.schema) }
     ensures opened { HasCleanDisk (state S.Store conn.new)
-        → IfOk result (λ finding. finding ≡ Finding.Sound → IsTrue (state S.Store conn.new).is_open) }
+        → IfOk result (λ finding. finding ≢ Finding.Damaged → IsTrue (state S.Store conn.new).is_open) }
     ensures at_rest { HasCleanDisk (state S.Store conn.new)
         → OnOk result (IsAtRest (state S.Store conn.new)) }
     ensures rest { LeavesUntouched (state S.Store conn.old) (state S.Store conn.new) }
@@ -305,19 +318,25 @@ pub fn find<S: Alter>(conn: &mut Connection<S>, alloc: Global) -> Result<Finding
     find_as(conn, alloc, Format::Second)
 }
 
-/// Tests the whole file as one of version 1. Nothing is written, and whatever file it is, it is found as it was. An
-/// office's file is found to be open still, and to have exactly the tables of an office of version 1, by their names.
-pub fn find_first<S: Alter>(conn: &mut Connection<S>, alloc: Global) -> Result<Finding, Error>
+/// Tests the whole file as one of version 2, and where its office says another version, as one of version 1. Nothing is
+/// written, and whatever file it is, it is found as it was. An office's file is found to be open still.
+pub fn find_either<S: Alter>(conn: &mut Connection<S>, alloc: Global) -> Result<Found, Error>
     ensures found { HasOurs (state S.Store conn.old) → HasCleanDisk (state S.Store conn.new)
         → IsTrue (state S.Store conn.old).is_open
-        → IfOk result (λ finding. IsFound v1 finding (state S.Store conn.old).now) }
-    ensures named { IfOk result (λ finding. finding ≡ Finding.Sound
-        → AreFirstNamed (state S.Store conn.old).now.schema) }
+        → IfOk result (λ found. IsEither found (state S.Store conn.old).now) }
     ensures opened { HasCleanDisk (state S.Store conn.new)
-        → IfOk result (λ finding. finding ≡ Finding.Sound → IsTrue (state S.Store conn.new).is_open) }
+        → IfOk result (λ found. found ≢ Found.Damaged → IsTrue (state S.Store conn.new).is_open) }
     ensures at_rest { HasCleanDisk (state S.Store conn.new)
         → OnOk result (IsAtRest (state S.Store conn.new)) }
     ensures rest { LeavesUntouched (state S.Store conn.old) (state S.Store conn.new) }
 {
-    find_as(conn, alloc, Format::First)
+    match find(conn, alloc)? {
+        Finding::Sound => Ok(Found::Second),
+        Finding::Damaged => Ok(Found::Damaged),
+        Finding::OtherVersion => match find_as(conn, alloc, Format::First)? {
+            Finding::Sound => Ok(Found::First),
+            Finding::Damaged => Ok(Found::Damaged),
+            Finding::OtherVersion => Ok(Found::OtherVersion),
+        },
+    }
 }

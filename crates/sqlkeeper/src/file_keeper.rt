@@ -10,11 +10,11 @@ ghost use Rattle.sqlite.specs.State.{HasCleanDisk};
 ghost use Rattle.sqlite.specs.Held.{state};
 ghost use Rattle.keeper.specs.Keeping.{LeavesAlone};
 ghost use Rattle.sqltables.specs.Means.{IsBare, AddsOnly, AddsNothing};
-ghost use Rattle.sqltables.specs.Schema.{v1, v2, s0};
+ghost use Rattle.sqltables.specs.Schema.{v2, s0};
 ghost use Rattle.sqltables.specs.Kept.{KeepsState, MayLeave, LeavesStates};
 ghost use Rattle.sqltables.specs.OneState.{one_kept};
-ghost use Rattle.sqlaudit.specs.Opened.{HasOurs, AreNamed, OnlyLooks, IsFound};
-ghost use Rattle.sqlkeeper.specs.FirstVersion.{KeepsFirst};
+ghost use Rattle.sqlaudit.specs.Opened.{HasOurs, AreNamed, OnlyLooks, LeavesUntouched, IsFound, IsEither};
+ghost use Rattle.sqlkeeper.specs.Versions.{KeepsFirst, IsOfficeFile, IsRefusedFile};
 
 use crate::applying::apply_change;
 use crate::asking;
@@ -22,7 +22,7 @@ use crate::creating::create;
 use crate::upgrading::upgrade_file;
 use boxes::{BoxRow, Change, FileRow, KeyRow, OfficeRow, ReceiptRow, Totals, law_of_changes};
 use keeper::{KeepFault, Keeper, has_room};
-use sqlaudit::opening::{Finding, find, find_first};
+use sqlaudit::opening::{Finding, Found, find, find_either};
 use sqlite::{Alter, Connection, ErrorCode};
 use sqlite_schema::schema::Schema;
 use std::alloc::Global;
@@ -231,79 +231,51 @@ impl<S: Alter> SqlKeeper<S> {
     /// # Errors
     ///
     /// The fault, with the connection as it is. `Version` comes where the row of the office says a version that is neither 1
-    /// nor 2; `Shape` where the tables are those of no office of the version that it says. The office is as it was.
+    /// nor 2, and `Shape` where the tables are those of no office that keeps every rule; then nothing was tried. After any
+    /// other fault, too, the office is as it was.
     pub fn migrate(
         alloc: Global,
         mut conn: Connection<S>,
     ) -> Result<SqlKeeper<S>, (OpenFault, Connection<S>)>
-        ensures migrated { (s : State) → KeepsFirst (state S.Store conn) s
-            → IfOk result (λ k. ⟦<SqlKeeper<S> as Keeper>⟧.means k s) }
-        ensures means { (s : State) → KeepsState (state S.Store conn) s
+        ensures means { (s : State) → IsOfficeFile (state S.Store conn) s
             → IfOk result (λ k. ⟦<SqlKeeper<S> as Keeper>⟧.means k s) }
         ensures accepts { HasOurs (state S.Store conn)
             → IfOk result (λ k. ⟦<SqlKeeper<S> as Keeper>⟧.is_honest k
-            → (s : State) × ⟦<SqlKeeper<S> as Keeper>⟧.means k s) }
+            → (s : State) × IsOfficeFile (state S.Store conn) s
+            × ⟦<SqlKeeper<S> as Keeper>⟧.means k s) }
+        ensures same { (s : State) → KeepsState (state S.Store conn) s
+            → IfOk result (λ k. LeavesUntouched (state S.Store conn) (state S.Store k.conn)) }
         ensures honest { IfOk result (λ k. HasCleanDisk (state S.Store k.conn)
             → ⟦<SqlKeeper<S> as Keeper>⟧.is_honest k) }
         ensures opened { IfOk result (λ k. ⟦<SqlKeeper<S> as Keeper>⟧.is_honest k
             → ⟦<SqlKeeper<S> as Keeper>⟧.is_open k) }
         ensures none { IfOk result (λ k. ⟦<SqlKeeper<S> as Keeper>⟧.faults k ≡ 0) }
-        ensures durable { (s : State) → KeepsFirst (state S.Store conn) s
-            → IfOk result (λ k. ⟦<SqlKeeper<S> as Keeper>⟧.is_honest k
+        ensures durable { IfOk result (λ k. ⟦<SqlKeeper<S> as Keeper>⟧.is_honest k → (s : State)
+            → ⟦<SqlKeeper<S> as Keeper>⟧.means k s
             → LeavesAlone ⟦<SqlKeeper<S> as Keeper>⟧.leaves ⟦<SqlKeeper<S> as Keeper>⟧.leaves_whole
             k s) }
-        ensures kept { (s : State) → KeepsFirst (state S.Store conn) s
-            → IfErr result (λ e. KeepsFirst (state S.Store e.1) s) }
-        ensures crash { (s : State) → KeepsFirst (state S.Store conn) s
-            → IfErr result (λ e. AddsOnly v2 (state S.Store conn) (state S.Store e.1) s) }
         ensures version { HasOurs (state S.Store conn) → IfErr result (λ e. e.0 ≡ OpenFault.Version
             → HasCleanDisk (state S.Store e.1) → IsTrue (state S.Store conn).is_open
-            → IsFound v2 Finding.OtherVersion (state S.Store conn).now
-            × IsFound v1 Finding.OtherVersion (state S.Store conn).now) }
+            → IsEither Found.OtherVersion (state S.Store conn).now) }
+        ensures shape { HasOurs (state S.Store conn) → IfErr result (λ e. e.0 ≡ OpenFault.Shape
+            → HasCleanDisk (state S.Store e.1) → IsTrue (state S.Store conn).is_open
+            → IsEither Found.Damaged (state S.Store conn).now) }
         ensures told { IfErr result (λ e. e.0 ≢ OpenFault.Exists) }
+        ensures kept { IfErr result (λ e. OnlyLooks (state S.Store conn) (state S.Store e.1)) }
+        ensures crash { (s : State) → KeepsFirst (state S.Store conn) s
+            → IfErr result (λ e. AddsOnly v2 (state S.Store conn) (state S.Store e.1) s) }
+        ensures untouched { (s : State) → KeepsState (state S.Store conn) s
+            → IfErr result (λ e. LeavesUntouched (state S.Store conn) (state S.Store e.1)) }
+        ensures unharmed { IfErr result (λ e. IsRefusedFile e.0
+            → LeavesUntouched (state S.Store conn) (state S.Store e.1)) }
     {
-        match find(&mut conn, alloc) {
-            Ok(Finding::Sound) => Ok(SqlKeeper {
+        match find_either(&mut conn, alloc) {
+            Ok(Found::Second) => Ok(SqlKeeper {
                 conn,
                 faults: 0,
                 alloc,
             }),
-            Ok(Finding::OtherVersion) => SqlKeeper::migrate_first(alloc, conn),
-            Ok(Finding::Damaged) => Err((OpenFault::Shape, conn)),
-            Err(error) => Err((open_fault_of(error), conn)),
-        }
-    }
-
-    // Takes an office file of version 1 over to version 2.
-    fn migrate_first(
-        alloc: Global,
-        mut conn: Connection<S>,
-    ) -> Result<SqlKeeper<S>, (OpenFault, Connection<S>)>
-        ensures migrated { (s : State) → KeepsFirst (state S.Store conn) s
-            → IfOk result (λ k. ⟦<SqlKeeper<S> as Keeper>⟧.means k s) }
-        ensures accepts { HasOurs (state S.Store conn)
-            → IfOk result (λ k. ⟦<SqlKeeper<S> as Keeper>⟧.is_honest k
-            → (s : State) × ⟦<SqlKeeper<S> as Keeper>⟧.means k s) }
-        ensures honest { IfOk result (λ k. HasCleanDisk (state S.Store k.conn)
-            → ⟦<SqlKeeper<S> as Keeper>⟧.is_honest k) }
-        ensures opened { IfOk result (λ k. ⟦<SqlKeeper<S> as Keeper>⟧.is_honest k
-            → ⟦<SqlKeeper<S> as Keeper>⟧.is_open k) }
-        ensures none { IfOk result (λ k. ⟦<SqlKeeper<S> as Keeper>⟧.faults k ≡ 0) }
-        ensures durable { (s : State) → KeepsFirst (state S.Store conn) s
-            → IfOk result (λ k. ⟦<SqlKeeper<S> as Keeper>⟧.is_honest k
-            → LeavesAlone ⟦<SqlKeeper<S> as Keeper>⟧.leaves ⟦<SqlKeeper<S> as Keeper>⟧.leaves_whole
-            k s) }
-        ensures kept { (s : State) → KeepsFirst (state S.Store conn) s
-            → IfErr result (λ e. KeepsFirst (state S.Store e.1) s) }
-        ensures crash { (s : State) → KeepsFirst (state S.Store conn) s
-            → IfErr result (λ e. AddsOnly v2 (state S.Store conn) (state S.Store e.1) s) }
-        ensures version { HasOurs (state S.Store conn) → IfErr result (λ e. e.0 ≡ OpenFault.Version
-            → HasCleanDisk (state S.Store e.1) → IsTrue (state S.Store conn).is_open
-            → IsFound v1 Finding.OtherVersion (state S.Store conn).now) }
-        ensures told { IfErr result (λ e. e.0 ≢ OpenFault.Exists) }
-    {
-        match find_first(&mut conn, alloc) {
-            Ok(Finding::Sound) => match upgrade_file(&mut conn) {
+            Ok(Found::First) => match upgrade_file(&mut conn) {
                 Ok(()) => Ok(SqlKeeper {
                     conn,
                     faults: 0,
@@ -311,8 +283,8 @@ impl<S: Alter> SqlKeeper<S> {
                 }),
                 Err(error) => Err((open_fault_of(error), conn)),
             },
-            Ok(Finding::OtherVersion) => Err((OpenFault::Version, conn)),
-            Ok(Finding::Damaged) => Err((OpenFault::Shape, conn)),
+            Ok(Found::OtherVersion) => Err((OpenFault::Version, conn)),
+            Ok(Found::Damaged) => Err((OpenFault::Shape, conn)),
             Err(error) => Err((open_fault_of(error), conn)),
         }
     }

@@ -6,6 +6,7 @@ ghost use Rattle.sqlite.specs.Held.{state};
 ghost use Rattle.boxes.specs.State.{State};
 ghost use Rattle.sqltables.specs.Schema.{v1, v2};
 ghost use Rattle.sqltables.specs.Means.{Means, LeavesOnly, AddsOnly};
+ghost use Rattle.sqlaudit.specs.Opened.{IsSettled, OnlyLooks};
 ghost use Rattle.sqlkeeper.specs.Committing.{EndsOpen};
 
 use sigv4::Allowance;
@@ -21,8 +22,8 @@ use sqlstatements::making::upgrade;
 pub(crate) fn upgrade_file<S: Alter>(conn: &mut Connection<S>) -> Result<(), Error>
     ensures made { (s : State) → Means v1 (state S.Store conn.old) s
         → OnOk result (Means v2 (state S.Store conn.new) s) }
-    ensures kept { (s : State) → Means v1 (state S.Store conn.old) s
-        → OnErr result (Means v1 (state S.Store conn.new) s) }
+    ensures kept { IsSettled (state S.Store conn.old)
+        → OnErr result (OnlyLooks (state S.Store conn.old) (state S.Store conn.new)) }
     ensures durable { (s : State) → Means v1 (state S.Store conn.old) s
         → OnOk result (LeavesOnly v2 (state S.Store conn.new) s) }
     ensures crash { (s : State) → Means v1 (state S.Store conn.old) s
