@@ -34,20 +34,23 @@ pub record Begins (old begun : State) : Type 1 where
 
 -- the transaction was rolled back
 module _ (old begun mid new : State) (begins : Begins old begun) (settled : IsSettled old) (mode : old.in_transaction ≡ false)
-    (keeps : HasCleanDisk mid → KeepsCommit begun mid) (before : Survives begun mid (λ db. ⊥)) (undone : HasCleanDisk new → IsRolledBack mid new) (after : Survives mid new (λ db. ⊥)) where
-  pub untouched : LeavesUntouched old new
-  untouched = record {
-    same = λ clean.
-        let back = undone clean in
-        let kept = keeps (omega (arith, clean, after.clean)) in
-        record {
-          was_open = λ is_open. begins.was_open (kept.was_open (back.was_open is_open));
-          now_is = λ is_open.
-              let mid_open = back.was_open is_open in
-              (back.undone is_open).0 ∙ kept.committed mid_open ∙ begins.committed_is ∙ sym (settled (begins.was_open (kept.was_open mid_open)));
-          committed_is = λ is_open. (back.undone is_open).1 ∙ kept.committed (back.was_open is_open) ∙ begins.committed_is;
-          mode = back.autocommit ∙ sym mode;
-        };
+    (keeps : HasCleanDisk mid → KeepsCommit begun mid) (undone : HasCleanDisk new → IsRolledBack mid new) where
+  pub undone_same : (HasCleanDisk new → HasCleanDisk mid) → HasCleanDisk new → SeesSame old new
+  undone_same early clean =
+      let back = undone clean in
+      let kept = keeps (early clean) in
+      record {
+        was_open = λ is_open. begins.was_open (kept.was_open (back.was_open is_open));
+        now_is = λ is_open.
+            let mid_open = back.was_open is_open in
+            (back.undone is_open).0 ∙ kept.committed mid_open ∙ begins.committed_is ∙ sym (settled (begins.was_open (kept.was_open mid_open)));
+        committed_is = λ is_open. (back.undone is_open).1 ∙ kept.committed (back.was_open is_open) ∙ begins.committed_is;
+        mode = back.autocommit ∙ sym mode;
+      }
+
+  pub untouched : (before : Survives begun mid (λ db. ⊥)) (after : Survives mid new (λ db. ⊥)) → LeavesUntouched old new
+  untouched before after = record {
+    same = undone_same (λ clean. omega (arith, clean, after.clean));
     crash = λ clean trees left. elim (after.crash clean trees left) [
       | inl was ↦ elim (before.crash (omega (arith, clean, after.clean)) trees was) [
         | inl first ↦ begins.leaves trees first
