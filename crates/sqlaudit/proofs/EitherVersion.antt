@@ -1,14 +1,18 @@
 -- What two looks at a file tell, for version 2 and then for version 1.
-use Rattle.std.proofs.Common.{◌≡◌, inl, inr, ℤ, pos, IsTrue, sym, ap, subst, ◌∙◌}
+use Rattle.std.proofs.Common.{◌≡◌, ◌≢◌, inl, inr, ℤ, pos, IsTrue, sym, ap, subst, ◌∙◌}
 use Rattle.sqlite_value.specs.declared.value.Value.TheVariants.{Int}
 use Rattle.sqlite.specs.Effect.{Database}
 use Rattle.sqlite.specs.State.{State}
 use Rattle.sqltables.specs.Schema.{v1, v2, first_version, second_version}
 use Rattle.sqlaudit.specs.declared.opening.Finding.{Finding}
-use Rattle.sqlaudit.specs.declared.opening.Finding.TheVariants.{OtherVersion}
+use Rattle.sqlaudit.specs.declared.opening.Finding.TheVariants.{OtherVersion, Damaged}
 use Rattle.sqlaudit.specs.declared.opening.Found.TheVariants as found
 use Rattle.sqlaudit.specs.Opened.{HasOurs, IsOurs, SeesSame, IsFound, IsEither, SaysVersion, AreDamaged, AreNeither}
 use Rattle.sqlaudit.proofs.Tested.{office_version}
+
+-- a file of another version is not found damaged
+pub other_is_whole : {finding : Finding} → finding ≡ OtherVersion → finding ≢ Damaged
+other_is_whole is damaged = let e : ◌≡◌ {A = Finding} OtherVersion Damaged = sym is ∙ damaged in cc
 
 -- one version is said
 one_said : (db : Database) (a b : ℤ) → SaysVersion db a → SaysVersion db b → a ≡ b

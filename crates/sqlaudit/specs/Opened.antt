@@ -152,7 +152,7 @@ pub record AreNeither (db : Database) : Type 0 where
   pub version : (version : ℤ) → SaysVersion db version → (version ≡ v1.number) ⊎ (version ≡ v2.number)
 
 -- what a file is found to be where both versions are looked for
-pub IsEither : Found → Database → Type 0
+abbrev pub IsEither : Found → Database → Type 0
 IsEither found.First db = (office : Office) × AreOffice v1 db office
 IsEither found.Second db = (office : Office) × AreOffice v2 db office
 IsEither found.OtherVersion db = (version : ℤ) × SaysVersion db version × (version ≢ v1.number) × (version ≢ v2.number)

@@ -2,7 +2,6 @@
 use Rattle.std.proofs.Common.{◌≡◌, inl, ℕ, ℤ, pos, List, [], ◌∷◌, map, drop, Bool, Option, true, false, None, Some, Result, Ok, Err, IfOk, IsTrue, arith, refl, sym, ap, subst, ◌∙◌}
 use Rattle.std.specs.Prelude.{◌↔◌, is_some, IsSome}
 use Rattle.std.specs.List.{list_all}
-use Rattle.sigtext.specs.Bytes.{same_bytes}
 use Rattle.sqlite_value.specs.declared.value.Value.TheVariants.{Null, Int, Text}
 use Rattle.sqlite_value.specs.Order.{Row}
 use Rattle.sqlite_sql.specs.Term.{holds, eval_all}
@@ -173,18 +172,18 @@ shows_limits rows_of (Ok x) id old new tables inside pends h =
 -- a row is there: so the key is limited, and may use the boxes that are shown
 reaches : (tables : Tables) (id box : List ℕ) (rows : List Row) (b : Bool) → AreLimits tables.limit id rows → (row : Row) → Has rows row → (IsTrue b ↔ ShowsText rows box)
     → IsTrue b ↔ ReachesBox tables id box
-reaches tables id box rows b are row has shows = (
+reaches tables id box rows b are row has tells = (
   λ shown limited.
-      let s = shows.0 shown in
+      let s = tells.0 shown in
       let e = are.sound s.row s.there in
       let same : e.0 ≡ box = sym (ap first_text e.1) ∙ s.first in
       subst (λ q. HasLimit tables id q) same e.2,
   λ may.
       let first = are.sound row has in
-      shows.1 (record { row = shown_name box; there = are.complete box (may (first.0, first.2)); first = refl }),
+      tells.1 (record { row = shown_name box; there = are.complete box (may (first.0, first.2)); first = refl }),
 )
 
 pub reaches_box : (tables : Tables) (id box : List ℕ) (rows : List Row) (r : Result Bool Error) → AreLimits tables.limit id rows → (row : Row) → Has rows row
     → IfOk r (λ b. IsTrue b ↔ ShowsText rows box) → IfOk r (λ b. IsTrue b ↔ ReachesBox tables id box)
-reaches_box tables id box rows (Ok b) are row has shows = reaches tables id box rows b are row has shows
-reaches_box tables id box rows (Err e) are row has shows = tt
+reaches_box tables id box rows (Ok b) are row has tells = reaches tables id box rows b are row has tells
+reaches_box tables id box rows (Err e) are row has tells = tt

@@ -12,7 +12,6 @@ use Rattle.sqlite_schema.specs.declared.schema.Table.{Table}
 use Rattle.sqlite_catalog.specs.Change.{created, next_tree, KeepsRows}
 use Rattle.sqlite_rules.specs.Edit.{numbered}
 use Rattle.sqlite_rules.specs.Cast.{cast_row, cast}
-use Rattle.sqlite_rules.specs.Lists.{Has}
 use Rattle.sqlite_rules.specs.declared.error.Rowids.TheVariants.{Chosen}
 use Rattle.sqlite.specs.Command.TheVariants.{CreateTable}
 use Rattle.sqlite.specs.Does.{lacks_sequence}
@@ -20,7 +19,7 @@ use Rattle.sqlite.specs.State.{State, Writes, Executes}
 use Rattle.sqlite.specs.Term.{Term, lit, col}
 use Rattle.sqlite.proofs.Callers.{runs_as}
 use Rattle.sqltables.specs.Schema.{Version, v1, v2, s6, s7, s8, s9, rules_table, key_box_table, staged_table}
-use Rattle.sqltables.specs.Tables.{Tables, TablesMean, RowsMean, IsOfficeRow, IsRulesRow, IsLimitRow, IsUnlimited}
+use Rattle.sqltables.specs.Tables.{Tables, TablesMean, RowsMean, IsOfficeRow, IsRulesRow, IsUnlimited}
 use Rattle.sqltables.specs.Changes.{with_allowance}
 use Rattle.sqltables.specs.Means.{IsWhole, Holds, HoldsMore, HoldsRules, AddsTable}
 use Rattle.sqltables.proofs.Says.{Makes}

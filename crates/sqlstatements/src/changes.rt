@@ -16,8 +16,8 @@ use crate::box_rows::insert_box;
 use crate::questions::totals;
 use crate::standing::standing_size;
 use crate::statements::{
-    delete_file, delete_pieces, insert_file, insert_key, insert_pieces, insert_receipt,
-    insert_limit, update_allowance, update_closes, update_file, update_revoked, update_totals,
+    delete_file, delete_pieces, insert_file, insert_key, insert_limit, insert_pieces,
+    insert_receipt, update_allowance, update_closes, update_file, update_revoked, update_totals,
 };
 use boxes::{BoxRow, Change, Command, NewFile, Role, Totals};
 use sqlite::{Alter, Error, ErrorCode, Transaction};

@@ -28,8 +28,8 @@ returns-in_ok-prepare-clause-found g c ours clean was_open =
     let early : HasCleanDisk (state g.S.Store c.examine.new.conn) = omega (arith, clean, c.prepare.ensures.survives.clean) in
     c.in_ok-finding.ensures.found (looks_at v (is_version c.args.format) old extent ours is not c.schema.ensures.live) early
 
-pub returns-else-eq-2-clause-found : goal.returns-else-eq-2-clause-found
-returns-else-eq-2-clause-found g c ours clean was_open =
+pub returns-else-ne-clause-found : goal.returns-else-ne-clause-found
+returns-else-ne-clause-found g c ours clean was_open =
     let old = state g.S.Store c.args.conn.now in
     let extent = c.extent_of-extent.result in
     let v = version_of c.args.format in

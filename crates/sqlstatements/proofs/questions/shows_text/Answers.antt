@@ -1,11 +1,10 @@
 use Rattle.std.proofs.Common.{◌≡◌, ◌⊎◌, inl, inr, ◌+◌, ◌++◌, [], ◌∷◌, ℕ, zero, suc, List, Bool, true, false, take, refl, sym, ap, subst, ◌∙◌}
-use Rattle.std.proofs.lemmas.List.{take_more, take_all}
+use Rattle.std.proofs.lemmas.List.{take_more}
 use Rattle.sigtext.specs.Bytes.{same_bytes}
-use Rattle.sqlite_value.specs.Order.{Row}
 use Rattle.sqlite_rules.specs.Lists.{Has}
 use Rattle.sqlite_rules.proofs.ListLemmas.{has_right}
 use Rattle.boxes.proofs.FileTotals.{texts_alike, same_as_itself}
-use Rattle.sqltables.specs.Questions.{first_text, text_in, ShowsText}
+use Rattle.sqltables.specs.Questions.{first_text, text_in}
 use Rattle.sqlstatements.proofs.questions.shows_text.Goals as goal
 
 has_last : {X : Type 0} (xs : List X) (y x : X) → Has (xs ++ y ∷ []) x → Has xs x ⊎ (x ≡ y)
