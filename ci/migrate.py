@@ -19,6 +19,7 @@ from office import (
 )
 from replays import ID, MOMENT, fault
 
+REFUSED = fault("the store refused")
 SAID_DONE = kit.Run(0, b"done\n", b"")
 LEAST_PAGE = 512  # bytes of a page, in a journal or not
 KILLS = 20
@@ -205,7 +206,7 @@ def test_broken(drop, count):
         before = left(file)
         if before[0] == tables.dump(whole):
             return f"{name}: nothing was broken"
-        owed = [DAMAGED] + [CANNOT_OPEN] * (own or "RENAME COLUMN" in name)
+        owed = [DAMAGED] + [CANNOT_OPEN] * own + [REFUSED] * ("RENAME COLUMN" in name)
         return difference(migrate(drop, file), *owed) or other(left(file), before)
 
     for (name, _, _), wrong in zip(cases, kit.side_by_side(each, list(enumerate(cases)))):

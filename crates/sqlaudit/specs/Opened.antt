@@ -1,5 +1,5 @@
 -- What is found in an office file that is opened.
-use Rattle.std.specs.Prelude.{◌≡◌, ◌≢◌, ◌⊎◌, ℕ, ℤ, ◌<◌, pos, codes, List, [], ◌∷◌, length, slice_get, Some, Contains, IsTrue, false}
+use Rattle.std.specs.Prelude.{◌≡◌, ◌≢◌, ◌⊎◌, ℕ, ℤ, ◌<◌, pos, codes, List, [], ◌∷◌, length, slice_get, Some, Contains, IsTrue, false, ⊤}
 use Rattle.sqlite_value.specs.declared.value.Value.TheVariants.{Int}
 use Rattle.sqlite_value.specs.Order.{Row, column}
 use Rattle.sqlite_rules.specs.Lists.{Has}
@@ -150,6 +150,13 @@ pub record AreNeither (db : Database) : Type 0 where
   pub first : (office : Office) → AreOffice v1 db office → ⊥
   pub second : (office : Office) → AreOffice v2 db office → ⊥
   pub version : (version : ℤ) → SaysVersion db version → (version ≡ v1.number) ⊎ (version ≡ v2.number)
+
+-- exactly the tables of the version that was found, by their names
+abbrev pub HasNamesOf : Found → Schema → Type 0
+HasNamesOf found.First schema = AreFirstNamed schema
+HasNamesOf found.Second schema = AreNamed schema
+HasNamesOf found.OtherVersion schema = ⊤
+HasNamesOf found.Damaged schema = ⊤
 
 -- what a file is found to be where both versions are looked for
 abbrev pub IsEither : Found → Database → Type 0

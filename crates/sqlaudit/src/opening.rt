@@ -11,7 +11,7 @@ ghost use Rattle.sqltables.specs.Inside.{seen, GoesOnWhere, GoesOnBegun};
 ghost use Rattle.sqltables.specs.Means.{IsRunning};
 ghost use Rattle.sqlaudit.specs.Formats.{version_of};
 ghost use Rattle.sqlaudit.specs.Listing.{OfVersion};
-ghost use Rattle.sqlaudit.specs.Opened.{HasOurs, IsOurs, AreTables, IsExtent, IsTableAt, BeginNamed, AreNamed, AreFirstNamed, AreNamedAs, IsAtRest, IsSettled, IsBegunAs, LeavesUntouched, IsFound, IsEither, AreOffice, AreOfVersion};
+ghost use Rattle.sqlaudit.specs.Opened.{HasOurs, IsOurs, AreTables, IsExtent, IsTableAt, BeginNamed, AreNamed, AreFirstNamed, AreNamedAs, IsAtRest, IsSettled, IsBegunAs, LeavesUntouched, IsFound, IsEither, HasNamesOf, AreOffice, AreOfVersion};
 
 use crate::digests::have_bytes;
 use crate::formats::Format;
@@ -324,6 +324,8 @@ pub fn find_either<S: Alter>(conn: &mut Connection<S>, alloc: Global) -> Result<
     ensures found { HasOurs (state S.Store conn.old) → HasCleanDisk (state S.Store conn.new)
         → IsTrue (state S.Store conn.old).is_open
         → IfOk result (λ found. IsEither found (state S.Store conn.old).now) }
+    ensures named { HasCleanDisk (state S.Store conn.new)
+        → IfOk result (λ found. HasNamesOf found (state S.Store conn.old).now.schema) }
     ensures opened { HasCleanDisk (state S.Store conn.new)
         → IfOk result (λ found. found ≢ Found.Damaged → IsTrue (state S.Store conn.new).is_open) }
     ensures at_rest { HasCleanDisk (state S.Store conn.new)

@@ -5,4 +5,4 @@ pub mod NotText
 pub mod Stays
 pub mod AtRest
 pub mod Migrated
-pub mod NotCommitted
+pub mod Asked

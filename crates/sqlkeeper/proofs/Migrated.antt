@@ -2,20 +2,26 @@
 use Rattle.std.proofs.Common.{◌≡◌, ◌≢◌, inl, inr, ℕ, length, IsTrue, sym, ap, subst, ◌∙◌}
 use Rattle.sqlite_rules.specs.Lists.{Has}
 use Rattle.sqlite_schema.specs.declared.schema.Schema.{Schema}
-use Rattle.sqlite_trees.specs.Tree.{Trees}
 use Rattle.sqlite.specs.Effect.{Database}
 use Rattle.sqlite.specs.State.{State, HasCleanDisk}
 use Rattle.boxes.specs.State.{State as Office}
-use Rattle.sqltables.specs.Schema.{Version, IsVersion, v1, v2, s6, s9, begun_schemas, first_version, second_version}
+use Rattle.sqltables.specs.Schema.{Version, IsVersion, v1, v2, begun_schemas, first_version, second_version}
 use Rattle.sqltables.specs.Means.{Holds, Means, AddsOnly}
 use Rattle.sqltables.specs.Tables.{tables_of}
 use Rattle.sqltables.specs.Kept.{KeepsState}
 use Rattle.sqlaudit.specs.declared.opening.Found.{Found}
 use Rattle.sqlaudit.specs.declared.opening.Found.TheVariants as found
-use Rattle.sqlaudit.specs.Opened.{HasOurs, SeesSame, OnlyLooks, LeavesUntouched, IsAtRest, AreOffice, IsEither}
+use Rattle.sqlaudit.specs.Opened.{HasOurs, OnlyLooks, LeavesUntouched, IsAtRest, IsEither}
 use Rattle.sqlaudit.proofs.Extents.{ours_begun}
 use Rattle.sqlkeeper.specs.Versions.{KeepsFirst, IsOfficeFile}
 use Rattle.sqlkeeper.proofs.AtRest.{means_old, means_new, means_same, keeps_same}
+
+-- an office of either version is not found damaged
+pub first_is_whole : {f : Found} → f ≡ found.First → f ≢ found.Damaged
+first_is_whole is damaged = let e : ◌≡◌ {A = Found} found.First found.Damaged = sym is ∙ damaged in cc
+
+pub second_is_whole : {f : Found} → f ≡ found.Second → f ≢ found.Damaged
+second_is_whole is damaged = let e : ◌≡◌ {A = Found} found.Second found.Damaged = sym is ∙ damaged in cc
 
 -- the tables of the two versions are not the same
 apart : (db : Database) (a b : Office) → Holds v1 db (tables_of a) → Holds v2 db (tables_of b) → ⊥

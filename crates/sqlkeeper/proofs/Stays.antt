@@ -1,5 +1,5 @@
 -- What a question to the file leaves of its keeper.
-use Rattle.std.proofs.Common.{◌≡◌, ◌≢◌, inl, inr, ℕ, Result, Ok, Err, IfOk, IfErr, OnOk, OnErr, IsTrue, arith, refl, subst}
+use Rattle.std.proofs.Common.{◌≡◌, ◌≢◌, inl, inr, ℕ, Result, Ok, Err, IfOk, IfErr, OnOk, OnErr, IsTrue, subst}
 use Rattle.std.specs.Prelude.{IsErr, IsErrOf}
 use Rattle.sqlite.specs.declared.error.Error.{Error}
 use Rattle.sqlite.specs.State.{HasCleanDisk}

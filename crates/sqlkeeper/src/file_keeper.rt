@@ -1,6 +1,6 @@
 //! The keeper over an office file.
 
-ghost use Rattle.std.specs.Prelude.{◌≡◌, ◌≢◌, ◌↔◌, pos, neg_ℤ, ◌≤ℤ◌, Ok, IfOk, IfErr, IsErr, IsTrue, ⊤};
+ghost use Rattle.std.specs.Prelude.{◌≡◌, ◌≢◌, ◌↔◌, ◌⊎◌, pos, neg_ℤ, ◌≤ℤ◌, Ok, IfOk, IfErr, IsErr, IsTrue, ⊤};
 ghost use Rattle.sigv4.specs.Credential.{IsKeyId, IsSecret};
 ghost use Rattle.boxes.specs.FirstState.{first_state};
 ghost use Rattle.boxes.specs.State.{State};
@@ -13,7 +13,7 @@ ghost use Rattle.sqltables.specs.Means.{IsBare, AddsOnly, AddsNothing};
 ghost use Rattle.sqltables.specs.Schema.{v2, s0};
 ghost use Rattle.sqltables.specs.Kept.{KeepsState, MayLeave, LeavesStates};
 ghost use Rattle.sqltables.specs.OneState.{one_kept};
-ghost use Rattle.sqlaudit.specs.Opened.{HasOurs, AreNamed, OnlyLooks, LeavesUntouched, IsFound, IsEither};
+ghost use Rattle.sqlaudit.specs.Opened.{HasOurs, AreFirstNamed, AreNamed, OnlyLooks, LeavesUntouched, IsFound, IsEither};
 ghost use Rattle.sqlkeeper.specs.Versions.{KeepsFirst, IsOfficeFile, IsRefusedFile};
 
 use crate::applying::apply_change;
@@ -243,6 +243,9 @@ impl<S: Alter> SqlKeeper<S> {
             → IfOk result (λ k. ⟦<SqlKeeper<S> as Keeper>⟧.is_honest k
             → (s : State) × IsOfficeFile (state S.Store conn) s
             × ⟦<SqlKeeper<S> as Keeper>⟧.means k s) }
+        ensures named { IfOk result (λ k. ⟦<SqlKeeper<S> as Keeper>⟧.is_honest k
+            → AreFirstNamed (state S.Store conn).now.schema
+            ⊎ AreNamed (state S.Store conn).now.schema) }
         ensures same { (s : State) → KeepsState (state S.Store conn) s
             → IfOk result (λ k. LeavesUntouched (state S.Store conn) (state S.Store k.conn)) }
         ensures honest { IfOk result (λ k. HasCleanDisk (state S.Store k.conn)
@@ -265,6 +268,9 @@ impl<S: Alter> SqlKeeper<S> {
         ensures crash { (s : State) → KeepsFirst (state S.Store conn) s
             → IfErr result (λ e. AddsOnly v2 (state S.Store conn) (state S.Store e.1) s) }
         ensures untouched { (s : State) → KeepsState (state S.Store conn) s
+            → IfErr result (λ e. LeavesUntouched (state S.Store conn) (state S.Store e.1)) }
+        ensures others { HasOurs (state S.Store conn)
+            → ((s : State) → IsOfficeFile (state S.Store conn) s → ⊥)
             → IfErr result (λ e. LeavesUntouched (state S.Store conn) (state S.Store e.1)) }
         ensures unharmed { IfErr result (λ e. IsRefusedFile e.0
             → LeavesUntouched (state S.Store conn) (state S.Store e.1)) }
@@ -343,14 +349,20 @@ impl<S: Alter> Keeper for SqlKeeper<S> {
         let Ok(id) = str::from_utf8(id) else {
             return Ok(true);
         };
-        counted(&mut self.faults, asking::may_use(&mut self.conn, id, in_box))
+        counted(
+            &mut self.faults,
+            asking::may_use(&mut self.conn, id, in_box),
+        )
     }
 
     fn has_limit(&mut self, id: &[u8], in_box: &[u8]) -> Result<bool, KeepFault> {
         let Ok(id) = str::from_utf8(id) else {
             return Ok(false);
         };
-        counted(&mut self.faults, asking::has_limit(&mut self.conn, id, in_box))
+        counted(
+            &mut self.faults,
+            asking::has_limit(&mut self.conn, id, in_box),
+        )
     }
 
     fn box_row(&mut self, name: &[u8]) -> Result<Option<BoxRow>, KeepFault> {

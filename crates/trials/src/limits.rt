@@ -1,6 +1,6 @@
 //! Keys that are limited to boxes, and an office that forgives clocks that run ahead. What is owed stands in `owed`.
 use crate::boxed::{add_box, settings};
-use crate::owed::{DONE, FIRST_ABC, NO_CLERK, NO_COMMAND, NO_FILE, NOT_POSSIBLE};
+use crate::owed::{DONE, FIRST_ABC, HEAD_OF_NO_CLERK, NO_CLERK, NO_COMMAND, NO_FILE, NOT_POSSIBLE};
 use crate::published::{DATE, EXPIRED, NO_BOX, NOT_YET, REQUEST};
 use crate::rows::{ask, by_link, counts, expect, holds, obey};
 use boxes::Mode;
@@ -30,6 +30,8 @@ pub(crate) fn limiting<K: Keeper>(office: &mut Office<K>) -> Result<(), Fail> {
     let without_length = by_link(office.alloc, b"PUT", b"/b2/a.txt", None)?;
     expect(office, &without_length, DATE, NO_CLERK)?;
     fetch_by_link(office, b"/b2/x", NO_CLERK)?;
+    let head = by_link(office.alloc, b"HEAD", b"/b2/x", None)?;
+    expect(office, &head, DATE, HEAD_OF_NO_CLERK)?;
     fetch_by_link(office, b"/none/x", NO_CLERK)?;
     fetch_by_link(office, b"/", NO_CLERK)?;
     fetch_by_link(office, b"/in/zz", NO_FILE)?;

@@ -2,9 +2,9 @@ use Rattle.std.proofs.Common.{refl, subst, List, ℕ}
 use Rattle.boxes.specs.Rows.{key_of}
 use Rattle.links.specs.Admits.{IsSignedBy}
 use Rattle.links.specs.Judging.{FailsAt}
-use Rattle.links.specs.Moments.{HasBegun, moment_with}
+use Rattle.links.specs.Moments.{moment_with}
 use Rattle.office.proofs.Deciding.{HasKey, key_unknown, key_revoked}
-use Rattle.office.proofs.Judged.{asked_none, asked_some, judged}
+use Rattle.office.proofs.Judged.{asked_none, asked_some, judged, fails_alike}
 use Rattle.office.proofs.office.Office.admit.Goals as goal
 
 pub returns-in-Ok-None-clause-admits : goal.returns-in-Ok-None-clause-admits
@@ -20,7 +20,7 @@ pub returns-in-Ok-judge-clause-admits : goal.returns-in-Ok-judge-clause-admits
 returns-in-Ok-judge-clause-admits g c s r p kept is =
     let honest = c.in-Ok.ensures.rest.honest kept.is_honest in
     let there = asked_some s c.key_id.result.now p.key_id c.in-Ok-Some.field-0 c.in-Ok-Some.key (c.in-Ok-Some.ensures.value s kept.means kept.sound honest) c.in-Ok-Some.field-0-is (c.key_id.ensures r p is) in
-    let office = c.in-Ok.ensures.value s (c.in-Ok-Some.ensures.rest.same s kept.means) kept.sound kept.is_honest in
+    let begun = c.in-Ok.ensures.begun s r p (record { means = c.in-Ok-Some.ensures.rest.same s kept.means; sound = kept.sound; is_honest = kept.is_honest }) is in
     let right = c.in-Ok-judge.ensures r p is in (
       key_of c.in-Ok-Some.key,
       record {
@@ -28,7 +28,7 @@ returns-in-Ok-judge-clause-admits g c s r p kept is =
         there = there;
         unrevoked = c.if-key.false;
         signed = subst (λ (t : List ℕ). IsSignedBy t r p) c.deref.ensures.value right.0;
-        begun = subst (λ (a : ℕ). HasBegun (moment_with a c.args.now) p.start) office.allowance right.1;
+        begun = begun.0 right.1;
         not_over = right.2;
       },
       refl,
@@ -38,8 +38,8 @@ pub returns-in-Ok-Some-clause-admits : goal.returns-in-Ok-Some-clause-admits
 returns-in-Ok-Some-clause-admits g c s r p kept is other =
     let honest = c.in-Ok.ensures.rest.honest kept.is_honest in
     let there = asked_some s c.key_id.result.now p.key_id c.in-Ok-Some.field-0 c.in-Ok-Some.key (c.in-Ok-Some.ensures.value s kept.means kept.sound honest) c.in-Ok-Some.field-0-is (c.key_id.ensures r p is) in
-    let office = c.in-Ok.ensures.value s (c.in-Ok-Some.ensures.rest.same s kept.means) kept.sound kept.is_honest in
+    let begun = c.in-Ok.ensures.begun s r p (record { means = c.in-Ok-Some.ensures.rest.same s kept.means; sound = kept.sound; is_honest = kept.is_honest }) is in
     let key : HasKey s p (key_of c.in-Ok-Some.key) = record { there = there; unrevoked = c.if-key.false } in
-    let fails = subst (λ (t : List ℕ). FailsAt c.in-Err-judge.refusal t r (moment_with c.in-Ok.office.allowance c.args.now) p) c.deref.ensures.value (c.in-Err-judge.ensures r p is) in
+    let fails = subst (λ (t : List ℕ). FailsAt c.in-Err-judge.refusal t r (moment_with c.in-Ok.allowance c.args.now) p) c.deref.ensures.value (c.in-Err-judge.ensures r p is) in
     judged s r c.args.now p (key_of c.in-Ok-Some.key) c.in-Err-judge.refusal is.well_formed key
-    (subst (λ (a : ℕ). FailsAt c.in-Err-judge.refusal (key_of c.in-Ok-Some.key).secret r (moment_with a c.args.now) p) office.allowance fails)
+    (fails_alike (key_of c.in-Ok-Some.key).secret r c.args.now c.in-Ok.allowance s.allowance p c.in-Err-judge.refusal begun fails)

@@ -3,7 +3,7 @@ use Rattle.sqlkeeper.proofs.Stays.{stays, carried}
 use Rattle.sqlkeeper.proofs.NotText.{no_box}
 use Rattle.std.specs.FinMap.{get}
 use Rattle.std.specs.Prelude.{◌≡◌, option_map, IfOk}
-use Rattle.std.proofs.Common.{refl, subst}
+use Rattle.std.proofs.Common.{subst}
 use Rattle.boxes.specs.Rows.{settings_of}
 use Rattle.sqlkeeper.proofs.file_keeper.SqlKeeperKeeper.box_row.Goals as goal
 

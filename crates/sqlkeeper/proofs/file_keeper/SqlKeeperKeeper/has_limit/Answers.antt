@@ -2,7 +2,7 @@ use Rattle.sqlite.specs.Held.{state}
 use Rattle.sqlkeeper.proofs.Stays.{stays, carried}
 use Rattle.sqlkeeper.proofs.NotText.{no_limit}
 use Rattle.std.specs.Prelude.{◌↔◌, IsTrue, IfOk}
-use Rattle.std.proofs.Common.{◌≡◌, true, false, refl, subst}
+use Rattle.std.proofs.Common.{◌≡◌, true, false, subst}
 use Rattle.boxes.specs.Limits.{IsLimitedTo}
 use Rattle.sqlkeeper.proofs.file_keeper.SqlKeeperKeeper.has_limit.Goals as goal
 

@@ -2,7 +2,7 @@ use Rattle.sqlite.specs.Held.{state}
 use Rattle.sqlkeeper.proofs.Stays.{stays, carried}
 use Rattle.sqlkeeper.proofs.NotText.{no_limit}
 use Rattle.std.specs.Prelude.{◌↔◌, IsTrue, IfOk}
-use Rattle.std.proofs.Common.{◌≡◌, true, false, refl, subst}
+use Rattle.std.proofs.Common.{refl, subst}
 use Rattle.boxes.specs.Limits.{MayUse}
 use Rattle.sqlkeeper.proofs.file_keeper.SqlKeeperKeeper.may_use.Goals as goal
 
