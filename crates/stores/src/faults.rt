@@ -76,10 +76,7 @@ const SECOND_DAMAGES: [(&str, &str); 7] = [
         "DROP TABLE more",
     ),
     ("CREATE INDEX more ON files (name)", "DROP INDEX more"),
-    (
-        "CREATE VIEW more AS SELECT id FROM keys",
-        "DROP VIEW more",
-    ),
+    ("CREATE VIEW more AS SELECT id FROM keys", "DROP VIEW more"),
 ];
 
 // What makes an office one of another version, whatever else is broken, and what mends it.
@@ -191,7 +188,11 @@ fn bar_each<S: Alter>(conn: &mut Connection<S>) -> Result<(), Fail> {
 fn bars<S: Alter + Drop>(mut office: Office<SqlKeeper<S>>) -> Result<(), Fail> {
     begin(&mut office.keeper)?;
     holds(Step::LimitKey.run(&mut office)?, "not limited")?;
-    let Office { mut keeper, alloc, .. } = office;
+    let Office {
+        mut keeper,
+        alloc,
+        ..
+    } = office;
     let before = told(alloc, &mut keeper)?;
     let mut conn = keeper.close();
     bar_each(&mut conn)?;

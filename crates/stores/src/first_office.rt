@@ -9,10 +9,10 @@ use std::test::Fail;
 use trials::boxed::begun;
 use trials::rows::holds;
 
-/// How many minutes east of UTC its clock is.
+// How many minutes east of UTC its clock is.
 const EAST: i16 = 60;
 
-// The tables of its keys, boxes, receipts, files and pieces.
+// The tables of its boxes, receipts, files and pieces.
 const OTHER_TABLES: [&str; 4] = [
     "CREATE TABLE boxes (name TEXT PRIMARY KEY NOT NULL, opens INTEGER NOT NULL CHECK (opens BETWEEN 0 AND 253402300799), closes INTEGER NOT NULL CHECK (closes BETWEEN 0 AND 253402300799), days TEXT NOT NULL, from_minute INTEGER NOT NULL, to_minute INTEGER NOT NULL, quota INTEGER NOT NULL CHECK (quota BETWEEN 0 AND 1000000000000), max_files INTEGER NOT NULL CHECK (max_files BETWEEN 0 AND 1000000), mode INTEGER NOT NULL CHECK (mode BETWEEN 0 AND 1), rule_kind INTEGER NOT NULL CHECK (rule_kind BETWEEN 0 AND 2), rule_text TEXT NOT NULL, used INTEGER NOT NULL, count INTEGER NOT NULL, CHECK (0 <= from_minute AND from_minute < to_minute AND to_minute <= 1440)) STRICT",
     "CREATE TABLE receipts (number INTEGER PRIMARY KEY NOT NULL, box TEXT NOT NULL REFERENCES boxes (name) ON DELETE RESTRICT ON UPDATE RESTRICT, name TEXT NOT NULL, length INTEGER NOT NULL, digest BLOB NOT NULL, moment INTEGER NOT NULL CHECK (moment BETWEEN 0 AND 253402300799), key_id TEXT NOT NULL REFERENCES keys (id) ON DELETE RESTRICT ON UPDATE RESTRICT) STRICT",
@@ -31,7 +31,7 @@ const ROWS: [&str; 5] = [
 
 const PIECE: &str = "INSERT INTO pieces VALUES ('in', ?1, ?2, ?3)";
 
-// The first two of its tables.
+/// How the tables of the office and of its keys are made.
 #[derive(Clone, Copy, Debug, PartialEq, Eq)]
 pub(crate) enum Making {
     /// As a program makes them.
@@ -41,6 +41,7 @@ pub(crate) enum Making {
 }
 
 impl Making {
+    // The two tables.
     fn tables(self) -> [&'static str; 2] {
         match self {
             Making::Exact => [
@@ -72,10 +73,7 @@ fn insert_pieces<S: Alter>(conn: &mut Connection<S>) -> Result<(), Error> {
 }
 
 /// Makes it in an empty database.
-pub(crate) fn make_first<S: Alter>(
-    conn: &mut Connection<S>,
-    making: Making,
-) -> Result<(), Error> {
+pub(crate) fn make_first<S: Alter>(conn: &mut Connection<S>, making: Making) -> Result<(), Error> {
     execute_each(conn, &making.tables())?;
     execute_each(conn, &OTHER_TABLES)?;
     execute_each(conn, &ROWS)?;

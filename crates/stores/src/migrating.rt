@@ -1,12 +1,13 @@
 //! Office files of version 1 that are taken over to version 2, and those that are not.
 use crate::faults::DAMAGES;
 use crate::first_office::{Making, first_in_memory};
-use crate::images::{Found, Image, Job, NO_STOP, done_with, empty_image, found_in, job_on};
-use crate::steps::Step;
+use crate::images::{Found, Image, Job, done_with, empty_image, found_in};
+use crate::steps::{Step, run_each};
 use crate::stops::{Count, Plan};
 use sqlkeeper::OpenFault;
 use std::alloc::Global;
 use std::test::Fail;
+use trials::boxed::begun;
 use trials::errands::Errand;
 use trials::rows::holds;
 use trials::telling::told;
@@ -72,16 +73,29 @@ fn first_told(alloc: Global) -> Result<Vec<u8>, Fail> {
     told(alloc, &mut first_in_memory(alloc)?.keeper)
 }
 
+// What the office of `LIMITED` tells.
+fn limited_told(alloc: Global) -> Result<Vec<u8>, Fail> {
+    let mut office = begun(alloc, 0)?;
+    run_each(&mut office, &LIMITED)?;
+    told(alloc, &mut office.keeper)
+}
+
+// What the job leaves, opened and closed again: the log is then as short as it can be.
+fn settled(alloc: Global, image: &Image, job: Job<'_>) -> Result<Image, Fail> {
+    let left = done_with(alloc, image, job)?.written;
+    Ok(done_with(alloc, &left, Job::Write(""))?.written)
+}
+
 // The file of that office.
 fn first_image(alloc: Global, making: Making) -> Result<Image, Fail> {
-    Ok(done_with(alloc, &empty_image(alloc), Job::MakeFirst(making))?.written)
+    settled(alloc, &empty_image(alloc), Job::MakeFirst(making))
 }
 
 // A file is taken over.
 fn taken_over(alloc: Global, image: &Image) -> Result<Image, Fail> {
     let outcome = done_with(alloc, image, Job::Steps(&MIGRATE))?;
     holds(outcome.steps == 1, "not taken over")?;
-    Ok(outcome.written)
+    settled(alloc, &outcome.written, Job::Write(""))
 }
 
 // What is found in the file.
@@ -101,10 +115,16 @@ fn refuses(alloc: Global, image: &Image, sql: &str, want: OpenFault) -> Result<(
     Ok(())
 }
 
-// The file is refused after these statements.
-fn refuses_after(alloc: Global, image: &Image, sql: &str, want: OpenFault) -> Result<(), Fail> {
-    let broken = done_with(alloc, image, Job::Write(sql))?.written;
-    refuses(alloc, &broken, sql, want)
+// The file that these statements leave of this one; it is refused.
+fn refused_after(
+    alloc: Global,
+    image: &Image,
+    sql: &str,
+    want: OpenFault,
+) -> Result<Image, Fail> {
+    let broken = settled(alloc, image, Job::Write(sql))?;
+    refuses(alloc, &broken, sql, want)?;
+    Ok(broken)
 }
 
 // The file is refused after each of these.
@@ -115,7 +135,7 @@ fn refuses_each(
     want: OpenFault,
 ) -> Result<(), Fail> {
     for damage in damages {
-        refuses_after(alloc, image, damage, want)?;
+        refused_after(alloc, image, damage, want)?;
     }
     Ok(())
 }
@@ -134,12 +154,9 @@ fn a_first_office_is_taken_over(rt: HostRuntime) -> Result<(), Fail> {
 #[test]
 fn a_second_office_stays(rt: HostRuntime) -> Result<(), Fail> {
     let alloc = rt.alloc();
-    let image = done_with(alloc, &empty_image(alloc), Job::Steps(&LIMITED))?.written;
-    let before = found_at(alloc, &image)?;
-    assert!(rt; matches!(&before, Found::Second(_)));
-    let after = taken_over(alloc, &image)?;
-    assert!(rt; after == image);
-    assert!(rt; found_at(alloc, &after)? == before);
+    let image = settled(alloc, &empty_image(alloc), Job::Steps(&LIMITED))?;
+    assert!(rt; found_at(alloc, &image)? == Found::Second(limited_told(alloc)?));
+    assert!(rt; taken_over(alloc, &image)? == image);
     Ok(())
 }
 
@@ -155,13 +172,23 @@ fn no_other_version_is_taken_over(rt: HostRuntime) -> Result<(), Fail> {
 #[test]
 fn no_damaged_office_is_taken_over(rt: HostRuntime) -> Result<(), Fail> {
     let alloc = rt.alloc();
-    refuses(alloc, &empty_image(alloc), "nothing", OpenFault::Shape)?;
+    refused_after(alloc, &empty_image(alloc), "", OpenFault::Shape)?;
     let image = first_image(alloc, Making::Exact)?;
     refuses_each(alloc, &image, &FIRST_DAMAGES, OpenFault::Shape)?;
     // The tables of version 1 under the number 2, and those of version 2 under the number 1.
-    refuses_after(alloc, &image, "UPDATE office SET version = 2", OpenFault::Shape)?;
+    refused_after(
+        alloc,
+        &image,
+        "UPDATE office SET version = 2",
+        OpenFault::Shape,
+    )?;
     let second = taken_over(alloc, &image)?;
-    refuses_after(alloc, &second, "UPDATE office SET version = 1", OpenFault::Shape)?;
+    refused_after(
+        alloc,
+        &second,
+        "UPDATE office SET version = 1",
+        OpenFault::Shape,
+    )?;
     let loose = first_image(alloc, Making::Loose)?;
     assert!(rt; found_at(alloc, &loose)? == Found::First(first_told(alloc)?));
     refuses_each(alloc, &loose, &LOOSE_DAMAGES, OpenFault::Shape)
@@ -172,8 +199,7 @@ fn what_is_mended_is_taken_over(rt: HostRuntime) -> Result<(), Fail> {
     let alloc = rt.alloc();
     let image = first_image(alloc, Making::Exact)?;
     for (damage, mend) in DAMAGES {
-        refuses_after(alloc, &image, damage, OpenFault::Shape)?;
-        let broken = done_with(alloc, &image, Job::Write(damage))?.written;
+        let broken = refused_after(alloc, &image, damage, OpenFault::Shape)?;
         let mended = done_with(alloc, &broken, Job::Write(mend))?.written;
         let found = found_at(alloc, &mended)?;
         assert!(rt; found == Found::First(first_told(alloc)?), "{damage}");
@@ -199,7 +225,7 @@ fn a_session_that_migrates_stops(rt: HostRuntime) -> Result<(), Fail> {
 fn migrating_what_is_new_stops(rt: HostRuntime) -> Result<(), Fail> {
     let alloc = rt.alloc();
     let image = done_with(alloc, &empty_image(alloc), Job::Steps(&LIMITED))?.written;
-    let states = vec![in alloc; found_at(alloc, &image)?, found_at(alloc, &image)?]?;
+    let states = vec![in alloc; Found::Second(limited_told(alloc)?), Found::Second(limited_told(alloc)?)]?;
     let plan = Plan {
         steps: &MIGRATE,
         image,
@@ -210,19 +236,18 @@ fn migrating_what_is_new_stops(rt: HostRuntime) -> Result<(), Fail> {
     Ok(())
 }
 
-// Want of memory leaves the office as it was, or taken over where that was acknowledged.
+// Want of memory leaves the office as it was, or taken over.
 #[test]
 fn migrating_may_want_memory(rt: HostRuntime) -> Result<(), Fail> {
     let alloc = rt.alloc();
     let image = first_image(alloc, Making::Exact)?;
-    let outcome = job_on(alloc, &image.log, &image.db, NO_STOP, Job::Steps(&MIGRATE))?;
-    let found = found_at(alloc, &outcome.written)?;
-    let told = first_told(alloc)?;
-    if outcome.steps == 1 {
-        assert!(rt; found == Found::Second(told), "not the office taken over");
-        return Ok(());
+    let outcome = done_with(alloc, &image, Job::Steps(&MIGRATE))?;
+    match found_at(alloc, &outcome.written)? {
+        Found::First(text) => assert!(rt; outcome.steps == 0 && text == first_told(alloc)?),
+        Found::Second(text) => assert!(rt; text == first_told(alloc)?),
+        Found::Nothing => assert!(rt; false, "no office"),
     }
-    assert!(rt; matches!(outcome.fault, Some(OpenFault::Memory | OpenFault::Store)), "another fault");
-    assert!(rt; found == Found::First(told), "another office");
+    let is_want = matches!(outcome.fault, Some(OpenFault::Memory | OpenFault::Store));
+    assert!(rt; outcome.steps == 1 || outcome.fault.is_none() || is_want, "another fault");
     Ok(())
 }
