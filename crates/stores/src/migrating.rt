@@ -116,12 +116,7 @@ fn refuses(alloc: Global, image: &Image, sql: &str, want: OpenFault) -> Result<(
 }
 
 // The file that these statements leave of this one; it is refused.
-fn refused_after(
-    alloc: Global,
-    image: &Image,
-    sql: &str,
-    want: OpenFault,
-) -> Result<Image, Fail> {
+fn refused_after(alloc: Global, image: &Image, sql: &str, want: OpenFault) -> Result<Image, Fail> {
     let broken = settled(alloc, image, Job::Write(sql))?;
     refuses(alloc, &broken, sql, want)?;
     Ok(broken)
@@ -225,7 +220,10 @@ fn a_session_that_migrates_stops(rt: HostRuntime) -> Result<(), Fail> {
 fn migrating_what_is_new_stops(rt: HostRuntime) -> Result<(), Fail> {
     let alloc = rt.alloc();
     let image = done_with(alloc, &empty_image(alloc), Job::Steps(&LIMITED))?.written;
-    let states = vec![in alloc; Found::Second(limited_told(alloc)?), Found::Second(limited_told(alloc)?)]?;
+    let states = vec![in alloc;
+        Found::Second(limited_told(alloc)?),
+        Found::Second(limited_told(alloc)?),
+    ]?;
     let plan = Plan {
         steps: &MIGRATE,
         image,
@@ -248,6 +246,9 @@ fn migrating_may_want_memory(rt: HostRuntime) -> Result<(), Fail> {
         Found::Nothing => assert!(rt; false, "no office"),
     }
     let is_want = matches!(outcome.fault, Some(OpenFault::Memory | OpenFault::Store));
-    assert!(rt; outcome.steps == 1 || outcome.fault.is_none() || is_want, "another fault");
+    assert!(rt;
+        outcome.steps == 1 || outcome.fault.is_none() || is_want,
+        "another fault"
+    );
     Ok(())
 }
