@@ -187,7 +187,7 @@ fn migrated<S: Alter + Drop>(
 }
 
 // What is found by a connection.
-fn found<S: Alter + Drop>(
+fn find<S: Alter + Drop>(
     alloc: Global,
     conn: Connection<S>,
 ) -> Result<(Found, Connection<S>), Fail> {
@@ -208,7 +208,7 @@ fn found<S: Alter + Drop>(
 
 // Opens the files, and finds what is in them.
 fn look_at<D: Disk + Drop>(alloc: Global, disks: Files<D>) -> Result<Done<D>, Fail> {
-    let (found, conn) = found(alloc, connect(alloc, disks)?)?;
+    let (found, conn) = find(alloc, connect(alloc, disks)?)?;
     Ok(Done {
         steps: 0,
         fault: None,
