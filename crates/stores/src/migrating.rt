@@ -1,7 +1,7 @@
 //! Office files of version 1 that are taken over to version 2, and those that are not.
 use crate::faults::DAMAGES;
 use crate::first_office::{Making, first_in_memory};
-use crate::images::{Found, Image, Job, done_with, empty_image, found_in};
+use crate::images::{Found, Image, Job, Outcome, done_with, empty_image, found_in};
 use crate::steps::{Step, run_each};
 use crate::stops::{Count, Plan};
 use sqlkeeper::OpenFault;
@@ -234,22 +234,25 @@ fn migrating_what_is_new_stops(rt: HostRuntime) -> Result<(), Fail> {
     Ok(())
 }
 
-// Want of memory leaves the office as it was.
+// Whether a file is one that this outcome may leave: taken over, or as it was. A disk that failed leaves either.
+fn may_leave(alloc: Global, outcome: &Outcome, image: &Image) -> Result<bool, Fail> {
+    let found = found_at(alloc, image)?;
+    let stays = found == Found::First(first_told(alloc)?);
+    let is_new = found == Found::Second(first_told(alloc)?);
+    match (outcome.steps, outcome.fault) {
+        (1, None) => Ok(is_new),
+        (0, None | Some(OpenFault::Memory)) => Ok(stays),
+        (0, Some(OpenFault::Store)) => Ok(stays || is_new),
+        _ => Ok(false),
+    }
+}
+
 #[test]
 fn migrating_may_want_memory(rt: HostRuntime) -> Result<(), Fail> {
     let alloc = rt.alloc();
     let image = first_image(alloc, Making::Exact)?;
     let outcome = done_with(alloc, &image, Job::Steps(&MIGRATE))?;
-    let found = found_at(alloc, &outcome.written)?;
-    if outcome.steps == 1 {
-        assert!(rt; found == Found::Second(first_told(alloc)?));
-        return Ok(());
-    }
-    let is_want = matches!(
-        outcome.fault,
-        None | Some(OpenFault::Memory | OpenFault::Store)
-    );
-    assert!(rt; is_want, "another fault");
-    assert!(rt; found == Found::First(first_told(alloc)?));
+    assert!(rt; may_leave(alloc, &outcome, &outcome.written)?);
+    assert!(rt; may_leave(alloc, &outcome, &outcome.synced)?);
     Ok(())
 }
