@@ -246,7 +246,7 @@ impl<S: Alter> SqlKeeper<S> {
         ensures named { IfOk result (λ k. ⟦<SqlKeeper<S> as Keeper>⟧.is_honest k
             → AreFirstNamed (state S.Store conn).now.schema
             ⊎ AreNamed (state S.Store conn).now.schema) }
-        ensures same { (s : State) → KeepsState (state S.Store conn) s
+        ensures same { (AreFirstNamed (state S.Store conn).now.schema → ⊥)
             → IfOk result (λ k. LeavesUntouched (state S.Store conn) (state S.Store k.conn)) }
         ensures honest { IfOk result (λ k. HasCleanDisk (state S.Store k.conn)
             → ⟦<SqlKeeper<S> as Keeper>⟧.is_honest k) }
@@ -267,7 +267,7 @@ impl<S: Alter> SqlKeeper<S> {
         ensures kept { IfErr result (λ e. OnlyLooks (state S.Store conn) (state S.Store e.1)) }
         ensures crash { (s : State) → KeepsFirst (state S.Store conn) s
             → IfErr result (λ e. AddsOnly v2 (state S.Store conn) (state S.Store e.1) s) }
-        ensures untouched { (s : State) → KeepsState (state S.Store conn) s
+        ensures untouched { (AreFirstNamed (state S.Store conn).now.schema → ⊥)
             → IfErr result (λ e. LeavesUntouched (state S.Store conn) (state S.Store e.1)) }
         ensures others { HasOurs (state S.Store conn)
             → ((s : State) → IsOfficeFile (state S.Store conn) s → ⊥)

@@ -77,3 +77,19 @@ returns-in-Ok-Second-clause-named g c clean = inr (subst (λ f. HasNamesOf f (st
 
 pub returns-in-Ok-clause-named : goal.returns-in-Ok-clause-named
 returns-in-Ok-clause-named g c clean = inl (subst (λ f. HasNamesOf f (state g.S.Store c.args.conn).now.schema) c.in-Ok-First.field-0-is (c.in-Ok-First.ensures.named (c.upgrade_file.ensures.honest clean)))
+
+-- ---- a file that has other tables than those of version 1
+
+pub returns-in-Ok-clause-same : goal.returns-in-Ok-clause-same
+returns-in-Ok-clause-same g c other =
+    let old = state g.S.Store c.args.conn in
+    let mid = state g.S.Store c.find_either.new.conn in
+    let end = state g.S.Store c.upgrade_file.new.conn in
+    untouched_never old mid c.in-Ok-First.ensures.rest end c.upgrade_file.ensures.honest (λ clean. other (subst (λ f. HasNamesOf f old.now.schema) c.in-Ok-First.field-0-is (c.in-Ok-First.ensures.named clean)))
+
+pub returns-in-Err-upgrade_file-clause-untouched : goal.returns-in-Err-upgrade_file-clause-untouched
+returns-in-Err-upgrade_file-clause-untouched g c other =
+    let old = state g.S.Store c.args.conn in
+    let mid = state g.S.Store c.find_either.new.conn in
+    let end = state g.S.Store c.upgrade_file.new.conn in
+    untouched_never old mid c.in-Ok-First.ensures.rest end c.upgrade_file.ensures.honest (λ clean. other (subst (λ f. HasNamesOf f old.now.schema) c.in-Ok-First.field-0-is (c.in-Ok-First.ensures.named clean)))
