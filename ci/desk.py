@@ -17,7 +17,7 @@ import tables
 from expected import SECRET, answer, quoted
 from office import CLERK, DONE, OBEYED, difference, fetched, get, malformed, post, put, receipt, run_all
 from orders import BotocoreOrder
-from replays import ID, MOMENT, fault, signed
+from replays import ID, MOMENT, REQUEST, fault, signed
 from serve import Server, curl, open_office
 
 LATER = "20130524T000001Z"
@@ -56,13 +56,20 @@ ODD_LINES = [
     "box add", "box add b", f"box add B {ANY} 100 2 keep any", f"box add {'b' * 64} {ANY} 100 2 keep any", f"box add  {ANY} 100 2 keep any",
     f"box add a_b {ANY} 100 2 keep any", f"box add b {ANY} 100 2 keep any any", "box close in", "box close in 20130524T000001", "box close in  20130524T000001Z",
     "box close IN 20130524T000001Z", "box close in 20130524T000001Z ", "box open in 20130524T000001Z", "file drop", "file drop in", "file drop in ",
-    "file drop IN a", "file drop in " + "a" * 1025, "file drop  a", "file take in a", "office allow 900", "key limit k2 in", "done",
+    "file drop IN a", "file drop in " + "a" * 1025, "file drop  a", "file take in a", "done",
+    "key limit", "key limit k2", "key limit k2 ", "key limit  in", "key limit k2  in", "key limit k2 in ", "key limit k2 in in", "key limit k2 IN",
+    "key limit k2 in/a", "key limit k2 " + "b" * 64, "key limit k/2 in", "key limit " + "k" * 65 + " in", "key limits k2 in", "Key limit k2 in",
+    "key unlimit k2 in", "office", "office allow", "office allow ", "office  allow 1", "office allow  1", "office allow 1 ", "office allow 1 1",
+    "office allow 901", "office allow 0900", "office allow 00", "office allow 01", "office allow 1000", "office allow 18446744073709551616",
+    "office allow -1", "office allow +1", "office allow 1s", "office allow 1e2", "office allow ²", "office allow 0x1", "Office allow 1", "office allows 1",
+    "offices allow 1",
 ]
 # These can't be given as words.
 ODD_BYTES = [
     f"box add b {ANY} 100 2 keep begins a".encode() + byte for byte in [b"\xff", b"\x7f", b"\t", b"\xc3"]
 ] + [
-    b"key add k3 link s\xff", b"key add k3 link s\x7f", b"key add k3 link s\t", b"key revoke k2\n", b"key revoke k\x002", b"file drop in a\x7f", b"file drop in \xff", b"file drop in a\tb", b"box close in 20130524T000001Z\r\n"]
+    b"key add k3 link s\xff", b"key add k3 link s\x7f", b"key add k3 link s\t", b"key revoke k2\n", b"key revoke k\x002", b"file drop in a\x7f", b"file drop in \xff", b"file drop in a\tb", b"box close in 20130524T000001Z\r\n",
+    b"key limit k2 in\n", b"key limit k2 i\xff", b"office allow 1\n", b"office allow 1\x00", b"office allow \xff"]
 MALFORMED_LINES = ODD_LINES + [WORDS.format(**RIGHT | {name: word}) for name, words in WRONG.items() for word in words] + [
     WORDS.format(**RIGHT | {"start": "0900", "end": "0900"}), WORDS.format(**RIGHT | {"start": "0901", "end": "0900"}),
     WORDS.format(**RIGHT).replace(" keep", "  keep"),
@@ -70,15 +77,18 @@ MALFORMED_LINES = ODD_LINES + [WORDS.format(**RIGHT | {name: word}) for name, wo
 NOT_POSSIBLE_LINES = [
     "key add k2 link other", "key add gone link s3cr3t", f"key add {ID} clerk s3cr3t", "key revoke k9", "key revoke gone", f"key revoke {ID}",
     BOX, f"box add in {ANY} 1 1 replace any", "box close out 20130524T000001Z", "file drop in nothing", "file drop out a", "file drop in a",
+    "key limit k2 none", "key limit k9 in", "key limit gone in", f"key limit {ID} in", "key limit lim in",
 ]
 DONE_LINES = [
     f"key add {'k' * 64} clerk {'!' * 128}", "key add - link ~", "key revoke k2", f"box add {'b' * 63} {ANY} 1000000000000 1000000 replace any",
     "box add 0 19700101T000000Z 99991231T235959Z 0000000 2359 2400 0 0 keep begins " + "é" * 32,
     "box add a-.9 20130601T000000Z 20130101T000000Z 1000001 0000 0001 1 1 replace ends " + ",".join(["x" * 32] * 8),
     "box close in 19700101T000000Z", "box close in 99991231T235959Z", "file drop in  a b", "file drop in a ", "file drop in " + "n" * 1024,
+    "key limit - in", "key limit lim 0", f"key limit lim {'b' * 63}", "office allow 900", "office allow 0", "office allow 7", "office allow 7",
 ]
-# What stands before each of these lines: a link's key, a revoked key, a box and its files.
-BEFORE = ["key add k2 link s3cr3t", "key add gone link s3cr3t", "key revoke gone", f"box add in {ANY} 100000 9 keep any"]
+# What stands before each of these lines: a link's key, a revoked key, a box and its files, and a key that is limited to it.
+BEFORE = ["key add k2 link s3cr3t", "key add gone link s3cr3t", "key revoke gone", f"box add in {ANY} 100000 9 keep any",
+          "key add lim link s3cr3t", "key limit lim in"]
 FILES = [(b"/in/%20a%20b", b"spaces"), (b"/in/a%20", b"space"), (b"/in/" + b"n" * 1024, b"long")]
 
 
@@ -173,7 +183,55 @@ def files_day():
     yield Step(put(b"/in/a.txt", b"abd"), receipt(2, b"abd"))
 
 
-DAYS = [lines_day, places_day, closing_day, keys_day, files_day]
+def limits_day():
+    """A key that is limited reaches its boxes alone, whatever else its request breaks."""
+    other, free = {"key": ("k2", b"s3cr3t")}, {"key": ("k3", b"s3cr3t")}
+    for line in [BOX, f"box add b2 {ANY} 100 2 keep any", "key add k2 link s3cr3t", "key add k3 link s3cr3t", "key limit k2 in"]:
+        yield Step(post(line), OBEYED)
+    yield Step(put(b"/in/a.txt", b"abc", **other), receipt(1, b"abc"))
+    yield Step(get(b"/in/a.txt", **other), fetched(1, b"abc"))
+    for method in ["GET", "HEAD"]:
+        for path in [b"/b2/x", b"/none/x", b"/", b"/b2", b"//in/a.txt", b"/IN/a.txt", b"/in%20/a.txt"]:
+            yield Step(get(path, method, **other), answer(24, method))
+    yield Step(get(b"/in/zz", **other), answer(34))
+    yield Step(get(b"/%69n/zz", **other), answer(34))
+    yield Step(get(b"/in", **other), answer(29))
+    yield Step(put(b"/b2/x", b"abc", **other), answer(24))
+    yield Step(signed("PUT", b"/b2/x", **other), answer(24))
+    yield Step(get(b"/b2/x", unsigned=[(b"Content-Length", b"1")], **other) + b"x", answer(24))
+    yield Step(signed("PUT", b"/in/x", **other), answer(25))
+    yield Step(post("key limit k2 b2", **other), answer(24))
+    for line in ["key limit k2 in", "key limit k2 none", f"key limit {ID} in"]:
+        yield Step(post(line), answer(36))
+    yield Step(get(b"/b2/x", **free), answer(34))
+    yield Step(get(b"/none/x", **free), answer(27))
+    yield Step(get(b"/b2/x"), answer(34))
+    yield Step(post("key limit k2 b2"), OBEYED)
+    yield Step(get(b"/b2/x", **other), answer(34))
+    yield Step(get(b"/none/x", **other), answer(24))
+    yield Step(get(b"/in/a.txt", **other), fetched(1, b"abc"))
+    yield Step(post("key revoke k2"), OBEYED)
+    yield Step(post("key limit k2 in"), answer(36))
+    yield Step(get(b"/b2/x", **other), answer(20))
+
+
+def allowance_day():
+    """A link is taken so many seconds before its start, and ends when it says."""
+    for line, owed in [("office allow 901", answer(35)), ("office allow 0900", answer(35)), ("office allow 900", OBEYED), (BOX, OBEYED)]:
+        yield Step(post(line), owed)
+    for at, number in [("20130523T234500Z", 27), ("20130523T234459Z", 22), ("20130524T235959Z", 27), ("20130525T000000Z", 23)]:
+        yield Step(REQUEST, answer(number), at)
+    yield Step(put(b"/in/a.txt", b"abc"), receipt(1, b"abc"), "20130523T234500Z")
+    yield Step(put(b"/in/b.txt", b"abc"), answer(22), "20130523T234459Z")
+    yield Step(post("office allow 1"), OBEYED, "20130523T234500Z")
+    for at, number in [("20130523T234500Z", 22), ("20130523T235958Z", 22), ("20130523T235959Z", 27), ("20130525T000000Z", 23)]:
+        yield Step(REQUEST, answer(number), at)
+    yield Step(post("office allow 0"), OBEYED)
+    for at, number in [("20130523T235959Z", 22), (MOMENT, 27), ("20130524T235959Z", 27), ("20130525T000000Z", 23)]:
+        yield Step(REQUEST, answer(number), at)
+
+
+DAYS = [lines_day, places_day, closing_day, keys_day, files_day, limits_day, allowance_day]
 
 
 def runs(steps):
@@ -234,6 +292,8 @@ def test_words(drop, count):
         ("endings", "SELECT rule_text FROM boxes WHERE name = 'a-.9'", [(",".join(["x" * 32] * 8),)]),
         ("the files", "SELECT COUNT(*) FROM files", [(0,)]), ("the receipts", "SELECT COUNT(*) FROM receipts", [(3,)]),
         ("the totals", "SELECT used, count FROM boxes WHERE name = 'in'", [(0, 0)]),
+        ("the limits", "SELECT key_id, box FROM key_box ORDER BY 1, 2", [("-", "in"), ("lim", "0"), ("lim", "b" * 63), ("lim", "in")]),
+        ("the allowance", "SELECT id, allowance FROM rules", [(1, 7)]),
     ]:
         count.add(table, difference(tables.rows(file, query), owed))
     gone = drop.path("gone")
@@ -337,10 +397,10 @@ def test_examples(drop, count):
     """Each example of the help does what it says, as it stands."""
     file = drop.office("examples")
     lines = examples()
-    count.add("five examples", difference(len(lines), 5))
+    count.add("seven examples", difference(len(lines), 7))
     opened = next(line for line in lines if line.startswith("box add"))
     name = opened.split()[2]
-    lines.sort(key=lambda line: (line.startswith("key revoke"), line.startswith("box close"), line.startswith("file")))
+    lines.sort(key=lambda line: (line.startswith("key revoke"), line.startswith("box close"), line.startswith(("file", "key limit"))))
     for line in lines:
         if line.startswith("file drop"):
             stand_in = line.split(" ", 3)[3]

@@ -174,11 +174,11 @@ def test_faults(_, count):
 def test_commands(_, count):
     """The commands of the desk that the page explains are those of docs/RULES.md and of the help."""
     rules, words = (kit.ROOT / "docs" / "RULES.md").read_text(), (kit.ROOT / "ci" / "desk.help").read_text()
-    row = re.compile(r"^\| `((?:box|file|key) [a-z]+ [A-Z ]+)` \| ", re.MULTILINE)
+    row = re.compile(r"^\| `((?:box|file|key|office) [a-z]+ [A-Z ]+)` \| ", re.MULTILINE)
     owed = row.findall(rules)
-    count.add("commands of the desk", None if len(owed) == 5 else f"{owed}")
+    count.add("commands of the desk", None if len(owed) == 7 else f"{owed}")
     count.add("those of the page", difference(row.findall(PAGE.read_text()), owed))
-    count.add("those of the help", difference(re.findall(r"^  ((?:box|file|key) [a-z]+ [A-Z ]+)$", words, re.MULTILINE), owed))
+    count.add("those of the help", difference(re.findall(r"^  ((?:box|file|key|office) [a-z]+ [A-Z ]+)$", words, re.MULTILINE), owed))
 
 
 def test_words(_, count):

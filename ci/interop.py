@@ -1,7 +1,7 @@
 """Compares the proved programs with boto3 and its botocore.
 
 `drop` answers presigned requests that boto3 makes: right ones of many names, regions, windows, further parameters and
-signed headers, and wrong ones. Then the rows of crates/rows write links to many orders (ci/orders.py), and each must
+signed headers, and wrong ones; and some of a clock that runs ahead, over an office with an allowance. Then the rows of crates/rows write links to many orders (ci/orders.py), and each must
 be botocore's own for the same request at the same moment. The times and the random names are fixed, so each run makes
 the same cases. The last line is `N passed, M failed`.
 """
@@ -88,6 +88,31 @@ def answer_links(count, folder):
     print(f"{len(cases)} links of boto3 {boto3.__version__} answered")
 
 
+# What a link of a minute that boto3 makes at 20130524T000000Z gets, by the office's allowance and its clock.
+AHEAD = {
+    900: [("20130523T234459Z", 22), ("20130523T234500Z", 27), ("20130524T000059Z", 27), ("20130524T000100Z", 23)],
+    60: [("20130523T235859Z", 22), ("20130523T235900Z", 27), ("20130524T000059Z", 27), ("20130524T000100Z", 23)],
+    0: [("20130523T235959Z", 22), ("20130524T000000Z", 27), ("20130524T000059Z", 27), ("20130524T000100Z", 23)],
+}
+
+
+def answer_ahead(count, folder):
+    """Has the program answer links whose clock runs ahead of the office's."""
+    s3 = client(REGIONS[0])
+    place = {"Bucket": "in", "Key": NAMES[1]}
+    for allowance, rows in AHEAD.items():
+        office, stream = folder / f"allows-{allowance}", folder / "ahead"
+        made = kit.run([kit.built("drop"), "init", office, "--clerk", KEY_ID, "--secret", SECRET, "--allowance", str(allowance)])
+        count.add(f"an allowance of {allowance}", None if made == kit.Run(0, b"", b"") else f"{made}")
+        for method, call in [("GET", "get_object"), ("HEAD", "head_object"), ("PUT", "put_object")]:
+            target = target_of(s3.generate_presigned_url(call, Params=place, ExpiresIn=60))
+            stream.write_bytes(request(method, target, {"Content-Length": "0"} if method == "PUT" else {}))
+            for at, number in rows:
+                found = kit.run([kit.built("drop"), "replay", office, stream, "--at", at])
+                owed = kit.Run(0, answer(number, method), b"")
+                count.add(f"{method} at {at}, allowance {allowance}", None if found == owed else f"{found} and not {owed}")
+
+
 def write_links(count):
     """Has the rows write a link for each order."""
     cases = list(orders.orders(random.Random(20130524)))
@@ -107,6 +132,7 @@ def main():
     count = kit.Count()
     with tempfile.TemporaryDirectory(prefix="drop-interop-") as room:
         answer_links(count, pathlib.Path(room))
+        answer_ahead(count, pathlib.Path(room))
     write_links(count)
     count.end()
 

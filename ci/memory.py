@@ -2,7 +2,7 @@
 
 The programs that `rt ci` leaves of crates/drop, crates/rows and the tests of crates/keeper run as they are, with ci/heap.c
 loaded before the C library. Then each number from 1 on is refused, up to the first at
-which there is no allocation left to refuse; of `init`, `desk`, `link` and lists over an office file a sample of them. The program
+which there is no allocation left to refuse; of `init`, `desk`, `link`, `migrate` and lists over an office file a sample of them. The program
 must give its whole right answer, or say that memory was refused, in the way that is owed there; and never anything else. What
 an office keeps then is looked at too: by further requests where it lives in memory, and in the tables of its file.
 
@@ -24,6 +24,7 @@ import listed
 import office
 import tables
 from expected import SECRET, answer
+from kept import VERSION_1, Kept
 from office import OBEYED, fetched, get, post, put, receipt
 from replays import CUT_UPLOAD, ID, MOMENT, OFFICE, REQUEST, answered, fault
 
@@ -31,7 +32,7 @@ STREAM = "data/row1.http"
 DROP = kit.ROOT / "crates" / "drop"
 TRY_AGAIN = kit.Run(0, answer(40), b"")
 OUT_OF_MEMORY = fault("out of memory")
-HELPED = ["init", "desk", "link", "links", "manifest", "compare", "replay", "serve"]
+HELPED = ["init", "desk", "link", "links", "manifest", "compare", "replay", "serve", "migrate"]
 # What a program says whose table cannot be read; nothing was answered then.
 UNREAD = kit.Run(1, b"", b"Error: Kind(OutOfMemory)\n")
 LEAST_REFUSALS = 2000  # of all sessions
@@ -128,7 +129,7 @@ def each_office(program, name, words, prepare, right, others, count, done=(), gi
 
 
 def test_offices(program, folder, count):
-    """`init`, `desk` and `link`. Memory that is refused makes no file, changes none and obeys no command."""
+    """`init`, `desk`, `link` and `migrate`. Memory that is refused makes no file, changes none and obeys no command."""
     file, whole = folder / "office", folder / "whole"
     init = ["--clerk", ID, "--secret", SECRET.decode()]
     done = kit.Run(0, b"", b"")
@@ -160,6 +161,15 @@ def test_offices(program, folder, count):
     for name, line, given in [("drop desk", box, b""), ("drop desk -", "-", box.encode())]:
         words = ["desk", file, line]
         each_office(program, name, words, copied, told, [OUT_OF_MEMORY, closed_badly], count, [closed_badly], given)
+    old = Kept(VERSION_1 / "past").copied(folder / "kept")
+
+    def of_version_1():
+        gone()
+        shutil.copy(old, file)
+        before = tables.dump(file)
+        return lambda is_right: None if is_right or tables.dump(file) == before else "the tables were changed"
+
+    each_office(program, "drop migrate", ["migrate", file], of_version_1, told, [OUT_OF_MEMORY, closed_badly], count, [closed_badly])
 
 
 # ---- sessions: each allocation, in memory and over a file
@@ -238,18 +248,21 @@ def every_kind():
         uploads(2, "out", "b", b"abc"), uploads(3, "out", "b", b"abd", b"abc"), *FETCHED, uploads(4, "in", "large", LARGE),
         Step(get(b"/in/large"), fetched(4, LARGE)),
         commands("key add k2 link s3cr3t", "INSERT INTO keys VALUES ('k2', 0, CAST('s3cr3t' AS BLOB), 0)"),
-        Step(get(A, **K2), fetched(1, b"abc")), commands("key revoke k2", "UPDATE keys SET revoked = 1 WHERE id = 'k2'"),
+        Step(get(A, **K2), fetched(1, b"abc")), commands("key limit k2 in", "INSERT INTO key_box VALUES ('k2', 'in')"),
+        commands("office allow 60", "UPDATE rules SET allowance = 60"), commands("key revoke k2", "UPDATE keys SET revoked = 1 WHERE id = 'k2'"),
         Step(get(A, **K2), answer(20)), DROPPED, GONE,
         commands(f"box close in {MOMENT}", f"UPDATE boxes SET closes = {tables.M} WHERE name = 'in'"),
         Step(put(b"/in/z", b"z"), answer(30)),
     ]
     numbers = [(least, receipt(number, b"z")) for least, number in [(1, 1), (2, 2), (6, 3), (7, 4), (10, 5)]]
     probes = [
-        Probe(get(A), ((0, answer(27)), (1, answer(34)), (2, fetched(1, b"abc")), (16, answer(34)))),
+        Probe(get(A), ((0, answer(27)), (1, answer(34)), (2, fetched(1, b"abc")), (18, answer(34)))),
         Probe(get(b"/out/b"), ((0, answer(27)), (5, answer(34)), (6, fetched(2, b"abc")), (7, fetched(3, b"abd")))),
-        Probe(get(A, **K2), ((0, answer(19)), (12, fetched(1, b"abc")), (14, answer(20)))),
+        Probe(get(A, **K2), ((0, answer(19)), (12, fetched(1, b"abc")), (16, answer(20)))),
+        Probe(get(b"/out/b", **K2), ((0, answer(19)), (12, fetched(3, b"abd")), (14, answer(24)), (16, answer(20)))),
+        Probe(get(b"/none/a", date="20130524T000100Z"), ((0, answer(22)), (15, answer(27)))),
         Probe(get(b"/in/large"), ((0, answer(27)), (1, answer(34)), (10, fetched(4, LARGE)))),
-        Probe(put(b"/in/z", b"z"), ((0, answer(27)), *numbers, (18, answer(30)))),
+        Probe(put(b"/in/z", b"z"), ((0, answer(27)), *numbers, (20, answer(30)))),
     ]
     return Session("every kind of request", steps, probes)
 

@@ -19,7 +19,7 @@ import tempfile
 import kit
 import tables
 from expected import SECRET, answer, canonical_request, quoted, signature
-from replays import ID, MOMENT, fault, signed
+from replays import ID, MOMENT, REQUEST, fault, signed
 
 CLERK = ["--clerk", ID, "--secret", SECRET.decode()]
 DONE = kit.Run(0, b"", b"")
@@ -175,20 +175,27 @@ def test_umasks(drop, count):
 
 
 def office_rows(file):
-    """The row of the office, and the keys, of an office that has nothing else."""
-    others = [tables.rows(file, f"SELECT COUNT(*) FROM {name}")[0][0] for name in tables.TABLES[2:]]
-    return tables.rows(file, "SELECT * FROM office"), tables.rows(file, "SELECT * FROM keys"), others
+    """The rows of the office, its rules and the keys, and of the other tables how many they have."""
+    first = ["office", "rules", "keys"]
+    others = [tables.rows(file, f"SELECT COUNT(*) FROM {name}")[0][0] for name in tables.TABLES if name not in first]
+    return [*(tables.rows(file, f"SELECT * FROM {name}") for name in first), others]
+
+
+def rows_of_new(east=0, allowance=0, secret=SECRET):
+    """Those of an office that was made."""
+    return [[(1, 2, east)], [(1, allowance)], [(ID, 1, secret, 0)], [0] * 6]
 
 
 def test_made(drop, count):
     """What an office that was made holds."""
-    for words, east in [
-        ([], 0), (["--east", "60"], 60), (["--west", "60"], -60), (["--east", "840"], 840), (["--west", "840"], -840),
-        (["--east", "840", "--west", "840"], 0), (["--west=5", "--east=3"], -2), (["--east", "0", "--west", "0"], 0),
+    for words, east, allowance in [
+        ([], 0, 0), (["--east", "60"], 60, 0), (["--west", "60"], -60, 0), (["--east", "840"], 840, 0), (["--west", "840"], -840, 0),
+        (["--east", "840", "--west", "840"], 0, 0), (["--west=5", "--east=3"], -2, 0), (["--east", "0", "--west", "0"], 0, 0),
+        (["--allowance", "0"], 0, 0), (["--allowance", "1"], 0, 1), (["--allowance=900", "--west=1"], -1, 900),
     ]:
         file = drop.path(f"made{'-'.join(words)}")
         found = drop.init(file, *words)
-        owed = ([(1, 1, east)], [(ID, 1, SECRET, 0)], [0, 0, 0, 0])
+        owed = rows_of_new(east, allowance)
         rows = office_rows(file) if found == DONE else None
         count.add(f"init {words}", difference(found, DONE) or (None if rows == owed else f"{rows} and not {owed}"))
     greatest = ["--clerk", "k" * 64, "--secret", "~" * 128]
@@ -236,14 +243,14 @@ def test_secret_files(drop, count):
         found = drop.run(*words)
         count.add(f"--secret-file, {name}", difference(found, DONE))
         rows = [office_rows(it) if it.exists() else None for it in (by_word, by_file)]
-        owed = ([(1, 1, 60)], [(ID, 1, secret, 0)], [0, 0, 0, 0])
+        owed = rows_of_new(60, secret=secret)
         count.add(f"{name}, the offices", difference(rows, [owed, owed]))
         if len(secret) > 1:
             count.add(f"{name}, the words", "the secret is among them" if any(secret in os.fsencode(it) for it in words) else None)
     found = drop.run("init", drop.path("given"), "--clerk", ID, "--secret-file", "/dev/stdin", given=SECRET + b"\n")
     count.add("--secret-file /dev/stdin", difference(found, DONE))
     rows = office_rows(drop.path("given")) if found == DONE else None
-    count.add("/dev/stdin, the office", difference(rows, ([(1, 1, 0)], [(ID, 1, SECRET, 0)], [0, 0, 0, 0])))
+    count.add("/dev/stdin, the office", difference(rows, rows_of_new()))
 
 
 def test_malformed_secret_files(drop, count):
@@ -288,7 +295,7 @@ def test_init_over(drop, count):
     os.chmod(empty, 0o640)
     found = drop.init(empty)
     rows = office_rows(empty) if found == DONE else None
-    well = rows == ([(1, 1, 0)], [(ID, 1, SECRET, 0)], [0, 0, 0, 0]) and mode_of(empty) == 0o640
+    well = rows == rows_of_new() and mode_of(empty) == 0o640
     count.add("init of a file of no bytes", difference(found, DONE) or (None if well else f"{rows}"))
     text, folder, other = drop.path("text"), drop.path("folder"), drop.path("other")
     text.write_bytes(b"not a database\n" * 1000)
@@ -338,6 +345,13 @@ WORDS = [
         ("", "cannot parse integer from empty string"), ("1.5", "invalid digit found in string"),
         ("x", "invalid digit found in string"),
     ]),
+    *(([*INIT, "--allowance", number], f"error: invalid value '{number}' for '--allowance <N>': {why}") for number, why in [
+        ("901", "901 is not in 0..=900"), ("", "cannot parse integer from empty string"), ("1s", "invalid digit found in string"),
+    ]),
+    ([*INIT, "--allowance", "-1"], "error: unexpected argument '-1' found"),
+    ([*INIT, "--allowance", "1", "--allowance", "1"], "error: the argument '--allowance <N>' cannot be used multiple times"),
+    (["migrate"], "error: the following required arguments were not provided:"),
+    (["migrate", "no-file", "more"], "error: unexpected argument 'more' found"),
     ([*INIT, "--west", "841"], "error: invalid value '841' for '--west <M>': 841 is not in 0..=840"),
     ([*INIT, "--west", "-1"], "error: unexpected argument '-1' found"),
     ([*INIT, "more"], "error: unexpected argument 'more' found"),
@@ -367,7 +381,7 @@ def test_words(drop, count):
         well = found.status == 2 and not found.out and found.err.decode().splitlines()[0] == line
         count.add(f"drop {words}", None if well else f"{found} and not {line!r}")
     count.add("no file is made", "there is one" if drop.path("no-file").exists() else None)
-    for command in ["init", "link", "replay"]:
+    for command in ["init", "link", "migrate", "replay"]:
         owed = kit.Run(0, (kit.ROOT / "ci" / f"{command}.help").read_bytes(), b"")
         for words in [[command, "--help"], ["help", command]]:
             count.add(f"drop {words}", difference(drop.run(*words), owed))
@@ -559,6 +573,21 @@ def test_boxes(drop, count):
     count.add("replace: the totals", None if totals == [(3, 1)] else f"{totals}")
 
 
+def test_allowance(drop, count):
+    """An office that was made with an allowance: the published request, before its start and at its end."""
+    for words, rows in [
+        (["--allowance", "900"], [("20130523T234500Z", 27), ("20130523T234459Z", 22), ("20130524T235959Z", 27), ("20130525T000000Z", 23)]),
+        (["--allowance", "1"], [("20130523T235959Z", 27), ("20130523T235958Z", 22), ("20130525T000000Z", 23)]),
+        ([], [("20130523T235959Z", 22), (MOMENT, 27), ("20130525T000000Z", 23)]),
+    ]:
+        file = drop.office(f"allowance{'-'.join(words)}", *words)
+        for at, number in rows:
+            count.add(f"{words} at {at}", difference(drop.replay(file, REQUEST, at=at), answered(answer(number))))
+    first = drop.office("first", "--allowance", "900")
+    fetch = get(b"/in/a", date="19700101T000000Z")
+    count.add("the first second", difference(drop.replay(first, fetch, at="19700101T000000Z"), answered(answer(27))))
+
+
 def test_pieces(drop, count):
     """Files by their sizes, each with the pieces that it is owed."""
     file = limited(drop, "pieces", tables.Box("in", quota=10**12, max_files=9))
@@ -625,7 +654,7 @@ def test_stock(drop, count):
     count.add("integrity_check", None if (said := stock(file, "PRAGMA integrity_check; PRAGMA foreign_key_check")) == "ok" else said)
     said = sorted(stock(file, ".tables").split())
     count.add(".tables", None if said == sorted(tables.TABLES) else f"{said}")
-    for table, owed in zip(tables.TABLES, [1, 4, 4, 6, 5, 6]):
+    for table, owed in zip(tables.TABLES, [1, 4, 4, 6, 5, 6, 1, 2, 0]):
         said = stock(file, f"SELECT COUNT(*) FROM {table}")
         count.add(f"rows of {table}", None if said == str(owed) else said)
     for command in ["VACUUM", "UPDATE boxes SET quota = quota + 1 WHERE quota < 1000000000000",
@@ -670,7 +699,7 @@ def test_broken(drop, count):
 def test_versions(drop, count):
     whole = drop.filled("versions")
     for version, others, owed in [
-        (7, [], [VERSION]), (0, [], [VERSION]), (2, [], [VERSION]), (-1, [], [VERSION]), (2**62, [], [VERSION]),
+        (7, [], [VERSION]), (0, [], [VERSION]), (1, [], [VERSION]), (3, [], [VERSION]), (-1, [], [VERSION]), (2**62, [], [VERSION]),
         (7, ["UPDATE keys SET secret = x'20'"], [VERSION]), (7, ["DELETE FROM pieces"], [VERSION]),
         (7, ["DELETE FROM receipts WHERE number = 3"], [VERSION]),
         (7, ["UPDATE keys SET role = 7 WHERE id = 'k2'"], [VERSION, CANNOT_OPEN]),
@@ -731,8 +760,8 @@ def test_changed(drop, count):
 # Those that need no office that opens; and the others.
 CLOSED = [test_umasks, test_made, test_malformed_keys, test_secret_files, test_malformed_secret_files, test_init_over,
           test_init_that_fails, test_words, test_link_faults, test_replay_faults]
-OPEN = [test_not_offices, test_links, test_written_links, test_uploads, test_boxes, test_pieces, test_streams, test_stock,
-        test_broken, test_versions, test_cut, test_changed]
+OPEN = [test_not_offices, test_links, test_written_links, test_uploads, test_boxes, test_allowance, test_pieces, test_streams,
+        test_stock, test_broken, test_versions, test_cut, test_changed]
 
 
 def run_all(tests):

@@ -120,6 +120,8 @@ REFUSALS = [
      ("Der Link ist abgelaufen.", "Bitten Sie die Stelle um einen neuen Link.")),
     (22, "put", "put early", b"abc", ("The link does not hold yet.", "Wait until the time from which the link holds"),
      ("Der Link gilt noch nicht.", "Warten Sie bis zu der Zeit")),
+    (24, "put", "put limited", b"abc", ("The key that signed the link may not do this, or not in this box.", "Ask the office for a new link."),
+     ("darf das nicht oder nicht in diesem Fach.", "Bitten Sie die Stelle um einen neuen Link.")),
     (31, "put", "put a", b"other", ("The office already keeps a file under this name, and its bytes are others.",
                                     "ask the office for a link with another name"),
      ("unter diesem Namen schon eine Datei mit anderen Bytes", "einen Link mit einem anderen Namen")),
@@ -658,8 +660,8 @@ def write_links(drop, file, front):
     def moment(seconds):
         return time.strftime("%Y%m%dT%H%M%SZ", time.gmtime(time.time() + seconds))
 
-    def link(method, target, host=front.host, start=-60, expires=3600):
-        ran = drop.link(file, method, target, host=host, start=moment(start), expires=str(expires))
+    def link(method, target, host=front.host, start=-60, expires=3600, **key):
+        ran = drop.link(file, method, target, host=host, start=moment(start), expires=str(expires), **key)
         assert ran.status == 0, ran
         return ran.out.decode().strip()
 
@@ -679,7 +681,7 @@ def write_links(drop, file, front):
         "put wrong name": link("PUT", "texts/a.pdf"), "put long": link("PUT", "in/" + "Ä" * 300),
         "put expired": link("PUT", "in/a", start=-3600, expires=60), "put early": link("PUT", "in/a", start=3600),
         "put tampered": links["put new"].replace("/in/new", "/in/nex"), "put a dot": link("PUT", "in/."),
-        "get elsewhere": link("GET", "in/a b.txt", "elsewhere.example"),
+        "get elsewhere": link("GET", "in/a b.txt", "elsewhere.example"), "put limited": link("PUT", "small/a", key="limited"),
     }
 
 
@@ -697,6 +699,8 @@ def main():
         file = drop.office("office")
         for box in BOXES:
             tables.add_box(file, box)
+        tables.add_key(file, "limited", b"s3cr3t")
+        tables.limit_key(file, "limited", "in")
         office = Office(drop, file)
         front = Front(office)
         links = write_links(drop, file, front)

@@ -1,8 +1,8 @@
 """Runs the proved program `drop` on streams of requests and on words, and compares all that it writes, and its status.
 
 The answers that are owed come from the table of refusals in docs/RULES.md, the signatures from Python's `hmac`
-(ci/expected.py), the lines on standard error from docs/USE.md, and the help from ci/drop.help, ci/desk.help and
-ci/replay.help, whose lines were read and found true. The last line is `N passed, M failed`.
+(ci/expected.py), the lines on standard error from docs/USE.md, and the help from ci/drop.help, ci/desk.help,
+ci/migrate.help and ci/replay.help, whose lines were read and found true. The last line is `N passed, M failed`.
 """
 
 import contextlib
@@ -383,6 +383,13 @@ NO_TASK = [
      "error: the argument '--secret <SECRET>' cannot be used with '--secret-file <SECRETFILE>'"),
     (["init", "f", "--clerk", "k", "--secret-file", "g", "--secret="],
      "error: the argument '--secret <SECRET>' cannot be used with '--secret-file <SECRETFILE>'"),
+    (["init", "f", "--clerk", "k", "--secret", "s", "--allowance", "901"],
+     "error: invalid value '901' for '--allowance <N>': 901 is not in 0..=900"),
+    (["init", "f", "--clerk", "k", "--secret", "s", "--allowance"],
+     "error: a value is required for '--allowance <N>' but none was supplied"),
+    (["migrate"], "error: the following required arguments were not provided:"),
+    (["migrate", "f", "g"], "error: unexpected argument 'g' found"),
+    (["migrate", "f", "--at", "m"], "error: unexpected argument '--at' found"),
     (["desk"], "error: the following required arguments were not provided:"),
     (["desk", "f"], "error: the following required arguments were not provided:"),
     (["desk", "f", "key revoke k", "k"], "error: unexpected argument 'k' found"),
@@ -407,6 +414,7 @@ def test_words(program, folder, count):
         count.add(f"drop {words}", difference(kit.run([program, *words]), fault("the words are not text")))
     for words, name in [(["--help"], "drop"), (["-h"], "drop"), (["help"], "drop"),
                         (["desk", "--help"], "desk"), (["desk", "-h"], "desk"), (["help", "desk"], "desk"),
+                        (["migrate", "--help"], "migrate"), (["help", "migrate"], "migrate"),
                         (["replay", "--help"], "replay"), (["help", "replay"], "replay")]:
         owed = kit.Run(0, (kit.ROOT / "ci" / f"{name}.help").read_bytes(), b"")
         count.add(f"drop {words}", difference(kit.run([program, *words]), owed))

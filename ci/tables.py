@@ -1,5 +1,5 @@
 """Office files that Python's `sqlite3` fills and breaks: what an office holds, each rule of its tables broken, and a
-dump of the tables. The tables are those that `drop init` makes (docs/RULES.md, section 2).
+dump of the tables. The tables are those that `drop init` makes (docs/RULES.md, section 2); the first six are those of version 1.
 """
 
 import contextlib
@@ -11,7 +11,9 @@ PIECE = 65536
 DAY = 86400
 LAST = 253402300799
 M = 1369353600  # 20130524T000000Z
-TABLES = ["office", "keys", "boxes", "receipts", "files", "pieces"]
+OF_VERSION_1 = ["office", "keys", "boxes", "receipts", "files", "pieces"]
+NEW_TABLES = ["rules", "key_box", "staged"]
+TABLES = [*OF_VERSION_1, *NEW_TABLES]
 
 
 @contextlib.contextmanager
@@ -68,6 +70,11 @@ def add_key(file, name, secret, role=0, revoked=0):
         db.execute("INSERT INTO keys VALUES (?, ?, ?, ?)", (name, role, secret, revoked))
 
 
+def limit_key(file, name, in_box):
+    with opened(file) as db:
+        db.execute("INSERT INTO key_box VALUES (?, ?)", (name, in_box))
+
+
 def put_file(db, in_box, name, data, key, moment=M):
     """What an upload under a new name writes: a receipt, the file, its pieces, and the totals of its box."""
     number = db.execute("SELECT COUNT(*) + 1 FROM receipts").fetchone()[0]
@@ -87,7 +94,8 @@ def add_file(file, *words, **how):
 
 def fill(file, clerk):
     """A whole office: four keys, four boxes, one for each kind of rule and one with the greatest numbers, five receipts,
-    the third of which no file has any more, and files of 3, 0, 65537 and 131072 bytes."""
+    the third of which no file has any more, and files of 3, 0, 65537 and 131072 bytes. The revoked key of role `link` is limited
+    to two boxes."""
     add_key(file, "k2", b"s3cr3t")
     add_key(file, "k3", b"s3cr3t", revoked=1)
     add_key(file, "c2", b"!~", role=1, revoked=1)
@@ -100,6 +108,8 @@ def fill(file, clerk):
     add_file(file, "ends", "x.pdf", b"gone", "k3", 0)
     add_file(file, "ends", "y.txt", b"y" * (PIECE + 1), clerk, LAST)
     add_file(file, "begins.1-2", "2013/a", b"z" * (2 * PIECE), clerk)
+    limit_key(file, "k3", "ends")
+    limit_key(file, "k3", "in")
     with opened(file) as db:
         db.execute("DELETE FROM pieces WHERE name = 'x.pdf'")
         db.execute("DELETE FROM files WHERE name = 'x.pdf'")
@@ -126,7 +136,7 @@ def set_to(table, column, value, where, own=False):
 
 def office_breaks():
     yield broken("DELETE FROM office")
-    yield broken("INSERT INTO office VALUES (2, 1, 0)", own=True)
+    yield broken("INSERT INTO office SELECT 2, version, east FROM office", own=True)
     yield set_to("office", "id", 2, "1", own=True)
     for east in [-841, 841, 2**62]:
         yield set_to("office", "east", east, "1", own=True)
@@ -234,9 +244,25 @@ def piece_breaks():
     yield broken("INSERT INTO pieces VALUES ('none', 'a.txt', 0, x'64')", own=True)
 
 
-def table_breaks():
-    for table in TABLES:
-        yield broken(f"DROP TABLE {table}", own=table not in ("office", "pieces"))
+def allowance_breaks():
+    yield broken("DELETE FROM rules")
+    yield broken("INSERT INTO rules VALUES (2, 0)", own=True)
+    yield set_to("rules", "id", 2, "1", own=True)
+    for allowance in [-1, 901, 2**62]:
+        yield set_to("rules", "allowance", allowance, "1", own=True)
+
+
+def limit_breaks():
+    yield broken("INSERT INTO key_box VALUES ('c2', 'in')")
+    yield set_to("keys", "role", 1, "id = 'k3'")
+    for column in ["key_id", "box"]:
+        yield set_to("key_box", column, "'none'", "box = 'in'", own=True)
+
+
+def table_breaks(tables):
+    """A table is missing, has another name, or a column more. Where others refer to it, they then refer to nothing."""
+    for table in tables:
+        yield broken(f"DROP TABLE {table}", own=table in ("keys", "boxes", "receipts", "files"))
         yield broken(f"ALTER TABLE {table} RENAME TO other", own=True)
         yield broken(f"ALTER TABLE {table} ADD COLUMN other INTEGER")
     yield broken("CREATE TABLE other (id INTEGER PRIMARY KEY) STRICT")
@@ -244,10 +270,15 @@ def table_breaks():
     yield broken("ALTER TABLE pieces RENAME COLUMN part TO other")
 
 
+def breaks_of_version_1():
+    """Each rule of the tables of version 1 broken by itself, in an office that is filled as by `fill`."""
+    return [*office_breaks(), *key_breaks(), *box_breaks(), *receipt_breaks(), *file_breaks(), *piece_breaks(),
+            *table_breaks(OF_VERSION_1)]
+
+
 def breaks():
     """Each rule of an office that is filled by `fill`, broken by itself."""
-    return [*office_breaks(), *key_breaks(), *box_breaks(), *receipt_breaks(), *file_breaks(), *piece_breaks(),
-            *table_breaks()]
+    return [*breaks_of_version_1(), *allowance_breaks(), *limit_breaks(), *table_breaks(NEW_TABLES)]
 
 
 def run(file, statements):
@@ -282,4 +313,5 @@ LOOSENED = [
     ("receipts", ") STRICT", ")", "UPDATE receipts SET digest = 'x' WHERE number = 3"),
     ("receipts", ") STRICT", ")", "UPDATE receipts SET length = 1.5 WHERE number = 3"),
     ("pieces", ") STRICT", ")", "UPDATE pieces SET bytes = 'abc' WHERE name = 'a.txt'"),
+    ("rules", ") STRICT", ")", "UPDATE rules SET allowance = 'x'"),
 ]

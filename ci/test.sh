@@ -77,6 +77,11 @@ office() {
     python3 -B ci/office.py
 }
 
+migrate() {
+    with_command sqlite3 || return 1
+    python3 -B ci/migrate.py
+}
+
 serve() {
     local python
     with_command curl || return 1
@@ -144,6 +149,7 @@ count rt-ci rt ci
 count rows python3 -B ci/rows.py --check
 count replays python3 -B ci/replays.py
 count office office
+count migrate migrate
 count serve serve
 count desk desk
 count respelled python3 -B ci/respelled.py

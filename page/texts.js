@@ -114,7 +114,8 @@ const TEXTS = {
     remedy_host: "Ask the office for a link that signs the host alone.",
     remedy_smaller: "Make the file smaller, or send it in parts with a link for each. If neither can be done, ask " +
       "the office for another way.",
-    remedy_wait: "Wait until the time from which the link holds, and try again.",
+    remedy_wait: "Wait until the time from which the link holds, and try again. If that time has come already, a " +
+      "clock is wrong: tell the office.",
     remedy_box: "Tell the office. It must add the box, or give you another link.",
     remedy_name: "Ask the office for a link with another name.",
     remedy_closed: "Try again when the box is open, or ask the office when that is. A file that the office has " +
@@ -147,7 +148,7 @@ const TEXTS = {
       21: ["The signature does not match: the link is not whole, was changed, or is for something else.", "match"],
       22: ["The link does not hold yet.", "wait"],
       23: ["The link has expired.", "new"],
-      24: ["The key that signed the link may not do this.", "new"],
+      24: ["The key that signed the link may not do this, or not in this box.", "new"],
       25: ["The length of the file was not told.", "page"],
       26: ["The request brought data where none is taken.", "page"],
       27: ["The office has no box of this name.", "box"],
@@ -284,7 +285,8 @@ const TEXTS = {
     remedy_host: "Bitten Sie die Stelle um einen Link, der nur den Host unterschreibt.",
     remedy_smaller: "Verkleinern Sie die Datei oder senden Sie sie in Teilen, jeden mit einem eigenen Link. Geht " +
       "beides nicht, fragen Sie die Stelle nach einem anderen Weg.",
-    remedy_wait: "Warten Sie bis zu der Zeit, ab der der Link gilt, und versuchen Sie es dann erneut.",
+    remedy_wait: "Warten Sie bis zu der Zeit, ab der der Link gilt, und versuchen Sie es dann erneut. Ist diese Zeit " +
+      "schon gekommen, geht eine Uhr falsch: Sagen Sie es der Stelle.",
     remedy_box: "Sagen Sie es der Stelle. Sie muss das Fach anlegen oder Ihnen einen anderen Link geben.",
     remedy_name: "Bitten Sie die Stelle um einen Link mit einem anderen Namen.",
     remedy_closed: "Versuchen Sie es erneut, wenn das Fach offen ist, oder fragen Sie die Stelle, wann das ist. " +
@@ -319,7 +321,7 @@ const TEXTS = {
       21: ["Die Unterschrift passt nicht: Der Link ist unvollständig, verändert oder für etwas anderes.", "match"],
       22: ["Der Link gilt noch nicht.", "wait"],
       23: ["Der Link ist abgelaufen.", "new"],
-      24: ["Der Schlüssel, der den Link unterschrieben hat, darf das nicht.", "new"],
+      24: ["Der Schlüssel, der den Link unterschrieben hat, darf das nicht oder nicht in diesem Fach.", "new"],
       25: ["Die Länge der Datei wurde nicht angegeben.", "page"],
       26: ["Die Anfrage brachte Daten mit, wo keine angenommen werden.", "page"],
       27: ["Die Stelle hat kein Fach dieses Namens.", "box"],

@@ -3,7 +3,7 @@ use Rattle.std.proofs.Common.{◌≡◌, ℕ, List, false, true, Some, refl}
 use Rattle.std.specs.FinMap.{get, insert, remove}
 use Rattle.boxes.specs.declared.rows.Role.{Role}
 use Rattle.boxes.specs.State.{Key, Settings, Place, State}
-use Rattle.boxes.specs.Steps.{CommandStep, AddKey, RevokeKey, AddBox, CloseBox, DropFile, key_added, key_revoked, box_added, box_closed, file_dropped}
+use Rattle.boxes.specs.Steps.{CommandStep, AddKey, RevokeKey, AddBox, CloseBox, DropFile, LimitKey, SetAllowance, key_added, key_revoked, box_added, box_closed, file_dropped, key_limited, allowance_set}
 
 pub key_added_is : (s : State) (id : List ℕ) (role : Role) (secret : List ℕ) (after : State) → CommandStep s (AddKey id role secret) after
     → after ≡ record s { keys = insert s.keys id (record { role = role; secret = secret; revoked = false }) }
@@ -24,3 +24,11 @@ box_closed_is s name moment after (box_closed n m b e) = (b, e, refl)
 pub file_dropped_is : (s : State) (place : Place) (after : State) → CommandStep s (DropFile place) after
     → after ≡ record s { files = remove s.files place }
 file_dropped_is s place after (file_dropped p) = refl
+
+pub key_limited_is : (s : State) (id box : List ℕ) (after : State) → CommandStep s (LimitKey id box) after
+    → after ≡ record s { limits = insert s.limits (record { key = id; box = box }) tt }
+key_limited_is s id box after (key_limited i b) = refl
+
+pub allowance_set_is : (s : State) (seconds : ℕ) (after : State) → CommandStep s (SetAllowance seconds) after
+    → after ≡ record s { allowance = seconds }
+allowance_set_is s seconds after (allowance_set n) = refl

@@ -1,5 +1,9 @@
 pub mod Weekdays
 pub mod Lookups
+pub mod LimitedKeys
+pub mod LimitEdges
+pub mod MapLemmas
+pub mod FileBoxes
 pub mod SoundFirstState
 pub mod HourEdges
 pub mod NameEdges

@@ -1,21 +1,25 @@
 -- A desk command with its form that is possible keeps soundness.
 use Rattle.std.proofs.Common.{◌≡◌, ◌∙◌, ℕ, ◌≤◌, List, [], ◌∷◌, true, false, cond, Option, Some, None, refl, sym, ap, subst, arith}
-use Rattle.std.specs.Prelude.{IsSome, IsNone, IsSomeAnd, ⊤}
+use Rattle.std.specs.Prelude.{IsSome, is_some, IsNone, IsSomeAnd, ⊤}
 use Rattle.std.specs.List.{AllByRecursion}
 use Rattle.std.specs.Ordering.{eq_by_cmp}
 use Rattle.std.specs.FinMap.{FinMap, get, insert, remove, get-insert, get-remove}
 use Rattle.sigtext.specs.Bytes.{bytes_cmp}
+use Rattle.sigv4.specs.Allowances.{most_allowance}
 use Rattle.sigv4.specs.Credential.{IsKeyId, IsSecret}
+use Rattle.boxes.specs.declared.rows.Role.TheVariants.{Link}
 use Rattle.boxes.specs.State.{Key, Place, place_cmp, File, Receipt, Settings, State}
+use Rattle.boxes.specs.Limits.{IsLimitedTo}
 use Rattle.boxes.specs.Totals.{used, count}
 use Rattle.boxes.specs.Opening.{Fits}
-use Rattle.boxes.specs.Steps.{Command, AddKey, RevokeKey, AddBox, CloseBox, DropFile, HasReceipt, CanRevoke, IsPossible, CommandStep}
-use Rattle.boxes.specs.Sound.{IsSound, IsReceipt, IsFileOf, HasClerk, IsBoxName, AreSettings, IsMoment}
+use Rattle.boxes.specs.Steps.{Command, AddKey, RevokeKey, AddBox, CloseBox, DropFile, LimitKey, SetAllowance, HasReceipt, CanRevoke, CanLimit, IsPossible, CommandStep}
+use Rattle.boxes.specs.Sound.{IsSound, IsReceipt, IsFileOf, IsLimitOf, HasClerk, IsBoxName, AreSettings, IsMoment}
 use Rattle.boxes.specs.Commands.{HasForm}
 use Rattle.boxes.proofs.Lookups.{bytes_total, bytes_same, place_total, equal_is, got, some_none}
+use Rattle.boxes.proofs.LimitedKeys.{limit_got}
 use Rattle.boxes.proofs.FileTotals.{used_less, count_less}
 use Rattle.boxes.proofs.NoBox.{none_used, none_counted}
-use Rattle.boxes.proofs.CommandSteps.{key_added_is, key_revoked_is, box_added_is, box_closed_is, file_dropped_is}
+use Rattle.boxes.proofs.CommandSteps.{key_added_is, key_revoked_is, box_added_is, box_closed_is, file_dropped_is, key_limited_is, allowance_set_is}
 
 all_map : {X : Type 0} (P Q : X → Type 0) (xs : List X) → ((x : X) → P x → Q x) → AllByRecursion P xs → AllByRecursion Q xs
 all_map P Q [] each all = tt
@@ -66,9 +70,25 @@ module _ (s : State) (id : List ℕ) (k : Key) (sound : IsSound s) (form : IsKey
   abbrev keyed : State
   keyed = record s { keys = insert s.keys id k }
 
-  set_key : HasClerk keyed → IsSound keyed
-  set_key clerk = record {
+  -- a key that is limited is there still, with its role
+  limits_too : ((x : Key) → get s.keys id ≡ Some x → x.role ≡ Link → k.role ≡ Link) → (key box : List ℕ) → IsLimitedTo s key box → IsLimitOf keyed key box
+  limits_too role key box held =
+      let was = sound.limits key box held in
+      let at = some_and (λ x. x.role ≡ Link) (get s.keys key) was.link in
+      record {
+        link = elim (eq_by_cmp bytes_cmp key id) as (λ t. eq_by_cmp bytes_cmp key id ≡ t → get keyed.keys key ≡ cond t (Some k) (get s.keys key) → IsSomeAnd (get keyed.keys key) (λ x. x.role ≡ Link)) [
+          | true ↦ λ t is.
+              let same = bytes_same key id (equal_is (bytes_cmp key id) t) in
+              of_some (λ x. x.role ≡ Link) (get keyed.keys key) k is (role at.0 (ap (get s.keys) (sym same) ∙ at.1) at.2)
+          | false ↦ λ t is. of_some (λ x. x.role ≡ Link) (get keyed.keys key) at.0 (is ∙ at.1) at.2
+        ] refl (get-insert bytes_total s.keys id k key);
+        box_there = was.box_there;
+      }
+
+  set_key : HasClerk keyed → ((x : Key) → get s.keys id ≡ Some x → x.role ≡ Link → k.role ≡ Link) → IsSound keyed
+  set_key clerk role = record {
     east = sound.east;
+    allowance = sound.allowance;
     keys = λ q x e. got s.keys id q k x (IsKeyId q × IsSecret x.secret) e (λ is v. (subst IsKeyId (sym is) form.0, subst (λ (y : Key). IsSecret y.secret) v form.1)) (λ old. sound.keys q x old);
     boxes = sound.boxes;
     files = λ place f e. file_too s keyed refl place f (sound.files place f e);
@@ -78,13 +98,14 @@ module _ (s : State) (id : List ℕ) (k : Key) (sound : IsSound s) (form : IsKey
         record { box = h.box; name = h.name; short = h.short; size = h.size; digest = h.digest; moment = h.moment; key = of_some (λ x. ⊤) (get keyed.keys r.key) now.0 now.1 tt }) sound.receipts;
     quotas = sound.quotas;
     clerk = clerk;
+    limits = limits_too role;
   }
 
 add_key : (s : State) (id : List ℕ) (k : Key) → IsSound s → IsKeyId id × IsSecret k.secret → get s.keys id ≡ None → IsSound (record s { keys = insert s.keys id k })
 add_key s id k sound form none =
     let c = sound.clerk in
     let apart : c.id ≡ id → ⊥ = λ e. some_none c.key (sym c.there ∙ ap (get s.keys) e ∙ none) in
-    set_key s id k sound form (record { id = c.id; key = c.key; there = stays_at s.keys id c.id k c.key apart c.there; clerk = c.clerk; unrevoked = c.unrevoked })
+    set_key s id k sound form (record { id = c.id; key = c.key; there = stays_at s.keys id c.id k c.key apart c.there; clerk = c.clerk; unrevoked = c.unrevoked }) (λ x there. absurd (some_none x (sym there ∙ none)))
 
 revoke_key : (s : State) (id : List ℕ) (k : Key) → IsSound s → get s.keys id ≡ Some k → CanRevoke s id k → IsSound (record s { keys = insert s.keys id (record k { revoked = true }) })
 revoke_key s id k sound there can =
@@ -103,7 +124,7 @@ revoke_key s id k sound there can =
           let at : get (insert s.keys id gone) c.id ≡ Some c.key = get-insert bytes_total s.keys id gone c.id ∙ ap (λ b. cond b (Some gone) (get s.keys c.id)) t ∙ c.there in
           record { id = c.id; key = c.key; there = at; clerk = c.clerk; unrevoked = c.unrevoked }
     ] refl in
-    set_key s id gone sound form clerk
+    set_key s id gone sound form clerk (λ x is link. let both : Some x ≡ Some k = sym is ∙ there in let same : x ≡ k = cc in ap (λ (y : Key). y.role) (sym same) ∙ link)
 
 module _ (s : State) (name : List ℕ) (b : Settings) (sound : IsSound s) (form : IsBoxName name × AreSettings b)
     (fits : (x : Settings) → get s.boxes name ≡ Some x → x.rule ≡ b.rule)
@@ -122,9 +143,17 @@ module _ (s : State) (name : List ℕ) (b : Settings) (sound : IsSound s) (form 
         | false ↦ λ t is. of_some (λ x. Fits x.rule r.name) (get boxed.boxes r.box) at.0 (is ∙ at.1) at.2
       ] refl (get-insert bytes_total s.boxes name b r.box)
 
+  limits_of_box : (key box : List ℕ) → IsLimitedTo s key box → IsLimitOf boxed key box
+  limits_of_box key box held =
+      let was = sound.limits key box held in
+      let at = there_is (get s.boxes box) was.box_there in
+      let now = stands_at s.boxes name box b at.0 at.1 in
+      record { link = was.link; box_there = ap is_some now.1 }
+
   pub set_box : IsSound boxed
   set_box = record {
     east = sound.east;
+    allowance = sound.allowance;
     keys = sound.keys;
     boxes = λ q x e. got s.boxes name q b x (IsBoxName q × AreSettings x) e (λ is v. (subst IsBoxName (sym is) form.0, subst AreSettings v form.1)) (λ old. sound.boxes q x old);
     files = λ place f e. file_too s boxed refl place f (sound.files place f e);
@@ -133,6 +162,7 @@ module _ (s : State) (name : List ℕ) (b : Settings) (sound : IsSound s) (form 
     quotas = λ q x e. got s.boxes name q b x ((used s q ≤ x.quota) × (count s q ≤ x.max_files)) e
         (λ is v. subst (λ (y : Settings). (used s q ≤ y.quota) × (count s q ≤ y.max_files)) v (subst (λ n. (used s n ≤ b.quota) × (count s n ≤ b.max_files)) (sym is) holds)) (λ old. sound.quotas q x old);
     clerk = let c = sound.clerk in record { id = c.id; key = c.key; there = c.there; clerk = c.clerk; unrevoked = c.unrevoked };
+    limits = limits_of_box;
   }
 
 add_box : (s : State) (name : List ℕ) (b : Settings) → IsSound s → IsBoxName name × AreSettings b → get s.boxes name ≡ None → IsSound (record s { boxes = insert s.boxes name b })
@@ -152,6 +182,7 @@ drop_file s place sound some =
     let after : State = record s { files = remove s.files place } in
     record {
       east = sound.east;
+      allowance = sound.allowance;
       keys = sound.keys;
       boxes = sound.boxes;
       files = λ q f e. file_too s after refl q f (sound.files q f (
@@ -168,7 +199,36 @@ drop_file s place sound some =
           let w = was.1 in
           (omega arith, omega arith);
       clerk = let c = sound.clerk in record { id = c.id; key = c.key; there = c.there; clerk = c.clerk; unrevoked = c.unrevoked };
+      limits = λ key box held. let was = sound.limits key box held in record { link = was.link; box_there = was.box_there };
     }
+
+-- a state with the same keys, boxes, files and receipts
+others_stay : (s after : State) → IsSound s → after ≡ record s { allowance = after.allowance; limits = after.limits } → after.allowance ≤ most_allowance
+    → ((key box : List ℕ) → IsLimitedTo after key box → IsLimitOf s key box) → IsSound after
+others_stay s after sound same allowance limits =
+    let now : State = record s { allowance = after.allowance; limits = after.limits } in
+    subst IsSound (sym same) (record {
+      east = sound.east;
+      allowance = allowance;
+      keys = sound.keys;
+      boxes = sound.boxes;
+      files = λ place f e. file_too s now refl place f (sound.files place f e);
+      receipts = all_map (IsReceipt s) (IsReceipt now) s.receipts (λ r h. record { box = h.box; name = h.name; short = h.short; size = h.size; digest = h.digest; moment = h.moment; key = h.key }) sound.receipts;
+      quotas = sound.quotas;
+      clerk = let c = sound.clerk in record { id = c.id; key = c.key; there = c.there; clerk = c.clerk; unrevoked = c.unrevoked };
+      limits = λ key box held. let was = limits key box held in record { link = was.link; box_there = was.box_there };
+    })
+
+limit_key : (s : State) (id box : List ℕ) → IsSound s → IsPossible s (LimitKey id box) → IsSound (record s { limits = insert s.limits (record { key = id; box = box }) tt })
+limit_key s id box sound possible =
+    let key = some_and CanLimit (get s.keys id) possible.0 in
+    others_stay s (record s { limits = insert s.limits (record { key = id; box = box }) tt }) sound refl sound.allowance (λ k b held.
+    limit_got s.limits id box k b (IsLimitOf s k b) held
+    (λ same_key same_box. record {
+      link = subst (λ i. IsSomeAnd (get s.keys i) (λ x. x.role ≡ Link)) (sym same_key) (of_some (λ x. x.role ≡ Link) (get s.keys id) key.0 key.1 key.2.1);
+      box_there = subst (λ n. IsSome (get s.boxes n)) (sym same_box) possible.1;
+    })
+    (λ old. sound.limits k b old))
 
 pub command_keeps_soundness : (s : State) (command : Command) (after : State) → IsSound s → HasForm command → IsPossible s command → CommandStep s command after → IsSound after
 command_keeps_soundness s (AddKey id role secret) after sound form possible step =
@@ -187,3 +247,7 @@ command_keeps_soundness s (CloseBox name moment) after sound form possible step 
     subst IsSound (sym it.2) (close_box s name it.0 moment sound form.1 it.1)
 command_keeps_soundness s (DropFile place) after sound form possible step =
     subst IsSound (sym (file_dropped_is s place after step)) (drop_file s place sound possible)
+command_keeps_soundness s (LimitKey id box) after sound form possible step =
+    subst IsSound (sym (key_limited_is s id box after step)) (limit_key s id box sound possible)
+command_keeps_soundness s (SetAllowance seconds) after sound form possible step =
+    subst IsSound (sym (allowance_set_is s seconds after step)) (others_stay s (record s { allowance = seconds }) sound refl form sound.limits)

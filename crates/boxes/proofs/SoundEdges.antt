@@ -13,7 +13,7 @@ use Rattle.boxes.specs.Rules.{IsName}
 use Rattle.boxes.specs.Sound.{is_rule_byte, IsDigest, IsMoment, IsBoxName, IsRuleText, IsNameRule, AreSettings, IsReceipt, IsFileOf, IsSound}
 use Rattle.boxes.specs.Changes.{IsBrought}
 use Rattle.boxes.specs.FirstState.{first_state}
-use Rattle.boxes.specs.Steps.{AddKey, RevokeKey, AddBox, CloseBox, DropFile}
+use Rattle.boxes.specs.Steps.{AddKey, RevokeKey, AddBox, CloseBox, DropFile, LimitKey, SetAllowance}
 use Rattle.boxes.specs.Commands.{HasForm}
 use Rattle.boxes.proofs.SoundFirstState.{sound_first_state}
 
@@ -173,17 +173,22 @@ no_upload_of_numbers s place now key is = let first : 256 < 256 = is.bytes.0 in 
 
 -- ---- offsets of fourteen hours, and a minute more
 
-pub furthest_east : (id secret : List ℕ) → IsKeyId id → IsSecret secret → IsSound (first_state (pos 840) id secret)
-furthest_east id secret = sound_first_state (pos 840) id secret (record { le = tt }) (record { le = tt })
+pub furthest_east : (id secret : List ℕ) → IsKeyId id → IsSecret secret → IsSound (first_state (pos 840) 900 id secret)
+furthest_east id secret = sound_first_state (pos 840) 900 id secret (record { le = tt }) (record { le = tt }) (lit≤ tt)
 
-pub furthest_west : (id secret : List ℕ) → IsKeyId id → IsSecret secret → IsSound (first_state (neg_ℤ (pos 840)) id secret)
-furthest_west id secret = sound_first_state (neg_ℤ (pos 840)) id secret (record { le = tt }) (record { le = tt })
+pub furthest_west : (id secret : List ℕ) → IsKeyId id → IsSecret secret → IsSound (first_state (neg_ℤ (pos 840)) 0 id secret)
+furthest_west id secret = sound_first_state (neg_ℤ (pos 840)) 0 id secret (record { le = tt }) (record { le = tt }) (lit≤ tt)
 
 pub not_further_east : (s : State) → s.offset ≡ pos 841 → IsSound s → ⊥
 not_further_east s is sound = (subst (λ o. o ≤ℤ pos 840) is sound.east.1).le
 
 pub not_further_west : (s : State) → s.offset ≡ neg_ℤ (pos 841) → IsSound s → ⊥
 not_further_west s is sound = (subst (λ o. neg_ℤ (pos 840) ≤ℤ o) is sound.east.0).le
+
+-- ---- allowances of a quarter of an hour, and a second more
+
+pub no_longer_allowance : (s : State) → s.allowance ≡ 901 → IsSound s → ⊥
+no_longer_allowance s is sound = let few : s.allowance ≤ 900 = sound.allowance in omega arith
 
 -- ---- desk commands
 
@@ -216,3 +221,12 @@ drops_names_of_1024 place box name long = (box, name, omega arith)
 
 pub drops_no_name_of_1025 : (place : Place) → length place.name ≡ 1025 → HasForm (DropFile place) → ⊥
 drops_no_name_of_1025 place long (box, name, short) = omega arith
+
+pub limits_to_named_boxes_alone : (id : List ℕ) → HasForm (LimitKey id (codes "/")) → ⊥
+limits_to_named_boxes_alone id (key, name) = no_slash name
+
+pub allows_900_seconds : HasForm (SetAllowance 900)
+allows_900_seconds = lit≤ tt
+
+pub allows_no_901 : HasForm (SetAllowance 901) → ⊥
+allows_no_901 is = omega arith

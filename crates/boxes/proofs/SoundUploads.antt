@@ -133,10 +133,12 @@ module _ (s : State) (u : Upload) (sound : IsSound s) (may : IsTaken s u) where
   pub upload_keeps_soundness : IsSound after
   upload_keeps_soundness = record {
     east = sound.east;
+    allowance = sound.allowance;
     keys = sound.keys;
     boxes = sound.boxes;
     files = all_files;
     receipts = all_append (IsReceipt s) (IsReceipt after) s.receipts (receipt_of u) old_receipt sound.receipts new_receipt;
     quotas = λ name b e. (quota name b e, number name b e);
     clerk = let k = sound.clerk in record { id = k.id; key = k.key; there = k.there; clerk = k.clerk; unrevoked = k.unrevoked };
+    limits = λ key box held. let was = sound.limits key box held in record { link = was.link; box_there = was.box_there };
   }

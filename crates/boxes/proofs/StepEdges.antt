@@ -55,7 +55,7 @@ box_entries = entries_put bytes_cmp empty (codes "in") settings [] bytes_total (
 
 -- a box with one file, and these keys
 abbrev pub with_keys : FinMap bytes_cmp Key → State
-with_keys keys = record { offset = pos 0; keys = keys; boxes = boxes; files = files; receipts = first ∷ [] }
+with_keys keys = record { offset = pos 0; allowance = 0; keys = keys; boxes = boxes; files = files; receipts = first ∷ []; limits = empty }
 
 abbrev pub office : State
 office = with_keys empty

@@ -58,10 +58,12 @@ two_entries = entries_put place_cmp one_file (in_box (codes "b")) second _ place
 abbrev state : FinMap place_cmp File → Settings → State
 state files box = record {
   offset = pos 0;
+  allowance = 0;
   keys = empty;
   boxes = insert empty (codes "in") box;
   files = files;
   receipts = [];
+  limits = empty;
 }
 
 abbrev upload : List ℕ → List ℕ → ℕ → Upload

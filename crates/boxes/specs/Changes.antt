@@ -14,7 +14,7 @@ use Rattle.boxes.specs.State.{State}
 use Rattle.boxes.specs.Rules.{Upload, UploadRule, Stands}
 use Rattle.boxes.specs.Rows.{settings_of}
 use Rattle.boxes.specs.Sound.{IsMoment}
-use Rattle.boxes.specs.Steps.{Command, AddKey, RevokeKey, AddBox, CloseBox, DropFile, IsPossible, CommandStep, after_upload}
+use Rattle.boxes.specs.Steps.{Command, AddKey, RevokeKey, AddBox, CloseBox, DropFile, LimitKey, SetAllowance, IsPossible, CommandStep, after_upload}
 use Rattle.boxes.specs.Commands.{HasForm}
 
 -- the command that a `Command` of the code is
@@ -24,6 +24,8 @@ command_of (command.RevokeKey id) = RevokeKey id.now
 command_of (command.AddBox name box) = AddBox name.now (settings_of box.now)
 command_of (command.CloseBox name moment) = CloseBox name.now moment
 command_of (command.DropFile box name) = DropFile (record { box = box.now; name = name.now })
+command_of (command.LimitKey id box) = LimitKey id.now box.now
+command_of (command.SetAllowance seconds) = SetAllowance seconds
 
 -- what every upload brings that reaches the rules of boxes: bytes within the limit, a moment, a key that stands
 pub record IsBrought (s : State) (u : Upload) : Type 0 where

@@ -1,9 +1,10 @@
 -- The forms of desk commands.
 use Rattle.std.specs.Prelude.{◌≤◌, length}
+use Rattle.sigv4.specs.Allowances.{most_allowance}
 use Rattle.sigv4.specs.Credential.{IsKeyId, IsSecret}
 use Rattle.boxes.specs.Rules.{IsName}
 use Rattle.boxes.specs.Sound.{IsBoxName, AreSettings, IsMoment}
-use Rattle.boxes.specs.Steps.{Command, AddKey, RevokeKey, AddBox, CloseBox, DropFile}
+use Rattle.boxes.specs.Steps.{Command, AddKey, RevokeKey, AddBox, CloseBox, DropFile, LimitKey, SetAllowance}
 
 -- what a command names has the forms of a sound state's
 abbrev pub HasForm : Command → Type 0
@@ -12,3 +13,5 @@ HasForm (RevokeKey id) = IsKeyId id
 HasForm (AddBox name settings) = IsBoxName name × AreSettings settings
 HasForm (CloseBox name moment) = IsBoxName name × IsMoment moment
 HasForm (DropFile place) = IsBoxName place.box × IsName place.name × (length place.name ≤ 1024)
+HasForm (LimitKey id box) = IsKeyId id × IsBoxName box
+HasForm (SetAllowance seconds) = seconds ≤ most_allowance

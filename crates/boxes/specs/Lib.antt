@@ -2,6 +2,7 @@ pub mod State
 pub mod Totals
 pub mod Opening
 pub mod Rules
+pub mod Limits
 pub mod Steps
 pub mod Sound
 pub mod Rows
@@ -11,3 +12,4 @@ pub mod Clerks
 pub mod Changes
 pub mod Views
 pub mod Deciding
+pub mod Maps

@@ -1,5 +1,5 @@
 -- What views say of a state.
-use Rattle.std.specs.Prelude.{◌≡◌, ◌↔◌, ℕ, ◌+◌, List, length, IsTrue, IsSome, Option, Some, option_map}
+use Rattle.std.specs.Prelude.{◌≡◌, ◌↔◌, ℕ, ◌+◌, List, length, ⊤, IsTrue, IsSome, Option, Some, option_map}
 use Rattle.std.specs.FinMap.{get}
 use Rattle.sigv4.specs.Hmac.{sha256}
 use Rattle.boxes.specs.declared.rows.ReceiptRow.{ReceiptRow}
@@ -11,9 +11,10 @@ use Rattle.boxes.specs.declared.uploads.NewBytes.{NewBytes}
 use Rattle.boxes.specs.State.{Place, State}
 use Rattle.boxes.specs.Totals.{used, count}
 use Rattle.boxes.specs.Clerks.{clerks}
+use Rattle.boxes.specs.Limits.{IsLimitedTo}
 use Rattle.boxes.specs.Rows.{IsOfficeOf, IsFileAt, key_of, receipt_in, settings_of}
 use Rattle.boxes.specs.Rules.{Upload, Stands}
-use Rattle.boxes.specs.Steps.{Command, AddKey, RevokeKey, AddBox, CloseBox, DropFile, HasReceipt}
+use Rattle.boxes.specs.Steps.{Command, AddKey, RevokeKey, AddBox, CloseBox, DropFile, LimitKey, SetAllowance, HasReceipt}
 
 -- the sums over the files of this box, taken afresh
 pub record AreTotals (s : State) (box : List ℕ) (t : Totals) : Type 0 where
@@ -45,6 +46,9 @@ IsDeskViewOf s (RevokeKey id) v = (option_map key_of v.key ≡ get s.keys id) ×
 IsDeskViewOf s (AddBox name settings) v = IsTrue v.has_box ↔ IsSome (get s.boxes name)
 IsDeskViewOf s (CloseBox name moment) v = IsTrue v.has_box ↔ IsSome (get s.boxes name)
 IsDeskViewOf s (DropFile place) v = IsTrue v.has_file ↔ IsSome (get s.files place)
+IsDeskViewOf s (LimitKey id box) v =
+    (option_map key_of v.key ≡ get s.keys id) × (IsTrue v.has_box ↔ IsSome (get s.boxes box)) × (IsTrue v.has_limit ↔ IsLimitedTo s id box)
+IsDeskViewOf s (SetAllowance seconds) v = ⊤
 
 -- what is known of an upload's bytes: their number, their digest, and whether they stand already
 pub record AreBytesOf (s : State) (u : Upload) (n : NewBytes) : Type 0 where

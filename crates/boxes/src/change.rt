@@ -39,6 +39,18 @@ pub enum Command<'a> {
         /// The file's name in the box.
         name: &'a [u8],
     },
+    /// Limits a key to this box, beside those that it is limited to already.
+    LimitKey {
+        /// The key's id.
+        id: &'a [u8],
+        /// The box's name.
+        in_box: &'a [u8],
+    },
+    /// Sets by how many seconds a link may begin early.
+    SetAllowance {
+        /// 0 to 900.
+        seconds: u64,
+    },
 }
 
 /// A file that is to be set, without its bytes, and so the receipt that is added.

@@ -1,11 +1,12 @@
 //! What is decided of a desk command.
 ghost use Rattle.std.specs.Prelude.{◌≡◌, ◌≤◌, ◌↔◌, IsTrue, IsFalse};
 ghost use Rattle.boxes.specs.Sound.{IsSound};
+ghost use Rattle.boxes.specs.Rows.{key_of};
 ghost use Rattle.boxes.specs.State.{State};
 ghost use Rattle.boxes.specs.Changes.{command_of};
 ghost use Rattle.boxes.specs.Views.{IsDeskViewOf};
 ghost use Rattle.boxes.specs.Deciding.{DecidesCommand};
-ghost use Rattle.boxes.specs.Steps.{IsPossible};
+ghost use Rattle.boxes.specs.Steps.{CanLimit, IsPossible};
 
 use crate::change::Command;
 use crate::rows::{KeyRow, Role};
@@ -23,6 +24,13 @@ fn may_be_revoked(key: &KeyRow, clerks: u64) -> bool
         }
 }
 
+// Whether the key may be limited to boxes.
+fn may_be_limited(key: &KeyRow) -> bool
+    ensures { IsTrue result ↔ CanLimit (key_of key.now) }
+{
+    !key.revoked && matches!(key.role, Role::Link)
+}
+
 // Whether the command is possible, from what the keeper said.
 fn is_possible(view: &DeskView, command: &Command<'_>) -> bool
     ensures { (s : State) → IsSound s → IsDeskViewOf s (command_of command.now) view.now
@@ -37,6 +45,11 @@ fn is_possible(view: &DeskView, command: &Command<'_>) -> bool
         Command::AddBox { .. } => !view.has_box,
         Command::CloseBox { .. } => view.has_box,
         Command::DropFile { .. } => view.has_file,
+        Command::LimitKey { .. } => match &view.key {
+            Some(key) => may_be_limited(key) && view.has_box && !view.has_limit,
+            None => false,
+        },
+        Command::SetAllowance { .. } => true,
     }
 }
 

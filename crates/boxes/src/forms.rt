@@ -1,6 +1,7 @@
 //! The forms of what a desk command names.
 ghost use Rattle.std.specs.Prelude.{◌≡◌, ◌≤◌, ◌↔◌, length, map, IsTrue};
 ghost use Rattle.std.specs.List.{AllByRecursion};
+ghost use Rattle.sigv4.specs.Allowances.{most_allowance};
 ghost use Rattle.boxes.specs.Changes.{command_of};
 ghost use Rattle.boxes.specs.Commands.{HasForm};
 ghost use Rattle.boxes.specs.Rows.{name_rule_of, settings_of};
@@ -11,7 +12,7 @@ use crate::change::Command;
 use crate::places::{MOST_NAME_BYTES, is_name};
 use crate::rows::{BoxRow, NameRule};
 use sigtext::is_word;
-use sigv4::{Moment, is_key_id, is_secret};
+use sigv4::{Allowance, Moment, is_key_id, is_secret};
 use std::str;
 
 const MOST_BOX_NAME_BYTES: usize = 63;
@@ -33,6 +34,13 @@ fn is_moment(moment: u64) -> bool
     ensures { IsTrue result ↔ IsMoment moment }
 {
     Moment::new(moment).is_some()
+}
+
+// Whether an office may let links begin so many seconds early.
+fn is_allowance(seconds: u64) -> bool
+    ensures { IsTrue result ↔ seconds ≤ most_allowance }
+{
+    Allowance::new(seconds).is_some()
 }
 
 // Whether the byte may stand in the name of a box: a-z 0-9 - .
@@ -117,5 +125,7 @@ pub fn has_form(command: &Command<'_>) -> bool
         Command::AddBox { name, row } => is_box_name(name) && are_settings(row),
         Command::CloseBox { name, moment } => is_box_name(name) && is_moment(*moment),
         Command::DropFile { in_box, name } => is_box_name(in_box) && is_file_name(name),
+        Command::LimitKey { id, in_box } => is_key_id(id) && is_box_name(in_box),
+        Command::SetAllowance { seconds } => is_allowance(*seconds),
     }
 }

@@ -1,4 +1,5 @@
 //! What an office keeps.
+use sigv4::Allowance;
 
 /// What a key may do. Both roles may put and fetch files.
 #[derive(Clone, Copy, Debug, PartialEq, Eq)]
@@ -23,6 +24,8 @@ pub enum Mode {
 pub struct OfficeRow {
     /// The offset of the office's clock east of UTC, in minutes: -840 to 840.
     pub east: i16,
+    /// By how many seconds a link may begin early.
+    pub allowance: Allowance,
 }
 
 /// A key, without its id. It has no `Debug`, so that no secret gets into a log by it.

@@ -37,4 +37,6 @@ pub struct DeskView {
     pub has_box: bool,
     /// Whether a file stands at the command's place.
     pub has_file: bool,
+    /// Whether the key is limited to the box already, maybe among others.
+    pub has_limit: bool,
 }

@@ -7,10 +7,10 @@ use Rattle.sigv4.specs.Dates.{WritesMoment}
 use Rattle.sigv4.specs.Credential.{is_key_byte}
 use Rattle.boxes.specs.declared.rows.Role.{Role}
 use Rattle.boxes.specs.State.{Settings, Place}
-use Rattle.boxes.specs.Steps.{Command, AddKey, RevokeKey, AddBox, CloseBox, DropFile}
+use Rattle.boxes.specs.Steps.{Command, AddKey, RevokeKey, AddBox, CloseBox, DropFile, LimitKey, SetAllowance}
 use Rattle.boxes.specs.Sound.{is_box_byte, AreSettings}
 use Rattle.boxes.specs.Commands.{HasForm}
-use Rattle.desk.specs.Texts.{role_word, SaysSettings, Says, adds_key, revokes_key, adds_box, closes_box, drops_file, IsCommand}
+use Rattle.desk.specs.Texts.{role_word, IsNumber, SaysSettings, Says, adds_key, revokes_key, adds_box, closes_box, drops_file, limits_key, sets_allowance, IsCommand}
 use Rattle.desk.proofs.Words.{differ, word_lacks}
 
 -- the text of the command, its words written out
@@ -21,6 +21,8 @@ IsTextOf text (AddBox name settings) =
     (words : List (List ℕ)) × SaysSettings words settings × (text ≡ codes "box add " ++ (name ++ 32 ∷ join_with_byte 32 words))
 IsTextOf text (CloseBox name moment) = (word : List ℕ) × WritesMoment word moment × (text ≡ codes "box close " ++ (name ++ 32 ∷ word))
 IsTextOf text (DropFile place) = text ≡ codes "file drop " ++ (place.box ++ 32 ∷ place.name)
+IsTextOf text (LimitKey id box) = text ≡ codes "key limit " ++ (id ++ 32 ∷ box)
+IsTextOf text (SetAllowance seconds) = (word : List ℕ) × IsNumber word seconds × (text ≡ codes "office allow " ++ word)
 
 -- settings are said by a word and more
 pub join_settings : (name : List ℕ) (words : List (List ℕ)) (settings : Settings) → SaysSettings words settings
@@ -34,6 +36,8 @@ says_text text words c (revokes_key id) is = is
 says_text text words c (adds_box name more settings says) is = (more, says, is ∙ ap (λ (t : List ℕ). codes "box add " ++ t) (join_settings name more settings says))
 says_text text words c (closes_box name word moment writes) is = (word, writes, is)
 says_text text words c (drops_file place) is = is
+says_text text words c (limits_key id box) is = is
+says_text text words c (sets_allowance word seconds number) is = (word, number, is)
 
 pub text_of : (text : List ℕ) (c : Command) → IsCommand text c → IsTextOf text c
 text_of text c is = says_text text is.words c is.says is.is
@@ -62,6 +66,8 @@ added_key words (RevokeKey id) is form = absurd (differ 4 _ _ 97 114 (text_of _ 
 added_key words (AddBox name settings) is form = let t = text_of (codes "key add " ++ words) (AddBox name settings) is in absurd (differ 0 _ _ 107 98 t.2 refl refl (λ e. omega arith))
 added_key words (CloseBox name moment) is form = let t = text_of (codes "key add " ++ words) (CloseBox name moment) is in absurd (differ 0 _ _ 107 98 t.2 refl refl (λ e. omega arith))
 added_key words (DropFile place) is form = absurd (differ 0 _ _ 107 102 (text_of _ _ is) refl refl (λ e. omega arith))
+added_key words (LimitKey id box) is form = absurd (differ 4 _ _ 97 108 (text_of _ _ is) refl refl (λ e. omega arith))
+added_key words (SetAllowance seconds) is form = let t = text_of (codes "key add " ++ words) (SetAllowance seconds) is in absurd (differ 0 _ _ 107 111 t.2 refl refl (λ e. omega arith))
 
 pub revoked_key : (id : List ℕ) (c : Command) → IsCommand (codes "key revoke " ++ id) c → c ≡ RevokeKey id
 revoked_key id (AddKey other role secret) is = absurd (differ 4 _ _ 114 97 (text_of _ _ is) refl refl (λ e. omega arith))
@@ -69,6 +75,8 @@ revoked_key id (RevokeKey other) is = ap (λ (t : List ℕ). RevokeKey (drop 11 
 revoked_key id (AddBox name settings) is = let t = text_of (codes "key revoke " ++ id) (AddBox name settings) is in absurd (differ 0 _ _ 107 98 t.2 refl refl (λ e. omega arith))
 revoked_key id (CloseBox name moment) is = let t = text_of (codes "key revoke " ++ id) (CloseBox name moment) is in absurd (differ 0 _ _ 107 98 t.2 refl refl (λ e. omega arith))
 revoked_key id (DropFile place) is = absurd (differ 0 _ _ 107 102 (text_of _ _ is) refl refl (λ e. omega arith))
+revoked_key id (LimitKey other box) is = absurd (differ 4 _ _ 114 108 (text_of _ _ is) refl refl (λ e. omega arith))
+revoked_key id (SetAllowance seconds) is = let t = text_of (codes "key revoke " ++ id) (SetAllowance seconds) is in absurd (differ 0 _ _ 107 111 t.2 refl refl (λ e. omega arith))
 
 pub record IsAddedBox (words : List ℕ) (c : Command) : Type 0 where
   pub name : List ℕ
@@ -97,6 +105,8 @@ added_box words (AddBox name settings) is form =
     }
 added_box words (CloseBox name moment) is form = let t = text_of (codes "box add " ++ words) (CloseBox name moment) is in absurd (differ 4 _ _ 97 99 t.2 refl refl (λ e. omega arith))
 added_box words (DropFile place) is form = absurd (differ 0 _ _ 98 102 (text_of _ _ is) refl refl (λ e. omega arith))
+added_box words (LimitKey id box) is form = absurd (differ 0 _ _ 98 107 (text_of _ _ is) refl refl (λ e. omega arith))
+added_box words (SetAllowance seconds) is form = let t = text_of (codes "box add " ++ words) (SetAllowance seconds) is in absurd (differ 0 _ _ 98 111 t.2 refl refl (λ e. omega arith))
 
 pub record IsClosedBox (words : List ℕ) (c : Command) : Type 0 where
   pub name : List ℕ
@@ -123,6 +133,8 @@ closed_box words (CloseBox name moment) is form =
       word = word_lacks is_box_byte 63 name 32 refl form.0;
     }
 closed_box words (DropFile place) is form = absurd (differ 0 _ _ 98 102 (text_of _ _ is) refl refl (λ e. omega arith))
+closed_box words (LimitKey id box) is form = absurd (differ 0 _ _ 98 107 (text_of _ _ is) refl refl (λ e. omega arith))
+closed_box words (SetAllowance seconds) is form = let t = text_of (codes "box close " ++ words) (SetAllowance seconds) is in absurd (differ 0 _ _ 98 111 t.2 refl refl (λ e. omega arith))
 
 pub record IsDroppedFile (words : List ℕ) (c : Command) : Type 0 where
   pub place : Place
@@ -141,6 +153,51 @@ dropped_file words (DropFile place) is form =
       command = refl;
       text = ap (λ (t : List ℕ). drop 10 t) (text_of _ _ is);
       word = word_lacks is_box_byte 63 place.box 32 refl form.0;
+    }
+dropped_file words (LimitKey id box) is form = absurd (differ 0 _ _ 102 107 (text_of _ _ is) refl refl (λ e. omega arith))
+dropped_file words (SetAllowance seconds) is form = let t = text_of (codes "file drop " ++ words) (SetAllowance seconds) is in absurd (differ 0 _ _ 102 111 t.2 refl refl (λ e. omega arith))
+
+pub record IsLimitedKey (words : List ℕ) (c : Command) : Type 0 where
+  pub id : List ℕ
+  pub box : List ℕ
+  pub command : c ≡ LimitKey id box
+  pub text : words ≡ id ++ 32 ∷ box
+  pub word : Lacks 32 id
+
+pub limited_key : (words : List ℕ) (c : Command) → IsCommand (codes "key limit " ++ words) c → HasForm c → IsLimitedKey words c
+limited_key words (AddKey id role secret) is form = absurd (differ 4 _ _ 108 97 (text_of _ _ is) refl refl (λ e. omega arith))
+limited_key words (RevokeKey id) is form = absurd (differ 4 _ _ 108 114 (text_of _ _ is) refl refl (λ e. omega arith))
+limited_key words (AddBox name settings) is form = let t = text_of (codes "key limit " ++ words) (AddBox name settings) is in absurd (differ 0 _ _ 107 98 t.2 refl refl (λ e. omega arith))
+limited_key words (CloseBox name moment) is form = let t = text_of (codes "key limit " ++ words) (CloseBox name moment) is in absurd (differ 0 _ _ 107 98 t.2 refl refl (λ e. omega arith))
+limited_key words (DropFile place) is form = absurd (differ 0 _ _ 107 102 (text_of _ _ is) refl refl (λ e. omega arith))
+limited_key words (LimitKey id box) is form =
+    record {
+      id = id;
+      box = box;
+      command = refl;
+      text = ap (λ (t : List ℕ). drop 10 t) (text_of _ _ is);
+      word = word_lacks is_key_byte 64 id 32 refl form.0;
+    }
+limited_key words (SetAllowance seconds) is form = let t = text_of (codes "key limit " ++ words) (SetAllowance seconds) is in absurd (differ 0 _ _ 107 111 t.2 refl refl (λ e. omega arith))
+
+pub record IsSetAllowance (word : List ℕ) (c : Command) : Type 0 where
+  pub seconds : ℕ
+  pub command : c ≡ SetAllowance seconds
+  pub number : IsNumber word seconds
+
+pub set_allowance : (word : List ℕ) (c : Command) → IsCommand (codes "office allow " ++ word) c → IsSetAllowance word c
+set_allowance word (AddKey id role secret) is = absurd (differ 0 _ _ 111 107 (text_of _ _ is) refl refl (λ e. omega arith))
+set_allowance word (RevokeKey id) is = absurd (differ 0 _ _ 111 107 (text_of _ _ is) refl refl (λ e. omega arith))
+set_allowance word (AddBox name settings) is = let t = text_of (codes "office allow " ++ word) (AddBox name settings) is in absurd (differ 0 _ _ 111 98 t.2 refl refl (λ e. omega arith))
+set_allowance word (CloseBox name moment) is = let t = text_of (codes "office allow " ++ word) (CloseBox name moment) is in absurd (differ 0 _ _ 111 98 t.2 refl refl (λ e. omega arith))
+set_allowance word (DropFile place) is = absurd (differ 0 _ _ 111 102 (text_of _ _ is) refl refl (λ e. omega arith))
+set_allowance word (LimitKey id box) is = absurd (differ 0 _ _ 111 107 (text_of _ _ is) refl refl (λ e. omega arith))
+set_allowance word (SetAllowance seconds) is =
+    let t = text_of (codes "office allow " ++ word) (SetAllowance seconds) is in
+    record {
+      seconds = seconds;
+      command = refl;
+      number = subst (λ (x : List ℕ). IsNumber x seconds) (sym (ap (λ (x : List ℕ). drop 13 x) t.2)) t.1;
     }
 
 -- ---- and back
@@ -182,4 +239,20 @@ writes_drop words box name first =
       words = codes "file" ∷ codes "drop" ∷ box ∷ name ∷ [];
       says = drops_file (record { box = box; name = name });
       is = ap (λ (t : List ℕ). codes "file drop " ++ t) first;
+    }
+
+pub writes_limit : (words id box : List ℕ) → words ≡ id ++ 32 ∷ box → IsCommand (codes "key limit " ++ words) (LimitKey id box)
+writes_limit words id box first =
+    record {
+      words = codes "key" ∷ codes "limit" ∷ id ∷ box ∷ [];
+      says = limits_key id box;
+      is = ap (λ (t : List ℕ). codes "key limit " ++ t) first;
+    }
+
+pub writes_allowance : (word : List ℕ) (seconds : ℕ) → IsNumber word seconds → IsCommand (codes "office allow " ++ word) (SetAllowance seconds)
+writes_allowance word seconds number =
+    record {
+      words = codes "office" ∷ codes "allow" ∷ word ∷ [];
+      says = sets_allowance word seconds number;
+      is = refl;
     }

@@ -1,5 +1,5 @@
 -- Texts that are commands, and texts that are none.
-use Rattle.std.proofs.Common.{◌≡◌, ◌<◌, ℕ, true, List, [], ◌∷◌, ◌++◌, get_or, drop, refl, sym, ap, subst, ◌∙◌, Some, arith, lit<, lit≤}
+use Rattle.std.proofs.Common.{◌≡◌, ◌<◌, ◌≤◌, ℕ, true, List, [], ◌∷◌, ◌++◌, get_or, drop, refl, sym, ap, subst, ◌∙◌, Some, arith, lit<, lit≤}
 use Rattle.std.specs.Prelude.{codes, IsUtf8}
 use Rattle.std.specs.List.{AllByRecursion, join_with_byte}
 use Rattle.std.proofs.lemmas.Int.{ints}
@@ -14,13 +14,13 @@ use Rattle.sigv4.proofs.Vectors.{may_24, last}
 use Rattle.boxes.specs.declared.rows.Role.TheVariants as role
 use Rattle.boxes.specs.declared.rows.Mode.TheVariants as mode
 use Rattle.boxes.specs.State.{Ends, Settings}
-use Rattle.boxes.specs.Steps.{Command, AddKey, RevokeKey, AddBox, CloseBox, DropFile}
+use Rattle.boxes.specs.Steps.{Command, AddKey, RevokeKey, AddBox, CloseBox, DropFile, LimitKey, SetAllowance}
 use Rattle.boxes.specs.Sound.{is_box_byte}
 use Rattle.boxes.specs.Commands.{HasForm}
-use Rattle.desk.specs.Texts.{minute_word, IsNumber, SaysSettings, adds_key, revokes_key, adds_box, closes_box, drops_file, IsCommand}
+use Rattle.desk.specs.Texts.{minute_word, IsNumber, SaysSettings, adds_key, revokes_key, adds_box, closes_box, drops_file, limits_key, sets_allowance, IsCommand}
 use Rattle.desk.proofs.Words.{differ, cut_once, word_lacks}
 use Rattle.desk.proofs.NineTexts.{nine_texts}
-use Rattle.desk.proofs.Commands.{text_of, added_box, revoked_key}
+use Rattle.desk.proofs.Commands.{text_of, added_box, revoked_key, set_allowance}
 use Rattle.desk.proofs.OneCommand.{cut_spaces, cuts_settings}
 
 utf8 : (text : List ℕ) → AllByRecursion (λ b. b < 128) text → IsUtf8 text
@@ -51,6 +51,8 @@ no_empty_word (RevokeKey id) is = differ 4 _ _ 32 114 (text_of _ _ is) refl refl
 no_empty_word (AddBox name settings) is = let t = text_of (codes "key  revoke k2") (AddBox name settings) is in differ 0 _ _ 107 98 t.2 refl refl (λ e. omega arith)
 no_empty_word (CloseBox name moment) is = let t = text_of (codes "key  revoke k2") (CloseBox name moment) is in differ 0 _ _ 107 98 t.2 refl refl (λ e. omega arith)
 no_empty_word (DropFile place) is = differ 0 _ _ 107 102 (text_of _ _ is) refl refl (λ e. omega arith)
+no_empty_word (LimitKey id box) is = differ 4 _ _ 32 108 (text_of _ _ is) refl refl (λ e. omega arith)
+no_empty_word (SetAllowance seconds) is = let t = text_of (codes "key  revoke k2") (SetAllowance seconds) is in differ 0 _ _ 107 111 t.2 refl refl (λ e. omega arith)
 
 -- a space behind the last word
 pub no_space_behind : (c : Command) → IsCommand (codes "key revoke k2 ") c → HasForm c → ⊥
@@ -214,3 +216,40 @@ dropped_has_form = (
   record { some = lit< tt; text = utf8 (codes " a b") (lit< tt, (lit< tt, (lit< tt, (lit< tt, tt)))); plain = refl },
   lit≤ tt,
 )
+
+-- ---- limits, and allowances of 0 to 900 seconds
+
+pub limits_k2 : IsCommand (codes "key limit k2 in") (LimitKey (codes "k2") (codes "in"))
+limits_k2 = record { words = codes "key" ∷ codes "limit" ∷ codes "k2" ∷ codes "in" ∷ []; says = limits_key (codes "k2") (codes "in"); is = refl }
+
+pub limited_k2_has_form : HasForm (LimitKey (codes "k2") (codes "in"))
+limited_k2_has_form = (record { some = lit< tt; short = lit≤ tt; each = refl }, record { some = lit< tt; short = lit≤ tt; each = refl })
+
+pub is_900 : IsNumber (codes "900") 900
+is_900 = record { digits = record { some = lit< tt; short = lit≤ tt; each = refl }; first = λ rest e. absurd (differ 0 _ _ 57 48 e refl refl (λ f. omega arith)); value = refl }
+
+pub allows_900 : IsCommand (codes "office allow 900") (SetAllowance 900)
+allows_900 = record { words = codes "office" ∷ codes "allow" ∷ codes "900" ∷ []; says = sets_allowance (codes "900") 900 is_900; is = refl }
+
+pub allowed_900_has_form : HasForm (SetAllowance 900)
+allowed_900_has_form = lit≤ tt
+
+pub allows_0 : IsCommand (codes "office allow 0") (SetAllowance 0)
+allows_0 = record { words = codes "office" ∷ codes "allow" ∷ codes "0" ∷ []; says = sets_allowance (codes "0") 0 is_0; is = refl }
+
+-- a second more
+pub no_allowance_901 : (c : Command) → IsCommand (codes "office allow 901") c → HasForm c → ⊥
+no_allowance_901 c is form =
+    let a = set_allowance (codes "901") c is in
+    let bound : a.seconds ≤ 900 = subst HasForm a.command form in
+    omega (arith, ints, bound, a.number.value)
+
+-- a zero before a number, and before 0 itself
+no_zero_before : (rest : List ℕ) (c : Command) → IsCommand (codes "office allow 0" ++ rest) c → (rest ≡ [] → ⊥) → ⊥
+no_zero_before rest c is some = let a = set_allowance (48 ∷ rest) c is in some (a.number.first rest refl)
+
+pub no_allowance_0900 : (c : Command) → IsCommand (codes "office allow 0900") c → ⊥
+no_allowance_0900 c is = no_zero_before (codes "900") c is (λ e. cc)
+
+pub no_allowance_00 : (c : Command) → IsCommand (codes "office allow 00") c → ⊥
+no_allowance_00 c is = no_zero_before (codes "0") c is (λ e. cc)

@@ -10,14 +10,14 @@ use Rattle.sigtext.proofs.Pieces.{tested}
 use Rattle.sigv4.specs.Dates.{WritesMoment}
 use Rattle.sigv4.proofs.Moments.{moment_once}
 use Rattle.boxes.specs.State.{NameRule, AnyName, Ends, Begins, Settings}
-use Rattle.boxes.specs.Steps.{Command, AddKey, RevokeKey, AddBox, CloseBox, DropFile}
+use Rattle.boxes.specs.Steps.{Command, AddKey, RevokeKey, AddBox, CloseBox, DropFile, LimitKey, SetAllowance}
 use Rattle.boxes.specs.Sound.{IsNameRule, AreSettings}
 use Rattle.boxes.specs.Commands.{HasForm}
 use Rattle.std.specs.Str.Parse.{digits_value}
 use Rattle.desk.specs.Texts.{role_word, rule_words, SaysSettings, IsCommand}
 use Rattle.desk.proofs.Words.{cut_once, differ, role_lacks_space, role_once, mode_once, days_once, minute_once}
 use Rattle.desk.proofs.NineTexts.{ends_once, without_commas, nine_texts, cut_settings}
-use Rattle.desk.proofs.Commands.{text_of, IsAddedKey, added_key, revoked_key, IsAddedBox, added_box, IsClosedBox, closed_box, IsDroppedFile, dropped_file}
+use Rattle.desk.proofs.Commands.{text_of, IsAddedKey, added_key, revoked_key, IsAddedBox, added_box, IsClosedBox, closed_box, IsDroppedFile, dropped_file, IsLimitedKey, limited_key, IsSetAllowance, set_allowance}
 
 -- ---- settings
 
@@ -107,6 +107,14 @@ drop_once words a b k l =
     let first = cut_once 32 words l.place.box l.place.name k.place.box k.place.name (l.text, l.word) k.word k.text in
     l.command ∙ (λ i. DropFile (record { box = first.0 i; name = first.1 i })) ∙ sym k.command
 
+limit_once : (words : List ℕ) (a b : Command) → IsLimitedKey words a → IsLimitedKey words b → b ≡ a
+limit_once words a b k l =
+    let first = cut_once 32 words l.id l.box k.id k.box (l.text, l.word) k.word k.text in
+    l.command ∙ (λ i. LimitKey (first.0 i) (first.1 i)) ∙ sym k.command
+
+allowance_once : (word : List ℕ) (a b : Command) → IsSetAllowance word a → IsSetAllowance word b → b ≡ a
+allowance_once word a b k l = l.command ∙ ap SetAllowance (l.number.value ∙ sym k.number.value) ∙ sym k.command
+
 pub command_once : (text : List ℕ) (a b : Command) → IsCommand text a → HasForm a → IsCommand text b → HasForm b → b ≡ a
 command_once text (AddKey id role secret) b is form is₂ form₂ =
     let a = AddKey id role secret in
@@ -130,3 +138,12 @@ command_once text (DropFile place) b is form is₂ form₂ =
     let words = place.box ++ 32 ∷ place.name in
     let front = text_of text a is in
     drop_once words a b (dropped_file words a (subst (λ (t : List ℕ). IsCommand t a) front is) form) (dropped_file words b (subst (λ (t : List ℕ). IsCommand t b) front is₂) form₂)
+command_once text (LimitKey id box) b is form is₂ form₂ =
+    let a = LimitKey id box in
+    let words = id ++ 32 ∷ box in
+    let front = text_of text a is in
+    limit_once words a b (limited_key words a (subst (λ (t : List ℕ). IsCommand t a) front is) form) (limited_key words b (subst (λ (t : List ℕ). IsCommand t b) front is₂) form₂)
+command_once text (SetAllowance seconds) b is form is₂ form₂ =
+    let a = SetAllowance seconds in
+    let t = text_of text a is in
+    allowance_once t.0 a b (set_allowance t.0 a (subst (λ (x : List ℕ). IsCommand x a) t.2 is)) (set_allowance t.0 b (subst (λ (x : List ℕ). IsCommand x b) t.2 is₂))

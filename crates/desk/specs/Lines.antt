@@ -3,7 +3,7 @@ use Rattle.std.specs.Prelude.{◌≡◌, ◌⊎◌, ℕ, List, [], ◌∷◌, �
 use Rattle.sigv4.specs.Dates.{WritesMoment}
 use Rattle.boxes.specs.Commands.{HasForm}
 use Rattle.boxes.specs.State.{Settings}
-use Rattle.boxes.specs.Steps.{Command, AddKey, RevokeKey, AddBox, CloseBox, DropFile}
+use Rattle.boxes.specs.Steps.{Command, AddKey, RevokeKey, AddBox, CloseBox, DropFile, LimitKey, SetAllowance}
 use Rattle.boxes.specs.Rows.{settings_of}
 use Rattle.desk.specs.Texts.{days_word, minute_word, mode_word, IsCommand, IsNumber}
 use Rattle.desk.specs.declared.line.DeskLine.{DeskLine}
@@ -16,6 +16,8 @@ said (line.RevokeKey id) = RevokeKey id.now
 said (line.AddBox name row) = AddBox name.now (settings_of row)
 said (line.CloseBox name moment) = CloseBox name.now moment
 said (line.DropFile box name) = DropFile (record { box = box.now; name = name.now })
+said (line.LimitKey id box) = LimitKey id.now box.now
+said (line.SetAllowance seconds) = SetAllowance seconds
 
 -- the line is the text's command
 abbrev pub SaysCommand : List ℕ → DeskLine → Type 0

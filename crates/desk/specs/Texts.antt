@@ -10,7 +10,7 @@ use Rattle.boxes.specs.declared.rows.Role.TheVariants as role
 use Rattle.boxes.specs.declared.rows.Mode.{Mode}
 use Rattle.boxes.specs.declared.rows.Mode.TheVariants as mode
 use Rattle.boxes.specs.State.{NameRule, AnyName, Ends, Begins, Settings, Place}
-use Rattle.boxes.specs.Steps.{Command, AddKey, RevokeKey, AddBox, CloseBox, DropFile}
+use Rattle.boxes.specs.Steps.{Command, AddKey, RevokeKey, AddBox, CloseBox, DropFile, LimitKey, SetAllowance}
 
 abbrev pub role_word : Role → List ℕ
 role_word role.Clerk = codes "clerk"
@@ -32,7 +32,7 @@ days_word days = map day_digit days
 abbrev pub minute_word : ℕ → List ℕ
 minute_word minute = two_digits (minute / 60) ++ two_digits (minute % 60)
 
--- digits without a leading zero, but for the number 0. No number of a box has more than 13.
+-- digits without a leading zero, but for the number 0. No number of a command has more than 13.
 pub record IsNumber (text : List ℕ) (n : ℕ) : Type 0 where
   pub digits : IsWord is_ascii_digit 13 text
   pub first : (rest : List ℕ) → text ≡ 48 ∷ rest → rest ≡ []
@@ -72,6 +72,9 @@ pub data Says : List (List ℕ) → Command → Type 0 where
   closes_box : (name text : List ℕ) (moment : ℕ) → WritesMoment text moment
       → Says (codes "box" ∷ codes "close" ∷ name ∷ text ∷ []) (CloseBox name moment)
   drops_file : (place : Place) → Says (codes "file" ∷ codes "drop" ∷ place.box ∷ place.name ∷ []) (DropFile place)
+  limits_key : (id box : List ℕ) → Says (codes "key" ∷ codes "limit" ∷ id ∷ box ∷ []) (LimitKey id box)
+  sets_allowance : (text : List ℕ) (seconds : ℕ) → IsNumber text seconds
+      → Says (codes "office" ∷ codes "allow" ∷ text ∷ []) (SetAllowance seconds)
 
 -- the text is the command's: its words, one space apart
 pub record IsCommand (text : List ℕ) (command : Command) : Type 0 where

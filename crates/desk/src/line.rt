@@ -33,6 +33,15 @@ pub enum DeskLine<'a> {
         in_box: &'a [u8],
         name: &'a [u8],
     },
+    /// `key limit ID BOX`.
+    LimitKey {
+        id: &'a [u8],
+        in_box: &'a [u8],
+    },
+    /// `office allow SECONDS`.
+    SetAllowance {
+        seconds: u64,
+    },
 }
 
 impl DeskLine<'_> {
@@ -53,6 +62,8 @@ impl DeskLine<'_> {
                 moment: *moment,
             },
             DeskLine::DropFile { in_box, name } => Command::DropFile { in_box, name },
+            DeskLine::LimitKey { id, in_box } => Command::LimitKey { id, in_box },
+            DeskLine::SetAllowance { seconds } => Command::SetAllowance { seconds: *seconds },
         }
     }
 }

@@ -6,7 +6,7 @@ ghost use Rattle.desk.specs.Lines.{said, FindsCommand, HasListedRule, HasRuleWor
 
 use crate::line::DeskLine;
 use crate::settings::read_settings;
-use crate::values::read_role;
+use crate::values::{read_number, read_role};
 use boxes::has_form;
 use links::read_moment;
 use sigtext::cut;
@@ -57,7 +57,25 @@ fn read_drop(words: &[u8]) -> Option<DeskLine<'_>>
     Some(DeskLine::DropFile { in_box, name })
 }
 
-// One of the five forms, whatever the forms of what it names.
+// What follows `key limit `.
+fn read_limit(words: &[u8]) -> Option<DeskLine<'_>>
+    ensures some { IfSome result (SaysCommand (codes "key limit " ++ words.now)) }
+    ensures all { FindsCommand (codes "key limit " ++ words.now) result }
+{
+    let (id, in_box) = cut(words, b' ')?;
+    Some(DeskLine::LimitKey { id, in_box })
+}
+
+// What follows `office allow `.
+fn read_allowance(word: &[u8]) -> Option<DeskLine<'_>>
+    ensures some { IfSome result (SaysCommand (codes "office allow " ++ word.now)) }
+    ensures all { FindsCommand (codes "office allow " ++ word.now) result }
+{
+    let seconds = read_number(word)?;
+    Some(DeskLine::SetAllowance { seconds })
+}
+
+// One of the seven forms, whatever the forms of what it names.
 fn read_line(alloc: Global, line: &[u8]) -> Result<Option<DeskLine<'_>>, AllocError>
     ensures some { IfFound result (SaysCommand line.now) }
     ensures all { IfOk result (FindsCommand line.now) }
@@ -75,14 +93,20 @@ fn read_line(alloc: Global, line: &[u8]) -> Result<Option<DeskLine<'_>>, AllocEr
     if let Some(words) = line.strip_prefix(b"box close ") {
         return Ok(read_closing(words));
     }
-    match line.strip_prefix(b"file drop ") {
-        Some(words) => Ok(read_drop(words)),
+    if let Some(words) = line.strip_prefix(b"file drop ") {
+        return Ok(read_drop(words));
+    }
+    if let Some(words) = line.strip_prefix(b"key limit ") {
+        return Ok(read_limit(words));
+    }
+    match line.strip_prefix(b"office allow ") {
+        Some(word) => Ok(read_allowance(word)),
         None => Ok(None),
     }
 }
 
-/// Reads a desk command: words with one space between them, in one of five forms. ID, SECRET and the names of boxes and
-/// files have the forms that the office asks of them (`boxes::has_form`).
+/// Reads a desk command: words with one space between them, in one of seven forms. ID, SECRET and the names of boxes
+/// and files have the forms that the office asks of them (`boxes::has_form`).
 ///
 /// - `key add ID ROLE SECRET`, where ROLE is `clerk` or `link`;
 /// - `key revoke ID`;
@@ -92,7 +116,9 @@ fn read_line(alloc: Global, line: &[u8]) -> Result<Option<DeskLine<'_>>, AllocEr
 ///   and RULE `any`, `ends T,T,..` with 1 to 8 endings of 1 to 32 bytes, or `begins T` with a beginning of 1 to 64 bytes;
 ///   a T is UTF-8 with no comma, space or control byte in it;
 /// - `box close NAME MOMENT`, with MOMENT as OPENS;
-/// - `file drop BOX NAME`, where NAME runs to the end and may hold spaces.
+/// - `file drop BOX NAME`, where NAME runs to the end and may hold spaces;
+/// - `key limit ID BOX`;
+/// - `office allow SECONDS`, with SECONDS up to 900, without leading zeros, though `0` itself may stand.
 ///
 /// None where the line is no command.
 ///

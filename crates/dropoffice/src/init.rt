@@ -4,7 +4,7 @@ ghost use Rattle.std.specs.Prelude.{pos, ◌≤ℤ◌, IfSome};
 use crate::faults::Fault;
 use crate::opening::{Purpose, connect, disconnect};
 use boxes::OfficeRow;
-use sigv4::{is_key_id, is_secret};
+use sigv4::{Allowance, is_key_id, is_secret};
 use sqlite::{Alter, Connection};
 use sqlkeeper::{OpenFault, SqlKeeper};
 use std::alloc::Global;
@@ -53,7 +53,11 @@ fn read_office(words: &Init<'_>) -> Result<OfficeRow, Fault<'static>> {
     }
     let east = minutes_of(words.east).ok_or(Fault::MalformedValue("east"))?;
     let west = minutes_of(words.west).ok_or(Fault::MalformedValue("west"))?;
-    Ok(OfficeRow { east: east - west })
+    let allowance = allowance_of(words.allowance).ok_or(Fault::MalformedValue("allowance"))?;
+    Ok(OfficeRow {
+        east: east - west,
+        allowance,
+    })
 }
 
 fn check_secret(secret: &[u8]) -> Result<(), Fault<'static>> {
@@ -96,6 +100,11 @@ fn minutes_of(text: &str) -> Option<i16>
     } else {
         None
     }
+}
+
+// A whole number of seconds, from 0 to 900. The program's words hold no other.
+fn allowance_of(text: &str) -> Option<Allowance> {
+    Allowance::new(text.parse::<u64>().ok()?)
 }
 
 // Makes the file, without a byte and for its owner alone, where there is none. Whether it did.

@@ -7,6 +7,7 @@ mod init;
 mod linking;
 mod listening;
 mod listing;
+mod migrating;
 mod opening;
 mod program;
 mod replaying;

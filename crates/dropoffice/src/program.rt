@@ -5,6 +5,7 @@ use crate::init::do_init;
 use crate::linking::do_link;
 use crate::listening::do_serve;
 use crate::listing::{do_compare, do_links, do_manifest};
+use crate::migrating::do_migrate;
 use crate::replaying::do_replay;
 use clap::Error as WordsError;
 use clap::error::ErrorKind;
@@ -39,6 +40,7 @@ pub fn perform(
         Ok(Task::Link(words)) => status_of(do_link(rt, &words, &mut out), &mut err),
         Ok(Task::Links(words)) => status_of(do_links(rt, &words, input, out), &mut err),
         Ok(Task::Manifest(words)) => status_of(do_manifest(rt, &words, out), &mut err),
+        Ok(Task::Migrate(words)) => status_of(do_migrate(rt, &words, &mut out), &mut err),
         Ok(Task::Compare(words)) => status_of(do_compare(rt, &words, input, out), &mut err),
         Ok(Task::Serve(words)) => status_of(do_serve(rt, &words, &mut out), &mut err),
         Ok(Task::Replay(words)) => status_of(do_replay(rt, &words, out), &mut err),

@@ -6,12 +6,13 @@ use Rattle.std.specs.Ordering.{is_eq, eq_by_cmp}
 use Rattle.std.specs.Cmp.{tied_itself}
 use Rattle.std.specs.FinMap.{FinMap, get, insert}
 use Rattle.std.specs.BTreeMap.{BTreeMap}
+use Rattle.std.specs.BTreeSet.{BTreeSet}
 use Rattle.std.proofs.lemmas.List.{map-append}
 use Rattle.sigtext.specs.Bytes.{bytes_cmp, same_bytes}
 use Rattle.boxes.specs.declared.rows.KeyRow.{KeyRow}
 use Rattle.boxes.specs.declared.rows.ReceiptRow.{ReceiptRow}
 use Rattle.boxes.specs.declared.totals.Totals.{Totals}
-use Rattle.boxes.specs.State.{Settings, Place, place_cmp, File, Receipt, State}
+use Rattle.boxes.specs.State.{Settings, Place, place_cmp, File, Receipt, limit_cmp, State}
 use Rattle.boxes.specs.Rows.{key_of, numbered, numbered_receipt}
 use Rattle.boxes.specs.Totals.{used, count}
 use Rattle.boxes.specs.Clerks.{clerks}
@@ -20,11 +21,12 @@ use Rattle.boxes.specs.Views.{AreTotals}
 use Rattle.boxes.proofs.Lookups.{bytes_total, bytes_same, equal_is}
 use Rattle.boxes.proofs.FileTotals.{texts_apart}
 use Rattle.boxes.proofs.NoBox.{all_at}
+pub use Rattle.boxes.proofs.FileBoxes.{there_is, file_in_box}
 use Rattle.keeper.specs.declared.shelf.Shelf.{Shelf}
 use Rattle.keeper.specs.declared.shelf.ShelvedBox.{ShelvedBox}
 use Rattle.keeper.specs.declared.shelf.StoredFile.{StoredFile}
 use Rattle.keeper.specs.Maps.{found, MapMeans, Sets}
-use Rattle.keeper.specs.Shelves.{Holds, bytes_of, place_of, shelved_settings, stored_file}
+use Rattle.keeper.specs.Shelves.{Holds, LimitsMean, bytes_of, place_of, shelved_settings, stored_file}
 use Rattle.keeper.proofs.MapLemmas.{means-set, means-same, some_of}
 
 clash : false ≡ true → ⊥
@@ -37,6 +39,7 @@ pub holds_keys : (k : Shelf) (s : State) (keys : BTreeMap (Vec ℕ Global) KeyRo
     → Holds (record k { keys = keys; clerks = n }) (record s { keys = insert s.keys id (key_of row) })
 holds_keys k s keys id row n h sets counted fewer = record {
   offset = h.offset;
+  allowance = h.allowance;
   keys = means-set bytes_cmp bytes_of bytes_total key_of k.keys.entries keys.entries s.keys id row h.keys sets;
   boxes = h.boxes;
   files = h.files;
@@ -44,6 +47,7 @@ holds_keys k s keys id row n h sets counted fewer = record {
   totals = λ name b e. let t = h.totals name b e in record { used = t.used; count = t.count };
   clerks = counted;
   fewer = fewer;
+  limits = h.limits;
 }
 
 -- a box was set
@@ -52,6 +56,7 @@ pub holds_boxes : (k : Shelf) (s : State) (boxes : BTreeMap (Vec ℕ Global) She
     → Holds (record k { boxes = boxes }) (record s { boxes = insert s.boxes name (shelved_settings b) })
 holds_boxes k s boxes name b h sets are = record {
   offset = h.offset;
+  allowance = h.allowance;
   keys = h.keys;
   boxes = means-set bytes_cmp bytes_of bytes_total shelved_settings k.boxes.entries boxes.entries s.boxes name b h.boxes sets;
   files = h.files;
@@ -67,6 +72,7 @@ holds_boxes k s boxes name b h sets are = record {
       ] refl (sym (sets.each q) ∙ e);
   clerks = h.clerks;
   fewer = h.fewer;
+  limits = h.limits;
 }
 
 -- the files of one box changed, and receipts were added
@@ -79,6 +85,7 @@ pub holds_files : (k : Shelf) (s : State) (files : BTreeMap (Vec ℕ Global × V
     → Holds (record k { files = files; boxes = boxes; receipts = receipts }) (record s { files = fs; receipts = rs })
 holds_files k s files boxes receipts fs rs name b t h means listed there sets are others = record {
   offset = h.offset;
+  allowance = h.allowance;
   keys = h.keys;
   boxes = means-same bytes_cmp bytes_of bytes_total shelved_settings k.boxes.entries boxes.entries s.boxes name b (record b { totals = t }) h.boxes there refl sets;
   files = means;
@@ -99,11 +106,24 @@ holds_files k s files boxes receipts fs rs name b t h means listed there sets ar
       ] refl (sym (sets.each q) ∙ e);
   clerks = h.clerks;
   fewer = h.fewer;
+  limits = h.limits;
 }
 
-pub there_is : {X : Type 0} (o : Option X) → IsSome o → (x : X) × (o ≡ Some x)
-there_is None h = absurd cc
-there_is (Some x) h = (x, refl)
+-- the kept limits mean others
+pub holds_limits : (k : Shelf) (s : State) (limits : BTreeMap (Vec ℕ Global) (BTreeSet (Vec ℕ Global))) (ls : FinMap limit_cmp (Unit {0})) → Holds k s
+    → LimitsMean limits.entries ls → Holds (record k { limits = limits }) (record s { limits = ls })
+holds_limits k s limits ls h means = record {
+  offset = h.offset;
+  allowance = h.allowance;
+  keys = h.keys;
+  boxes = h.boxes;
+  files = h.files;
+  receipts = h.receipts;
+  totals = λ name b e. let t = h.totals name b e in record { used = t.used; count = t.count };
+  clerks = h.clerks;
+  fewer = h.fewer;
+  limits = means;
+}
 
 -- the box of a name that stands
 pub box_there : (k : Shelf) (s : State) (name : List ℕ) → Holds k s → IsSome (get s.boxes name)
@@ -112,17 +132,6 @@ box_there k s name h some =
     let b = there_is (get s.boxes name) some in
     let it = some_of shelved_settings (found bytes_cmp bytes_of k.boxes.entries name) b.0 (sym (h.boxes.each name) ∙ b.1) in
     (it.0, it.1, b.1 ∙ ap (λ (x : Settings). Some x) (sym it.2))
-
-and_some : {X : Type 0} (P : X → Type 0) (o : Option X) → IsSomeAnd o P → IsSome o
-and_some P None h = absurd h
-and_some P (Some x) h = refl
-
--- a file that stands lies in a box that stands
-pub file_in_box : (s : State) (place : Place) (f : File) → IsSound s → get s.files place ≡ Some f → IsSome (get s.boxes place.box)
-file_in_box s place f sound there =
-    let it = sound.files place f there in
-    let r = all_at (IsReceipt s) s.receipts it.listed.place it.receipt sound.receipts it.listed.listed in
-    subst (λ (b : List ℕ). IsSome (get s.boxes b)) it.box (and_some _ (get s.boxes it.receipt.box) r.box)
 
 pub numbered-push : (n : ℕ) (rs : List Receipt) (r : Receipt) → numbered n (rs ++ r ∷ []) ≡ numbered n rs ++ (n + length rs, r) ∷ []
 numbered-push n [] r = ap (λ k. (k, r) ∷ []) (let e : n ≡ n + 0 = omega arith in e)
@@ -138,6 +147,7 @@ long_of (Some x) = refl
 pub same_boxes : (k : Shelf) (s : State) (boxes : BTreeMap (Vec ℕ Global) ShelvedBox) → Holds k s → boxes.entries ≡ k.boxes.entries → Holds (record k { boxes = boxes }) s
 same_boxes k s boxes h e = record {
   offset = h.offset;
+  allowance = h.allowance;
   keys = h.keys;
   boxes = subst (λ es. MapMeans bytes_cmp bytes_of shelved_settings es s.boxes) (sym e) h.boxes;
   files = h.files;
@@ -145,6 +155,7 @@ same_boxes k s boxes h e = record {
   totals = λ name b there. h.totals name b (ap (λ es. found bytes_cmp bytes_of es name) (sym e) ∙ there);
   clerks = h.clerks;
   fewer = h.fewer;
+  limits = h.limits;
 }
 
 -- a receipt was added

@@ -1,20 +1,34 @@
 -- A shelf means one state.
-use Rattle.std.proofs.Common.{◌≡◌, ◌∙◌, ℕ, ◌+◌, List, [], ◌∷◌, refl, sym, ap}
-use Rattle.std.specs.FinMap.{FinMap, same_map, IsAntisymmetric}
+use Rattle.std.proofs.Common.{◌≡◌, ◌∙◌, ℕ, ◌+◌, List, [], ◌∷◌, Option, Some, None, refl, sym, ap}
+use Rattle.std.specs.Prelude.{Vec, is_some}
+use Rattle.std.specs.BTreeSet.{BTreeSet}
+use Rattle.std.specs.declared.alloc.Global.{Global}
+use Rattle.std.specs.FinMap.{FinMap, get, same_map, IsAntisymmetric}
 use Rattle.std.specs.Cmp.{IsTotalOrder}
 use Rattle.std.specs.declared.cmp.Ordering.{Ordering}
 use Rattle.sigtext.specs.Bytes.{bytes_cmp}
-use Rattle.boxes.specs.State.{place_cmp, Receipt, State}
+use Rattle.boxes.specs.State.{place_cmp, limit_cmp, Receipt, State}
 use Rattle.boxes.specs.Rows.{key_of, numbered}
 use Rattle.boxes.proofs.Lookups.{bytes_total, bytes_same, place_total}
 use Rattle.boxes.proofs.FileTotals.{place_same}
+use Rattle.boxes.proofs.LimitedKeys.{limit_total, limit_same}
 use Rattle.keeper.specs.declared.shelf.Shelf.{Shelf}
 use Rattle.keeper.specs.Maps.{MapMeans}
-use Rattle.keeper.specs.Shelves.{Holds, bytes_of, place_of, shelved_settings, stored_file}
+use Rattle.keeper.specs.Shelves.{Holds, LimitsMean, bytes_of, place_of, shelved_settings, stored_file}
 
 -- entries mean one map
 one_map : {K K' X Y : Type 0} (R : K' → K' → Ordering) (f : K → K') (g : X → Y) → IsTotalOrder R → IsAntisymmetric R → (es : List (K × X)) (m n : FinMap R Y) → MapMeans R f g es m → MapMeans R f g es n → m ≡ n
 one_map R f g o same es m n a b = same_map o same m n (λ q. a.each q ∙ sym (b.each q))
+
+-- there is one thing that a limit can have
+one_unit : (o p : Option (Unit {0})) → is_some o ≡ is_some p → o ≡ p
+one_unit None None e = refl
+one_unit None (Some x) e = absurd cc
+one_unit (Some x) None e = absurd cc
+one_unit (Some x) (Some y) e = refl
+
+same_limits : (es : List (Vec ℕ Global × BTreeSet (Vec ℕ Global))) (m n : FinMap limit_cmp (Unit {0})) → LimitsMean es m → LimitsMean es n → m ≡ n
+same_limits es m n a b = same_map limit_total limit_same m n (λ l. one_unit (get m l) (get n l) (a.each l ∙ sym (b.each l)))
 
 one_list : (n : ℕ) (rs ss : List Receipt) → numbered n rs ≡ numbered n ss → rs ≡ ss
 one_list n [] [] e = refl
@@ -33,5 +47,7 @@ one_state k s t a b =
     let keys = one_map bytes_cmp bytes_of key_of bytes_total bytes_same k.keys.entries s.keys t.keys a.keys b.keys in
     let boxes = one_map bytes_cmp bytes_of shelved_settings bytes_total bytes_same k.boxes.entries s.boxes t.boxes a.boxes b.boxes in
     let files = one_map place_cmp place_of stored_file place_total place_same k.files.entries s.files t.files a.files b.files in
+    let allowance : s.allowance ≡ t.allowance = sym a.allowance ∙ b.allowance in
+    let limits = same_limits k.limits.entries s.limits t.limits a.limits b.limits in
     let receipts = one_list 1 s.receipts t.receipts (sym a.receipts ∙ b.receipts) in
-    λ i. record { offset = offset i; keys = keys i; boxes = boxes i; files = files i; receipts = receipts i }
+    λ i. record { offset = offset i; allowance = allowance i; keys = keys i; boxes = boxes i; files = files i; receipts = receipts i; limits = limits i }

@@ -1,11 +1,13 @@
 -- What the ordered maps of a shelf mean.
-use Rattle.std.specs.Prelude.{◌≡◌, ℕ, ◌≤◌, List, length, map, Vec, Some, Result, IfErr, false}
+use Rattle.std.specs.Prelude.{◌≡◌, ℕ, ◌≤◌, List, length, map, Vec, Bool, false, IsTrue, Some, is_some, option_map, unwrap_or, Result, IfErr}
+use Rattle.std.specs.BTreeSet.{BTreeSet, contains_by}
+use Rattle.std.specs.FinMap.{FinMap, get}
 use Rattle.std.specs.declared.alloc.Global.{Global}
 use Rattle.sigtext.specs.Bytes.{bytes_cmp}
 use Rattle.sigtext.specs.Counts.{CountsErrors}
 use Rattle.boxes.specs.declared.rows.Role.{Role}
 use Rattle.boxes.specs.declared.change.NewFile.{NewFile}
-use Rattle.boxes.specs.State.{Key, Place, place_cmp, File, Receipt, Settings, State}
+use Rattle.boxes.specs.State.{Key, Place, place_cmp, File, Receipt, Settings, Limit, limit_cmp, State}
 use Rattle.boxes.specs.Rows.{key_of, settings_of, numbered, numbered_receipt}
 use Rattle.boxes.specs.Clerks.{clerks}
 use Rattle.boxes.specs.Views.{AreTotals}
@@ -28,10 +30,24 @@ shelved_settings b = settings_of b.row
 abbrev pub stored_file : StoredFile → File
 stored_file f = record { bytes = f.bytes.items; receipt = f.number }
 
--- The maps are those of the state, the receipts are numbered, the kept totals are the sums over the files, and the
--- kept number of clerks is theirs. It is no more than the keys.
+-- the set has this box
+abbrev pub has_box : BTreeSet (Vec ℕ Global) → List ℕ → Bool
+has_box boxes name = contains_by (λ x. bytes_cmp name (bytes_of x)) boxes
+
+-- the set that stands under the limit's key has its box
+abbrev pub has_limit : List (Vec ℕ Global × BTreeSet (Vec ℕ Global)) → Limit → Bool
+has_limit es l = unwrap_or (option_map (λ boxes. has_box boxes l.box) (found bytes_cmp bytes_of es l.key)) false
+
+-- the entries are the limits of the map, and no set is empty
+pub record LimitsMean (es : List (Vec ℕ Global × BTreeSet (Vec ℕ Global))) (m : FinMap limit_cmp (Unit {0})) : Type 0 where
+  pub each : (l : Limit) → is_some (get m l) ≡ has_limit es l
+  pub some : (key : List ℕ) (boxes : BTreeSet (Vec ℕ Global)) → found bytes_cmp bytes_of es key ≡ Some boxes → (box : List ℕ) × IsTrue (has_box boxes box)
+
+-- The maps and the limits are those of the state, the receipts are numbered, the kept totals are the sums over the
+-- files, and the kept number of clerks is theirs. It is no more than the keys.
 pub record Holds (k : Shelf) (s : State) : Type 0 where
   pub offset : k.office.east ≡ s.offset
+  pub allowance : k.office.allowance ≡ s.allowance
   pub keys : MapMeans bytes_cmp bytes_of key_of k.keys.entries s.keys
   pub boxes : MapMeans bytes_cmp bytes_of shelved_settings k.boxes.entries s.boxes
   pub files : MapMeans place_cmp place_of stored_file k.files.entries s.files
@@ -39,6 +55,7 @@ pub record Holds (k : Shelf) (s : State) : Type 0 where
   pub totals : (name : List ℕ) (b : ShelvedBox) → found bytes_cmp bytes_of k.boxes.entries name ≡ Some b → AreTotals s name b.totals
   pub clerks : k.clerks ≡ clerks s
   pub fewer : k.clerks ≤ length k.keys.entries
+  pub limits : LimitsMean k.limits.entries s.limits
 
 -- What a call leaves that only asks: the shelf means what it meant, and an error, of memory alone, is counted.
 pub record Looks {T : Type 0} (old new : Shelf) (result : Result T KeepFault) : Type 0 where

@@ -1,10 +1,11 @@
 //! The trait that every keeper meets.
-ghost use Rattle.std.specs.Prelude.{◌≡◌, ℕ, ◌+◌, ◌⊎◌, length, map, option_map, IfErr, OnOk, OnErr, IsErrOf};
+ghost use Rattle.std.specs.Prelude.{◌≡◌, ◌↔◌, ℕ, ◌+◌, ◌⊎◌, length, map, option_map, IsTrue, IfErr, OnOk, OnErr, IsErrOf};
 ghost use Rattle.std.specs.FinMap.{get};
 ghost use Rattle.sigtext.specs.Counts.{CountsErrors};
 ghost use Rattle.boxes.specs.State.{State};
 ghost use Rattle.boxes.specs.Views.{AreTotals};
 ghost use Rattle.boxes.specs.Clerks.{clerks};
+ghost use Rattle.boxes.specs.Limits.{IsLimitedTo, MayUse};
 ghost use Rattle.boxes.specs.Rows.{IsOfficeOf, key_of, settings_of, IsFileAt, receipts_from, numbered_receipt};
 ghost use Rattle.boxes.specs.Sound.{IsSound};
 ghost use Rattle.boxes.specs.Changes.{IsChangeOf, IsPastFull};
@@ -64,6 +65,23 @@ pub trait Keeper {
             (λ s k. option_map key_of k ≡ get s.keys id.now) }
         ensures rest { Stays means is_honest is_open faults leaves leaves_whole has_store
             self.old self.new result };
+
+    /// Whether the key of this id may use the box of this name: it is not limited, or this box is one of those that it is
+    /// limited to. Neither need be there. Takes no memory.
+    fn may_use(&mut self, id: &[u8], in_box: &[u8]) -> Result<bool, KeepFault>
+        ensures value { Answers means is_honest self.old self.new result
+            (λ s b. IsTrue b ↔ MayUse s id.now in_box.now) }
+        ensures rest { Stays means is_honest is_open faults leaves leaves_whole has_store
+            self.old self.new result }
+        ensures sure { OnErr result has_store };
+
+    /// Whether this box is one of those that the key of this id is limited to. Takes no memory.
+    fn has_limit(&mut self, id: &[u8], in_box: &[u8]) -> Result<bool, KeepFault>
+        ensures value { Answers means is_honest self.old self.new result
+            (λ s b. IsTrue b ↔ IsLimitedTo s id.now in_box.now) }
+        ensures rest { Stays means is_honest is_open faults leaves leaves_whole has_store
+            self.old self.new result }
+        ensures sure { OnErr result has_store };
 
     /// The box of this name.
     fn box_row(&mut self, name: &[u8]) -> Result<Option<BoxRow>, KeepFault>

@@ -5,6 +5,7 @@ ghost use Rattle.sigtext.specs.Counts.{Rose};
 ghost use Rattle.boxes.specs.State.{State};
 ghost use Rattle.boxes.specs.Sound.{IsSound};
 ghost use Rattle.boxes.specs.Clerks.{is_acting};
+ghost use Rattle.boxes.specs.Limits.{IsLimitedTo, MayUse};
 ghost use Rattle.boxes.specs.Rows.{key_of, settings_of, receipts_from, numbered_receipt, IsFileAt};
 ghost use Rattle.boxes.specs.Views.{AreTotals};
 ghost use Rattle.boxes.specs.Changes.{most_receipts};
@@ -14,7 +15,7 @@ use crate::copies::{copy_box, copy_key, copy_receipt, copy_receipts};
 use crate::keep::KeepFault;
 use boxes::{BoxRow, FileRow, KeyRow, OfficeRow, ReceiptRow, Role, Totals};
 use std::alloc::{AllocError, Global};
-use std::collections::BTreeMap;
+use std::collections::{BTreeMap, BTreeSet};
 
 /// A box, and what it holds.
 #[derive(Drop)]
@@ -37,6 +38,8 @@ pub struct Shelf {
     pub(crate) keys: BTreeMap<Vec<u8>, KeyRow>,
     pub(crate) boxes: BTreeMap<Vec<u8>, ShelvedBox>,
     pub(crate) files: BTreeMap<(Vec<u8>, Vec<u8>), StoredFile>,
+    // The boxes that a key is limited to, by its id. No set is empty.
+    pub(crate) limits: BTreeMap<Vec<u8>, BTreeSet<Vec<u8>>>,
     pub(crate) receipts: Vec<ReceiptRow>,
     pub(crate) clerks: u64,
     pub(crate) faults: u64,
@@ -136,6 +139,24 @@ impl Shelf {
             Ok(copy) => Ok(Some(copy)),
             Err(_) => Err(self.count()),
         }
+    }
+
+    /// Whether the key of this id may use the box of this name.
+    pub(crate) fn allows(&self, id: &[u8], in_box: &[u8]) -> bool
+        ensures { (s : State) → Holds self.now s → IsTrue result ↔ MayUse s id.now in_box.now }
+    {
+        match self.limits.get(id) {
+            Some(boxes) => boxes.contains(in_box),
+            None => true,
+        }
+    }
+
+    /// Whether this box is one of those that the key of this id is limited to.
+    pub(crate) fn is_limited_to(&self, id: &[u8], in_box: &[u8]) -> bool
+        ensures { (s : State) → Holds self.now s → IsTrue result ↔ IsLimitedTo s id.now in_box.now }
+    {
+        let boxes = self.limits.get(id);
+        boxes.is_some_and(|own| own.contains(in_box))
     }
 
     /// The box of this name.

@@ -36,6 +36,14 @@ impl Keeper for Shelf {
         self.find_key(id)
     }
 
+    fn may_use(&mut self, id: &[u8], in_box: &[u8]) -> Result<bool, KeepFault> {
+        Ok(self.allows(id, in_box))
+    }
+
+    fn has_limit(&mut self, id: &[u8], in_box: &[u8]) -> Result<bool, KeepFault> {
+        Ok(self.is_limited_to(id, in_box))
+    }
+
     fn box_row(&mut self, name: &[u8]) -> Result<Option<BoxRow>, KeepFault> {
         self.find_box(name)
     }
@@ -85,16 +93,18 @@ impl Shelf {
         secret: &[u8],
     ) -> Result<Shelf, KeepFault>
         ensures means { IfOk result (λ k. ⟦<Shelf as Keeper>⟧.means k
-            (first_state office.east id.now secret.now)) }
+            (first_state office.east office.allowance id.now secret.now)) }
         ensures sound { neg_ℤ (pos 840) ≤ℤ office.east → office.east ≤ℤ pos 840 → IsKeyId id.now
             → IsSecret secret.now
-            → IsSound (first_state office.east id.now secret.now) }
+            → IsSound (first_state office.east office.allowance id.now secret.now) }
         ensures honest { IfOk result ⟦<Shelf as Keeper>⟧.is_honest }
         ensures opened { IfOk result ⟦<Shelf as Keeper>⟧.is_open }
         ensures none { IfOk result (λ k. ⟦<Shelf as Keeper>⟧.faults k ≡ 0) }
         ensures no_store { ⟦<Shelf as Keeper>⟧.has_store → ⊥ }
         ensures fault { IfErr result (λ f. f ≡ KeepFault.Memory) }
     {
+        // The clause of this call says how great an allowance is at most.
+        let _ = office.allowance.seconds();
         let Ok((id, row)) = new_key(alloc, id, Role::Clerk, secret) else {
             return Err(KeepFault::Memory);
         };
@@ -105,6 +115,7 @@ impl Shelf {
                 keys,
                 boxes: BTreeMap::new(alloc),
                 files: BTreeMap::new(alloc),
+                limits: BTreeMap::new(alloc),
                 receipts: Vec::new(alloc),
                 clerks: 1,
                 faults: 0,

@@ -1,9 +1,10 @@
 //! What changes a keeper in memory. Growth comes first, and the change last.
 ghost use Rattle.std.specs.Prelude.{◌≡◌, ◌≤◌, ◌<◌, ◌⊎◌, Some, true, length, cond, option_map, IfOk, IfErr, OnOk, OnErr};
+ghost use Rattle.std.specs.FinMap.{FinMap, insert};
 ghost use Rattle.sigtext.specs.Bytes.{bytes_cmp};
 ghost use Rattle.sigtext.specs.Counts.{CountsErrors};
-ghost use Rattle.boxes.specs.State.{State};
-ghost use Rattle.boxes.specs.Steps.{AddKey, RevokeKey, AddBox, CloseBox, DropFile};
+ghost use Rattle.boxes.specs.State.{State, limit_cmp};
+ghost use Rattle.boxes.specs.Steps.{AddKey, RevokeKey, AddBox, CloseBox, DropFile, LimitKey, SetAllowance};
 ghost use Rattle.boxes.specs.Sound.{IsSound};
 ghost use Rattle.boxes.specs.Clerks.{is_acting};
 ghost use Rattle.boxes.specs.Rows.{key_of, settings_of, numbered_receipt};
@@ -11,14 +12,15 @@ ghost use Rattle.boxes.specs.Changes.{IsFileSet, IsObeyed, command_of, most_rece
 ghost use Rattle.boxes.specs.declared.rows.KeyRow.{KeyRow};
 ghost use Rattle.keeper.specs.declared.shelf.ShelvedBox.{ShelvedBox};
 ghost use Rattle.keeper.specs.Maps.{found, Sets};
-ghost use Rattle.keeper.specs.Shelves.{Holds, bytes_of, place_of, shelved_settings, stored_file, added_key, set_receipt};
+ghost use Rattle.keeper.specs.Shelves.{Holds, LimitsMean, bytes_of, place_of, shelved_settings, stored_file, added_key, set_receipt};
 
 use crate::copies::copy_box;
 use crate::keep::KeepFault;
 use crate::shelf::{Shelf, ShelvedBox, StoredFile, acting, has_room, new_place};
 use boxes::{BoxRow, Command, KeyRow, NewFile, ReceiptRow, Role, Totals};
+use sigv4::Allowance;
 use std::alloc::{AllocError, Global};
-use std::collections::BTreeMap;
+use std::collections::{BTreeMap, BTreeSet};
 
 /// A key that is added, as it is kept.
 pub(crate) fn new_key(
@@ -81,6 +83,30 @@ fn new_file(
             key: Vec::from_slice(alloc, file.key)?,
         },
     ))
+}
+
+/// The key of this id is limited to this box too.
+fn add_limit(
+    alloc: Global,
+    limits: &mut BTreeMap<Vec<u8>, BTreeSet<Vec<u8>>>,
+    id: &[u8],
+    in_box: &[u8],
+) -> Result<(), AllocError>
+    ensures made { (m : FinMap limit_cmp (Unit {0})) → LimitsMean limits.old.entries m
+        → OnOk result (LimitsMean limits.new.entries
+        (insert m (record { key = id.now; box = in_box.now }) tt)) }
+    ensures same { (m : FinMap limit_cmp (Unit {0})) → LimitsMean limits.old.entries m
+        → OnErr result (LimitsMean limits.new.entries m) }
+{
+    let name = Vec::from_slice(alloc, in_box)?;
+    if let Some(boxes) = limits.get_mut(id) {
+        boxes.insert(name)?;
+        return Ok(());
+    }
+    let mut boxes = BTreeSet::new(alloc);
+    boxes.insert(name)?;
+    limits.insert(Vec::from_slice(alloc, id)?, boxes)?;
+    Ok(())
 }
 
 /// How long a file is.
@@ -253,6 +279,31 @@ impl Shelf {
         Ok(())
     }
 
+    /// Limits a key to this box too.
+    fn limit_key(&mut self, id: &[u8], in_box: &[u8]) -> Result<(), KeepFault>
+        ensures made { (s after : State) → Holds self.old s
+            → IsObeyed s (LimitKey id.now in_box.now) after → OnOk result (Holds self.new after) }
+        ensures same { (s : State) → Holds self.old s → OnErr result (Holds self.new s) }
+        ensures count { CountsErrors self.old.faults self.new.faults result }
+        ensures fault { IfErr result (λ f. f ≡ KeepFault.Memory) }
+    {
+        match add_limit(self.alloc, &mut self.limits, id, in_box) {
+            Ok(()) => Ok(()),
+            Err(_) => Err(self.count()),
+        }
+    }
+
+    /// Sets by how many seconds a link may begin early. Takes no memory.
+    fn set_allowance(&mut self, seconds: u64)
+        ensures made { (s after : State) → Holds self.old s
+            → IsObeyed s (SetAllowance seconds) after → Holds self.new after }
+        ensures faults { self.new.faults ≡ self.old.faults }
+    {
+        if let Some(allowance) = Allowance::new(seconds) {
+            self.office.allowance = allowance;
+        }
+    }
+
     /// Does what a command of the desk says.
     pub(crate) fn obey(&mut self, command: &Command<'_>) -> Result<(), KeepFault>
         ensures made { (s after : State) → Holds self.old s → IsSound s
@@ -273,6 +324,11 @@ impl Shelf {
                 Ok(())
             }
             Command::DropFile { in_box, name } => self.drop_file(in_box, name),
+            Command::LimitKey { id, in_box } => self.limit_key(id, in_box),
+            Command::SetAllowance { seconds } => {
+                self.set_allowance(*seconds);
+                Ok(())
+            }
         }
     }
 }

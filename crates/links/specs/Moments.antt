@@ -10,10 +10,6 @@ pub record Now : Type 0 where
 abbrev pub moment_with : ℕ → ℕ → Now
 moment_with allowance moment = record { moment = moment; allowance = allowance }
 
--- a moment, with no allowance
-abbrev pub at : ℕ → Now
-at moment = moment_with 0 moment
-
 -- a window from the start on has begun
 abbrev pub HasBegun : Now → ℕ → Type 0
 HasBegun n start = start ≤ n.moment + n.allowance

@@ -1,8 +1,9 @@
 //! What a well-formed link says.
-ghost use Rattle.std.specs.Prelude.{◌≡◌, ◌<◌, ◌+◌, ◌++◌, ℕ, List, length, vec_len, vec_capacity, IfErr, IfOk, MatchOption, OnErr, OnOk};
+ghost use Rattle.std.specs.Prelude.{◌≡◌, ◌↔◌, ◌<◌, ◌+◌, ◌++◌, ℕ, List, length, vec_len, vec_capacity, IfErr, IfOk, IsTrue, MatchOption, OnErr, OnOk};
 ghost use Rattle.sigtext.specs.Request.{Request};
 ghost use Rattle.links.specs.WellFormed.{LinkValues, HasValue};
 ghost use Rattle.links.specs.LinkReadings.{IsLinkOf};
+ghost use Rattle.links.specs.Moments.{HasBegun, moment_with};
 
 use crate::six_values::SixValues;
 use percent_encoding::percent_decode;
@@ -32,6 +33,14 @@ impl LinkParts<'_> {
             Ok(scope) => scope.key_id,
             Err(_) => &[],
         }
+    }
+
+    /// Whether the link's window has begun at this moment.
+    pub fn has_begun(&self, now: Moment) -> bool
+        ensures { (r : Request) (p : LinkValues) → IsLinkOf self.now r p
+            → (IsTrue result ↔ HasBegun (moment_with 0 now) p.start) }
+    {
+        self.start.seconds() <= now.seconds()
     }
 
     /// Appends the decoded path. An error leaves the vector: memory was refused, where it had no room for the path.

@@ -7,10 +7,9 @@ use Rattle.sigtext.specs.Refusals.{number_of}
 use Rattle.sigtext.specs.Request.{Request}
 use Rattle.links.specs.WellFormed.{LinkValues, HeadRule}
 use Rattle.links.specs.Admits.{LinkRule, IsSignedBy, Admits}
-use Rattle.links.specs.Moments.{at}
 use Rattle.boxes.specs.State.{State}
 use Rattle.boxes.specs.Rules.{UploadRule, FetchRule}
-use Rattle.office.specs.Rules.{IsPut, IsPost, IsFetch, place_of, known, upload_of, FormRule, DeskRule, Rule}
+use Rattle.office.specs.Rules.{IsPut, IsPost, IsFetch, place_of, known, judged_at, upload_of, FormRule, DeskRule, Rule}
 
 any : {X : Type 0} (o : Option X) → IfSome o (λ x. ⊤)
 any None = tt
@@ -63,7 +62,7 @@ later s r now p rule.CommandMalformed le = absurd (omega arith)
 later s r now p rule.CommandNotPossible le = absurd (omega arith)
 later s r now p rule.TryAgain le = absurd (omega arith)
 
-link_rule : (s : State) (r : Request) (now : ℕ) (a : Admits (known s) r (at now)) (q : Refusal) → LinkRule q (known s a.parts.key_id) r (at now) a.parts
+link_rule : (s : State) (r : Request) (now : ℕ) (a : Admits (known s) r (judged_at s now)) (q : Refusal) → LinkRule q (known s a.parts.key_id) r (judged_at s now) a.parts
 link_rule s r now a rule.HeadMalformed = tt
 link_rule s r now a rule.HeadTooLong = tt
 link_rule s r now a rule.TransferCoding = tt
@@ -102,7 +101,7 @@ link_rule s r now a rule.CommandMalformed = tt
 link_rule s r now a rule.CommandNotPossible = tt
 link_rule s r now a rule.TryAgain = tt
 
-pub admitted_hold : (s : State) (r : Request) (now : ℕ) → Admits (known s) r (at now) → (p : LinkValues) × ((q : Refusal) → number_of q ≤ 23 → Rule s r now q p)
+pub admitted_hold : (s : State) (r : Request) (now : ℕ) → Admits (known s) r (judged_at s now) → (p : LinkValues) × ((q : Refusal) → number_of q ≤ 23 → Rule s r now q p)
 admitted_hold s r now a = (
   a.parts,
   λ q le.
@@ -153,7 +152,7 @@ there_is : {X : Type 0} (o : Option X) → IsSome o → (x : X) × (o ≡ Some x
 there_is None there = cc
 there_is (Some x) there = (x, refl)
 
-pub hold_admitted : (s : State) (r : Request) (now : ℕ) (p : LinkValues) → ((q : Refusal) → number_of q ≤ 23 → Rule s r now q p) → Admits (known s) r (at now)
+pub hold_admitted : (s : State) (r : Request) (now : ℕ) (p : LinkValues) → ((q : Refusal) → number_of q ≤ 23 → Rule s r now q p) → Admits (known s) r (judged_at s now)
 hold_admitted s r now p hold =
     let key = there_is (known s p.key_id) (hold rule.KeyUnknown (omega arith)).link in
     record {

@@ -1,5 +1,5 @@
 -- Requests that are alike hold the same rules, and are answered alike.
-use Rattle.std.proofs.Common.{◌≡◌, ℕ, ◌≤◌, Bool, true, List, [], ◌∷◌, Option, Some, None, refl, sym, ap, subst, ◌∙◌, inl, inr, ⊎_elim, arith}
+use Rattle.std.proofs.Common.{◌≡◌, ℕ, ◌≤◌, Bool, true, List, [], ◌∷◌, Option, Some, None, refl, sym, ap, subst, ◌∙◌, ◌⊎◌, inl, inr, ⊎_elim, arith}
 use Rattle.std.specs.Prelude.{IsFalse, IsTrue, IsSome, IfSome, filter, not, codes}
 use Rattle.std.proofs.lemmas.Bool.{cases_lt, cases_Bool, cond-true, cond-false}
 use Rattle.std.proofs.lemmas.List.Sorted.{IsPermutation-sym}
@@ -24,9 +24,10 @@ use Rattle.links.proofs.Alike.{says_the_same}
 use Rattle.links.proofs.Parts.{parts_before}
 use Rattle.office.proofs.Deciding.{link_before, link_rules, same_parts}
 use Rattle.office.proofs.Once.{replies_once}
-use Rattle.links.specs.Moments.{at, HasBegun, IsNotOver}
+use Rattle.links.specs.Moments.{HasBegun, IsNotOver}
 use Rattle.boxes.specs.declared.rows.Role.TheVariants.{Clerk}
 use Rattle.boxes.specs.State.{State}
+use Rattle.boxes.specs.Limits.{MayUse}
 use Rattle.boxes.specs.Rules.{Upload, UploadRule, FetchRule}
 use Rattle.boxes.specs.State.{Place}
 use Rattle.boxes.specs.Steps.{Command, UploadStep, FetchStep}
@@ -36,7 +37,7 @@ use Rattle.wire.specs.declared.answer.Answer.{Answer}
 use Rattle.office.specs.Alike.{AreAlike}
 use Rattle.office.specs.Answering.{AcceptsRequest, Replies, AnswersRequest, is_head, put, fetch, post, refuses, accepts}
 use Rattle.office.specs.Offices.{IsAnswered, IsTheAnswer}
-use Rattle.office.specs.Rules.{IsPut, IsFetch, known, place_of, upload_of, FormRule, DeskRule, Asks, Rule}
+use Rattle.office.specs.Rules.{IsPut, IsFetch, known, judged_at, place_of, upload_of, FormRule, DeskRule, Asks, Rule}
 
 -- ---- the parameters beside the signature
 
@@ -120,18 +121,31 @@ module _ (st : State) (r s : Request) (now : ℕ) (p q : LinkValues) (h : IsTheS
   at_key : (P : Option KnownKey → Type 0) → P (known st p.key_id) → P (known st q.key_id)
   at_key P has = subst (λ (id : List ℕ). P (known st id)) h.says.key_id has
 
-  link_too : (x : Refusal) → LinkRule x (known st p.key_id) r (at now) p → LinkRule x (known st q.key_id) s (at now) q
+  link_too : (x : Refusal) → LinkRule x (known st p.key_id) r (judged_at st now) p → LinkRule x (known st q.key_id) s (judged_at st now) q
   link_too rule.KeyUnknown has = at_key (λ key. IsSome key) has
   link_too rule.KeyRevoked has = at_key (λ key. IfSome key (λ k. IsFalse k.revoked)) has
   link_too rule.SignatureMismatch has = at_key (λ key. IfSome key (λ k. IsSignedBy k.secret s q)) (some_too (known st p.key_id) has)
-  link_too rule.NotYetValid has = subst (λ (start : ℕ). HasBegun (at now) start) h.says.start has
+  link_too rule.NotYetValid has = subst (λ (start : ℕ). HasBegun (judged_at st now) start) h.says.start has
   link_too rule.Expired has =
-      subst (λ (start : ℕ). IsNotOver (at now) start q.expires) h.says.start
-      (subst (λ (expires : ℕ). IsNotOver (at now) p.start expires) h.says.expires has)
+      subst (λ (start : ℕ). IsNotOver (judged_at st now) start q.expires) h.says.start
+      (subst (λ (expires : ℕ). IsNotOver (judged_at st now) p.start expires) h.says.expires has)
   link_too _ has = tt
 
+  fetch_was : IsFetch s → IsFetch r
+  fetch_was (inl get) = inl (h.says.method ∙ get)
+  fetch_was (inr head) = inr (h.says.method ∙ head)
+
+  uses_was : IsPut s ⊎ IsFetch s → IsPut r ⊎ IsFetch r
+  uses_was (inl is_put) = inl (h.says.method ∙ is_put)
+  uses_was (inr is_fetch) = inr (fetch_was is_fetch)
+
   form_too : (x : Refusal) → FormRule x st r p → FormRule x st s q
-  form_too rule.RoleNotAllowed has = λ is_post. subst (λ (id : List ℕ). IfSome (get st.keys id) (λ k. k.role ≡ Clerk)) h.says.key_id (has (h.says.method ∙ is_post))
+  form_too rule.RoleNotAllowed has = record {
+    desk = λ is_post. subst (λ (id : List ℕ). IfSome (get st.keys id) (λ k. k.role ≡ Clerk)) h.says.key_id (has.desk (h.says.method ∙ is_post));
+    boxes = λ uses.
+        subst (λ (id : List ℕ). MayUse st id (place_of q.path).box) h.says.key_id
+        (subst (λ (path : List ℕ). MayUse st p.key_id (place_of path).box) h.says.path (has.boxes (uses_was uses)));
+  }
   form_too rule.LengthMissing has = λ is_put. let was = h.says.method ∙ is_put in subst (λ (b : Bool). IsTrue b) (h.length was) (has was)
   form_too rule.BodyNotTaken has = λ other. sym h.body ∙ has (λ is_put. other (sym h.says.method ∙ is_put))
   form_too _ has = tt
@@ -156,10 +170,6 @@ module _ (st : State) (r s : Request) (now : ℕ) (p q : LinkValues) (h : IsTheS
   desk_too rule.CommandNotPossible (command, asked, possible) = (command, asks_too command asked, possible)
   desk_too _ has = tt
 
-  fetch_was : IsFetch s → IsFetch r
-  fetch_was (inl get) = inl (h.says.method ∙ get)
-  fetch_was (inr head) = inr (h.says.method ∙ head)
-
   fetch_too : IsFetch r → IsFetch s
   fetch_too (inl get) = inl (sym h.says.method ∙ get)
   fetch_too (inr head) = inr (sym h.says.method ∙ head)
@@ -180,7 +190,7 @@ module _ (st : State) (r s : Request) (now : ℕ) (p q : LinkValues) (h : IsTheS
 up_to_key : (st : State) (r : Request) (now : ℕ) (p : LinkValues) → IsWellFormed r p → HoldBefore (Rule st r now) rule.KeyUnknown p
 up_to_key st r now p formed =
     link_rules st r now p rule.KeyUnknown (omega arith) formed
-    (link_before (known st p.key_id) r now p 19 (λ lt. absurd (omega (arith, lt))) (λ lt. absurd (omega (arith, lt))) (λ lt. absurd (omega (arith, lt))) (λ lt. absurd (omega (arith, lt))) (λ lt. absurd (omega (arith, lt))))
+    (link_before (known st p.key_id) r (judged_at st now) p 19 (λ lt. absurd (omega (arith, lt))) (λ lt. absurd (omega (arith, lt))) (λ lt. absurd (omega (arith, lt))) (λ lt. absurd (omega (arith, lt))) (λ lt. absurd (omega (arith, lt))))
 
 module _ (st : State) (r s : Request) (now : ℕ) (p q : LinkValues) (formed : IsWellFormed r p) (others : IsWellFormed s q) (h : IsTheSame r s p q) where
   all_too : (other : LinkValues) → AllHold (Rule st r now) other → (other ≡ p) × AllHold (Rule st s now) q

@@ -1,6 +1,6 @@
 -- Which rule past number 18 is the least that fails, for a well-formed request.
-use Rattle.std.proofs.Common.{◌≡◌, ℕ, ◌+◌, ◌<◌, ◌≤◌, true, List, [], ◌∷◌, Option, Some, None, refl, sym, ap, subst, ◌∙◌, inl, inr, ⊎_elim, arith}
-use Rattle.std.specs.Prelude.{◌≢◌, IsFalse, IsTrue, IsSome, IfSome, option_map, codes}
+use Rattle.std.proofs.Common.{◌≡◌, ℕ, ◌+◌, ◌<◌, ◌≤◌, true, List, [], ◌∷◌, Option, Some, None, Result, Ok, Err, refl, sym, ap, subst, ◌∙◌, ◌⊎◌, inl, inr, ⊎_elim, arith}
+use Rattle.std.specs.Prelude.{◌≢◌, IsFalse, IsTrue, IsSome, IfSome, IsSomeAnd, MatchResult, option_map, codes}
 use Rattle.std.proofs.lemmas.Bool.{cases_lt}
 use Rattle.std.specs.FinMap.{get}
 use Rattle.sigtext.specs.declared.refusal.Refusal.{Refusal}
@@ -10,17 +10,19 @@ use Rattle.sigtext.specs.Request.{Request}
 use Rattle.sigtext.specs.Rules.{HoldBefore, AllHold, IsFirstToFail}
 use Rattle.links.specs.WellFormed.{LinkValues, HeadRule, IsWellFormed}
 use Rattle.links.specs.Admits.{KnownKey, IsSignedBy, LinkRule}
-use Rattle.links.specs.Moments.{at, HasBegun, IsNotOver}
+use Rattle.links.specs.Moments.{Now, HasBegun, IsNotOver}
 use Rattle.links.proofs.Parts.{parts_before}
 use Rattle.boxes.specs.declared.rows.Role.{Role}
-use Rattle.boxes.specs.declared.rows.Role.TheVariants.{Clerk}
+use Rattle.boxes.specs.declared.rows.Role.TheVariants.{Clerk, Link}
 use Rattle.boxes.specs.State.{Key, State}
+use Rattle.boxes.specs.Limits.{IsLimited, MayUse}
+use Rattle.boxes.specs.Sound.{IsSound}
 use Rattle.boxes.specs.Deciding.{IsLeastToFail}
 use Rattle.boxes.specs.Rules.{UploadRule, Upload, FetchRule}
 use Rattle.boxes.specs.State.{Place}
 use Rattle.boxes.specs.Steps.{Command, IsPossible}
 use Rattle.office.specs.Admitted.{IsAdmitted, ReachesBoxes}
-use Rattle.office.specs.Rules.{IsPut, IsPost, IsFetch, known, place_of, upload_of, FormRule, DeskRule, Asks, Rule}
+use Rattle.office.specs.Rules.{IsPut, IsPost, IsFetch, known, judged_at, place_of, upload_of, MaySend, FormRule, DeskRule, Asks, Rule}
 use Rattle.links.proofs.Texts.{clash}
 
 -- ---- methods
@@ -73,8 +75,8 @@ desk_rule s p _ lt = tt
 -- ---- the rules before a number
 
 -- the rules of the link before this number
-pub link_before : (key : Option KnownKey) (r : Request) (now : ℕ) (p : LinkValues) (n : ℕ) → (19 < n → IsSome key) → (20 < n → IfSome key (λ k. IsFalse k.revoked)) → (21 < n → IfSome key (λ k. IsSignedBy k.secret r p))
-    → (22 < n → HasBegun (at now) p.start) → (23 < n → IsNotOver (at now) p.start p.expires) → (q : Refusal) → number_of q < n → LinkRule q key r (at now) p
+pub link_before : (key : Option KnownKey) (r : Request) (now : Now) (p : LinkValues) (n : ℕ) → (19 < n → IsSome key) → (20 < n → IfSome key (λ k. IsFalse k.revoked)) → (21 < n → IfSome key (λ k. IsSignedBy k.secret r p))
+    → (22 < n → HasBegun now p.start) → (23 < n → IsNotOver now p.start p.expires) → (q : Refusal) → number_of q < n → LinkRule q key r now p
 link_before key r now p n there unrevoked signed begun over rule.KeyUnknown lt = there lt
 link_before key r now p n there unrevoked signed begun over rule.KeyRevoked lt = unrevoked lt
 link_before key r now p n there unrevoked signed begun over rule.SignatureMismatch lt = signed lt
@@ -90,7 +92,7 @@ form_rule s r p _ lt = tt
 
 -- up to number 27 no rule of boxes and of the desk is asked
 rules_before : (s : State) (r : Request) (now : ℕ) (p : LinkValues) (n : Refusal) → number_of n ≤ 27 → ((q : Refusal) → number_of q < number_of n → HeadRule q r p)
-    → ((q : Refusal) → number_of q < number_of n → LinkRule q (known s p.key_id) r (at now) p) → ((q : Refusal) → number_of q < number_of n → FormRule q s r p) → HoldBefore (Rule s r now) n p
+    → ((q : Refusal) → number_of q < number_of n → LinkRule q (known s p.key_id) r (judged_at s now) p) → ((q : Refusal) → number_of q < number_of n → FormRule q s r p) → HoldBefore (Rule s r now) n p
 rules_before s r now p n most formed link form q lt = record {
   head = formed q lt;
   link = link q lt;
@@ -102,7 +104,7 @@ rules_before s r now p n most formed link form q lt = record {
 
 -- the same up to number 24, where no rule of the form is asked
 pub link_rules : (s : State) (r : Request) (now : ℕ) (p : LinkValues) (n : Refusal) → number_of n ≤ 24 → IsWellFormed r p
-    → ((q : Refusal) → number_of q < number_of n → LinkRule q (known s p.key_id) r (at now) p) → HoldBefore (Rule s r now) n p
+    → ((q : Refusal) → number_of q < number_of n → LinkRule q (known s p.key_id) r (judged_at s now) p) → HoldBefore (Rule s r now) n p
 link_rules s r now p n most formed link =
     rules_before s r now p n (omega arith) (λ q lt. formed q) link (λ q lt. form_rule s r p q (omega arith))
 
@@ -129,7 +131,7 @@ head_first s r now q f =
     record {
       parts = f.parts;
       before = rules_before s r now f.parts q (omega arith) f.before
-          (link_before (known s f.parts.key_id) r now f.parts (number_of q) (λ lt. absurd (omega arith)) (λ lt. absurd (omega arith)) (λ lt. absurd (omega arith)) (λ lt. absurd (omega arith)) (λ lt. absurd (omega arith)))
+          (link_before (known s f.parts.key_id) r (judged_at s now) f.parts (number_of q) (λ lt. absurd (omega arith)) (λ lt. absurd (omega arith)) (λ lt. absurd (omega arith)) (λ lt. absurd (omega arith)) (λ lt. absurd (omega arith)))
           (λ x lt. form_rule s r f.parts x (omega arith));
       fails = λ other hold bad. f.fails other (λ x lt. (hold x lt).head) bad.head;
     }
@@ -154,7 +156,7 @@ pub key_unknown : (s : State) (r : Request) (now : ℕ) (p : LinkValues) → IsW
 key_unknown s r now p formed none = record {
   parts = p;
   before = link_rules s r now p rule.KeyUnknown (omega arith) formed
-      (link_before (known s p.key_id) r now p 19 (λ lt. absurd (omega arith)) (λ lt. absurd (omega arith)) (λ lt. absurd (omega arith)) (λ lt. absurd (omega arith)) (λ lt. absurd (omega arith)));
+      (link_before (known s p.key_id) r (judged_at s now) p 19 (λ lt. absurd (omega arith)) (λ lt. absurd (omega arith)) (λ lt. absurd (omega arith)) (λ lt. absurd (omega arith)) (λ lt. absurd (omega arith)));
   fails = λ other hold bad.
       let same = same_parts s r now p other rule.KeyUnknown (omega arith) formed hold in
       none_some (known s p.key_id) (known_none s p.key_id none) (subst (λ (q : LinkValues). IsSome (known s q.key_id)) same bad.link);
@@ -174,7 +176,7 @@ pub key_revoked : (s : State) (r : Request) (now : ℕ) (p : LinkValues) (k : Ke
 key_revoked s r now p k formed there revoked = record {
   parts = p;
   before = link_rules s r now p rule.KeyRevoked (omega arith) formed
-      (link_before (known s p.key_id) r now p 20 (λ lt. some_key s p k there) (λ lt. absurd (omega arith)) (λ lt. absurd (omega arith)) (λ lt. absurd (omega arith)) (λ lt. absurd (omega arith)));
+      (link_before (known s p.key_id) r (judged_at s now) p 20 (λ lt. some_key s p k there) (λ lt. absurd (omega arith)) (λ lt. absurd (omega arith)) (λ lt. absurd (omega arith)) (λ lt. absurd (omega arith)));
   fails = λ other hold bad.
       let same = same_parts s r now p other rule.KeyRevoked (omega arith) formed hold in
       let unrevoked = of_key s p k (λ x. IsFalse x.revoked) there (subst (λ (q : LinkValues). IfSome (known s q.key_id) (λ x. IsFalse x.revoked)) same bad.link) in
@@ -191,41 +193,41 @@ pub signature_mismatch : (s : State) (r : Request) (now : ℕ) (p : LinkValues) 
 signature_mismatch s r now p k formed key mismatch = record {
   parts = p;
   before = link_rules s r now p rule.SignatureMismatch (omega arith) formed
-      (link_before (known s p.key_id) r now p 21 (λ lt. some_key s p k key.there) (λ lt. at_key s p k (λ x. IsFalse x.revoked) key.there key.unrevoked) (λ lt. absurd (omega arith)) (λ lt. absurd (omega arith)) (λ lt. absurd (omega arith)));
+      (link_before (known s p.key_id) r (judged_at s now) p 21 (λ lt. some_key s p k key.there) (λ lt. at_key s p k (λ x. IsFalse x.revoked) key.there key.unrevoked) (λ lt. absurd (omega arith)) (λ lt. absurd (omega arith)) (λ lt. absurd (omega arith)));
   fails = λ other hold bad.
       let same = same_parts s r now p other rule.SignatureMismatch (omega arith) formed hold in
       mismatch (of_key s p k (λ x. IsSignedBy x.secret r p) key.there (subst (λ (q : LinkValues). IfSome (known s q.key_id) (λ x. IsSignedBy x.secret r q)) same bad.link));
 }
 
 pub not_yet_valid : (s : State) (r : Request) (now : ℕ) (p : LinkValues) (k : Key) → IsWellFormed r p → HasKey s p k
-    → IsSignedBy k.secret r p → now + 0 < p.start → IsFirstToFail (Rule s r now) rule.NotYetValid
+    → IsSignedBy k.secret r p → now + s.allowance < p.start → IsFirstToFail (Rule s r now) rule.NotYetValid
 not_yet_valid s r now p k formed key signed early = record {
   parts = p;
   before = link_rules s r now p rule.NotYetValid (omega arith) formed
-      (link_before (known s p.key_id) r now p 22 (λ lt. some_key s p k key.there) (λ lt. at_key s p k (λ x. IsFalse x.revoked) key.there key.unrevoked) (λ lt. at_key s p k (λ x. IsSignedBy x.secret r p) key.there signed) (λ lt. absurd (omega arith)) (λ lt. absurd (omega arith)));
+      (link_before (known s p.key_id) r (judged_at s now) p 22 (λ lt. some_key s p k key.there) (λ lt. at_key s p k (λ x. IsFalse x.revoked) key.there key.unrevoked) (λ lt. at_key s p k (λ x. IsSignedBy x.secret r p) key.there signed) (λ lt. absurd (omega arith)) (λ lt. absurd (omega arith)));
   fails = λ other hold bad.
       let same = same_parts s r now p other rule.NotYetValid (omega arith) formed hold in
-      let begun : HasBegun (at now) p.start = subst (λ (q : LinkValues). HasBegun (at now) q.start) same bad.link in
+      let begun : HasBegun (judged_at s now) p.start = subst (λ (q : LinkValues). HasBegun (judged_at s now) q.start) same bad.link in
       omega arith;
 }
 
 pub expired : (s : State) (r : Request) (now : ℕ) (p : LinkValues) (k : Key) → IsWellFormed r p → HasKey s p k
-    → IsSignedBy k.secret r p → HasBegun (at now) p.start → p.start + p.expires ≤ now → IsFirstToFail (Rule s r now) rule.Expired
+    → IsSignedBy k.secret r p → HasBegun (judged_at s now) p.start → p.start + p.expires ≤ now → IsFirstToFail (Rule s r now) rule.Expired
 expired s r now p k formed key signed begun late = record {
   parts = p;
   before = link_rules s r now p rule.Expired (omega arith) formed
-      (link_before (known s p.key_id) r now p 23 (λ lt. some_key s p k key.there) (λ lt. at_key s p k (λ x. IsFalse x.revoked) key.there key.unrevoked) (λ lt. at_key s p k (λ x. IsSignedBy x.secret r p) key.there signed) (λ lt. begun) (λ lt. absurd (omega arith)));
+      (link_before (known s p.key_id) r (judged_at s now) p 23 (λ lt. some_key s p k key.there) (λ lt. at_key s p k (λ x. IsFalse x.revoked) key.there key.unrevoked) (λ lt. at_key s p k (λ x. IsSignedBy x.secret r p) key.there signed) (λ lt. begun) (λ lt. absurd (omega arith)));
   fails = λ other hold bad.
       let same = same_parts s r now p other rule.Expired (omega arith) formed hold in
-      let not_over : IsNotOver (at now) p.start p.expires = subst (λ (q : LinkValues). IsNotOver (at now) q.start q.expires) same bad.link in
+      let not_over : IsNotOver (judged_at s now) p.start p.expires = subst (λ (q : LinkValues). IsNotOver (judged_at s now) q.start q.expires) same bad.link in
       omega arith;
 }
 
 -- ---- past the link
 
-link_holds : (s : State) (r : Request) (now : ℕ) (p : LinkValues) (k : Key) → IsAdmitted s r now p k → (q : Refusal) → LinkRule q (known s p.key_id) r (at now) p
+link_holds : (s : State) (r : Request) (now : ℕ) (p : LinkValues) (k : Key) → IsAdmitted s r now p k → (q : Refusal) → LinkRule q (known s p.key_id) r (judged_at s now) p
 link_holds s r now p k a q =
-    link_before (known s p.key_id) r now p (number_of q + 1) (λ lt. some_key s p k a.there) (λ lt. at_key s p k (λ x. IsFalse x.revoked) a.there a.unrevoked)
+    link_before (known s p.key_id) r (judged_at s now) p (number_of q + 1) (λ lt. some_key s p k a.there) (λ lt. at_key s p k (λ x. IsFalse x.revoked) a.there a.unrevoked)
     (λ lt. at_key s p k (λ x. IsSignedBy x.secret r p) a.there a.signed) (λ lt. a.begun) (λ lt. a.not_over) q (omega arith)
 
 -- the role of the key that stands
@@ -237,54 +239,89 @@ some_role : (o : Option Key) (k : Key) (P : Role → Type 0) → o ≡ Some k �
 some_role None k P e h = absurd cc
 some_role (Some x) k P e h = let is : k ≡ x = cc in subst (λ (y : Key). P y.role) is h
 
+-- the role of the key that is limited
+limited_role : (o : Option Key) (k : Key) → o ≡ Some k → IsSomeAnd o (λ x. x.role ≡ Link) → k.role ≡ Link
+limited_role None k e h = absurd h
+limited_role (Some x) k e h = let is : x ≡ k = cc in ap (λ (y : Key). y.role) (sym is) ∙ h
+
+clerk_no_link : Clerk ≡ Link → ⊥
+clerk_no_link e = cc
+
+-- a clerk's key is never limited
+pub clerk_unlimited : (s : State) (id : List ℕ) (k : Key) → IsSound s → get s.keys id ≡ Some k → k.role ≡ Clerk → IsLimited s id → ⊥
+clerk_unlimited s id k sound there clerk limited =
+    clerk_no_link (sym clerk ∙ limited_role (get s.keys id) k there (sound.limits id limited.0 limited.1).link)
+
 module _ (s : State) (r : Request) (now : ℕ) (p : LinkValues) (k : Key) (a : IsAdmitted s r now p k) where
-  pub role_not_allowed : IsPost r → (k.role ≡ Clerk → ⊥) → IsFirstToFail (Rule s r now) rule.RoleNotAllowed
-  role_not_allowed post other = record {
+  pub role_not_allowed : (MaySend s r p → ⊥) → IsFirstToFail (Rule s r now) rule.RoleNotAllowed
+  role_not_allowed barred = record {
     parts = p;
     before = link_rules s r now p rule.RoleNotAllowed (omega arith) a.well_formed (λ q lt. link_holds s r now p k a q);
     fails = λ o hold bad.
         let same = same_parts s r now p o rule.RoleNotAllowed (omega arith) a.well_formed hold in
-        let role = subst (λ (q : LinkValues). IfSome (get s.keys q.key_id) (λ x. x.role ≡ Clerk)) same (bad.form post) in
-        other (its_role (get s.keys p.key_id) k (λ x. x ≡ Clerk) a.there role);
+        barred (subst (λ (q : LinkValues). MaySend s r q) same bad.form);
   }
 
-  -- the rules of the form, of what they ask
-  pub form_holds : (IsPost r → k.role ≡ Clerk) → (IsPut r → IsTrue r.has_length) → (r.method ≢ codes "PUT" → r.body ≡ []) → (q : Refusal) → FormRule q s r p
-  form_holds clerk given bare rule.RoleNotAllowed = λ post. some_role (get s.keys p.key_id) k (λ x. x ≡ Clerk) a.there (clerk post)
-  form_holds clerk given bare rule.LengthMissing = given
-  form_holds clerk given bare rule.BodyNotTaken = bare
-  form_holds clerk given bare _ = tt
+  -- a clerk may send whatever there is
+  pub clerk_may : IsSound s → k.role ≡ Clerk → MaySend s r p
+  clerk_may sound clerk = record {
+    desk = λ post. some_role (get s.keys p.key_id) k (λ x. x ≡ Clerk) a.there clerk;
+    boxes = λ uses limited. absurd (clerk_unlimited s p.key_id k sound a.there clerk limited);
+  }
 
-  -- those before number 25
-  early_form : (IsPost r → k.role ≡ Clerk) → (q : Refusal) → number_of q < 25 → FormRule q s r p
-  early_form clerk rule.RoleNotAllowed lt = λ post. some_role (get s.keys p.key_id) k (λ x. x ≡ Clerk) a.there (clerk post)
-  early_form clerk rule.LengthMissing lt = absurd (omega arith)
-  early_form clerk rule.BodyNotTaken lt = absurd (omega arith)
-  early_form clerk _ lt = tt
+  -- what is no POST may be sent where the key may use the box
+  pub box_used : (IsPost r → ⊥) → MayUse s p.key_id (place_of p.path).box → MaySend s r p
+  box_used no_post may = record { desk = λ post. absurd (no_post post); boxes = λ uses. may }
+
+  pub box_barred : IsPut r ⊎ IsFetch r → (MayUse s p.key_id (place_of p.path).box → ⊥) → MaySend s r p → ⊥
+  box_barred uses barred may = barred (may.boxes uses)
+
+  pub no_clerk_posts : IsPost r → (k.role ≡ Clerk → ⊥) → MaySend s r p → ⊥
+  no_clerk_posts post other may = other (its_role (get s.keys p.key_id) k (λ x. x ≡ Clerk) a.there (may.desk post))
+
+  -- those of the form before number 25
+  early_form : MaySend s r p → (q : Refusal) → number_of q < 25 → FormRule q s r p
+  early_form may rule.RoleNotAllowed lt = may
+  early_form may rule.LengthMissing lt = absurd (omega arith)
+  early_form may rule.BodyNotTaken lt = absurd (omega arith)
+  early_form may _ lt = tt
 
   -- those before number 26
-  late_form : (IsPost r → k.role ≡ Clerk) → (IsPut r → ⊥) → (q : Refusal) → number_of q < 26 → FormRule q s r p
-  late_form clerk no_put rule.RoleNotAllowed lt = λ post. some_role (get s.keys p.key_id) k (λ x. x ≡ Clerk) a.there (clerk post)
-  late_form clerk no_put rule.LengthMissing lt = λ put. absurd (no_put put)
-  late_form clerk no_put rule.BodyNotTaken lt = absurd (omega arith)
-  late_form clerk no_put _ lt = tt
+  late_form : MaySend s r p → (IsPut r → ⊥) → (q : Refusal) → number_of q < 26 → FormRule q s r p
+  late_form may no_put rule.RoleNotAllowed lt = may
+  late_form may no_put rule.LengthMissing lt = λ put. absurd (no_put put)
+  late_form may no_put rule.BodyNotTaken lt = absurd (omega arith)
+  late_form may no_put _ lt = tt
 
-  pub length_missing : IsPut r → IsFalse r.has_length → IsFirstToFail (Rule s r now) rule.LengthMissing
-  length_missing put none = record {
+  pub length_missing : MaySend s r p → IsPut r → IsFalse r.has_length → IsFirstToFail (Rule s r now) rule.LengthMissing
+  length_missing may put none = record {
     parts = p;
-    before = rules_before s r now p rule.LengthMissing (omega arith) (λ q lt. a.well_formed q) (λ q lt. link_holds s r now p k a q) (early_form (λ post. absurd (put_no_post r put post)));
+    before = rules_before s r now p rule.LengthMissing (omega arith) (λ q lt. a.well_formed q) (λ q lt. link_holds s r now p k a q) (early_form may);
     fails = λ o hold bad. clash r.has_length none (bad.form put);
   }
 
-  pub body_not_taken : (IsPut r → ⊥) → (IsPost r → k.role ≡ Clerk) → (r.body ≡ [] → ⊥) → IsFirstToFail (Rule s r now) rule.BodyNotTaken
-  body_not_taken no_put clerk full = record {
+  pub body_not_taken : MaySend s r p → (IsPut r → ⊥) → (r.body ≡ [] → ⊥) → IsFirstToFail (Rule s r now) rule.BodyNotTaken
+  body_not_taken may no_put full = record {
     parts = p;
-    before = rules_before s r now p rule.BodyNotTaken (omega arith) (λ q lt. a.well_formed q) (λ q lt. link_holds s r now p k a q) (late_form clerk no_put);
+    before = rules_before s r now p rule.BodyNotTaken (omega arith) (λ q lt. a.well_formed q) (λ q lt. link_holds s r now p k a q) (late_form may no_put);
     fails = λ o hold bad. full (bad.form no_put);
   }
 
+  -- the rules of the form, of what they ask
+  pub form_holds : MaySend s r p → (IsPut r → IsTrue r.has_length) → (r.method ≢ codes "PUT" → r.body ≡ []) → (q : Refusal) → FormRule q s r p
+  form_holds may given bare rule.RoleNotAllowed = may
+  form_holds may given bare rule.LengthMissing = given
+  form_holds may given bare rule.BodyNotTaken = bare
+  form_holds may given bare _ = tt
+
   pub reaches_boxes : ((q : Refusal) → FormRule q s r p) → ReachesBoxes s r now p
   reaches_boxes form = record { head = a.well_formed; link = link_holds s r now p k a; form = form }
+
+  -- what was found of the form
+  pub all_checked : {T : Type 0} (result : Result T Refusal) → MatchResult result (λ done. (q : Refusal) → FormRule q s r p) (λ q. IsFirstToFail (Rule s r now) q)
+      → MatchResult result (λ done. ReachesBoxes s r now p) (λ q. (q ≢ rule.TryAgain) → IsFirstToFail (Rule s r now) q)
+  all_checked (Ok done) form = reaches_boxes form
+  all_checked (Err q) first = λ other. first
 
 -- ---- the rules of boxes and of the desk
 

@@ -11,9 +11,9 @@ use Rattle.links.specs.WellFormed.{LinkValues}
 use Rattle.links.proofs.Parts.{parts_once}
 use Rattle.boxes.specs.Rules.{Upload}
 use Rattle.boxes.specs.State.{File, Key, Place, Receipt, Settings, State}
-use Rattle.boxes.specs.Steps.{AddBox, AddKey, CloseBox, Command, CommandStep, DropFile, FetchStep, HasReceipt, RevokeKey, UploadStep, again, found, taken}
+use Rattle.boxes.specs.Steps.{AddBox, AddKey, CloseBox, Command, CommandStep, DropFile, FetchStep, HasReceipt, LimitKey, RevokeKey, SetAllowance, UploadStep, again, found, taken}
 use Rattle.boxes.specs.Steps as step
-use Rattle.boxes.proofs.CommandSteps.{box_added_is, box_closed_is, file_dropped_is, key_added_is, key_revoked_is}
+use Rattle.boxes.proofs.CommandSteps.{allowance_set_is, box_added_is, box_closed_is, file_dropped_is, key_added_is, key_limited_is, key_revoked_is}
 use Rattle.wire.specs.Answers.{Said, Refused}
 use Rattle.office.specs.Answering.{AcceptsRequest, Replies, accepts, fetch, post, put, refuses, shown}
 use Rattle.office.specs.Rules.{Asks, Rule, place_of, upload_of}
@@ -118,6 +118,8 @@ command_step_once s (CloseBox name moment) x y h k =
     let same = same_some b.0 a.0 (get s.boxes name) b.1 a.1 in
     b.2 ∙ ap (λ (k : Settings). record s { boxes = insert s.boxes name (record k { closes = moment }) }) same ∙ sym a.2
 command_step_once s (DropFile place) x y h k = file_dropped_is s place y k ∙ sym (file_dropped_is s place x h)
+command_step_once s (LimitKey id box) x y h k = key_limited_is s id box y k ∙ sym (key_limited_is s id box x h)
+command_step_once s (SetAllowance seconds) x y h k = allowance_set_is s seconds y k ∙ sym (allowance_set_is s seconds x h)
 
 -- ---- replies
 

@@ -7,7 +7,7 @@ use Rattle.boxes.specs.Changes.{IsObeyed}
 use Rattle.boxes.specs.Commands.{HasForm}
 use Rattle.boxes.specs.Deciding.{DecidesCommand}
 use Rattle.boxes.specs.State.{State}
-use Rattle.boxes.specs.Steps.{Command, AddKey, RevokeKey, AddBox, CloseBox, DropFile, CommandStep, CanRevoke, IsPossible, key_added, key_revoked, box_added, box_closed, file_dropped}
+use Rattle.boxes.specs.Steps.{Command, AddKey, RevokeKey, AddBox, CloseBox, DropFile, LimitKey, SetAllowance, CommandStep, CanRevoke, IsPossible, key_added, key_revoked, box_added, box_closed, file_dropped, key_limited, allowance_set}
 use Rattle.keeper.specs.declared.keep.KeepFault.TheVariants.{Full}
 use Rattle.office.specs.declared.requests.commanding.DeskFault.{DeskFault}
 use Rattle.office.specs.declared.requests.commanding.DeskFault.TheVariants as fault
@@ -28,6 +28,8 @@ step_of s (RevokeKey id) possible = let k = there_and (CanRevoke s id) (get s.ke
 step_of s (AddBox name settings) possible = (_, box_added name settings)
 step_of s (CloseBox name moment) possible = let b = there (get s.boxes name) possible in (_, box_closed name moment b.0 b.1)
 step_of s (DropFile place) possible = (_, file_dropped place)
+step_of s (LimitKey id box) possible = (_, key_limited id box)
+step_of s (SetAllowance seconds) possible = (_, allowance_set seconds)
 
 -- no error was given
 pub decided : {T : Type 0} (s : State) (command : Command) (result : Result T Refusal) → DecidesCommand s command result → is_err result ≡ false → IsPossible s command

@@ -1,14 +1,19 @@
 -- The edges of the rules on places, bodies and the desk.
-use Rattle.std.proofs.Common.{◌≡◌, ℕ, Bool, true, false, List, [], ◌∷◌, codes, refl, arith}
+use Rattle.std.proofs.Common.{◌≡◌, ◌+◌, ℕ, Bool, true, false, List, [], ◌∷◌, codes, inl, inr, refl, sym, subst, arith}
 use Rattle.std.specs.Prelude.{◌≢◌, IsTrue}
+use Rattle.std.specs.FinMap.{empty}
 use Rattle.sigtext.specs.declared.refusal.Refusal.TheVariants as rule
 use Rattle.sigtext.specs.Request.{Request}
 use Rattle.links.specs.WellFormed.{LinkValues, HasValue}
+use Rattle.links.specs.Moments.{HasBegun, IsNotOver}
 use Rattle.boxes.specs.Commands.{HasForm}
+use Rattle.boxes.specs.Limits.{MayUse}
 use Rattle.boxes.specs.State.{State}
 use Rattle.boxes.specs.Steps.{Command}
+use Rattle.boxes.proofs.LimitEdges.{one, its_box, no_other_box}
 use Rattle.desk.specs.Texts.{IsCommand}
-use Rattle.office.specs.Rules.{place_of, FormRule, Asks}
+use Rattle.office.specs.Rules.{judged_at, place_of, MaySend, FormRule, Asks}
+use Rattle.office.proofs.Deciding.{fetch_no_post, head_is}
 
 -- the name is all behind the second slash, further slashes and dots too
 place_of_name : place_of (codes "/in/a/../b c") ≡ record { box = codes "in"; name = codes "a/../b c" }
@@ -61,3 +66,43 @@ module _ (s : State) (p : LinkValues) where
     where
       false_true : IsTrue false → ⊥
       false_true e = cc
+
+b2_in : codes "b2" ≡ codes "in" → ⊥
+b2_in e = let x = head_is 98 105 (50 ∷ []) (110 ∷ []) e in omega (arith, x)
+
+none_in : ◌≡◌ {A = List ℕ} [] (codes "in") → ⊥
+none_in e = cc
+
+-- a key that is limited to the box `in` reaches it, and no other, there or not
+module _ (s : State) (nobody : s.limits ≡ empty) (p : LinkValues) (k2 : p.key_id ≡ codes "k2") where
+  reaches_its_box : p.path ≡ codes "/in/x" → MaySend (one s nobody) (request_by (codes "GET") false []) p
+  reaches_its_box at = record {
+    desk = λ post. absurd (fetch_no_post (request_by (codes "GET") false []) (inl refl) post);
+    boxes = λ uses.
+        subst (λ (path : List ℕ). MayUse (one s nobody) p.key_id (place_of path).box) (sym at)
+        (subst (λ (id : List ℕ). MayUse (one s nobody) id (codes "in")) (sym k2) (its_box s nobody));
+  }
+
+  reaches_no_other : p.path ≡ codes "/b2/x" → MaySend (one s nobody) (request_by (codes "PUT") true []) p → ⊥
+  reaches_no_other at may =
+      no_other_box s nobody (codes "b2") b2_in
+      (subst (λ (id : List ℕ). MayUse (one s nobody) id (codes "b2")) k2
+      (subst (λ (path : List ℕ). MayUse (one s nobody) p.key_id (place_of path).box) at (may.boxes (inl refl))))
+
+  -- the path `/` is in no box
+  reaches_no_root : p.path ≡ codes "/" → MaySend (one s nobody) (request_by (codes "HEAD") false []) p → ⊥
+  reaches_no_root at may =
+      no_other_box s nobody [] none_in
+      (subst (λ (id : List ℕ). MayUse (one s nobody) id []) k2
+      (subst (λ (path : List ℕ). MayUse (one s nobody) p.key_id (place_of path).box) at (may.boxes (inr (inr refl)))))
+
+-- an allowance of 900 seconds: a link begins as much earlier, and not a second more; and it ends when it did
+module _ (s : State) (allowed : s.allowance ≡ 900) (now : ℕ) where
+  begun_early : HasBegun (judged_at s now) (now + 900)
+  begun_early = omega (arith, allowed)
+
+  not_begun : HasBegun (judged_at s now) (now + 901) → ⊥
+  not_begun begun = omega (arith, allowed, begun)
+
+  over_in_time : (start expires : ℕ) → now ≡ start + expires → IsNotOver (judged_at s now) start expires → ⊥
+  over_in_time start expires at not_over = omega (arith, at, not_over)

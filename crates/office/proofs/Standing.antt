@@ -10,7 +10,7 @@ use Rattle.sigtext.specs.Bytes.{bytes_cmp}
 use Rattle.boxes.specs.Opening.{Fits}
 use Rattle.boxes.specs.Rules.{IsName, PlaceRule, Stands, Upload, UploadRule}
 use Rattle.boxes.specs.State.{File, Place, place_cmp, Receipt, Settings, State}
-use Rattle.boxes.specs.Steps.{Command, AddKey, RevokeKey, AddBox, CloseBox, DropFile, CommandStep, key_added, key_revoked, box_added, box_closed, file_dropped, HasReceipt, IsPossible, UploadStep, after_upload, again, receipt_of, taken}
+use Rattle.boxes.specs.Steps.{Command, AddKey, RevokeKey, AddBox, CloseBox, DropFile, CommandStep, key_added, key_revoked, box_added, box_closed, file_dropped, key_limited, allowance_set, HasReceipt, IsPossible, UploadStep, after_upload, again, receipt_of, taken}
 use Rattle.boxes.specs.Steps as step
 use Rattle.boxes.proofs.FileTotals.{place_same}
 use Rattle.boxes.proofs.Lookups.{bytes_same, bytes_total, equal_is, place_total}
@@ -138,6 +138,8 @@ command_keeps place bytes said s command after possible other does h = carried p
     keeps _ _ possible other (box_added name settings) = record { file = refl; receipts = listed _ refl; box = λ b e. added name settings b possible e }
     keeps _ _ possible other (box_closed name moment old was) = record { file = refl; receipts = listed _ refl; box = λ b e. closed name moment old b was e }
     keeps _ _ possible other (file_dropped dropped) = record { file = left dropped other; receipts = listed _ refl; box = λ b e. (b, e, refl) }
+    keeps _ _ possible other (key_limited id box) = record { file = refl; receipts = listed _ refl; box = λ b e. (b, e, refl) }
+    keeps _ _ possible other (allowance_set seconds) = record { file = refl; receipts = listed _ refl; box = λ b e. (b, e, refl) }
 
 -- ---- uploads
 

@@ -7,9 +7,10 @@ use Rattle.sigtext.specs.declared.refusal.Refusal.TheVariants as rule
 use Rattle.sigtext.specs.Request.{Request}
 use Rattle.links.specs.WellFormed.{LinkValues, HeadRule, HasValue}
 use Rattle.links.specs.Admits.{KnownKey, LinkRule}
-use Rattle.links.specs.Moments.{at}
+use Rattle.links.specs.Moments.{Now, moment_with}
 use Rattle.boxes.specs.declared.rows.Role.TheVariants.{Clerk}
 use Rattle.boxes.specs.State.{Place, State}
+use Rattle.boxes.specs.Limits.{MayUse}
 use Rattle.boxes.specs.Rules.{Upload, UploadRule, FetchRule}
 use Rattle.boxes.specs.Commands.{HasForm}
 use Rattle.boxes.specs.Steps.{Command, IsPossible}
@@ -33,13 +34,22 @@ place_of path = record { box = before_first (λ b. b == 47) (drop 1 path); name 
 abbrev pub known : State → List ℕ → Option KnownKey
 known s id = option_map (λ k. record { secret = k.secret; revoked = k.revoked }) (get s.keys id)
 
+-- a moment, with the office's allowance
+abbrev pub judged_at : State → ℕ → Now
+judged_at s now = moment_with s.allowance now
+
 -- the upload that a request is
 abbrev pub upload_of : Request → ℕ → LinkValues → Upload
 upload_of r now p = record { place = place_of p.path; bytes = r.body; now = now; key = p.key_id }
 
--- 24 to 26: the role of the key, and whether a body belongs to the method
+-- POST is a clerk's; PUT, GET and HEAD ask that the key may use the path's box, there or not
+pub record MaySend (s : State) (r : Request) (p : LinkValues) : Type 0 where
+  pub desk : IsPost r → IfSome (get s.keys p.key_id) (λ k. k.role ≡ Clerk)
+  pub boxes : IsPut r ⊎ IsFetch r → MayUse s p.key_id (place_of p.path).box
+
+-- 24 to 26: what the key may send, and whether a body belongs to the method
 abbrev pub FormRule : Refusal → State → Request → LinkValues → Type 0
-FormRule rule.RoleNotAllowed s r p = IsPost r → IfSome (get s.keys p.key_id) (λ k. k.role ≡ Clerk)
+FormRule rule.RoleNotAllowed s r p = MaySend s r p
 FormRule rule.LengthMissing s r p = IsPut r → IsTrue r.has_length
 FormRule rule.BodyNotTaken s r p = (r.method ≢ codes "PUT") → r.body ≡ []
 FormRule _ s r p = ⊤
@@ -61,7 +71,7 @@ DeskRule _ s p = ⊤
 -- the rule that this refusal reports. A refusal of framing, and that of want of memory, have none.
 pub record Rule (s : State) (r : Request) (now : ℕ) (q : Refusal) (p : LinkValues) : Type 0 where
   pub head : HeadRule q r p
-  pub link : LinkRule q (known s p.key_id) r (at now) p
+  pub link : LinkRule q (known s p.key_id) r (judged_at s now) p
   pub form : FormRule q s r p
   pub put : IsPut r → UploadRule q s (upload_of r now p)
   pub fetch : IsFetch r → FetchRule q s (place_of p.path)

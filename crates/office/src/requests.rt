@@ -6,4 +6,5 @@ mod fetching;
 mod forms;
 mod places;
 mod putting;
+mod reaching;
 mod reading;

@@ -12,6 +12,7 @@ pub(crate) fn answer(alloc: Global, row: &Row<'_>, line: &mut Line) -> Result<bo
         "write_link" => write(alloc, row, line)?,
         "method" => read_method(row, line)?,
         "judge" => judge_link(alloc, row, line)?,
+        "judge_early" => judge_early(alloc, row, line)?,
         _ => return Ok(false),
     }
     Ok(true)
@@ -92,12 +93,20 @@ fn read_method(row: &Row<'_>, line: &mut Line) -> Result<(), RowFault> {
 /// `METHOD TARGET SECRET MOMENT` and fields: the key id of a link that is admitted.
 fn judge_link(alloc: Global, row: &Row<'_>, line: &mut Line) -> Result<(), RowFault> {
     let fields = row.fields(alloc, 4)?;
-    judge_fields(alloc, row, &fields, line)
+    judge_fields(alloc, row, Allowance::none(), &fields, line)
+}
+
+/// `METHOD TARGET SECRET MOMENT ALLOWANCE` and fields: the same, by an office that has this allowance.
+fn judge_early(alloc: Global, row: &Row<'_>, line: &mut Line) -> Result<(), RowFault> {
+    let allowance = Allowance::new(row.number(4)?).ok_or(RowFault::Malformed)?;
+    let fields = row.fields(alloc, 5)?;
+    judge_fields(alloc, row, allowance, &fields, line)
 }
 
 fn judge_fields<'a>(
     alloc: Global,
     row: &'a Row<'_>,
+    allowance: Allowance,
     fields: &'a [Field<'a>],
     line: &mut Line,
 ) -> Result<(), RowFault> {
@@ -108,12 +117,6 @@ fn judge_fields<'a>(
     let method = Method::read(row.word(0)?).ok_or(Refusal::Method)?;
     let target = Target::read(row.word(1)?)?;
     let link = inspect(alloc, method, &target, fields)?;
-    judge(
-        &link,
-        row.word(2)?,
-        &mut LastKey::new(),
-        Allowance::none(),
-        now,
-    )?;
+    judge(&link, row.word(2)?, &mut LastKey::new(), allowance, now)?;
     Ok(line.put(link.key_id())?)
 }

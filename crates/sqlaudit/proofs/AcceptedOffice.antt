@@ -1,13 +1,15 @@
 -- The office of a sound outline and the bytes of its files.
 use Rattle.std.proofs.Common.{◌≡◌, ◌∙◌, ℕ, ◌≤◌, List, length, Option, Some, None, option_map, refl, sym, ap, subst}
-use Rattle.std.specs.Prelude.{slice_get, IsSomeAnd}
+use Rattle.std.specs.Prelude.{slice_get, IsSome, IsSomeAnd}
 use Rattle.std.specs.FinMap.{get}
 use Rattle.sqlite_value.specs.Order.{Row}
 use Rattle.sqlite_trees.proofs.ListLemmas.{all_weaker}
 use Rattle.sigtext.specs.Bytes.{bytes_cmp, same_bytes}
 use Rattle.boxes.specs.State.{Settings, Place, place_cmp, File, Receipt, State as Office}
 use Rattle.boxes.specs.Opening.{Fits}
-use Rattle.boxes.specs.Sound.{IsSound, AreSettings, IsReceipt, IsFileOf}
+use Rattle.boxes.specs.Sound.{IsSound, AreSettings, IsReceipt, IsFileOf, IsLimitOf}
+use Rattle.boxes.specs.Limits.{IsLimitedTo}
+use Rattle.boxes.proofs.FileBoxes.{there_is}
 use Rattle.boxes.specs.Totals.{used, count}
 use Rattle.boxes.proofs.Lookups.{bytes_same, place_total, some_none}
 use Rattle.boxes.proofs.FileTotals.{place_same}
@@ -26,6 +28,10 @@ still_fits : (o : Option Box) (name : List ℕ) → IsSomeAnd o (λ b. Fits b.se
 still_fits None name h = h
 still_fits (Some b) name h = h
 
+still_some : (o : Option Box) → IsSome o → IsSome (option_map (λ b. b.settings) o)
+still_some None h = h
+still_some (Some b) h = h
+
 module _ (o : Outline) (bytes : Place → List ℕ) where
   abbrev settings_in : List ℕ → Box → Settings
   settings_in name b = b.settings
@@ -34,7 +40,7 @@ module _ (o : Outline) (bytes : Place → List ℕ) where
   file_in place number = record { bytes = bytes place; receipt = number }
 
   abbrev pub office : Office
-  office = record { offset = o.offset; keys = o.keys; boxes = mapped bytes_cmp settings_in o.boxes; files = mapped place_cmp file_in o.files; receipts = o.receipts }
+  office = record { offset = o.offset; allowance = o.allowance; keys = o.keys; boxes = mapped bytes_cmp settings_in o.boxes; files = mapped place_cmp file_in o.files; receipts = o.receipts; limits = o.limits }
 
   box_found : (name : List ℕ) → get office.boxes name ≡ option_map (λ b. b.settings) (get o.boxes name)
   box_found name = get_mapped bytes_cmp settings_in bytes_same o.boxes name
@@ -97,6 +103,12 @@ module _ (o : Outline) (bytes : Place → List ℕ) where
       key = rule.key;
     }
 
+    limit_is : (key box : List ℕ) → IsLimitedTo office key box → IsLimitOf office key box
+    limit_is key box told =
+        let there = there_is (get o.limits (record { key = key; box = box })) told in
+        let rule = sound.limits (record { key = key; box = box }) there.0 there.1 in
+        record { link = rule.link; box_there = subst IsSome (sym (box_found box)) (still_some (get o.boxes box) rule.box_there) }
+
     box_was : (name : List ℕ) (b : Settings) → get office.boxes name ≡ Some b → (box : Box) × (get o.boxes name ≡ Some box) × (box.settings ≡ b)
     box_was name b there = was_there (λ (box : Box). box.settings) (get o.boxes name) b (sym (box_found name) ∙ there)
 
@@ -121,5 +133,7 @@ module _ (o : Outline) (bytes : Place → List ℕ) where
             subst (λ (s : Settings). used office name ≤ s.quota) it.2 (subst (λ n. n ≤ it.0.settings.quota) used_is rule.quota),
             subst (λ (s : Settings). count office name ≤ s.max_files) it.2 (subst (λ n. n ≤ it.0.settings.max_files) count_is rule.files),
           );
+      allowance = sound.allowance;
+      limits = limit_is;
       clerk = record { id = sound.clerk.id; key = sound.clerk.key; there = sound.clerk.there; clerk = sound.clerk.clerk; unrevoked = sound.clerk.unrevoked };
     }

@@ -1,5 +1,5 @@
 -- Rows whose lines are the entries of a map mean that map.
-use Rattle.std.proofs.Common.{◌≡◌, ◌∙◌, pos, List, Option, Some, ap}
+use Rattle.std.proofs.Common.{◌≡◌, ◌∙◌, List, Option, Some, None, ap}
 use Rattle.std.specs.Prelude.{Contains, slice_get}
 use Rattle.std.specs.FinMap.{get}
 use Rattle.sqlite_value.specs.declared.value.Value.TheVariants.{Int, Text, Blob}
@@ -8,11 +8,13 @@ use Rattle.sqlite_rules.proofs.ListLemmas.{has_contained, contains_had}
 use Rattle.sqlite.specs.Effect.{Database}
 use Rattle.sqlaudit.specs.declared.lines.OfficeLine.{OfficeLine}
 use Rattle.sqlaudit.specs.declared.rules.Lines.{Lines}
-use Rattle.sqltables.specs.Schema.{v1}
-use Rattle.sqltables.specs.Tables.{RowsMean, IsOfficeRow, IsKeyRow, IsBoxRow, IsReceiptRow, IsFileRow}
-use Rattle.sqlaudit.specs.Lines.{AreLines, HaveRowids, IsOfficeLine, IsKeyLine, IsBoxLine, IsReceiptLine, IsFileLine}
-use Rattle.sqlaudit.specs.Outlines.{Outline, AreEntries, AreLinesOf, IsOfficeEntry, IsKeyEntry, IsBoxEntry, IsReceiptEntry, IsFileEntry}
+use Rattle.sqltables.specs.Schema.{Version, v1, v2}
+use Rattle.sqltables.specs.Tables.{RowsMean, IsOfficeRow, IsKeyRow, IsBoxRow, IsReceiptRow, IsFileRow, IsRulesRow, IsLimitRow}
+use Rattle.sqlaudit.specs.Lines.{AreLines, HaveRowids, IsOfficeLine, IsKeyLine, IsBoxLine, IsReceiptLine, IsFileLine, IsRulesLine, IsLimitLine}
+use Rattle.sqlaudit.specs.Outlines.{Outline, AreEntries, AreLinesOf, IsOfficeEntry, IsKeyEntry, IsBoxEntry, IsReceiptEntry, IsFileEntry, IsRulesEntry, IsLimitEntry}
+use Rattle.boxes.specs.State.{Limit}
 use Rattle.sqlaudit.specs.Opened.{AreListed}
+use Rattle.sqlaudit.proofs.LimitEntries.{says_none, limits_none}
 
 module _ {L K V : Type 0} (IsLine : Row → L → Type 0) (IsEntry : L → K → V → Type 0) (IsRow : Row → K → V → Type 0) (rows : List Row) (lines : List L) (lookup : K → Option V) where
   rows_mean : ((row : Row) (line : L) (k : K) (v : V) → Contains lines line → IsLine row line → IsEntry line k v → IsRow row k v)
@@ -31,9 +33,9 @@ module _ {L K V : Type 0} (IsLine : Row → L → Type 0) (IsEntry : L → K →
     apart = ids.apart;
   }
 
-module _ (db : Database) (lines : Lines) (listed : AreListed db lines) (o : Outline) (are : AreLinesOf lines o) where
-  pub office_means : ((line : OfficeLine) → Contains lines.office.now line → line.version ≡ pos 1) → RowsMean (IsOfficeRow v1.number) (λ one. Some o.offset) (db.trees 0)
-  office_means first = rows_mean IsOfficeLine IsOfficeEntry (IsOfficeRow v1.number) (db.trees 0) lines.office.now (λ one. Some o.offset)
+module _ (v : Version) (db : Database) (lines : Lines) (listed : AreListed v db lines) (o : Outline) (are : AreLinesOf lines o) where
+  pub office_means : ((line : OfficeLine) → Contains lines.office.now line → line.version ≡ v.number) → RowsMean (IsOfficeRow v.number) (λ one. Some o.offset) (db.trees 0)
+  office_means first = rows_mean IsOfficeLine IsOfficeEntry (IsOfficeRow v.number) (db.trees 0) lines.office.now (λ one. Some o.offset)
       (λ row line one offset there l e. record { id_is = l.id_is ∙ ap Int e.id_is; version_is = l.version_is ∙ ap Int (first line there); east_is = l.east_is ∙ ap Int e.east_is })
       listed.office are.office listed.office_rowids
 
@@ -80,3 +82,18 @@ module _ (db : Database) (lines : Lines) (listed : AreListed db lines) (o : Outl
   files_mean = rows_mean IsFileLine IsFileEntry IsFileRow (db.trees 6) lines.files.now (get o.files)
       (λ row line place number there l e. record { box_is = l.box_is ∙ ap Text e.box_is; name_is = l.name_is ∙ ap Text e.name_is; receipt_is = l.receipt_is ∙ ap Int e.receipt_is })
       listed.files are.files listed.files_rowids
+
+  pub rules_mean : v ≡ v2 → RowsMean IsRulesRow (λ one. Some o.allowance) (db.trees 11)
+  rules_mean second = rows_mean IsRulesLine IsRulesEntry IsRulesRow (db.trees 11) lines.rules.now (λ one. Some o.allowance)
+      (λ row line one allowance there l e. record { id_is = l.id_is ∙ ap Int e.id_is; allowance_is = l.allowance_is ∙ ap Int e.allowance_is })
+      (listed.added.rules second).0 are.rules (listed.added.rules second).1
+
+  pub limits_mean : v ≡ v2 → RowsMean IsLimitRow (get o.limits) (db.trees 12)
+  limits_mean second = rows_mean IsLimitLine IsLimitEntry IsLimitRow (db.trees 12) lines.limits.now (get o.limits)
+      (λ row line limit one there l e. record { key_is = l.key_is ∙ ap Text e.key_is; box_is = l.box_is ∙ ap Text e.box_is })
+      (listed.added.limits second).0 are.limits (listed.added.limits second).1
+
+  pub unlimited_then : v ≡ v1 → (o.allowance ≡ 0) × ((limit : Limit) → get o.limits limit ≡ None)
+  unlimited_then first =
+      let say = listed.added.unlimited first in
+      (says_none lines.rules.now lines.limits.now say o.allowance are.rules, limits_none lines.rules.now lines.limits.now say (get o.limits) are.limits)

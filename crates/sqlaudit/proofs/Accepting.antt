@@ -10,7 +10,7 @@ use Rattle.sqlite_rules.proofs.ListLemmas.{contains_had}
 use Rattle.sqlite.specs.Effect.{Database}
 use Rattle.boxes.specs.State.{Place, File, State as Office}
 use Rattle.boxes.proofs.Lookups.{some_none}
-use Rattle.sqltables.specs.Schema.{v1, s6}
+use Rattle.sqltables.specs.Schema.{Version, IsVersion}
 use Rattle.sqltables.specs.Tables.{Box, Part, RowsMean, IsBoxRow, IsFileRow, IsPieceRow, TablesMean, tables_of, piece_of}
 use Rattle.sqltables.specs.Means.{IsWhole}
 use Rattle.sqlaudit.specs.Lines.{AreLines, HaveRowids, IsPieceLine}
@@ -21,7 +21,7 @@ use Rattle.sqlaudit.specs.declared.rules.Lines.{Lines}
 use Rattle.sqlaudit.specs.Outlines.{Outline, AreSoundLines, ArePiecesOf}
 use Rattle.sqlaudit.specs.Opened.{AreListed, AreOffice, HasBytes}
 use Rattle.sqlaudit.proofs.PieceKeys.{one_piece_row}
-use Rattle.sqlaudit.proofs.AcceptedTables.{office_means, keys_mean, boxes_mean, receipts_mean, files_mean}
+use Rattle.sqlaudit.proofs.AcceptedTables.{office_means, keys_mean, boxes_mean, receipts_mean, files_mean, rules_mean, limits_mean, unlimited_then}
 use Rattle.sqlaudit.proofs.AcceptedFiles.{IsStored, told_size, bytes_at, bytes_stored}
 use Rattle.sqlaudit.proofs.AcceptedOffice.{office, file_found, box_same, number_same, office_sound}
 
@@ -32,7 +32,7 @@ file_of_piece : (found : Option File) (at : ℕ) (piece : List ℕ) → option_a
 file_of_piece None at piece is = absurd (some_none piece (sym is))
 file_of_piece (Some f) at piece is = (f, refl, is)
 
-module _ (db : Database) (schema : db.schema ≡ s6) (whole : IsWhole db) (ids : HaveRowids (db.trees 9)) (lines : List PieceLine) (listed : AreLines IsPieceLine (db.trees 9) lines)
+module _ (v : Version) (ours : IsVersion v) (db : Database) (schema : db.schema ≡ v.schema) (whole : IsWhole db) (ids : HaveRowids (db.trees 9)) (lines : List PieceLine) (listed : AreLines IsPieceLine (db.trees 9) lines)
     (o : Outline) (within : ArePiecesOf o lines) (bytes : Place → List ℕ) (stored : (place : Place) (number : ℕ) → get o.files place ≡ Some number → IsStored (db.trees 9) o place number (bytes place)) where
   abbrev it : Office
   it = office o bytes
@@ -58,7 +58,7 @@ module _ (db : Database) (schema : db.schema ≡ s6) (whole : IsWhole db) (ids :
       let piece : List ℕ = take 65536 (drop (65536 * p.part) (bytes place)) in
       let is : piece_of (bytes place) p.part ≡ Some piece = rw hit in
       let held = s.pieces.pieces p.part piece is in
-      let same : held.row ≡ row = one_piece_row db schema whole ids held.row row place.box place.name (pos p.part) held.there there
+      let same : held.row ≡ row = one_piece_row v ours db schema whole ids held.row row place.box place.name (pos p.part) held.there there
       (record { box_is = held.is.box_is; name_is = held.is.name_is; part_is = held.is.part_is })
       (record { box_is = line.2.box_is; name_is = line.2.name_is; part_is = line.2.part_is ∙ ap Int p.part_is }) in (
         record { place = place; at = p.part },
@@ -81,30 +81,33 @@ module _ (db : Database) (schema : db.schema ≡ s6) (whole : IsWhole db) (ids :
 
 -- ---- the whole
 
-means_office : (db : Database) (lines : Lines) → db.schema ≡ s6 → IsWhole db → AreListed db lines → ((line : OfficeLine) → Contains lines.office.now line → line.version ≡ pos 1) → (a : AreSoundLines lines)
+means_office : (v : Version) → IsVersion v → (db : Database) (lines : Lines) → db.schema ≡ v.schema → IsWhole db → AreListed v db lines → ((line : OfficeLine) → Contains lines.office.now line → line.version ≡ v.number) → (a : AreSoundLines lines)
     → (bytes : Place → List ℕ) → ((place : Place) (number : ℕ) → get a.office.files place ≡ Some number → IsStored (db.trees 9) a.office place number (bytes place))
-    → TablesMean v1.number db.trees (tables_of (office a.office bytes))
-means_office db lines schema whole listed first a bytes stored = record {
-  office = office_means db lines listed a.office a.lines_are first;
-  keys = keys_mean db lines listed a.office a.lines_are;
-  boxes = subst (λ (look : List ℕ → Option Box). RowsMean IsBoxRow look (db.trees 3)) (λ i name. box_same a.office bytes (db.trees 9) a.sound stored name i) (boxes_mean db lines listed a.office a.lines_are);
-  receipts = receipts_mean db lines listed a.office a.lines_are;
-  files = subst (λ (look : Place → Option ℕ). RowsMean IsFileRow look (db.trees 6)) (λ i place. number_same a.office bytes (db.trees 9) a.sound stored place i) (files_mean db lines listed a.office a.lines_are);
-  pieces = pieces_mean db schema whole listed.pieces_rowids lines.pieces.now listed.pieces a.office a.pieces bytes stored;
+    → TablesMean v db.trees (tables_of (office a.office bytes))
+means_office v ours db lines schema whole listed first a bytes stored = record {
+  office = office_means v db lines listed a.office a.lines_are first;
+  keys = keys_mean v db lines listed a.office a.lines_are;
+  boxes = subst (λ (look : List ℕ → Option Box). RowsMean IsBoxRow look (db.trees 3)) (λ i name. box_same a.office bytes (db.trees 9) a.sound stored name i) (boxes_mean v db lines listed a.office a.lines_are);
+  receipts = receipts_mean v db lines listed a.office a.lines_are;
+  files = subst (λ (look : Place → Option ℕ). RowsMean IsFileRow look (db.trees 6)) (λ i place. number_same a.office bytes (db.trees 9) a.sound stored place i) (files_mean v db lines listed a.office a.lines_are);
+  pieces = pieces_mean v ours db schema whole listed.pieces_rowids lines.pieces.now listed.pieces a.office a.pieces bytes stored;
+  unlimited = unlimited_then v db lines listed a.office a.lines_are;
+  rules = rules_mean v db lines listed a.office a.lines_are;
+  limits = limits_mean v db lines listed a.office a.lines_are;
 }
 
-pub accepted : (db : Database) (lines : Lines) → db.schema ≡ s6 → IsWhole db → AreListed db lines
-    → ((line : OfficeLine) → Contains lines.office.now line → line.version ≡ pos 1)
+pub accepted : (v : Version) → IsVersion v → (db : Database) (lines : Lines) → db.schema ≡ v.schema → IsWhole db → AreListed v db lines
+    → ((line : OfficeLine) → Contains lines.office.now line → line.version ≡ v.number)
     → AreSoundLines lines
     → ((file : FileLine) → Contains lines.files.now file → HasBytes (db.trees 9) lines.receipts.now file)
-    → (office : Office) × AreOffice db office
-accepted db lines schema whole listed first a has =
+    → (office : Office) × AreOffice v db office
+accepted v ours db lines schema whole listed first a has =
     let o : Outline = a.office in
     let bytes : Place → List ℕ = bytes_at (db.trees 9) lines o a.lines_are a.sound has in
     let stored : (place : Place) (number : ℕ) → get o.files place ≡ Some number → IsStored (db.trees 9) o place number (bytes place) = bytes_stored (db.trees 9) lines o a.lines_are a.sound has in (
       office o bytes,
       record {
-        holds = record { schema = schema; sound = whole; means = means_office db lines schema whole listed first a bytes stored };
+        holds = record { schema = schema; sound = whole; means = means_office v ours db lines schema whole listed first a bytes stored };
         sound = office_sound o bytes (db.trees 9) a.sound stored;
       },
     )

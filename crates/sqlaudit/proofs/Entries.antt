@@ -9,8 +9,8 @@ use Rattle.std.proofs.lemmas.List.{take_more, take-append-drop}
 use Rattle.std.proofs.lemmas.List.Elements.{Contains-append_left, Contains-append_right, Contains-append_cases}
 use Rattle.std.specs.BTreeMap.{BTreeMap, UpdatesBy}
 use Rattle.boxes.proofs.Lookups.{equal_is, some_none}
-use Rattle.keeper.specs.Maps.{found}
-use Rattle.keeper.proofs.MapLemmas.{sets_of, means-set, means-empty}
+use Rattle.boxes.specs.Maps.{found}
+use Rattle.boxes.proofs.MapLemmas.{sets_of, means-set, means-empty}
 use Rattle.sqlaudit.specs.Outlines.{AreEntries}
 use Rattle.sqlaudit.specs.Sorting.{AreIn, IsGood}
 

@@ -11,7 +11,7 @@ use Rattle.boxes.specs.declared.totals.Totals.{Totals}
 use Rattle.boxes.proofs.Lookups.{equal_is, bytes_same, bytes_total, place_total, no_entries}
 use Rattle.boxes.proofs.FileTotals.{place_same, same_as_itself, texts_apart}
 use Rattle.boxes.proofs.EntrySums.{weight, sum-insert, sum-filter}
-use Rattle.keeper.specs.Maps.{found}
+use Rattle.boxes.specs.Maps.{found}
 use denote.Bor.{Bor}
 use Rattle.sqlaudit.specs.declared.lines.FileLine.{FileLine}
 use Rattle.sqlaudit.specs.Outlines.{IsFileEntry, size_in, used_in, count_in}

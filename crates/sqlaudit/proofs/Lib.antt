@@ -9,6 +9,7 @@ pub mod Unbroken
 pub mod BoxEntries
 pub mod SameTexts
 pub mod OfficeEntries
+pub mod LimitEntries
 pub mod Mapped
 pub mod PieceKeys
 pub mod AcceptedTables
@@ -22,6 +23,7 @@ pub mod Extents
 pub mod StillReads
 pub mod Digested
 pub mod Tested
+pub mod EitherVersion
 pub mod Looking
 pub mod PieceLines
 pub mod WholeTables

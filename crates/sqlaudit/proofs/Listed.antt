@@ -1,5 +1,5 @@
 -- What a query for a whole table tells of its rows.
-use Rattle.std.proofs.Common.{◌≡◌, inl, inr, ℕ, ℤ, List, [], ◌∷◌, map, filter, true, None, Some, Option, Result, Ok, Err, IfOk, OnOk, IsTrue, Less, int_cmp, refl, sym, ap, ap₂, subst, ◌∙◌}
+use Rattle.std.proofs.Common.{◌≡◌, inl, inr, ℕ, ℤ, List, [], ◌∷◌, map, filter, true, Result, Ok, Err, IfOk, OnOk, IsTrue, Less, int_cmp, refl, sym, ap, ap₂, subst, ◌∙◌}
 use Rattle.std.specs.List.{AllZip}
 use Rattle.std.specs.Ordering.{ordering_reverse}
 use Rattle.std.proofs.lemmas.List.Sorted.{IsPermutation-sym}
@@ -14,18 +14,13 @@ use Rattle.sqlite_sql.specs.Program.{overlay}
 use Rattle.sqlite_rules.specs.Lists.{Has}
 use Rattle.sqlite_rules.proofs.ListLemmas.{all_has}
 use Rattle.sqlite_rules.proofs.ProbeLemmas.{has_mapped, mapped_has}
-use Rattle.sqlite.specs.Listing.{understood}
 use Rattle.sqlite.specs.declared.error.Error.{Error}
-use Rattle.sqlite.specs.Clock.{timed}
-use Rattle.sqlite.specs.State.{State, Shown, ShowsRows, IsUnchanged}
-use Rattle.sqlite_schema.specs.declared.command.Command.{Command}
-use Rattle.sqlite_schema.specs.declared.command.Returning.{Returning}
+use Rattle.sqlite.specs.State.{State, IsUnchanged}
 use Rattle.sqlite_sql.specs.Query.{IsAnswer}
 use Rattle.std.specs.List.Sorted.{IsPermutation}
 use Rattle.sqlite_trees.proofs.ListLemmas.{map-map, pull_back}
-use Rattle.sqlite.proofs.Callers.{IsPlain, reads_as}
+use Rattle.sqlite.proofs.Callers.{reads_as}
 use Rattle.sqltables.specs.Schema.{Version}
-use Rattle.sqltables.specs.Means.{IsRunning}
 use Rattle.sqlaudit.specs.Lines.{AreLines, AreNumbered, AreRead, HaveRowids}
 use Rattle.sqltables.proofs.Forms.{all_rows, no_limit, select}
 use Rattle.sqltables.proofs.Says.{Asks}

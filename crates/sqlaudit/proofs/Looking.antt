@@ -1,25 +1,27 @@
 -- A file that was only looked at, in a transaction that was rolled back.
-use Rattle.std.proofs.Common.{◌≡◌, inl, inr, false, IsTrue, [], arith, refl, sym, ◌∙◌}
+use Rattle.std.proofs.Common.{◌≡◌, inl, inr, false, IsTrue, [], arith, refl, sym, subst, ◌∙◌}
 use Rattle.sqlite_trees.specs.Tree.{Trees}
 use Rattle.sqlite_value.specs.Order.{Row}
 use Rattle.sqlite_rules.specs.Lists.{Has}
 use Rattle.sqlite.specs.declared.error.Error.{Error}
 use Rattle.sqlite.specs.State.{State, HasCleanDisk, IsLive, IsRolledBack, IsUnchanged, IsNotRun, KeepsCommit, Survives}
-use Rattle.sqltables.specs.Schema.{begun_schemas}
+use Rattle.sqltables.specs.Schema.{Version, IsVersion, begun_schemas}
+use Rattle.sqlite_schema.specs.declared.schema.Schema.{Schema}
+use Rattle.sqlaudit.proofs.Extents.{ours_begun}
 use Rattle.sqltables.specs.Means.{IsWhole}
 use Rattle.sqlaudit.specs.declared.opening.Extent.{Extent}
 use Rattle.sqlaudit.specs.declared.opening.Extent.TheVariants.{Nothing, Begun, Whole}
 use Rattle.sqlaudit.specs.Opened.{IsOurs, HasOurs, IsExtent, IsBegunAs, IsSettled, SeesSame, IsAtRest, LeavesUntouched}
 
-begun_of : (extent : Extent) (schema : _) → IsExtent extent schema → (extent ≡ Nothing → ⊥) → Has begun_schemas schema
-begun_of Nothing schema is not = absurd (not refl)
-begun_of Begun schema is not = is.0
-begun_of Whole schema is not = inr (inr (inr (inr (inr (inl is)))))
+begun_of : (v : Version) → IsVersion v → (extent : Extent) (schema : Schema) → IsExtent v extent schema → (extent ≡ Nothing → ⊥) → Has begun_schemas schema
+begun_of v version Nothing schema is not = absurd (not refl)
+begun_of v version Begun schema is not = is.0
+begun_of v version Whole schema is not = subst (Has begun_schemas) (sym is) (ours_begun v version)
 
 -- what is known of an open database before it is looked at
-pub looks_at : (s : State) (extent : Extent) → HasOurs s → (IsOurs s.now.schema → IsExtent extent s.now.schema) → (extent ≡ Nothing → ⊥) → IsLive s → IsBegunAs extent s
+pub looks_at : (v : Version) → IsVersion v → (s : State) (extent : Extent) → HasOurs s → (IsOurs s.now.schema → IsExtent v extent s.now.schema) → (extent ≡ Nothing → ⊥) → IsLive s → IsBegunAs v extent s
 unfolding IsWhole
-looks_at s extent ours is not live is_open = let e = is (ours is_open) in (begun_of extent s.now.schema e not, e, (live is_open).0)
+looks_at v version s extent ours is not live is_open = let e = is (ours is_open) in (begun_of v version extent s.now.schema e not, e, (live is_open).0)
 
 -- a transaction that begins
 pub record Begins (old begun : State) : Type 1 where
@@ -32,20 +34,23 @@ pub record Begins (old begun : State) : Type 1 where
 
 -- the transaction was rolled back
 module _ (old begun mid new : State) (begins : Begins old begun) (settled : IsSettled old) (mode : old.in_transaction ≡ false)
-    (keeps : HasCleanDisk mid → KeepsCommit begun mid) (before : Survives begun mid (λ db. ⊥)) (undone : HasCleanDisk new → IsRolledBack mid new) (after : Survives mid new (λ db. ⊥)) where
-  pub untouched : LeavesUntouched old new
-  untouched = record {
-    same = λ clean.
-        let back = undone clean in
-        let kept = keeps (omega (arith, clean, after.clean)) in
-        record {
-          was_open = λ is_open. begins.was_open (kept.was_open (back.was_open is_open));
-          now_is = λ is_open.
-              let mid_open = back.was_open is_open in
-              (back.undone is_open).0 ∙ kept.committed mid_open ∙ begins.committed_is ∙ sym (settled (begins.was_open (kept.was_open mid_open)));
-          committed_is = λ is_open. (back.undone is_open).1 ∙ kept.committed (back.was_open is_open) ∙ begins.committed_is;
-          mode = back.autocommit ∙ sym mode;
-        };
+    (keeps : HasCleanDisk mid → KeepsCommit begun mid) (undone : HasCleanDisk new → IsRolledBack mid new) where
+  pub undone_same : (HasCleanDisk new → HasCleanDisk mid) → HasCleanDisk new → SeesSame old new
+  undone_same early clean =
+      let back = undone clean in
+      let kept = keeps (early clean) in
+      record {
+        was_open = λ is_open. begins.was_open (kept.was_open (back.was_open is_open));
+        now_is = λ is_open.
+            let mid_open = back.was_open is_open in
+            (back.undone is_open).0 ∙ kept.committed mid_open ∙ begins.committed_is ∙ sym (settled (begins.was_open (kept.was_open mid_open)));
+        committed_is = λ is_open. (back.undone is_open).1 ∙ kept.committed (back.was_open is_open) ∙ begins.committed_is;
+        mode = back.autocommit ∙ sym mode;
+      }
+
+  pub untouched : (before : Survives begun mid (λ db. ⊥)) (after : Survives mid new (λ db. ⊥)) → LeavesUntouched old new
+  untouched before after = record {
+    same = undone_same (λ clean. omega (arith, clean, after.clean));
     crash = λ clean trees left. elim (after.crash clean trees left) [
       | inl was ↦ elim (before.crash (omega (arith, clean, after.clean)) trees was) [
         | inl first ↦ begins.leaves trees first

@@ -1,18 +1,18 @@
 -- An office without the bytes of its files keeps the rules that it keeps.
 use Rattle.std.proofs.Common.{◌≡◌, ℕ, ◌-◌, List, length, Option, None, Some, option_map, unwrap_or, slice_get, refl, sym, ap, subst, ◌∙◌, arith}
-use Rattle.std.specs.Prelude.{IsSomeAnd}
+use Rattle.std.specs.Prelude.{IsSome, IsSomeAnd}
 use Rattle.std.specs.List.{AllByRecursion}
 use Rattle.std.specs.FinMap.{get}
 use Rattle.std.proofs.lemmas.List.Elements.{All-weaker, All-from_recursion, recursion_from_All}
 use Rattle.sigtext.specs.Bytes.{bytes_cmp, same_bytes}
-use Rattle.boxes.specs.State.{Settings, Place, place_cmp, File, Receipt, State}
+use Rattle.boxes.specs.State.{Settings, Place, place_cmp, File, Receipt, Limit, State}
 use Rattle.boxes.specs.Opening.{Fits}
 use Rattle.boxes.specs.Sound.{IsSound, IsReceipt}
 use Rattle.boxes.specs.Totals.{used, count}
 use Rattle.boxes.proofs.Lookups.{bytes_same, place_total}
 use Rattle.boxes.proofs.FileTotals.{place_same}
 use Rattle.sqltables.specs.Tables.{Box, tables_of}
-use Rattle.sqlaudit.specs.Outlines.{Outline, IsBoxRule, IsReceiptRule, IsFileRule, IsSoundOutline, size_in, used_in, count_in}
+use Rattle.sqlaudit.specs.Outlines.{Outline, IsBoxRule, IsReceiptRule, IsFileRule, IsLimitRule, IsSoundOutline, size_in, used_in, count_in}
 use Rattle.sqlaudit.proofs.Mapped.{mapped, get_mapped}
 use Rattle.sqlaudit.proofs.MappedSums.{sum_mapped, count_mapped}
 use Rattle.sqltables.proofs.StandingFiles.{standing, kept, listed_at}
@@ -26,10 +26,12 @@ number_at place f = f.receipt
 abbrev pub outline_of : State → Outline
 outline_of s = record {
   offset = s.offset;
+  allowance = s.allowance;
   keys = s.keys;
   boxes = mapped bytes_cmp (box_of s) s.boxes;
   files = mapped place_cmp number_at s.files;
   receipts = s.receipts;
+  limits = s.limits;
 }
 
 -- ---- its maps are the tables
@@ -101,6 +103,15 @@ module _ (s : State) (sound : IsSound s) where
       go None none = none
       go (Some b) fits = fits
 
+  rule_of_limit : (limit : Limit) (there : Unit {0}) → get s.limits limit ≡ Some there → IsLimitRule s.keys (outline_of s).boxes limit
+  rule_of_limit limit there is =
+      let h = sound.limits limit.key limit.box (subst IsSome (sym is) refl) in
+      record { link = h.link; box_there = subst IsSome (sym (box_look s limit.box)) (go (get s.boxes limit.box) h.box_there) }
+    where
+      go : (o : Option Settings) → IsSome o → IsSome (option_map (box_of s limit.box) o)
+      go None none = none
+      go (Some b) some = some
+
   pub sound_outline : IsSoundOutline (outline_of s)
   sound_outline = record {
     east = sound.east;
@@ -111,5 +122,7 @@ module _ (s : State) (sound : IsSound s) where
     totals = λ name b is.
         let it = box_there name b is in
         (sym (ap (λ (c : Box). c.used) it.2) ∙ sym (used_same name), sym (ap (λ (c : Box). c.count) it.2) ∙ sym (count_same name));
+    allowance = sound.allowance;
+    limits = rule_of_limit;
     clerk = record { id = sound.clerk.id; key = sound.clerk.key; there = sound.clerk.there; clerk = sound.clerk.clerk; unrevoked = sound.clerk.unrevoked };
   }

@@ -1,5 +1,5 @@
 -- No two rows of the pieces have one box, name and part.
-use Rattle.std.proofs.Common.{◌≡◌, ◌&&◌, ℕ, ℤ, List, [], ◌∷◌, Bool, true, false, not, Some, Ordering, Less, Equal, Greater, refl, sym, ap, ap₂, subst, ◌∙◌}
+use Rattle.std.proofs.Common.{◌≡◌, ◌&&◌, inl, inr, ℕ, ℤ, List, [], ◌∷◌, Bool, true, false, not, Some, Ordering, Less, Equal, Greater, refl, sym, ap, ap₂, subst, ◌∙◌}
 use Rattle.std.specs.List.{list_any}
 use Rattle.std.specs.Ordering.{int_cmp, is_eq, is_ne}
 use Rattle.std.specs.FinMap.{int_cmp-IsAntisymmetric}
@@ -11,14 +11,14 @@ use Rattle.sqlite_value.specs.declared.keys.Collation.TheVariants.{Binary}
 use Rattle.sqlite_value.specs.Order.{Row, column, value_cmp}
 use Rattle.sqlite_value.specs.Keys.{plain, first_key}
 use Rattle.sqlite_value.proofs.OrderLemmas.{value_cmp-Int}
-use Rattle.sqlite_trees.specs.Tree.{rowid}
+use Rattle.sqlite_trees.specs.Tree.{Trees, rowid}
 use Rattle.sqlite_sql.specs.Ops.{binary, is_true, from_truth}
 use Rattle.sqlite_schema.specs.declared.schema.Constraint.TheVariants.{Unique}
 use Rattle.sqlite_schema.specs.Rules.{passes, Keeps, agree, equal, differ}
 use Rattle.sqlite_rules.specs.Lists.{Has}
 use Rattle.sqlite_rules.proofs.ListLemmas.{all_has, some_from}
 use Rattle.sqlite.specs.Effect.{Database}
-use Rattle.sqltables.specs.Schema.{s6}
+use Rattle.sqltables.specs.Schema.{Version, IsVersion, s6, s9}
 use Rattle.sqltables.specs.Means.{IsWhole}
 use Rattle.sqlaudit.specs.Lines.{HaveRowids}
 use Rattle.sqltables.proofs.Ours.{pieces_at}
@@ -67,16 +67,30 @@ agrees a b box name part x y =
 abbrev clash : Row → Row → Bool
 clash b a = agree plain key a key b && differ (rowid a) (rowid b)
 
-pub one_piece_row : (db : Database) → db.schema ≡ s6 → IsWhole db → HaveRowids (db.trees 9) → (a b : Row) (box name : List ℕ) (part : ℤ) → Has (db.trees 9) a → Has (db.trees 9) b
+-- a row of the pieces that passes the rule of their key
+abbrev Passes : Trees → Row → Type 0
+Passes trees b = not (list_any (clash b) (trees 9)) && true ≡ true
+
+abbrev Passing : Version → Trees → Type 0
+Passing v trees = Keeps Unique v.schema trees → (b : Row) → Has (trees 9) b → Passes trees b
+
+passing_of : (v : Version) → IsVersion v → (trees : Trees) → Passing v trees
+unfolding IsVersion
+passing_of v (inl is) trees =
+    subst (λ (w : Version). Passing w trees) (sym is) (λ unique b there. all_has (λ r. passes Unique s6 trees pieces_at r ≡ true) (trees 9) b unique.1.1.1.1.1.0 there)
+passing_of v (inr is) trees =
+    subst (λ (w : Version). Passing w trees) (sym is) (λ unique b there. all_has (λ r. passes Unique s9 trees pieces_at r ≡ true) (trees 9) b unique.1.1.1.1.1.0 there)
+
+pub one_piece_row : (v : Version) → IsVersion v → (db : Database) → db.schema ≡ v.schema → IsWhole db → HaveRowids (db.trees 9) → (a b : Row) (box name : List ℕ) (part : ℤ) → Has (db.trees 9) a → Has (db.trees 9) b
     → IsAt a box name part → IsAt b box name part → a ≡ b
 unfolding IsWhole
-one_piece_row db has whole ids a b box name part a_in b_in at_a at_b = go (differ (rowid a) (rowid b)) refl
+one_piece_row v ours db has whole ids a b box name part a_in b_in at_a at_b = go (differ (rowid a) (rowid b)) refl
   where
-    unique : Keeps Unique s6 db.trees
+    unique : Keeps Unique v.schema db.trees
     unique = subst (λ s. Keeps Unique s db.trees) has (whole.obeys.rules Unique)
 
-    passing : passes Unique s6 db.trees pieces_at b ≡ true
-    passing = all_has (λ r. passes Unique s6 db.trees pieces_at r ≡ true) (db.trees 9) b unique.1.1.1.1.1.0 b_in
+    passing : Passes db.trees b
+    passing = passing_of v ours db.trees unique b b_in
 
     alone : list_any (clash b) (db.trees 9) ≡ true → ⊥
     alone hit = let none = (and_parts (not (list_any (clash b) (db.trees 9))) true passing).0 in let e = rw hit at none in cc

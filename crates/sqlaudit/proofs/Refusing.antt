@@ -3,17 +3,15 @@ use Rattle.std.proofs.Common.{◌≡◌, inl, inr, ℕ, ◌+◌, ◌-◌, ◌*�
 use Rattle.std.specs.Prelude.{Contains, nat_lt}
 use Rattle.std.specs.FinMap.{get}
 use Rattle.std.proofs.lemmas.Bool.{cases_Bool, ltb-true, ltb-false}
-use Rattle.sqlite_value.specs.declared.value.Value.TheVariants.{Int}
-use Rattle.sqlite_value.specs.Order.{Row, column}
-use Rattle.sqlite_rules.specs.Lists.{Has}
+use Rattle.sqlite_value.specs.Order.{Row}
 use Rattle.sqlite.specs.Effect.{Database}
 use Rattle.sigv4.specs.Hmac.{sha256}
 use Rattle.boxes.specs.State.{Place, File, Receipt, State as Office}
-use Rattle.sqltables.specs.Schema.{v1}
-use Rattle.sqltables.specs.Tables.{Box, Part, RowsMean, IsOfficeRow, IsKeyRow, IsBoxRow, IsReceiptRow, IsFileRow, IsPieceRow, TablesMean, tables_of, piece_of}
-use Rattle.sqlaudit.specs.Lines.{AreLines, IsOfficeLine, IsKeyLine, IsBoxLine, IsReceiptLine, IsFileLine}
+use Rattle.sqltables.specs.Schema.{Version, IsVersion}
+use Rattle.sqltables.specs.Tables.{Box, Part, RowsMean, IsOfficeRow, IsKeyRow, IsBoxRow, IsReceiptRow, IsFileRow, IsPieceRow, IsRulesRow, IsLimitRow, TablesMean, tables_of, piece_of}
+use Rattle.sqlaudit.specs.Lines.{AreLines, IsOfficeLine, IsKeyLine, IsBoxLine, IsReceiptLine, IsFileLine, IsRulesLine, IsLimitLine}
 use Rattle.sqltables.specs.Pieces.{AreBytesOf, HasPiece}
-use Rattle.sqlaudit.specs.Outlines.{AreEntries, IsOfficeEntry, IsKeyEntry, IsBoxEntry, IsReceiptEntry, IsFileEntry, ArePiecesOf, AreLinesOf, AreSoundLines}
+use Rattle.sqlaudit.specs.Outlines.{AreEntries, IsOfficeEntry, IsKeyEntry, IsBoxEntry, IsReceiptEntry, IsFileEntry, IsRulesEntry, IsLimitEntry, ArePiecesOf, AreLinesOf, AreSoundLines}
 use Rattle.sqlaudit.specs.Opened.{AreOffice, AreListed, IsGivenFor, LacksBytes, place_in}
 use Rattle.sqltables.specs.OneState.{same_pieces}
 use Rattle.sqlaudit.specs.declared.lines.ReceiptLine.{ReceiptLine}
@@ -22,6 +20,7 @@ use Rattle.sqlaudit.specs.declared.rules.Lines.{Lines}
 use Rattle.sqlite_rules.proofs.ListLemmas.{has_contained, contains_had}
 use Rattle.sqltables.proofs.Gathering.{no_piece}
 use Rattle.sqltables.proofs.StandingFiles.{standing, kept, listed_at}
+use Rattle.sqlaudit.proofs.LimitEntries.{none_said, none_limited}
 use Rattle.sqlaudit.proofs.OutlineOf.{outline_of, box_look, file_look, size_known, sound_outline}
 
 -- ---- rows, lines and entries
@@ -72,6 +71,12 @@ receipt_agrees row line at receipt l r = record { number_is = cc; box_is = cc; n
 file_agrees : Agree IsFileLine IsFileRow IsFileEntry
 file_agrees row line place number l r = record { box_is = cc; name_is = cc; receipt_is = cc }
 
+rules_agree : Agree IsRulesLine IsRulesRow IsRulesEntry
+rules_agree row line one allowance l r = record { id_is = cc; allowance_is = cc }
+
+limit_agrees : Agree IsLimitLine IsLimitRow IsLimitEntry
+limit_agrees row line limit there l r = record { key_is = cc; box_is = cc }
+
 -- ---- pieces
 
 -- what is known of bytes that have this piece
@@ -104,8 +109,8 @@ one_part row k q v w a b =
     let at : k.at ≡ q.at = cc in
     (λ i. record { place = record { box = box i; name = name i }; at = at i }, cc)
 
-module _ (db : Database) (lines : Lines) (office : Office) (listed : AreListed db lines) (are : AreOffice db office) where
-  abbrev means : TablesMean v1.number db.trees (tables_of office)
+module _ (v : Version) (ours : IsVersion v) (db : Database) (lines : Lines) (office : Office) (listed : AreListed v db lines) (are : AreOffice v db office) where
+  abbrev means : TablesMean v db.trees (tables_of office)
   means = are.holds.means
 
   -- ---- the lines are those of the office without bytes
@@ -113,14 +118,26 @@ module _ (db : Database) (lines : Lines) (office : Office) (listed : AreListed d
   file_lines : AreEntries IsFileEntry (tables_of office).file lines.files.now
   file_lines = entries_of IsFileLine IsFileRow IsFileEntry file_agrees (tables_of office).file (db.trees 6) lines.files.now listed.files means.files
 
+  rules_lines : IsVersion v → AreEntries IsRulesEntry (λ one. Some office.allowance) lines.rules.now
+  unfolding IsVersion
+  rules_lines (inl first) = none_said lines.rules.now lines.limits.now (listed.added.unlimited first) office.allowance (means.unlimited first).0
+  rules_lines (inr second) = entries_of IsRulesLine IsRulesRow IsRulesEntry rules_agree (λ one. Some office.allowance) (db.trees 11) lines.rules.now (listed.added.rules second).0 (means.rules second)
+
+  limit_lines : IsVersion v → AreEntries IsLimitEntry (get office.limits) lines.limits.now
+  unfolding IsVersion
+  limit_lines (inl first) = none_limited lines.rules.now lines.limits.now (listed.added.unlimited first) (get office.limits) (means.unlimited first).1
+  limit_lines (inr second) = entries_of IsLimitLine IsLimitRow IsLimitEntry limit_agrees (get office.limits) (db.trees 12) lines.limits.now (listed.added.limits second).0 (means.limits second)
+
   lines_of : AreLinesOf lines (outline_of office)
   lines_of = record {
-    office = entries_of IsOfficeLine (IsOfficeRow v1.number) IsOfficeEntry (office_agrees v1.number) (λ one. Some office.offset) (db.trees 0) lines.office.now listed.office means.office;
+    office = entries_of IsOfficeLine (IsOfficeRow v.number) IsOfficeEntry (office_agrees v.number) (λ one. Some office.offset) (db.trees 0) lines.office.now listed.office means.office;
     keys = entries_of IsKeyLine IsKeyRow IsKeyEntry key_agrees (get office.keys) (db.trees 1) lines.keys.now listed.keys means.keys;
     boxes = subst (λ (look : List ℕ → Option Box). AreEntries IsBoxEntry look lines.boxes.now) (λ i name. sym (box_look office name) i)
         (entries_of IsBoxLine IsBoxRow IsBoxEntry box_agrees (tables_of office).box (db.trees 3) lines.boxes.now listed.boxes means.boxes);
     receipts = entries_of IsReceiptLine IsReceiptRow IsReceiptEntry receipt_agrees (slice_get office.receipts) (db.trees 5) lines.receipts.now listed.receipts means.receipts;
     files = subst (λ (look : Place → Option ℕ). AreEntries IsFileEntry look lines.files.now) (λ i place. sym (file_look office place) i) file_lines;
+    rules = rules_lines ours;
+    limits = limit_lines ours;
   }
 
   pieces_of : ArePiecesOf (outline_of office) lines.pieces.now
@@ -220,11 +237,3 @@ module _ (db : Database) (lines : Lines) (office : Office) (listed : AreListed d
             let b = subst (λ n. AreBytesOf (db.trees 9) (place_in file) n other.0) size other.1 in
             other.2 (ap sha256 (same_bytes_stand (place_in file) it.held it.there other.0 b) ∙ sym it.digest)
       ]
-
--- the office's version is ours
-pub says_one : (db : Database) (office : Office) → AreOffice db office → (version : ℤ) → ((row : Row) → Has (db.trees 0) row → column row 2 ≡ Int version) → version ≡ pos 1
-says_one db office are version each =
-    let r = are.holds.means.office.all tt office.offset refl in
-    let ours : column r.0 2 ≡ Int (pos 1) = r.2.version_is in
-    let said : column r.0 2 ≡ Int version = each r.0 r.1 in
-    cc

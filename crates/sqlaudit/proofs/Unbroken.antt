@@ -5,7 +5,7 @@ use Rattle.std.specs.Prelude.{IsSome, IsSomeAnd, slice_get, option_map, false, â
 use Rattle.std.specs.Ordering.{nat_cmp, is_lt}
 use Rattle.std.specs.BTreeMap.{BTreeMap}
 use Rattle.std.proofs.lemmas.Map.Keys.{ge_from_not_lt}
-use Rattle.keeper.specs.Maps.{found}
+use Rattle.boxes.specs.Maps.{found}
 use Rattle.std.proofs.lemmas.Option.{slice_get_within, slice_get-get_or}
 use Rattle.sqlaudit.proofs.ReceiptEntries.{some_there}
 

@@ -1,27 +1,30 @@
 -- The lines of an office that keeps every rule, and the maps that are read from them.
 use Rattle.std.proofs.Common.{◌≡◌, ℕ, ℤ, suc, pos, List, [], ◌∷◌, slice_get, Option, Some, IsTrue, Bool, false, true, refl, sym, ap, subst, ◌∙◌}
-use Rattle.std.specs.Prelude.{Contains, neg_ℤ, ◌≤ℤ◌}
+use Rattle.std.specs.Prelude.{Contains, neg_ℤ, ◌≤ℤ◌, ◌≤◌}
 use Rattle.std.specs.List.{AllByRecursion}
 use Rattle.std.specs.FinMap.{FinMap, get, same_map, nat_cmp-IsAntisymmetric}
 use Rattle.std.specs.Ordering.{nat_cmp}
 use Rattle.std.specs.Cmp.{nat_cmp_total}
 use Rattle.sigtext.specs.Bytes.{bytes_cmp}
-use Rattle.boxes.specs.State.{Key, place_cmp, Receipt}
+use Rattle.boxes.specs.State.{Key, place_cmp, Receipt, Limit, limit_cmp}
+use Rattle.sigv4.specs.Allowances.{most_allowance}
 use Rattle.boxes.proofs.Lookups.{bytes_total, bytes_same, place_total}
 use Rattle.boxes.proofs.FileTotals.{place_same}
 use Rattle.boxes.proofs.NoBox.{all_at}
 use Rattle.sqltables.specs.Tables.{Box}
 use Rattle.sqlaudit.specs.declared.rules.Lines.{Lines}
-use Rattle.sqlaudit.specs.Outlines.{Outline, AreEntries, IsOfficeEntry, IsKeyEntry, IsKeyRule, IsBoxEntry, IsBoxRule, IsReceiptEntry, IsReceiptRule, IsFileEntry, IsFileRule, HasClerkIn, AreSoundLines, IsPieceIn, used_in, count_in}
+use Rattle.sqlaudit.specs.Outlines.{Outline, AreEntries, IsOfficeEntry, IsKeyEntry, IsKeyRule, IsBoxEntry, IsBoxRule, IsReceiptEntry, IsReceiptRule, IsFileEntry, IsFileRule, IsRulesEntry, IsLimitEntry, IsLimitRule, HasClerkIn, AreSoundLines, IsPieceIn, used_in, count_in}
 use Rattle.sqlaudit.specs.declared.lines.KeyLine.{KeyLine}
 use Rattle.sqlaudit.specs.declared.lines.BoxLine.{BoxLine}
 use Rattle.sqlaudit.specs.declared.lines.PieceLine.{PieceLine}
-use Rattle.sqlaudit.specs.Sorting.{IsGood, IsGiven, IsFiled, HasTotals}
+use Rattle.sqlaudit.specs.declared.lines.LimitLine.{LimitLine}
+use Rattle.sqlaudit.specs.Sorting.{IsGood, IsGiven, IsFiled, HasTotals, limit_in}
 use Rattle.sqlaudit.proofs.Entries.{with_rule, without_rule, rule_of_entries, same_look}
 use Rattle.sqlaudit.proofs.KeyEntries.{one_key}
 use Rattle.sqlaudit.proofs.BoxEntries.{one_box}
 use Rattle.sqlaudit.proofs.ReceiptEntries.{one_given}
 use Rattle.sqlaudit.proofs.FileEntries.{one_filed}
+use Rattle.sqlaudit.proofs.LimitEntries.{limits_of}
 
 -- what is not so, where the answer is no
 pub no : (P : Type 0) → (P → ⊥) → (IsTrue false → P) × (P → IsTrue false)
@@ -64,6 +67,12 @@ module _ (lines : Lines) (a : AreSoundLines lines) where
     pub has_clerk_too : HasClerkIn ks
     has_clerk_too = subst HasClerkIn keys_are a.sound.clerk
 
+    pub limits_ruled : (line : LimitLine) → Contains lines.limits.now line → IsLimitRule ks bs (limit_in line)
+    limits_ruled line there =
+        let e = a.lines_are.limits.each line there in
+        let same : e.0 ≡ limit_in line = λ i. record { key = sym e.2.key_is i; box = sym e.2.box_is i } in
+        subst (IsLimitRule ks bs) same (subst (λ (m : FinMap bytes_cmp Key). IsLimitRule m bs e.0) keys_are (subst (λ (m : FinMap bytes_cmp Box). IsLimitRule o.keys m e.0) boxes_are (a.sound.limits e.0 e.1 e.3)))
+
     module _ (rs : FinMap nat_cmp Receipt) (receipts : AreEntries (IsGiven ks bs) (get rs) lines.receipts.now) where
       receipt_is : (at : ℕ) → slice_get o.receipts at ≡ get rs at
       receipt_is = same_look nat_cmp nat_cmp_total nat_cmp-IsAntisymmetric (IsGiven ks bs) (one_given ks bs) (slice_get o.receipts) (get rs) lines.receipts.now given receipts
@@ -101,20 +110,31 @@ all_from P (x ∷ xs) each = (each 0 x refl, all_from P xs (λ i y there. each (
 module _ (lines : Lines) (ks : FinMap bytes_cmp Key) (bs : FinMap bytes_cmp Box) (rs : FinMap nat_cmp Receipt) (fs : FinMap place_cmp ℕ)
     (keys : AreEntries GoodKey (get ks) lines.keys.now) (boxes : AreEntries GoodBox (get bs) lines.boxes.now)
     (receipts : AreEntries (IsGiven ks bs) (get rs) lines.receipts.now) (files : AreEntries (IsFiled rs) (get fs) lines.files.now) where
+  rule_of_limit : (limits : (ls : FinMap limit_cmp (Unit {0})) × AreEntries IsLimitEntry (get ls) lines.limits.now) → ((line : LimitLine) → Contains lines.limits.now line → IsLimitRule ks bs (limit_in line))
+      → (limit : Limit) (there : Unit {0}) → get limits.0 limit ≡ Some there → IsLimitRule ks bs limit
+  rule_of_limit limits ruled limit there is =
+      let l = limits.1.all limit there is in
+      subst (IsLimitRule ks bs) (λ i. record { key = l.2.key_is i; box = l.2.box_is i }) (ruled l.0 l.1)
+
   pub built : (east : ℤ) × AreEntries IsOfficeEntry (λ one. Some east) lines.office.now × ((neg_ℤ (pos 840) ≤ℤ east) × (east ≤ℤ pos 840)) → HasClerkIn ks
       → (list : List Receipt) × ((at : ℕ) → get rs at ≡ slice_get list at) → ((line : BoxLine) → Contains lines.boxes.now line → HasTotals rs fs line)
-      → ((line : PieceLine) → Contains lines.pieces.now line → IsPieceIn (get rs) fs line) → AreSoundLines lines
-  built office clerk unbroken totals pieces =
+      → ((line : PieceLine) → Contains lines.pieces.now line → IsPieceIn (get rs) fs line)
+      → (allowance : ℕ) × AreEntries IsRulesEntry (λ one. Some allowance) lines.rules.now × (allowance ≤ most_allowance)
+      → ((line : LimitLine) → Contains lines.limits.now line → IsLimitRule ks bs (limit_in line)) → AreSoundLines lines
+  built office clerk unbroken totals pieces allowance ruled =
+      let limits = limits_of lines.limits.now in
       let list = unbroken.0 in
       let same : get rs ≡ slice_get list = λ i at. unbroken.1 at i in
       record {
-        office = record { offset = office.0; keys = ks; boxes = bs; files = fs; receipts = list };
+        office = record { offset = office.0; allowance = allowance.0; keys = ks; boxes = bs; files = fs; receipts = list; limits = limits.0 };
         lines_are = record {
           office = office.1;
           keys = without_rule IsKeyEntry IsKeyRule (get ks) lines.keys.now keys;
           boxes = without_rule IsBoxEntry IsBoxRule (get bs) lines.boxes.now boxes;
           receipts = subst (λ (f : ℕ → Option Receipt). AreEntries IsReceiptEntry f lines.receipts.now) same (without_rule IsReceiptEntry (λ at r. IsReceiptRule ks bs r) (get rs) lines.receipts.now receipts);
           files = without_rule IsFileEntry (IsFileRule (get rs)) (get fs) lines.files.now files;
+          rules = allowance.1;
+          limits = limits.1;
         };
         sound = record {
           east = office.2;
@@ -131,6 +151,8 @@ module _ (lines : Lines) (ks : FinMap bytes_cmp Key) (bs : FinMap bytes_cmp Box)
               let count_is : b.count ≡ count_in fs l.0.name.items = cc in
               (used_is ∙ (λ i. used_in (same i) fs (l.2.entry.name_is i)), count_is ∙ ap (count_in fs) l.2.entry.name_is);
           clerk = clerk;
+          allowance = allowance.2;
+          limits = rule_of_limit limits ruled;
         };
         pieces = λ line there. subst (λ (f : ℕ → Option Receipt). IsPieceIn f fs line) same (pieces line there);
       }

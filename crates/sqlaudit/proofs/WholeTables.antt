@@ -2,17 +2,20 @@
 use Rattle.std.proofs.Common.{◌≡◌, ℕ, List, [], IsTrue, refl}
 use Rattle.sqlite_value.specs.Order.{Row}
 use Rattle.sqlite.specs.State.{State}
-use Rattle.sqltables.specs.Schema.{Version, IsVersion}
+use Rattle.sqltables.specs.Schema.{Version, IsVersion, v2}
 use Rattle.sqltables.specs.Means.{IsWhole}
 use Rattle.sqltables.proofs.Ours.{asks_of}
 use Rattle.sqltables.proofs.Texts.{list_keys, list_keys_command, list_keys_is, list_boxes, list_boxes_command, list_boxes_is, list_receipts, list_receipts_command, list_receipts_is, list_files, list_files_command, list_files_is, list_pieces, list_pieces_command, list_pieces_is}
+use Rattle.sqltables.proofs.AddedTexts.{list_rules, list_rules_is, list_limits, list_limits_is}
 use Rattle.sqltables.proofs.Shown.{shown_open}
-use Rattle.sqlaudit.specs.Lines.{AreLines, AreRead, HaveRowids, IsKeyLine, IsBoxLine, IsReceiptLine, IsFileLine, IsPieceLine, ShowsPiece}
+use Rattle.sqlaudit.specs.Lines.{AreLines, AreRead, HaveRowids, IsKeyLine, IsBoxLine, IsReceiptLine, IsFileLine, IsPieceLine, ShowsPiece, IsRulesLine, IsLimitLine}
 use Rattle.sqlaudit.specs.declared.lines.KeyLine.{KeyLine}
 use Rattle.sqlaudit.specs.declared.lines.BoxLine.{BoxLine}
 use Rattle.sqlaudit.specs.declared.lines.ReceiptLine.{ReceiptLine}
 use Rattle.sqlaudit.specs.declared.lines.FileLine.{FileLine}
 use Rattle.sqlaudit.specs.declared.lines.PieceLine.{PieceLine}
+use Rattle.sqlaudit.specs.declared.lines.RulesLine.{RulesLine}
+use Rattle.sqlaudit.specs.declared.lines.LimitLine.{LimitLine}
 use Rattle.sqlaudit.proofs.Listed.{lines_listed, rowids_listed, unchanged}
 use Rattle.sqlaudit.proofs.PieceLines.{piece_line}
 
@@ -78,4 +81,24 @@ module _ (v : Version) (ours : IsVersion v) (old new : State) (has : IsTrue old.
         lines_are = lines_listed ShowsPiece IsPieceLine v list_pieces 9 _ _ _ asks old new schema lines read (λ row line there is. piece_line v ours old.now schema (whole is_open) row line there is);
         rowids = rowids_listed ShowsPiece IsPieceLine v list_pieces 9 _ _ _ asks old new schema lines read (λ row. refl);
         same = pieces_same lines read;
+      }
+
+-- the tables that version 2 adds
+module _ (old new : State) (has : IsTrue old.is_open → old.now.schema ≡ v2.schema) where
+  pub lists_rules : (lines : List RulesLine) → AreRead IsRulesLine list_rules old new lines → Lists IsRulesLine 11 old new lines
+  lists_rules lines read =
+      let schema = has (shown_open list_rules [] old new read.rows read.shown) in
+      record {
+        lines_are = lines_listed IsRulesLine IsRulesLine v2 list_rules 11 _ _ _ list_rules_is old new schema lines read (λ row line there is. record { id_is = is.id_is; allowance_is = is.allowance_is });
+        rowids = rowids_listed IsRulesLine IsRulesLine v2 list_rules 11 _ _ _ list_rules_is old new schema lines read (λ row. refl);
+        same = (unchanged IsRulesLine IsRulesLine v2 list_rules 11 _ _ _ list_rules_is old new schema lines read).0.now_is;
+      }
+
+  pub lists_limits : (lines : List LimitLine) → AreRead IsLimitLine list_limits old new lines → Lists IsLimitLine 12 old new lines
+  lists_limits lines read =
+      let schema = has (shown_open list_limits [] old new read.rows read.shown) in
+      record {
+        lines_are = lines_listed IsLimitLine IsLimitLine v2 list_limits 12 _ _ _ list_limits_is old new schema lines read (λ row line there is. record { key_is = is.key_is; box_is = is.box_is });
+        rowids = rowids_listed IsLimitLine IsLimitLine v2 list_limits 12 _ _ _ list_limits_is old new schema lines read (λ row. refl);
+        same = (unchanged IsLimitLine IsLimitLine v2 list_limits 12 _ _ _ list_limits_is old new schema lines read).0.now_is;
       }

@@ -1,3 +1,4 @@
+pub mod Formats
 pub mod Lines
 pub mod Outlines
 pub mod Sorting

@@ -1,16 +1,14 @@
 -- The rows of each table, read as values.
-use Rattle.std.specs.Prelude.{◌≡◌, ℕ, ℤ, pos, List, [], length, map, Option, Some, MatchOption, Vec}
+use Rattle.std.specs.Prelude.{◌≡◌, ℕ, ℤ, pos, List, [], length, map}
 use Rattle.std.specs.List.{AllZip}
-use Rattle.std.specs.declared.alloc.Global.{Global}
 use Rattle.std.specs.List.Sorted.{IsPermutation}
 use Rattle.std.specs.Ordering.{int_cmp}
 use Rattle.std.specs.declared.cmp.Ordering.TheVariants.{Less}
 use Rattle.sqlite_value.specs.declared.value.Value.TheVariants.{Int, Text, Blob}
 use Rattle.sqlite_value.specs.Order.{Row, column}
-use Rattle.sqlite_trees.specs.Tree.{IsAscending, rowid}
+use Rattle.sqlite_trees.specs.Tree.{IsAscending}
 use Rattle.sqlite_rules.specs.Lists.{Has}
 use Rattle.sqlite.specs.State.{State, Shown}
-use Rattle.boxes.specs.State.{Place}
 pub use Rattle.sqltables.specs.Tables.{HaveRowids}
 use Rattle.sqlaudit.specs.declared.lines.OfficeLine.{OfficeLine}
 use Rattle.sqlaudit.specs.declared.lines.KeyLine.{KeyLine}
@@ -18,6 +16,8 @@ use Rattle.sqlaudit.specs.declared.lines.BoxLine.{BoxLine}
 use Rattle.sqlaudit.specs.declared.lines.ReceiptLine.{ReceiptLine}
 use Rattle.sqlaudit.specs.declared.lines.FileLine.{FileLine}
 use Rattle.sqlaudit.specs.declared.lines.PieceLine.{PieceLine}
+use Rattle.sqlaudit.specs.declared.lines.RulesLine.{RulesLine}
+use Rattle.sqlaudit.specs.declared.lines.LimitLine.{LimitLine}
 
 pub record IsOfficeLine (row : Row) (line : OfficeLine) : Type 0 where
   pub id_is : column row 0 ≡ Int line.id
@@ -74,6 +74,14 @@ pub record ShowsPiece (row : Row) (line : PieceLine) : Type 0 where
   pub name_is : column row 2 ≡ Text line.name.items
   pub part_is : column row 3 ≡ Int line.part
   pub length_is : column row 4 ≡ Int line.length
+
+pub record IsRulesLine (row : Row) (line : RulesLine) : Type 0 where
+  pub id_is : column row 0 ≡ Int line.id
+  pub allowance_is : column row 2 ≡ Int line.allowance
+
+pub record IsLimitLine (row : Row) (line : LimitLine) : Type 0 where
+  pub key_is : column row 1 ≡ Text line.key.items
+  pub box_is : column row 2 ≡ Text line.in_box.items
 
 -- Each row has a line, and each line is one of a row.
 pub record AreLines {L : Type 0} (IsLine : Row → L → Type 0) (rows : List Row) (lines : List L) : Type 0 where

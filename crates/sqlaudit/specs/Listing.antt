@@ -1,10 +1,10 @@
 -- Which tables a transaction has that is asked for whole tables.
-use Rattle.std.specs.Prelude.{pos, List, IsTrue}
+use Rattle.std.specs.Prelude.{List, IsTrue}
 use Rattle.sqlite_trees.specs.declared.store.Store.{Ghosts}
 use Rattle.sqlite_rules.specs.Lists.{Has}
 use Rattle.sqlite.specs.declared.transaction.Transaction.{Transaction}
 use Rattle.sqlite.specs.State.{HasCleanDisk}
-use Rattle.sqltables.specs.Schema.{Version, IsVersion, begun_schemas}
+use Rattle.sqltables.specs.Schema.{Version, begun_schemas}
 use Rattle.sqltables.specs.Tables.{HaveRowids}
 use Rattle.sqltables.specs.Means.{IsRunning}
 use Rattle.sqltables.specs.Inside.{seen, HasSchema, HasWhole}
@@ -17,8 +17,17 @@ abbrev pub OfBegunOffice : {S : Type 0} → Ghosts S → Transaction S → Trans
 OfBegunOffice g old new P = (v : Version) → Has begun_schemas v.schema → HasSchema v.schema (seen g old)
     → IsTrue (seen g old).in_transaction → HasCleanDisk (seen g new) → P
 
--- so it is where the tables are an office's, each row obeys them, and these lines are the office's own row, of our version
-abbrev pub OfVersion : {S : Type 0} → Ghosts S → Transaction S → Transaction S → List OfficeLine → Type 0 → Type 0
-OfVersion g old new office P = (v : Version) → IsVersion v → HasSchema v.schema (seen g old) → HasWhole (seen g old)
+-- so it is where the tables are those of this version, by their definitions
+abbrev pub OfTables : {S : Type 0} → Version → Ghosts S → Transaction S → Transaction S → Type 0 → Type 0
+OfTables v g old new P = HasSchema v.schema (seen g old) → IsTrue (seen g old).in_transaction → HasCleanDisk (seen g new) → P
+
+-- so it is where, besides, each row obeys them
+abbrev pub OfWholeTables : {S : Type 0} → Version → Ghosts S → Transaction S → Transaction S → Type 0 → Type 0
+OfWholeTables v g old new P = HasSchema v.schema (seen g old) → HasWhole (seen g old)
+    → IsTrue (seen g old).in_transaction → HasCleanDisk (seen g new) → P
+
+-- so it is where the tables are those of this version, each row obeys them, and these lines are the office's own row, of this version
+abbrev pub OfVersion : {S : Type 0} → Version → Ghosts S → Transaction S → Transaction S → List OfficeLine → Type 0 → Type 0
+OfVersion v g old new office P = HasSchema v.schema (seen g old) → HasWhole (seen g old)
     → IsRunning (seen g old) → HasCleanDisk (seen g new) → AreLines IsOfficeLine ((seen g old).now.trees 0) office
-    → HaveRowids ((seen g old).now.trees 0) → AreOfVersion office (pos 1) → P
+    → HaveRowids ((seen g old).now.trees 0) → AreOfVersion office v.number → P

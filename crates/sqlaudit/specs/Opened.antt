@@ -1,5 +1,5 @@
 -- What is found in an office file that is opened.
-use Rattle.std.specs.Prelude.{◌≡◌, ◌≢◌, ◌⊎◌, ℕ, ℤ, ◌<◌, pos, codes, List, [], length, slice_get, Some, Contains, IsTrue, false}
+use Rattle.std.specs.Prelude.{◌≡◌, ◌≢◌, ◌⊎◌, ℕ, ℤ, ◌<◌, pos, codes, List, [], ◌∷◌, length, slice_get, Some, Contains, IsTrue, false, ⊤}
 use Rattle.sqlite_value.specs.declared.value.Value.TheVariants.{Int}
 use Rattle.sqlite_value.specs.Order.{Row, column}
 use Rattle.sqlite_rules.specs.Lists.{Has}
@@ -11,20 +11,26 @@ use Rattle.sigtext.specs.Bytes.{AreBytes}
 use Rattle.sigv4.specs.Hmac.{sha256}
 use Rattle.boxes.specs.State.{State as Office, Place}
 use Rattle.boxes.specs.Sound.{IsSound}
-use Rattle.sqltables.specs.Schema.{v1, s6, begun_schemas}
+use Rattle.sqltables.specs.Schema.{Version, v1, v2, begun_schemas}
 use Rattle.sqltables.specs.Tables.{tables_of}
 use Rattle.sqltables.specs.Means.{Holds, IsWhole, AddsNothing}
-use Rattle.sqlaudit.specs.Lines.{AreLines, HaveRowids, IsOfficeLine, IsKeyLine, IsBoxLine, IsReceiptLine, IsFileLine, IsPieceLine}
+use Rattle.sqlaudit.specs.Lines.{AreLines, HaveRowids, IsOfficeLine, IsKeyLine, IsBoxLine, IsReceiptLine, IsFileLine, IsPieceLine, IsRulesLine, IsLimitLine}
 use Rattle.sqltables.specs.Pieces.{AreBytesOf}
 use Rattle.sqlaudit.specs.declared.lines.FileLine.{FileLine}
 use Rattle.sqlaudit.specs.declared.lines.ReceiptLine.{ReceiptLine}
 use Rattle.sqlaudit.specs.declared.rules.Lines.{Lines}
 use Rattle.sqlaudit.specs.declared.lines.OfficeLine.{OfficeLine}
+use Rattle.sqlaudit.specs.declared.lines.RulesLine.{RulesLine}
+use Rattle.sqlaudit.specs.declared.lines.LimitLine.{LimitLine}
+use Rattle.sqlaudit.specs.declared.formats.Format.{Format}
+use Rattle.sqlaudit.specs.declared.formats.Format.TheVariants.{First, Second}
 use Rattle.sqlaudit.specs.declared.listing.Listed.{Listed}
 use Rattle.sqlaudit.specs.declared.opening.Extent.{Extent}
 use Rattle.sqlaudit.specs.declared.opening.Extent.TheVariants.{Nothing, Begun, Whole}
 use Rattle.sqlaudit.specs.declared.opening.Finding.{Finding}
 use Rattle.sqlaudit.specs.declared.opening.Finding.TheVariants.{Sound, OtherVersion, Damaged}
+use Rattle.sqlaudit.specs.declared.opening.Found.{Found}
+use Rattle.sqlaudit.specs.declared.opening.Found.TheVariants as found
 
 -- ---- which databases are looked at
 
@@ -74,32 +80,51 @@ pub record IsAtRest (s : State) : Type 0 where
   pub autocommit : s.in_transaction ≡ false
   pub settled : IsSettled s
 
--- an office's tables, by their names, with the indexes of their keys
-pub record AreNamed (schema : Schema) : Type 0 where
-  pub six : length schema.tables ≡ 6
+-- the first six tables are those of version 1, by their names
+pub record BeginNamed (schema : Schema) : Type 0 where
   pub office : BeginsAsOffice schema
   pub keys : IsTableAt schema.tables 1 (codes "keys") 4
   pub boxes : IsTableAt schema.tables 2 (codes "boxes") 13
   pub receipts : IsTableAt schema.tables 3 (codes "receipts") 7
   pub files : IsTableAt schema.tables 4 (codes "files") 3
   pub pieces : IsTableAt schema.tables 5 (codes "pieces") 4
+
+-- the tables of version 1, by their names, with the indexes of their keys
+pub record AreFirstNamed (schema : Schema) : Type 0 where
+  pub six : length schema.tables ≡ 6
+  pub first : BeginNamed schema
   pub indexes : length schema.indexes ≡ 5
   pub views : schema.views ≡ []
 
-abbrev pub IsExtent : Extent → Schema → Type 0
-IsExtent Nothing schema = BeginsAsOffice schema → ⊥
-IsExtent Begun schema = Has begun_schemas schema × (schema ≢ s6)
-IsExtent Whole schema = schema ≡ s6
+-- an office's tables, by their names, with the indexes of their keys
+pub record AreNamed (schema : Schema) : Type 0 where
+  pub nine : length schema.tables ≡ 9
+  pub first : BeginNamed schema
+  pub rules : IsTableAt schema.tables 6 (codes "rules") 2
+  pub limits : IsTableAt schema.tables 7 (codes "key_box") 2
+  pub staged : IsTableAt schema.tables 8 (codes "staged") 2
+  pub indexes : length schema.indexes ≡ 6
+  pub views : schema.views ≡ []
+
+abbrev pub AreNamedAs : Format → Schema → Type 0
+AreNamedAs First = AreFirstNamed
+AreNamedAs Second = AreNamed
+
+-- how many of the tables of this version are there
+abbrev pub IsExtent : Version → Extent → Schema → Type 0
+IsExtent v Nothing schema = BeginsAsOffice schema → ⊥
+IsExtent v Begun schema = Has begun_schemas schema × (schema ≢ v.schema)
+IsExtent v Whole schema = schema ≡ v.schema
 
 -- while the connection is open, its tables are the first of ours, as many as is said, and each row obeys them
-abbrev pub IsBegunAs : Extent → State → Type 0
-IsBegunAs extent s = IsTrue s.is_open → Has begun_schemas s.now.schema × IsExtent extent s.now.schema × IsWhole s.now
+abbrev pub IsBegunAs : Version → Extent → State → Type 0
+IsBegunAs v extent s = IsTrue s.is_open → Has begun_schemas s.now.schema × IsExtent v extent s.now.schema × IsWhole s.now
 
 -- ---- what they are
 
--- the tables are those of an office that keeps every rule
-pub record AreOffice (db : Database) (office : Office) : Type 0 where
-  pub holds : Holds v1 db (tables_of office)
+-- the tables are those of an office of this version that keeps every rule
+pub record AreOffice (v : Version) (db : Database) (office : Office) : Type 0 where
+  pub holds : Holds v db (tables_of office)
   pub sound : IsSound office
 
 -- the row of the office says this version
@@ -109,20 +134,52 @@ pub record SaysVersion (db : Database) (version : ℤ) : Type 0 where
   pub there : Has (db.trees 0) row
   pub each : (row : Row) → Has (db.trees 0) row → column row 2 ≡ Int version
 
--- the tables are those of no office that keeps every rule, and no other version is said
-pub record AreDamaged (db : Database) : Type 0 where
-  pub none : (office : Office) → AreOffice db office → ⊥
-  pub version : (version : ℤ) → SaysVersion db version → version ≡ pos 1
+-- the tables are those of no office of this version that keeps every rule, and no other version is said
+pub record AreDamaged (v : Version) (db : Database) : Type 0 where
+  pub none : (office : Office) → AreOffice v db office → ⊥
+  pub version : (version : ℤ) → SaysVersion db version → version ≡ v.number
 
-abbrev pub IsFound : Finding → Database → Type 0
-IsFound Sound db = (office : Office) × AreOffice db office
-IsFound OtherVersion db = (version : ℤ) × SaysVersion db version × (version ≢ pos 1)
-IsFound Damaged db = AreDamaged db
+-- what a file is found to be where this version is looked for
+abbrev pub IsFound : Version → Finding → Database → Type 0
+IsFound v Sound db = (office : Office) × AreOffice v db office
+IsFound v OtherVersion db = (version : ℤ) × SaysVersion db version × (version ≢ v.number)
+IsFound v Damaged db = AreDamaged v db
+
+-- the tables are those of no office of either version that keeps every rule, and no other version is said
+pub record AreNeither (db : Database) : Type 0 where
+  pub first : (office : Office) → AreOffice v1 db office → ⊥
+  pub second : (office : Office) → AreOffice v2 db office → ⊥
+  pub version : (version : ℤ) → SaysVersion db version → (version ≡ v1.number) ⊎ (version ≡ v2.number)
+
+-- exactly the tables of the version that was found, by their names
+abbrev pub HasNamesOf : Found → Schema → Type 0
+HasNamesOf found.First schema = AreFirstNamed schema
+HasNamesOf found.Second schema = AreNamed schema
+HasNamesOf found.OtherVersion schema = ⊤
+HasNamesOf found.Damaged schema = ⊤
+
+-- what a file is found to be where both versions are looked for
+abbrev pub IsEither : Found → Database → Type 0
+IsEither found.First db = (office : Office) × AreOffice v1 db office
+IsEither found.Second db = (office : Office) × AreOffice v2 db office
+IsEither found.OtherVersion db = (version : ℤ) × SaysVersion db version × (version ≢ v1.number) × (version ≢ v2.number)
+IsEither found.Damaged db = AreNeither db
 
 -- ---- what is read of them
 
+-- what version 2 would say of an office of version 1: no link begins early, and no key is limited
+pub record SayUnlimited (rule_lines : List RulesLine) (limit_lines : List LimitLine) : Type 0 where
+  pub rules_are : rule_lines ≡ record { id = pos 1; allowance = pos 0 } ∷ []
+  pub limits_are : limit_lines ≡ []
+
+-- the lines are those of the tables that version 2 adds; and where these are not there, they say what that means
+pub record AreAdded (v : Version) (db : Database) (rule_lines : List RulesLine) (limit_lines : List LimitLine) : Type 0 where
+  pub unlimited : v ≡ v1 → SayUnlimited rule_lines limit_lines
+  pub rules : v ≡ v2 → AreLines IsRulesLine (db.trees 11) rule_lines × HaveRowids (db.trees 11)
+  pub limits : v ≡ v2 → AreLines IsLimitLine (db.trees 12) limit_lines × HaveRowids (db.trees 12)
+
 -- the lines are those of the tables, in which no two rows have one rowid
-pub record AreListed (db : Database) (lines : Lines) : Type 0 where
+pub record AreListed (v : Version) (db : Database) (lines : Lines) : Type 0 where
   pub office : AreLines IsOfficeLine (db.trees 0) lines.office.now
   pub keys : AreLines IsKeyLine (db.trees 1) lines.keys.now
   pub boxes : AreLines IsBoxLine (db.trees 3) lines.boxes.now
@@ -135,9 +192,10 @@ pub record AreListed (db : Database) (lines : Lines) : Type 0 where
   pub receipts_rowids : HaveRowids (db.trees 5)
   pub files_rowids : HaveRowids (db.trees 6)
   pub pieces_rowids : HaveRowids (db.trees 9)
+  pub added : AreAdded v db lines.rules.now lines.limits.now
 
 -- the same of all tables but the first
-pub record AreTables (db : Database) (listed : Listed) : Type 0 where
+pub record AreTables (v : Version) (db : Database) (listed : Listed) : Type 0 where
   pub keys : AreLines IsKeyLine (db.trees 1) listed.keys.items
   pub boxes : AreLines IsBoxLine (db.trees 3) listed.boxes.items
   pub receipts : AreLines IsReceiptLine (db.trees 5) listed.receipts.items
@@ -148,6 +206,7 @@ pub record AreTables (db : Database) (listed : Listed) : Type 0 where
   pub receipts_rowids : HaveRowids (db.trees 5)
   pub files_rowids : HaveRowids (db.trees 6)
   pub pieces_rowids : HaveRowids (db.trees 9)
+  pub added : AreAdded v db listed.added.rules.items listed.added.limits.items
 
 -- one line or more, each of this version
 pub record AreOfVersion (lines : List OfficeLine) (version : ℤ) : Type 0 where

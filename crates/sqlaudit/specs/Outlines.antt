@@ -1,12 +1,13 @@
 -- An office without the bytes of its files, and the lines that tell it.
-use Rattle.std.specs.Prelude.{◌≡◌, ℕ, ℤ, pos, neg_ℤ, ◌≤ℤ◌, ◌+◌, ◌-◌, ◌*◌, ◌<◌, ◌≤◌, List, Contains, length, filter, sum_by, slice_get, Option, Some, option_map, unwrap_or, IsFalse, IsSomeAnd, min, ⊤}
+use Rattle.std.specs.Prelude.{◌≡◌, ℕ, ℤ, pos, neg_ℤ, ◌≤ℤ◌, ◌+◌, ◌-◌, ◌*◌, ◌<◌, ◌≤◌, List, Contains, length, filter, sum_by, slice_get, Option, Some, option_map, unwrap_or, IsFalse, IsSome, IsSomeAnd, min, ⊤}
 use Rattle.std.specs.List.{AllByRecursion}
 use Rattle.std.specs.FinMap.{FinMap, get, entries}
 use Rattle.sigtext.specs.Bytes.{bytes_cmp, same_bytes}
 use Rattle.sigtext.specs.Limits.{most_body}
+use Rattle.sigv4.specs.Allowances.{most_allowance}
 use Rattle.sigv4.specs.Credential.{IsKeyId, IsSecret}
-use Rattle.boxes.specs.declared.rows.Role.TheVariants.{Clerk}
-use Rattle.boxes.specs.State.{Key, Place, place_cmp, Receipt}
+use Rattle.boxes.specs.declared.rows.Role.TheVariants.{Clerk, Link}
+use Rattle.boxes.specs.State.{Key, Place, place_cmp, Receipt, Limit, limit_cmp}
 use Rattle.boxes.specs.Opening.{Fits}
 use Rattle.boxes.specs.Rules.{IsName}
 use Rattle.boxes.specs.Sound.{IsBoxName, AreSettings, IsDigest, IsMoment}
@@ -17,14 +18,18 @@ use Rattle.sqlaudit.specs.declared.lines.BoxLine.{BoxLine}
 use Rattle.sqlaudit.specs.declared.lines.ReceiptLine.{ReceiptLine}
 use Rattle.sqlaudit.specs.declared.lines.FileLine.{FileLine}
 use Rattle.sqlaudit.specs.declared.lines.PieceLine.{PieceLine}
+use Rattle.sqlaudit.specs.declared.lines.RulesLine.{RulesLine}
+use Rattle.sqlaudit.specs.declared.lines.LimitLine.{LimitLine}
 use Rattle.sqlaudit.specs.declared.rules.Lines.{Lines}
 
 pub record Outline : Type 0 where
   pub offset : ℤ
+  pub allowance : ℕ
   pub keys : FinMap bytes_cmp Key
   pub boxes : FinMap bytes_cmp Box
   pub files : FinMap place_cmp ℕ  -- the number of the receipt
   pub receipts : List Receipt  -- the first has number 1
+  pub limits : FinMap limit_cmp (Unit {0})
 
 -- ---- a line is an entry
 
@@ -69,6 +74,15 @@ pub record IsFileEntry (line : FileLine) (place : Place) (number : ℕ) : Type 0
   pub name_is : line.name.items ≡ place.name
   pub receipt_is : line.receipt ≡ pos number
 
+-- the one line
+pub record IsRulesEntry (line : RulesLine) (one : Unit {0}) (allowance : ℕ) : Type 0 where
+  pub id_is : line.id ≡ pos 1
+  pub allowance_is : line.allowance ≡ pos allowance
+
+pub record IsLimitEntry (line : LimitLine) (limit : Limit) (there : Unit {0}) : Type 0 where
+  pub key_is : line.key.items ≡ limit.key
+  pub box_is : line.in_box.items ≡ limit.box
+
 -- The lines, as a set, are the entries of a map.
 pub record AreEntries {L K V : Type 0} (IsEntry : L → K → V → Type 0) (lookup : K → Option V) (lines : List L) : Type 0 where
   pub each : (line : L) → Contains lines line → (k : K) × (v : V) × IsEntry line k v × (lookup k ≡ Some v)
@@ -105,6 +119,11 @@ pub record IsFileRule (receipt : ℕ → Option Receipt) (place : Place) (number
   pub box : given.box ≡ place.box
   pub name : given.name ≡ place.name
 
+-- a key of the role `link` that is there, revoked or not, is limited to a box that is there
+pub record IsLimitRule (keys : FinMap bytes_cmp Key) (boxes : FinMap bytes_cmp Box) (limit : Limit) : Type 0 where
+  pub link : IsSomeAnd (get keys limit.key) (λ k. k.role ≡ Link)
+  pub box_there : IsSome (get boxes limit.box)
+
 pub record HasClerkIn (keys : FinMap bytes_cmp Key) : Type 0 where
   pub id : List ℕ
   pub key : Key
@@ -138,6 +157,8 @@ pub record IsSoundOutline (o : Outline) : Type 0 where
   pub totals : (name : List ℕ) (b : Box) → get o.boxes name ≡ Some b
       → (b.used ≡ used_in (slice_get o.receipts) o.files name) × (b.count ≡ count_in o.files name)
   pub clerk : HasClerkIn o.keys
+  pub allowance : o.allowance ≤ most_allowance
+  pub limits : (limit : Limit) (there : Unit {0}) → get o.limits limit ≡ Some there → IsLimitRule o.keys o.boxes limit
 
 -- The line is a piece of a file that is there: it has the greatest length of a piece, and the last what is left.
 pub record IsPieceIn (receipt : ℕ → Option Receipt) (files : FinMap place_cmp ℕ) (line : PieceLine) : Type 0 where
@@ -159,6 +180,8 @@ pub record AreLinesOf (lines : Lines) (o : Outline) : Type 0 where
   pub boxes : AreEntries IsBoxEntry (get o.boxes) lines.boxes.now
   pub receipts : AreEntries IsReceiptEntry (slice_get o.receipts) lines.receipts.now
   pub files : AreEntries IsFileEntry (get o.files) lines.files.now
+  pub rules : AreEntries IsRulesEntry (λ one. Some o.allowance) lines.rules.now
+  pub limits : AreEntries IsLimitEntry (get o.limits) lines.limits.now
 
 -- the lines are those of an office that keeps every rule
 pub record AreSoundLines (lines : Lines) : Type 0 where

@@ -4,20 +4,21 @@ use Rattle.std.specs.Prelude.{◌≡◌, ◌≤◌, ℕ, ℤ, pos, List, length,
 use Rattle.std.specs.declared.cmp.Ordering.{Ordering}
 use Rattle.std.specs.FinMap.{FinMap, get}
 use Rattle.std.specs.BTreeMap.{BTreeMap}
-use Rattle.boxes.specs.State.{Key, NameRule, Place, place_cmp, Receipt, Settings}
+use Rattle.boxes.specs.State.{Key, NameRule, Place, place_cmp, Receipt, Settings, Limit}
 use Rattle.sigtext.specs.Limits.{most_body}
 use Rattle.boxes.specs.Rules.{IsName}
 use Rattle.boxes.specs.Sound.{IsBoxName, IsDigest, IsMoment, IsNameRule}
 use Rattle.boxes.specs.Rows.{settings_of}
 use Rattle.sigtext.specs.Bytes.{bytes_cmp}
 use Rattle.std.specs.Ordering.{nat_cmp}
-use Rattle.keeper.specs.Maps.{MapMeans, Sets, found}
+use Rattle.boxes.specs.Maps.{MapMeans, Sets, found}
 use Rattle.sqltables.specs.Tables.{Box, rule_number, rule_text}
 use Rattle.sqlaudit.specs.Outlines.{AreEntries, IsBoxRule, IsFileEntry, IsFileRule, used_in, count_in, IsReceiptEntry, IsReceiptRule}
 use Rattle.boxes.specs.declared.totals.Totals.{Totals}
 use Rattle.sqlaudit.specs.declared.lines.ReceiptLine.{ReceiptLine}
 use Rattle.sqlaudit.specs.declared.lines.BoxLine.{BoxLine}
 use Rattle.sqlaudit.specs.declared.lines.FileLine.{FileLine}
+use Rattle.sqlaudit.specs.declared.lines.LimitLine.{LimitLine}
 use Rattle.sqlaudit.specs.declared.file_rules.Filed.{Filed}
 use Rattle.sqlaudit.specs.declared.box_rules.BoxEntry.{BoxEntry}
 use Rattle.sqlaudit.specs.declared.receipt_rules.ReceiptEntry.{ReceiptEntry}
@@ -119,6 +120,10 @@ HoldsFiles files m = MapMeans place_cmp spot_of (λ n. n) files.entries m
 pub record HasTotals (receipts : FinMap nat_cmp Receipt) (files : FinMap place_cmp ℕ) (line : BoxLine) : Type 0 where
   pub used : line.used ≡ pos (used_in (get receipts) files line.name.items)
   pub count : line.count ≡ pos (count_in files line.name.items)
+
+-- the limit that the line tells
+abbrev pub limit_in : LimitLine → Limit
+limit_in line = record { key = line.key.items; box = line.in_box.items }
 
 -- the number and the text are those of the rule, and of no other that has its form
 pub record TellsRule (kind : ℤ) (text : List ℕ) (rule : NameRule) : Type 0 where

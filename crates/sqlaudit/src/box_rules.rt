@@ -6,7 +6,7 @@ ghost use Rattle.boxes.specs.declared.rows.Mode.{Mode};
 ghost use Rattle.boxes.specs.State.{NameRule as Rule};
 ghost use Rattle.boxes.specs.Rows.{name_rule_of, settings_of};
 ghost use Rattle.boxes.specs.Sound.{IsNameRule};
-ghost use Rattle.keeper.specs.Maps.{found};
+ghost use Rattle.boxes.specs.Maps.{found};
 ghost use Rattle.sqltables.specs.Tables.{Box, days_text, mode_number, rule_number, rule_text};
 ghost use Rattle.sqlaudit.specs.Outlines.{IsBoxEntry, IsBoxRule};
 ghost use Rattle.sqlaudit.specs.Sorting.{HaveSameNumbers, IsGood, IsRead, TellsRule, box_in, text_of};

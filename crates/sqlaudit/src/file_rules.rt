@@ -5,7 +5,7 @@ ghost use Rattle.std.specs.FinMap.{FinMap, get};
 ghost use Rattle.std.specs.Ordering.{nat_cmp};
 ghost use Rattle.sigtext.specs.Bytes.{bytes_cmp};
 ghost use Rattle.boxes.specs.State.{Place, Receipt};
-ghost use Rattle.keeper.specs.Maps.{found};
+ghost use Rattle.boxes.specs.Maps.{found};
 ghost use Rattle.sqlaudit.specs.Outlines.{size_in};
 ghost use Rattle.sqlaudit.specs.Sorting.{AddsTo, AreFiled, HoldsReceipts, IsFiled, count_at, text_of, used_at};
 

@@ -4,7 +4,9 @@
 mod box_rules;
 mod digests;
 mod file_rules;
+mod formats;
 mod key_rules;
+mod limit_rules;
 mod lines;
 mod listing;
 pub mod opening;

@@ -6,7 +6,7 @@ ghost use Rattle.std.specs.Ordering.{int_cmp};
 ghost use Rattle.std.specs.declared.cmp.Ordering.TheVariants.{Less};
 ghost use Rattle.sqlite_value.specs.declared.value.Value.TheVariants.{Int, Text};
 ghost use Rattle.sqlite_value.specs.Order.{Row as Values, column};
-ghost use Rattle.sqlaudit.specs.Lines.{IsOfficeLine, IsKeyLine, IsBoxLine, IsReceiptLine, IsFileLine, ShowsPiece, AreNumbered};
+ghost use Rattle.sqlaudit.specs.Lines.{IsOfficeLine, IsKeyLine, IsBoxLine, IsReceiptLine, IsFileLine, ShowsPiece, IsRulesLine, IsLimitLine, AreNumbered};
 
 use sqlite::types::ValueRef;
 use sqlite::{Error, ErrorCode, Row};
@@ -95,6 +95,22 @@ pub(crate) struct PieceLine {
     pub(crate) part: i64,
     /// How many bytes it has.
     pub(crate) length: i64,
+}
+
+/// The row of what holds for the whole office.
+#[derive(Drop)]
+pub(crate) struct RulesLine {
+    pub(crate) id: i64,
+    /// By how many seconds a link may begin early.
+    pub(crate) allowance: i64,
+}
+
+/// A box that a limited key may use.
+#[derive(Drop)]
+pub(crate) struct LimitLine {
+    /// The id of the key.
+    pub(crate) key: Vec<u8>,
+    pub(crate) in_box: Vec<u8>,
 }
 
 /// What a row that a query shows is read into. The first column is the rowid, and the others are those of the table.
@@ -202,6 +218,28 @@ impl Line for PieceLine {
             name: text(alloc, row, 2)?,
             part: row.get(3)?,
             length: row.get(4)?,
+        })
+    }
+}
+
+impl Line for RulesLine {
+    ghost reads = { IsRulesLine };
+
+    fn of_row(_alloc: Global, row: &Row) -> Result<RulesLine, Error> {
+        Ok(RulesLine {
+            id: row.get(0)?,
+            allowance: row.get(2)?,
+        })
+    }
+}
+
+impl Line for LimitLine {
+    ghost reads = { IsLimitLine };
+
+    fn of_row(alloc: Global, row: &Row) -> Result<LimitLine, Error> {
+        Ok(LimitLine {
+            key: text(alloc, row, 1)?,
+            in_box: text(alloc, row, 2)?,
         })
     }
 }

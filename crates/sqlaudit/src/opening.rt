@@ -1,17 +1,20 @@
 //! What is found in an office file that is opened.
 
-ghost use Rattle.std.specs.Prelude.{◌↔◌, ◌≡◌, false, ℤ, Contains, MatchBool, MatchOption, None, Some, IsTrue, IfOk, OnOk};
+ghost use Rattle.std.specs.Prelude.{◌↔◌, ◌≡◌, ◌≢◌, false, ℤ, Contains, MatchBool, MatchOption, None, Some, IsTrue, IfOk, OnOk};
 ghost use Rattle.sqlite_schema.specs.declared.schema.Table.{Table};
 ghost use Rattle.sqlite.specs.State.{HasCleanDisk};
 ghost use Rattle.sqlite.specs.Held.{state};
 ghost use Rattle.boxes.specs.State.{State as Office};
 ghost use Rattle.sqlaudit.specs.declared.lines.OfficeLine.{OfficeLine};
+ghost use Rattle.sqltables.specs.Schema.{Version, IsVersion, v2};
 ghost use Rattle.sqltables.specs.Inside.{seen, GoesOnWhere, GoesOnBegun};
 ghost use Rattle.sqltables.specs.Means.{IsRunning};
+ghost use Rattle.sqlaudit.specs.Formats.{version_of};
 ghost use Rattle.sqlaudit.specs.Listing.{OfVersion};
-ghost use Rattle.sqlaudit.specs.Opened.{HasOurs, IsOurs, AreTables, IsExtent, IsTableAt, AreNamed, IsAtRest, IsSettled, IsBegunAs, LeavesUntouched, IsFound, AreOffice, AreOfVersion};
+ghost use Rattle.sqlaudit.specs.Opened.{HasOurs, IsOurs, AreTables, IsExtent, IsTableAt, BeginNamed, AreNamed, AreFirstNamed, AreNamedAs, IsAtRest, IsSettled, IsBegunAs, LeavesUntouched, IsFound, IsEither, HasNamesOf, AreOffice, AreOfVersion};
 
 use crate::digests::have_bytes;
+use crate::formats::Format;
 use crate::lines::OfficeLine;
 use crate::listing::{Listed, list_all, list_office};
 use crate::rules::{Lines, are_sound};
@@ -30,6 +33,19 @@ pub enum Finding {
     Damaged,
 }
 
+/// Of which version an office file is found to be.
+#[derive(Clone, Copy, Debug, PartialEq, Eq)]
+pub enum Found {
+    /// The tables of an office of version 1 that keeps every rule.
+    First,
+    /// The tables of an office of version 2 that keeps every rule.
+    Second,
+    /// An office of a version that is neither 1 nor 2.
+    OtherVersion,
+    /// No office, or one that breaks a rule.
+    Damaged,
+}
+
 /// How many of an office's tables are there.
 #[derive(Clone, Copy, Debug, PartialEq, Eq)]
 pub(crate) enum Extent {
@@ -41,9 +57,6 @@ pub(crate) enum Extent {
     Whole,
 }
 
-// The version of the tables.
-const VERSION: i64 = 1;
-
 /// Whether the table in this place has this name and so many columns.
 fn is_table(tables: &[Table], at: usize, name: &str, columns: usize) -> bool
     ensures { IsTrue result ↔ IsTableAt tables.now at name.now columns }
@@ -54,31 +67,61 @@ fn is_table(tables: &[Table], at: usize, name: &str, columns: usize) -> bool
     table.name.as_slice() == name.as_bytes() && table.columns.len() == columns
 }
 
-/// Whether these are an office's tables, by their names and the number of their columns, with the indexes of their keys
-/// and no others.
-fn are_named(schema: &Schema) -> bool
-    ensures { IsTrue result ↔ AreNamed schema.now }
+/// Whether the first six are the tables of version 1, by their names and the number of their columns.
+fn begin_named(schema: &Schema) -> bool
+    ensures { IsTrue result ↔ BeginNamed schema.now }
 {
     let tables = schema.tables.as_slice();
-    tables.len() == 6
-        && is_table(tables, 0, "office", 3)
+    is_table(tables, 0, "office", 3)
         && is_table(tables, 1, "keys", 4)
         && is_table(tables, 2, "boxes", 13)
         && is_table(tables, 3, "receipts", 7)
         && is_table(tables, 4, "files", 3)
         && is_table(tables, 5, "pieces", 4)
+}
+
+/// Whether these are the tables of version 1, with the indexes of their keys and no others.
+fn are_first_named(schema: &Schema) -> bool
+    ensures { IsTrue result ↔ AreFirstNamed schema.now }
+{
+    schema.tables.len() == 6
+        && begin_named(schema)
         && schema.indexes.len() == 5
         && schema.views.is_empty()
 }
 
-/// How many of an office's tables a database has.
-fn extent_of(schema: &Schema) -> Extent
-    ensures is { IsOurs schema.now → IsExtent result schema.now }
-    ensures named { result ≡ Extent.Whole → AreNamed schema.now }
+/// Whether these are the tables of version 2, with the indexes of their keys and no others.
+fn are_second_named(schema: &Schema) -> bool
+    ensures { IsTrue result ↔ AreNamed schema.now }
+{
+    let tables = schema.tables.as_slice();
+    tables.len() == 9
+        && begin_named(schema)
+        && is_table(tables, 6, "rules", 2)
+        && is_table(tables, 7, "key_box", 2)
+        && is_table(tables, 8, "staged", 2)
+        && schema.indexes.len() == 6
+        && schema.views.is_empty()
+}
+
+/// Whether these are the tables of this version, by their names, and no others.
+fn are_named(schema: &Schema, format: Format) -> bool
+    ensures { IsTrue result ↔ AreNamedAs format schema.now }
+{
+    match format {
+        Format::First => are_first_named(schema),
+        Format::Second => are_second_named(schema),
+    }
+}
+
+/// How many of the tables of this version a database has.
+fn extent_of(schema: &Schema, format: Format) -> Extent
+    ensures is { IsOurs schema.now → IsExtent (version_of format) result schema.now }
+    ensures named { result ≡ Extent.Whole → AreNamedAs format schema.now }
 {
     if !is_table(schema.tables.as_slice(), 0, "office", 3) {
         Extent::Nothing
-    } else if are_named(schema) {
+    } else if are_named(schema, format) {
         Extent::Whole
     } else {
         Extent::Begun
@@ -125,10 +168,10 @@ fn is_sound<S: Alter>(
     office: &[OfficeLine],
     listed: &Listed,
 ) -> Result<bool, Error>
-    ensures found { OfVersion S.Store tx.old tx.new office.now
-        (AreTables (seen S.Store tx.old).now listed.now → IfOk result (λ sound. MatchBool sound
-        ((office : Office) × AreOffice (seen S.Store tx.old).now office)
-        ((office : Office) → AreOffice (seen S.Store tx.old).now office → ⊥))) }
+    ensures found { (v : Version) → IsVersion v → OfVersion v S.Store tx.old tx.new office.now
+        (AreTables v (seen S.Store tx.old).now listed.now → IfOk result (λ sound. MatchBool sound
+        ((office : Office) × AreOffice v (seen S.Store tx.old).now office)
+        ((office : Office) → AreOffice v (seen S.Store tx.old).now office → ⊥))) }
     ensures rest { GoesOnWhere (IsRunning (seen S.Store tx.old))
         (IsRunning (seen S.Store tx.old)) S.Store tx.old tx.new result }
 {
@@ -139,6 +182,8 @@ fn is_sound<S: Alter>(
         receipts: &listed.receipts,
         files: &listed.files,
         pieces: &listed.pieces,
+        rules: &listed.added.rules,
+        limits: &listed.added.limits,
     };
     let Ok(sound) = are_sound(alloc, &lines) else {
         return Err(Error::SqliteFailure(ErrorCode::OutOfMemory));
@@ -165,13 +210,14 @@ fn look_at_all<S: Alter>(
     tx: &mut Transaction<'_, S>,
     alloc: Global,
     office: &[OfficeLine],
+    format: Format,
 ) -> Result<Finding, Error>
-    ensures found { OfVersion S.Store tx.old tx.new office.now
-        (IfOk result (λ finding. IsFound finding (seen S.Store tx.old).now)) }
+    ensures found { OfVersion (version_of format) S.Store tx.old tx.new office.now (IfOk result
+        (λ finding. IsFound (version_of format) finding (seen S.Store tx.old).now)) }
     ensures rest { GoesOnWhere (IsRunning (seen S.Store tx.old))
         (IsRunning (seen S.Store tx.old)) S.Store tx.old tx.new result }
 {
-    let listed = list_all(tx)?;
+    let listed = list_all(tx, alloc, format)?;
     let sound = is_sound(tx, alloc, office, &listed)?;
     Ok(finding_of(sound))
 }
@@ -181,10 +227,12 @@ fn look<S: Alter>(
     tx: &mut Transaction<'_, S>,
     alloc: Global,
     extent: Extent,
+    format: Format,
 ) -> Result<Finding, Error>
-    ensures found { IsBegunAs extent (seen S.Store tx.old)
+    ensures found { IsBegunAs (version_of format) extent (seen S.Store tx.old)
         → IsTrue (seen S.Store tx.old).in_transaction → HasCleanDisk (seen S.Store tx.new)
-        → IfOk result (λ finding. IsFound finding (seen S.Store tx.old).now) }
+        → IfOk result
+        (λ finding. IsFound (version_of format) finding (seen S.Store tx.old).now) }
     ensures whole { IfOk result (λ finding. finding ≡ Finding.Sound → extent ≡ Extent.Whole) }
     ensures rest { GoesOnBegun S.Store tx.old tx.new result }
 {
@@ -192,13 +240,13 @@ fn look<S: Alter>(
     let Some(line) = versioned(&office) else {
         return Ok(Finding::Damaged);
     };
-    if line.version != VERSION {
+    if line.version != format.number() {
         return Ok(Finding::OtherVersion);
     }
     if extent != Extent::Whole {
         return Ok(Finding::Damaged);
     }
-    look_at_all(tx, alloc, &office)
+    look_at_all(tx, alloc, &office, format)
 }
 
 /// What the tables are found to be, in a transaction that is rolled back.
@@ -206,28 +254,34 @@ fn examine<S: Alter>(
     conn: &mut Connection<S>,
     alloc: Global,
     extent: Extent,
+    format: Format,
 ) -> Result<Finding, Error>
     requires { conn.old.in_transaction ≡ false }
-    ensures found { IsBegunAs extent (state S.Store conn.old) → HasCleanDisk (state S.Store conn.new)
-        → IfOk result (λ finding. IsFound finding (state S.Store conn.old).now) }
+    ensures found { IsBegunAs (version_of format) extent (state S.Store conn.old)
+        → HasCleanDisk (state S.Store conn.new)
+        → IfOk result
+        (λ finding. IsFound (version_of format) finding (state S.Store conn.old).now) }
     ensures whole { IfOk result (λ finding. finding ≡ Finding.Sound → extent ≡ Extent.Whole) }
     ensures rest { IsSettled (state S.Store conn.old)
         → LeavesUntouched (state S.Store conn.old) (state S.Store conn.new) }
 {
     let mut tx = conn.transaction();
-    look(&mut tx, alloc, extent)
+    look(&mut tx, alloc, extent, format)
 }
 
-/// Tests the whole file. Nothing is written, and whatever file it is, it is found as it was. An office's file is found to be
-/// open still, and to have exactly the tables of an office, by their names.
-pub fn find<S: Alter>(conn: &mut Connection<S>, alloc: Global) -> Result<Finding, Error>
+/// Tests the whole file as one of this version.
+fn find_as<S: Alter>(
+    conn: &mut Connection<S>,
+    alloc: Global,
+    format: Format,
+) -> Result<Finding, Error>
     ensures found { HasOurs (state S.Store conn.old) → HasCleanDisk (state S.Store conn.new)
-        → IsTrue (state S.Store conn.old).is_open
-        → IfOk result (λ finding. IsFound finding (state S.Store conn.old).now) }
+        → IsTrue (state S.Store conn.old).is_open → IfOk result
+        (λ finding. IsFound (version_of format) finding (state S.Store conn.old).now) }
     ensures named { IfOk result (λ finding. finding ≡ Finding.Sound
-        → AreNamed (state S.Store conn.old).now.schema) }
+        → AreNamedAs format (state S.Store conn.old).now.schema) }
     ensures opened { HasCleanDisk (state S.Store conn.new)
-        → IfOk result (λ finding. finding ≡ Finding.Sound → IsTrue (state S.Store conn.new).is_open) }
+        → IfOk result (λ finding. finding ≢ Finding.Damaged → IsTrue (state S.Store conn.new).is_open) }
     ensures at_rest { HasCleanDisk (state S.Store conn.new)
         → OnOk result (IsAtRest (state S.Store conn.new)) }
     ensures rest { LeavesUntouched (state S.Store conn.old) (state S.Store conn.new) }
@@ -235,14 +289,56 @@ pub fn find<S: Alter>(conn: &mut Connection<S>, alloc: Global) -> Result<Finding
     if !conn.is_autocommit() {
         return Err(Error::SqliteFailure(ErrorCode::TransactionState));
     }
-    let extent = extent_of(conn.schema());
+    let extent = extent_of(conn.schema(), format);
     if extent == Extent::Nothing {
         return Ok(Finding::Damaged);
     }
-    let finding = examine(conn, alloc, extent)?;
-    if finding == Finding::Sound {
+    let finding = examine(conn, alloc, extent, format)?;
+    if finding != Finding::Damaged {
         // A store that shut itself compiles no statement.
         conn.prepare("SELECT version FROM office")?;
     }
     Ok(finding)
+}
+
+/// Tests the whole file as one of version 2. Nothing is written, and whatever file it is, it is found as it was. An office's
+/// file is found to be open still, and to have exactly the tables of an office of version 2, by their names.
+pub fn find<S: Alter>(conn: &mut Connection<S>, alloc: Global) -> Result<Finding, Error>
+    ensures found { HasOurs (state S.Store conn.old) → HasCleanDisk (state S.Store conn.new)
+        → IsTrue (state S.Store conn.old).is_open
+        → IfOk result (λ finding. IsFound v2 finding (state S.Store conn.old).now) }
+    ensures named { IfOk result (λ finding. finding ≡ Finding.Sound
+        → AreNamed (state S.Store conn.old).now.schema) }
+    ensures opened { HasCleanDisk (state S.Store conn.new)
+        → IfOk result (λ finding. finding ≢ Finding.Damaged → IsTrue (state S.Store conn.new).is_open) }
+    ensures at_rest { HasCleanDisk (state S.Store conn.new)
+        → OnOk result (IsAtRest (state S.Store conn.new)) }
+    ensures rest { LeavesUntouched (state S.Store conn.old) (state S.Store conn.new) }
+{
+    find_as(conn, alloc, Format::Second)
+}
+
+/// Tests the whole file as one of version 2, and where its office says another version, as one of version 1. Nothing is
+/// written, and whatever file it is, it is found as it was. An office's file is found to be open still.
+pub fn find_either<S: Alter>(conn: &mut Connection<S>, alloc: Global) -> Result<Found, Error>
+    ensures found { HasOurs (state S.Store conn.old) → HasCleanDisk (state S.Store conn.new)
+        → IsTrue (state S.Store conn.old).is_open
+        → IfOk result (λ found. IsEither found (state S.Store conn.old).now) }
+    ensures named { HasCleanDisk (state S.Store conn.new)
+        → IfOk result (λ found. HasNamesOf found (state S.Store conn.old).now.schema) }
+    ensures opened { HasCleanDisk (state S.Store conn.new)
+        → IfOk result (λ found. found ≢ Found.Damaged → IsTrue (state S.Store conn.new).is_open) }
+    ensures at_rest { HasCleanDisk (state S.Store conn.new)
+        → OnOk result (IsAtRest (state S.Store conn.new)) }
+    ensures rest { LeavesUntouched (state S.Store conn.old) (state S.Store conn.new) }
+{
+    match find(conn, alloc)? {
+        Finding::Sound => Ok(Found::Second),
+        Finding::Damaged => Ok(Found::Damaged),
+        Finding::OtherVersion => match find_as(conn, alloc, Format::First)? {
+            Finding::Sound => Ok(Found::First),
+            Finding::Damaged => Ok(Found::Damaged),
+            Finding::OtherVersion => Ok(Found::OtherVersion),
+        },
+    }
 }

@@ -7,7 +7,10 @@ ghost use Rattle.sqlaudit.specs.Outlines.{AreEntries, IsOfficeEntry, AreSoundLin
 use crate::box_rules::boxes_by_name;
 use crate::file_rules::files_by_place;
 use crate::key_rules::keys_by_id;
-use crate::lines::{BoxLine, FileLine, KeyLine, OfficeLine, PieceLine, ReceiptLine};
+use crate::limit_rules::{are_limits, has_allowance};
+use crate::lines::{
+    BoxLine, FileLine, KeyLine, LimitLine, OfficeLine, PieceLine, ReceiptLine, RulesLine,
+};
 use crate::piece_rules::{are_pieces, has_clerk, have_totals, is_unbroken};
 use crate::receipt_rules::receipts_by_place;
 use std::alloc::{AllocError, Global};
@@ -21,6 +24,8 @@ pub(crate) struct Lines<'a> {
     pub(crate) receipts: &'a [ReceiptLine],
     pub(crate) files: &'a [FileLine],
     pub(crate) pieces: &'a [PieceLine],
+    pub(crate) rules: &'a [RulesLine],
+    pub(crate) limits: &'a [LimitLine],
 }
 
 // The greatest offset of an office's clock, in minutes.
@@ -74,12 +79,18 @@ pub(crate) fn are_sound(alloc: Global, lines: &Lines<'_>) -> Result<bool, AllocE
     if !is_office(lines.office) {
         return Ok(false);
     }
+    if !has_allowance(lines.rules) {
+        return Ok(false);
+    }
     let Some(keys) = keys_by_id(alloc, lines.keys)? else {
         return Ok(false);
     };
     let Some(boxes) = boxes_by_name(alloc, lines.boxes)? else {
         return Ok(false);
     };
+    if !are_limits(lines.limits, &keys, &boxes) {
+        return Ok(false);
+    }
     let Some(receipts) = receipts_by_place(alloc, lines.receipts, &keys, &boxes)? else {
         return Ok(false);
     };

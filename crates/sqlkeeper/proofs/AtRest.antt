@@ -1,54 +1,62 @@
 -- A connection that was looked at, and holds an office.
-use Rattle.std.proofs.Common.{◌≡◌, false, IsTrue, sym, subst, ◌∙◌}
+use Rattle.std.proofs.Common.{◌≡◌, ◌≢◌, false, IsTrue, sym, subst, ◌∙◌}
 use Rattle.sqlite_trees.specs.Tree.{Trees}
 use Rattle.sqlite.specs.State.{State, HasCleanDisk}
 use Rattle.boxes.specs.State.{State as Office}
-use Rattle.sqltables.specs.Schema.{v1, s0}
+use Rattle.sqltables.specs.Schema.{Version, v2, s0}
 use Rattle.sqltables.specs.Tables.{tables_of}
 use Rattle.sqltables.specs.Means.{Means, Holds, OfficeMeans, LeavesOnly, IsBare}
 use Rattle.sqltables.specs.Kept.{KeepsState}
 use Rattle.sqlkeeper.proofs.Taken.{by_rows}
+use Rattle.sqlaudit.specs.declared.opening.Finding.{Finding}
+use Rattle.sqlaudit.specs.declared.opening.Finding.TheVariants.{Sound, Damaged}
 use Rattle.sqlaudit.specs.Opened.{OnlyLooks, SeesSame, IsAtRest, AreOffice}
 
+-- what is sound is not damaged
+pub sound_is_whole : {finding : Finding} → finding ≡ Sound → finding ≢ Damaged
+sound_is_whole is damaged = let e : ◌≡◌ {A = Finding} Sound Damaged = sym is ∙ damaged in cc
+
+-- what was found of the old one, which was only looked at, is what both mean
+module _ (v : Version) (old new : State) (is_open : IsTrue new.is_open) (same : SeesSame old new) (rest : IsAtRest new) (office : Office) (found : AreOffice v old.now office) where
+  pub means_old : Means v old office
+  means_old clean = record {
+    autocommit = sym same.mode ∙ rest.autocommit;
+    tables = λ was_open. record { holds = found.holds; settled = sym (same.now_is is_open) ∙ rest.settled is_open ∙ same.committed_is is_open };
+  }
+
+  pub means_new : Means v new office
+  means_new clean = record {
+    autocommit = rest.autocommit;
+    tables = λ open_now. record { holds = subst (λ db. Holds v db (tables_of office)) (sym (same.now_is open_now)) found.holds; settled = rest.settled open_now };
+  }
+
 -- what was found of the old one is kept by the new one
-pub keeps_found : (old new : State) → IsTrue new.is_open → SeesSame old new → IsAtRest new → (office : Office) × AreOffice old.now office → (office : Office) × KeepsState new office
-keeps_found old new is_open same rest (office, found) = (
-  office,
-  record {
-    means = λ clean. record {
-      autocommit = rest.autocommit;
-      tables = λ open_now. record {
-        holds = subst (λ db. Holds v1 db (tables_of office)) (sym (same.now_is open_now)) found.holds;
-        settled = rest.settled open_now;
-      };
-    };
-    sound = found.sound;
-  },
-)
+pub keeps_found : (old new : State) → IsTrue new.is_open → SeesSame old new → IsAtRest new → (office : Office) × AreOffice v2 old.now office → (office : Office) × KeepsState new office
+keeps_found old new is_open same rest (office, found) = (office, record { means = means_new v2 old new is_open same rest office found; sound = found.sound })
 
 -- a crash leaves what was committed, which is what the connection sees
-pub leaves_kept : (s : State) (office : Office) → IsTrue s.is_open → ((trees : Trees) → s.may_leave trees → trees ≡ s.committed.trees) → Means v1 s office → LeavesOnly v1 s office
+pub leaves_kept : (s : State) (office : Office) → IsTrue s.is_open → ((trees : Trees) → s.may_leave trees → trees ≡ s.committed.trees) → Means v2 s office → LeavesOnly v2 s office
 leaves_kept s office is_open only means clean trees left =
     let kept = (means clean).tables is_open in
-    subst (λ t. OfficeMeans v1 t office) (sym (only trees left)) (by_rows v1 s.committed office (subst (λ db. Holds v1 db (tables_of office)) kept.settled kept.holds))
+    subst (λ t. OfficeMeans v2 t office) (sym (only trees left)) (by_rows v2 s.committed office (subst (λ db. Holds v2 db (tables_of office)) kept.settled kept.holds))
 
--- an office that was looked at is kept
+-- an office that was looked at means what it meant
+pub means_same : (v : Version) (old new : State) → (HasCleanDisk new → HasCleanDisk old) → OnlyLooks old new → (office : Office) → Means v old office → Means v new office
+means_same v old new honest looks office means clean =
+    let was = means (honest clean) in
+    let same = looks clean in
+    record {
+      autocommit = same.mode ∙ was.autocommit;
+      tables = λ is_open.
+          let kept = was.tables (same.was_open is_open) in
+          record {
+            holds = subst (λ db. Holds v db (tables_of office)) (sym (same.now_is is_open)) kept.holds;
+            settled = same.now_is is_open ∙ kept.settled ∙ sym (same.committed_is is_open);
+          };
+    }
+
 pub keeps_same : (old new : State) → (HasCleanDisk new → HasCleanDisk old) → OnlyLooks old new → (office : Office) → KeepsState old office → KeepsState new office
-keeps_same old new honest looks office keeps = record {
-  means = λ clean.
-      let was = keeps.means (honest clean) in
-      let same = looks clean in
-      record {
-        autocommit = same.mode ∙ was.autocommit;
-        tables = λ is_open.
-            let kept = was.tables (same.was_open is_open) in
-            record {
-              holds = subst (λ db. Holds v1 db (tables_of office)) (sym (same.now_is is_open)) kept.holds;
-              settled = same.now_is is_open ∙ kept.settled ∙ sym (same.committed_is is_open);
-            };
-      };
-  sound = keeps.sound;
-}
+keeps_same old new honest looks office keeps = record { means = means_same v2 old new honest looks office keeps.means; sound = keeps.sound }
 
 -- nothing is there, and no transaction is pending
 pub bare_of : (s : State) → s.now.schema ≡ s0 → s.in_transaction ≡ false → (IsTrue s.is_open → s.now ≡ s.committed) → IsBare s

@@ -4,7 +4,7 @@ use Rattle.std.specs.Prelude.{false}
 use Rattle.std.specs.FinMap.{get, empty, get-empty}
 use Rattle.sigtext.specs.Bytes.{same_bytes, bytes_cmp}
 use Rattle.boxes.specs.declared.rows.Role.TheVariants.{Clerk}
-use Rattle.boxes.specs.State.{Key, Place, State, place_cmp}
+use Rattle.boxes.specs.State.{Key, Place, State, place_cmp, limit_cmp}
 use Rattle.boxes.specs.FirstState.{first_state}
 use Rattle.sqltables.specs.Tables.{tables_of, put, Part}
 use Rattle.sqltables.specs.Changes.{no_rows, with_key}
@@ -24,16 +24,18 @@ module _ (s : State) where
   no_piece : (part : Part) → get s.files part.place ≡ None → (tables_of s).piece part ≡ None
   no_piece part none = rw none
 
-pub first_tables : (east : ℤ) (id secret : List ℕ) → tables_of (first_state east id secret) ≡ with_key (no_rows east) id (record { role = Clerk; secret = secret; revoked = false })
+pub first_tables : (east : ℤ) (allowance : ℕ) (id secret : List ℕ) → tables_of (first_state east allowance id secret) ≡ with_key (no_rows east allowance) id (record { role = Clerk; secret = secret; revoked = false })
 unfolding first_state
-first_tables east id secret =
-    let s = first_state east id secret in
+first_tables east allowance id secret =
+    let s = first_state east allowance id secret in
     let key : Key = record { role = Clerk; secret = secret; revoked = false } in
     λ i. record {
       offset = east;
+      allowance = allowance;
       key = λ q. (get_put empty id key q ∙ put_on_none (get empty) id key q (get-empty bytes_cmp q)) i;
       box = λ name. no_box s name (get-empty bytes_cmp name) i;
       receipt = λ at. None;
       file = λ place. no_file s place (get-empty place_cmp place) i;
       piece = λ part. no_piece s part (get-empty place_cmp part.place) i;
+      limit = λ l. get-empty limit_cmp l i;
     }

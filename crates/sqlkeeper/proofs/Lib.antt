@@ -4,4 +4,5 @@ pub mod StateViews
 pub mod NotText
 pub mod Stays
 pub mod AtRest
-pub mod NotCommitted
+pub mod Migrated
+pub mod Asked

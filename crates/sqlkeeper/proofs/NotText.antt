@@ -11,6 +11,7 @@ use Rattle.std.proofs.lemmas.List.Elements.{All-nil, All-cons}
 use Rattle.sigtext.specs.Bytes.{IsWord}
 use Rattle.sigv4.specs.Credential.{is_key_byte}
 use Rattle.boxes.specs.State.{Place, State}
+use Rattle.boxes.specs.Limits.{IsLimitedTo}
 use Rattle.boxes.specs.Rows.{IsFileAt}
 use Rattle.boxes.specs.Sound.{IsSound, IsReceipt, is_box_byte}
 use Rattle.boxes.proofs.NoBox.{all_at}
@@ -59,6 +60,10 @@ no_file_named s sound place none = none_if (get s.files place) (λ f there.
     let it = sound.files place f there in
     let r = all_at (IsReceipt s) s.receipts it.listed.place it.receipt sound.receipts it.listed.listed in
     none (subst IsUtf8 it.name r.name.text))
+
+-- what is named by bytes that are no UTF-8 is limited to no box
+pub no_limit : (s : State) → IsSound s → (id box : List ℕ) → (IsUtf8 id → ⊥) → IsLimitedTo s id box → ⊥
+no_limit s sound id box none held = some_box (get s.keys id) _ (sound.limits id box held).link (no_key s sound id none)
 
 pub none_at : (s : State) (place : Place) → None ≡ get s.files place → IsFileAt s place None
 none_at s place none = record { file = none; receipt = λ f is. absurd cc }

@@ -1,5 +1,5 @@
 -- What a question to the file leaves of its keeper.
-use Rattle.std.proofs.Common.{◌≡◌, ◌≢◌, inl, inr, ℕ, Result, Ok, Err, IfOk, IfErr, OnOk, OnErr, IsTrue, arith, refl, subst}
+use Rattle.std.proofs.Common.{◌≡◌, ◌≢◌, inl, inr, ℕ, Result, Ok, Err, IfOk, IfErr, OnOk, OnErr, IsTrue, subst}
 use Rattle.std.specs.Prelude.{IsErr, IsErrOf}
 use Rattle.sqlite.specs.declared.error.Error.{Error}
 use Rattle.sqlite.specs.State.{HasCleanDisk}
@@ -10,7 +10,7 @@ use Rattle.boxes.specs.Sound.{IsSound}
 use Rattle.keeper.specs.declared.keep.KeepFault.{KeepFault}
 use Rattle.keeper.specs.declared.keep.KeepFault.TheVariants.{Full, Store}
 use Rattle.keeper.specs.Keeping.{Answers, Stays, LeavesAlone, LeavesEither}
-use Rattle.sqltables.specs.Schema.{Version, IsVersion, v1}
+use Rattle.sqltables.specs.Schema.{v2}
 use Rattle.sqltables.specs.Means.{Means, LeavesOnly, AddsOnly, LeavesLast}
 use Rattle.sqlkeeper.specs.Asking.{AnswersOf, LeavesOffice}
 use Rattle.sqltables.specs.Kept.{KeepsState, MayLeave, LeavesStates}
@@ -30,17 +30,17 @@ module _ {K T : Type 0} (st : K → sql.State) (faults : K → ℕ) (old new : K
   pub stays : LeavesOffice (st old) (st new) answer → CountsErrors (faults old) (faults new) result → IfErr result (λ f. f ≢ Full)
       → Stays (λ k. KeepsState (st k)) (λ k. HasCleanDisk (st k)) (λ k. IsTrue (st k).is_open) faults (λ k. MayLeave (st k)) (λ k. LeavesStates (st k)) (Unit {0}) old new result
   stays rest count room = record {
-    same = λ s k. record { means = rest.kept v1 s refl k.means; sound = k.sound };
+    same = λ s k. record { means = rest.kept s k.means; sound = k.sound };
     honest = rest.honest;
     opened = λ clean was. opened_too answer result value (IsTrue (st new).is_open) (rest.opened clean);
     count = count;
     room = room;
     store = no_claim result;
-    crash = λ s t k clean leaves. elim (rest.crash v1 s refl k.means clean leaves.trees leaves.left) [
+    crash = λ s t k clean leaves. elim (rest.crash s k.means clean leaves.trees leaves.left) [
       | inl was ↦ inl (record { trees = leaves.trees; left = was; keep = leaves.keep })
       | inr means ↦ inr (one_left leaves.trees t s leaves.keep (record { means = means; sound = k.sound }))
     ];
-    whole = λ s k clean all again trees left. elim (rest.crash v1 s refl k.means clean trees left) [
+    whole = λ s k clean all again trees left. elim (rest.crash s k.means clean trees left) [
       | inl was ↦ all (rest.honest clean) trees was
       | inr means ↦ (s, record { means = means; sound = k.sound })
     ];
@@ -51,10 +51,10 @@ module _ {K T : Type 0} (st : K → sql.State) (faults : K → ℕ) (old new : K
 
   pub answers : (Holds : State → T → Type 0) → AnswersOf (st old) (st new) answer Holds
       → Answers (λ k. KeepsState (st k)) (λ k. HasCleanDisk (st k)) old new result Holds
-  answers Holds found = λ s k sound clean. carried (Holds s) answer result value (found v1 s refl k.means k.sound clean)
+  answers Holds found = λ s k sound clean. carried (Holds s) answer result value (found s k.means k.sound clean)
 
 -- a crash leaves the state that was committed, and no other
-pub left_alone : {K : Type 0} (st : K → sql.State) (new : K) (after : State) → IsSound after → HasCleanDisk (st new) → LeavesLast (st new) → LeavesOnly v1 (st new) after
+pub left_alone : {K : Type 0} (st : K → sql.State) (new : K) (after : State) → IsSound after → HasCleanDisk (st new) → LeavesLast (st new) → LeavesOnly v2 (st new) after
     → LeavesAlone (λ k. MayLeave (st k)) (λ k. LeavesStates (st k)) new after
 left_alone st new after sound clean last durable = record {
   there = record { trees = (st new).committed.trees; left = last; keep = record { means = durable clean (st new).committed.trees last; sound = sound } };
@@ -79,16 +79,16 @@ module _ {K : Type 0} (st : K → sql.State) (faults : K → ℕ) (old new : K) 
   err_too P h = err_carried answer result P fault h
 
   -- a crash leaves the state after and no other
-  pub alone : (after : State) → IsSound after → HasCleanDisk (st new) → OnOk answer (IsTrue (st new).is_open × LeavesLast (st new)) → OnOk answer (LeavesOnly v1 (st new) after)
+  pub alone : (after : State) → IsSound after → HasCleanDisk (st new) → OnOk answer (IsTrue (st new).is_open × LeavesLast (st new)) → OnOk answer (LeavesOnly v2 (st new) after)
       → OnOk result (LeavesAlone (λ k. MayLeave (st k)) (λ k. LeavesStates (st k)) new after)
   alone after sound clean opened durable = ok_too (LeavesAlone (λ k. MayLeave (st k)) (λ k. LeavesStates (st k)) new after) (go answer opened durable)
     where
-      go : (a : Result (Unit {0}) Error) → OnOk a (IsTrue (st new).is_open × LeavesLast (st new)) → OnOk a (LeavesOnly v1 (st new) after)
+      go : (a : Result (Unit {0}) Error) → OnOk a (IsTrue (st new).is_open × LeavesLast (st new)) → OnOk a (LeavesOnly v2 (st new) after)
           → OnOk a (LeavesAlone (λ k. MayLeave (st k)) (λ k. LeavesStates (st k)) new after)
       go (Err e) opened durable = tt
       go (Ok x) opened durable = left_alone st new after sound clean opened.1 durable
 
-  pub either : (s after : State) → IsSound after → HasCleanDisk (st new) → HasCleanDisk (st old) → AddsOnly v1 (st old) (st new) after → LeavesEither (λ k. MayLeave (st k)) (λ k. LeavesStates (st k)) old new s after
+  pub either : (s after : State) → IsSound after → HasCleanDisk (st new) → HasCleanDisk (st old) → AddsOnly v2 (st old) (st new) after → LeavesEither (λ k. MayLeave (st k)) (λ k. LeavesStates (st k)) old new s after
   either s after sound clean before adds = record {
     either = λ t leaves. elim (adds clean leaves.trees leaves.left) [
       | inl was ↦ inl (record { trees = leaves.trees; left = was; keep = leaves.keep })
@@ -100,10 +100,10 @@ module _ {K : Type 0} (st : K → sql.State) (faults : K → ℕ) (old new : K) 
     ];
   }
 
-pub kept_then : {X E : Type 0} (new : sql.State) (after : State) (r : Result X E) → IsSound after → OnOk r (Means v1 new after) → OnOk r (KeepsState new after)
+pub kept_then : {X E : Type 0} (new : sql.State) (after : State) (r : Result X E) → IsSound after → OnOk r (Means v2 new after) → OnOk r (KeepsState new after)
 kept_then new after (Ok x) sound means = record { means = means; sound = sound }
 kept_then new after (Err e) sound means = tt
 
-pub kept_at_error : {X E : Type 0} (new : sql.State) (s : State) (r : Result X E) → IsSound s → OnErr r (Means v1 new s) → OnErr r (KeepsState new s)
+pub kept_at_error : {X E : Type 0} (new : sql.State) (s : State) (r : Result X E) → IsSound s → OnErr r (Means v2 new s) → OnErr r (KeepsState new s)
 kept_at_error new s (Ok x) sound means = tt
 kept_at_error new s (Err e) sound means = record { means = means; sound = sound }

@@ -4,17 +4,17 @@ use Rattle.sqlite.specs.declared.error.Error.{Error}
 use Rattle.sqlite.specs.State.{State, HasCleanDisk}
 use Rattle.boxes.specs.State.{State as Office}
 use Rattle.boxes.specs.Sound.{IsSound}
-use Rattle.sqltables.specs.Schema.{Version, IsVersion}
+use Rattle.sqltables.specs.Schema.{v2}
 use Rattle.sqltables.specs.Means.{Means, AddsOnly}
 
 -- an answer says this of the office, where that is sound and the disk has returned what was written
 abbrev pub AnswersOf : {T : Type 0} → State → State → Result T Error → (Office → T → Type 0) → Type 0
-AnswersOf old new result Says = (v : Version) (s : Office) → IsVersion v → Means v old s → IsSound s → HasCleanDisk new → IfOk result (Says s)
+AnswersOf old new result Says = (s : Office) → Means v2 old s → IsSound s → HasCleanDisk new → IfOk result (Says s)
 
 -- What a question leaves, whatever came of it: the office is the same, a crash leaves nothing new but that office, no fault
 -- of the disk is forgotten, and after an answer the database is open.
 pub record LeavesOffice {T : Type 0} (old new : State) (result : Result T Error) : Type 0 where
-  pub kept : (v : Version) (s : Office) → IsVersion v → Means v old s → Means v new s
-  pub crash : (v : Version) (s : Office) → IsVersion v → Means v old s → AddsOnly v old new s
+  pub kept : (s : Office) → Means v2 old s → Means v2 new s
+  pub crash : (s : Office) → Means v2 old s → AddsOnly v2 old new s
   pub honest : HasCleanDisk new → HasCleanDisk old
   pub opened : HasCleanDisk new → OnOk result (IsTrue new.is_open)

@@ -6,7 +6,7 @@ ghost use Rattle.sqlite.specs.Held.{state};
 ghost use Rattle.boxes.specs.State.{State};
 ghost use Rattle.boxes.specs.Sound.{IsSound};
 ghost use Rattle.boxes.specs.Changes.{IsChangeOf};
-ghost use Rattle.sqltables.specs.Schema.{Version, IsVersion};
+ghost use Rattle.sqltables.specs.Schema.{v2};
 ghost use Rattle.sqltables.specs.Means.{Means, LeavesOnly, AddsOnly};
 ghost use Rattle.sqlkeeper.specs.Committing.{EndsOpen};
 
@@ -24,17 +24,14 @@ pub(crate) fn apply_change<S: Alter>(
     conn: &mut Connection<S>,
     change: &Change<'_>,
 ) -> Result<(), Error>
-    ensures made { (v : Version) (s after : State) → IsVersion v
-        → Means v (state S.Store conn.old) s → IsSound s → IsChangeOf s change.now after
-        → OnOk result (Means v (state S.Store conn.new) after) }
-    ensures kept { (v : Version) (s : State) → IsVersion v → Means v (state S.Store conn.old) s
-        → OnErr result (Means v (state S.Store conn.new) s) }
-    ensures durable { (v : Version) (s after : State) → IsVersion v
-        → Means v (state S.Store conn.old) s → IsSound s → IsChangeOf s change.now after
-        → OnOk result (LeavesOnly v (state S.Store conn.new) after) }
-    ensures crash { (v : Version) (s after : State) → IsVersion v
-        → Means v (state S.Store conn.old) s → IsSound s → IsChangeOf s change.now after
-        → AddsOnly v (state S.Store conn.old) (state S.Store conn.new) after }
+    ensures made { (s after : State) → Means v2 (state S.Store conn.old) s → IsSound s → IsChangeOf s change.now after
+        → OnOk result (Means v2 (state S.Store conn.new) after) }
+    ensures kept { (s : State) → Means v2 (state S.Store conn.old) s
+        → OnErr result (Means v2 (state S.Store conn.new) s) }
+    ensures durable { (s after : State) → Means v2 (state S.Store conn.old) s → IsSound s → IsChangeOf s change.now after
+        → OnOk result (LeavesOnly v2 (state S.Store conn.new) after) }
+    ensures crash { (s after : State) → Means v2 (state S.Store conn.old) s → IsSound s → IsChangeOf s change.now after
+        → AddsOnly v2 (state S.Store conn.old) (state S.Store conn.new) after }
     ensures honest { HasCleanDisk (state S.Store conn.new) → HasCleanDisk (state S.Store conn.old) }
     ensures opened { EndsOpen (state S.Store conn.new) result }
 {

@@ -1,12 +1,13 @@
 //! Questions to the office file. Each runs in a transaction of its own, which writes nothing: it commits where there is an
 //! answer, so that a store that shut itself gives none.
 
-ghost use Rattle.std.specs.Prelude.{◌≡◌, ◌+◌, length, map, option_map};
+ghost use Rattle.std.specs.Prelude.{◌≡◌, ◌↔◌, IsTrue, ◌+◌, length, map, option_map};
 ghost use Rattle.std.specs.FinMap.{get};
 ghost use Rattle.sqlite.specs.Held.{state};
 ghost use Rattle.boxes.specs.Rows.{IsOfficeOf, key_of, settings_of, IsFileAt, numbered_receipt, receipts_from};
 ghost use Rattle.boxes.specs.Views.{AreTotals};
 ghost use Rattle.boxes.specs.Clerks.{clerks};
+ghost use Rattle.boxes.specs.Limits.{IsLimitedTo, MayUse};
 ghost use Rattle.sqltables.specs.Tables.{placed};
 ghost use Rattle.sqlkeeper.specs.Asking.{AnswersOf, LeavesOffice};
 
@@ -26,8 +27,47 @@ pub(crate) fn settings<S: Alter>(conn: &mut Connection<S>) -> Result<OfficeRow, 
     }
     let mut tx = conn.transaction();
     let east = questions::east(&mut tx)?;
+    let allowance = questions::allowance(&mut tx)?;
     tx.commit()?;
-    Ok(OfficeRow { east })
+    Ok(OfficeRow { east, allowance })
+}
+
+/// Whether the key of this id may use the box of this name.
+pub(crate) fn may_use<S: Alter>(
+    conn: &mut Connection<S>,
+    id: &str,
+    in_box: &[u8],
+) -> Result<bool, Error>
+    ensures found { AnswersOf (state S.Store conn.old) (state S.Store conn.new) result
+        (λ s may. IsTrue may ↔ MayUse s id.now in_box.now) }
+    ensures rest { LeavesOffice (state S.Store conn.old) (state S.Store conn.new) result }
+{
+    if !conn.is_autocommit() {
+        return Err(Error::SqliteFailure(ErrorCode::TransactionState));
+    }
+    let mut tx = conn.transaction();
+    let may = questions::may_use(&mut tx, id, in_box)?;
+    tx.commit()?;
+    Ok(may)
+}
+
+/// Whether this box is one of those that the key of this id is limited to.
+pub(crate) fn has_limit<S: Alter>(
+    conn: &mut Connection<S>,
+    id: &str,
+    in_box: &[u8],
+) -> Result<bool, Error>
+    ensures found { AnswersOf (state S.Store conn.old) (state S.Store conn.new) result
+        (λ s has. IsTrue has ↔ IsLimitedTo s id.now in_box.now) }
+    ensures rest { LeavesOffice (state S.Store conn.old) (state S.Store conn.new) result }
+{
+    if !conn.is_autocommit() {
+        return Err(Error::SqliteFailure(ErrorCode::TransactionState));
+    }
+    let mut tx = conn.transaction();
+    let has = questions::has_limit(&mut tx, id, in_box)?;
+    tx.commit()?;
+    Ok(has)
 }
 
 /// The key of this id.

@@ -4,10 +4,11 @@ ghost use Rattle.std.specs.Prelude.{OnOk, OnErr};
 ghost use Rattle.sqlite.specs.State.{HasCleanDisk};
 ghost use Rattle.sqlite.specs.Held.{state};
 ghost use Rattle.boxes.specs.FirstState.{first_state};
-ghost use Rattle.sqltables.specs.Schema.{v1};
+ghost use Rattle.sqltables.specs.Schema.{v2};
 ghost use Rattle.sqltables.specs.Means.{IsBare, Means, LeavesOnly, AddsOnly};
 ghost use Rattle.sqlkeeper.specs.Committing.{EndsOpen};
 
+use sigv4::Allowance;
 use sqlite::{Alter, Connection, Error, ErrorCode};
 use sqlstatements::making::make_office;
 
@@ -19,19 +20,20 @@ use sqlstatements::making::make_office;
 pub(crate) fn create<S: Alter>(
     conn: &mut Connection<S>,
     east: i16,
+    allowance: Allowance,
     id: &str,
     secret: &[u8],
 ) -> Result<(), Error>
     ensures made { IsBare (state S.Store conn.old)
-        → OnOk result (Means v1 (state S.Store conn.new) (first_state east id.now secret.now)) }
+        → OnOk result (Means v2 (state S.Store conn.new) (first_state east allowance id.now secret.now)) }
     ensures kept { IsBare (state S.Store conn.old)
         → OnErr result (IsBare (state S.Store conn.new)) }
     ensures durable { IsBare (state S.Store conn.old)
-        → OnOk result (LeavesOnly v1 (state S.Store conn.new)
-        (first_state east id.now secret.now)) }
+        → OnOk result (LeavesOnly v2 (state S.Store conn.new)
+        (first_state east allowance id.now secret.now)) }
     ensures crash { IsBare (state S.Store conn.old)
-        → AddsOnly v1 (state S.Store conn.old) (state S.Store conn.new)
-        (first_state east id.now secret.now) }
+        → AddsOnly v2 (state S.Store conn.old) (state S.Store conn.new)
+        (first_state east allowance id.now secret.now) }
     ensures honest { HasCleanDisk (state S.Store conn.new) → HasCleanDisk (state S.Store conn.old) }
     ensures opened { EndsOpen (state S.Store conn.new) result }
 {
@@ -39,6 +41,6 @@ pub(crate) fn create<S: Alter>(
         return Err(Error::SqliteFailure(ErrorCode::TransactionState));
     }
     let mut tx = conn.transaction();
-    make_office(&mut tx, east, id, secret)?;
+    make_office(&mut tx, east, allowance, id, secret)?;
     tx.commit()
 }

@@ -1,6 +1,6 @@
 //! The keeper over an office file.
 
-ghost use Rattle.std.specs.Prelude.{◌≡◌, ◌≢◌, ◌↔◌, pos, neg_ℤ, ◌≤ℤ◌, Ok, IfOk, IfErr, IsErr, IsTrue, ⊤};
+ghost use Rattle.std.specs.Prelude.{◌≡◌, ◌≢◌, ◌↔◌, ◌⊎◌, pos, neg_ℤ, ◌≤ℤ◌, Ok, IfOk, IfErr, IsErr, IsTrue, ⊤};
 ghost use Rattle.sigv4.specs.Credential.{IsKeyId, IsSecret};
 ghost use Rattle.boxes.specs.FirstState.{first_state};
 ghost use Rattle.boxes.specs.State.{State};
@@ -10,17 +10,19 @@ ghost use Rattle.sqlite.specs.State.{HasCleanDisk};
 ghost use Rattle.sqlite.specs.Held.{state};
 ghost use Rattle.keeper.specs.Keeping.{LeavesAlone};
 ghost use Rattle.sqltables.specs.Means.{IsBare, AddsOnly, AddsNothing};
-ghost use Rattle.sqltables.specs.Schema.{v1, s0};
+ghost use Rattle.sqltables.specs.Schema.{v2, s0};
 ghost use Rattle.sqltables.specs.Kept.{KeepsState, MayLeave, LeavesStates};
 ghost use Rattle.sqltables.specs.OneState.{one_kept};
-ghost use Rattle.sqlaudit.specs.Opened.{HasOurs, AreNamed, OnlyLooks, IsFound};
+ghost use Rattle.sqlaudit.specs.Opened.{HasOurs, AreFirstNamed, AreNamed, OnlyLooks, LeavesUntouched, IsFound, IsEither};
+ghost use Rattle.sqlkeeper.specs.Versions.{KeepsFirst, IsOfficeFile, IsRefusedFile};
 
 use crate::applying::apply_change;
 use crate::asking;
 use crate::creating::create;
+use crate::upgrading::upgrade_file;
 use boxes::{BoxRow, Change, FileRow, KeyRow, OfficeRow, ReceiptRow, Totals, law_of_changes};
 use keeper::{KeepFault, Keeper, has_room};
-use sqlaudit::opening::{Finding, find};
+use sqlaudit::opening::{Finding, Found, find, find_either};
 use sqlite::{Alter, Connection, ErrorCode};
 use sqlite_schema::schema::Schema;
 use std::alloc::Global;
@@ -129,7 +131,7 @@ impl<S: Alter> SqlKeeper<S> {
         ensures made { neg_ℤ (pos 840) ≤ℤ office.east → office.east ≤ℤ pos 840 → IsKeyId id.now
             → IsSecret secret.now
             → IfOk result (λ k. ⟦<SqlKeeper<S> as Keeper>⟧.means k
-            (first_state office.east id.now secret.now)) }
+            (first_state office.east office.allowance id.now secret.now)) }
         ensures honest { IfOk result (λ k. HasCleanDisk (state S.Store k.conn)
             → ⟦<SqlKeeper<S> as Keeper>⟧.is_honest k) }
         ensures opened { IfOk result (λ k. ⟦<SqlKeeper<S> as Keeper>⟧.is_honest k
@@ -139,9 +141,9 @@ impl<S: Alter> SqlKeeper<S> {
             → IsSecret secret.now
             → IfOk result (λ k. ⟦<SqlKeeper<S> as Keeper>⟧.is_honest k
             → LeavesAlone ⟦<SqlKeeper<S> as Keeper>⟧.leaves ⟦<SqlKeeper<S> as Keeper>⟧.leaves_whole
-            k (first_state office.east id.now secret.now)) }
-        ensures crash { IfErr result (λ e. AddsOnly v1 (state S.Store conn) (state S.Store e.1)
-            (first_state office.east id.now secret.now)) }
+            k (first_state office.east office.allowance id.now secret.now)) }
+        ensures crash { IfErr result (λ e. AddsOnly v2 (state S.Store conn) (state S.Store e.1)
+            (first_state office.east office.allowance id.now secret.now)) }
         ensures exists { (state S.Store conn).now.schema ≢ s0
             → IfErr result (λ e. e.0 ≡ OpenFault.Exists) × IsErr result }
         ensures told { IfErr result (λ e. e.0 ≡ OpenFault.Exists
@@ -156,10 +158,12 @@ impl<S: Alter> SqlKeeper<S> {
         if !conn.is_autocommit() {
             return Err((OpenFault::Store, conn));
         }
+        // An allowance is in its range: this call says so.
+        let _ = office.allowance.seconds();
         let Ok(id) = str::from_utf8(id) else {
             return Err((OpenFault::Store, conn));
         };
-        match create(&mut conn, office.east, id, secret) {
+        match create(&mut conn, office.east, office.allowance, id, secret) {
             Ok(()) => Ok(SqlKeeper {
                 conn,
                 faults: 0,
@@ -200,10 +204,10 @@ impl<S: Alter> SqlKeeper<S> {
         ensures crash { IfOk result (λ k. AddsNothing (state S.Store conn) (state S.Store k.conn)) }
         ensures version { HasOurs (state S.Store conn) → IfErr result (λ e. e.0 ≡ OpenFault.Version
             → HasCleanDisk (state S.Store e.1) → IsTrue (state S.Store conn).is_open
-            → IsFound Finding.OtherVersion (state S.Store conn).now) }
+            → IsFound v2 Finding.OtherVersion (state S.Store conn).now) }
         ensures shape { HasOurs (state S.Store conn) → IfErr result (λ e. e.0 ≡ OpenFault.Shape
             → HasCleanDisk (state S.Store e.1) → IsTrue (state S.Store conn).is_open
-            → IsFound Finding.Damaged (state S.Store conn).now) }
+            → IsFound v2 Finding.Damaged (state S.Store conn).now) }
         ensures told { IfErr result (λ e. e.0 ≢ OpenFault.Exists) }
         ensures kept { IfErr result (λ e. OnlyLooks (state S.Store conn) (state S.Store e.1)) }
         ensures unharmed { IfErr result (λ e. AddsNothing (state S.Store conn)
@@ -217,6 +221,76 @@ impl<S: Alter> SqlKeeper<S> {
             }),
             Ok(Finding::OtherVersion) => Err((OpenFault::Version, conn)),
             Ok(Finding::Damaged) => Err((OpenFault::Shape, conn)),
+            Err(error) => Err((open_fault_of(error), conn)),
+        }
+    }
+
+    /// Takes an office file of version 1 over to version 2, in one transaction: the state is the same, with no allowance and
+    /// no limits. A file of version 2 is opened as it is.
+    ///
+    /// # Errors
+    ///
+    /// The fault, with the connection as it is. `Version` comes where the row of the office says a version that is neither 1
+    /// nor 2, and `Shape` where the tables are those of no office that keeps every rule; then nothing was tried. After any
+    /// other fault, too, the office is as it was.
+    pub fn migrate(
+        alloc: Global,
+        mut conn: Connection<S>,
+    ) -> Result<SqlKeeper<S>, (OpenFault, Connection<S>)>
+        ensures means { (s : State) → IsOfficeFile (state S.Store conn) s
+            → IfOk result (λ k. ⟦<SqlKeeper<S> as Keeper>⟧.means k s) }
+        ensures accepts { HasOurs (state S.Store conn)
+            → IfOk result (λ k. ⟦<SqlKeeper<S> as Keeper>⟧.is_honest k
+            → (s : State) × IsOfficeFile (state S.Store conn) s
+            × ⟦<SqlKeeper<S> as Keeper>⟧.means k s) }
+        ensures named { IfOk result (λ k. ⟦<SqlKeeper<S> as Keeper>⟧.is_honest k
+            → AreFirstNamed (state S.Store conn).now.schema
+            ⊎ AreNamed (state S.Store conn).now.schema) }
+        ensures same { (AreFirstNamed (state S.Store conn).now.schema → ⊥)
+            → IfOk result (λ k. LeavesUntouched (state S.Store conn) (state S.Store k.conn)) }
+        ensures honest { IfOk result (λ k. HasCleanDisk (state S.Store k.conn)
+            → ⟦<SqlKeeper<S> as Keeper>⟧.is_honest k) }
+        ensures opened { IfOk result (λ k. ⟦<SqlKeeper<S> as Keeper>⟧.is_honest k
+            → ⟦<SqlKeeper<S> as Keeper>⟧.is_open k) }
+        ensures none { IfOk result (λ k. ⟦<SqlKeeper<S> as Keeper>⟧.faults k ≡ 0) }
+        ensures durable { IfOk result (λ k. ⟦<SqlKeeper<S> as Keeper>⟧.is_honest k → (s : State)
+            → ⟦<SqlKeeper<S> as Keeper>⟧.means k s
+            → LeavesAlone ⟦<SqlKeeper<S> as Keeper>⟧.leaves ⟦<SqlKeeper<S> as Keeper>⟧.leaves_whole
+            k s) }
+        ensures version { HasOurs (state S.Store conn) → IfErr result (λ e. e.0 ≡ OpenFault.Version
+            → HasCleanDisk (state S.Store e.1) → IsTrue (state S.Store conn).is_open
+            → IsEither Found.OtherVersion (state S.Store conn).now) }
+        ensures shape { HasOurs (state S.Store conn) → IfErr result (λ e. e.0 ≡ OpenFault.Shape
+            → HasCleanDisk (state S.Store e.1) → IsTrue (state S.Store conn).is_open
+            → IsEither Found.Damaged (state S.Store conn).now) }
+        ensures told { IfErr result (λ e. e.0 ≢ OpenFault.Exists) }
+        ensures kept { IfErr result (λ e. OnlyLooks (state S.Store conn) (state S.Store e.1)) }
+        ensures crash { (s : State) → KeepsFirst (state S.Store conn) s
+            → IfErr result (λ e. AddsOnly v2 (state S.Store conn) (state S.Store e.1) s) }
+        ensures untouched { (AreFirstNamed (state S.Store conn).now.schema → ⊥)
+            → IfErr result (λ e. LeavesUntouched (state S.Store conn) (state S.Store e.1)) }
+        ensures others { HasOurs (state S.Store conn)
+            → ((s : State) → IsOfficeFile (state S.Store conn) s → ⊥)
+            → IfErr result (λ e. LeavesUntouched (state S.Store conn) (state S.Store e.1)) }
+        ensures unharmed { IfErr result (λ e. IsRefusedFile e.0
+            → LeavesUntouched (state S.Store conn) (state S.Store e.1)) }
+    {
+        match find_either(&mut conn, alloc) {
+            Ok(Found::Second) => Ok(SqlKeeper {
+                conn,
+                faults: 0,
+                alloc,
+            }),
+            Ok(Found::First) => match upgrade_file(&mut conn) {
+                Ok(()) => Ok(SqlKeeper {
+                    conn,
+                    faults: 0,
+                    alloc,
+                }),
+                Err(error) => Err((open_fault_of(error), conn)),
+            },
+            Ok(Found::OtherVersion) => Err((OpenFault::Version, conn)),
+            Ok(Found::Damaged) => Err((OpenFault::Shape, conn)),
             Err(error) => Err((open_fault_of(error), conn)),
         }
     }
@@ -269,6 +343,26 @@ impl<S: Alter> Keeper for SqlKeeper<S> {
             return Ok(None);
         };
         counted(&mut self.faults, asking::key(&mut self.conn, id))
+    }
+
+    fn may_use(&mut self, id: &[u8], in_box: &[u8]) -> Result<bool, KeepFault> {
+        let Ok(id) = str::from_utf8(id) else {
+            return Ok(true);
+        };
+        counted(
+            &mut self.faults,
+            asking::may_use(&mut self.conn, id, in_box),
+        )
+    }
+
+    fn has_limit(&mut self, id: &[u8], in_box: &[u8]) -> Result<bool, KeepFault> {
+        let Ok(id) = str::from_utf8(id) else {
+            return Ok(false);
+        };
+        counted(
+            &mut self.faults,
+            asking::has_limit(&mut self.conn, id, in_box),
+        )
     }
 
     fn box_row(&mut self, name: &[u8]) -> Result<Option<BoxRow>, KeepFault> {

@@ -5,5 +5,6 @@ mod applying;
 mod asking;
 mod creating;
 mod file_keeper;
+mod upgrading;
 
 pub use file_keeper::{OpenFault, SqlKeeper};

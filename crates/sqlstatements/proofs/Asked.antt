@@ -7,8 +7,6 @@ use Rattle.sqlite_value.specs.Order.{Row}
 use Rattle.sqlite_trees.specs.Tree.{Trees}
 use Rattle.sqlite_sql.specs.Term.{Term, holds, eval_all}
 use Rattle.sqlite_sql.specs.Program.{overlay}
-use Rattle.sqlite_schema.specs.declared.command.Returning.{Returning}
-use Rattle.sqlite_resolve.specs.declared.compiled.Compiled.{Compiled}
 use Rattle.sqlite_rules.specs.Lists.{Has}
 use Rattle.sqlite_rules.proofs.ListLemmas.{has_right}
 use Rattle.sqlite.specs.declared.error.Error.{Error}
@@ -83,7 +81,7 @@ module _ {K V : Type 0} (IsRow : Row → K → V → Type 0) (lookup : K → Opt
 pub finds_row : {K V : Type 0} (IsRow : Row → K → V → Type 0) (lookup : K → Option V) (same : K → K → Bool) (tells : Tells same) (filter project : List Term) (shown : V → Row) (given : Row) (k : K)
     → Picks IsRow lookup same tells filter project shown given k
     → (v : Version) (tree : ℕ) (names : List (List ℕ)) (sql : List ℕ) (asks : Asks v.schema sql (select (some_rows tree filter project) names)) (old new : State) (tables : Tables)
-    → (own : (db : Trees) → overlay db [] tree ≡ db tree) → (TablesMean v.number old.now.trees tables → RowsMean IsRow lookup (old.now.trees tree))
+    → (own : (db : Trees) → overlay db [] tree ≡ db tree) → (TablesMean v old.now.trees tables → RowsMean IsRow lookup (old.now.trees tree))
     → IsTrue old.in_transaction → (IsTrue old.is_open → Holds v old.now tables)
     → (r : Result (Option Row) Error) → IfOk r (ShowsRow sql given old new) → IfOk r (λ row. row ≡ option_map shown (lookup k))
 finds_row IsRow lookup same tells filter project shown given k picks v tree names sql asks old new tables own means inside pends (Err e) h = tt

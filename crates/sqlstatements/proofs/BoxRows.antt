@@ -54,7 +54,7 @@ news_are rows name b = rw (
 )
 
 pub puts_box : (v : Version) (ours : IsOurs v.schema) (says : Says v.schema insert_box insert_box_command) (old new : State) (count : ℕ) (tables : Tables) (name : List ℕ) (b : Settings)
-    → old.now.schema ≡ v.schema → TablesMean v.number old.now.trees tables → tables.box name ≡ None
+    → old.now.schema ≡ v.schema → TablesMean v old.now.trees tables → tables.box name ≡ None
     → Executes insert_box (given_box name b) old new (Ok count) → Holds v new.now (with_box tables name (new_box b))
 puts_box v ours says old new count tables name b has means free ran =
     let rows = old.now.trees 3 in

@@ -66,7 +66,7 @@ hits_box name moment = record {
     number {n} e = ap (cast Integer) e ∙ cast_int n
 
 pub sets_closing : (v : Version) (ours : IsOurs v.schema) (says : Says v.schema update_closes update_closes_command) (old new : State) (n : ℕ) (tables : Tables) (name : List ℕ) (box : Box) (moment : ℕ)
-    → old.now.schema ≡ v.schema → TablesMean v.number old.now.trees tables → tables.box name ≡ Some box
+    → old.now.schema ≡ v.schema → TablesMean v old.now.trees tables → tables.box name ≡ Some box
     → Executes update_closes (given_closing name moment) old new (Ok n) → Holds v new.now (with_box tables name (closing_at moment box))
 sets_closing v ours says old new n tables name box moment has means there ran =
     let rows = old.now.trees 3 in

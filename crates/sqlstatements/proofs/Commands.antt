@@ -1,21 +1,24 @@
 -- The tables of a state after a command of the desk are those that its statements write. No SQL is in it.
-use Rattle.std.proofs.Common.{◌≡◌, inl, inr, ℕ, List, cond, false, true, Some, None, sym, ap, ◌∙◌}
+use Rattle.std.proofs.Common.{◌≡◌, ◌&&◌, inl, inr, ℕ, List, cond, false, true, Option, Some, None, Ordering, Less, Equal, Greater, refl, sym, ap, ◌∙◌}
+use Rattle.std.specs.Prelude.{IsSome}
+use Rattle.std.specs.Ordering.{is_eq, eq_by_cmp, ordering_then}
 use Rattle.std.specs.FinMap.{FinMap, get, insert, remove, get-insert, get-remove}
 use Rattle.std.proofs.lemmas.Bool.{cases_Bool}
 use Rattle.sigtext.specs.Bytes.{same_bytes, bytes_cmp}
-use Rattle.boxes.specs.State.{Key, Place, place_cmp, File, Settings, State}
+use Rattle.boxes.specs.State.{Key, Place, place_cmp, File, Settings, Limit, limit_cmp, State}
 use Rattle.boxes.specs.Sound.{IsSound}
 use Rattle.boxes.specs.Totals.{used, count}
 use Rattle.boxes.specs.declared.rows.Role.{Role}
-use Rattle.boxes.specs.Steps.{AddKey, RevokeKey, AddBox, CloseBox}
+use Rattle.boxes.specs.Steps.{AddKey, RevokeKey, AddBox, CloseBox, LimitKey, SetAllowance}
 use Rattle.boxes.specs.Changes.{IsObeyed}
-use Rattle.boxes.proofs.CommandSteps.{key_added_is, key_revoked_is, box_added_is, box_closed_is}
+use Rattle.boxes.proofs.CommandSteps.{key_added_is, key_revoked_is, box_added_is, box_closed_is, key_limited_is, allowance_set_is}
 use Rattle.boxes.proofs.FileTotals.{used_still, count_still}
 use Rattle.boxes.proofs.Lookups.{bytes_total, place_total}
+use Rattle.boxes.proofs.LimitedKeys.{limit_total}
 use Rattle.boxes.proofs.NoBox.{none_used, none_counted}
-use Rattle.keeper.proofs.MapLemmas.{is_none_is}
-use Rattle.sqltables.specs.Tables.{Tables, Box, Part, put, without, tables_of, same_place}
-use Rattle.sqltables.specs.Changes.{with_key, with_box, with_drop, closing_at}
+use Rattle.boxes.proofs.MapLemmas.{is_none_is}
+use Rattle.sqltables.specs.Tables.{Tables, Box, Part, put, without, tables_of, same_place, same_limit}
+use Rattle.sqltables.specs.Changes.{with_key, with_box, with_drop, with_limit, with_allowance, closing_at}
 use Rattle.sqltables.proofs.Keys.{tells_bytes, by_order}
 use Rattle.sqlstatements.proofs.Uploads.{same_by_order, turned}
 
@@ -72,6 +75,30 @@ pub closes_box : (s : State) (name : List ℕ) (moment : ℕ) (after : State) �
 closes_box s name moment after obeyed =
     let it = box_closed_is s name moment after obeyed.step in
     (row_of s name it.0, rw it.1, ap tables_of it.2 ∙ box_tables s name (record it.0 { closes = moment }))
+
+-- limits are compared as SQL compares them
+limits_by_order : (q l : Limit) → same_limit q l ≡ eq_by_cmp limit_cmp q l
+limits_by_order q l = ap (λ b. b && same_bytes q.box l.box) (by_order q.key l.key) ∙ then_both (bytes_cmp q.key l.key) q.box l.box
+  where
+    then_both : (o : Ordering) (x y : List ℕ) → (is_eq o && same_bytes x y) ≡ is_eq (ordering_then o (bytes_cmp x y))
+    then_both Less x y = refl
+    then_both Equal x y = by_order x y
+    then_both Greater x y = refl
+
+limit_tables : (s : State) (l : Limit) → tables_of (record s { limits = insert s.limits l tt }) ≡ with_limit (tables_of s) l
+limit_tables s l = λ i. record (tables_of s) { limit = λ q. (get-insert limit_total s.limits l tt q ∙ ap (λ b. cond b (Some tt) (get s.limits q)) (sym (limits_by_order q l))) i }
+
+not_there : (o : Option (Unit {0})) → (IsSome o → ⊥) → o ≡ None
+not_there None none = refl
+not_there (Some u) none = absurd (none refl)
+
+pub limits_key : (s : State) (id box : List ℕ) (after : State) → IsObeyed s (LimitKey id box) after
+    → ((tables_of s).limit (record { key = id; box = box }) ≡ None) × (tables_of after ≡ with_limit (tables_of s) (record { key = id; box = box }))
+limits_key s id box after obeyed =
+    (not_there (get s.limits (record { key = id; box = box })) obeyed.possible.2, ap tables_of (key_limited_is s id box after obeyed.step) ∙ limit_tables s (record { key = id; box = box }))
+
+pub sets_seconds : (s : State) (seconds : ℕ) (after : State) → IsObeyed s (SetAllowance seconds) after → tables_of after ≡ with_allowance (tables_of s) seconds
+sets_seconds s seconds after obeyed = ap tables_of (allowance_set_is s seconds after obeyed.step)
 
 module _ (s : State) (place : Place) (b : Settings) (there : get s.boxes place.box ≡ Some b) (f : File) (stands : get s.files place ≡ Some f) where
   abbrev after : State

@@ -2,7 +2,7 @@
 use Rattle.std.proofs.Common.{codes, List, ℕ, refl}
 use Rattle.sqlite_tied.specs.Compute.{everything}
 use Rattle.sqlite.specs.Listing.{understood}
-use Rattle.sqltables.specs.Schema.{office_table, keys_table, boxes_table, receipts_table, files_table, pieces_table, s0, s1, s2, s3, s4, s5}
+use Rattle.sqltables.specs.Schema.{office_table, keys_table, boxes_table, receipts_table, files_table, pieces_table, rules_table, key_box_table, staged_table, s0, s1, s2, s3, s4, s5, s6, s7, s8}
 use Rattle.sqltables.proofs.Says.{Makes}
 
 abbrev pub create_office : List ℕ
@@ -46,3 +46,24 @@ create_pieces = codes "CREATE TABLE pieces (box TEXT NOT NULL, name TEXT NOT NUL
 pub makes_pieces : Makes s5 create_pieces pieces_table
 unfolding understood everything
 makes_pieces = record { says = record { is = refl; plain = (refl, refl) }; whole = refl; defines = refl }
+
+abbrev pub create_rules : List ℕ
+create_rules = codes "CREATE TABLE rules (id INTEGER PRIMARY KEY NOT NULL CHECK (id = 1), allowance INTEGER NOT NULL CHECK (allowance BETWEEN 0 AND 900)) STRICT"
+
+pub makes_rules : Makes s6 create_rules rules_table
+unfolding understood everything
+makes_rules = record { says = record { is = refl; plain = (refl, refl) }; whole = refl; defines = refl }
+
+abbrev pub create_key_box : List ℕ
+create_key_box = codes "CREATE TABLE key_box (key_id TEXT NOT NULL REFERENCES keys (id) ON DELETE RESTRICT ON UPDATE RESTRICT, box TEXT NOT NULL REFERENCES boxes (name) ON DELETE RESTRICT ON UPDATE RESTRICT, PRIMARY KEY (key_id, box)) STRICT"
+
+pub makes_key_box : Makes s7 create_key_box key_box_table
+unfolding understood everything
+makes_key_box = record { says = record { is = refl; plain = (refl, refl) }; whole = refl; defines = refl }
+
+abbrev pub create_staged : List ℕ
+create_staged = codes "CREATE TABLE staged (part INTEGER PRIMARY KEY NOT NULL, bytes BLOB NOT NULL) STRICT"
+
+pub makes_staged : Makes s8 create_staged staged_table
+unfolding understood everything
+makes_staged = record { says = record { is = refl; plain = (refl, refl) }; whole = refl; defines = refl }

@@ -13,8 +13,8 @@ use Rattle.boxes.specs.Steps.{receipt_of, after_upload, DropFile}
 use Rattle.boxes.specs.Changes.{IsTaken, IsFileSet, IsObeyed, upload_in}
 use Rattle.boxes.specs.Views.{AreTotals}
 use Rattle.boxes.proofs.CommandSteps.{file_dropped_is}
-use Rattle.keeper.proofs.MapLemmas.{some_of}
-use Rattle.keeper.proofs.ShelfLemmas.{there_is, file_in_box}
+use Rattle.boxes.proofs.MapLemmas.{some_of}
+use Rattle.boxes.proofs.FileBoxes.{there_is, file_in_box}
 use Rattle.sqltables.specs.Tables.{tables_of}
 use Rattle.sqltables.specs.Changes.{with_upload, with_drop, with_totals}
 use Rattle.sqltables.specs.Questions.{AreTotalsOf}

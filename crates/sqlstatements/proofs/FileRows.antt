@@ -39,8 +39,8 @@ news_are : (rows : List Row) (place : Place) (number : ℕ) → numbered Chosen 
 news_are rows place number = rw (cast_null, cast_int (pos number))
 
 -- the other tables mean what they did
-others_mean : (v : Version) (tables : Tables) (file : Place → Option ℕ) (old new : State) → TablesMean v.number old.now.trees tables → OthersStay 6 old.now.trees new.now.trees
-    → RowsMean IsFileRow file (new.now.trees 6) → TablesMean v.number new.now.trees (record tables { file = file })
+others_mean : (v : Version) (tables : Tables) (file : Place → Option ℕ) (old new : State) → TablesMean v old.now.trees tables → OthersStay v.schema 6 old.now.trees new.now.trees
+    → RowsMean IsFileRow file (new.now.trees 6) → TablesMean v new.now.trees (record tables { file = file })
 others_mean v tables file old new means stay files = record {
   office = rw (stay.office (λ e. omega (arith, e))) means.office;
   keys = rw (stay.keys (λ e. omega (arith, e))) means.keys;
@@ -48,10 +48,13 @@ others_mean v tables file old new means stay files = record {
   receipts = rw (stay.receipts (λ e. omega (arith, e))) means.receipts;
   files = files;
   pieces = rw (stay.pieces (λ e. omega (arith, e))) means.pieces;
+  unlimited = means.unlimited;
+  rules = λ two. rw (stay.rules (ap (λ (w : Version). w.schema) two) (λ e. omega (arith, e))) (means.rules two);
+  limits = λ two. rw (stay.limits (ap (λ (w : Version). w.schema) two) (λ e. omega (arith, e))) (means.limits two);
 }
 
 pub puts_file : (v : Version) (ours : IsOurs v.schema) (says : Says v.schema insert_file insert_file_command) (old new : State) (count : ℕ) (tables : Tables) (place : Place) (number : ℕ)
-    → old.now.schema ≡ v.schema → TablesMean v.number old.now.trees tables → tables.file place ≡ None
+    → old.now.schema ≡ v.schema → TablesMean v old.now.trees tables → tables.file place ≡ None
     → Executes insert_file (given_file place number) old new (Ok count) → Holds v new.now (with_file tables place number)
 puts_file v ours says old new count tables place number has means free ran =
     let rows = old.now.trees 6 in
@@ -85,7 +88,7 @@ hits_file place number = record {
 }
 
 pub sets_file : (v : Version) (ours : IsOurs v.schema) (says : Says v.schema update_file update_file_command) (old new : State) (n : ℕ) (tables : Tables) (place : Place) (was number : ℕ)
-    → old.now.schema ≡ v.schema → TablesMean v.number old.now.trees tables → tables.file place ≡ Some was
+    → old.now.schema ≡ v.schema → TablesMean v old.now.trees tables → tables.file place ≡ Some was
     → Executes update_file (given_file place number) old new (Ok n) → Holds v new.now (with_file tables place number)
 sets_file v ours says old new n tables place was number has means there ran =
     let rows = old.now.trees 6 in
@@ -99,7 +102,7 @@ sets_file v ours says old new n tables place was number has means there ran =
 -- ---- DELETE
 
 pub drops_file : (v : Version) (ours : IsOurs v.schema) (says : Says v.schema delete_file delete_file_command) (old new : State) (count : ℕ) (tables : Tables) (place : Place)
-    → old.now.schema ≡ v.schema → TablesMean v.number old.now.trees tables
+    → old.now.schema ≡ v.schema → TablesMean v old.now.trees tables
     → Executes delete_file (given_place place) old new (Ok count) → Holds v new.now (without_file tables place)
 drops_file v ours says old new count tables place has means ran =
     let rows = old.now.trees 6 in

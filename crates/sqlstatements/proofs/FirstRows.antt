@@ -22,19 +22,19 @@ use Rattle.sqltables.specs.Changes.{no_rows}
 use Rattle.sqltables.specs.Means.{Holds, HoldsNothing}
 use Rattle.sqltables.proofs.Says.{Makes}
 use Rattle.sqltables.proofs.Forms.{whole_number}
-use Rattle.sqltables.proofs.Texts.{insert_office, insert_office_is}
-use Rattle.sqltables.proofs.Ours.{ours_1}
+use Rattle.sqltables.proofs.AddedTexts.{insert_office, insert_office_is}
+use Rattle.sqltables.proofs.Ours.{ours_1, versions_differ}
 use Rattle.sqltables.proofs.Rows.{went, same_value, cast_null, cast_int}
 use Rattle.sqltables.proofs.Maps.{means_put, Adds}
 use Rattle.sqlstatements.proofs.Steps.{inserts_row}
 
 -- the table is there and empty, and the others are as they were
-record MakesTable (schema : Schema) (table : Table) (old new : Database) : Type 0 where
-  now_is : new.schema ≡ created schema table
-  empty : new.trees (next_tree schema) ≡ []
-  others : KeepsRows schema.tables old.trees new.trees
+pub record MakesTable (schema : Schema) (table : Table) (old new : Database) : Type 0 where
+  pub now_is : new.schema ≡ created schema table
+  pub empty : new.trees (next_tree schema) ≡ []
+  pub others : KeepsRows schema.tables old.trees new.trees
 
-makes : (schema : Schema) (table : Table) (text : List ℕ) (old new : State) (count : ℕ) → old.now.schema ≡ schema → Makes schema text table → lacks_sequence (created schema table) ≡ false
+pub makes : (schema : Schema) (table : Table) (text : List ℕ) (old new : State) (count : ℕ) → old.now.schema ≡ schema → Makes schema text table → lacks_sequence (created schema table) ≡ false
     → Writes old new None CreateTable text [] count → MakesTable schema table old.now new.now
 makes schema table text old new count has making plain w =
     let all = went w.changed in
@@ -66,7 +66,7 @@ makes_empty schema table text making plain old new count nothing ran =
 
 -- ---- the row of the office
 
-abbrev office_at : Table
+abbrev pub office_at : Table
 office_at = record office_table { tree = 0 }
 
 abbrev office_row : ℤ → Row
@@ -78,13 +78,14 @@ terms = whole_number 1 ∷ lit Null ∷ whole_number 1 ∷ col 0 0 ∷ []
 news_are : (rows : List Row) (east : ℤ) → numbered Chosen rows (map (λ s. cast_row office_at (drop 0 s)) (office_row east ∷ [])) ≡ office_row east ∷ []
 news_are rows east = rw (cast_null, cast_int (pos 1), cast_int east)
 
-none_mean : {K V : Type 0} {IsRow : Row → K → V → Type 0} (rows : List Row) → rows ≡ [] → RowsMean IsRow (λ k. None) rows
+pub none_mean : {K V : Type 0} {IsRow : Row → K → V → Type 0} (rows : List Row) → rows ≡ [] → RowsMean IsRow (λ k. None) rows
 none_mean rows empty = rw empty (record { each = λ row has. absurd has; all = λ k v some. absurd (let e = some in cc); keyed = λ row has. absurd has; apart = λ a b has. absurd has })
 
-adds_one : (east : ℤ) → Adds {K = Unit {0}} (λ one. None) (λ one. Some east) tt east
-adds_one east = record { here = refl; still = λ q w some. absurd (let e = some in cc); either = λ q w some. inl (refl, let e = some in cc) }
+-- the one entry of a map that had none
+pub adds_one : {V : Type 0} (v : V) → Adds {K = Unit {0}} (λ one. None) (λ one. Some v) tt v
+adds_one v = record { here = refl; still = λ q w some. absurd (let e = some in cc); either = λ q w some. inl (refl, let e = some in cc) }
 
-pub puts_office : (old new : State) (count : ℕ) (east : ℤ) → HoldsNothing s6 old.now → Executes insert_office (Int east ∷ []) old new (Ok count) → Holds v1 new.now (no_rows east)
+pub puts_office : (old new : State) (count : ℕ) (east : ℤ) → HoldsNothing s6 old.now → Executes insert_office (Int east ∷ []) old new (Ok count) → Holds v1 new.now (no_rows east 0)
 puts_office old new count east nothing ran =
     let rows = old.now.trees 0 in
     let row = office_row east in
@@ -103,5 +104,8 @@ puts_office old new count east nothing ran =
         receipts = none_mean (new.now.trees 5) (stay.receipts (λ e. omega (arith, e)) ∙ empty.1.1.0);
         files = none_mean (new.now.trees 6) (stay.files (λ e. omega (arith, e)) ∙ empty.1.1.1.0);
         pieces = none_mean (new.now.trees 9) (stay.pieces (λ e. omega (arith, e)) ∙ empty.1.1.1.1.0);
+        unlimited = λ one. (refl, λ limit. refl);
+        rules = λ two. absurd (versions_differ two);
+        limits = λ two. absurd (versions_differ two);
       };
     }

@@ -29,8 +29,8 @@ use Rattle.sqlstatements.proofs.TotalRows.{passes_text}
 use Rattle.sqlstatements.proofs.Steps.{inserts_row, updates_rows}
 
 -- the other tables mean what they did
-others_mean : (v : Version) (tables : Tables) (key : List ℕ → Option Key) (old new : State) → TablesMean v.number old.now.trees tables → OthersStay 1 old.now.trees new.now.trees
-    → RowsMean IsKeyRow key (new.now.trees 1) → TablesMean v.number new.now.trees (record tables { key = key })
+others_mean : (v : Version) (tables : Tables) (key : List ℕ → Option Key) (old new : State) → TablesMean v old.now.trees tables → OthersStay v.schema 1 old.now.trees new.now.trees
+    → RowsMean IsKeyRow key (new.now.trees 1) → TablesMean v new.now.trees (record tables { key = key })
 others_mean v tables key old new means stay keys = record {
   office = rw (stay.office (λ e. omega (arith, e))) means.office;
   keys = keys;
@@ -38,6 +38,9 @@ others_mean v tables key old new means stay keys = record {
   receipts = rw (stay.receipts (λ e. omega (arith, e))) means.receipts;
   files = rw (stay.files (λ e. omega (arith, e))) means.files;
   pieces = rw (stay.pieces (λ e. omega (arith, e))) means.pieces;
+  unlimited = means.unlimited;
+  rules = λ two. rw (stay.rules (ap (λ (w : Version). w.schema) two) (λ e. omega (arith, e))) (means.rules two);
+  limits = λ two. rw (stay.limits (ap (λ (w : Version). w.schema) two) (λ e. omega (arith, e))) (means.limits two);
 }
 
 -- ---- INSERT
@@ -59,7 +62,7 @@ news_are : (rows : List Row) (id : List ℕ) (role : Role) (secret : List ℕ)
 news_are rows id role secret = rw (cast_null, cast_int (role_number role), cast_int (pos 0))
 
 pub puts_key : (v : Version) (ours : IsOurs v.schema) (says : Says v.schema insert_key insert_key_command) (old new : State) (count : ℕ) (tables : Tables) (id : List ℕ) (role : Role) (secret : List ℕ)
-    → old.now.schema ≡ v.schema → TablesMean v.number old.now.trees tables → tables.key id ≡ None
+    → old.now.schema ≡ v.schema → TablesMean v old.now.trees tables → tables.key id ≡ None
     → Executes insert_key (given_key id role secret) old new (Ok count) → Holds v new.now (with_key tables id (new_key role secret))
 puts_key v ours says old new count tables id role secret has means free ran =
     let rows = old.now.trees 1 in
@@ -99,7 +102,7 @@ hits_key id = record {
     number {n} e = ap (cast Integer) e ∙ cast_int n
 
 pub revokes_key : (v : Version) (ours : IsOurs v.schema) (says : Says v.schema update_revoked update_revoked_command) (old new : State) (n : ℕ) (tables : Tables) (id : List ℕ) (key : Key)
-    → old.now.schema ≡ v.schema → TablesMean v.number old.now.trees tables → tables.key id ≡ Some key
+    → old.now.schema ≡ v.schema → TablesMean v old.now.trees tables → tables.key id ≡ Some key
     → Executes update_revoked (given_id id) old new (Ok n) → Holds v new.now (with_key tables id (revoke key))
 revokes_key v ours says old new n tables id key has means there ran =
     let rows = old.now.trees 1 in

@@ -60,7 +60,7 @@ alone Less = refl
 alone Equal = refl
 alone Greater = refl
 
-module _ (v : Version) (tables : Tables) (receipts : List Receipt) (s : State) (means : TablesMean v.number s.now.trees tables) (listed : tables.receipt ≡ slice_get receipts) where
+module _ (v : Version) (tables : Tables) (receipts : List Receipt) (s : State) (means : TablesMean v s.now.trees tables) (listed : tables.receipt ≡ slice_get receipts) where
   abbrev rows : List Row
   rows = s.now.trees 5
 
@@ -103,7 +103,7 @@ module _ (v : Version) (tables : Tables) (receipts : List Receipt) (s : State) (
       is ∙ ap (λ x. (x ∷ []) ∷ []) (e.2 ∙ ap (λ m. Int (pos m)) number)
 
 pub last_number : (v : Version) (asks : Asks v.schema next_number next_number_command) (old new : State) (tables : Tables) (receipts : List Receipt) (rows : List Row)
-    → old.now.schema ≡ v.schema → TablesMean v.number old.now.trees tables → tables.receipt ≡ slice_get receipts → Shown next_number [] old new rows → rows ≡ last_rows (length receipts)
+    → old.now.schema ≡ v.schema → TablesMean v old.now.trees tables → tables.receipt ≡ slice_get receipts → Shown next_number [] old new rows → rows ≡ last_rows (length receipts)
 last_number v asks old new tables receipts rows has means listed h =
     let read = reads_as next_number [] old new v.schema has next_number_command asks.says.is asks.says.plain asks.unlisted rows h in
     let it = arranged 5 [] (col 1 0 ∷ []) (falling 0 ∷ []) (whole_number 1) (overlay old.now.trees []) [] rows (read.answer Null) in

@@ -20,3 +20,5 @@ pub mod ClerkRows
 pub mod Numbers
 pub mod FileBytes
 pub mod Chained
+pub mod Upgrades
+pub mod LimitRows

@@ -1,9 +1,6 @@
 -- Questions one after another, and the receipts that they list.
-use Rattle.std.proofs.Common.{◌≡◌, inl, inr, ℕ, ◌+◌, ◌*◌, ◌<◌, ◌≤◌, zero, suc, List, [], ◌∷◌, ◌++◌, map, take, drop, length, slice_get, Option, None, Some, option_map, IsTrue, arith, refl, sym, ap, subst, ◌∙◌}
-use Rattle.std.specs.Prelude.{nat_lt}
-use Rattle.std.proofs.lemmas.Bool.{cases_Bool, ltb-true, ltb-false}
-use Rattle.std.proofs.Math.Seq.{take-add}
-use Rattle.std.proofs.lemmas.List.{take_all, map-append, length-drop, length-take-le}
+use Rattle.std.proofs.Common.{◌≡◌, ℕ, ◌+◌, ◌≤◌, zero, suc, List, [], ◌∷◌, ◌++◌, map, take, drop, length, slice_get, Option, None, Some, option_map, IsTrue, arith, refl, sym, ap, subst, ◌∙◌}
+use Rattle.std.proofs.lemmas.List.{take_all, map-append, length-drop}
 use Rattle.sqlite.specs.State.{State, HasCleanDisk, KeepsCommit, Survives}
 use Rattle.boxes.specs.State.{Receipt}
 use Rattle.std.specs.List.{AllByRecursion}
@@ -11,9 +8,8 @@ use Rattle.boxes.specs.Sound.{IsDigest}
 use Rattle.boxes.specs.declared.rows.ReceiptRow.{ReceiptRow}
 use Rattle.boxes.specs.Rows.{receipt_in, numbered, numbered_receipt}
 use Rattle.sqltables.specs.Schema.{Version, IsVersion}
-use Rattle.sqltables.specs.Tables.{Tables, piece_of}
+use Rattle.sqltables.specs.Tables.{Tables}
 use Rattle.sqltables.specs.Means.{Pends, IsRunning}
-use Rattle.sqlite_value.specs.Order.{Row}
 use Rattle.sqltables.specs.Questions.{IsReceiptOf}
 use Rattle.sqltables.proofs.Building.{survives_then, keeps_then}
 

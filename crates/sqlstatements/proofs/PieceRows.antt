@@ -40,22 +40,25 @@ news_are : (rows : List Row) (part : Part) (bytes : List ℕ)
 news_are rows part bytes = rw (cast_null, cast_int (pos part.at))
 
 -- the other tables mean what they did
-others_mean : (v : Version) (tables after : Tables) (old new : State) → TablesMean v.number old.now.trees tables → OthersStay 9 old.now.trees new.now.trees
-    → (pieces : RowsMean IsPieceRow after.piece (new.now.trees 9)) → after ≡ record tables { piece = after.piece } → TablesMean v.number new.now.trees after
+others_mean : (v : Version) (tables after : Tables) (old new : State) → TablesMean v old.now.trees tables → OthersStay v.schema 9 old.now.trees new.now.trees
+    → (pieces : RowsMean IsPieceRow after.piece (new.now.trees 9)) → after ≡ record tables { piece = after.piece } → TablesMean v new.now.trees after
 others_mean v tables after old new means stay pieces same =
-    let at_tables : TablesMean v.number new.now.trees (record tables { piece = after.piece }) = record {
+    let at_tables : TablesMean v new.now.trees (record tables { piece = after.piece }) = record {
       office = rw (stay.office (λ e. omega (arith, e))) means.office;
       keys = rw (stay.keys (λ e. omega (arith, e))) means.keys;
       boxes = rw (stay.boxes (λ e. omega (arith, e))) means.boxes;
       receipts = rw (stay.receipts (λ e. omega (arith, e))) means.receipts;
       files = rw (stay.files (λ e. omega (arith, e))) means.files;
       pieces = pieces;
+      unlimited = means.unlimited;
+      rules = λ two. rw (stay.rules (ap (λ (w : Version). w.schema) two) (λ e. omega (arith, e))) (means.rules two);
+      limits = λ two. rw (stay.limits (ap (λ (w : Version). w.schema) two) (λ e. omega (arith, e))) (means.limits two);
     } in
-    subst (TablesMean v.number new.now.trees) (sym same) at_tables
+    subst (TablesMean v new.now.trees) (sym same) at_tables
 
 -- in general: `after` has one piece more
 pub adds_piece : (v : Version) (ours : IsOurs v.schema) (says : Says v.schema insert_piece insert_piece_command) (old new : State) (count : ℕ) (tables after : Tables) (part : Part) (bytes : List ℕ)
-    → old.now.schema ≡ v.schema → TablesMean v.number old.now.trees tables → Adds tables.piece after.piece part bytes → after ≡ record tables { piece = after.piece }
+    → old.now.schema ≡ v.schema → TablesMean v old.now.trees tables → Adds tables.piece after.piece part bytes → after ≡ record tables { piece = after.piece }
     → Executes insert_piece (given_piece part bytes) old new (Ok count) → Holds v new.now after
 adds_piece v ours says old new count tables after part bytes has means adds same ran =
     let rows = old.now.trees 9 in
@@ -66,7 +69,7 @@ adds_piece v ours says old new count tables after part bytes has means adds same
     record { schema = done.0.same_schema; sound = done.0.sound; means = others_mean v tables after old new means done.0.stay pieces same }
 
 pub puts_piece : (v : Version) (ours : IsOurs v.schema) (says : Says v.schema insert_piece insert_piece_command) (old new : State) (count : ℕ) (tables : Tables) (part : Part) (bytes : List ℕ)
-    → old.now.schema ≡ v.schema → TablesMean v.number old.now.trees tables → tables.piece part ≡ None
+    → old.now.schema ≡ v.schema → TablesMean v old.now.trees tables → tables.piece part ≡ None
     → Executes insert_piece (given_piece part bytes) old new (Ok count) → Holds v new.now (with_piece tables part bytes)
 puts_piece v ours says old new count tables part bytes has means free ran =
     adds_piece v ours says old new count tables (with_piece tables part bytes) part bytes has means (adds_put tells_parts tables.piece part bytes free) refl ran
@@ -85,7 +88,7 @@ pub passes_place : (place q : Place) (row : Row) → column row 1 ≡ Text q.box
 passes_place place q row box name = rw (box, name, equal_texts q.box place.box, equal_texts q.name place.name, ← by_order q.box place.box, ← by_order q.name place.name) (ap (λ b. same_bytes q.box place.box && b) (and-true (same_bytes q.name place.name)))
 
 pub drops_pieces : (v : Version) (ours : IsOurs v.schema) (says : Says v.schema delete_pieces delete_pieces_command) (old new : State) (count : ℕ) (tables : Tables) (place : Place)
-    → old.now.schema ≡ v.schema → TablesMean v.number old.now.trees tables
+    → old.now.schema ≡ v.schema → TablesMean v old.now.trees tables
     → Executes delete_pieces (given_place place) old new (Ok count) → Holds v new.now (without_pieces tables place)
 drops_pieces v ours says old new count tables place has means ran =
     let rows = old.now.trees 9 in

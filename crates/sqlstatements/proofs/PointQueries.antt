@@ -1,5 +1,5 @@
 -- The questions by key: which rows their WHERE passes, and what they show.
-use Rattle.std.proofs.Common.{◌≡◌, ℕ, ◌+◌, pos, List, [], ◌∷◌, ◌&&◌, Bool, true, false, Some, arith, refl}
+use Rattle.std.proofs.Common.{◌≡◌, ℕ, ◌+◌, pos, List, [], ◌∷◌, Bool, true, Some, arith, refl}
 use Rattle.std.specs.Prelude.{nat_eq}
 use Rattle.std.specs.List.{list_all}
 use Rattle.std.proofs.lemmas.Bool.{eqb-true, eq-eqb}
@@ -9,7 +9,7 @@ use Rattle.sqlite_value.specs.declared.value.Value.TheVariants.{Int, Text}
 use Rattle.sqlite_value.specs.Order.{Row, column}
 use Rattle.sqlite_sql.specs.Term.{Term, col, holds}
 use Rattle.boxes.specs.State.{Place}
-use Rattle.sqltables.specs.Tables.{Tables, IsOfficeRow, IsKeyRow, IsBoxRow, IsReceiptRow, IsFileRow, same_place}
+use Rattle.sqltables.specs.Tables.{Tables, IsOfficeRow, IsKeyRow, IsBoxRow, IsReceiptRow, IsFileRow, IsRulesRow, same_place}
 use Rattle.sqltables.specs.Questions.{shown_office, shown_key, shown_box, shown_totals, shown_receipt, shown_number}
 use Rattle.sqltables.proofs.Forms.{is}
 use Rattle.sqltables.proofs.Rows.{equal_texts, equal_numbers}
@@ -28,12 +28,18 @@ picks_office version tables = record {
   shows = λ row offset is. rw (is.version_is, is.east_is);
 }
 
+pub picks_allowance : (tables : Tables) → Picks IsRulesRow (λ one. Some tables.allowance) (λ a b. true) tells_one [] (col 1 2 ∷ []) shown_number [] tt
+picks_allowance tables = record {
+  passes = λ row q seconds is. refl;
+  shows = λ row seconds is. rw is.allowance_is;
+}
+
 -- ---- by a text
 
 abbrev by_text : List Term
 by_text = is 1 0 ∷ []
 
-passes_text : (text q : List ℕ) (row : Row) → column row 1 ≡ Text q → list_all (holds ((Text text ∷ []) ∷ row ∷ [])) by_text ≡ same_bytes q text
+pub passes_text : (text q : List ℕ) (row : Row) → column row 1 ≡ Text q → list_all (holds ((Text text ∷ []) ∷ row ∷ [])) by_text ≡ same_bytes q text
 passes_text text q row is = rw (is, equal_texts q text, ← by_order q text) (and-true (same_bytes q text))
 
 pub picks_key : (tables : Tables) (id : List ℕ) → Picks IsKeyRow tables.key same_bytes tells_bytes by_text (col 1 2 ∷ col 1 3 ∷ col 1 4 ∷ []) shown_key (Text id ∷ []) id

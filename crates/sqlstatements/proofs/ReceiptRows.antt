@@ -1,5 +1,5 @@
 -- The INSERT of a receipt.
-use Rattle.std.proofs.Common.{◌≡◌, ℕ, ◌+◌, pos, List, [], ◌∷◌, map, drop, None, Ok, arith, refl}
+use Rattle.std.proofs.Common.{◌≡◌, ℕ, ◌+◌, pos, List, [], ◌∷◌, map, drop, None, Ok, arith, refl, ap}
 use Rattle.std.specs.Prelude.{nat_eq}
 use Rattle.sqlite_value.specs.declared.value.Value.TheVariants.{Null, Int, Text, Blob}
 use Rattle.sqlite_value.specs.Order.{Row}
@@ -34,7 +34,7 @@ news_are : (rows : List Row) (at : ℕ) (r : Receipt) → numbered Chosen rows (
 news_are rows at r = rw (cast_null, cast_int (pos (at + 1)), cast_int (pos r.size), cast_int (pos r.moment))
 
 pub puts_receipt : (v : Version) (ours : IsOurs v.schema) (says : Says v.schema insert_receipt insert_receipt_command) (old new : State) (count : ℕ) (tables : Tables) (at : ℕ) (r : Receipt)
-    → old.now.schema ≡ v.schema → TablesMean v.number old.now.trees tables → tables.receipt at ≡ None → Executes insert_receipt (given_receipt at r) old new (Ok count)
+    → old.now.schema ≡ v.schema → TablesMean v old.now.trees tables → tables.receipt at ≡ None → Executes insert_receipt (given_receipt at r) old new (Ok count)
     → Holds v new.now (with_receipt tables at r)
 puts_receipt v ours says old new count tables at r has means free ran =
     let rows = old.now.trees 5 in
@@ -55,5 +55,8 @@ puts_receipt v ours says old new count tables at r has means free ran =
         receipts = receipts;
         files = rw (stay.files (λ e. omega (arith, e))) means.files;
         pieces = rw (stay.pieces (λ e. omega (arith, e))) means.pieces;
+        unlimited = means.unlimited;
+        rules = λ two. rw (stay.rules (ap (λ (w : Version). w.schema) two) (λ e. omega (arith, e))) (means.rules two);
+        limits = λ two. rw (stay.limits (ap (λ (w : Version). w.schema) two) (λ e. omega (arith, e))) (means.limits two);
       };
     }

@@ -34,7 +34,7 @@ use Rattle.sqltables.proofs.Restrict.{one_step}
 pub record Leaves (schema : Schema) (tree : ℕ) (old new : Database) : Type 0 where
   pub same_schema : new.schema ≡ schema
   pub sound : IsWhole new
-  pub stay : OthersStay tree old.trees new.trees
+  pub stay : OthersStay schema tree old.trees new.trees
 
 pub record Inserted (rows after : List Row) (row : Row) : Type 0 where
   pub fresh : are_fresh rows (row ∷ []) ≡ true

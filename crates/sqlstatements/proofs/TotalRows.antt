@@ -25,8 +25,8 @@ use Rattle.sqltables.proofs.Keys.{sets_put, tells_bytes, by_order}
 use Rattle.sqlstatements.proofs.Steps.{updates_rows}
 
 -- the other tables mean what they did
-pub boxes_mean : (v : Version) (tables : Tables) (box : List ℕ → Option Box) (old new : State) → TablesMean v.number old.now.trees tables → OthersStay 3 old.now.trees new.now.trees
-    → RowsMean IsBoxRow box (new.now.trees 3) → TablesMean v.number new.now.trees (record tables { box = box })
+pub boxes_mean : (v : Version) (tables : Tables) (box : List ℕ → Option Box) (old new : State) → TablesMean v old.now.trees tables → OthersStay v.schema 3 old.now.trees new.now.trees
+    → RowsMean IsBoxRow box (new.now.trees 3) → TablesMean v new.now.trees (record tables { box = box })
 boxes_mean v tables box old new means stay boxes = record {
   office = rw (stay.office (λ e. omega (arith, e))) means.office;
   keys = rw (stay.keys (λ e. omega (arith, e))) means.keys;
@@ -34,6 +34,9 @@ boxes_mean v tables box old new means stay boxes = record {
   receipts = rw (stay.receipts (λ e. omega (arith, e))) means.receipts;
   files = rw (stay.files (λ e. omega (arith, e))) means.files;
   pieces = rw (stay.pieces (λ e. omega (arith, e))) means.pieces;
+  unlimited = means.unlimited;
+  rules = λ two. rw (stay.rules (ap (λ (w : Version). w.schema) two) (λ e. omega (arith, e))) (means.rules two);
+  limits = λ two. rw (stay.limits (ap (λ (w : Version). w.schema) two) (λ e. omega (arith, e))) (means.limits two);
 }
 
 abbrev pub given_totals : List ℕ → ℕ → ℕ → Row
@@ -82,7 +85,7 @@ hits_box name used count = record {
     number {n} e = ap (cast Integer) e ∙ cast_int n
 
 pub sets_totals : (v : Version) (ours : IsOurs v.schema) (says : Says v.schema update_totals update_totals_command) (old new : State) (n : ℕ) (tables : Tables) (name : List ℕ) (box : Box) (used count : ℕ)
-    → old.now.schema ≡ v.schema → TablesMean v.number old.now.trees tables → tables.box name ≡ Some box
+    → old.now.schema ≡ v.schema → TablesMean v old.now.trees tables → tables.box name ≡ Some box
     → Executes update_totals (given_totals name used count) old new (Ok n) → Holds v new.now (with_box tables name (with_totals used count box))
 sets_totals v ours says old new n tables name box used count has means there ran =
     let rows = old.now.trees 3 in

@@ -2,11 +2,11 @@
 
 ghost use Rattle.std.specs.Prelude.{◌≡◌, ◌+◌, ℕ, IsTrue, None, Some, is_some, IfOk, OnOk};
 ghost use Rattle.boxes.specs.State.{Receipt, State};
-ghost use Rattle.boxes.specs.Steps.{AddKey, RevokeKey, AddBox, CloseBox, DropFile};
+ghost use Rattle.boxes.specs.Steps.{AddKey, RevokeKey, AddBox, CloseBox, DropFile, LimitKey, SetAllowance};
 ghost use Rattle.boxes.specs.Rows.{settings_of};
 ghost use Rattle.boxes.specs.Sound.{IsSound};
 ghost use Rattle.boxes.specs.Changes.{IsFileSet, IsObeyed, IsChangeOf, command_of};
-ghost use Rattle.sqltables.specs.Schema.{Version, IsVersion};
+ghost use Rattle.sqltables.specs.Schema.{Version, IsVersion, v2};
 ghost use Rattle.sqltables.specs.Tables.{Tables, Box, placed, tables_of};
 ghost use Rattle.sqltables.specs.Changes.{with_file, with_receipt, without_pieces, with_upload, with_drop, with_totals, with_box};
 ghost use Rattle.sqltables.specs.Inside.{seen, GoesOnInside, GoesOnBegun};
@@ -16,8 +16,8 @@ use crate::box_rows::insert_box;
 use crate::questions::totals;
 use crate::standing::standing_size;
 use crate::statements::{
-    delete_file, delete_pieces, insert_file, insert_key, insert_pieces, insert_receipt,
-    update_closes, update_file, update_revoked, update_totals,
+    delete_file, delete_pieces, insert_file, insert_key, insert_limit, insert_pieces,
+    insert_receipt, update_allowance, update_closes, update_file, update_revoked, update_totals,
 };
 use boxes::{BoxRow, Change, Command, NewFile, Role, Totals};
 use sqlite::{Alter, Error, ErrorCode, Transaction};
@@ -261,13 +261,35 @@ fn drop_file<S: Alter>(tx: &mut Transaction<'_, S>, in_box: &[u8], name: &[u8]) 
     take_rows(tx, in_box, name, left)
 }
 
+/// Limits a key to this box, beside those that it is limited to already.
+fn limit_key<S: Alter>(tx: &mut Transaction<'_, S>, id: &[u8], in_box: &[u8]) -> Result<(), Error>
+    ensures done { (s after : State) → Pends v2 (seen S.Store tx.old) (tables_of s)
+        → IsObeyed s (LimitKey id.now in_box.now) after
+        → OnOk result (Pends v2 (seen S.Store tx.new) (tables_of after)) }
+    ensures rest { GoesOnInside S.Store tx.old tx.new result }
+{
+    insert_limit(tx, text_of(id)?, text_of(in_box)?)
+}
+
+/// Sets by how many seconds a link may begin early.
+fn set_allowance<S: Alter>(tx: &mut Transaction<'_, S>, seconds: u64) -> Result<(), Error>
+    ensures done { (s after : State) → Pends v2 (seen S.Store tx.old) (tables_of s)
+        → IsObeyed s (SetAllowance seconds) after
+        → OnOk result (Pends v2 (seen S.Store tx.new) (tables_of after)) }
+    ensures rest { GoesOnInside S.Store tx.old tx.new result }
+{
+    let Ok(seconds) = u32::try_from(seconds) else {
+        return Err(TOO_BIG);
+    };
+    update_allowance(tx, seconds)
+}
+
 /// Does what a command of the desk says.
 fn obey<S: Alter>(tx: &mut Transaction<'_, S>, command: &Command<'_>) -> Result<(), Error>
-    ensures done { (v : Version) (s after : State) → IsVersion v
-        → Pends v (seen S.Store tx.old) (tables_of s) → IsSound s
+    ensures done { (s after : State) → Pends v2 (seen S.Store tx.old) (tables_of s) → IsSound s
         → IsObeyed s (command_of command.now) after
         → IsTrue (seen S.Store tx.old).in_transaction
-        → OnOk result (Pends v (seen S.Store tx.new) (tables_of after)) }
+        → OnOk result (Pends v2 (seen S.Store tx.new) (tables_of after)) }
     ensures rest { GoesOnBegun S.Store tx.old tx.new result }
 {
     match command {
@@ -276,15 +298,16 @@ fn obey<S: Alter>(tx: &mut Transaction<'_, S>, command: &Command<'_>) -> Result<
         Command::AddBox { name, row } => add_box(tx, name, row),
         Command::CloseBox { name, moment } => close_box(tx, name, *moment),
         Command::DropFile { in_box, name } => drop_file(tx, in_box, name),
+        Command::LimitKey { id, in_box } => limit_key(tx, id, in_box),
+        Command::SetAllowance { seconds } => set_allowance(tx, *seconds),
     }
 }
 
 /// Writes what the change says.
 pub fn write_change<S: Alter>(tx: &mut Transaction<'_, S>, change: &Change<'_>) -> Result<(), Error>
-    ensures done { (v : Version) (s after : State) → IsVersion v
-        → Pends v (seen S.Store tx.old) (tables_of s) → IsSound s → IsChangeOf s change.now after
-        → IsTrue (seen S.Store tx.old).in_transaction
-        → OnOk result (Pends v (seen S.Store tx.new) (tables_of after)) }
+    ensures done { (s after : State) → Pends v2 (seen S.Store tx.old) (tables_of s) → IsSound s
+        → IsChangeOf s change.now after → IsTrue (seen S.Store tx.old).in_transaction
+        → OnOk result (Pends v2 (seen S.Store tx.new) (tables_of after)) }
     ensures rest { GoesOnBegun S.Store tx.old tx.new result }
 {
     match change {

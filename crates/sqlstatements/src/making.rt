@@ -1,31 +1,37 @@
-//! The tables of a new office, inside a transaction.
+//! The tables of a new office, and those that version 2 adds, inside a transaction.
 
-ghost use Rattle.std.specs.Prelude.{OnOk, false};
+ghost use Rattle.std.specs.Prelude.{ℕ, List, [], ◌∷◌, OnOk, false};
 ghost use Rattle.boxes.specs.declared.rows.Role.TheVariants.{Clerk};
 ghost use Rattle.sqlite_schema.specs.declared.schema.Schema.{Schema};
-ghost use Rattle.sqltables.specs.Schema.{v1, s0, s6};
-ghost use Rattle.sqltables.specs.Changes.{no_rows, with_key};
+ghost use Rattle.sqltables.specs.Schema.{v1, v2, s0, s6, s9};
+ghost use Rattle.sqltables.specs.Changes.{no_rows, with_allowance, with_key};
 ghost use Rattle.sqltables.specs.Inside.{seen, GoesOnInside};
-ghost use Rattle.sqltables.specs.Means.{SeesNothing, Pends, Creates};
+ghost use Rattle.sqltables.specs.Means.{SeesNothing, Pends, Creates, SeesMore, SeesRules, AddsTable};
+ghost use Rattle.sqltables.specs.Tables.{Tables};
 
 use crate::statements::insert_key;
 use boxes::Role;
+use sigv4::Allowance;
 use sqlite::{Alter, Error, Transaction, params};
 use sqltables::calls::execute;
 
-/// A table, made by a text that creates it among those that are there.
+/// A table without a row, made by a text that creates it among those that are there.
 fn create_table<S: Alter>(tx: &mut Transaction<'_, S>, sql: &str) -> Result<(), Error>
     ensures done { (before after : Schema)
         → Creates sql.now before after (seen S.Store tx.old) (seen S.Store tx.new)
         → SeesNothing before (seen S.Store tx.old)
         → OnOk result (SeesNothing after (seen S.Store tx.new)) }
+    ensures added { (before after : Schema) (empty more : List ℕ) (tables : Tables)
+        → AddsTable sql.now before after empty more tables (seen S.Store tx.old) (seen S.Store tx.new)
+        → SeesMore before empty (seen S.Store tx.old) tables
+        → OnOk result (SeesMore after more (seen S.Store tx.new) tables) }
     ensures rest { GoesOnInside S.Store tx.old tx.new result }
 {
     execute(tx, sql, &[])?;
     Ok(())
 }
 
-/// The six tables: the office's own, its keys, its boxes, its receipts, its files without their bytes, and those bytes.
+/// The six tables of version 1: the office's own, its keys, its boxes, its receipts, its files without their bytes, and those bytes.
 fn create_tables<S: Alter>(tx: &mut Transaction<'_, S>) -> Result<(), Error>
     ensures done { SeesNothing s0 (seen S.Store tx.old)
         → OnOk result (SeesNothing s6 (seen S.Store tx.new)) }
@@ -57,10 +63,10 @@ fn create_tables<S: Alter>(tx: &mut Transaction<'_, S>) -> Result<(), Error>
     )
 }
 
-/// The row of the office: its version, and the offset of its clock east of UTC, in minutes.
+/// The row of the office: version 1, and the offset of its clock east of UTC, in minutes.
 fn insert_office<S: Alter>(tx: &mut Transaction<'_, S>, east: i16) -> Result<(), Error>
     ensures done { SeesNothing s6 (seen S.Store tx.old)
-        → OnOk result (Pends v1 (seen S.Store tx.new) (no_rows east)) }
+        → OnOk result (Pends v1 (seen S.Store tx.new) (no_rows east 0)) }
     ensures rest { GoesOnInside S.Store tx.old tx.new result }
 {
     execute(
@@ -71,20 +77,73 @@ fn insert_office<S: Alter>(tx: &mut Transaction<'_, S>, east: i16) -> Result<(),
     Ok(())
 }
 
-/// The tables of an office that has one key, a clerk's, and nothing else.
+/// The three tables that version 2 adds: the office's rules, the boxes of limited keys, and what is staged.
+fn add_tables<S: Alter>(tx: &mut Transaction<'_, S>) -> Result<(), Error>
+    ensures done { (tables : Tables) → Pends v1 (seen S.Store tx.old) tables
+        → OnOk result (SeesMore s9 (14 ∷ 12 ∷ 11 ∷ []) (seen S.Store tx.new) tables) }
+    ensures rest { GoesOnInside S.Store tx.old tx.new result }
+{
+    create_table(
+        tx,
+        "CREATE TABLE rules (id INTEGER PRIMARY KEY NOT NULL CHECK (id = 1), allowance INTEGER NOT NULL CHECK (allowance BETWEEN 0 AND 900)) STRICT",
+    )?;
+    create_table(
+        tx,
+        "CREATE TABLE key_box (key_id TEXT NOT NULL REFERENCES keys (id) ON DELETE RESTRICT ON UPDATE RESTRICT, box TEXT NOT NULL REFERENCES boxes (name) ON DELETE RESTRICT ON UPDATE RESTRICT, PRIMARY KEY (key_id, box)) STRICT",
+    )?;
+    create_table(
+        tx,
+        "CREATE TABLE staged (part INTEGER PRIMARY KEY NOT NULL, bytes BLOB NOT NULL) STRICT",
+    )
+}
+
+/// The row of the rules: by how many seconds a link may begin early.
+fn insert_rules<S: Alter>(tx: &mut Transaction<'_, S>, seconds: u32) -> Result<(), Error>
+    ensures done { (tables : Tables) → SeesMore s9 (14 ∷ 12 ∷ 11 ∷ []) (seen S.Store tx.old) tables
+        → OnOk result (SeesRules (seen S.Store tx.new) tables seconds) }
+    ensures rest { GoesOnInside S.Store tx.old tx.new result }
+{
+    execute(tx, "INSERT INTO rules VALUES (1, ?1)", params![seconds])?;
+    Ok(())
+}
+
+/// The office's row says version 2.
+fn update_version<S: Alter>(tx: &mut Transaction<'_, S>) -> Result<(), Error>
+    ensures done { (tables : Tables) (seconds : ℕ) → SeesRules (seen S.Store tx.old) tables seconds
+        → OnOk result (Pends v2 (seen S.Store tx.new) (with_allowance tables seconds)) }
+    ensures rest { GoesOnInside S.Store tx.old tx.new result }
+{
+    execute(tx, "UPDATE office SET version = 2", &[])?;
+    Ok(())
+}
+
+/// Makes the tables of an office of version 1 those of version 2. All rows stay, and no key is limited.
+pub fn upgrade<S: Alter>(tx: &mut Transaction<'_, S>, allowance: Allowance) -> Result<(), Error>
+    ensures done { (tables : Tables) → Pends v1 (seen S.Store tx.old) tables
+        → OnOk result (Pends v2 (seen S.Store tx.new) (with_allowance tables allowance)) }
+    ensures rest { GoesOnInside S.Store tx.old tx.new result }
+{
+    add_tables(tx)?;
+    insert_rules(tx, allowance.seconds() as u32)?;
+    update_version(tx)
+}
+
+/// The tables of an office of version 2 that has one key, a clerk's, and nothing else: an office of version 1 is made first.
 pub fn make_office<S: Alter>(
     tx: &mut Transaction<'_, S>,
     east: i16,
+    allowance: Allowance,
     id: &str,
     secret: &[u8],
 ) -> Result<(), Error>
     ensures done { SeesNothing s0 (seen S.Store tx.old)
-        → OnOk result (Pends v1 (seen S.Store tx.new)
-        (with_key (no_rows east) id.now
+        → OnOk result (Pends v2 (seen S.Store tx.new)
+        (with_key (no_rows east allowance) id.now
         (record { role = Clerk; secret = secret.now; revoked = false }))) }
     ensures rest { GoesOnInside S.Store tx.old tx.new result }
 {
     create_tables(tx)?;
     insert_office(tx, east)?;
-    insert_key(tx, id, Role::Clerk, secret)
+    insert_key(tx, id, Role::Clerk, secret)?;
+    upgrade(tx, allowance)
 }

@@ -1,6 +1,6 @@
 //! Questions inside a transaction. They change nothing.
 
-ghost use Rattle.std.specs.Prelude.{◌≡◌, ◌+◌, ◌-◌, ℕ, List, length, map, take, drop, slice_get, None, Some, IsTrue, OnOk, IfOk, option_map};
+ghost use Rattle.std.specs.Prelude.{◌≡◌, ◌↔◌, ◌+◌, ◌-◌, ℕ, List, length, map, take, drop, slice_get, None, Some, IsTrue, OnOk, IfOk, option_map};
 ghost use Rattle.std.specs.FinMap.{get};
 ghost use Rattle.std.specs.List.{AllByRecursion};
 ghost use Rattle.sqlite.specs.State.{HasCleanDisk};
@@ -14,11 +14,12 @@ ghost use Rattle.boxes.specs.Clerks.{clerks};
 ghost use Rattle.boxes.specs.Sound.{AreSettings, IsDigest};
 ghost use Rattle.sqltables.specs.Schema.{Version, IsVersion};
 ghost use Rattle.sqltables.specs.Tables.{Tables, Box, piece_of, placed};
-ghost use Rattle.sqltables.specs.Inside.{seen, GoesOnWhere, GoesOnBegun, Still, FindsIn};
+ghost use Rattle.sqltables.specs.Inside.{seen, GoesOnWhere, GoesOnBegun, Still, FindsIn, StillSecond, FindsInSecond};
 ghost use Rattle.sqltables.specs.Means.{Pends, IsRunning};
-ghost use Rattle.sqltables.specs.Questions.{last_rows, ShowsRow, shown_office, shown_key, shown_box, shown_totals, shown_receipt, shown_number, AreTotalsOf, IsReceiptOf, AreActing, different_texts};
+ghost use Rattle.sqltables.specs.Questions.{last_rows, ShowsRow, shown_office, shown_key, shown_box, shown_totals, shown_receipt, shown_number, AreTotalsOf, IsReceiptOf, AreActing, different_texts, AreLimits, HasLimit, ReachesBox, ShowsText};
 
 use boxes::{BoxRow, KeyRow, ReceiptRow, Totals};
+use sigv4::Allowance;
 use sqlite::types::ValueRef;
 use sqlite::{Alter, Error, ErrorCode, Row, Transaction, params};
 use sqltables::calls::query;
@@ -148,6 +149,87 @@ pub fn east<S: Alter>(tx: &mut Transaction<'_, S>) -> Result<i16, Error>
         Ok(east) => Ok(east),
         Err(_) => Err(Error::IntegralValueOutOfRange(1)),
     }
+}
+
+/// The row of the rules: the allowance.
+fn select_allowance<S: Alter>(tx: &mut Transaction<'_, S>) -> Result<Option<Row>, Error>
+    ensures found { FindsInSecond S.Store tx.old tx.new result
+        (λ tables row. row ≡ Some (shown_number tables.allowance)) }
+    ensures still { StillSecond S.Store tx.old tx.new result }
+    ensures rest { GoesOnBegun S.Store tx.old tx.new result }
+{
+    select_row(tx, "SELECT allowance FROM rules", &[])
+}
+
+/// By how much a link may begin early.
+pub fn allowance<S: Alter>(tx: &mut Transaction<'_, S>) -> Result<Allowance, Error>
+    ensures found { FindsInSecond S.Store tx.old tx.new result
+        (λ tables allowance. allowance ≡ tables.allowance) }
+    ensures still { StillSecond S.Store tx.old tx.new result }
+    ensures rest { GoesOnBegun S.Store tx.old tx.new result }
+{
+    let Some(row) = select_allowance(tx)? else {
+        return Err(Error::QueryReturnedNoRows);
+    };
+    match Allowance::new(row.get(0)?) {
+        Some(allowance) => Ok(allowance),
+        None => Err(Error::IntegralValueOutOfRange(0)),
+    }
+}
+
+/// The rows of the boxes that a key is limited to, each a name, in no order.
+fn select_limits<S: Alter>(tx: &mut Transaction<'_, S>, id: &str) -> Result<Vec<Row>, Error>
+    ensures found { FindsInSecond S.Store tx.old tx.new result
+        (λ tables rows. AreLimits tables.limit id.now rows.items) }
+    ensures still { StillSecond S.Store tx.old tx.new result }
+    ensures rest { GoesOnBegun S.Store tx.old tx.new result }
+{
+    query(tx, "SELECT box FROM key_box WHERE key_id = ?1", params![id])
+}
+
+/// Whether one of the rows has this text first. A row before it that begins with no text is an error.
+fn shows_text(rows: &[Row], text: &[u8]) -> Result<bool, Error>
+    ensures { IfOk result (λ shown. IsTrue shown ↔ ShowsText rows.now text.now) }
+{
+    for row in rows {
+        if read_text(row, 0)?.as_slice() == text {
+            return Ok(true);
+        }
+    }
+    Ok(false)
+}
+
+/// Whether this box is one of those that the key of this id is limited to.
+pub fn has_limit<S: Alter>(
+    tx: &mut Transaction<'_, S>,
+    id: &str,
+    in_box: &[u8],
+) -> Result<bool, Error>
+    ensures found { FindsInSecond S.Store tx.old tx.new result
+        (λ tables has. IsTrue has ↔ HasLimit tables id.now in_box.now) }
+    ensures still { StillSecond S.Store tx.old tx.new result }
+    ensures rest { GoesOnBegun S.Store tx.old tx.new result }
+{
+    let rows = select_limits(tx, id)?;
+    shows_text(&rows, in_box)
+}
+
+/// Whether the key of this id may use this box: it is limited to no box, or to this one among others.
+pub fn may_use<S: Alter>(
+    tx: &mut Transaction<'_, S>,
+    id: &str,
+    in_box: &[u8],
+) -> Result<bool, Error>
+    ensures found { FindsInSecond S.Store tx.old tx.new result
+        (λ tables may. IsTrue may ↔ ReachesBox tables id.now in_box.now) }
+    ensures still { StillSecond S.Store tx.old tx.new result }
+    ensures rest { GoesOnBegun S.Store tx.old tx.new result }
+{
+    let rows = select_limits(tx, id)?;
+    if rows.is_empty() {
+        return Ok(true);
+    }
+    shows_text(&rows, in_box)
 }
 
 /// The key of this id.

@@ -2,9 +2,9 @@
 
 ghost use Rattle.std.specs.Prelude.{⊤, ◌≡◌, ◌≤◌, ◌+◌, ℕ, length, pos, None, Some, true, false, OnOk};
 ghost use Rattle.boxes.specs.State.{Key, Receipt};
-ghost use Rattle.sqltables.specs.Schema.{Version, IsVersion};
+ghost use Rattle.sqltables.specs.Schema.{Version, IsVersion, v2};
 ghost use Rattle.sqltables.specs.Tables.{Tables, Box, placed};
-ghost use Rattle.sqltables.specs.Changes.{with_key, closing_at, without_file, with_receipt, without_pieces, with_totals, with_box, with_bytes, with_file, NoPieces, AddsPiece};
+ghost use Rattle.sqltables.specs.Changes.{with_key, with_limit, with_allowance, closing_at, without_file, with_receipt, without_pieces, with_totals, with_box, with_bytes, with_file, NoPieces, AddsPiece};
 ghost use Rattle.sqltables.specs.Inside.{seen, GoesOnInside, GoesOnWhere, Turns};
 ghost use Rattle.sqltables.specs.Means.{Pends, IsRunning};
 
@@ -240,5 +240,38 @@ pub(crate) fn delete_file<S: Alter>(
         "DELETE FROM files WHERE box = ?1 AND name = ?2",
         params![in_box, name],
     )?;
+    Ok(())
+}
+
+/// One more box that a key is limited to.
+pub(crate) fn insert_limit<S: Alter>(
+    tx: &mut Transaction<'_, S>,
+    id: &str,
+    in_box: &str,
+) -> Result<(), Error>
+    ensures done { (tables : Tables) → Pends v2 (seen S.Store tx.old) tables
+        → tables.limit (record { key = id.now; box = in_box.now }) ≡ None
+        → OnOk result (Pends v2 (seen S.Store tx.new)
+        (with_limit tables (record { key = id.now; box = in_box.now }))) }
+    ensures rest { GoesOnInside S.Store tx.old tx.new result }
+{
+    execute(
+        tx,
+        "INSERT INTO key_box VALUES (?1, ?2)",
+        params![id, in_box],
+    )?;
+    Ok(())
+}
+
+/// By how many seconds a link may begin early.
+pub(crate) fn update_allowance<S: Alter>(
+    tx: &mut Transaction<'_, S>,
+    seconds: u32,
+) -> Result<(), Error>
+    ensures done { (tables : Tables) → Pends v2 (seen S.Store tx.old) tables
+        → OnOk result (Pends v2 (seen S.Store tx.new) (with_allowance tables seconds)) }
+    ensures rest { GoesOnInside S.Store tx.old tx.new result }
+{
+    execute(tx, "UPDATE rules SET allowance = ?1", params![seconds])?;
     Ok(())
 }

@@ -8,7 +8,7 @@ use Rattle.std.proofs.lemmas.Cmp.{nat_list_cmp_total, tied_itself}
 use Rattle.std.specs.Cmp.Lexicographic.{slice_cmp, lists_ties}
 use Rattle.std.proofs.lemmas.Bool.{cases_Bool, and_parts, false_from_ne_true, eqb-true, eq-eqb}
 use Rattle.sigtext.specs.Bytes.{same_bytes}
-use Rattle.sqltables.specs.Tables.{same_place, same_part, put}
+use Rattle.sqltables.specs.Tables.{same_place, same_part, same_limit, put}
 use Rattle.sqltables.proofs.Maps.{Adds, Sets}
 
 -- the test is true exactly of a value and itself
@@ -72,6 +72,12 @@ pub tells_parts : Tells same_part
 tells_parts = record {
   only = λ a b hit. let parts = and_parts _ _ hit in let place = tells_places.only a.place b.place parts.0 in let at = eqb-true a.at b.at parts.1 in λ i. record { place = place i; at = at i };
   itself = λ a. rw (tells_places.itself a.place, eq-eqb a.at a.at refl);
+}
+
+pub tells_limits : Tells same_limit
+tells_limits = record {
+  only = λ a b hit. let parts = and_parts _ _ hit in let key = tells_bytes.only a.key b.key parts.0 in let box = tells_bytes.only a.box b.box parts.1 in λ i. record { key = key i; box = box i };
+  itself = λ a. rw (tells_bytes.itself a.key, tells_bytes.itself a.box);
 }
 
 pub tells_numbers : Tells nat_eq

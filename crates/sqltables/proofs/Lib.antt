@@ -1,6 +1,7 @@
 pub mod Says
 pub mod Forms
 pub mod Texts
+pub mod AddedTexts
 pub mod Runs
 pub mod Inserts
 pub mod Updates

@@ -1,5 +1,6 @@
 -- What the columns of the pieces are, in a database of the schema.
-use Rattle.std.proofs.Common.{◌≡◌, ◌≢◌, ◌&&◌, Bool, None, ℕ, ℤ, pos, not, length, List, [], ◌∷◌, true, refl, sym, ap, subst, ◌∙◌}
+use Rattle.std.proofs.Common.{◌≡◌, ◌≢◌, ◌&&◌, inl, inr, Bool, None, ℕ, ℤ, pos, not, length, List, [], ◌∷◌, true, refl, sym, ap, subst, ◌∙◌}
+use Rattle.std.specs.List.{AllByRecursion}
 use Rattle.std.proofs.lemmas.Bool.{and_parts}
 use Rattle.sqlite_value.specs.declared.value.Value.{Value}
 use Rattle.sqlite_value.specs.declared.value.Value.TheVariants.{Null, Int, Real, Text, Blob}
@@ -13,7 +14,7 @@ use Rattle.sqlite_schema.specs.declared.schema.Schema.{Schema}
 use Rattle.sqlite_rules.specs.Lists.{Has}
 use Rattle.sqlite_rules.proofs.ListLemmas.{all_has}
 use Rattle.sqlite.specs.Effect.{Database}
-use Rattle.sqltables.specs.Schema.{Version, IsVersion, s6}
+use Rattle.sqltables.specs.Schema.{Version, IsVersion, s6, s9}
 use Rattle.sqltables.specs.Means.{IsWhole}
 use Rattle.sqltables.proofs.Ours.{pieces_at}
 
@@ -79,11 +80,22 @@ columns s db (a ∷ b ∷ []) typed there = absurd (there.1.1.1 refl)
 columns s db (a ∷ b ∷ c ∷ []) typed there = absurd (there.1.1.1 refl)
 columns s db (a ∷ b ∷ c ∷ d ∷ []) typed there = absurd (there.1.1.1 refl)
 
+-- each row keeps these two rules in the table of pieces
+row_columns : (s : Schema) (db : Trees) → AllByRecursion (λ r. passes Datatype s db pieces_at r ≡ true) (db 9) → AllByRecursion (λ r. passes NotNull s db pieces_at r ≡ true) (db 9)
+    → (row : Row) → Has (db 9) row → PieceColumns row
+row_columns s db typed present row there =
+    columns s db row (all_has (λ r. passes Datatype s db pieces_at r ≡ true) (db 9) row typed there)
+    (all_there s db row (all_has (λ r. passes NotNull s db pieces_at r ≡ true) (db 9) row present there))
+
 pub piece_columns : (v : Version) → IsVersion v → (db : Database) → db.schema ≡ v.schema → IsWhole db → (row : Row) → Has (db.trees 9) row → PieceColumns row
-unfolding IsWhole
-piece_columns v ours db has whole row there =
-    let same : db.schema ≡ s6 = has ∙ ap (λ (w : Version). w.schema) ours in
+unfolding IsWhole IsVersion
+piece_columns v (inl is) db has whole =
+    let same : db.schema ≡ s6 = has ∙ ap (λ (w : Version). w.schema) is in
     let typed : Keeps Datatype s6 db.trees = subst (λ s. Keeps Datatype s db.trees) same (whole.obeys.rules Datatype) in
     let present : Keeps NotNull s6 db.trees = subst (λ s. Keeps NotNull s db.trees) same (whole.obeys.rules NotNull) in
-    columns s6 db.trees row (all_has (λ r. passes Datatype s6 db.trees pieces_at r ≡ true) (db.trees 9) row typed.1.1.1.1.1.0 there)
-    (all_there s6 db.trees row (all_has (λ r. passes NotNull s6 db.trees pieces_at r ≡ true) (db.trees 9) row present.1.1.1.1.1.0 there))
+    row_columns s6 db.trees typed.1.1.1.1.1.0 present.1.1.1.1.1.0
+piece_columns v (inr is) db has whole =
+    let same : db.schema ≡ s9 = has ∙ ap (λ (w : Version). w.schema) is in
+    let typed : Keeps Datatype s9 db.trees = subst (λ s. Keeps Datatype s db.trees) same (whole.obeys.rules Datatype) in
+    let present : Keeps NotNull s9 db.trees = subst (λ s. Keeps NotNull s db.trees) same (whole.obeys.rules NotNull) in
+    row_columns s9 db.trees typed.1.1.1.1.1.0 present.1.1.1.1.1.0

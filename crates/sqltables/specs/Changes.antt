@@ -1,12 +1,27 @@
 -- The tables after one statement.
 use Rattle.std.specs.Prelude.{◌≡◌, ◌⊎◌, ℕ, ℤ, ◌+◌, nat_eq, nat_lt, if◌then◌else◌, List, Option, Some, None}
 use Rattle.sigtext.specs.Bytes.{same_bytes}
-use Rattle.boxes.specs.State.{Key, Place, Receipt}
-use Rattle.sqltables.specs.Tables.{Tables, Box, Part, put, without, same_place, same_part, piece_of}
+use Rattle.boxes.specs.State.{Key, Place, Receipt, Limit}
+use Rattle.sqltables.specs.Tables.{Tables, Box, Part, put, without, same_place, same_part, same_limit, piece_of}
 
--- no row but that of the office
-abbrev pub no_rows : ℤ → Tables
-no_rows offset = record { offset = offset; key = λ id. None; box = λ name. None; receipt = λ at. None; file = λ place. None; piece = λ part. None }
+-- no row but that of the office, and that of its allowance
+abbrev pub no_rows : ℤ → ℕ → Tables
+no_rows offset allowance = record {
+  offset = offset;
+  allowance = allowance;
+  key = λ id. None;
+  box = λ name. None;
+  receipt = λ at. None;
+  file = λ place. None;
+  piece = λ part. None;
+  limit = λ limit. None;
+}
+
+abbrev pub with_allowance : Tables → ℕ → Tables
+with_allowance tables seconds = record tables { allowance = seconds }
+
+abbrev pub with_limit : Tables → Limit → Tables
+with_limit tables limit = record tables { limit = put same_limit tables.limit limit tt }
 
 abbrev pub with_key : Tables → List ℕ → Key → Tables
 with_key tables id key = record tables { key = put same_bytes tables.key id key }

@@ -6,7 +6,7 @@ use Rattle.sqlite.specs.declared.error.Error.{Error}
 use Rattle.sqlite.specs.declared.transaction.Transaction.{Transaction}
 use Rattle.sqlite.specs.Held.{state}
 use Rattle.sqlite.specs.State.{State, HasCleanDisk, KeepsCommit, Survives}
-use Rattle.sqltables.specs.Schema.{Version, IsVersion}
+use Rattle.sqltables.specs.Schema.{Version, IsVersion, v2}
 use Rattle.boxes.specs.State.{State as Office}
 use Rattle.boxes.specs.Sound.{IsSound}
 use Rattle.sqltables.specs.Tables.{Tables, tables_of}
@@ -46,6 +46,14 @@ Turns g old new result after = (v : Version) (tables : Tables) → IsVersion v �
 -- an answer says this of the tables
 abbrev pub FindsIn : {S T : Type 0} → Ghosts S → Transaction S → Transaction S → Result T Error → (Tables → T → Type 0) → Type 0
 FindsIn g old new result Says = (v : Version) (tables : Tables) → IsVersion v → Pends v (seen g old) tables
+    → IsTrue (seen g old).in_transaction → HasCleanDisk (seen g new) → IfOk result (Says tables)
+
+-- the same of tables of version 2
+abbrev pub StillSecond : {S T : Type 0} → Ghosts S → Transaction S → Transaction S → Result T Error → Type 0
+StillSecond g old new result = (tables : Tables) → Pends v2 (seen g old) tables → OnOk result (Pends v2 (seen g new) tables)
+
+abbrev pub FindsInSecond : {S T : Type 0} → Ghosts S → Transaction S → Transaction S → Result T Error → (Tables → T → Type 0) → Type 0
+FindsInSecond g old new result Says = (tables : Tables) → Pends v2 (seen g old) tables
     → IsTrue (seen g old).in_transaction → HasCleanDisk (seen g new) → IfOk result (Says tables)
 
 -- while the connection is open it has this schema

@@ -3,17 +3,17 @@ use Rattle.sqlite_trees.specs.Tree.{Trees}
 use Rattle.sqlite.specs.State.{State, HasCleanDisk}
 use Rattle.boxes.specs.State.{State as Office}
 use Rattle.boxes.specs.Sound.{IsSound}
-use Rattle.sqltables.specs.Schema.{v1}
+use Rattle.sqltables.specs.Schema.{v2}
 use Rattle.sqltables.specs.Means.{Means, OfficeMeans}
 
 -- The tables mean this state, which is sound: rows of tables may mean more than one state that is not.
 pub record KeepsState (s : State) (office : Office) : Type 0 where
-  pub means : Means v1 s office
+  pub means : Means v2 s office
   pub sound : IsSound office
 
 -- the rows mean this sound state
 pub record RowsKeep (trees : Trees) (office : Office) : Type 0 where
-  pub means : OfficeMeans v1 trees office
+  pub means : OfficeMeans v2 trees office
   pub sound : IsSound office
 
 -- a crash now may leave rows that mean this state

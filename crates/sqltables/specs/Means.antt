@@ -1,13 +1,13 @@
 -- What a connection holds, and what a crash of it leaves.
-use Rattle.std.specs.Prelude.{◌≡◌, ◌⊎◌, ℕ, List, [], Ok, IsTrue, false}
+use Rattle.std.specs.Prelude.{◌≡◌, ◌⊎◌, ℕ, pos, List, [], Some, Ok, IsTrue, false}
 use Rattle.sqlite_trees.specs.Tree.{Trees}
 use Rattle.sqlite.specs.Effect.{Database, IsDatabase}
 use Rattle.sqlite.specs.State.{State, HasCleanDisk, Executes}
 use Rattle.std.specs.List.{AllByRecursion}
 use Rattle.boxes.specs.State.{State as Office}
 use Rattle.sqlite_schema.specs.declared.schema.Schema.{Schema}
-use Rattle.sqltables.specs.Schema.{Version, s0}
-use Rattle.sqltables.specs.Tables.{Tables, TablesMean, tables_of}
+use Rattle.sqltables.specs.Schema.{Version, s0, s9}
+use Rattle.sqltables.specs.Tables.{Tables, RowsMean, IsRulesRow, IsUnlimited, TablesMean, tables_of}
 
 -- ---- SQL level: what a transaction sees, which may be no office's tables
 
@@ -18,7 +18,7 @@ IsWhole db = IsDatabase db
 pub record Holds (v : Version) (db : Database) (tables : Tables) : Type 0 where
   pub schema : db.schema ≡ v.schema
   pub sound : IsWhole db
-  pub means : TablesMean v.number db.trees tables
+  pub means : TablesMean v db.trees tables
 
 -- what a transaction sees means these tables, if the database is open
 abbrev pub Pends : Version → State → Tables → Type 0
@@ -32,6 +32,32 @@ pub record HoldsNothing (schema : Schema) (db : Database) : Type 0 where
 -- what a transaction sees is this schema without a row, if the database is open
 abbrev pub SeesNothing : Schema → State → Type 0
 SeesNothing schema s = HasCleanDisk s → IsTrue s.in_transaction → IsTrue s.is_open → HoldsNothing schema s.now
+
+-- ---- an office of version 1, on its way to version 2
+
+-- its rows are those of version 1 under this schema, and these trees are empty
+pub record HoldsMore (schema : Schema) (empty : List ℕ) (tables : Tables) (db : Database) : Type 0 where
+  pub holds : Holds (record { number = pos 1; schema = schema }) db tables
+  pub unlimited : IsUnlimited tables
+  pub none : AllByRecursion (λ tree. db.trees tree ≡ []) empty
+
+-- the tables of version 2 are there, and say the allowance; the office's row says version 1 still
+pub record HoldsRules (tables : Tables) (seconds : ℕ) (db : Database) : Type 0 where
+  pub holds : Holds (record { number = pos 1; schema = s9 }) db tables
+  pub unlimited : IsUnlimited tables
+  pub rules : RowsMean IsRulesRow (λ one. Some seconds) (db.trees 11)
+  pub none : db.trees 12 ≡ []
+
+abbrev pub SeesMore : Schema → List ℕ → State → Tables → Type 0
+SeesMore schema empty s tables = HasCleanDisk s → IsTrue s.in_transaction → IsTrue s.is_open → HoldsMore schema empty tables s.now
+
+abbrev pub SeesRules : State → Tables → ℕ → Type 0
+SeesRules s tables seconds = HasCleanDisk s → IsTrue s.in_transaction → IsTrue s.is_open → HoldsRules tables seconds s.now
+
+-- the text was run in such a database, and left one with another table, which is empty
+abbrev pub AddsTable : List ℕ → Schema → Schema → List ℕ → List ℕ → Tables → State → State → Type 0
+AddsTable sql before after empty more tables old new =
+    (count : ℕ) → HoldsMore before empty tables old.now → Executes sql [] old new (Ok count) → HoldsMore after more tables new.now
 
 -- the text was run in a database of the first schema without a row: then it left one of the other, without a row too
 abbrev pub Creates : List ℕ → Schema → Schema → State → State → Type 0

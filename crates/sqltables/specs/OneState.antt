@@ -14,14 +14,15 @@ use Rattle.boxes.specs.declared.rows.Role.{Role}
 use Rattle.boxes.specs.declared.rows.Role.TheVariants.{Clerk, Link}
 use Rattle.boxes.specs.declared.rows.Mode.{Mode}
 use Rattle.boxes.specs.declared.rows.Mode.TheVariants.{Keep, Replace}
-use Rattle.boxes.specs.State.{Key, NameRule, AnyName, Ends, Begins, Settings, Place, File, Receipt, State}
+use Rattle.boxes.specs.State.{Key, NameRule, AnyName, Ends, Begins, Settings, Place, File, Receipt, Limit, State}
 use Rattle.boxes.specs.Sound.{IsSound, AreSettings, IsNameRule, IsRuleText, is_rule_byte}
 use Rattle.boxes.proofs.Lookups.{bytes_total, bytes_same, place_total}
 use Rattle.boxes.proofs.FileTotals.{place_same}
+use Rattle.boxes.proofs.LimitedKeys.{limit_total, limit_same}
 use Rattle.sqlite.specs.State.{HasCleanDisk}
 use Rattle.sqlite.specs.State as sql
-use Rattle.sqltables.specs.Schema.{Version, v1}
-use Rattle.sqltables.specs.Tables.{Box, Part, RowsMean, IsOfficeRow, IsKeyRow, IsBoxRow, IsReceiptRow, IsFileRow, IsPieceRow, TablesMean, tables_of, flag, role_number, mode_number, rule_number, rule_text, joined, days_text, piece_of}
+use Rattle.sqltables.specs.Schema.{Version, IsVersion, second_version, v2}
+use Rattle.sqltables.specs.Tables.{Box, Part, RowsMean, IsOfficeRow, IsKeyRow, IsBoxRow, IsReceiptRow, IsFileRow, IsPieceRow, IsRulesRow, IsLimitRow, TablesMean, tables_of, flag, role_number, mode_number, rule_number, rule_text, joined, days_text, piece_of}
 use Rattle.sqltables.specs.Kept.{KeepsState, RowsKeep}
 
 -- ---- rows, and the look-ups that they mean
@@ -208,6 +209,15 @@ one_piece row k q v w a b x y =
     let at = number_of k.at q.at (sym a.part_is ∙ b.part_is) in
     (λ i. record { place = record { box = box i; name = name i }; at = at i }, blob_of v w (sym a.bytes_is ∙ b.bytes_is))
 
+one_allowance : (row : Row) (k q : Unit {0}) (v w : ℕ) → IsRulesRow row k v → IsRulesRow row q w → Anything v → Anything w → (k ≡ q) × (v ≡ w)
+one_allowance row k q v w a b x y = (refl, number_of v w (sym a.allowance_is ∙ b.allowance_is))
+
+one_limit : (row : Row) (k q : Limit) (v w : Unit {0}) → IsLimitRow row k v → IsLimitRow row q w → Anything v → Anything w → (k ≡ q) × (v ≡ w)
+one_limit row k q v w a b x y =
+    let key = text_of k.key q.key (sym a.key_is ∙ b.key_is) in
+    let box = text_of k.box q.box (sym a.box_is ∙ b.box_is) in
+    (λ i. record { key = key i; box = box i }, refl)
+
 -- ---- bytes, and their pieces
 
 -- the bytes of a piece, if there is one
@@ -277,10 +287,24 @@ module _ (s : State) (sound : IsSound s) where
           let same : settings ≡ b.settings = let f = ap (option_map (λ (c : Box). c.settings)) e in cc in
           subst AreSettings same (sound.boxes name settings some).1
 
-pub one_office : (v : Version) (trees : Trees) (a b : State) → IsSound a → IsSound b → TablesMean v.number trees (tables_of a) → TablesMean v.number trees (tables_of b) → a ≡ b
-one_office v trees a b sound other one two =
+same_allowance : (v : Version) → IsVersion v → (trees : Trees) (a b : State) → TablesMean v trees (tables_of a) → TablesMean v trees (tables_of b) → a.allowance ≡ b.allowance
+unfolding IsVersion
+same_allowance v (inl first) trees a b one two = (one.unlimited first).0 ∙ sym (two.unlimited first).0
+same_allowance v (inr second) trees a b one two =
+    let both : Some a.allowance ≡ Some b.allowance = same_lookup Anything one_allowance (trees 11) (λ u. Some a.allowance) (λ u. Some b.allowance) (λ k v e. tt) (λ k v e. tt) (one.rules second) (two.rules second) tt in
+    cc
+
+same_limits : (v : Version) → IsVersion v → (trees : Trees) (a b : State) → TablesMean v trees (tables_of a) → TablesMean v trees (tables_of b) → (l : Limit) → get a.limits l ≡ get b.limits l
+unfolding IsVersion
+same_limits v (inl first) trees a b one two l = (one.unlimited first).1 l ∙ sym ((two.unlimited first).1 l)
+same_limits v (inr second) trees a b one two l = same_lookup Anything one_limit (trees 12) (get a.limits) (get b.limits) (λ k v e. tt) (λ k v e. tt) (one.limits second) (two.limits second) l
+
+pub one_office : (v : Version) → IsVersion v → (trees : Trees) (a b : State) → IsSound a → IsSound b → TablesMean v trees (tables_of a) → TablesMean v trees (tables_of b) → a ≡ b
+one_office v ours trees a b sound other one two =
     let offset : Some a.offset ≡ Some b.offset = same_lookup Anything (one_offset v.number) (trees 0) (λ u. Some a.offset) (λ u. Some b.offset) (λ k v e. tt) (λ k v e. tt) one.office two.office tt in
     let east : a.offset ≡ b.offset = cc in
+    let allowance = same_allowance v ours trees a b one two in
+    let limits = same_map limit_total limit_same a.limits b.limits (same_limits v ours trees a b one two) in
     let key = same_lookup Anything one_key (trees 1) (get a.keys) (get b.keys) (λ k v e. tt) (λ k v e. tt) one.keys two.keys in
     let box = same_lookup HasSettings one_box (trees 3) (tables_of a).box (tables_of b).box (known_box a sound) (known_box b other) one.boxes two.boxes in
     let receipt = same_lookup Anything one_receipt (trees 5) (slice_get a.receipts) (slice_get b.receipts) (λ k v e. tt) (λ k v e. tt) one.receipts two.receipts in
@@ -290,15 +314,15 @@ one_office v trees a b sound other one two =
     let boxes : a.boxes ≡ b.boxes = same_map bytes_total bytes_same a.boxes b.boxes (λ name. same_settings a b name (box name)) in
     let files : a.files ≡ b.files = same_map place_total place_same a.files b.files (λ place. same_file (get a.files place) (get b.files place) (number place) (λ n. piece (record { place = place; at = n }))) in
     let receipts = same_list a.receipts b.receipts receipt in
-    λ i. record { offset = east i; keys = keys i; boxes = boxes i; files = files i; receipts = receipts i }
+    λ i. record { offset = east i; allowance = allowance i; keys = keys i; boxes = boxes i; files = files i; receipts = receipts i; limits = limits i }
 
 -- rows that a crash leaves mean one sound state
 pub one_left : (trees : Trees) (a b : State) → RowsKeep trees a → RowsKeep trees b → a ≡ b
-one_left trees a b one two = one_office v1 trees a b one.sound two.sound one.means.means two.means.means
+one_left trees a b one two = one_office v2 second_version trees a b one.sound two.sound one.means.means two.means.means
 
 -- an open file means one state
 pub one_kept : (s : sql.State) (a b : State) → HasCleanDisk s → IsTrue s.is_open → KeepsState s a → KeepsState s b → a ≡ b
 one_kept s a b clean is_open one two =
     let first = ((one.means clean).tables is_open).holds in
     let second = ((two.means clean).tables is_open).holds in
-    one_office v1 s.now.trees a b one.sound two.sound first.means second.means
+    one_office v2 second_version s.now.trees a b one.sound two.sound first.means second.means

@@ -1,18 +1,18 @@
 -- What questions show.
-use Rattle.std.specs.Prelude.{◌≡◌, ℕ, ℤ, suc, zero, pos, List, [], ◌∷◌, map, true, Option, Some, None, option_map}
+use Rattle.std.specs.Prelude.{◌≡◌, ℕ, ℤ, suc, zero, pos, List, [], ◌∷◌, map, true, Option, Some, None, IsSome, option_map}
 use Rattle.std.specs.FinSet.{len, from_list}
 use Rattle.sqlite_value.specs.declared.value.Value.{Value}
 use Rattle.sqlite_value.specs.declared.value.Value.TheVariants.{Null, Int, Real, Text, Blob}
 use Rattle.sqlite_value.specs.Order.{Row, column}
 use Rattle.sqlite_rules.specs.Lists.{Has}
 use Rattle.sigtext.specs.Bytes.{bytes_cmp}
-use Rattle.boxes.specs.State.{Key, Receipt}
+use Rattle.boxes.specs.State.{Key, Receipt, Limit}
 use Rattle.boxes.specs.Clerks.{is_acting}
 use Rattle.boxes.specs.declared.totals.Totals.{Totals}
 use Rattle.boxes.specs.declared.rows.ReceiptRow.{ReceiptRow}
 use Rattle.boxes.specs.Rows.{receipt_in}
 use Rattle.sqlite.specs.State.{State, Shown}
-use Rattle.sqltables.specs.Tables.{Box, role_number, flag, days_text, mode_number, rule_number, rule_text}
+use Rattle.sqltables.specs.Tables.{Tables, Box, role_number, flag, days_text, mode_number, rule_number, rule_text}
 
 -- the number of the last of so many receipts, if there is one
 abbrev pub last_rows : ℕ → List Row
@@ -55,6 +55,24 @@ AreTotalsOf (Some b) t = (t.used ≡ b.used) × (t.count ≡ b.count)
 abbrev pub IsReceiptOf : ℕ → Option Receipt → Option ReceiptRow → Type 0
 IsReceiptOf number there found = (option_map receipt_in found ≡ there) × ((r : ReceiptRow) → found ≡ Some r → r.number ≡ number)
 
+-- ---- the boxes that a key is limited to
+
+abbrev pub shown_name : List ℕ → Row
+shown_name name = Text name ∷ []
+
+-- the key's set of boxes holds this box
+abbrev pub HasLimit : Tables → List ℕ → List ℕ → Type 0
+HasLimit tables key box = IsSome (tables.limit (record { key = key; box = box }))
+
+-- the key's set of boxes is empty, or holds this box
+abbrev pub ReachesBox : Tables → List ℕ → List ℕ → Type 0
+ReachesBox tables key box = (other : List ℕ) × HasLimit tables key other → HasLimit tables key box
+
+-- the rows, as a set, are the names of these boxes
+pub record AreLimits (lookup : Limit → Option (Unit {0})) (key : List ℕ) (rows : List Row) : Type 0 where
+  pub sound : (row : Row) → Has rows row → (box : List ℕ) × (row ≡ shown_name box) × IsSome (lookup (record { key = key; box = box }))
+  pub complete : (box : List ℕ) → IsSome (lookup (record { key = key; box = box })) → Has rows (shown_name box)
+
 -- ---- the unrevoked clerk's keys
 
 abbrev pub shown_id : List ℕ → Row
@@ -75,6 +93,12 @@ text_in (Blob bytes) = []
 
 abbrev pub first_text : Row → List ℕ
 first_text row = text_in (column row 0)
+
+-- a row has this text first
+pub record ShowsText (rows : List Row) (text : List ℕ) : Type 0 where
+  pub row : Row
+  pub there : Has rows row
+  pub first : first_text row ≡ text
 
 -- how many different texts stand first in the rows
 abbrev pub different_texts : List Row → ℕ

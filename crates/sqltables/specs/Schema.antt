@@ -1,5 +1,6 @@
 -- The tables of an office, as their CREATE statements make them, in this order.
-use Rattle.std.specs.Prelude.{◌≡◌, true, false, [], ◌∷◌, Some, None, codes, List, ℕ, ℤ, pos, negsuc}
+use Rattle.std.specs.Prelude.{◌≡◌, ◌⊎◌, true, false, [], ◌∷◌, Some, None, codes, List, ℕ, ℤ, pos, negsuc}
+use Rattle.std.proofs.Common.{inl, inr, refl}
 use Rattle.sqlite_value.specs.declared.keys.Collation.TheVariants.{Binary}
 use Rattle.sqlite_value.specs.declared.value.Value.TheVariants.{Null, Int}
 use Rattle.sqlite_sql.specs.Term.{Term, lit, col, op2}
@@ -90,6 +91,17 @@ abbrev pub pieces_table : Table
 pieces_table = keyed_by (1 ∷ 2 ∷ 3 ∷ []) (table (codes "pieces") (text (codes "box") ∷ text (codes "name") ∷ integer (codes "part") ∷ blob (codes "bytes") ∷ []) []
     (refers (1 ∷ 2 ∷ []) (codes "files") (codes "box" ∷ codes "name" ∷ []) ∷ []))
 
+abbrev pub rules_table : Table
+rules_table = numbered (table (codes "rules") (integer (codes "id") ∷ integer (codes "allowance") ∷ [])
+    (op2 (Compare Eq Binary) (col 1 0) (lit (Int (pos 1))) ∷ between 2 (pos 0) (pos 900) ∷ []) [])
+
+abbrev pub key_box_table : Table
+key_box_table = keyed_by (1 ∷ 2 ∷ []) (table (codes "key_box") (text (codes "key_id") ∷ text (codes "box") ∷ []) []
+    (refers (1 ∷ []) (codes "keys") (codes "id" ∷ []) ∷ refers (2 ∷ []) (codes "boxes") (codes "name" ∷ []) ∷ []))
+
+abbrev pub staged_table : Table
+staged_table = numbered (table (codes "staged") (integer (codes "part") ∷ blob (codes "bytes") ∷ []) [] [])
+
 abbrev pub s0 : Schema
 s0 = record { tables = []; indexes = []; views = [] }
 
@@ -112,9 +124,19 @@ s5 = created s4 files_table
 abbrev pub s6 : Schema
 s6 = created s5 pieces_table
 
+abbrev pub s7 : Schema
+s7 = created s6 rules_table
+
+abbrev pub s8 : Schema
+s8 = created s7 key_box_table
+
+-- the schema of version 2
+abbrev pub s9 : Schema
+s9 = created s8 staged_table
+
 -- the schemas with the table of the office itself, as the CREATE statements make them one after another
 abbrev pub begun_schemas : List Schema
-begun_schemas = s1 ∷ s2 ∷ s3 ∷ s4 ∷ s5 ∷ s6 ∷ []
+begun_schemas = s1 ∷ s2 ∷ s3 ∷ s4 ∷ s5 ∷ s6 ∷ s7 ∷ s8 ∷ s9 ∷ []
 
 -- what `version` in the office's row says, and the tables that go with it
 pub record Version : Type 0 where
@@ -124,6 +146,17 @@ pub record Version : Type 0 where
 abbrev pub v1 : Version
 v1 = record { number = pos 1; schema = s6 }
 
--- The versions that there are. Tables of a later one stand behind these.
-abbrev pub IsVersion : Version → Type 0
-IsVersion v = v ≡ v1
+abbrev pub v2 : Version
+v2 = record { number = pos 2; schema = s9 }
+
+-- The versions that there are. What version 2 adds stands behind the tables of version 1.
+unfoldable pub IsVersion : Version → Type 0
+IsVersion v = (v ≡ v1) ⊎ (v ≡ v2)
+
+pub first_version : IsVersion v1
+unfolding IsVersion
+first_version = inl refl
+
+pub second_version : IsVersion v2
+unfolding IsVersion
+second_version = inr refl

@@ -10,8 +10,9 @@ use Rattle.boxes.specs.declared.rows.Role.{Role}
 use Rattle.boxes.specs.declared.rows.Role.TheVariants.{Clerk, Link}
 use Rattle.boxes.specs.declared.rows.Mode.{Mode}
 use Rattle.boxes.specs.declared.rows.Mode.TheVariants.{Keep, Replace}
-use Rattle.boxes.specs.State.{Key, NameRule, AnyName, Ends, Begins, Settings, Place, Receipt, State}
+use Rattle.boxes.specs.State.{Key, NameRule, AnyName, Ends, Begins, Settings, Place, Receipt, Limit, State}
 use Rattle.boxes.specs.Totals.{used, count}
+use Rattle.sqltables.specs.Schema.{Version, v1, v2}
 
 -- ---- the tables as maps
 
@@ -33,17 +34,22 @@ pub record Part : Type 0 where
 -- Each table by its key. No law ties one table to another.
 pub record Tables : Type 0 where
   pub offset : ℤ
+  pub allowance : ℕ
   pub key : List ℕ → Option Key
   pub box : List ℕ → Option Box
   pub receipt : ℕ → Option Receipt  -- the first stands at 0
   pub file : Place → Option ℕ  -- the number of its receipt
   pub piece : Part → Option (List ℕ)
+  pub limit : Limit → Option (Unit {0})
 
 abbrev pub same_place : Place → Place → Bool
 same_place a b = same_bytes a.box b.box && same_bytes a.name b.name
 
 abbrev pub same_part : Part → Part → Bool
 same_part a b = same_place a.place b.place && nat_eq a.at b.at
+
+abbrev pub same_limit : Limit → Limit → Bool
+same_limit a b = same_bytes a.key b.key && same_bytes a.box b.box
 
 -- the map with this entry
 abbrev pub put : {K V : Type 0} → (K → K → Bool) → (K → Option V) → K → V → K → Option V
@@ -65,11 +71,13 @@ piece_of bytes at = if nat_lt (piece_size * at) (length bytes) then Some (take p
 abbrev pub tables_of : State → Tables
 tables_of s = record {
   offset = s.offset;
+  allowance = s.allowance;
   key = get s.keys;
   box = λ name. option_map (λ b. record { settings = b; used = used s name; count = count s name }) (get s.boxes name);
   receipt = slice_get s.receipts;
   file = λ place. option_map (λ f. f.receipt) (get s.files place);
   piece = λ part. option_and_then (λ f. piece_of f.bytes part.at) (get s.files part.place);
+  limit = get s.limits;
 }
 
 -- the tables are those of the state
@@ -168,33 +176,27 @@ pub record IsPieceRow (row : Row) (part : Part) (bytes : List ℕ) : Type 0 wher
   pub part_is : column row 3 ≡ Int (pos part.at)
   pub bytes_is : column row 4 ≡ Blob bytes
 
-pub record TablesMean (version : ℤ) (trees : Trees) (tables : Tables) : Type 0 where
-  pub office : RowsMean (IsOfficeRow version) (λ one. Some tables.offset) (trees 0)
+pub record IsRulesRow (row : Row) (one : Unit {0}) (allowance : ℕ) : Type 0 where
+  pub id_is : column row 0 ≡ Int (pos 1)
+  pub allowance_is : column row 2 ≡ Int (pos allowance)
+
+-- a box that a limited key may use
+pub record IsLimitRow (row : Row) (limit : Limit) (there : Unit {0}) : Type 0 where
+  pub key_is : column row 1 ≡ Text limit.key
+  pub box_is : column row 2 ≡ Text limit.box
+
+-- an office of version 1 lets no link begin early, and limits no key
+abbrev pub IsUnlimited : Tables → Type 0
+IsUnlimited tables = (tables.allowance ≡ 0) × ((limit : Limit) → tables.limit limit ≡ None)
+
+-- Each table's rows mean its map. Version 2 adds the two last; what is staged means nothing.
+pub record TablesMean (v : Version) (trees : Trees) (tables : Tables) : Type 0 where
+  pub office : RowsMean (IsOfficeRow v.number) (λ one. Some tables.offset) (trees 0)
   pub keys : RowsMean IsKeyRow tables.key (trees 1)
   pub boxes : RowsMean IsBoxRow tables.box (trees 3)
   pub receipts : RowsMean IsReceiptRow tables.receipt (trees 5)
   pub files : RowsMean IsFileRow tables.file (trees 6)
   pub pieces : RowsMean IsPieceRow tables.piece (trees 9)
-
--- ---- version 2 alone
-
-pub record IsRulesRow (row : Row) (one : Unit {0}) (allowance : ℕ) : Type 0 where
-  pub id_is : column row 0 ≡ Int (pos 1)
-  pub allowance_is : column row 2 ≡ Int (pos allowance)
-
--- the box that a limited key may use
-pub record IsLimitRow (row : Row) (limit : List ℕ × List ℕ) (there : Unit {0}) : Type 0 where
-  pub key_is : column row 1 ≡ Text limit.0
-  pub box_is : column row 2 ≡ Text limit.1
-
-pub record IsStagedRow (row : Row) (at : ℕ) (bytes : List ℕ) : Type 0 where
-  pub part_is : column row 0 ≡ Int (pos at)
-  pub bytes_is : column row 2 ≡ Blob bytes
-
-pub record AddedMean (trees : Trees) (allowance : ℕ) (limit : List ℕ × List ℕ → Option (Unit {0})) : Type 0 where
-  pub rules : RowsMean IsRulesRow (λ one. Some allowance) (trees 11)
-  pub limits : RowsMean IsLimitRow limit (trees 12)
-
--- what is staged is no part of the office
-abbrev pub StagedMeans : Trees → List (List ℕ) → Type 0
-StagedMeans trees pieces = RowsMean IsStagedRow (slice_get pieces) (trees 14)
+  pub unlimited : v ≡ v1 → IsUnlimited tables
+  pub rules : v ≡ v2 → RowsMean IsRulesRow (λ one. Some tables.allowance) (trees 11)
+  pub limits : v ≡ v2 → RowsMean IsLimitRow tables.limit (trees 12)

@@ -8,6 +8,12 @@ mod faults;
 #[cfg(test)]
 mod files;
 #[cfg(test)]
+mod first_office;
+#[cfg(test)]
+mod images;
+#[cfg(test)]
+mod migrating;
+#[cfg(test)]
 mod opening;
 #[cfg(test)]
 mod sizes;

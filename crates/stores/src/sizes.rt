@@ -8,7 +8,7 @@ use sqlite_disk::Disk;
 use sqlkeeper::SqlKeeper;
 use std::alloc::Global;
 use std::test::Fail;
-use trials::boxed::add_box;
+use trials::boxed::{add_box, office_row};
 use trials::errands::ROOMY;
 use trials::published::DATE;
 use trials::rows::{Row, holds, upload};
@@ -130,12 +130,12 @@ impl OfficeTrial for Sizing {
 
 #[test]
 fn files_are_cut_into_pieces(rt: HostRuntime) -> Result<(), Fail> {
-    try_in_memory(rt.alloc(), 0, Sizing::Cuts)?;
+    try_in_memory(rt.alloc(), office_row(0), Sizing::Cuts)?;
     Ok(())
 }
 
 #[test]
 fn what_is_replaced_is_not_counted(rt: HostRuntime) -> Result<(), Fail> {
-    try_in_memory(rt.alloc(), 0, Sizing::Replaces)?;
+    try_in_memory(rt.alloc(), office_row(0), Sizing::Replaces)?;
     Ok(())
 }

@@ -1,20 +1,22 @@
-//! What is done to an office file: it is made, changed, or asked by a connection.
-use boxes::{Change, Command, OfficeRow, Role};
+//! What is done to an office file: it is made, taken over, changed, or asked by a connection.
+use boxes::{Change, Command, Role};
 use keeper::{KeepFault, Keeper};
 use office::Office;
 use sqlite::{Alter, Connection};
 use sqlkeeper::{OpenFault, SqlKeeper};
 use std::alloc::Global;
 use std::test::Fail;
+use trials::boxed::office_row;
 use trials::errands::{Errand, ROOMY, begin, set_file};
 use trials::published::{ID, SECRET};
-use trials::rows::holds;
 
 /// What is done to an office.
 #[derive(Clone, Copy, Debug, PartialEq, Eq)]
 pub(crate) enum Step {
     /// It is made.
     Create,
+    /// It is taken over to version 2.
+    Migrate,
     /// A key and a box are added.
     Begin,
     /// A file of the bytes `abc` is set.
@@ -28,17 +30,21 @@ pub(crate) enum Step {
     AddBox,
     CloseBox,
     DropFile,
+    LimitKey,
+    Allow,
     /// A request by a good link comes.
     Ask(Errand),
 }
 
 /// The steps that are commands of the desk.
-pub(crate) const COMMANDS: [Step; 5] = [
+pub(crate) const COMMANDS: [Step; 7] = [
     Step::AddKey,
     Step::RevokeKey,
     Step::AddBox,
     Step::CloseBox,
     Step::DropFile,
+    Step::LimitKey,
+    Step::Allow,
 ];
 
 /// Sessions of requests, of which the first and the last change the office.
@@ -87,6 +93,11 @@ fn command_of(step: Step) -> Option<Command<'static>> {
             in_box: b"in",
             name: b"a.txt",
         }),
+        Step::LimitKey => Some(Command::LimitKey {
+            id: b"k2",
+            in_box: b"in",
+        }),
+        Step::Allow => Some(Command::SetAllowance { seconds: 900 }),
         _ => None,
     }
 }
@@ -98,15 +109,10 @@ fn add_box<K: Keeper>(keeper: &mut K) -> Result<(), KeepFault> {
     }))
 }
 
-/// Whether an office is made, and no more.
-pub(crate) fn is_making(steps: &[Step]) -> bool {
-    matches!(steps, [Step::Create])
-}
-
 /// The steps before these, in an office that was made.
 pub(crate) fn earlier_of(steps: &[Step]) -> &'static [Step] {
     match steps.first() {
-        None | Some(Step::Create) => &[],
+        None | Some(Step::Create | Step::Migrate) => &[],
         Some(Step::Ask(Errand::First)) => &EMPTY,
         Some(_) => &WITH_A_FILE,
     }
@@ -126,7 +132,8 @@ impl Step {
             Step::Replace => Ok(set_file(keeper, b"a.txt", &[b'a'; 70_000]).is_ok()),
             Step::AddBox => Ok(add_box(keeper).is_ok()),
             Step::Ask(errand) => errand.run(office),
-            _ => Err("no step of an office that is made".into()),
+            // It is done as the office is opened.
+            _ => Ok(true),
         }
     }
 }
@@ -143,33 +150,47 @@ pub(crate) fn run_each<K: Keeper>(office: &mut Office<K>, steps: &[Step]) -> Res
     Ok(done)
 }
 
-/// Does the steps by a connection, to an office that is opened for them or made; tells how many were acknowledged.
+/// What came of steps by a connection: how many were acknowledged, or why the office was not opened.
+#[derive(Drop)]
+pub(crate) struct Ran<S: Alter + Drop> {
+    pub(crate) steps: usize,
+    pub(crate) fault: Option<OpenFault>,
+    pub(crate) conn: Connection<S>,
+}
+
+// The office of a connection, made or taken over where that is the first step, and else opened.
+fn opened<S: Alter + Drop>(
+    alloc: Global,
+    conn: Connection<S>,
+    first: Option<&Step>,
+) -> Result<SqlKeeper<S>, (OpenFault, Connection<S>)> {
+    match first {
+        Some(Step::Create) => SqlKeeper::create(alloc, conn, office_row(0), ID, SECRET),
+        Some(Step::Migrate) => SqlKeeper::migrate(alloc, conn),
+        _ => SqlKeeper::open(alloc, conn),
+    }
+}
+
+/// Does the steps by a connection.
 pub(crate) fn run_over<S: Alter + Drop>(
     alloc: Global,
     conn: Connection<S>,
     steps: &[Step],
-) -> Result<(usize, Connection<S>), Fail> {
-    if is_making(steps) {
-        let (made, conn) = make(alloc, conn);
-        return Ok((usize::from(made), conn));
-    }
-    match SqlKeeper::open(alloc, conn) {
+) -> Result<Ran<S>, Fail> {
+    match opened(alloc, conn, steps.first()) {
         Ok(keeper) => {
             let mut office = Office::new(alloc, keeper);
             let done = run_each(&mut office, steps)?;
-            Ok((done, office.keeper.close()))
+            Ok(Ran {
+                steps: done,
+                fault: None,
+                conn: office.keeper.close(),
+            })
         }
-        Err((fault, conn)) => {
-            holds(fault == OpenFault::Store, "another fault")?;
-            Ok((0, conn))
-        }
-    }
-}
-
-/// Whether an office is made.
-pub(crate) fn make<S: Alter + Drop>(alloc: Global, conn: Connection<S>) -> (bool, Connection<S>) {
-    match SqlKeeper::create(alloc, conn, OfficeRow { east: 0 }, ID, SECRET) {
-        Ok(keeper) => (true, keeper.close()),
-        Err((_, conn)) => (false, conn),
+        Err((fault, conn)) => Ok(Ran {
+            steps: 0,
+            fault: Some(fault),
+            conn,
+        }),
     }
 }

@@ -1,242 +1,66 @@
 //! A disk stops at each of its calls in turn, and the office is opened again from what is left.
-use crate::files::connect;
-use crate::steps::{COMMANDS, SESSIONS, Step, earlier_of, is_making, make, run_each, run_over};
-use boxes::OfficeRow;
-use keeper::Shelf;
+use crate::first_office::{Making, first_in_memory};
+use crate::images::{
+    Found, Image, Job, Outcome, Side, Stop, done_with, empty_image, found_in, job_on,
+};
+use crate::steps::{COMMANDS, SESSIONS, Step, earlier_of, run_each};
+use keeper::{Keeper, Shelf};
 use office::Office;
-use sqlite::{Alter, Connection, FileStore, Files, Options};
-use sqlite_disk::{Crash, Disk, Fuse, Memory};
-use sqlkeeper::{OpenFault, SqlKeeper};
+use sqlkeeper::OpenFault;
 use std::alloc::{AllocError, Global};
 use std::test::Fail;
+use trials::boxed::begun;
 use trials::errands::Errand;
-use trials::published::{ID, SECRET};
 use trials::rows::holds;
 use trials::telling::told;
 
-// What every question is answered at one time; nothing where nothing is there.
-type Told = Option<Vec<u8>>;
-
-// What is told before the first of these steps and after each, by the keeper in memory.
-fn states_of(alloc: Global, steps: &[Step]) -> Result<Vec<Told>, Fail> {
-    let mut office = Office::new(alloc, Shelf::new(alloc, OfficeRow { east: 0 }, ID, SECRET)?);
-    let mut states = Vec::new(alloc);
-    if is_making(steps) {
-        states.push(None)?;
-        states.push(Some(told(alloc, &mut office.keeper)?))?;
-        return Ok(states);
+// The office in memory that these steps begin with.
+fn office_for(alloc: Global, steps: &[Step]) -> Result<Office<Shelf>, Fail> {
+    if let Some(Step::Migrate) = steps.first() {
+        return first_in_memory(alloc);
     }
+    let mut office = begun(alloc, 0)?;
     let earlier = earlier_of(steps);
     let done = run_each(&mut office, earlier)?;
     holds(done == earlier.len(), "not prepared in memory")?;
-    states.push(Some(told(alloc, &mut office.keeper)?))?;
+    Ok(office)
+}
+
+// What is found in the file of an office that tells this, before these steps.
+fn found_before(steps: &[Step], text: Vec<u8>) -> Found {
+    match steps.first() {
+        Some(Step::Create) => Found::Nothing,
+        Some(Step::Migrate) => Found::First(text),
+        _ => Found::Second(text),
+    }
+}
+
+// What is found before the first of these steps and after each, by the keeper in memory.
+fn states_of(alloc: Global, steps: &[Step]) -> Result<Vec<Found>, Fail> {
+    let mut office = office_for(alloc, steps)?;
+    let before = told(alloc, &mut office.keeper)?;
+    let mut states = Vec::new(alloc);
+    states.push(found_before(steps, before))?;
     for step in steps {
         holds(step.run(&mut office)?, "not done in memory")?;
-        states.push(Some(told(alloc, &mut office.keeper)?))?;
+        states.push(Found::Second(told(alloc, &mut office.keeper)?))?;
     }
     Ok(states)
 }
 
-// The bytes of two files.
-#[derive(Drop)]
-struct Image {
-    log: Vec<u8>,
-    db: Vec<u8>,
-}
-
-// One of the two files.
-#[derive(Clone, Copy, Debug, PartialEq, Eq)]
-enum Side {
-    Log,
-    Database,
-}
-
-// One disk takes so many calls and no more.
-#[derive(Clone, Copy, Debug)]
-struct Stop {
-    side: Side,
-    calls: u64,
-}
-
-// Both disks take all calls.
-const NO_STOP: Stop = Stop {
-    side: Side::Log,
-    calls: u64::MAX,
-};
-
-impl Stop {
-    // How many calls a disk takes.
-    fn calls_of(self, side: Side) -> u64 {
-        if self.side == side {
-            self.calls
-        } else {
-            u64::MAX
-        }
-    }
-}
-
-// A disk that holds these bytes for good, and takes so many calls.
-fn disk_of(alloc: Global, bytes: &[u8], calls: u64) -> Result<Fuse<Memory>, Fail> {
-    let mut disk = Memory::new(alloc);
-    disk.write_at(0, bytes)?;
-    disk.sync()?;
-    Ok(Fuse::new(disk, calls))
-}
-
-// Disks of these bytes, of which one stops.
-fn disks_of(alloc: Global, log: &[u8], db: &[u8], stop: Stop) -> Result<Files<Fuse<Memory>>, Fail> {
-    Ok(Files {
-        log: disk_of(alloc, log, stop.calls_of(Side::Log))?,
-        db: disk_of(alloc, db, stop.calls_of(Side::Database))?,
-    })
-}
-
-// What the two disks hold.
-fn image_of(alloc: Global, disks: &Files<Fuse<Memory>>) -> Result<Image, AllocError> {
-    Ok(Image {
-        log: Vec::from_slice(alloc, disks.log.inner().bytes())?,
-        db: Vec::from_slice(alloc, disks.db.inner().bytes())?,
-    })
-}
-
-// What is done with two files.
-#[derive(Clone, Copy)]
-enum Job<'a> {
-    // These steps, after which they are closed.
-    Steps(&'a [Step]),
-    // They are opened, and what the office tells is found.
-    Look,
-}
-
-// What came of a job: how many steps were acknowledged, or what was told; and the disks after it.
-#[derive(Drop)]
-struct Done<D: Disk + Drop> {
-    steps: usize,
-    told: Told,
-    disks: Files<D>,
-}
-
-// Copies the log into the file, as the program does at its end, and gives both back.
-fn closed<D: Disk + Drop>(conn: Connection<FileStore<D>>) -> Files<D> {
-    match conn.close_files() {
-        Ok(files) => files,
-        Err((_, store)) => store.close(),
-    }
-}
-
-// Opens the files, does the steps, and closes them.
-fn run_on<D: Disk + Drop>(alloc: Global, disks: Files<D>, steps: &[Step]) -> Result<Done<D>, Fail> {
-    if !disks.may_be_used() {
-        return Err("no disk".into());
-    }
-    let (steps, disks) = match Connection::open_files(alloc, disks, Options::new(7)) {
-        Ok(conn) => {
-            let (done, conn) = run_over(alloc, conn, steps)?;
-            (done, closed(conn))
-        }
-        Err((_, rest)) => (0, rest.into_files()),
-    };
-    Ok(Done {
-        steps,
-        told: None,
-        disks,
-    })
-}
-
-// Does the job with the files.
-fn do_job<D: Disk + Drop>(alloc: Global, disks: Files<D>, job: Job<'_>) -> Result<Done<D>, Fail> {
-    match job {
-        Job::Steps(steps) => run_on(alloc, disks, steps),
-        Job::Look => look_at(alloc, disks),
-    }
-}
-
-// Opens the files, and finds what their office tells.
-fn look_at<D: Disk + Drop>(alloc: Global, disks: Files<D>) -> Result<Done<D>, Fail> {
-    let (told, conn) = found(alloc, connect(alloc, disks)?)?;
-    Ok(Done {
-        steps: 0,
-        told,
-        disks: closed(conn),
-    })
-}
-
-// What a job leaves: how many steps were acknowledged, or what was told; whether a disk stopped; and the files, as they were
-// written, and without what was not synced.
-#[derive(Drop)]
-struct Outcome {
-    steps: usize,
-    told: Told,
-    stopped: bool,
-    written: Image,
-    synced: Image,
-}
-
-// Does the job with files of these bytes, of which one stops. This function alone names the disks of a database.
-fn job_on(alloc: Global, log: &[u8], db: &[u8], stop: Stop, job: Job<'_>) -> Result<Outcome, Fail> {
-    let Done {
-        steps,
-        told,
-        mut disks,
-    } = do_job(alloc, disks_of(alloc, log, db, stop)?, job)?;
-    let stopped = has_stopped(&mut disks.log) || has_stopped(&mut disks.db);
-    let written = image_of(alloc, &disks)?;
-    disks.log.crash();
-    disks.db.crash();
-    let synced = image_of(alloc, &disks)?;
-    Ok(Outcome {
-        steps,
-        told,
-        stopped,
-        written,
-        synced,
-    })
-}
-
 // The files that these steps begin with.
 fn image_for(alloc: Global, steps: &[Step]) -> Result<Image, Fail> {
-    if is_making(steps) {
-        return Ok(Image {
-            log: Vec::new(alloc),
-            db: Vec::new(alloc),
-        });
-    }
-    let made = job_on(alloc, b"", b"", NO_STOP, Job::Steps(&[Step::Create]))?.written;
-    let job = Job::Steps(earlier_of(steps));
-    Ok(job_on(alloc, &made.log, &made.db, NO_STOP, job)?.written)
-}
-
-// There is no part of an office: one can be made.
-fn is_bare<S: Alter + Drop>(alloc: Global, conn: Connection<S>) -> Result<Connection<S>, Fail> {
-    let (made, conn) = make(alloc, conn);
-    holds(made, "a part of an office")?;
-    Ok(conn)
-}
-
-// What the office of a connection tells; nothing where nothing is there.
-fn found<S: Alter + Drop>(
-    alloc: Global,
-    conn: Connection<S>,
-) -> Result<(Told, Connection<S>), Fail> {
-    match SqlKeeper::open(alloc, conn) {
-        Ok(keeper) => {
-            let mut keeper = keeper;
-            let found = told(alloc, &mut keeper)?;
-            Ok((Some(found), keeper.close()))
+    let empty = empty_image(alloc);
+    match steps.first() {
+        Some(Step::Create) => Ok(empty),
+        Some(Step::Migrate) => {
+            Ok(done_with(alloc, &empty, Job::MakeFirst(Making::Exact))?.written)
         }
-        Err((OpenFault::Shape, conn)) => Ok((None, is_bare(alloc, conn)?)),
-        Err((fault, _)) => Err(fault.into()),
+        _ => {
+            let made = done_with(alloc, &empty, Job::Steps(&[Step::Create]))?.written;
+            Ok(done_with(alloc, &made, Job::Steps(earlier_of(steps)))?.written)
+        }
     }
-}
-
-// What is found in two files.
-fn found_in(alloc: Global, log: &[u8], db: &[u8]) -> Result<Told, Fail> {
-    Ok(job_on(alloc, log, db, NO_STOP, Job::Look)?.told)
-}
-
-// Whether a disk takes no more calls.
-fn has_stopped<D: Disk>(disk: &mut D) -> bool {
-    !disk.may_be_used() || disk.len().is_err()
 }
 
 // What a run leaves, of which one disk stopped, or none: how many steps were acknowledged, and the files, as they were
@@ -280,11 +104,11 @@ fn torn(alloc: Global, before: &[u8], after: &[u8], len: usize) -> Result<Vec<u8
     Ok(bytes)
 }
 
-// How many stops there were, and in how many states of the files the office was opened.
+/// How many stops there were, and in how many states of the files the office was opened.
 #[derive(Clone, Copy)]
-struct Count {
-    stops: u64,
-    states: u64,
+pub(crate) struct Count {
+    pub(crate) stops: u64,
+    pub(crate) states: u64,
 }
 
 impl Count {
@@ -301,25 +125,39 @@ const NONE: Count = Count {
     states: 0,
 };
 
-// Steps, the files that they begin with, and what is told before them and after each.
+/// Steps, the files that they begin with, and what is found before them and after each.
 #[derive(Drop)]
-struct Plan<'a> {
-    steps: &'a [Step],
-    image: Image,
-    states: Vec<Told>,
+pub(crate) struct Plan<'a> {
+    pub(crate) steps: &'a [Step],
+    pub(crate) image: Image,
+    pub(crate) states: Vec<Found>,
 }
 
-impl Plan<'_> {
+impl<'a> Plan<'a> {
+    /// Steps in an office that was made for them.
+    pub(crate) fn new(alloc: Global, steps: &'a [Step]) -> Result<Plan<'a>, Fail> {
+        Ok(Plan {
+            steps,
+            image: image_for(alloc, steps)?,
+            states: states_of(alloc, steps)?,
+        })
+    }
+
     // Does the steps on disks of which one may stop.
     fn left(&self, alloc: Global, stop: Stop) -> Result<Left, Fail> {
         let job = Job::Steps(self.steps);
         let Outcome {
             steps: done,
-            told: _,
+            fault,
+            found: _,
             stopped,
             written,
             synced,
         } = job_on(alloc, &self.image.log, &self.image.db, stop, job)?;
+        holds(
+            matches!(fault, None | Some(OpenFault::Store)),
+            "another fault",
+        )?;
         if done < self.steps.len() && !stopped {
             return Err(("not done, and no stop", self.steps.get(done), stop).into());
         }
@@ -401,22 +239,22 @@ impl Plan<'_> {
         }
         Err("stops without end".into())
     }
+
+    /// Stops of each of the two disks.
+    pub(crate) fn stop_both(&self, alloc: Global) -> Result<Count, Fail> {
+        let first = found_in(alloc, &self.image.log, &self.image.db)?;
+        holds(
+            self.states.first() == Some(&first),
+            "another office before the steps",
+        )?;
+        let logs = self.each_stop(alloc, Side::Log)?;
+        Ok(logs.plus(self.each_stop(alloc, Side::Database)?))
+    }
 }
 
 // Stops of each of the two disks.
 fn stop_each(alloc: Global, steps: &[Step]) -> Result<Count, Fail> {
-    let plan = Plan {
-        steps,
-        image: image_for(alloc, steps)?,
-        states: states_of(alloc, steps)?,
-    };
-    let first = found_in(alloc, &plan.image.log, &plan.image.db)?;
-    holds(
-        plan.states.first() == Some(&first),
-        "another office before the steps",
-    )?;
-    let logs = plan.each_stop(alloc, Side::Log)?;
-    Ok(logs.plus(plan.each_stop(alloc, Side::Database)?))
+    Plan::new(alloc, steps)?.stop_both(alloc)
 }
 
 // The same of each step alone.
@@ -475,8 +313,13 @@ fn keys_and_boxes_by_request_stop(rt: HostRuntime) -> Result<(), Fail> {
 }
 
 #[test]
-fn closing_and_dropping_by_request_stop(rt: HostRuntime) -> Result<(), Fail> {
-    let steps = [Step::Ask(Errand::CloseBox), Step::Ask(Errand::DropFile)];
+fn other_commands_by_request_stop(rt: HostRuntime) -> Result<(), Fail> {
+    let steps = [
+        Step::Ask(Errand::CloseBox),
+        Step::Ask(Errand::DropFile),
+        Step::Ask(Errand::LimitKey),
+        Step::Ask(Errand::Allow),
+    ];
     let Count { stops, states } = stop_alone(rt.alloc(), &steps)?;
     println!(rt; "{stops} stops, {states} states")?;
     Ok(())

@@ -8,6 +8,7 @@ use office::{Counted, FixedClock, Office, SessionEnd};
 use sigv4::Moment;
 use std::alloc::Global;
 use std::test::Fail;
+use trials::boxed::office_row;
 use trials::fakes::{Sink, Source};
 use trials::published::{DATE, REQUEST, SECRET, TRY_AGAIN};
 use trials::rows::holds;
@@ -60,7 +61,10 @@ impl Keeper for Stub {
     ghost has_store = { Unit {0} };
 
     fn settings(&mut self) -> Result<OfficeRow, KeepFault> {
-        Err(self.count(KeepFault::Store))
+        if self.fails {
+            return Err(self.count(KeepFault::Store));
+        }
+        Ok(office_row(0))
     }
 
     fn key(&mut self, _id: &[u8]) -> Result<Option<KeyRow>, KeepFault> {
@@ -75,6 +79,14 @@ impl Keeper for Stub {
             })),
             Err(_) => Err(self.count(KeepFault::Memory)),
         }
+    }
+
+    fn may_use(&mut self, _id: &[u8], _in_box: &[u8]) -> Result<bool, KeepFault> {
+        Err(self.count(KeepFault::Store))
+    }
+
+    fn has_limit(&mut self, _id: &[u8], _in_box: &[u8]) -> Result<bool, KeepFault> {
+        Err(self.count(KeepFault::Store))
     }
 
     fn box_row(&mut self, _name: &[u8]) -> Result<Option<BoxRow>, KeepFault> {

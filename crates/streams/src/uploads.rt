@@ -37,7 +37,8 @@ fn each_call_is_refused_in_turn(rt: HostRuntime) -> Result<(), Fail> {
     let mut refused = 0u64;
     for errand in ERRANDS {
         let calls = calls_of(rt.alloc(), errand)?;
-        assert!(rt; calls >= 3, "{errand:?}");
+        // The key and the change are the fewest.
+        assert!(rt; calls >= 2, "{errand:?}");
         refused = refused.saturating_add(calls);
     }
     println!(rt; "{refused} refused")?;

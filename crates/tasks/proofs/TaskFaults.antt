@@ -81,6 +81,7 @@ no_task named (task.Manifest o) k (rows, is, values) fault = not_init 109 refl (
 no_task named (task.Compare o) k (rows, is, values) fault = not_init 99 refl (other_name (codes "compare") rows named k is fault)
 no_task named (task.Replay r) k (rows, is, values) fault = not_init 114 refl (other_name (codes "replay") rows named k is fault)
 no_task named (task.Serve s) k (rows, is, values) fault = not_init 115 refl (other_name (codes "serve") rows named k is fault)
+no_task named (task.Migrate o) k (rows, is, values) fault = not_init 109 refl (other_name (codes "migrate") rows named k is fault)
 
 -- ---- what the clauses of `Task::read` say of each other
 

@@ -8,17 +8,17 @@ use Rattle.clap.specs.Faults.{fault_of, is_simple_and_free, level_fault}
 use Rattle.clap.specs.Walk.{Row, Text, answers_to, nothing_held, rows_after}
 use Rattle.clap.specs.Words.{App, subcommand_of}
 use Rattle.clap.proofs.OnLiterals.{clap_on_literals}
-use Rattle.tasks.specs.Tasks.{HasDesk, HasInit, HasLink, HasLinks, HasOneSecret, HasReplay, HasServe, HasValue, NamesOneSecret, NamesTask, at_rule, clerk_rule, compare_app, connections_rule, desk_app, drop_app, east_rule, expires_rule, file_rule, host_rule, init_app, key_rule, line_rule, link_app, links_app, listen_rule, manifest_app, method_rule, patience_rule, region_rule, replay_app, secret_file_rule, secret_rule, serve_app, start_rule, streams_rule, target_app, target_rule, west_rule}
+use Rattle.tasks.specs.Tasks.{HasDesk, HasInit, HasLink, HasLinks, HasOneSecret, HasReplay, HasServe, HasValue, NamesOneSecret, NamesTask, allowance_rule, at_rule, clerk_rule, compare_app, connections_rule, desk_app, drop_app, east_rule, expires_rule, file_rule, host_rule, init_app, key_rule, line_rule, link_app, links_app, listen_rule, manifest_app, method_rule, migrate_app, patience_rule, region_rule, replay_app, secret_file_rule, secret_rule, serve_app, start_rule, streams_rule, target_app, target_rule, west_rule}
 use Rattle.tasks.proofs.FullRows.{fills}
 use Rattle.tasks.proofs.Defaulted.{all_given, default_value, has_default}
 use Rattle.tasks.proofs.FaultFree.{Enters, enters, needed_value, needs}
 
 pub simple : is_simple drop_app ≡ true
-unfolding drop_app init_app desk_app link_app target_app links_app manifest_app compare_app replay_app serve_app file_rule line_rule streams_rule at_rule method_rule target_rule clerk_rule secret_rule secret_file_rule key_rule host_rule region_rule start_rule expires_rule east_rule west_rule listen_rule connections_rule patience_rule clap_on_literals
+unfolding drop_app init_app desk_app link_app target_app links_app manifest_app compare_app replay_app serve_app migrate_app file_rule line_rule streams_rule at_rule method_rule target_rule clerk_rule secret_rule secret_file_rule key_rule host_rule region_rule start_rule expires_rule east_rule west_rule allowance_rule listen_rule connections_rule patience_rule clap_on_literals
 simple = refl
 
 pub simple_and_free : is_simple_and_free drop_app ≡ true
-unfolding drop_app init_app desk_app link_app target_app links_app manifest_app compare_app replay_app serve_app file_rule line_rule streams_rule at_rule method_rule target_rule clerk_rule secret_rule secret_file_rule key_rule host_rule region_rule start_rule expires_rule east_rule west_rule listen_rule connections_rule patience_rule clap_on_literals
+unfolding drop_app init_app desk_app link_app target_app links_app manifest_app compare_app replay_app serve_app migrate_app file_rule line_rule streams_rule at_rule method_rule target_rule clerk_rule secret_rule secret_file_rule key_rule host_rule region_rule start_rule expires_rule east_rule west_rule allowance_rule listen_rule connections_rule patience_rule clap_on_literals
 simple_and_free = refl
 
 -- ---- the commands as clap builds them
@@ -52,11 +52,14 @@ replay_built = built_leaf (inherited settings replay_app.top)
 serve_built : Shape
 serve_built = built_leaf (inherited settings serve_app.top)
 
+migrate_built : Shape
+migrate_built = built_leaf (inherited settings migrate_app.top)
+
 help_built : Shape
 help_built = built_leaf help_shape
 
-commands : (built drop_app).subs ≡ init_built ∷ desk_built ∷ link_built ∷ links_built ∷ manifest_built ∷ compare_built ∷ replay_built ∷ serve_built ∷ help_built ∷ []
-unfolding drop_app settings init_built desk_built link_built links_built manifest_built compare_built replay_built serve_built help_built
+commands : (built drop_app).subs ≡ init_built ∷ desk_built ∷ link_built ∷ links_built ∷ manifest_built ∷ compare_built ∷ replay_built ∷ serve_built ∷ migrate_built ∷ help_built ∷ []
+unfolding drop_app settings init_built desk_built link_built links_built manifest_built compare_built replay_built serve_built migrate_built help_built
 commands = refl
 
 has_help : (built drop_app).top.disable_help_subcommand ≡ false
@@ -74,7 +77,7 @@ unfolding init_built settings drop_app init_app
 init_name = refl
 
 init_fills : list_all fills init_built.rules ≡ true
-unfolding init_built settings drop_app init_app file_rule clerk_rule secret_rule secret_file_rule east_rule west_rule
+unfolding init_built settings drop_app init_app file_rule clerk_rule secret_rule secret_file_rule east_rule west_rule allowance_rule
 init_fills = refl
 
 init_asks : init_built.subcommand_negates_reqs ≡ false
@@ -82,20 +85,24 @@ unfolding init_built settings drop_app init_app
 init_asks = refl
 
 init_needs_file : needs (codes "file") init_built.rules ≡ true
-unfolding init_built settings drop_app init_app file_rule clerk_rule secret_rule secret_file_rule east_rule west_rule
+unfolding init_built settings drop_app init_app file_rule clerk_rule secret_rule secret_file_rule east_rule west_rule allowance_rule
 init_needs_file = refl
 
 init_needs_clerk : needs (codes "clerk") init_built.rules ≡ true
-unfolding init_built settings drop_app init_app file_rule clerk_rule secret_rule secret_file_rule east_rule west_rule
+unfolding init_built settings drop_app init_app file_rule clerk_rule secret_rule secret_file_rule east_rule west_rule allowance_rule
 init_needs_clerk = refl
 
 init_has_east : has_default (codes "east") init_built.rules ≡ true
-unfolding init_built settings drop_app init_app file_rule clerk_rule secret_rule secret_file_rule east_rule west_rule
+unfolding init_built settings drop_app init_app file_rule clerk_rule secret_rule secret_file_rule east_rule west_rule allowance_rule
 init_has_east = refl
 
 init_has_west : has_default (codes "west") init_built.rules ≡ true
-unfolding init_built settings drop_app init_app file_rule clerk_rule secret_rule secret_file_rule east_rule west_rule
+unfolding init_built settings drop_app init_app file_rule clerk_rule secret_rule secret_file_rule east_rule west_rule allowance_rule
 init_has_west = refl
+
+init_has_allowance : has_default (codes "allowance") init_built.rules ≡ true
+unfolding init_built settings drop_app init_app file_rule clerk_rule secret_rule secret_file_rule east_rule west_rule allowance_rule
+init_has_allowance = refl
 
 init_values : (words : List Text) → level_fault init_built [] nothing_held words false [] ≡ [] → HasOneSecret (rows_after init_built.rules [] words)
     → HasInit (rows_after init_built.rules [] words)
@@ -106,6 +113,7 @@ init_values words free one =
       one,
       default_value init_built words init_fills free (codes "east") init_has_east,
       default_value init_built words init_fills free (codes "west") init_has_west,
+      default_value init_built words init_fills free (codes "allowance") init_has_allowance,
     )
 
 -- ---- desk
@@ -347,6 +355,27 @@ serve_values words free =
       default_value serve_built words serve_fills free (codes "patience") serve_has_patience,
     )
 
+-- ---- migrate
+
+migrate_name : migrate_built.name ≡ codes "migrate"
+unfolding migrate_built settings drop_app migrate_app
+migrate_name = refl
+
+migrate_fills : list_all fills migrate_built.rules ≡ true
+unfolding migrate_built settings drop_app migrate_app file_rule
+migrate_fills = refl
+
+migrate_asks : migrate_built.subcommand_negates_reqs ≡ false
+unfolding migrate_built settings drop_app migrate_app
+migrate_asks = refl
+
+migrate_needs_file : needs (codes "file") migrate_built.rules ≡ true
+unfolding migrate_built settings drop_app migrate_app file_rule
+migrate_needs_file = refl
+
+migrate_values : (words : List Text) → level_fault migrate_built [] nothing_held words false [] ≡ [] → HasValue (codes "file") (rows_after migrate_built.rules [] words)
+migrate_values words free = needed_value migrate_built words migrate_fills migrate_asks free (codes "file") migrate_needs_file
+
 -- ---- the command that words without a fault name
 
 help_named : (name : Text) → bytes_eq name (codes "help") ≡ false → answers_to name (label_of help_built) ≡ false
@@ -361,25 +390,26 @@ help_named name elsewhere = go (bytes_eq (codes "help") name) (bytes_eq-Decides 
         absurd bad
 
 found_task : (name : Text) (s : Shape) → bytes_eq name (codes "help") ≡ false
-    → find (λ x. answers_to name (label_of x)) (init_built ∷ desk_built ∷ link_built ∷ links_built ∷ manifest_built ∷ compare_built ∷ replay_built ∷ serve_built ∷ help_built ∷ []) ≡ Some s
-    → (init_built ≡ s) ⊎ ((desk_built ≡ s) ⊎ ((link_built ≡ s) ⊎ (((links_built ≡ s) ⊎ ((manifest_built ≡ s) ⊎ (compare_built ≡ s))) ⊎ ((replay_built ≡ s) ⊎ (serve_built ≡ s)))))
+    → find (λ x. answers_to name (label_of x)) (init_built ∷ desk_built ∷ link_built ∷ links_built ∷ manifest_built ∷ compare_built ∷ replay_built ∷ serve_built ∷ migrate_built ∷ help_built ∷ []) ≡ Some s
+    → (init_built ≡ s) ⊎ ((desk_built ≡ s) ⊎ ((link_built ≡ s) ⊎ (((links_built ≡ s) ⊎ ((manifest_built ≡ s) ⊎ (compare_built ≡ s))) ⊎ ((replay_built ≡ s) ⊎ ((serve_built ≡ s) ⊎ (migrate_built ≡ s))))))
 found_task name s elsewhere found =
-    go (answers_to name (label_of init_built)) (answers_to name (label_of desk_built)) (answers_to name (label_of link_built)) (answers_to name (label_of links_built)) (answers_to name (label_of manifest_built)) (answers_to name (label_of compare_built)) (answers_to name (label_of replay_built)) (answers_to name (label_of serve_built))
+    go (answers_to name (label_of init_built)) (answers_to name (label_of desk_built)) (answers_to name (label_of link_built)) (answers_to name (label_of links_built)) (answers_to name (label_of manifest_built)) (answers_to name (label_of compare_built)) (answers_to name (label_of replay_built)) (answers_to name (label_of serve_built)) (answers_to name (label_of migrate_built))
     (answers_to name (label_of help_built)) (help_named name elsewhere) found
   where
-    go : (a b c d e f g h k : Bool) → k ≡ false
-        → cond a (Some init_built) (cond b (Some desk_built) (cond c (Some link_built) (cond d (Some links_built) (cond e (Some manifest_built) (cond f (Some compare_built) (cond g (Some replay_built) (cond h (Some serve_built) (cond k (Some help_built) None)))))))) ≡ Some s
-        → (init_built ≡ s) ⊎ ((desk_built ≡ s) ⊎ ((link_built ≡ s) ⊎ (((links_built ≡ s) ⊎ ((manifest_built ≡ s) ⊎ (compare_built ≡ s))) ⊎ ((replay_built ≡ s) ⊎ (serve_built ≡ s)))))
-    go true b c d e f g h k z at = inl cc
-    go false true c d e f g h k z at = inr (inl cc)
-    go false false true d e f g h k z at = inr (inr (inl cc))
-    go false false false true e f g h k z at = inr (inr (inr (inl (inl cc))))
-    go false false false false true f g h k z at = inr (inr (inr (inl (inr (inl cc)))))
-    go false false false false false true g h k z at = inr (inr (inr (inl (inr (inr cc)))))
-    go false false false false false false true h k z at = inr (inr (inr (inr (inl cc))))
-    go false false false false false false false true k z at = inr (inr (inr (inr (inr cc))))
-    go false false false false false false false false true z at = let bad : ⊥ = cc in absurd bad
-    go false false false false false false false false false z at = let bad : ⊥ = cc in absurd bad
+    go : (a b c d e f g h m k : Bool) → k ≡ false
+        → cond a (Some init_built) (cond b (Some desk_built) (cond c (Some link_built) (cond d (Some links_built) (cond e (Some manifest_built) (cond f (Some compare_built) (cond g (Some replay_built) (cond h (Some serve_built) (cond m (Some migrate_built) (cond k (Some help_built) None))))))))) ≡ Some s
+        → (init_built ≡ s) ⊎ ((desk_built ≡ s) ⊎ ((link_built ≡ s) ⊎ (((links_built ≡ s) ⊎ ((manifest_built ≡ s) ⊎ (compare_built ≡ s))) ⊎ ((replay_built ≡ s) ⊎ ((serve_built ≡ s) ⊎ (migrate_built ≡ s))))))
+    go true b c d e f g h m k z at = inl cc
+    go false true c d e f g h m k z at = inr (inl cc)
+    go false false true d e f g h m k z at = inr (inr (inl cc))
+    go false false false true e f g h m k z at = inr (inr (inr (inl (inl cc))))
+    go false false false false true f g h m k z at = inr (inr (inr (inl (inr (inl cc)))))
+    go false false false false false true g h m k z at = inr (inr (inr (inl (inr (inr cc)))))
+    go false false false false false false true h m k z at = inr (inr (inr (inr (inl cc))))
+    go false false false false false false false true m k z at = inr (inr (inr (inr (inr (inl cc)))))
+    go false false false false false false false false true k z at = inr (inr (inr (inr (inr (inr cc)))))
+    go false false false false false false false false false true z at = let bad : ⊥ = cc in absurd bad
+    go false false false false false false false false false false z at = let bad : ⊥ = cc in absurd bad
 
 -- the words name the command of this shape, and have no fault in it
 module _ (words : List Text) (e : Enters (built drop_app) (argument_words drop_app words)) (s : Shape) (is : s ≡ e.shape) where
@@ -392,7 +422,7 @@ module _ (words : List Text) (e : Enters (built drop_app) (argument_words drop_a
 pub task_named : (words : List Text) → fault_of drop_app words ≡ [] → NamesOneSecret (subcommand_of drop_app words) → NamesTask (subcommand_of drop_app words)
 task_named words free one =
     let e = enters (built drop_app) (argument_words drop_app words) has_help needs_command free in
-    let found : find (λ s. answers_to e.name (label_of s)) (init_built ∷ desk_built ∷ link_built ∷ links_built ∷ manifest_built ∷ compare_built ∷ replay_built ∷ serve_built ∷ help_built ∷ []) ≡ Some e.shape =
+    let found : find (λ s. answers_to e.name (label_of s)) (init_built ∷ desk_built ∷ link_built ∷ links_built ∷ manifest_built ∷ compare_built ∷ replay_built ∷ serve_built ∷ migrate_built ∷ help_built ∷ []) ≡ Some e.shape =
     ap (find (λ s. answers_to e.name (label_of s))) (sym commands) ∙ e.found in
     elim (found_task e.name e.shape e.not_help found) [
       | inl is ↦
@@ -404,7 +434,8 @@ task_named words free one =
       | inr (inr (inr (inl (inr (inl is))))) ↦ inr (inr (inr (inl (inr (inl (rows_after manifest_built.rules [] e.rest, rows_named words e manifest_built is (codes "manifest") manifest_name, manifest_values e.rest (free_here words e manifest_built is)))))))
       | inr (inr (inr (inl (inr (inr is))))) ↦ inr (inr (inr (inl (inr (inr (rows_after compare_built.rules [] e.rest, rows_named words e compare_built is (codes "compare") compare_name, compare_values e.rest (free_here words e compare_built is)))))))
       | inr (inr (inr (inr (inl is)))) ↦ inr (inr (inr (inr (inl (rows_after replay_built.rules [] e.rest, rows_named words e replay_built is (codes "replay") replay_name, replay_values e.rest (free_here words e replay_built is))))))
-      | inr (inr (inr (inr (inr is)))) ↦ inr (inr (inr (inr (inr (rows_after serve_built.rules [] e.rest, rows_named words e serve_built is (codes "serve") serve_name, serve_values e.rest (free_here words e serve_built is))))))
+      | inr (inr (inr (inr (inr (inl is))))) ↦ inr (inr (inr (inr (inr (inl (rows_after serve_built.rules [] e.rest, rows_named words e serve_built is (codes "serve") serve_name, serve_values e.rest (free_here words e serve_built is)))))))
+      | inr (inr (inr (inr (inr (inr is))))) ↦ inr (inr (inr (inr (inr (inr (rows_after migrate_built.rules [] e.rest, rows_named words e migrate_built is (codes "migrate") migrate_name, migrate_values e.rest (free_here words e migrate_built is)))))))
     ]
 
 -- ---- of a command that reads as the program's own

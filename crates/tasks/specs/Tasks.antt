@@ -104,11 +104,17 @@ east_rule = minutes_rule (codes "east")
 unfoldable pub west_rule : Rule
 west_rule = minutes_rule (codes "west")
 
+-- --allowance N, a whole number from 0 to 900, and 0 where it is left out
+unfoldable pub allowance_rule : Rule
+allowance_rule = record (new_rule (codes "allowance")) { long = Some (codes "allowance"); value_names = 1; defaults = codes "0" ∷ []; parser = Some (Unsigned 0 900) }
+
 -- ---- the commands
 
--- init FILE --clerk ID --secret SECRET --secret-file SECRETFILE --east M --west M
+-- init FILE --clerk ID --secret SECRET --secret-file SECRETFILE --east M --west M --allowance N
 unfoldable pub init_app : App
-init_app = with_rule (with_rule (with_rule (with_rule (with_rule (with_rule (new_app (codes "init")) file_rule) clerk_rule) secret_rule) secret_file_rule) east_rule) west_rule
+init_app =
+    let with_secrets = with_rule (with_rule (with_rule (with_rule (new_app (codes "init")) file_rule) clerk_rule) secret_rule) secret_file_rule in
+    with_rule (with_rule (with_rule with_secrets east_rule) west_rule) allowance_rule
 
 -- desk FILE LINE
 unfoldable pub desk_app : App
@@ -142,13 +148,17 @@ replay_app = with_rule (with_rule (with_rule (new_app (codes "replay")) file_rul
 unfoldable pub serve_app : App
 serve_app = with_rule (with_rule (with_rule (with_rule (new_app (codes "serve")) file_rule) listen_rule) connections_rule) patience_rule
 
+-- migrate FILE
+unfoldable pub migrate_app : App
+migrate_app = with_rule (new_app (codes "migrate")) file_rule
+
 -- drop COMMAND, which answers with help where no word follows
 unfoldable pub drop_app : App
 drop_app =
     let needs_command = on_top (λ s. record s { subcommand_required = true; arg_required_else_help = true }) (new_app (codes "drop")) in
     let with_desk = with_subcommand (with_subcommand needs_command init_app.top) desk_app.top in
     let with_lists = with_subcommand (with_subcommand (with_subcommand (with_subcommand with_desk link_app.top) links_app.top) manifest_app.top) compare_app.top in
-    with_subcommand (with_subcommand with_lists replay_app.top) serve_app.top
+    with_subcommand (with_subcommand (with_subcommand with_lists replay_app.top) serve_app.top) migrate_app.top
 
 -- ---- the values that the matches give
 
@@ -165,6 +175,7 @@ IsInitOf rows i =
     × IsSecretIn rows i.secret
     × (first_of (codes "east") rows ≡ Some i.east.now)
     × (first_of (codes "west") rows ≡ Some i.west.now)
+    × (first_of (codes "allowance") rows ≡ Some i.allowance.now)
 
 abbrev pub IsDeskIn : List Row → Desk → Type 0
 IsDeskIn rows d =
@@ -218,6 +229,7 @@ HasOneSecret rows =
 abbrev pub HasInit : List Row → Type 0
 HasInit rows =
     HasValue (codes "file") rows × HasValue (codes "clerk") rows × HasOneSecret rows × HasValue (codes "east") rows × HasValue (codes "west") rows
+    × HasValue (codes "allowance") rows
 
 abbrev pub HasDesk : List Row → Type 0
 HasDesk rows = HasValue (codes "file") rows × HasValue (codes "line") rows
@@ -251,6 +263,7 @@ IsTaskIn named (task.Manifest o) = (rows : List Row) × (named ≡ Some (codes "
 IsTaskIn named (task.Compare o) = (rows : List Row) × (named ≡ Some (codes "compare", rows)) × IsOfficeIn rows o
 IsTaskIn named (task.Replay r) = (rows : List Row) × (named ≡ Some (codes "replay", rows)) × IsReplayOf rows r
 IsTaskIn named (task.Serve s) = (rows : List Row) × (named ≡ Some (codes "serve", rows)) × IsServeIn rows s
+IsTaskIn named (task.Migrate o) = (rows : List Row) × (named ≡ Some (codes "migrate", rows)) × IsOfficeIn rows o
 
 abbrev pub NamesInit : Option (Text × List Row) → Type 0
 NamesInit named = (rows : List Row) × (named ≡ Some (codes "init", rows)) × HasInit rows
@@ -280,9 +293,13 @@ NamesReplay named = (rows : List Row) × (named ≡ Some (codes "replay", rows))
 abbrev pub NamesServe : Option (Text × List Row) → Type 0
 NamesServe named = (rows : List Row) × (named ≡ Some (codes "serve", rows)) × HasServe rows
 
+abbrev pub NamesMigrate : Option (Text × List Row) → Type 0
+NamesMigrate named = (rows : List Row) × (named ≡ Some (codes "migrate", rows)) × HasValue (codes "file") rows
+
 -- the command that the words name, with its matches, is a task
 abbrev pub NamesTask : Option (Text × List Row) → Type 0
-NamesTask named = NamesInit named ⊎ (NamesDesk named ⊎ (NamesLink named ⊎ (NamesList named ⊎ (NamesReplay named ⊎ NamesServe named))))
+NamesTask named =
+    NamesInit named ⊎ (NamesDesk named ⊎ (NamesLink named ⊎ (NamesList named ⊎ (NamesReplay named ⊎ (NamesServe named ⊎ NamesMigrate named)))))
 
 -- ---- the secret of init
 

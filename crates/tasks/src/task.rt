@@ -1,7 +1,7 @@
 //! What the program's words ask for.
 ghost use Rattle.std.specs.Prelude.{◌≡◌, ◌⊎◌, [], IfOk, IfErr, IfSome, IsErrAnd, IsSome, MatchResult, None, Some, codes, is_some, true, map};
 ghost use Rattle.clap.specs.Words.{all_of, fault_of, first_of, found_of, kind_of, rows_of, subcommand_of, subcommand_rows_of, takes};
-ghost use Rattle.tasks.specs.Tasks.{drop_app, HasDesk, HasInit, HasLink, HasLinks, HasOneSecret, HasReplay, HasServe, HasValue, IsDeskIn, IsFaultOf, IsInitOf, IsLinkIn, IsLinksIn, IsOfficeIn, IsReplayOf, IsSecretFault, IsSecretIn, IsServeIn, IsTaskIn, IsTaskOf, NamesCompare, NamesDesk, NamesInit, NamesLink, NamesLinks, NamesList, NamesManifest, NamesOneSecret, NamesReplay, NamesServe, NamesTask};
+ghost use Rattle.tasks.specs.Tasks.{drop_app, HasDesk, HasInit, HasLink, HasLinks, HasOneSecret, HasReplay, HasServe, HasValue, IsDeskIn, IsFaultOf, IsInitOf, IsLinkIn, IsLinksIn, IsOfficeIn, IsReplayOf, IsSecretFault, IsSecretIn, IsServeIn, IsTaskIn, IsTaskOf, NamesCompare, NamesDesk, NamesInit, NamesLink, NamesLinks, NamesList, NamesManifest, NamesMigrate, NamesOneSecret, NamesReplay, NamesServe, NamesTask};
 
 use crate::words::{command_line, init_command};
 use clap::error::ErrorKind;
@@ -27,11 +27,13 @@ pub enum Task<'a> {
     Replay(Replay<'a>),
     /// Serve connections over a socket.
     Serve(Serve<'a>),
+    /// Take an office file of version 1 over to version 2.
+    Migrate(OfficeFile<'a>),
 }
 
-/// The words of `drop init FILE --clerk ID --secret SECRET --east M --west M`, or with `--secret-file SECRETFILE` in the
-/// place of `--secret SECRET`, each as it was given, and the two numbers `0` where they were left out. The numbers are from
-/// 0 to 840; of the others no form is asked here.
+/// The words of `drop init FILE --clerk ID --secret SECRET --east M --west M --allowance N`, or with `--secret-file
+/// SECRETFILE` in the place of `--secret SECRET`, each as it was given, and the three numbers `0` where they were left out.
+/// M is from 0 to 840 and N from 0 to 900; of the others no form is asked here.
 #[derive(Clone, Copy)]
 pub struct Init<'a> {
     /// The office file.
@@ -44,6 +46,8 @@ pub struct Init<'a> {
     pub east: &'a str,
     /// How many minutes it is behind UTC.
     pub west: &'a str,
+    /// How many seconds before its start a link is taken.
+    pub allowance: &'a str,
 }
 
 /// Where the secret of a key stands. It has no `Debug`, so that no secret gets into a log by it.
@@ -100,7 +104,7 @@ pub struct Links<'a> {
     pub region: &'a str,
 }
 
-/// The word of `drop manifest FILE` and of `drop compare FILE`, as it was given.
+/// The word of `drop manifest FILE`, of `drop compare FILE` and of `drop migrate FILE`, as it was given.
 #[derive(Clone, Copy)]
 pub struct OfficeFile<'a> {
     /// The office file.
@@ -186,6 +190,9 @@ impl<'a> Task<'a> {
         if let Some(task) = Task::serve_in(matches) {
             return Ok(Some(task));
         }
+        if let Some(task) = Task::migrate_in(matches) {
+            return Ok(Some(task));
+        }
         Task::replay_in(alloc, matches)
     }
 
@@ -259,6 +266,14 @@ impl<'a> Task<'a> {
         Some(Task::Serve(Serve::of_matches(values)?))
     }
 
+    fn migrate_in(matches: &ArgMatches<'a>) -> Option<Task<'a>>
+        ensures task { IfSome result (IsTaskIn (subcommand_rows_of matches.now)) }
+        ensures named { NamesMigrate (subcommand_rows_of matches.now) → IsSome result }
+    {
+        let values = matches.subcommand_matches("migrate")?;
+        Some(Task::Migrate(OfficeFile::of_matches(values)?))
+    }
+
     fn replay_in(alloc: Global, matches: &ArgMatches<'a>) -> Result<Option<Task<'a>>, AllocError>
         ensures task { IfOk result
             (λ found. IfSome found (IsTaskIn (subcommand_rows_of matches.now))) }
@@ -286,6 +301,7 @@ impl<'a> Init<'a> {
             secret: Secret::of_matches(values)?,
             east: value_of(values, "east")?,
             west: value_of(values, "west")?,
+            allowance: value_of(values, "allowance")?,
         })
     }
 }

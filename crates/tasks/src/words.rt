@@ -2,7 +2,7 @@
 ghost use Rattle.std.specs.Prelude.{◌≡◌, IfOk, false};
 ghost use Rattle.clap.specs.Words.{app_of, rule_of};
 ghost use Rattle.clap.specs.declared.builder.command.Command.TheViews.{out-Command};
-ghost use Rattle.tasks.specs.Tasks.{compare_app, desk_app, drop_app, init_app, link_app, links_app, manifest_app, replay_app, serve_app, target_app, connections_rule, expires_rule, host_rule, key_rule, minutes_rule, option_rule, optional_rule, patience_rule, region_rule, streams_rule, word_rule};
+ghost use Rattle.tasks.specs.Tasks.{compare_app, desk_app, drop_app, init_app, link_app, links_app, manifest_app, migrate_app, replay_app, serve_app, target_app, allowance_rule, connections_rule, expires_rule, host_rule, key_rule, minutes_rule, option_rule, optional_rule, patience_rule, region_rule, streams_rule, word_rule};
 
 use clap::builder::ValueParser;
 use clap::{Arg, Command};
@@ -48,6 +48,15 @@ The commands. One space stands between two words. Each example is a LINE, in quo
   file drop BOX NAME
       Takes a file out of a box. Its receipt stays. NAME may hold spaces.
       Example: file drop roadworks plan 2.pdf
+
+  key limit ID BOX
+      Limits a key of role link to a box. The next such line gives it one box more. From the first on its links to
+      other boxes are refused. There is no way back: add another key instead.
+      Example: key limit tender-2 roadworks
+
+  office allow SECONDS
+      Sets how many seconds before its start a link is taken already, 0 to 900: for senders whose clocks run ahead.
+      Example: office allow 60
 
 For an office file called office:
   drop desk office 'key revoke tender-2'
@@ -110,6 +119,14 @@ head being row 1. The rows before it have been answered.
 For an office file called office:
   drop compare office <manifest.csv";
 
+// What stands below the help of `migrate`: what has to be done before it.
+const UPGRADE: &str = "\
+Before it the server is stopped, and the file is copied. All that the office keeps stays as it is: keys, boxes, files and
+receipts. The file is changed as a whole or not at all. Where it was stopped, run it again.
+
+For an office file called office:
+  drop migrate office";
+
 /// `drop COMMAND`.
 pub(crate) fn command_line<'a>(alloc: Global) -> Result<Command<'a>, AllocError>
     ensures { IfOk result (λ c. app_of c ≡ drop_app) }
@@ -127,11 +144,12 @@ pub(crate) fn command_line<'a>(alloc: Global) -> Result<Command<'a>, AllocError>
         .subcommand(manifest_command(alloc)?)?
         .subcommand(compare_command(alloc)?)?
         .subcommand(replay_command(alloc)?)?
-        .subcommand(serve_command(alloc)?)
+        .subcommand(serve_command(alloc)?)?
+        .subcommand(migrate_command(alloc)?)
 }
 
-/// `init FILE --clerk ID --secret SECRET --secret-file SECRETFILE --east M --west M`. That one secret is given, and in one
-/// way, clap is not told.
+/// `init FILE --clerk ID --secret SECRET --secret-file SECRETFILE --east M --west M --allowance N`. That one secret is given,
+/// and in one way, clap is not told.
 pub(crate) fn init_command<'a>(alloc: Global) -> Result<Command<'a>, AllocError>
     ensures app { IfOk result (λ c. app_of c ≡ init_app) }
     ensures local { IfOk result (λ c. (out-Command c).has_globals ≡ false) }
@@ -168,7 +186,8 @@ pub(crate) fn init_command<'a>(alloc: Global) -> Result<Command<'a>, AllocError>
             "east",
             "How many minutes the office's clock is ahead of UTC: 0 to 840",
         ))?
-        .arg(minutes(alloc, "west", "How many minutes it is behind UTC: 0 to 840"))
+        .arg(minutes(alloc, "west", "How many minutes it is behind UTC: 0 to 840"))?
+        .arg(allowance_option(alloc))
 }
 
 // `desk FILE LINE`.
@@ -177,7 +196,7 @@ fn desk_command<'a>(alloc: Global) -> Result<Command<'a>, AllocError>
     ensures local { IfOk result (λ c. (out-Command c).has_globals ≡ false) }
 {
     Command::new(alloc, "desk")
-        .about("Gives the desk of an office one command, about a key, a box or a file")
+        .about("Gives the desk of an office one command, about a key, a box, a file or the office")
         .after_help(DESK_FORMS)
         .arg(word(alloc, "file", "FILE", "The office file"))?
         .arg(word(
@@ -304,6 +323,19 @@ fn serve_command<'a>(alloc: Global) -> Result<Command<'a>, AllocError>
         .arg(patience_option(alloc))
 }
 
+// `migrate FILE`.
+fn migrate_command<'a>(alloc: Global) -> Result<Command<'a>, AllocError>
+    ensures app { IfOk result (λ c. app_of c ≡ migrate_app) }
+    ensures local { IfOk result (λ c. (out-Command c).has_globals ≡ false) }
+{
+    Command::new(alloc, "migrate")
+        .about(
+            "Takes an office file of version 1 over to version 2, and leaves one of version 2 as it is",
+        )
+        .after_help(UPGRADE)
+        .arg(word(alloc, "file", "FILE", "The office file"))
+}
+
 // A value by its place among the words, by the name that help calls it.
 fn word<'a>(alloc: Global, id: &'a str, name: &'a str, help: &'a str) -> Arg<'a>
     ensures rule { rule_of result ≡ word_rule id.entry.now }
@@ -422,6 +454,19 @@ fn patience_option<'a>(alloc: Global) -> Arg<'a>
         .value_parser(ValueParser::unsigned(0, 3600))
         .default_value("30")
         .help("How long one read or write of a connection may wait, 0 to 3600; 0 is without end")
+}
+
+// `--allowance N`, 0 where it is left out.
+fn allowance_option<'a>(alloc: Global) -> Arg<'a>
+    ensures rule { rule_of result ≡ allowance_rule }
+    ensures local { result.global ≡ false }
+{
+    Arg::new(alloc, "allowance")
+        .long("allowance")
+        .value_name("N")
+        .value_parser(ValueParser::unsigned(0, 900))
+        .default_value("0")
+        .help("How many seconds before its start a link is taken already: 0 to 900")
 }
 
 // `--id M`, a whole number of minutes, 0 where it is left out.

@@ -5,7 +5,7 @@ use boxes::{BoxRow, Change, Command, Mode, NameRule, OfficeRow};
 use keeper::{KeepFault, Keeper, Shelf};
 use links::{LinkKey, LinkOrder, OrderParam, write_link};
 use office::{Counted, FixedClock, Office, SessionEnd};
-use sigv4::Moment;
+use sigv4::{Allowance, Moment};
 use std::alloc::Global;
 use std::test::Fail;
 
@@ -35,9 +35,17 @@ pub fn add_box<K: Keeper>(keeper: &mut K, row: &BoxRow) -> Result<(), KeepFault>
     keeper.apply(&Change::Desk(Command::AddBox { name: b"in", row }))
 }
 
+/// An office whose clock is so many minutes east of UTC, and that forgives no clock.
+pub fn office_row(east: i16) -> OfficeRow {
+    OfficeRow {
+        east,
+        allowance: Allowance::none(),
+    }
+}
+
 /// An office in memory, whose clock is so many minutes east of UTC, with the clerk's key alone.
 pub fn begun(alloc: Global, east: i16) -> Result<Office<Shelf>, Fail> {
-    let keeper = Shelf::new(alloc, OfficeRow { east }, ID, SECRET)?;
+    let keeper = Shelf::new(alloc, office_row(east), ID, SECRET)?;
     Ok(Office::new(alloc, keeper))
 }
 

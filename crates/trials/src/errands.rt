@@ -70,10 +70,12 @@ pub enum Errand {
     AddBox,
     CloseBox,
     DropFile,
+    LimitKey,
+    Allow,
 }
 
 /// One of each kind.
-pub const ERRANDS: [Errand; 10] = [
+pub const ERRANDS: [Errand; 12] = [
     Errand::First,
     Errand::Upload,
     Errand::Replace,
@@ -84,6 +86,8 @@ pub const ERRANDS: [Errand; 10] = [
     Errand::AddBox,
     Errand::CloseBox,
     Errand::DropFile,
+    Errand::LimitKey,
+    Errand::Allow,
 ];
 
 impl Errand {
@@ -101,6 +105,8 @@ impl Errand {
                 b"box add out 20130101T000000Z 20130601T000000Z 1111111 0000 2400 100 2 keep begins a"
             }
             Errand::CloseBox => b"box close in 20130524T000001Z",
+            Errand::LimitKey => b"key limit k2 in",
+            Errand::Allow => b"office allow 900",
             _ => b"file drop in a.txt",
         }
     }

@@ -6,6 +6,7 @@
 pub mod boxed;
 pub mod errands;
 pub mod fakes;
+mod limits;
 pub mod lists;
 pub mod owed;
 pub mod published;

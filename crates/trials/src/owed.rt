@@ -9,6 +9,10 @@ pub const REVOKED: &[u8] =
 pub const NO_CLERK: &[u8] =
     b"HTTP/1.1 403 Forbidden\r\nContent-Type: text/plain\r\nContent-Length: 40\r\n\r\nAccessDenied 24 the key may not do this\n";
 
+/// The same to a HEAD.
+pub const HEAD_OF_NO_CLERK: &[u8] =
+    b"HTTP/1.1 403 Forbidden\r\nContent-Type: text/plain\r\nContent-Length: 40\r\n\r\n";
+
 pub const DONE: &[u8] =
     b"HTTP/1.1 200 OK\r\nContent-Type: text/plain\r\nContent-Length: 5\r\n\r\ndone\n";
 

@@ -1,8 +1,8 @@
 //! The published example of the Amazon S3 API Reference, "Authenticating Requests: Using Query Parameters", and what
 //! an office without boxes answers to it.
+use crate::boxed::office_row;
 use crate::fakes::{Sink, Source};
 use crate::owed::NO_WHOLE_BODY;
-use boxes::OfficeRow;
 use keeper::Shelf;
 use office::{Counted, FixedClock, Office, SessionEnd};
 use sigv4::Moment;
@@ -22,6 +22,9 @@ pub const REQUEST: &[u8] =
 
 pub const NO_BOX: &[u8] =
     b"HTTP/1.1 404 Not Found\r\nContent-Type: text/plain\r\nContent-Length: 28\r\n\r\nNoSuchBucket 27 no such box\n";
+
+pub const NOT_YET: &[u8] =
+    b"HTTP/1.1 403 Forbidden\r\nContent-Type: text/plain\r\nContent-Length: 42\r\n\r\nAccessDenied 22 the link is not valid yet\n";
 
 pub const EXPIRED: &[u8] =
     b"HTTP/1.1 403 Forbidden\r\nContent-Type: text/plain\r\nContent-Length: 37\r\n\r\nAccessDenied 23 the link has expired\n";
@@ -53,7 +56,7 @@ pub fn broken_off_answers(alloc: Global) -> Result<Vec<u8>, AllocError> {
 
 /// An office without boxes that has the example's key.
 pub fn make_office(alloc: Global) -> Result<Office<Shelf>, AllocError> {
-    match Shelf::new(alloc, OfficeRow { east: 0 }, ID, SECRET) {
+    match Shelf::new(alloc, office_row(0), ID, SECRET) {
         Ok(keeper) => Ok(Office::new(alloc, keeper)),
         Err(_) => Err(AllocError),
     }

@@ -1,5 +1,6 @@
 //! Worked rows: what is asked of an office that begins, and what is owed for it, over any keeper.
 use crate::boxed::{Asked, CLERK, add_box, bare, order, put, reply, sent, settings};
+use crate::limits::{allowing, limiting};
 use crate::lists::lists;
 use crate::owed::{
     CLOSED, DONE, FIRST_ABC, FIRST_EMPTY, FOUND_ABC, HEAD_OF_ABC, LONG_NAME, MALFORMED_TARGET,
@@ -58,10 +59,14 @@ pub enum Row {
     Returning,
     /// An upload comes again by a link that is no longer good.
     Outliving,
+    /// A key is limited to boxes.
+    Limiting,
+    /// Links may begin early.
+    Allowing,
 }
 
 /// All rows.
-pub const ROWS: [Row; 18] = [
+pub const ROWS: [Row; 20] = [
     Row::Published,
     Row::BreakingOff,
     Row::Closing,
@@ -80,6 +85,8 @@ pub const ROWS: [Row; 18] = [
     Row::Dropping,
     Row::Returning,
     Row::Outliving,
+    Row::Limiting,
+    Row::Allowing,
 ];
 
 impl Row {
@@ -112,6 +119,8 @@ impl Row {
             Row::Dropping => dropping(office),
             Row::Returning => returning(office),
             Row::Outliving => outliving(office),
+            Row::Limiting => limiting(office),
+            Row::Allowing => allowing(office),
         }
     }
 }

@@ -8,7 +8,7 @@ use std::test::Fail;
 // Every key, box and file that a test here names, and one of each that none adds.
 const KEYS: [&[u8]; 4] = [ID, b"k2", b"k3", b"k4"];
 
-const BOXES: [&[u8]; 3] = [b"in", b"out", b"none"];
+const BOXES: [&[u8]; 4] = [b"in", b"out", b"b2", b"none"];
 
 const FILES: [&[u8]; 7] = [
     b"a.txt",
@@ -52,6 +52,18 @@ fn put_keys<K: Keeper>(text: &mut Vec<u8>, alloc: Global, keeper: &mut K) -> Res
     Ok(())
 }
 
+fn put_limits<K: Keeper>(text: &mut Vec<u8>, alloc: Global, keeper: &mut K) -> Result<(), Fail> {
+    for id in KEYS {
+        for name in BOXES {
+            let reaches = keeper.may_use(id, name)?;
+            let limited = keeper.has_limit(id, name)?;
+            let line = format!(in alloc; "{reaches} {limited}\n")?;
+            text.extend_from_slice(line.as_bytes())?;
+        }
+    }
+    Ok(())
+}
+
 fn put_boxes<K: Keeper>(text: &mut Vec<u8>, alloc: Global, keeper: &mut K) -> Result<(), Fail> {
     for name in BOXES {
         let row = keeper.box_row(name)?;
@@ -84,12 +96,14 @@ fn put_receipts<K: Keeper>(
 
 /// All answers, one behind another.
 pub fn told<K: Keeper>(alloc: Global, keeper: &mut K) -> Result<Vec<u8>, Fail> {
-    let east = keeper.settings()?.east;
+    let office = keeper.settings()?;
+    let (east, allowance) = (office.east, office.allowance.seconds());
     let clerks = keeper.clerks()?;
     let next = keeper.next_number()?;
-    let line = format!(in alloc; "{east} {clerks} {next}\n")?;
+    let line = format!(in alloc; "{east} {allowance} {clerks} {next}\n")?;
     let mut text = Vec::from_slice(alloc, line.as_bytes())?;
     put_keys(&mut text, alloc, keeper)?;
+    put_limits(&mut text, alloc, keeper)?;
     put_boxes(&mut text, alloc, keeper)?;
     put_files(&mut text, alloc, keeper)?;
     put_receipts(&mut text, alloc, keeper, 0, 100)?;

@@ -86,6 +86,18 @@ impl<K: Keeper> Keeper for Watched<K> {
         self.leave(outcome)
     }
 
+    fn may_use(&mut self, id: &[u8], in_box: &[u8]) -> Result<bool, KeepFault> {
+        self.enter()?;
+        let outcome = self.inner.may_use(id, in_box);
+        self.leave(outcome)
+    }
+
+    fn has_limit(&mut self, id: &[u8], in_box: &[u8]) -> Result<bool, KeepFault> {
+        self.enter()?;
+        let outcome = self.inner.has_limit(id, in_box);
+        self.leave(outcome)
+    }
+
     fn box_row(&mut self, name: &[u8]) -> Result<Option<BoxRow>, KeepFault> {
         self.enter()?;
         let outcome = self.inner.box_row(name);

@@ -3,11 +3,14 @@
 use crate::keep::{KeepFault, Keeper};
 use crate::shelf::{Shelf, has_room};
 use boxes::{BoxRow, Change, Command, Mode, NameRule, NewFile, OfficeRow, Role};
+use sigv4::Allowance;
 use std::alloc::{AllocError, Global};
 use std::process::Abort;
 use std::test::Fail;
 
 const NAME: &[u8] = b"a.pdf";
+
+const LINK: &[u8] = b"lin";
 
 // An office, and how many of its calls were refused memory.
 #[derive(Drop)]
@@ -16,8 +19,9 @@ struct Tried {
     refused: u64,
 }
 
-// How much is kept: keys, clerks among them, boxes, files, receipts, and what the box `in` holds.
-fn kept(shelf: &Shelf) -> [u64; 7] {
+// How much is kept: keys, clerks among them, boxes, files, receipts, what the box `in` holds, the boxes that the key
+// `lin` is limited to, and the allowance.
+fn kept(shelf: &Shelf) -> [u64; 9] {
     let totals = shelf.totals_of(b"in");
     [
         shelf.keys.len() as u64,
@@ -27,6 +31,8 @@ fn kept(shelf: &Shelf) -> [u64; 7] {
         shelf.receipts.as_slice().len() as u64,
         totals.used,
         totals.count,
+        shelf.limits.get(LINK).map_or(0, |boxes| boxes.len() as u64),
+        shelf.office.allowance.seconds(),
     ]
 }
 
@@ -39,9 +45,12 @@ fn expect(holds: bool, else_wrong: &'static str) -> Result<(), Fail> {
 }
 
 impl Tried {
-    // An office whose clerk is `ann`, two hours west.
+    // An office whose clerk is `ann`, two hours west, that forgives no clock.
     fn new(alloc: Global) -> Result<Tried, Fail> {
-        let office = OfficeRow { east: -120 };
+        let office = OfficeRow {
+            east: -120,
+            allowance: Allowance::none(),
+        };
         match Shelf::new(alloc, office, b"ann", b"secret") {
             Ok(shelf) => Ok(Tried { shelf, refused: 0 }),
             Err(_) => Ok(Tried {
@@ -83,6 +92,16 @@ impl Tried {
         let totals = self.call(|shelf| shelf.sizes(b"in"))?;
         Ok(totals.used == used && totals.count == count)
     }
+
+    // Whether the key may use the box.
+    fn may_use(&mut self, id: &[u8], in_box: &[u8]) -> Result<bool, Fail> {
+        self.call(|shelf| shelf.may_use(id, in_box))
+    }
+
+    // Whether the key is limited to the box, maybe among others.
+    fn has_limit(&mut self, id: &[u8], in_box: &[u8]) -> Result<bool, Fail> {
+        self.call(|shelf| shelf.has_limit(id, in_box))
+    }
 }
 
 // A box that takes names that end with `.pdf`.
@@ -118,6 +137,11 @@ fn sets(number: u64, bytes: &[u8]) -> Change<'_> {
     Change::SetFile(file, bytes)
 }
 
+// The change that limits the key `lin` to a box.
+fn limits(in_box: &[u8]) -> Change<'_> {
+    Change::Desk(Command::LimitKey { id: LINK, in_box })
+}
+
 fn keeps_keys(rt: &impl Abort, office: &mut Tried) -> Result<(), Fail> {
     assert_eq!(rt; office.call(|shelf| shelf.clerks())?, 1);
     office.change(Change::Desk(Command::AddKey {
@@ -147,6 +171,44 @@ fn keeps_boxes(rt: &impl Abort, alloc: Global, office: &mut Tried) -> Result<(),
     let kept = office.call(|shelf| shelf.box_row(b"in"))?.ok_or("no box")?;
     assert!(rt; kept.closes == 150 && kept.quota == 10);
     assert!(rt; office.call(|shelf| shelf.box_row(b"out"))?.is_none());
+    Ok(())
+}
+
+// The box `none` is not there, and no key `eve`.
+fn keeps_limits(rt: &impl Abort, office: &mut Tried) -> Result<(), Fail> {
+    office.change(Change::Desk(Command::AddKey {
+        id: LINK,
+        role: Role::Link,
+        secret: b"third",
+    }))?;
+    assert!(rt; office.may_use(LINK, b"in")? && office.may_use(LINK, b"none")?);
+    assert!(rt; !office.has_limit(LINK, b"in")?);
+    office.change(limits(b"in"))?;
+    assert!(rt; office.may_use(LINK, b"in")? && !office.may_use(LINK, b"out")?);
+    assert!(rt; office.has_limit(LINK, b"in")? && !office.has_limit(LINK, b"out")?);
+    assert!(rt; !office.may_use(LINK, b"none")? && !office.may_use(LINK, b"")?);
+    office.change(limits(b"out"))?;
+    assert!(rt; office.may_use(LINK, b"in")? && office.may_use(LINK, b"out")?);
+    assert!(rt; !office.may_use(LINK, b"none")?);
+    assert!(rt; office.may_use(b"ann", b"in")? && office.may_use(b"ann", b"none")?);
+    assert!(rt; !office.has_limit(b"ann", b"in")?);
+    assert!(rt; office.may_use(b"eve", b"in")? && !office.has_limit(b"eve", b"in")?);
+    Ok(())
+}
+
+fn keeps_the_allowance(rt: &impl Abort, office: &mut Tried) -> Result<(), Fail> {
+    assert_eq!(rt;
+        office.call(|shelf| shelf.settings())?.allowance.seconds(),
+        0
+    );
+    office.change(Change::Desk(Command::SetAllowance { seconds: 900 }))?;
+    let set = office.call(|shelf| shelf.settings())?;
+    assert!(rt; set.allowance.seconds() == 900 && set.east == -120);
+    office.change(Change::Desk(Command::SetAllowance { seconds: 60 }))?;
+    assert_eq!(rt;
+        office.call(|shelf| shelf.settings())?.allowance.seconds(),
+        60
+    );
     Ok(())
 }
 
@@ -182,6 +244,8 @@ fn keeps_each_change(rt: HostRuntime) -> Result<(), Fail> {
     assert_eq!(rt; office.call(|shelf| shelf.settings())?.east, -120);
     keeps_keys(&rt, &mut office)?;
     keeps_boxes(&rt, rt.alloc(), &mut office)?;
+    keeps_limits(&rt, &mut office)?;
+    keeps_the_allowance(&rt, &mut office)?;
     keeps_files(&rt, &mut office)?;
     keeps_receipts(&rt, &mut office)?;
     assert!(rt; office.shelf.apply(&sets(4_000_000_001, b"")) == Err(KeepFault::Full));

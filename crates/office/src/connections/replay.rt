@@ -12,14 +12,25 @@ use crate::clocks::FixedClock;
 use crate::office::Office;
 use boxes::OfficeRow;
 use keeper::{Keeper, Shelf};
-use sigv4::Moment;
+use sigv4::{Allowance, Moment};
 use std::alloc::{AllocError, Global};
 use std::fs;
 use std::fs::Files;
 use std::io::{Read, Write};
 use wire::Counted;
 
-/// Serves one connection over a new office in memory, which has offset 0, this clerk's key and no boxes. Every
+// What an office in memory is set to.
+fn new_office() -> OfficeRow
+    ensures east { result.east ≡ pos 0 }
+    ensures allowance { result.allowance ≡ 0 }
+{
+    OfficeRow {
+        east: 0,
+        allowance: Allowance::none(),
+    }
+}
+
+/// Serves one connection over a new office in memory, which has offset 0, allowance 0, this clerk's key and no boxes. Every
 /// message is handled at the moment. The error is that memory was refused for the office; nothing was read then.
 pub fn replay<R: Read, W: Write>(
     alloc: Global,
@@ -34,12 +45,12 @@ pub fn replay<R: Read, W: Write>(
     ensures session { IfOk result (Replays
         (R.remaining reader.old.inner) (R.remaining reader.new.inner)
         (W.contents writer.old.inner) (W.contents writer.new.inner)
-        (first_state (pos 0) id.now secret.now) moment) }
+        (first_state (pos 0) 0 id.now secret.now) moment) }
     ensures tells { IfOk result (λ end.
         TellsFaults end reader.old reader.new writer.old writer.new) }
     ensures err { OnErr result ((reader.new ≡ reader.old) × (writer.new ≡ writer.old)) }
 {
-    let Ok(keeper) = Shelf::new(alloc, OfficeRow { east: 0 }, id, secret) else {
+    let Ok(keeper) = Shelf::new(alloc, new_office(), id, secret) else {
         return Err(AllocError);
     };
     let mut office = Office::new(alloc, keeper);
@@ -66,7 +77,7 @@ pub fn replay_bytes(
     requires id { IsKeyId id.now }
     requires secret { IsSecret secret.now }
     ensures { IfOk result (λ r.
-        IsReplay bytes.now (first_state (pos 0) id.now secret.now) moment r.answers.items r.end) }
+        IsReplay bytes.now (first_state (pos 0) 0 id.now secret.now) moment r.answers.items r.end) }
 {
     let mut reader = Counted::new(bytes);
     let mut writer = Counted::new(Vec::new(alloc));
@@ -110,7 +121,7 @@ pub fn replay_over<'a, F: Files, K: Keeper, W: Write>(
     Ok(faulty)
 }
 
-/// As `replay_over`, over a new office in memory, which has offset 0, this clerk's key and no boxes. The error is that memory
+/// As `replay_over`, over a new office in memory, which has offset 0, allowance 0, this clerk's key and no boxes. The error is that memory
 /// was refused for the office; nothing was served then.
 pub fn replay_in_memory<'a, F: Files, W: Write>(
     alloc: Global,
@@ -125,10 +136,10 @@ pub fn replay_in_memory<'a, F: Files, W: Write>(
     requires secret { IsSecret secret.now }
     ensures turns { IfOk result (λ served. (after : State)
         × TakesTurns (InTurn (W.contents writer.old.inner) (W.contents writer.new.inner)
-        (first_state (pos 0) id.now secret.now) after moment) streams.now served) }
+        (first_state (pos 0) 0 id.now secret.now) after moment) streams.now served) }
     ensures err { OnErr result (writer.new ≡ writer.old) }
 {
-    let first = OfficeRow { east: 0 };
+    let first = new_office();
     let Ok(keeper) = Shelf::new(alloc, first, id, secret) else {
         return Err(AllocError);
     };

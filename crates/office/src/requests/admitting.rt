@@ -1,22 +1,39 @@
 //! Which links are admitted.
 use crate::office::Office;
 use boxes::Role;
-use keeper::Keeper;
+use keeper::{KeepFault, Keeper};
 use links::{LinkParts, judge};
 use sigtext::Refusal;
 use sigv4::{Allowance, Moment};
 
 impl<K: Keeper> Office<K> {
-    ghost use Rattle.std.specs.Prelude.{◌≡◌, ◌≢◌, Err, MatchResult};
+    ghost use Rattle.std.specs.Prelude.{◌≡◌, ◌≢◌, ◌↔◌, Err, IfOk, MatchResult};
     ghost use Rattle.sigtext.specs.Request.{Request};
     ghost use Rattle.sigtext.specs.Rules.{IsFirstToFail};
     ghost use Rattle.boxes.specs.State.{Key, State};
+    ghost use Rattle.keeper.specs.Bound.{StaysBy};
     ghost use Rattle.links.specs.LinkReadings.{IsLinkOf};
+    ghost use Rattle.links.specs.Moments.{HasBegun, moment_with};
     ghost use Rattle.links.specs.WellFormed.{LinkValues};
     ghost use Rattle.office.specs.Admitted.{IsAdmitted};
     ghost use Rattle.office.specs.Crashes.{AddsStanding};
     ghost use Rattle.office.specs.Premise.{HoldsUnless, IsGivenUp, WasKept};
-    ghost use Rattle.office.specs.Rules.{Rule};
+    ghost use Rattle.office.specs.Rules.{Rule, judged_at};
+
+    // By how much the link may begin early. Where it has begun that makes no difference, and nothing is asked.
+    fn allowance_of(&mut self, link: &LinkParts<'_>, now: Moment) -> Result<Allowance, KeepFault>
+        ensures begun { (s : State) (r : Request) (p : LinkValues)
+            → WasKept K.Keeper self.old.keeper self.new.keeper s
+            → IsLinkOf link.now r p
+            → IfOk result (λ allowance. HasBegun (moment_with allowance now) p.start
+            ↔ HasBegun (judged_at s now) p.start) }
+        ensures rest { StaysBy K.Keeper self.old.keeper self.new.keeper result }
+    {
+        if link.has_begun(now) {
+            return Ok(Allowance::none());
+        }
+        Ok(self.keeper.settings()?.allowance)
+    }
 
     // The role of the key of a link that is admitted at the moment; else the refusal of the least of the
     // rules 19 to 23 that fails; or refusal 40, where the keeper counted a fault.
@@ -37,13 +54,10 @@ impl<K: Keeper> Office<K> {
                 if key.revoked {
                     return Err(Refusal::KeyRevoked);
                 }
-                match judge(
-                    link,
-                    &key.secret,
-                    &mut self.last_key,
-                    Allowance::none(),
-                    now,
-                ) {
+                let Ok(allowance) = self.allowance_of(link, now) else {
+                    return Err(Refusal::TryAgain);
+                };
+                match judge(link, &key.secret, &mut self.last_key, allowance, now) {
                     Ok(()) => Ok(key.role),
                     Err(refusal) => Err(refusal),
                 }

@@ -1,5 +1,4 @@
 //! What the office answers to one message.
-use super::forms::check_form;
 use super::reading::read_link;
 use crate::office::Office;
 use keeper::Keeper;
@@ -47,11 +46,7 @@ impl<K: Keeper> Office<K> {
             (request_in message.now) now result }
         ensures rest { HoldsUnless K.Keeper self.old.keeper self.new.keeper (IsGivenUp result) }
     {
-        let role = match self.admit(link, now) {
-            Ok(role) => role,
-            Err(refusal) => return Err(refusal),
-        };
-        match check_form(method, role, message) {
+        match self.check_message(link, method, message, now) {
             Ok(()) => {}
             Err(refusal) => return Err(refusal),
         }

@@ -28,7 +28,8 @@ pub enum DeskFault {
 }
 
 impl<K: Keeper> Office<K> {
-    ghost use Rattle.std.specs.Prelude.{◌≡◌, ◌≢◌, ◌⊎◌, ℕ, Err, IfErr, IfOk, IsErrAnd, OnErr, OnOk};
+    ghost use Rattle.std.specs.Prelude.{◌≡◌, ◌≢◌, ◌↔◌, ◌⊎◌, ℕ, Err, IfErr, IfOk, IsErrAnd, IsSome, IsTrue, OnErr, OnOk};
+    ghost use Rattle.std.specs.FinMap.{get};
     ghost use Rattle.sigtext.specs.Counts.{Rose};
     ghost use Rattle.sigtext.specs.Request.{Request};
     ghost use Rattle.boxes.specs.Changes.{command_of, IsObeyed};
@@ -47,6 +48,15 @@ impl<K: Keeper> Office<K> {
     ghost use Rattle.office.specs.Replying.{IsReplied, IsNoRefusal};
     ghost use Rattle.office.specs.Rules.{IsPost};
 
+    // Asks the keeper whether a box of this name is there.
+    fn has_box(&mut self, name: &[u8]) -> Result<bool, KeepFault>
+        ensures value { (s : State) → WasKept K.Keeper self.old.keeper self.new.keeper s
+            → IfOk result (λ there. IsTrue there ↔ IsSome (get s.boxes name.now)) }
+        ensures rest { StaysBy K.Keeper self.old.keeper self.new.keeper result }
+    {
+        Ok(self.keeper.box_row(name)?.is_some())
+    }
+
     // Asks the keeper what the rule of a command looks at.
     fn look_at(&mut self, command: &Command<'_>) -> Result<DeskView, KeepFault>
         ensures view { (s : State) → WasKept K.Keeper self.old.keeper self.new.keeper s
@@ -58,6 +68,7 @@ impl<K: Keeper> Office<K> {
             clerks: 0,
             has_box: false,
             has_file: false,
+            has_limit: false,
         };
         match command {
             Command::AddKey { id, .. } => view.key = self.keeper.key(id)?,
@@ -65,11 +76,17 @@ impl<K: Keeper> Office<K> {
                 view.key = self.keeper.key(id)?;
                 view.clerks = self.keeper.clerks()?;
             }
-            Command::AddBox { name, .. } => view.has_box = self.keeper.box_row(name)?.is_some(),
-            Command::CloseBox { name, .. } => view.has_box = self.keeper.box_row(name)?.is_some(),
+            Command::AddBox { name, .. } => view.has_box = self.has_box(name)?,
+            Command::CloseBox { name, .. } => view.has_box = self.has_box(name)?,
             Command::DropFile { in_box, name } => {
                 view.has_file = self.keeper.file(in_box, name)?.is_some();
             }
+            Command::LimitKey { id, in_box } => {
+                view.key = self.keeper.key(id)?;
+                view.has_box = self.has_box(in_box)?;
+                view.has_limit = self.keeper.has_limit(id, in_box)?;
+            }
+            Command::SetAllowance { .. } => {}
         }
         Ok(view)
     }

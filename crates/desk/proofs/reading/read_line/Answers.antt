@@ -48,3 +48,23 @@ pub returns-in-Some-strip_prefix-2-clause-memory : goal.returns-in-Some-strip_pr
 returns-in-Some-strip_prefix-2-clause-memory c =
     let front = behind_front c.args.line.now (codes "box add ") c.strip_prefix-3.result c.in-Some-strip_prefix-2.words c.in-Some-strip_prefix-2.is c.strip_prefix-3.ensures.cases in
     IfErr-weaker c.read_box.result _ _ (λ e has. (c.in-Some-strip_prefix-2.words.now, front, has)) c.read_box.ensures.memory
+
+pub returns-in-Some-strip_prefix-5-clause-some : goal.returns-in-Some-strip_prefix-5-clause-some
+returns-in-Some-strip_prefix-5-clause-some c =
+    let front = behind_front c.args.line.now (codes "key limit ") c.strip_prefix-6.result c.in-Some-strip_prefix-5.words c.in-Some-strip_prefix-5.is c.strip_prefix-6.ensures.cases in
+    subst (λ (t : List ℕ). IfSome c.read_limit.result (λ l. IsCommand t (said l))) (sym front) c.read_limit.ensures.some
+
+pub returns-in-Some-strip_prefix-5-clause-all : goal.returns-in-Some-strip_prefix-5-clause-all
+returns-in-Some-strip_prefix-5-clause-all c command is form =
+    let front = behind_front c.args.line.now (codes "key limit ") c.strip_prefix-6.result c.in-Some-strip_prefix-5.words c.in-Some-strip_prefix-5.is c.strip_prefix-6.ensures.cases in
+    c.read_limit.ensures.all command (subst (λ (t : List ℕ). IsCommand t command) front is) form
+
+pub returns-in-Some-strip_prefix-6-clause-some : goal.returns-in-Some-strip_prefix-6-clause-some
+returns-in-Some-strip_prefix-6-clause-some c =
+    let front = behind_front c.args.line.now (codes "office allow ") c.strip_prefix-7.result c.in-Some-strip_prefix-6.word c.in-Some-strip_prefix-6.is c.strip_prefix-7.ensures.cases in
+    subst (λ (t : List ℕ). IfSome c.read_allowance.result (λ l. IsCommand t (said l))) (sym front) c.read_allowance.ensures.some
+
+pub returns-in-Some-strip_prefix-6-clause-all : goal.returns-in-Some-strip_prefix-6-clause-all
+returns-in-Some-strip_prefix-6-clause-all c command is form =
+    let front = behind_front c.args.line.now (codes "office allow ") c.strip_prefix-7.result c.in-Some-strip_prefix-6.word c.in-Some-strip_prefix-6.is c.strip_prefix-7.ensures.cases in
+    c.read_allowance.ensures.all command (subst (λ (t : List ℕ). IsCommand t command) front is) form

@@ -3,7 +3,7 @@ use Rattle.std.specs.Prelude.{◌↔◌}
 use Rattle.std.proofs.lemmas.List.{take_all}
 use Rattle.sigtext.specs.Bytes.{bytes_cmp}
 use Rattle.boxes.proofs.Lookups.{bytes_total, bytes_same}
-use Rattle.keeper.specs.Maps.{found}
+use Rattle.boxes.specs.Maps.{found}
 use Rattle.sqlaudit.specs.declared.box_rules.BoxEntry.{BoxEntry}
 use Rattle.sqltables.specs.Tables.{Box}
 use Rattle.sqlaudit.specs.Outlines.{IsBoxEntry, IsBoxRule}

@@ -1,7 +1,7 @@
 use Rattle.std.proofs.Common.{◌≡◌, ◌∙◌, ◌+◌, ap, Some, rules}
 use Rattle.sigtext.specs.Bytes.{bytes_cmp}
 use Rattle.boxes.proofs.Lookups.{bytes_total}
-use Rattle.keeper.proofs.MapLemmas.{sets_of}
+use Rattle.boxes.proofs.MapLemmas.{sets_of}
 use Rattle.sqlaudit.specs.Sorting.{capped, text_of}
 use Rattle.sqlaudit.proofs.file_rules.add_file.Goals as goal
 

@@ -3,19 +3,24 @@ use Rattle.sqlite.specs.Effect.{Database}
 use Rattle.sqlite.specs.State.{HasCleanDisk}
 use Rattle.sqlite.specs.Held.{state}
 use Rattle.sqlaudit.specs.Lines.{AreLines, HaveRowids, IsKeyLine, IsBoxLine, IsReceiptLine, IsFileLine, IsPieceLine}
+use Rattle.sqlaudit.specs.Formats.{version_of}
+use Rattle.sqlaudit.specs.Opened.{AreAdded}
+use Rattle.sqlaudit.proofs.Extents.{is_version}
 use Rattle.sqlaudit.proofs.StillReads.{begins, goes_on, whole_still}
 use Rattle.sqlaudit.proofs.WholeTables.{lists_keys, lists_boxes, lists_receipts, lists_files, lists_pieces, pieces_same}
 use Rattle.sqlaudit.proofs.listing.list_all.Goals as goal
 
 pub returns-clause-listed : goal.returns-clause-listed
-returns-clause-listed g c v ours has whole inside clean =
+returns-clause-listed g c has whole inside clean =
+    let v = version_of c.args.format in
+    let ours = is_version c.args.format in
     let entry = state g.S.Store c.args.tx.now.conn.now in
     let at_keys = state g.S.Store c.list.new.tx.conn.now in
     let at_boxes = state g.S.Store c.list-2.new.tx.conn.now in
     let at_receipts = state g.S.Store c.list-3.new.tx.conn.now in
     let at_files = state g.S.Store c.list-4.new.tx.conn.now in
     let at_pieces = state g.S.Store c.list-5.new.tx.conn.now in
-    let clean_pieces : HasCleanDisk at_pieces = clean in
+    let clean_pieces : HasCleanDisk at_pieces = omega (arith, clean, c.list_added.ensures.rest.survives.clean) in
     let clean_files : HasCleanDisk at_files = omega (arith, clean_pieces, c.list-5.ensures.rest.survives.clean) in
     let clean_receipts : HasCleanDisk at_receipts = omega (arith, clean_files, c.list-4.ensures.rest.survives.clean) in
     let clean_boxes : HasCleanDisk at_boxes = omega (arith, clean_receipts, c.list-3.ensures.rest.survives.clean) in
@@ -30,6 +35,8 @@ returns-clause-listed g c v ours has whole inside clean =
     let files = lists_files v ours at_receipts at_files s3.schema c.in_ok-list-4.field-0.items (c.in_ok-list-4.ensures.read clean_files) in
     let s4 = goes_on v entry at_receipts at_files s3 files.same (c.in_ok-list-4.ensures.rest.running clean_files s3.inside) (c.list-4.ensures.rest.uncommitted clean_files s3.inside) in
     let pieces = lists_pieces v ours at_files at_pieces s4.schema (whole_still v entry at_files s4 whole) c.in_ok-list-5.field-0.items (c.in_ok-list-5.ensures.read clean_pieces) in
+    let s5 = goes_on v entry at_files at_pieces s4 pieces.same (c.in_ok-list-5.ensures.rest.running clean_pieces s4.inside) (c.list-5.ensures.rest.uncommitted clean_pieces s4.inside) in
+    let added = c.in_ok-list_added.ensures.listed s5.schema s5.inside clean in
     record {
       keys = subst (λ (d : Database). AreLines IsKeyLine (d.trees 1) c.in_ok-list.field-0.items) s0.same keys.lines_are;
       boxes = subst (λ (d : Database). AreLines IsBoxLine (d.trees 3) c.in_ok-list-2.field-0.items) s1.same boxes.lines_are;
@@ -41,17 +48,20 @@ returns-clause-listed g c v ours has whole inside clean =
       receipts_rowids = subst (λ (d : Database). HaveRowids (d.trees 5)) s2.same receipts.rowids;
       files_rowids = subst (λ (d : Database). HaveRowids (d.trees 6)) s3.same files.rowids;
       pieces_rowids = subst (λ (d : Database). HaveRowids (d.trees 9)) s4.same pieces.rowids;
+      added = subst (λ d. AreAdded v d c.in_ok-list_added.field-0.rules.items c.in_ok-list_added.field-0.limits.items) s5.same added;
     }
 
 pub returns-clause-same : goal.returns-clause-same
-returns-clause-same g c v ours has inside clean =
+returns-clause-same g c has inside clean =
+    let v = version_of c.args.format in
+    let ours = is_version c.args.format in
     let entry = state g.S.Store c.args.tx.now.conn.now in
     let at_keys = state g.S.Store c.list.new.tx.conn.now in
     let at_boxes = state g.S.Store c.list-2.new.tx.conn.now in
     let at_receipts = state g.S.Store c.list-3.new.tx.conn.now in
     let at_files = state g.S.Store c.list-4.new.tx.conn.now in
     let at_pieces = state g.S.Store c.list-5.new.tx.conn.now in
-    let clean_pieces : HasCleanDisk at_pieces = clean in
+    let clean_pieces : HasCleanDisk at_pieces = omega (arith, clean, c.list_added.ensures.rest.survives.clean) in
     let clean_files : HasCleanDisk at_files = omega (arith, clean_pieces, c.list-5.ensures.rest.survives.clean) in
     let clean_receipts : HasCleanDisk at_receipts = omega (arith, clean_files, c.list-4.ensures.rest.survives.clean) in
     let clean_boxes : HasCleanDisk at_boxes = omega (arith, clean_receipts, c.list-3.ensures.rest.survives.clean) in
@@ -65,4 +75,6 @@ returns-clause-same g c v ours has inside clean =
     let s3 = goes_on v entry at_boxes at_receipts s2 receipts.same (c.in_ok-list-3.ensures.rest.running clean_receipts s2.inside) (c.list-3.ensures.rest.uncommitted clean_receipts s2.inside) in
     let files = lists_files v ours at_receipts at_files s3.schema c.in_ok-list-4.field-0.items (c.in_ok-list-4.ensures.read clean_files) in
     let s4 = goes_on v entry at_receipts at_files s3 files.same (c.in_ok-list-4.ensures.rest.running clean_files s3.inside) (c.list-4.ensures.rest.uncommitted clean_files s3.inside) in
-    pieces_same v ours at_files at_pieces s4.schema c.in_ok-list-5.field-0.items (c.in_ok-list-5.ensures.read clean_pieces) ∙ s4.same
+    let same = pieces_same v ours at_files at_pieces s4.schema c.in_ok-list-5.field-0.items (c.in_ok-list-5.ensures.read clean_pieces) in
+    let s5 = goes_on v entry at_files at_pieces s4 same (c.in_ok-list-5.ensures.rest.running clean_pieces s4.inside) (c.list-5.ensures.rest.uncommitted clean_pieces s4.inside) in
+    c.in_ok-list_added.ensures.same s5.schema s5.inside clean ∙ s5.same

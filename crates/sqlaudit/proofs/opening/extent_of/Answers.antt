@@ -1,5 +1,5 @@
 use Rattle.std.proofs.Common.{rules}
-use Rattle.sqlaudit.specs.Opened.{BeginsAsOffice, AreNamed}
+use Rattle.sqlaudit.specs.Opened.{BeginsAsOffice, AreNamedAs}
 use Rattle.sqlaudit.proofs.Extents.{is_begun, is_less, is_whole}
 use Rattle.sqlaudit.proofs.opening.extent_of.Goals as goal
 
@@ -11,10 +11,10 @@ returns-then-not-is_table-clause-is c ours =
 pub returns-then-are_named-clause-is : goal.returns-then-are_named-clause-is
 returns-then-are_named-clause-is c ours =
     let first : BeginsAsOffice c.args.schema.now = search rules in
-    is_whole c.args.schema.now ours first (search rules)
+    is_whole c.args.format c.args.schema.now ours first (search rules)
 
 pub returns-else-are_named-clause-is : goal.returns-else-are_named-clause-is
 returns-else-are_named-clause-is c ours =
     let first : BeginsAsOffice c.args.schema.now = search rules in
-    let less : AreNamed c.args.schema.now → ⊥ = search rules in
-    (is_begun c.args.schema.now ours first, is_less c.args.schema.now less)
+    let less : AreNamedAs c.args.format c.args.schema.now → ⊥ = search rules in
+    (is_begun c.args.schema.now ours first, is_less c.args.format c.args.schema.now less)

@@ -1,6 +1,5 @@
-use Rattle.std.proofs.Common.{refl, ap, ◌∙◌}
+use Rattle.std.proofs.Common.{refl}
 use Rattle.sqlite.specs.Held.{state}
-use Rattle.sqltables.specs.Schema.{Version}
 use Rattle.sqlaudit.specs.Outlines.{AreSoundLines}
 use Rattle.sqlaudit.specs.declared.rules.Lines.{Lines}
 use Rattle.sqltables.proofs.StandingFiles.{if_ok_more}
@@ -10,19 +9,19 @@ use Rattle.sqlaudit.proofs.opening.is_sound.Goals as goal
 pub returns-then-not-sound-clause-found : goal.returns-then-not-sound-clause-found
 returns-then-not-sound-clause-found g c v ours has whole running clean lines rowids of tables =
     let db = (state g.S.Store c.args.tx.now.conn.now).now in
-    let lent : Lines = record { office = c.args.office; keys = c.deref.result; boxes = c.deref-2.result; receipts = c.deref-3.result; files = c.deref-4.result; pieces = c.deref-5.result } in
-    let is : AreLent lent c.args.office.now c.args.listed.now = record { office = refl; keys = c.deref.ensures.value; boxes = c.deref-2.ensures.value; receipts = c.deref-3.ensures.value; files = c.deref-4.ensures.value; pieces = c.deref-5.ensures.value } in
-    let are = are_listed db lent c.args.office.now c.args.listed.now is lines rowids tables in
+    let lent : Lines = record { office = c.args.office; keys = c.deref.result; boxes = c.deref-2.result; receipts = c.deref-3.result; files = c.deref-4.result; pieces = c.deref-5.result; rules = c.deref-6.result; limits = c.deref-7.result } in
+    let is : AreLent lent c.args.office.now c.args.listed.now = record { office = refl; keys = c.deref.ensures.value; boxes = c.deref-2.ensures.value; receipts = c.deref-3.ensures.value; files = c.deref-4.ensures.value; pieces = c.deref-5.ensures.value; rules = c.deref-6.ensures.value; limits = c.deref-7.ensures.value } in
+    let are = are_listed v db lent c.args.office.now c.args.listed.now is lines rowids tables in
     let not : AreSoundLines lent → ⊥ = λ sound. (let yes = c.in-Ok.ensures.1 sound in let no = c.if-not-sound.true in cc) in
-    unsound db lent c.args.office.now c.args.listed.now is are not
+    unsound v ours db lent c.args.office.now c.args.listed.now is are not
 
 pub returns-clause-found : goal.returns-clause-found
 returns-clause-found g c v ours has whole running clean lines rowids of tables =
     let db = (state g.S.Store c.args.tx.now.conn.now).now in
-    let lent : Lines = record { office = c.args.office; keys = c.deref.result; boxes = c.deref-2.result; receipts = c.deref-3.result; files = c.deref-4.result; pieces = c.deref-5.result } in
-    let is : AreLent lent c.args.office.now c.args.listed.now = record { office = refl; keys = c.deref.ensures.value; boxes = c.deref-2.ensures.value; receipts = c.deref-3.ensures.value; files = c.deref-4.ensures.value; pieces = c.deref-5.ensures.value } in
-    let are = are_listed db lent c.args.office.now c.args.listed.now is lines rowids tables in
+    let lent : Lines = record { office = c.args.office; keys = c.deref.result; boxes = c.deref-2.result; receipts = c.deref-3.result; files = c.deref-4.result; pieces = c.deref-5.result; rules = c.deref-6.result; limits = c.deref-7.result } in
+    let is : AreLent lent c.args.office.now c.args.listed.now = record { office = refl; keys = c.deref.ensures.value; boxes = c.deref-2.ensures.value; receipts = c.deref-3.ensures.value; files = c.deref-4.ensures.value; pieces = c.deref-5.ensures.value; rules = c.deref-6.ensures.value; limits = c.deref-7.ensures.value } in
+    let are = are_listed v db lent c.args.office.now c.args.listed.now is lines rowids tables in
     let sound : AreSoundLines lent = c.in-Ok.ensures.0 c.if-not-sound.false in
     if_ok_more _ _ c.have_bytes.result
-    (tested db lent c.args.office.now c.args.listed.now is are (has running.1 ∙ ap (λ (w : Version). w.schema) ours) (whole running.1) of sound c.deref-6.result.now c.deref-7.result.now c.deref-6.ensures.value c.deref-7.ensures.value)
+    (tested v ours db lent c.args.office.now c.args.listed.now is are (has running.1) (whole running.1) of sound c.deref-8.result.now c.deref-9.result.now c.deref-8.ensures.value c.deref-9.ensures.value)
     (c.have_bytes.ensures.read v ours has whole running clean)

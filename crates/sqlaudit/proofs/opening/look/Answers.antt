@@ -1,11 +1,13 @@
-use Rattle.std.proofs.Common.{◌≡◌, ◌≢◌, pos, rules, arith, refl, sym, subst, ◌∙◌}
+use Rattle.std.proofs.Common.{◌≡◌, ◌≢◌, rules, arith, refl, sym, subst, ◌∙◌}
 use Rattle.sqlite.specs.Effect.{Database}
 use Rattle.sqlite.specs.State.{HasCleanDisk}
 use Rattle.sqlite.specs.Held.{state}
-use Rattle.sqltables.specs.Schema.{Version, v1, s6}
+use Rattle.sqltables.specs.Schema.{Version}
 use Rattle.sqlaudit.specs.Lines.{AreLines, HaveRowids, IsOfficeLine}
 use Rattle.sqlaudit.specs.declared.opening.Extent.TheVariants.{Whole}
 use Rattle.sqlaudit.specs.Opened.{IsExtent, IsFound, AreOfVersion}
+use Rattle.sqlaudit.specs.Formats.{version_of}
+use Rattle.sqlaudit.proofs.Extents.{is_version}
 use Rattle.sqlaudit.proofs.StillReads.{begins, goes_on, whole_still}
 use Rattle.sqltables.proofs.StandingFiles.{if_ok_more}
 use Rattle.sqlaudit.proofs.Tested.{unversioned, lines_version, damaged, less}
@@ -16,31 +18,37 @@ returns-in_default-clause-found g c premise inside clean =
     let entry = state g.S.Store c.args.tx.now.conn.now in
     let running = c.in_ok-office.ensures.rest.running clean inside in
     let p = premise ((c.list_office.ensures.rest.uncommitted clean inside).was_open running.1) in
-    let v : Version = record { number = pos 1; schema = entry.now.schema } in
-    let are = subst (AreLines IsOfficeLine (entry.now.trees 0)) (sym c.deref.ensures.value) (c.in_ok-office.ensures.listed v p.0 (λ is_open. refl) inside clean) in
-    unversioned entry.now c.deref.result.now are c.in_default.ensures
+    let v = version_of c.args.format in
+    let ours = is_version c.args.format in
+    let w : Version = record { number = v.number; schema = entry.now.schema } in
+    let are = subst (AreLines IsOfficeLine (entry.now.trees 0)) (sym c.deref.ensures.value) (c.in_ok-office.ensures.listed w p.0 (λ is_open. refl) inside clean) in
+    unversioned v ours entry.now c.deref.result.now are c.in_default.ensures
 
-pub returns-then-line-ne-VERSION-clause-found : goal.returns-then-line-ne-VERSION-clause-found
-returns-then-line-ne-VERSION-clause-found g c premise inside clean =
+pub returns-then-line-number-clause-found : goal.returns-then-line-number-clause-found
+returns-then-line-number-clause-found g c premise inside clean =
     let entry = state g.S.Store c.args.tx.now.conn.now in
     let running = c.in_ok-office.ensures.rest.running clean inside in
     let p = premise ((c.list_office.ensures.rest.uncommitted clean inside).was_open running.1) in
-    let v : Version = record { number = pos 1; schema = entry.now.schema } in
-    let are = subst (AreLines IsOfficeLine (entry.now.trees 0)) (sym c.deref.ensures.value) (c.in_ok-office.ensures.listed v p.0 (λ is_open. refl) inside clean) in
-    let other : c.in-Some.line.now.version ≢ pos 1 = search rules in
-    (c.in-Some.line.now.version, lines_version entry.now c.deref.result.now are p.0 c.in-Some.line.now.version c.in-Some.ensures, other)
+    let v = version_of c.args.format in
+    let ours = is_version c.args.format in
+    let w : Version = record { number = v.number; schema = entry.now.schema } in
+    let are = subst (AreLines IsOfficeLine (entry.now.trees 0)) (sym c.deref.ensures.value) (c.in_ok-office.ensures.listed w p.0 (λ is_open. refl) inside clean) in
+    let other : c.in-Some.line.now.version ≢ v.number = search rules in
+    (c.in-Some.line.now.version, lines_version v ours entry.now c.deref.result.now are p.0 c.in-Some.line.now.version c.in-Some.ensures, other)
 
 pub returns-then-ne-clause-found : goal.returns-then-ne-clause-found
 returns-then-ne-clause-found g c premise inside clean =
     let entry = state g.S.Store c.args.tx.now.conn.now in
     let running = c.in_ok-office.ensures.rest.running clean inside in
     let p = premise ((c.list_office.ensures.rest.uncommitted clean inside).was_open running.1) in
-    let v : Version = record { number = pos 1; schema = entry.now.schema } in
-    let are = subst (AreLines IsOfficeLine (entry.now.trees 0)) (sym c.deref.ensures.value) (c.in_ok-office.ensures.listed v p.0 (λ is_open. refl) inside clean) in
-    let one : c.in-Some.line.now.version ≡ pos 1 = search rules in
+    let v = version_of c.args.format in
+    let ours = is_version c.args.format in
+    let w : Version = record { number = v.number; schema = entry.now.schema } in
+    let are = subst (AreLines IsOfficeLine (entry.now.trees 0)) (sym c.deref.ensures.value) (c.in_ok-office.ensures.listed w p.0 (λ is_open. refl) inside clean) in
+    let one : c.in-Some.line.now.version ≡ v.number = search rules in
     let other : c.args.extent ≡ Whole → ⊥ = search rules in
-    let schema = less c.args.extent entry.now.schema p.1 other in
-    damaged entry.now c.deref.result.now are (subst (AreOfVersion c.deref.result.now) one c.in-Some.ensures) (λ office is. schema is.holds.schema)
+    let schema = less v ours c.args.extent entry.now.schema p.1 other in
+    damaged v ours entry.now c.deref.result.now are (subst (AreOfVersion c.deref.result.now) one c.in-Some.ensures) (λ office is. schema is.holds.schema)
 
 pub returns-clause-found : goal.returns-clause-found
 returns-clause-found g c premise inside clean =
@@ -49,16 +57,18 @@ returns-clause-found g c premise inside clean =
     let entry = state g.S.Store c.args.tx.now.conn.now in
     let running = c.in_ok-office.ensures.rest.running early inside in
     let p = premise ((c.list_office.ensures.rest.uncommitted early inside).was_open running.1) in
-    let v : Version = record { number = pos 1; schema = entry.now.schema } in
+    let v = version_of c.args.format in
+    let ours = is_version c.args.format in
+    let w : Version = record { number = v.number; schema = entry.now.schema } in
     let whole : c.args.extent ≡ Whole = search rules in
-    let schema : entry.now.schema ≡ s6 = subst (λ e. IsExtent e entry.now.schema) whole p.1 in
-    let still = goes_on v1 entry entry mid (begins v1 entry (λ is_open. schema) inside) (c.in_ok-office.ensures.same v p.0 (λ is_open. refl) inside early) running (c.list_office.ensures.rest.uncommitted early inside) in
+    let schema : entry.now.schema ≡ v.schema = subst (λ e. IsExtent v e entry.now.schema) whole p.1 in
+    let still = goes_on v entry entry mid (begins v entry (λ is_open. schema) inside) (c.in_ok-office.ensures.same w p.0 (λ is_open. refl) inside early) running (c.list_office.ensures.rest.uncommitted early inside) in
     let back : entry.now ≡ mid.now = sym still.same in
-    let are = subst (AreLines IsOfficeLine (entry.now.trees 0)) (sym c.deref-2.ensures.value) (c.in_ok-office.ensures.listed v p.0 (λ is_open. refl) inside early) in
-    let rowids = c.in_ok-office.ensures.rowids v p.0 (λ is_open. refl) inside early in
-    let one : c.in-Some.line.now.version ≡ pos 1 = search rules in
+    let are = subst (AreLines IsOfficeLine (entry.now.trees 0)) (sym c.deref-2.ensures.value) (c.in_ok-office.ensures.listed w p.0 (λ is_open. refl) inside early) in
+    let rowids = c.in_ok-office.ensures.rowids w p.0 (λ is_open. refl) inside early in
+    let one : c.in-Some.line.now.version ≡ v.number = search rules in
     let lists : c.deref.result.now ≡ c.deref-2.result.now = c.deref.ensures.value ∙ sym c.deref-2.ensures.value in
-    let of = subst (λ ls. AreOfVersion ls (pos 1)) lists (subst (AreOfVersion c.deref.result.now) one c.in-Some.ensures) in
-    if_ok_more _ _ c.look_at_all.result (λ finding is. subst (IsFound finding) still.same is)
-    (c.look_at_all.ensures.found v1 refl still.schema (whole_still v1 entry mid still (λ is_open. p.2)) running clean (subst (λ (d : Database). AreLines IsOfficeLine (d.trees 0) c.deref-2.result.now) back are)
+    let of = subst (λ ls. AreOfVersion ls v.number) lists (subst (AreOfVersion c.deref.result.now) one c.in-Some.ensures) in
+    if_ok_more _ _ c.look_at_all.result (λ finding is. subst (IsFound v finding) still.same is)
+    (c.look_at_all.ensures.found still.schema (whole_still v entry mid still (λ is_open. p.2)) running clean (subst (λ (d : Database). AreLines IsOfficeLine (d.trees 0) c.deref-2.result.now) back are)
     (subst (λ (d : Database). HaveRowids (d.trees 0)) back rowids) of)

@@ -1,4 +1,4 @@
-use Rattle.std.proofs.Common.{◌≡◌, arith, sym, subst, ◌∙◌}
+use Rattle.std.proofs.Common.{◌≡◌, arith, sym, subst}
 use Rattle.std.specs.Prelude.{MatchBool}
 use Rattle.sqlite.specs.Effect.{Database}
 use Rattle.sqlite.specs.State.{HasCleanDisk}
@@ -6,20 +6,24 @@ use Rattle.sqlite.specs.Held.{state}
 use Rattle.boxes.specs.State.{State as Office}
 use Rattle.sqlaudit.specs.Lines.{AreLines, HaveRowids, IsOfficeLine}
 use Rattle.sqlaudit.specs.Opened.{AreTables, AreOffice}
+use Rattle.sqlaudit.specs.Formats.{version_of}
+use Rattle.sqlaudit.proofs.Extents.{is_version}
 use Rattle.sqlaudit.proofs.StillReads.{begins, goes_on, whole_still}
 use Rattle.sqlaudit.proofs.Tested.{damaged, found_of}
 use Rattle.sqlaudit.proofs.opening.look_at_all.Goals as goal
 
 pub returns-clause-found : goal.returns-clause-found
-returns-clause-found g c v ours has whole running clean lines rowids of =
+returns-clause-found g c has whole running clean lines rowids of =
+    let v = version_of c.args.format in
+    let ours = is_version c.args.format in
     let entry = state g.S.Store c.args.tx.now.conn.now in
     let mid = state g.S.Store c.list_all.new.tx.conn.now in
     let early : HasCleanDisk mid = omega (arith, clean, c.is_sound.ensures.rest.survives.clean) in
     let on = c.in_ok-listed.ensures.rest.running early running.0 in
-    let still = goes_on v entry entry mid (begins v entry has running.0) (c.in_ok-listed.ensures.same v ours has running.0 early) on (c.list_all.ensures.rest.uncommitted early running.0) in
+    let still = goes_on v entry entry mid (begins v entry has running.0) (c.in_ok-listed.ensures.same has running.0 early) on (c.list_all.ensures.rest.uncommitted early running.0) in
     let back : entry.now ≡ mid.now = sym still.same in
-    let tables = subst (λ d. AreTables d c.in_ok-listed.listed) back (c.in_ok-listed.ensures.listed v ours has whole running.0 early) in
+    let tables = subst (λ d. AreTables v d c.in_ok-listed.listed) back (c.in_ok-listed.ensures.listed has whole running.0 early) in
     let sound = c.in_ok-sound.ensures.found v ours still.schema (whole_still v entry mid still whole) on clean (subst (λ (d : Database). AreLines IsOfficeLine (d.trees 0) c.args.office.now) back lines)
     (subst (λ (d : Database). HaveRowids (d.trees 0)) back rowids) of tables in
-    found_of entry.now c.finding_of.result c.in_ok-sound.sound c.finding_of.ensures (damaged entry.now c.args.office.now lines of)
-    (subst (λ d. MatchBool c.in_ok-sound.sound ((o : Office) × AreOffice d o) ((o : Office) → AreOffice d o → ⊥)) still.same sound)
+    found_of v entry.now c.finding_of.result c.in_ok-sound.sound c.finding_of.ensures (damaged v ours entry.now c.args.office.now lines of)
+    (subst (λ d. MatchBool c.in_ok-sound.sound ((o : Office) × AreOffice v d o) ((o : Office) → AreOffice v d o → ⊥)) still.same sound)

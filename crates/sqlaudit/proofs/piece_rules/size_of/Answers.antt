@@ -2,7 +2,7 @@ use Rattle.std.proofs.Common.{◌≡◌, ◌∙◌, ℕ, ◌-◌, Some, ap, sym,
 use Rattle.std.specs.Prelude.{unwrap_or, option_map}
 use Rattle.std.specs.Ordering.{nat_cmp}
 use Rattle.boxes.specs.State.{Receipt}
-use Rattle.keeper.specs.Maps.{found}
+use Rattle.boxes.specs.Maps.{found}
 use Rattle.sqlaudit.specs.Sorting.{given_in}
 use Rattle.sqlaudit.proofs.piece_rules.size_of.Goals as goal
 

@@ -6,7 +6,7 @@ use Rattle.sqlaudit.specs.declared.rules.Lines.{Lines}
 use Rattle.sqlaudit.specs.Outlines.{AreSoundLines, IsBoxEntry, IsBoxRule}
 use Rattle.sqlaudit.specs.Sorting.{IsRead, AreFiled, HoldsBoxes, IsGiven, key_in, text_of, box_in, given_in}
 use Rattle.sqlaudit.proofs.Entries.{rule_of_entries}
-use Rattle.sqlaudit.proofs.WholeRules.{no, GoodKey, GoodBox, o, refuted, told, good_keys, good_boxes, given, filed, has_clerk_too, unbroken, totals_told, pieces_in, built}
+use Rattle.sqlaudit.proofs.WholeRules.{no, GoodKey, GoodBox, o, refuted, told, good_keys, good_boxes, given, filed, has_clerk_too, limits_ruled, unbroken, totals_told, pieces_in, built}
 use Rattle.sqlaudit.proofs.rules.are_sound.Goals as goal
 use Rattle.sqlaudit.proofs.rules.are_sound.Goals.{then-not-has_clerk-via-then-not-has_clerk, then-not-has_clerk-via-else-not-has_clerk+then-not-is_unbroken}
 
@@ -21,6 +21,20 @@ returns-in_default-2 c =
     let lines : Lines = c.args.lines.now in
     let none = subst (IsRead bytes_cmp text_of box_in GoodBox lines.boxes.now) c.in_default-2.is c.in_ok-boxes.ensures in
     no (AreSoundLines lines) (λ a. none (get (o lines a).boxes) (good_boxes lines a))
+
+pub returns-then-not-has_allowance : goal.returns-then-not-has_allowance
+returns-then-not-has_allowance c =
+    no (AreSoundLines c.args.lines.now) (λ a. refuted c.if-not-has_allowance.true (c.has_allowance.ensures.1 (a.office.allowance, a.lines_are.rules, a.sound.allowance)))
+
+pub returns-then-not-are_limits : goal.returns-then-not-are_limits
+returns-then-not-are_limits c =
+    let lines : Lines = c.args.lines.now in
+    let keys = subst (IsRead bytes_cmp text_of key_in GoodKey lines.keys.now) c.in-Some.is c.in_ok-keys.ensures in
+    let ks = keys.map in
+    let boxes = subst (IsRead bytes_cmp text_of box_in GoodBox lines.boxes.now) c.in-Some-2.is c.in_ok-boxes.ensures in
+    let bs = boxes.map in
+    let held : HoldsBoxes c.in-Some-2.boxes bs = record { means = boxes.means; good = rule_of_entries IsBoxEntry IsBoxRule (get bs) lines.boxes.now boxes.entries } in
+    no (AreSoundLines lines) (λ a. refuted c.if-not-are_limits.true ((c.are_limits.ensures ks bs keys.means held).1 (limits_ruled lines a ks bs keys.entries boxes.entries)))
 
 pub returns-in_default-3 : goal.returns-in_default-3
 returns-in_default-3 c =
@@ -88,10 +102,12 @@ returns c =
     let files = subst (AreFiled rs lines.files.now) c.in-Some-4.is (c.in_ok-filed.ensures rs receipts.means) in
     let fs = files.0.map in
     let office = c.is_office.ensures.0 (told c.if-not-is_office.false) in
+    let allowance = c.has_allowance.ensures.0 (told c.if-not-has_allowance.false) in
+    let ruled = (c.are_limits.ensures ks bs keys.means held).0 (told c.if-not-are_limits.false) in
     let clerk = (c.has_clerk.ensures ks keys.entries).0 (told c.if-not-has_clerk.false) in
     let whole = (c.is_unbroken.ensures rs receipts.means).0 (told c.if-not-is_unbroken.false) in
     let totals = (c.have_totals.ensures rs fs files.1).0 (told c.if-not-have_totals.false) in
     let pieces = c.are_pieces.ensures rs fs receipts.means files.0.means in (
-      λ h. built lines ks bs rs fs keys.entries boxes.entries receipts.entries files.0.entries office clerk whole totals (pieces.0 h),
+      λ h. built lines ks bs rs fs keys.entries boxes.entries receipts.entries files.0.entries office clerk whole totals (pieces.0 h) allowance ruled,
       λ a. pieces.1 (pieces_in lines a ks bs keys.entries boxes.entries rs receipts.entries fs files.0.entries),
     )

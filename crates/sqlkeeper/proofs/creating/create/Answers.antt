@@ -7,7 +7,7 @@ use Rattle.sqlite.specs.State.{HasCleanDisk}
 use Rattle.sqlite.specs.Held.{state}
 use Rattle.boxes.specs.State.{State}
 use Rattle.boxes.specs.FirstState.{first_state}
-use Rattle.sqltables.specs.Schema.{v1, s0}
+use Rattle.sqltables.specs.Schema.{v2, s0}
 use Rattle.sqltables.specs.Tables.{tables_of}
 use Rattle.sqltables.specs.Means.{Holds, Means, IsBare, SeesNothing, LeavesOnly, AddsOnly, LeavesLast}
 use Rattle.sqlkeeper.proofs.Taken.{made, durable, crash, open_still}
@@ -17,10 +17,10 @@ use Rattle.sqlkeeper.proofs.creating.create.Goals as goal
 
 module _ (g : given.Over) (c : goal.After-conn-2-1 g) where
   abbrev first : State
-  first = first_state c.args.east c.args.id.now c.args.secret.now
+  first = first_state c.args.east c.args.allowance c.args.id.now c.args.secret.now
 
   -- what the transaction has written means the first state
-  holds : IsBare (state g.S.Store c.args.conn.now) → HasCleanDisk (state g.S.Store c.commit.new.self.0) → Holds v1 (state g.S.Store c.make_office.new.tx.conn.now).now (tables_of first)
+  holds : IsBare (state g.S.Store c.args.conn.now) → HasCleanDisk (state g.S.Store c.commit.new.self.0) → Holds v2 (state g.S.Store c.make_office.new.tx.conn.now).now (tables_of first)
   holds bare clean =
       let begun = state g.S.Store c.transaction-tx.result.conn.now in
       let mid = state g.S.Store c.make_office.new.tx.conn.now in
@@ -28,24 +28,24 @@ module _ (g : given.Over) (c : goal.After-conn-2-1 g) where
       let nothing : SeesNothing s0 begun = rw c.transaction-tx.ensures.begun (λ was_clean _ is_open. record { schema_is = ((bare was_clean).bare is_open).schema; empty = tt }) in
       let running = c.in_ok-make_office.ensures.rest.running early in
       let done = c.in_ok-make_office.ensures.done nothing early running.0 running.1 in
-      let written = subst (λ n. Holds v1 mid.now (with_key (no_rows n) c.args.id.now (record { role = Clerk; secret = c.args.secret.now; revoked = false }))) (to_z-of_z w16 c.args.east c.ranges.east) done in
-      subst (Holds v1 mid.now) (sym (first_tables c.args.east c.args.id.now c.args.secret.now)) written
+      let written = subst (λ n. Holds v2 mid.now (with_key (no_rows n c.args.allowance) c.args.id.now (record { role = Clerk; secret = c.args.secret.now; revoked = false }))) (to_z-of_z w16 c.args.east c.ranges.east) done in
+      subst (Holds v2 mid.now) (sym (first_tables c.args.east c.args.allowance c.args.id.now c.args.secret.now)) written
 
 pub returns-clause-made : goal.returns-clause-made
 returns-clause-made g c bare =
     let mid = state g.S.Store c.make_office.new.tx.conn.now in
     let end = state g.S.Store c.commit.new.self.0 in
     let same : c.commit.new.self.0 ≡ c.conn-2-1.given.0 = search rules in
-    let out = made v1 mid end (first g c) (holds g c bare) c.commit.result c.commit.ensures.ok in
-    subst (λ h. OnOk c.commit.result (Means v1 (state g.S.Store h) (first g c))) same out
+    let out = made v2 mid end (first g c) (holds g c bare) c.commit.result c.commit.ensures.ok in
+    subst (λ h. OnOk c.commit.result (Means v2 (state g.S.Store h) (first g c))) same out
 
 pub returns-clause-durable : goal.returns-clause-durable
 returns-clause-durable g c bare =
     let mid = state g.S.Store c.make_office.new.tx.conn.now in
     let end = state g.S.Store c.commit.new.self.0 in
     let same : c.commit.new.self.0 ≡ c.conn-2-1.given.0 = search rules in
-    let out = durable v1 mid end (first g c) (holds g c bare) c.commit.result c.commit.ensures.ok (λ db is_open. g.met.S.Store.settled c.commit.new.self.0.store db is_open) in
-    subst (λ h. OnOk c.commit.result (LeavesOnly v1 (state g.S.Store h) (first g c))) same out
+    let out = durable v2 mid end (first g c) (holds g c bare) c.commit.result c.commit.ensures.ok (λ db is_open. g.met.S.Store.settled c.commit.new.self.0.store db is_open) in
+    subst (λ h. OnOk c.commit.result (LeavesOnly v2 (state g.S.Store h) (first g c))) same out
 
 pub returns-clause-crash : goal.returns-clause-crash
 returns-clause-crash g c bare =
@@ -54,8 +54,8 @@ returns-clause-crash g c bare =
     let end = state g.S.Store c.commit.new.self.0 in
     let same : c.commit.new.self.0 ≡ c.conn-2-1.given.0 = search rules in
     let before : HasCleanDisk end → (db : Trees) → mid.may_leave db → old.may_leave db = search rules in
-    let out = crash v1 old mid end (first g c) (holds g c bare) c.commit.ensures.survives before in
-    subst (λ h. AddsOnly v1 old (state g.S.Store h) (first g c)) same out
+    let out = crash v2 old mid end (first g c) (holds g c bare) c.commit.ensures.survives before in
+    subst (λ h. AddsOnly v2 old (state g.S.Store h) (first g c)) same out
 
 pub returns-clause-opened : goal.returns-clause-opened
 returns-clause-opened g c clean =

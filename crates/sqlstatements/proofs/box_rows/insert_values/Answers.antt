@@ -1,5 +1,5 @@
-use Rattle.std.proofs.Common.{arith, IsTrue, ◌≡◌, ◌∷◌, [], subst, sym, Ok, w32, w64, to_z, of_z, rules}
-use Rattle.sqlite.specs.State.{HasCleanDisk, Executes, KeepsCommit}
+use Rattle.std.proofs.Common.{arith, ◌≡◌, ◌∷◌, [], subst, Ok, w32, w64, to_z, of_z, rules}
+use Rattle.sqlite.specs.State.{HasCleanDisk, Executes}
 use Rattle.sqlite.specs.Held.{state}
 use Rattle.sqltables.proofs.Ours.{ours_of, says_of}
 use Rattle.sqlite_value.specs.declared.value.Value.TheVariants.{Int, Text}

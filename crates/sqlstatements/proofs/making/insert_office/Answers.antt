@@ -1,4 +1,4 @@
-use Rattle.std.proofs.Common.{arith, IsTrue, ◌≡◌, w32, to_z, of_z}
+use Rattle.std.proofs.Common.{arith, ◌≡◌, w32, to_z, of_z}
 use Rattle.sqlite.specs.State.{HasCleanDisk}
 use Rattle.sqlite.specs.Held.{state}
 use Rattle.std.proofs.lemmas.Int.{to_z-of_z}

@@ -1,4 +1,4 @@
-use Rattle.std.proofs.Common.{◌≡◌, ◌⊎◌, inl, inr, Some, IsTrue, arith, sym, subst}
+use Rattle.std.proofs.Common.{inl, inr, IsTrue, arith, sym, subst}
 use Rattle.sqlite.specs.State.{HasCleanDisk}
 use Rattle.sqlite.specs.Held.{state}
 use Rattle.boxes.specs.State.{Place}

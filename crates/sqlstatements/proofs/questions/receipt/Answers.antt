@@ -1,4 +1,4 @@
-use Rattle.std.proofs.Common.{◌≡◌, Some, sym, ap, ◌∙◌}
+use Rattle.std.proofs.Common.{Some, sym, ap, ◌∙◌}
 use Rattle.boxes.specs.declared.rows.ReceiptRow.{ReceiptRow}
 use Rattle.sqltables.specs.Questions.{shown_receipt}
 use Rattle.sqlstatements.proofs.Asked.{none_there, some_there, none_is_some, some_is_some}

@@ -1,4 +1,4 @@
-use Rattle.std.proofs.Common.{arith, IsTrue, ◌≡◌, ◌∷◌, [], ap, sym, subst, Ok, w32, to_z, ◌∙◌}
+use Rattle.std.proofs.Common.{arith, ◌≡◌, ◌∷◌, [], ap, sym, subst, Ok, w32, to_z, ◌∙◌}
 use Rattle.sqlite.specs.State.{HasCleanDisk, Executes}
 use Rattle.sqlite.specs.Held.{state}
 use Rattle.sqltables.proofs.Ours.{ours_of, says_of}

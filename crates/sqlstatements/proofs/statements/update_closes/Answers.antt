@@ -1,4 +1,4 @@
-use Rattle.std.proofs.Common.{arith, IsTrue, ◌≡◌, ◌∷◌, [], subst, Ok, w64, to_z, of_z}
+use Rattle.std.proofs.Common.{arith, ◌≡◌, ◌∷◌, [], subst, Ok, w64, to_z, of_z}
 use Rattle.sqlite.specs.State.{HasCleanDisk, Executes}
 use Rattle.sqlite.specs.Held.{state}
 use Rattle.sqltables.proofs.Ours.{ours_of, says_of}

@@ -23,5 +23,6 @@ returns c =
     let with_manifest = c.in_ok-subcommand-5.ensures.shape c.in_ok-manifest_command.ensures.local ∙ ap₂ with_subcommand with_links (ap (λ (a : App). a.top) c.in_ok-manifest_command.ensures.app) in
     let with_compare = c.in_ok-subcommand-6.ensures.shape c.in_ok-compare_command.ensures.local ∙ ap₂ with_subcommand with_manifest (ap (λ (a : App). a.top) c.in_ok-compare_command.ensures.app) in
     let with_replay = c.in_ok-subcommand-7.ensures.shape c.in_ok-replay_command.ensures.local ∙ ap₂ with_subcommand with_compare (ap (λ (a : App). a.top) c.in_ok-replay_command.ensures.app) in
-    IfOk-weaker c.subcommand-8.result _ _ (λ r added. added.shape c.in_ok-serve_command.ensures.local
-    ∙ ap₂ with_subcommand with_replay (ap (λ (a : App). a.top) c.in_ok-serve_command.ensures.app)) c.subcommand-8.ensures
+    let with_serve = c.in_ok-subcommand-8.ensures.shape c.in_ok-serve_command.ensures.local ∙ ap₂ with_subcommand with_replay (ap (λ (a : App). a.top) c.in_ok-serve_command.ensures.app) in
+    IfOk-weaker c.subcommand-9.result _ _ (λ r added. added.shape c.in_ok-migrate_command.ensures.local
+    ∙ ap₂ with_subcommand with_serve (ap (λ (a : App). a.top) c.in_ok-migrate_command.ensures.app)) c.subcommand-9.ensures

@@ -14,7 +14,8 @@ returns-clause-app c =
     let with_secret = c.in_ok-arg-3.ensures.shape c.optional.ensures.local ∙ ap₂ with_rule with_clerk c.optional.ensures.rule in
     let with_secret_file = c.in_ok-arg-4.ensures.shape c.optional-2.ensures.local ∙ ap₂ with_rule with_secret c.optional-2.ensures.rule in
     let with_east = c.in_ok-arg-5.ensures.shape c.minutes.ensures.local ∙ ap₂ with_rule with_secret_file c.minutes.ensures.rule in
-    IfOk-weaker c.arg-6.result _ _ (λ r added. added.shape c.minutes-2.ensures.local ∙ ap₂ with_rule with_east c.minutes-2.ensures.rule) c.arg-6.ensures
+    let with_west = c.in_ok-arg-6.ensures.shape c.minutes-2.ensures.local ∙ ap₂ with_rule with_east c.minutes-2.ensures.rule in
+    IfOk-weaker c.arg-7.result _ _ (λ r added. added.shape c.allowance_option.ensures.local ∙ ap₂ with_rule with_west c.allowance_option.ensures.rule) c.arg-7.ensures
 
 pub returns-clause-local : goal.returns-clause-local
 returns-clause-local c =
@@ -24,4 +25,5 @@ returns-clause-local c =
     let three = c.in_ok-arg-3.ensures.globals ∙ ap₂ (λ x y. x || y) two c.optional.ensures.local in
     let four = c.in_ok-arg-4.ensures.globals ∙ ap₂ (λ x y. x || y) three c.optional-2.ensures.local in
     let five = c.in_ok-arg-5.ensures.globals ∙ ap₂ (λ x y. x || y) four c.minutes.ensures.local in
-    IfOk-weaker c.arg-6.result _ _ (λ r added. added.globals ∙ ap₂ (λ x y. x || y) five c.minutes-2.ensures.local) c.arg-6.ensures
+    let six = c.in_ok-arg-6.ensures.globals ∙ ap₂ (λ x y. x || y) five c.minutes-2.ensures.local in
+    IfOk-weaker c.arg-7.result _ _ (λ r added. added.globals ∙ ap₂ (λ x y. x || y) six c.allowance_option.ensures.local) c.arg-7.ensures

@@ -1,32 +1,36 @@
-use Rattle.std.proofs.Common.{◌≡◌, subst, w16, to_z, of_z, rules}
+use Rattle.std.proofs.Common.{◌≡◌, ◌≤◌, ℕ, subst, w16, to_z, of_z, rules}
 use Rattle.sqlite.specs.Held.{state}
+use Rattle.sigv4.specs.Allowances.{most_allowance}
 use Rattle.boxes.specs.FirstState.{first_state}
 use Rattle.boxes.proofs.SoundFirstState.{sound_first_state}
-use Rattle.sqltables.specs.Schema.{v1}
+use Rattle.sqltables.specs.Schema.{v2}
 use Rattle.sqltables.specs.Means.{Means, LeavesOnly, AddsOnly, IsBare}
 use Rattle.sqlkeeper.proofs.AtRest.{bare_of}
 use Rattle.sqlkeeper.proofs.Stays.{left_alone}
 use Rattle.sqlkeeper.proofs.file_keeper.SqlKeeper.create.Goals as goal
+
+few : (allowance seconds : ℕ) → seconds ≡ allowance → seconds ≤ most_allowance → allowance ≤ most_allowance
+few allowance seconds is bound = subst (λ n. n ≤ most_allowance) is bound
 
 pub returns-in-Ok-create-clause-made : goal.returns-in-Ok-create-clause-made
 returns-in-Ok-create-clause-made g c west east is_id is_secret =
     let bare : IsBare (state g.S.Store c.args.conn) = bare_of (state g.S.Store c.args.conn) (search rules) (search rules) (c.is_autocommit.ensures.settled c.if-not-is_autocommit.false) in
     let end = state g.S.Store c.create.new.conn in
     let same : to_z w16 (of_z w16 c.args.office.east) ≡ c.args.office.east = search rules in
-    let means = subst (λ id. Means v1 end (first_state (to_z w16 (of_z w16 c.args.office.east)) id c.args.secret.now)) c.in-Ok.ensures.cases.0 (c.in-Ok-create.ensures.made bare) in
+    let means = subst (λ id. Means v2 end (first_state (to_z w16 (of_z w16 c.args.office.east)) c.args.office.allowance id c.args.secret.now)) c.in-Ok.ensures.cases.0 (c.in-Ok-create.ensures.made bare) in
     record {
-      means = subst (λ n. Means v1 end (first_state n c.args.id.now c.args.secret.now)) same means;
-      sound = sound_first_state c.args.office.east c.args.id.now c.args.secret.now west east is_id is_secret;
+      means = subst (λ n. Means v2 end (first_state n c.args.office.allowance c.args.id.now c.args.secret.now)) same means;
+      sound = sound_first_state c.args.office.east c.args.office.allowance c.args.id.now c.args.secret.now west east (few c.args.office.allowance c.seconds.result c.seconds.ensures.value c.seconds.ensures.bound) is_id is_secret;
     }
 
 pub returns-in-Ok-create-clause-durable : goal.returns-in-Ok-create-clause-durable
 returns-in-Ok-create-clause-durable g c west east is_id is_secret clean =
     let bare : IsBare (state g.S.Store c.args.conn) = bare_of (state g.S.Store c.args.conn) (search rules) (search rules) (c.is_autocommit.ensures.settled c.if-not-is_autocommit.false) in
     let end = state g.S.Store c.create.new.conn in
-    let after = first_state c.args.office.east c.args.id.now c.args.secret.now in
+    let after = first_state c.args.office.east c.args.office.allowance c.args.id.now c.args.secret.now in
     let same : to_z w16 (of_z w16 c.args.office.east) ≡ c.args.office.east = search rules in
-    let only = subst (λ id. LeavesOnly v1 end (first_state (to_z w16 (of_z w16 c.args.office.east)) id c.args.secret.now)) c.in-Ok.ensures.cases.0 (c.in-Ok-create.ensures.durable bare) in
-    left_alone (λ k. state g.S.Store k.conn) (record { conn = c.create.new.conn; faults = 0; alloc = c.args.alloc }) after (sound_first_state c.args.office.east c.args.id.now c.args.secret.now west east is_id is_secret) clean (c.in-Ok-create.ensures.opened clean).1 (subst (λ n. LeavesOnly v1 end (first_state n c.args.id.now c.args.secret.now)) same only)
+    let only = subst (λ id. LeavesOnly v2 end (first_state (to_z w16 (of_z w16 c.args.office.east)) c.args.office.allowance id c.args.secret.now)) c.in-Ok.ensures.cases.0 (c.in-Ok-create.ensures.durable bare) in
+    left_alone (λ k. state g.S.Store k.conn) (record { conn = c.create.new.conn; faults = 0; alloc = c.args.alloc }) after (sound_first_state c.args.office.east c.args.office.allowance c.args.id.now c.args.secret.now west east (few c.args.office.allowance c.seconds.result c.seconds.ensures.value c.seconds.ensures.bound) is_id is_secret) clean (c.in-Ok-create.ensures.opened clean).1 (subst (λ n. LeavesOnly v2 end (first_state n c.args.office.allowance c.args.id.now c.args.secret.now)) same only)
 
 pub returns-in-Err-clause-crash : goal.returns-in-Err-clause-crash
 returns-in-Err-clause-crash g c =
@@ -34,5 +38,5 @@ returns-in-Err-clause-crash g c =
     let old = state g.S.Store c.args.conn in
     let end = state g.S.Store c.create.new.conn in
     let same : to_z w16 (of_z w16 c.args.office.east) ≡ c.args.office.east = search rules in
-    let adds = subst (λ id. AddsOnly v1 old end (first_state (to_z w16 (of_z w16 c.args.office.east)) id c.args.secret.now)) c.in-Ok.ensures.cases.0 (c.create.ensures.crash bare) in
-    subst (λ n. AddsOnly v1 old end (first_state n c.args.id.now c.args.secret.now)) same adds
+    let adds = subst (λ id. AddsOnly v2 old end (first_state (to_z w16 (of_z w16 c.args.office.east)) c.args.office.allowance id c.args.secret.now)) c.in-Ok.ensures.cases.0 (c.create.ensures.crash bare) in
+    subst (λ n. AddsOnly v2 old end (first_state n c.args.office.allowance c.args.id.now c.args.secret.now)) same adds

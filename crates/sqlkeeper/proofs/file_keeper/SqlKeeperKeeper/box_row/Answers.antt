@@ -3,8 +3,7 @@ use Rattle.sqlkeeper.proofs.Stays.{stays, carried}
 use Rattle.sqlkeeper.proofs.NotText.{no_box}
 use Rattle.std.specs.FinMap.{get}
 use Rattle.std.specs.Prelude.{◌≡◌, option_map, IfOk}
-use Rattle.std.proofs.Common.{refl, subst}
-use Rattle.sqltables.specs.Schema.{v1}
+use Rattle.std.proofs.Common.{subst}
 use Rattle.boxes.specs.Rows.{settings_of}
 use Rattle.sqlkeeper.proofs.file_keeper.SqlKeeperKeeper.box_row.Goals as goal
 
@@ -13,7 +12,7 @@ returns-in_default-clause-value g c s keeps sound clean = no_box s sound c.args.
 
 pub returns-clause-value : goal.returns-clause-value
 returns-clause-value g c s keeps sound clean =
-    let found = carried (λ x. option_map settings_of x ≡ get s.boxes c.in-Ok.name.now) c.box_row.result c.counted.result c.counted.ensures.value (c.box_row.ensures.found v1 s refl keeps.means sound clean) in
+    let found = carried (λ x. option_map settings_of x ≡ get s.boxes c.in-Ok.name.now) c.box_row.result c.counted.result c.counted.ensures.value (c.box_row.ensures.found s keeps.means sound clean) in
     subst (λ n. IfOk c.counted.result (λ x. option_map settings_of x ≡ get s.boxes n)) c.in-Ok.ensures.cases.0 found
 
 pub returns-clause-rest : goal.returns-clause-rest

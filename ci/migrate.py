@@ -1,0 +1,322 @@
+"""Runs `drop migrate` on the office files of version 1 that are kept in ci/version1, and on such files that were broken.
+
+A program of version 1 made them and was asked of each (ci/make_version1.py, ci/kept.py): what it said then is owed now, byte for
+byte. Fault lines come from docs/USE.md, and the tables are read by Python's `sqlite3`. The last line is `N passed, M failed`.
+"""
+
+import functools
+import random
+import shutil
+import signal
+import subprocess
+import time
+
+import kit
+import tables
+from kept import VERSION_1, Kept, all_kept
+from office import (
+    CANNOT_OPEN, CLERK, DAMAGED, EXISTS, LINK, VERSION, difference, get, not_offices, run_all, stock,
+)
+from replays import ID, MOMENT, fault
+
+REFUSED = fault("the store refused")
+SAID_DONE = kit.Run(0, b"done\n", b"")
+LEAST_PAGE = 512  # bytes of a page, in a journal or not
+KILLS = 20
+KILLED = ["many", "sizes"]
+
+
+def migrate(drop, file, **how):
+    return drop.run("migrate", file, **how)
+
+
+def copied(drop, kept, name=""):
+    return kept.copied(drop.path(f"{kept.name}{name}"))
+
+
+def looked_at(file):
+    """A copy of an office file, with its journal, that may be opened by others."""
+    folder = file.with_name("looked-at")
+    shutil.rmtree(folder, ignore_errors=True)
+    folder.mkdir()
+    for it in file.parent.glob(f"{file.name}*"):
+        if it.is_file():
+            shutil.copy(it, folder)
+    return folder / file.name
+
+
+def content(file):
+    """All that the tables hold, and how they were made."""
+    return tables.dump(looked_at(file))
+
+
+def rows_of(file):
+    """The rows of the tables of version 1."""
+    copy = looked_at(file)
+    return {name: sorted(tables.rows(copy, f"SELECT * FROM {name}")) for name in tables.OF_VERSION_1}
+
+
+def is_at_rest(file):
+    """Whether the journal holds no page, and is of the office's kind: then who only looks writes nothing to the file."""
+    journal = file.with_name(f"{file.name}-wal")
+    return file.read_bytes()[18:20] == b"\2\2" and (not journal.exists() or journal.stat().st_size < LEAST_PAGE)
+
+
+def left(file):
+    """What must not change: all that the tables hold, and of a file at rest its bytes."""
+    return content(file), file.read_bytes() if is_at_rest(file) else None
+
+
+def other(found, owed):
+    """Whether what was left is something else, in words."""
+    return None if found == owed else "the tables were changed" if found[0] != owed[0] else "the bytes were changed"
+
+
+# ---- what a migrated office says
+
+
+def refused_by_each(drop, file):
+    """Each command on an office file that it can't open."""
+    place = ["--key", ID, "--host", LINK["host"], "--region", LINK["region"]]
+    stream = file.with_name("stream")
+    stream.write_bytes(get(b"/in/a.txt"))
+    words = [
+        ["desk", file, "key add k9 link s3cr3t"], ["desk", file, "no command"], ["manifest", file], ["compare", file], ["links", file, *place],
+        ["link", file, "GET", "in/a.txt", *place, "--start", MOMENT, "--expires", "1"], ["replay", file, stream, "--at", MOMENT],
+        ["serve", file, "--listen", "127.0.0.1:0", "--connections", "1"],
+    ]
+    found = [drop.run(*it) for it in words]
+    stream.unlink()
+    return found
+
+
+def test_unmigrated(drop, count):
+    """No command but `migrate` opens a file of version 1, and none changes it."""
+    for kept in all_kept():
+        file = copied(drop, kept)
+        before = left(file)
+        for found in refused_by_each(drop, file):
+            count.add(f"{kept.name}, version 1", difference(found, VERSION))
+        count.add(f"{kept.name}: init", difference(drop.run("init", file, *CLERK), EXISTS))
+        count.add(f"{kept.name} stays", other(left(file), before))
+
+
+def test_rows(drop, count):
+    """The rows of version 1 stay as they are, but for the version; what is new is what a new office has."""
+    new = drop.office("new")
+    texts = "SELECT name, sql FROM sqlite_schema WHERE name NOT LIKE 'sqlite_%' ORDER BY name"
+    for kept in all_kept():
+        file = copied(drop, kept)
+        before = rows_of(file)
+        count.add(f"{kept.name}: migrate", difference(migrate(drop, file), SAID_DONE))
+        copy = looked_at(file)
+        owed = before | {"office": [(1, 2, before["office"][0][2])]}
+        count.add(f"{kept.name}: rows", None if rows_of(file) == owed else "they were changed")
+        found = [tables.rows(copy, f"SELECT * FROM {name}") for name in tables.NEW_TABLES]
+        count.add(f"{kept.name}: new tables", difference(found, [[(1, 0)], [], []]))
+        count.add(f"{kept.name}: how they were made", difference(tables.rows(copy, texts), tables.rows(new, texts)))
+        said = stock(copy, "PRAGMA integrity_check; PRAGMA foreign_key_check")
+        count.add(f"{kept.name}: integrity_check", difference(said, "ok"))
+
+
+def test_twice(drop, count):
+    """The manifest is that of version 1. The next `migrate` changes nothing."""
+    for kept in all_kept():
+        file = copied(drop, kept)
+        before, manifest = None, kit.Run(0, kept.manifest, b"")
+        for time_of in ["once", "twice", "three times"]:
+            count.add(f"{kept.name}: migrate {time_of}", difference(migrate(drop, file), SAID_DONE))
+            after = left(file)
+            count.add(f"{kept.name}: what it left {time_of}", other(after, before or after))
+            count.add(f"{kept.name}: manifest {time_of}", difference(drop.run("manifest", file), manifest))
+            before = after
+
+
+def test_answers(drop, count):
+    """Each request and each word is answered as it was."""
+    def each(kept):
+        file = copied(drop, kept)
+        yield "migrate", difference(migrate(drop, file), SAID_DONE)
+        for number, asked in enumerate(kept.asked):
+            found = asked.run(drop.program, file)
+            same = found == asked.came
+            yield f"{number}, {asked.words}", None if same else f"{found} and not {asked.came}"[:2000]
+
+    for kept, found in zip(all_kept(), kit.side_by_side(lambda it: list(each(it)), all_kept())):
+        for name, wrong in found:
+            count.add(f"{kept.name}, {name}", wrong)
+
+
+def test_changed(drop, count):
+    """A migrated office takes what is new, and another `migrate` leaves that."""
+    file = copied(drop, Kept(VERSION_1 / "filled"))
+    count.add("migrate", difference(migrate(drop, file), SAID_DONE))
+    for line in ["key limit k2 in", "key limit k2 ends", "office allow 900"]:
+        count.add(f"desk {line}", difference(drop.run("desk", file, line), SAID_DONE))
+    before = left(file)
+    count.add("migrate again", difference(migrate(drop, file), SAID_DONE))
+    count.add("it stays", other(left(file), before))
+    found = [tables.rows(looked_at(file), f"SELECT * FROM {name} ORDER BY 2") for name in tables.NEW_TABLES]
+    count.add("its new tables", difference(found, [[(1, 900)], [("k2", "ends"), ("k2", "in")], []]))
+
+
+def test_new(drop, count):
+    """A file of version 2 is left as it is."""
+    for name, file in [("new", drop.office("new", "--allowance", "60")), ("filled", drop.filled("full"))]:
+        before = content(file)
+        bytes_before = file.read_bytes()
+        count.add(f"migrate {name}", difference(migrate(drop, file), SAID_DONE))
+        count.add(f"{name}: its tables stay", None if content(file) == before else "they were changed")
+        count.add(f"{name}: its bytes stay", None if file.read_bytes() == bytes_before else "they were changed")
+
+
+def test_output(drop, count):
+    """Where nobody hears it, the office is migrated nevertheless."""
+    kept = Kept(VERSION_1 / "filled")
+    file = copied(drop, kept)
+    with open("/dev/full", "wb", buffering=0) as full:
+        count.add("a full disk", difference(migrate(drop, file, out=full), fault("cannot write")))
+    count.add("its manifest", difference(drop.run("manifest", file), kit.Run(0, kept.manifest, b"")))
+
+
+# ---- what is not migrated
+
+
+def refused(drop, count, name, file, *owed):
+    before = left(file)
+    count.add(name, difference(migrate(drop, file), *owed))
+    count.add(f"{name}, stays", other(left(file), before))
+
+
+def test_broken(drop, count):
+    """Each rule of the tables of version 1 broken in turn."""
+    whole = copied(drop, Kept(VERSION_1 / "filled"))
+    loosened = [it for it in tables.LOOSENED if it[0] in tables.OF_VERSION_1]
+    cases = [(it.name, it.own, functools.partial(tables.run, statements=it.statements)) for it in tables.breaks_of_version_1()]
+    for table, old, new, statement in loosened:
+        cases.append((statement, True, functools.partial(tables.loosened, table=table, old=old, new=new, statement=statement)))
+
+    def each(case):
+        number, (name, own, damage) = case
+        folder = drop.path(f"broken-{number}")
+        folder.mkdir()
+        file = folder / "office"
+        shutil.copy(whole, file)
+        damage(file)
+        before = left(file)
+        if before[0] == tables.dump(whole):
+            return f"{name}: nothing was broken"
+        owed = [DAMAGED] + [CANNOT_OPEN] * own + [REFUSED] * ("RENAME COLUMN" in name)
+        return difference(migrate(drop, file), *owed) or other(left(file), before)
+
+    for (name, _, _), wrong in zip(cases, kit.side_by_side(each, list(enumerate(cases)))):
+        count.add(f"broken: {name}", wrong)
+
+
+# A table, a view or an index of a new table's name.
+TAKEN = [
+    *(f"CREATE TABLE {name} (id INTEGER PRIMARY KEY) STRICT" for name in tables.NEW_TABLES),
+    "CREATE TABLE rules (id INTEGER NOT NULL PRIMARY KEY, allowance INTEGER NOT NULL) STRICT",
+    "CREATE TABLE staged (part INTEGER NOT NULL PRIMARY KEY, bytes BLOB NOT NULL) STRICT",
+    "CREATE TABLE KEY_BOX (id INTEGER PRIMARY KEY) STRICT",
+]
+TAKEN_OTHERWISE = [
+    *(f"CREATE VIEW {name} AS SELECT 1" for name in tables.NEW_TABLES),
+    *(f"CREATE INDEX {name} ON keys (role)" for name in tables.NEW_TABLES),
+]
+
+
+def test_taken(drop, count):
+    """A file of version 1 that holds the name of a new table."""
+    cases = [*(([it], [DAMAGED]) for it in TAKEN), (TAKEN[:3], [DAMAGED]), *(([it], [DAMAGED, CANNOT_OPEN]) for it in TAKEN_OTHERWISE)]
+    for number, (statements, owed) in enumerate(cases):
+        file = copied(drop, Kept(VERSION_1 / "filled"), f"-taken-{number}")
+        tables.run(file, statements)
+        refused(drop, count, f"{statements}", file, *owed)
+
+
+def test_versions(drop, count):
+    """Another version is told before all else; one that says version 2 has all its tables."""
+    cases = [
+        *((version, [], [VERSION]) for version in [7, 0, 3, -1, 2**62]), (2, [], [DAMAGED]),
+        (7, ["UPDATE keys SET secret = x'20'"], [VERSION]), (7, ["DELETE FROM pieces"], [VERSION]),
+        (7, ["DELETE FROM receipts WHERE number = 3"], [VERSION]), (7, ["CREATE TABLE rules (id INTEGER PRIMARY KEY) STRICT"], [VERSION]),
+        (7, ["UPDATE keys SET role = 7 WHERE id = 'k2'"], [VERSION, CANNOT_OPEN]),
+    ]
+    for number, (version, others, owed) in enumerate(cases):
+        file = copied(drop, Kept(VERSION_1 / "filled"), f"-version-{number}")
+        tables.run(file, [f"UPDATE office SET version = {version}", *others])
+        refused(drop, count, f"version {version} {others}", file, *owed)
+
+
+def test_not_offices(drop, count):
+    for file, owed in not_offices(drop):
+        before = file.read_bytes() if file.is_file() else None
+        count.add(f"{file.name}", difference(migrate(drop, file), owed))
+        # to open a file of no bytes makes it a database without tables
+        well = not file.is_file() or file.read_bytes() == before or not before and not tables.rows(file, "SELECT * FROM sqlite_schema")
+        count.add(f"{file.name} stays", None if well else "it was changed")
+    count.add("no file", difference(migrate(drop, drop.path("gone")), CANNOT_OPEN))
+    made = [it for it in ["nowhere", "gone"] if drop.path(it).exists()]
+    count.add("nothing is made", difference(made, []))
+    file = copied(drop, Kept(VERSION_1 / "filled"))
+    before = left(file)
+    with tables.opened(file) as db:
+        db.execute("BEGIN EXCLUSIVE")
+        count.add("a file that is held", difference(migrate(drop, file), CANNOT_OPEN))
+    count.add("it stays", other(left(file), before))
+
+
+# ---- kills
+
+
+def killed_at(drop, file, seconds):
+    """`drop migrate`, killed behind so many seconds. Whether it had ended by then."""
+    process = subprocess.Popen([drop.program, "migrate", file], cwd=drop.folder, stdout=subprocess.PIPE, stderr=subprocess.PIPE)
+    time.sleep(seconds)
+    process.send_signal(signal.SIGKILL)
+    process.communicate()
+    return process.returncode == 0
+
+
+def fault_behind(drop, file, kept, old):
+    """What is wrong with a file that a kill left: it is the old one or the new one, whole, and it can be migrated."""
+    copy = looked_at(file)
+    version = tables.rows(copy, "SELECT version FROM office")
+    manifest = kit.Run(0, kept.manifest, b"")
+    if version == [(1,)]:
+        wrong = [None if content(file) == old else "it is of version 1, and not the old one", difference(drop.run("manifest", copy), VERSION)]
+    else:
+        wrong = [difference(version, [(2,)]), difference(drop.run("manifest", copy), manifest)]
+    wrong += [difference(migrate(drop, file), SAID_DONE), difference(drop.run("manifest", file), manifest)]
+    return next(filter(None, wrong), None)
+
+
+def test_kills(drop, count):
+    """The program is killed at random moments of its work."""
+    seed = random.SystemRandom().randrange(10**9)
+    source, versions = random.Random(seed), []
+    print(f"the seed is {seed}")
+    for kept in (Kept(VERSION_1 / name) for name in KILLED):
+        file = copied(drop, kept)
+        old = content(file)
+        began = time.monotonic()
+        count.add(f"{kept.name}: migrate", difference(migrate(drop, file), SAID_DONE))
+        whole = time.monotonic() - began
+        for number in range(KILLS // len(KILLED)):
+            file = copied(drop, kept, f"-{number}")
+            ended = killed_at(drop, file, source.uniform(0, whole))
+            versions.append((ended, tables.rows(looked_at(file), "SELECT version FROM office")[0][0]))
+            count.add(f"{kept.name}, kill {number} of seed {seed}", fault_behind(drop, file, kept, old))
+    old_ones, new_ones = (sum(it == (False, version) for it in versions) for version in [1, 2])
+    print(f"{len(versions)} kills: {old_ones} left the old file, {new_ones} the new one, {len(versions) - old_ones - new_ones} came too late")
+
+
+TESTS = [
+    test_unmigrated, test_rows, test_twice, test_answers, test_changed, test_new, test_output, test_broken, test_taken, test_versions,
+    test_not_offices, test_kills,
+]
+
+
+if __name__ == "__main__":
+    run_all(TESTS)

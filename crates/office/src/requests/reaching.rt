@@ -1,0 +1,101 @@
+//! Which messages come to the rules of boxes and of the desk: those of which the rules 19 to 26 hold.
+ghost use Rattle.std.specs.Prelude.{◌≡◌, ◌↔◌, IsTrue};
+
+use super::forms::check_form;
+use super::places::{decoded_path, read_place};
+use crate::office::Office;
+use boxes::Role;
+use keeper::Keeper;
+use links::{LinkParts, Method};
+use sigtext::Refusal;
+use sigv4::Moment;
+use wire::Message;
+
+fn is_post(method: Method) -> bool
+    ensures { IsTrue result ↔ (method ≡ Method.Post) }
+{
+    matches!(method, Method::Post)
+}
+
+impl<K: Keeper> Office<K> {
+    ghost use Rattle.std.specs.Prelude.{◌≡◌, ◌≢◌, ℕ, Err, MatchResult};
+    ghost use Rattle.sigtext.specs.Request.{Request};
+    ghost use Rattle.sigtext.specs.Rules.{IsFirstToFail};
+    ghost use Rattle.boxes.specs.State.{Key, State};
+    ghost use Rattle.links.specs.LinkReadings.{IsLinkOf};
+    ghost use Rattle.links.specs.Methods.{method_text};
+    ghost use Rattle.links.specs.WellFormed.{LinkValues};
+    ghost use Rattle.wire.specs.Messages.{request_in};
+    ghost use Rattle.office.specs.Admitted.{IsAdmitted, ReachesBoxes};
+    ghost use Rattle.office.specs.Crashes.{AddsStanding};
+    ghost use Rattle.office.specs.Premise.{HoldsUnless, IsGivenUp, WasKept};
+    ghost use Rattle.office.specs.Rules.{MaySend, Rule};
+
+    // Checks whether the key of an admitted link, which has this role, may send this: a clerk's may send anything, another
+    // nothing to the desk, and where it is limited, to the boxes of its set alone. Else it is refused by rule 24; or by 40,
+    // where memory was refused or the keeper counted a fault.
+    fn check_reach(
+        &mut self,
+        link: &LinkParts<'_>,
+        method: Method,
+        role: Role,
+    ) -> Result<(), Refusal>
+        ensures reaches { (s : State) (r : Request) (now : ℕ) (p : LinkValues) (k : Key)
+            → WasKept K.Keeper self.old.keeper self.new.keeper s
+            → IsLinkOf link.now r p → r.method ≡ method_text method
+            → IsAdmitted s r now p k → k.role ≡ role
+            → MatchResult result (λ done. MaySend s r p)
+            (λ q. (q ≢ Refusal.TryAgain) → IsFirstToFail (Rule s r now) q) }
+        ensures same { (s : State) → K.means self.old.keeper s → K.means self.new.keeper s }
+        ensures crash { (s : State) → K.means self.old.keeper s → K.is_honest self.new.keeper
+            → AddsStanding K.Keeper self.old.keeper self.new.keeper s }
+        ensures rest { HoldsUnless K.Keeper self.old.keeper self.new.keeper (IsGivenUp result) }
+    {
+        match role {
+            Role::Clerk => return Ok(()),
+            Role::Link => {}
+        }
+        if is_post(method) {
+            return Err(Refusal::RoleNotAllowed);
+        }
+        let Ok(path) = decoded_path(self.alloc, link) else {
+            return Err(Refusal::TryAgain);
+        };
+        let place = read_place(&path);
+        match self.keeper.may_use(link.key_id(), place.in_box) {
+            Ok(true) => Ok(()),
+            Ok(false) => Err(Refusal::RoleNotAllowed),
+            Err(_) => Err(Refusal::TryAgain),
+        }
+    }
+
+    // Checks a message whose link was read: the rules 19 to 26 hold; else it is refused by the least that fails, or by 40,
+    // where memory was refused or the keeper counted a fault.
+    pub(crate) fn check_message(
+        &mut self,
+        link: &LinkParts<'_>,
+        method: Method,
+        message: &Message<'_>,
+        now: Moment,
+    ) -> Result<(), Refusal>
+        requires { message.now.method.now ≡ method_text method }
+        ensures reaches { (s : State) (p : LinkValues)
+            → WasKept K.Keeper self.old.keeper self.new.keeper s
+            → IsLinkOf link.now (request_in message.now) p
+            → MatchResult result (λ done. ReachesBoxes s (request_in message.now) now p)
+            (λ q. (q ≢ Refusal.TryAgain) → IsFirstToFail (Rule s (request_in message.now) now) q) }
+        ensures same { (s : State) → K.means self.old.keeper s → K.means self.new.keeper s }
+        ensures crash { (s : State) → K.means self.old.keeper s → K.is_honest self.new.keeper
+            → AddsStanding K.Keeper self.old.keeper self.new.keeper s }
+        ensures rest { HoldsUnless K.Keeper self.old.keeper self.new.keeper (IsGivenUp result) }
+    {
+        let role = match self.admit(link, now) {
+            Ok(role) => role,
+            Err(refusal) => return Err(refusal),
+        };
+        match self.check_reach(link, method, role) {
+            Ok(()) => check_form(method, message),
+            Err(refusal) => Err(refusal),
+        }
+    }
+}

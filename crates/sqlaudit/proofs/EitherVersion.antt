@@ -1,0 +1,40 @@
+-- What two looks at a file tell, for version 2 and then for version 1.
+use Rattle.std.proofs.Common.{◌≡◌, ◌≢◌, inl, inr, ℤ, pos, IsTrue, sym, ap, subst, ◌∙◌}
+use Rattle.sqlite_value.specs.declared.value.Value.TheVariants.{Int}
+use Rattle.sqlite.specs.Effect.{Database}
+use Rattle.sqlite.specs.State.{State}
+use Rattle.sqltables.specs.Schema.{v1, v2, first_version, second_version}
+use Rattle.sqlaudit.specs.declared.opening.Finding.{Finding}
+use Rattle.sqlaudit.specs.declared.opening.Finding.TheVariants.{OtherVersion, Damaged}
+use Rattle.sqlaudit.specs.declared.opening.Found.TheVariants as found
+use Rattle.sqlaudit.specs.Opened.{HasOurs, IsOurs, SeesSame, IsFound, IsEither, SaysVersion, AreDamaged, AreNeither}
+use Rattle.sqlaudit.proofs.Tested.{office_version}
+
+-- a file of another version is not found damaged
+pub other_is_whole : {finding : Finding} → finding ≡ OtherVersion → finding ≢ Damaged
+other_is_whole is damaged = let e : ◌≡◌ {A = Finding} OtherVersion Damaged = sym is ∙ damaged in cc
+
+-- one version is said
+one_said : (db : Database) (a b : ℤ) → SaysVersion db a → SaysVersion db b → a ≡ b
+one_said db a b one two = let same : Int a ≡ Int b = sym (one.each one.row one.there) ∙ two.each one.row one.there in cc
+
+-- the second look was at what the first one saw
+pub ours_still : (old mid : State) → SeesSame old mid → HasOurs old → HasOurs mid
+ours_still old mid same ours is_open = subst (λ db. IsOurs db.schema) (sym (same.now_is is_open)) (ours (same.was_open is_open))
+
+pub damaged_second : (db : Database) → AreDamaged v2 db → AreNeither db
+damaged_second db damaged = record {
+  first = λ office is. let same : pos 1 ≡ pos 2 = damaged.version (pos 1) (office_version v1 first_version db office is) in cc;
+  second = damaged.none;
+  version = λ version says. inr (damaged.version version says);
+}
+
+pub damaged_first : (db : Database) → IsFound v2 OtherVersion db → AreDamaged v1 db → AreNeither db
+damaged_first db other damaged = record {
+  first = damaged.none;
+  second = λ office is. other.2 (one_said db other.0 (pos 2) other.1 (office_version v2 second_version db office is));
+  version = λ version says. inl (damaged.version version says);
+}
+
+pub other_version : (db : Database) → IsFound v2 OtherVersion db → IsFound v1 OtherVersion db → IsEither found.OtherVersion db
+other_version db second first = (second.0, second.1, λ is. first.2 (one_said db first.0 second.0 first.1 second.1 ∙ is), second.2)

@@ -1,0 +1,26 @@
+//! The versions of office files.
+
+ghost use Rattle.std.specs.Prelude.{◌≡◌};
+ghost use Rattle.sqltables.specs.Schema.{Version};
+ghost use Rattle.sqlaudit.specs.Formats.{version_of};
+
+/// The version of an office file: which tables it has.
+#[derive(Clone, Copy, Debug, PartialEq, Eq)]
+pub(crate) enum Format {
+    /// Version 1, of six tables. No link begins early, and no key is limited.
+    First,
+    /// Version 2, of nine tables.
+    Second,
+}
+
+impl Format {
+    /// What the row of the office says.
+    pub(crate) fn number(self) -> i64
+        ensures { result ≡ (version_of self).number }
+    {
+        match self {
+            Format::First => 1,
+            Format::Second => 2,
+        }
+    }
+}

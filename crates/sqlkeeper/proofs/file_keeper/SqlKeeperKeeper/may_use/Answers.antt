@@ -1,0 +1,20 @@
+use Rattle.sqlite.specs.Held.{state}
+use Rattle.sqlkeeper.proofs.Stays.{stays, carried}
+use Rattle.sqlkeeper.proofs.NotText.{no_limit}
+use Rattle.std.specs.Prelude.{◌↔◌, IsTrue, IfOk}
+use Rattle.std.proofs.Common.{refl, subst}
+use Rattle.boxes.specs.Limits.{MayUse}
+use Rattle.sqlkeeper.proofs.file_keeper.SqlKeeperKeeper.may_use.Goals as goal
+
+pub returns-in_default-clause-value : goal.returns-in_default-clause-value
+returns-in_default-clause-value g c s keeps sound clean =
+    (λ t limited. absurd (no_limit s sound c.args.id.now limited.0 c.in_default.ensures.cases.0 limited.1), λ may. refl)
+
+pub returns-clause-value : goal.returns-clause-value
+returns-clause-value g c s keeps sound clean =
+    let found = carried (λ x. IsTrue x ↔ MayUse s c.in-Ok.id.now c.args.in_box.now) c.may_use.result c.counted.result c.counted.ensures.value (c.may_use.ensures.found s keeps.means sound clean) in
+    subst (λ n. IfOk c.counted.result (λ x. IsTrue x ↔ MayUse s n c.args.in_box.now)) c.in-Ok.ensures.cases.0 found
+
+pub returns-clause-rest : goal.returns-clause-rest
+returns-clause-rest g c =
+    stays (λ k. state g.S.Store k.conn) (λ k. k.faults) c.args.self.now (record { conn = c.may_use.new.conn; faults = c.counted.new.faults; alloc = c.args.self.now.alloc }) c.may_use.result c.counted.result c.counted.ensures.value c.may_use.ensures.rest c.counted.ensures.count c.counted.ensures.room

@@ -1,0 +1,62 @@
+use Rattle.std.proofs.Common.{◌≡◌, IsTrue, rules, arith, refl, sym, ap, subst, OnOk, ◌∙◌}
+use Rattle.sqlite_trees.specs.Tree.{Trees}
+use Rattle.sqlite.specs.State.{HasCleanDisk}
+use Rattle.sqlite.specs.Held.{state}
+use Rattle.boxes.specs.State.{State}
+use Rattle.sqltables.specs.Schema.{v1, v2}
+use Rattle.sqltables.specs.Changes.{with_allowance}
+use Rattle.sqltables.specs.Tables.{tables_of}
+use Rattle.sqltables.specs.Means.{Pends, Holds, Means, LeavesOnly, AddsOnly, LeavesLast}
+use Rattle.sqlkeeper.proofs.Taken.{made, durable, crash, open_still}
+use Rattle.sqlkeeper.proofs.upgrading.upgrade_file.Given as given
+use Rattle.sqlkeeper.proofs.upgrading.upgrade_file.Goals as goal
+
+module _ (g : given.Over) (c : goal.After-conn-2-1 g) (s : State) where
+  -- what the transaction has written means the same state in version 2
+  holds : Means v1 (state g.S.Store c.args.conn.now) s → HasCleanDisk (state g.S.Store c.commit.new.self.0) → Holds v2 (state g.S.Store c.upgrade.new.tx.conn.now).now (tables_of s)
+  holds means clean =
+      let begun = state g.S.Store c.transaction-tx.result.conn.now in
+      let mid = state g.S.Store c.upgrade.new.tx.conn.now in
+      let early : HasCleanDisk mid = omega (arith, c.commit.ensures.survives.clean) in
+      let first : Pends v1 begun (tables_of s) = rw c.transaction-tx.ensures.begun (λ was_clean _ is_open. ((means was_clean).tables is_open).holds) in
+      let inside : IsTrue begun.in_transaction = rw c.transaction-tx.ensures.begun refl in
+      let running = c.in_ok-upgrade.ensures.rest.running early in
+      let was : HasCleanDisk begun = omega (arith, early, c.upgrade.ensures.rest.survives.clean) in
+      let was_open = (c.in_ok-upgrade.ensures.rest.uncommitted early).was_open running.1 in
+      let none : s.allowance ≡ 0 = ((first was inside was_open).means.unlimited refl).0 in
+      let done = c.in_ok-upgrade.ensures.done (tables_of s) first early running.0 running.1 in
+      let same : with_allowance (tables_of s) c.none.result ≡ tables_of s = ap (with_allowance (tables_of s)) (c.none.ensures ∙ sym none) in
+      subst (Holds v2 mid.now) same done
+
+pub returns-clause-made : goal.returns-clause-made
+returns-clause-made g c s means =
+    let mid = state g.S.Store c.upgrade.new.tx.conn.now in
+    let end = state g.S.Store c.commit.new.self.0 in
+    let same : c.commit.new.self.0 ≡ c.conn-2-1.given.0 = search rules in
+    let out = made v2 mid end s (holds g c s means) c.commit.result c.commit.ensures.ok in
+    subst (λ h. OnOk c.commit.result (Means v2 (state g.S.Store h) s)) same out
+
+pub returns-clause-durable : goal.returns-clause-durable
+returns-clause-durable g c s means =
+    let mid = state g.S.Store c.upgrade.new.tx.conn.now in
+    let end = state g.S.Store c.commit.new.self.0 in
+    let same : c.commit.new.self.0 ≡ c.conn-2-1.given.0 = search rules in
+    let out = durable v2 mid end s (holds g c s means) c.commit.result c.commit.ensures.ok (λ db is_open. g.met.S.Store.settled c.commit.new.self.0.store db is_open) in
+    subst (λ h. OnOk c.commit.result (LeavesOnly v2 (state g.S.Store h) s)) same out
+
+pub returns-clause-crash : goal.returns-clause-crash
+returns-clause-crash g c s means =
+    let old = state g.S.Store c.args.conn.now in
+    let mid = state g.S.Store c.upgrade.new.tx.conn.now in
+    let end = state g.S.Store c.commit.new.self.0 in
+    let same : c.commit.new.self.0 ≡ c.conn-2-1.given.0 = search rules in
+    let before : HasCleanDisk end → (db : Trees) → mid.may_leave db → old.may_leave db = search rules in
+    let out = crash v2 old mid end s (holds g c s means) c.commit.ensures.survives before in
+    subst (λ h. AddsOnly v2 old (state g.S.Store h) s) same out
+
+pub returns-clause-opened : goal.returns-clause-opened
+returns-clause-opened g c clean =
+    let end = state g.S.Store c.commit.new.self.0 in
+    let same : c.commit.new.self.0 ≡ c.conn-2-1.given.0 = search rules in
+    let out = open_still (state g.S.Store c.upgrade.new.tx.conn.now) end c.commit.result c.commit.ensures.ok (subst (λ h. HasCleanDisk (state g.S.Store h)) (sym same) clean) (λ is_open. g.met.S.Store.stays c.commit.new.self.0.store is_open) in
+    subst (λ h. OnOk c.commit.result (IsTrue (state g.S.Store h).is_open × LeavesLast (state g.S.Store h))) same out

@@ -1,0 +1,23 @@
+-- Office files of both versions.
+use Rattle.std.specs.Prelude.{◌≡◌, ◌⊎◌}
+use Rattle.sqlite.specs.State.{State}
+use Rattle.boxes.specs.State.{State as Office}
+use Rattle.boxes.specs.Sound.{IsSound}
+use Rattle.sqltables.specs.Schema.{v1}
+use Rattle.sqltables.specs.Means.{Means}
+use Rattle.sqltables.specs.Kept.{KeepsState}
+use Rattle.sqlkeeper.specs.declared.file_keeper.OpenFault.{OpenFault}
+use Rattle.sqlkeeper.specs.declared.file_keeper.OpenFault.TheVariants.{Shape, Version}
+
+-- the tables of version 1 mean this sound state
+pub record KeepsFirst (s : State) (office : Office) : Type 0 where
+  pub means : Means v1 s office
+  pub sound : IsSound office
+
+-- the tables mean this sound state, in version 1 or in version 2
+abbrev pub IsOfficeFile : State → Office → Type 0
+IsOfficeFile s office = KeepsFirst s office ⊎ KeepsState s office
+
+-- the file was refused for what it holds
+abbrev pub IsRefusedFile : OpenFault → Type 0
+IsRefusedFile fault = (fault ≡ Version) ⊎ (fault ≡ Shape)

@@ -1,0 +1,40 @@
+//! An office file of version 1, taken over to version 2 in a transaction of its own.
+
+ghost use Rattle.std.specs.Prelude.{OnOk, OnErr};
+ghost use Rattle.sqlite.specs.State.{HasCleanDisk};
+ghost use Rattle.sqlite.specs.Held.{state};
+ghost use Rattle.boxes.specs.State.{State};
+ghost use Rattle.sqltables.specs.Schema.{v1, v2};
+ghost use Rattle.sqltables.specs.Means.{Means, LeavesOnly, AddsOnly};
+ghost use Rattle.sqlaudit.specs.Opened.{IsSettled, OnlyLooks};
+ghost use Rattle.sqlkeeper.specs.Committing.{EndsOpen};
+
+use sigv4::Allowance;
+use sqlite::{Alter, Connection, Error, ErrorCode};
+use sqlstatements::making::upgrade;
+
+/// Takes an office of version 1 over to version 2, all of it or nothing: the state is the same, with no allowance and no
+/// limits. It is committed when the call returns `Ok`.
+///
+/// # Errors
+///
+/// Those of the database, a pending transaction among them. The office is then as it was.
+pub(crate) fn upgrade_file<S: Alter>(conn: &mut Connection<S>) -> Result<(), Error>
+    ensures made { (s : State) → Means v1 (state S.Store conn.old) s
+        → OnOk result (Means v2 (state S.Store conn.new) s) }
+    ensures kept { IsSettled (state S.Store conn.old)
+        → OnErr result (OnlyLooks (state S.Store conn.old) (state S.Store conn.new)) }
+    ensures durable { (s : State) → Means v1 (state S.Store conn.old) s
+        → OnOk result (LeavesOnly v2 (state S.Store conn.new) s) }
+    ensures crash { (s : State) → Means v1 (state S.Store conn.old) s
+        → AddsOnly v2 (state S.Store conn.old) (state S.Store conn.new) s }
+    ensures honest { HasCleanDisk (state S.Store conn.new) → HasCleanDisk (state S.Store conn.old) }
+    ensures opened { EndsOpen (state S.Store conn.new) result }
+{
+    if !conn.is_autocommit() {
+        return Err(Error::SqliteFailure(ErrorCode::TransactionState));
+    }
+    let mut tx = conn.transaction();
+    upgrade(&mut tx, Allowance::none())?;
+    tx.commit()
+}
