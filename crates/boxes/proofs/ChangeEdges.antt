@@ -7,10 +7,10 @@ use Rattle.boxes.specs.declared.change.NewFile.{NewFile}
 use Rattle.boxes.specs.declared.change.Change.TheVariants as change
 use Rattle.sigtext.specs.Bytes.{bytes_cmp}
 use Rattle.boxes.specs.State.{Key, Settings, place_cmp, File, Receipt, State}
-use Rattle.boxes.specs.Steps.{CommandStep, AddKey, RevokeKey, AddBox, CloseBox, DropFile}
+use Rattle.boxes.specs.Steps.{CommandStep, AddKey, RevokeKey, AddBox, CloseBox, DropFile, LimitKey, SetAllowance}
 use Rattle.boxes.specs.Changes.{most_receipts, IsPastFull}
 use Rattle.boxes.proofs.Lookups.{bytes_total, place_total, entries_put, get_of, get_same}
-use Rattle.boxes.proofs.CommandSteps.{key_added_is, key_revoked_is, box_added_is, box_closed_is, file_dropped_is}
+use Rattle.boxes.proofs.CommandSteps.{key_added_is, key_revoked_is, box_added_is, box_closed_is, file_dropped_is, key_limited_is, allowance_set_is}
 use Rattle.boxes.proofs.StepEdges.{place, first, file, files, file_entries, closing, settings, boxes, box_entries, with_keys, office, key, ann, ann_and, ann_entries, both_entries}
 
 some_is : {X : Type 0} (x y : X) → Some x ≡ Some y → x ≡ y
@@ -98,6 +98,36 @@ file_goes second after step =
           ∙ get_of place_cmp two_files _ (place (codes "b")) two_entries,
       ap (λ (s : State). s.keys) is,
       ap (λ (s : State). s.boxes) is,
+      ap (λ (s : State). s.receipts) is,
+    )
+
+-- ---- limits and the allowance
+
+-- the key is limited to the box that was named, and nothing else changes
+pub key_is_limited : (after : State) → CommandStep office (LimitKey (codes "bob") (codes "in")) after
+    → (after.limits ≡ insert office.limits (record { key = codes "bob"; box = codes "in" }) tt) × (after.allowance ≡ 0)
+    × (after.keys ≡ office.keys) × (after.boxes ≡ boxes) × (after.files ≡ files) × (after.receipts ≡ first ∷ [])
+key_is_limited after step =
+    let is = key_limited_is office (codes "bob") (codes "in") after step in (
+      ap (λ (s : State). s.limits) is,
+      ap (λ (s : State). s.allowance) is,
+      ap (λ (s : State). s.keys) is,
+      ap (λ (s : State). s.boxes) is,
+      ap (λ (s : State). s.files) is,
+      ap (λ (s : State). s.receipts) is,
+    )
+
+-- the allowance is what was said, and nothing else changes
+pub allowance_comes : (after : State) → CommandStep office (SetAllowance 900) after
+    → (after.allowance ≡ 900) × (after.limits ≡ office.limits)
+    × (after.keys ≡ office.keys) × (after.boxes ≡ boxes) × (after.files ≡ files) × (after.receipts ≡ first ∷ [])
+allowance_comes after step =
+    let is = allowance_set_is office 900 after step in (
+      ap (λ (s : State). s.allowance) is,
+      ap (λ (s : State). s.limits) is,
+      ap (λ (s : State). s.keys) is,
+      ap (λ (s : State). s.boxes) is,
+      ap (λ (s : State). s.files) is,
       ap (λ (s : State). s.receipts) is,
     )
 

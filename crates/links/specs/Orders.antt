@@ -143,7 +143,7 @@ Knows look_up t = look_up t.key_id ≡ Some (record { secret = t.secret; revoked
 
 -- the target is a link that meets the order: there are requests for it; each of them is well formed with the
 -- ordered parts, and signed under the secret; and in each state where the key stands unrevoked with this secret it
--- is admitted from the start on for as many seconds as the expiry says, and at no other moment
+-- is admitted from the start on, or by its allowance before, until the expiry is over, and at no other moment
 pub record IsLinkFor (t : Terms) (target : List ℕ) : Type 0 where
   pub sound : AreSound t
   pub sent : (r : Request) × IsRequestFor t target r

@@ -271,7 +271,8 @@ fn link_text(
 /// Appends the link that an order asks for to `out`: the encoded path, `?`, the canonical query and the signature. Whoever
 /// sends it to this host by the order's method, with each header of the order once and no more headers that begin with
 /// `x-amz-`, is admitted from the start until the expiry is over, in any office where the key has this secret and is not
-/// revoked; at no other moment is anybody.
+/// revoked. An office with an allowance admits it that many seconds before the start, too. Nobody is admitted at any other
+/// moment.
 ///
 /// # Errors
 ///

@@ -75,7 +75,7 @@ The list is CSV. Its first row is the head, and each row below asks for one link
   method   PUT to upload, GET or HEAD to fetch
   box      the box's name. It needn't be there yet
   name     the file's name: 1 to 1024 bytes without control characters
-  start    the first second at which the link is good, in UTC
+  start    the second from which the link is good, in UTC. An office's allowance takes it that much earlier
   expires  for how many seconds it is good: 1 to 604800, which is a week
 
 Each row is written again with its link behind it, under a head with the column link more. A row that is malformed ends
@@ -220,7 +220,7 @@ fn link_command<'a>(alloc: Global) -> Result<Command<'a>, AllocError>
             alloc,
             "start",
             "MOMENT",
-            "The first second at which the link is good, in UTC: 20130524T000000Z",
+            "The second from which the link is good, in UTC: 20130524T000000Z. An office's allowance takes it that much earlier",
         ))?
         .arg(expires_option(alloc))
 }
