@@ -56,21 +56,21 @@ fn new_box(alloc: Global, name: &[u8], row: &BoxRow) -> Result<(Vec<u8>, Shelved
     ))
 }
 
-/// A file that is set and its receipt, as they are kept.
+/// A file that is set and its receipt, as they are kept. The bytes are moved.
 fn new_file(
     alloc: Global,
     file: &NewFile<'_>,
-    bytes: &[u8],
+    bytes: Vec<u8>,
 ) -> Result<((Vec<u8>, Vec<u8>), StoredFile, ReceiptRow), AllocError>
     ensures { IfOk result
         (λ f. (place_of f.0 ≡ record { box = file.now.in_box.now; name = file.now.name.now })
-        × (stored_file f.1 ≡ record { bytes = bytes.now; receipt = file.now.number })
+        × (stored_file f.1 ≡ record { bytes = bytes.items; receipt = file.now.number })
         × (numbered_receipt f.2 ≡ set_receipt file.now)) }
 {
     Ok((
         new_place(alloc, file.in_box, file.name)?,
         StoredFile {
-            bytes: Vec::from_slice(alloc, bytes)?,
+            bytes,
             number: file.number,
         },
         ReceiptRow {
@@ -166,21 +166,23 @@ fn set_totals(boxes: &mut BTreeMap<Vec<u8>, ShelvedBox>, name: &[u8], totals: To
 
 impl Shelf {
     /// Sets a file to these bytes, and adds its receipt.
-    pub(crate) fn set_file(&mut self, file: &NewFile<'_>, bytes: &[u8]) -> Result<(), KeepFault>
+    pub(crate) fn set_file(&mut self, file: &NewFile<'_>, bytes: Vec<u8>) -> Result<(), KeepFault>
         ensures made { (s after : State) → Holds self.old s → IsSound s
-            → IsFileSet s file.now bytes.now after → OnOk result (Holds self.new after) }
+            → IsFileSet s file.now bytes.items after → OnOk result (Holds self.new after) }
         ensures same { (s : State) → Holds self.old s → OnErr result (Holds self.new s) }
         ensures count { CountsErrors self.old.faults self.new.faults result }
         ensures fault { IfErr result
             (λ f. ((f ≡ KeepFault.Memory) × (file.now.number ≤ most_receipts))
             ⊎ ((f ≡ KeepFault.Full) × (most_receipts < file.now.number))) }
         ensures room { OnOk result (file.now.number ≤ most_receipts) }
+        ensures staged { self.new.staged ≡ self.old.staged }
     {
         if !has_room(file.number) {
             self.faults = self.faults.saturating_add(1);
             return Err(KeepFault::Full);
         }
         let totals = self.totals_of(file.in_box);
+        let size = bytes.len() as u64;
         let Ok((place, stored, receipt)) = new_file(self.alloc, file, bytes) else {
             return Err(self.count());
         };
@@ -190,7 +192,7 @@ impl Shelf {
         match self.files.insert(place, stored) {
             Ok(old) => {
                 let _ = self.receipts.push(receipt);
-                let totals = totals.set(length_of(&old), bytes.len() as u64);
+                let totals = totals.set(length_of(&old), size);
                 set_totals(&mut self.boxes, file.in_box, totals);
                 Ok(())
             }
@@ -205,6 +207,7 @@ impl Shelf {
             → OnOk result (Holds self.new after) }
         ensures same { (s : State) → Holds self.old s → OnErr result (Holds self.new s) }
         ensures count { CountsErrors self.old.faults self.new.faults result }
+        ensures staged { self.new.staged ≡ self.old.staged }
         ensures fault { IfErr result (λ f. f ≡ KeepFault.Memory) }
     {
         let most = self.keys.len() as u64 + 1;
@@ -226,6 +229,7 @@ impl Shelf {
         ensures made { (s after : State) → Holds self.old s → IsObeyed s (RevokeKey id.now) after
             → Holds self.new after }
         ensures faults { self.new.faults ≡ self.old.faults }
+        ensures staged { self.new.staged ≡ self.old.staged }
     {
         let gone = acting_at(&self.keys, id);
         mark_revoked(&mut self.keys, id);
@@ -239,6 +243,7 @@ impl Shelf {
             → OnOk result (Holds self.new after) }
         ensures same { (s : State) → Holds self.old s → OnErr result (Holds self.new s) }
         ensures count { CountsErrors self.old.faults self.new.faults result }
+        ensures staged { self.new.staged ≡ self.old.staged }
         ensures fault { IfErr result (λ f. f ≡ KeepFault.Memory) }
     {
         let Ok((name, shelved)) = new_box(self.alloc, name, row) else {
@@ -255,6 +260,7 @@ impl Shelf {
         ensures made { (s after : State) → Holds self.old s
             → IsObeyed s (CloseBox name.now moment) after → Holds self.new after }
         ensures faults { self.new.faults ≡ self.old.faults }
+        ensures staged { self.new.staged ≡ self.old.staged }
     {
         set_closing(&mut self.boxes, name, moment);
     }
@@ -266,6 +272,7 @@ impl Shelf {
             → OnOk result (Holds self.new after) }
         ensures same { (s : State) → Holds self.old s → OnErr result (Holds self.new s) }
         ensures count { CountsErrors self.old.faults self.new.faults result }
+        ensures staged { self.new.staged ≡ self.old.staged }
         ensures fault { IfErr result (λ f. f ≡ KeepFault.Memory) }
     {
         let Ok(place) = new_place(self.alloc, in_box, name) else {
@@ -285,6 +292,7 @@ impl Shelf {
             → IsObeyed s (LimitKey id.now in_box.now) after → OnOk result (Holds self.new after) }
         ensures same { (s : State) → Holds self.old s → OnErr result (Holds self.new s) }
         ensures count { CountsErrors self.old.faults self.new.faults result }
+        ensures staged { self.new.staged ≡ self.old.staged }
         ensures fault { IfErr result (λ f. f ≡ KeepFault.Memory) }
     {
         match add_limit(self.alloc, &mut self.limits, id, in_box) {
@@ -298,6 +306,7 @@ impl Shelf {
         ensures made { (s after : State) → Holds self.old s
             → IsObeyed s (SetAllowance seconds) after → Holds self.new after }
         ensures faults { self.new.faults ≡ self.old.faults }
+        ensures staged { self.new.staged ≡ self.old.staged }
     {
         if let Some(allowance) = Allowance::new(seconds) {
             self.office.allowance = allowance;
@@ -310,6 +319,7 @@ impl Shelf {
             → IsObeyed s (command_of command.now) after → OnOk result (Holds self.new after) }
         ensures same { (s : State) → Holds self.old s → OnErr result (Holds self.new s) }
         ensures count { CountsErrors self.old.faults self.new.faults result }
+        ensures staged { self.new.staged ≡ self.old.staged }
         ensures fault { IfErr result (λ f. f ≡ KeepFault.Memory) }
     {
         match command {

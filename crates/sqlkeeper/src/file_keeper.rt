@@ -33,6 +33,8 @@ use thiserror::Error;
 #[derive(Drop)]
 pub struct SqlKeeper<S: Alter> {
     conn: Connection<S>,
+    // The bytes that are staged.
+    staged: Vec<u8>,
     faults: u64,
     alloc: Global,
 }
@@ -104,13 +106,35 @@ fn counted<T>(faults: &mut u64, answer: Result<T, sqlite::Error>) -> Result<T, K
 
 // The change adds a receipt, and there is no room for one.
 fn is_past_full(change: &Change<'_>) -> bool
-    ensures { (s after : State) → IsChangeOf s change.now after
+    ensures { (Stages : List ℕ → Type 0) (s after : State) → IsChangeOf Stages s change.now after
         → (IsTrue result ↔ IsPastFull s change.now) }
 {
     match change {
-        Change::SetFile(file, _) => !has_room(file.number),
+        Change::SetFile(file) => !has_room(file.number),
         Change::Desk(_) => false,
     }
+}
+
+// Behind a file that was set nothing is staged.
+fn emptied(
+    staged: &mut Vec<u8>,
+    alloc: Global,
+    change: &Change<'_>,
+    answer: Result<(), KeepFault>,
+) -> Result<(), KeepFault>
+    ensures same { result ≡ answer }
+    ensures empty { TakesStaged change.now → OnOk result (staged.new.items ≡ []) }
+    ensures kept { (TakesStaged change.now → ⊥) → staged.new ≡ staged.old }
+{
+    match change {
+        Change::SetFile(_) => {
+            if answer.is_ok() {
+                *staged = Vec::new(alloc);
+            }
+        }
+        Change::Desk(_) => {}
+    }
+    answer
 }
 
 impl<S: Alter> SqlKeeper<S> {
@@ -166,6 +190,7 @@ impl<S: Alter> SqlKeeper<S> {
         match create(&mut conn, office.east, office.allowance, id, secret) {
             Ok(()) => Ok(SqlKeeper {
                 conn,
+                staged: Vec::new(alloc),
                 faults: 0,
                 alloc,
             }),
@@ -216,6 +241,7 @@ impl<S: Alter> SqlKeeper<S> {
         match find(&mut conn, alloc) {
             Ok(Finding::Sound) => Ok(SqlKeeper {
                 conn,
+                staged: Vec::new(alloc),
                 faults: 0,
                 alloc,
             }),
@@ -278,12 +304,14 @@ impl<S: Alter> SqlKeeper<S> {
         match find_either(&mut conn, alloc) {
             Ok(Found::Second) => Ok(SqlKeeper {
                 conn,
+                staged: Vec::new(alloc),
                 faults: 0,
                 alloc,
             }),
             Ok(Found::First) => match upgrade_file(&mut conn) {
                 Ok(()) => Ok(SqlKeeper {
                     conn,
+                    staged: Vec::new(alloc),
                     faults: 0,
                     alloc,
                 }),
@@ -312,6 +340,7 @@ impl<S: Alter> SqlKeeper<S> {
     {
         let SqlKeeper {
             conn,
+            staged: _,
             faults: _,
             alloc: _,
         } = self;
@@ -321,6 +350,8 @@ impl<S: Alter> SqlKeeper<S> {
 
 impl<S: Alter> Keeper for SqlKeeper<S> {
     ghost means = { λ k. KeepsState (state S.Store k.conn) };
+
+    ghost stages = { λ k b. k.staged.items ≡ b };
 
     ghost is_honest = { λ k. HasCleanDisk (state S.Store k.conn) };
 
@@ -407,13 +438,48 @@ impl<S: Alter> Keeper for SqlKeeper<S> {
         )
     }
 
+    fn stage_begin(&mut self) -> Result<(), KeepFault> {
+        self.staged = Vec::new(self.alloc);
+        Ok(())
+    }
+
+    fn stage(&mut self, bytes: &[u8]) -> Result<(), KeepFault> {
+        if self.staged.extend_from_slice(bytes).is_err() {
+            self.faults = self.faults.saturating_add(1);
+            return Err(KeepFault::Memory);
+        }
+        Ok(())
+    }
+
+    fn staged_equals(&mut self, in_box: &[u8], name: &[u8]) -> Result<bool, KeepFault> {
+        let Ok(in_box) = str::from_utf8(in_box) else {
+            return Ok(false);
+        };
+        let Ok(name) = str::from_utf8(name) else {
+            return Ok(false);
+        };
+        counted(
+            &mut self.faults,
+            asking::has_bytes(&mut self.conn, in_box, name, &self.staged),
+        )
+    }
+
+    fn stage_drop(&mut self) -> Result<(), KeepFault> {
+        self.staged = Vec::new(self.alloc);
+        Ok(())
+    }
+
     fn apply(&mut self, change: &Change<'_>) -> Result<(), KeepFault> {
         if is_past_full(change) {
             self.faults = self.faults.saturating_add(1);
             return Err(KeepFault::Full);
         }
         law_of_changes();
-        counted(&mut self.faults, apply_change(&mut self.conn, change))
+        let answer = counted(
+            &mut self.faults,
+            apply_change(&mut self.conn, change, &self.staged),
+        );
+        emptied(&mut self.staged, self.alloc, change, answer)
     }
 
     ghost one = { λ k s t honest opened a b. one_kept _ s t honest opened a b };

@@ -1,6 +1,7 @@
-use Rattle.std.proofs.Common.{inl, inr, subst}
+use Rattle.std.proofs.Common.{◌≡◌, inl, inr, subst}
 use Rattle.std.proofs.lemmas.Result.{on_ok_weaker, on_err_weaker}
-use Rattle.boxes.specs.Changes.{IsChangeOf}
+use Rattle.boxes.specs.State.{State}
+use Rattle.boxes.specs.Changes.{IsChangeOf, IsFileSet}
 use Rattle.keeper.specs.OneState.{one_state}
 use Rattle.keeper.proofs.shelf_keeps.ShelfKeeper.apply.Goals as goal
 
