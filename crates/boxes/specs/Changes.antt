@@ -67,6 +67,10 @@ abbrev pub IsChangeOf : (List ℕ → Type 0) → State → Change → State →
 IsChangeOf Stages s (change.SetFile f) after = (bytes : List ℕ) × Stages bytes × IsFileSet s f bytes after
 IsChangeOf Stages s (change.Desk c) after = IsObeyed s (command_of c) after
 
+-- the same, whatever is staged
+abbrev pub MayChange : State → Change → State → Type 0
+MayChange = IsChangeOf (λ bytes. ⊤)
+
 -- the change uses up what is staged
 abbrev pub TakesStaged : Change → Type 0
 TakesStaged (change.SetFile f) = ⊤

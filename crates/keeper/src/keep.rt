@@ -3,7 +3,7 @@ ghost use Rattle.std.specs.Prelude.{◌≡◌, ◌↔◌, ◌≤◌, ℕ, ◌+�
 ghost use Rattle.std.specs.FinMap.{get};
 ghost use Rattle.sigtext.specs.Counts.{CountsErrors};
 ghost use Rattle.boxes.specs.State.{State};
-ghost use Rattle.boxes.specs.Views.{AreTotals};
+ghost use Rattle.boxes.specs.Views.{AreTotals, IsReceiptAt};
 ghost use Rattle.boxes.specs.Clerks.{clerks};
 ghost use Rattle.boxes.specs.Limits.{IsLimitedTo, MayUse};
 ghost use Rattle.boxes.specs.Rows.{IsOfficeOf, key_of, settings_of, IsFileAt, receipts_from, numbered_receipt};
@@ -104,6 +104,18 @@ pub trait Keeper {
     fn file(&mut self, in_box: &[u8], name: &[u8]) -> Result<Option<FileRow>, KeepFault>
         ensures value { Answers means is_honest self.old self.new result
             (λ s f. IsFileAt s (record { box = in_box.now; name = name.now }) f) }
+        ensures rest { Stays means is_honest is_open faults leaves leaves_whole has_store
+            self.old self.new result }
+        ensures staged { KeepsStaged stages self.old self.new };
+
+    /// The receipt of the file of this box and name.
+    fn file_receipt(
+        &mut self,
+        in_box: &[u8],
+        name: &[u8],
+    ) -> Result<Option<ReceiptRow>, KeepFault>
+        ensures value { Answers means is_honest self.old self.new result
+            (λ s r. IsReceiptAt s (record { box = in_box.now; name = name.now }) r) }
         ensures rest { Stays means is_honest is_open faults leaves leaves_whole has_store
             self.old self.new result }
         ensures staged { KeepsStaged stages self.old self.new };

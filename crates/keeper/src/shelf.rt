@@ -8,7 +8,7 @@ ghost use Rattle.boxes.specs.Clerks.{is_acting};
 ghost use Rattle.boxes.specs.Limits.{IsLimitedTo, MayUse};
 ghost use Rattle.boxes.specs.Rules.{HasBytes};
 ghost use Rattle.boxes.specs.Rows.{key_of, settings_of, receipts_from, numbered_receipt, IsFileAt};
-ghost use Rattle.boxes.specs.Views.{AreTotals};
+ghost use Rattle.boxes.specs.Views.{AreTotals, IsReceiptAt};
 ghost use Rattle.boxes.specs.Changes.{most_receipts};
 ghost use Rattle.keeper.specs.Shelves.{Holds, Looks, place_of};
 
@@ -198,6 +198,31 @@ impl Shelf {
             return Err(self.count());
         };
         match copy_file(self.alloc, stored, receipt) {
+            Ok(copy) => Ok(Some(copy)),
+            Err(_) => Err(self.count()),
+        }
+    }
+
+    /// The receipt of the file of this box and name.
+    pub(crate) fn find_file_receipt(
+        &mut self,
+        in_box: &[u8],
+        name: &[u8],
+    ) -> Result<Option<ReceiptRow>, KeepFault>
+        ensures value { (s : State) → Holds self.old s → IsSound s
+            → IfOk result (IsReceiptAt s (record { box = in_box.now; name = name.now })) }
+        ensures rest { Looks self.old self.new result }
+    {
+        let Ok(place) = new_place(self.alloc, in_box, name) else {
+            return Err(self.count());
+        };
+        let Some(stored) = self.files.get(&place) else {
+            return Ok(None);
+        };
+        let Some(receipt) = numbered_of(&self.receipts, stored.number) else {
+            return Err(self.count());
+        };
+        match copy_receipt(self.alloc, receipt) {
             Ok(copy) => Ok(Some(copy)),
             Err(_) => Err(self.count()),
         }

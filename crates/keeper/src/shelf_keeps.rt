@@ -12,7 +12,6 @@ use crate::shelving::new_key;
 use boxes::{BoxRow, Change, FileRow, KeyRow, OfficeRow, ReceiptRow, Role, Totals};
 use std::alloc::Global;
 use std::collections::BTreeMap;
-use std::mem;
 
 impl Keeper for Shelf {
     ghost means = { Holds };
@@ -55,6 +54,14 @@ impl Keeper for Shelf {
         self.find_file(in_box, name)
     }
 
+    fn file_receipt(
+        &mut self,
+        in_box: &[u8],
+        name: &[u8],
+    ) -> Result<Option<ReceiptRow>, KeepFault> {
+        self.find_file_receipt(in_box, name)
+    }
+
     fn sizes(&mut self, in_box: &[u8]) -> Result<Totals, KeepFault> {
         Ok(self.totals_of(in_box))
     }
@@ -94,10 +101,7 @@ impl Keeper for Shelf {
 
     fn apply(&mut self, change: &Change<'_>) -> Result<(), KeepFault> {
         match change {
-            Change::SetFile(file) => {
-                let staged = mem::replace(&mut self.staged, Vec::new(self.alloc));
-                self.set_file(file, staged)
-            }
+            Change::SetFile(file) => self.set_staged(file),
             Change::Desk(command) => self.obey(command),
         }
     }

@@ -1,5 +1,5 @@
 //! What changes a keeper in memory. Growth comes first, and the change last.
-ghost use Rattle.std.specs.Prelude.{◌≡◌, ◌≤◌, ◌<◌, ◌⊎◌, Some, true, length, cond, option_map, IfOk, IfErr, OnOk, OnErr};
+ghost use Rattle.std.specs.Prelude.{◌≡◌, ◌≤◌, ◌<◌, ◌⊎◌, [], Some, true, length, cond, option_map, IfOk, IfErr, OnOk, OnErr};
 ghost use Rattle.std.specs.FinMap.{FinMap, insert};
 ghost use Rattle.sigtext.specs.Bytes.{bytes_cmp};
 ghost use Rattle.sigtext.specs.Counts.{CountsErrors};
@@ -21,6 +21,7 @@ use boxes::{BoxRow, Command, KeyRow, NewFile, ReceiptRow, Role, Totals};
 use sigv4::Allowance;
 use std::alloc::{AllocError, Global};
 use std::collections::{BTreeMap, BTreeSet};
+use std::mem;
 
 /// A key that is added, as it is kept.
 pub(crate) fn new_key(
@@ -166,7 +167,7 @@ fn set_totals(boxes: &mut BTreeMap<Vec<u8>, ShelvedBox>, name: &[u8], totals: To
 
 impl Shelf {
     /// Sets a file to these bytes, and adds its receipt.
-    pub(crate) fn set_file(&mut self, file: &NewFile<'_>, bytes: Vec<u8>) -> Result<(), KeepFault>
+    fn set_file(&mut self, file: &NewFile<'_>, bytes: Vec<u8>) -> Result<(), KeepFault>
         ensures made { (s after : State) → Holds self.old s → IsSound s
             → IsFileSet s file.now bytes.items after → OnOk result (Holds self.new after) }
         ensures same { (s : State) → Holds self.old s → OnErr result (Holds self.new s) }
@@ -198,6 +199,22 @@ impl Shelf {
             }
             Err(_) => Err(self.count()),
         }
+    }
+
+    /// Sets a file to the bytes that are staged, and adds its receipt. Nothing is staged then, whatever came of it.
+    pub(crate) fn set_staged(&mut self, file: &NewFile<'_>) -> Result<(), KeepFault>
+        ensures made { (s after : State) → Holds self.old s → IsSound s
+            → IsFileSet s file.now self.old.staged.items after → OnOk result (Holds self.new after) }
+        ensures same { (s : State) → Holds self.old s → OnErr result (Holds self.new s) }
+        ensures count { CountsErrors self.old.faults self.new.faults result }
+        ensures fault { IfErr result
+            (λ f. ((f ≡ KeepFault.Memory) × (file.now.number ≤ most_receipts))
+            ⊎ ((f ≡ KeepFault.Full) × (most_receipts < file.now.number))) }
+        ensures room { OnOk result (file.now.number ≤ most_receipts) }
+        ensures emptied { self.new.staged.items ≡ [] }
+    {
+        let staged = mem::replace(&mut self.staged, Vec::new(self.alloc));
+        self.set_file(file, staged)
     }
 
     /// Adds a key.
