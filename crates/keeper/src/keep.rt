@@ -193,9 +193,7 @@ pub trait Keeper {
     fn apply(&mut self, change: &Change<'_>) -> Result<(), KeepFault>
         ensures made { (s after : State) → means self.old s → IsSound s
             → IsChangeOf (stages self.old) s change.now after → OnOk result (means self.new after) }
-        ensures emptied { (s after : State) → means self.old s → IsSound s
-            → IsChangeOf (stages self.old) s change.now after → TakesStaged change.now
-            → OnOk result (stages self.new []) }
+        ensures emptied { TakesStaged change.now → OnOk result (stages self.new []) }
         ensures staged { (TakesStaged change.now → ⊥)
             → OnOk result (KeepsStaged stages self.old self.new) }
         ensures same { (s : State) → means self.old s → OnErr result (means self.new s) }

@@ -1,10 +1,12 @@
 pub mod Admitted
 pub mod Alike
+pub mod Announcing
 pub mod Answering
 pub mod Clocks
 pub mod Connections
 pub mod Crashes
 pub mod DeskLines
+pub mod Foreseeing
 pub mod Handling
 pub mod Offices
 pub mod Places

@@ -3,7 +3,7 @@ use Rattle.std.proofs.Common.{◌≡◌, ◌<◌, ◌≤◌, ◌-◌, ℕ, Bool,
 use Rattle.std.specs.Prelude.{IfSome}
 use Rattle.std.specs.Io.KnownBytes.{Consumes}
 use Rattle.std.proofs.KnownBytes.{Consumes-trans}
-use Rattle.wire.specs.Whole.{IsNextMessage}
+use Rattle.wire.specs.Whole.{IsNextMessage, IsOpening}
 use Rattle.std.proofs.lemmas.List.{length-take-le}
 use Rattle.std.proofs.Math.Seq.{take-append_seam}
 use Rattle.httparse.specs.Grammar.{RequestHead}
@@ -101,7 +101,7 @@ lacking_joined (Some stream) mid text has_length n o (rest, front, e) some few =
     }
 
 -- the text was copied to the front of an array
-pub copied : (new text rest : List ℕ) (has_length : Bool) (body : List ℕ) (known after : Option (List ℕ)) → new ≡ text → IsNextMessage text has_length body known after
-    → IsNextMessage (take (length text) (new ++ rest)) has_length body known after
-copied new text rest has_length body known after e h =
-    subst (λ (t : List ℕ). IsNextMessage t has_length body known after) (sym (ap (λ (t : List ℕ). take (length text) (t ++ rest)) e ∙ take-append_seam text rest)) h
+pub copied : (new text rest : List ℕ) (has_length : Bool) (n : ℕ) (known after : Option (List ℕ)) → new ≡ text → IsOpening text has_length n known after
+    → IsOpening (take (length text) (new ++ rest)) has_length n known after
+copied new text rest has_length n known after e h =
+    subst (λ (t : List ℕ). IsOpening t has_length n known after) (sym (ap (λ (t : List ℕ). take (length text) (t ++ rest)) e ∙ take-append_seam text rest)) h
