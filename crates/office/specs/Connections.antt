@@ -8,6 +8,7 @@ use Rattle.keeper.specs.declared.keep.Keeper.{Ghosts}
 use Rattle.wire.specs.declared.counted.Counted.{Counted}
 use Rattle.office.specs.declared.connections.session.SessionEnd.{SessionEnd}
 use Rattle.office.specs.declared.connections.session.SessionEnd.TheVariants.{Ended, Truncated, Refused, Limit, ReadFault, WriteFault}
+use Rattle.office.specs.Crashes.{LastsThrough}
 use Rattle.office.specs.Premise.{HoldsUp}
 use Rattle.office.specs.Repeats.{ActsOnce}
 use Rattle.office.specs.Sessions.{Session, Connection, Run}
@@ -34,12 +35,12 @@ IsStream false (Refused number) old new stream = IsKnown old stream
 IsStream false Limit old new stream = IsKnown old stream
 IsStream false WriteFault old new stream = IsKnown old stream
 
--- the session may have given up: refusal 40 closed it, or the writing of an answer broke off
+-- the session may have given up: refusal 40 closed it, or a read or the writing of an answer broke off
 abbrev pub MayGiveUp : SessionEnd → Type 0
-MayGiveUp e = (e ≡ Refused 40) ⊎ (e ≡ WriteFault)
+MayGiveUp e = (e ≡ Refused 40) ⊎ (e ≡ WriteFault) ⊎ (e ≡ ReadFault)
 
--- what was read, which moments were told, what was written, that the keeper held up, and that these are a session of up
--- to n messages
+-- what was read, which moments were told, what was written, that the keeper held up, that the state after outlasts a crash
+-- where nothing was given up, and that these are a session of up to n messages
 pub record Serves {C K : Type 0} (n : ℕ) (gives : C → ℕ → C → Type 0) (input input' output output' : Option (List ℕ)) (clock clock' : C)
     (k : Ghosts K) (keeper keeper' : K) (s after : State) (e : SessionEnd) : Type 0 where
   pub stream : List ℕ
@@ -50,6 +51,7 @@ pub record Serves {C K : Type 0} (n : ℕ) (gives : C → ℕ → C → Type 0) 
   pub told : TellsMoments gives clock moments clock'
   pub written : Appends output output' answers
   pub held : HoldsUp k gave_up keeper keeper'
+  pub lasts : gave_up ≡ false → LastsThrough k keeper keeper' s after
   pub session : Session n stream s moments answers e gave_up after
 
 -- A fault of the reader or the writer that was counted is the end that is told, and no other end is told as one.

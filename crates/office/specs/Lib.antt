@@ -12,6 +12,7 @@ pub mod Offices
 pub mod Places
 pub mod Premise
 pub mod Readable
+pub mod Receiving
 pub mod Repeats
 pub mod Replays
 pub mod Replying

@@ -1,10 +1,10 @@
 //! One request: what it is answered, and what it changes.
 mod admitting;
-mod announced;
+pub(crate) mod announced;
 pub mod answering;
 pub mod commanding;
 mod fetching;
-mod foreseeing;
+pub(crate) mod foreseeing;
 mod forms;
 mod places;
 mod putting;

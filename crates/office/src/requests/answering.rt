@@ -24,7 +24,7 @@ pub(crate) fn asks_head(message: &Announced<'_>) -> bool
 }
 
 impl<K: Keeper> Office<K> {
-    ghost use Rattle.std.specs.Prelude.{◌≡◌, ◌⊎◌, ◌≤◌, ℕ, List, [], length, Err, IfErr, IfOk, OnErr, OnOk};
+    ghost use Rattle.std.specs.Prelude.{◌≡◌, ◌≢◌, ◌⊎◌, ◌≤◌, ℕ, List, [], length, Err, IfErr, IfOk, OnErr, OnOk};
     ghost use Rattle.sigtext.specs.Counts.{Rose};
     ghost use Rattle.sigtext.specs.Limits.{most_body};
     ghost use Rattle.sigtext.specs.Request.{Request};
@@ -124,8 +124,8 @@ impl<K: Keeper> Office<K> {
             → IsAnswered (Endures K.Keeper self.old.keeper self.new.keeper s) s r now result }
         ensures again { IsTryAgain result → (s : State) → K.means self.old.keeper s
             → K.means self.new.keeper s }
-        ensures readable { IsTryAgain result → (s : State) (r : Request) → Foresees s r foreseen
-            → IfOk foreseen (λ f. IsReadable r) }
+        ensures readable { IsTryAgain result → (foreseen ≢ Err Refusal.TryAgain) → (s : State)
+            (r : Request) → Foresees s r foreseen → IsReadable r }
         ensures crash { (s : State) (r : Request)
             → WasKept K.Keeper self.old.keeper self.new.keeper s
             → Foresees s r foreseen
