@@ -75,6 +75,8 @@ pub fn judge(
     ensures { (r : Request) (p : LinkValues) → IsLinkOf link.now r p
         → Judges secret.now r (moment_with allowance now) p result }
 {
-    check_signature(link, secret, last)?;
-    check_window(link, allowance, now)
+    match check_signature(link, secret, last) {
+        Ok(()) => check_window(link, allowance, now),
+        Err(refusal) => Err(refusal),
+    }
 }

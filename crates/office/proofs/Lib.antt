@@ -26,3 +26,5 @@ pub mod RepeatEdges
 pub mod Repeats
 pub mod Standing
 pub mod Placing
+pub mod Begun
+pub mod BodySteps

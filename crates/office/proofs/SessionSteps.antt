@@ -7,7 +7,7 @@ use Rattle.sigtext.specs.declared.refusal.Refusal.TheVariants as rule
 use Rattle.sigtext.specs.Request.{Request}
 use Rattle.boxes.specs.State.{State}
 use Rattle.keeper.specs.declared.keep.Keeper.{Ghosts}
-use Rattle.wire.specs.Feeding.{AnnouncesBody, Awaits, OfStream}
+use Rattle.wire.specs.Feeding.{Awaits, OfStream}
 use Rattle.wire.specs.Framing.{IsHead, Next, Message, request_of}
 use Rattle.wire.specs.Framing as frame
 use Rattle.wire.specs.declared.fault.WireFault.{WireFault}
@@ -21,9 +21,11 @@ use Rattle.office.specs.declared.connections.session.SessionEnd.TheVariants.{End
 use Rattle.office.specs.declared.connections.handling.Handled.{Handled}
 use Rattle.office.specs.declared.connections.handling.Handled.TheVariants.{Answered, GaveUp, Broken}
 use Rattle.office.specs.Connections.{IsKnown, IsStream, Serves}
+use Rattle.office.specs.Crashes.{AddsStanding, never_changed}
+use Rattle.office.proofs.Endurance.{still, then_through, through_after}
 use Rattle.office.specs.Handling.{Handles, answered, gave_up_at, broke, broke_giving_up_at}
 use Rattle.office.specs.Premise.{HoldsUp, IsLeft}
-use Rattle.office.specs.Sessions.{Session, MayGiveUpReading}
+use Rattle.office.specs.Sessions.{HasBegunMessage, Session, MayGiveUpReading}
 use Rattle.office.specs.Sessions as session
 use Rattle.office.specs.Stepping.{Goes, IsClosed, Steps, ToCome}
 
@@ -75,8 +77,8 @@ is_stream None Holds o = tt
 is_stream (Some p) Holds o = sym o.is
 
 -- what was told of what came, and of what broke off
-pub brought_by : (text body : List ℕ) (old new reader : Option (List ℕ)) (p : Place) (x y : Came) → x ≡ y → Brings x text body old new reader p → Brings y text body old new reader p
-brought_by text body old new reader p x y is h = subst (λ (z : Came). Brings z text body old new reader p) is h
+pub brought_by : (text : List ℕ) (old new reader : Option (List ℕ)) (p : Place) (x y : Came) → x ≡ y → Brings x text old new reader p → Brings y text old new reader p
+brought_by text old new reader p x y is h = subst (λ (z : Came). Brings z text old new reader p) is h
 
 pub broke_off_by : (p : Place) (old reader : Option (List ℕ)) (x y : WireFault) → x ≡ y → BreaksOff x p old reader → BreaksOff y p old reader
 broke_off_by p old reader x y is h = subst (λ (z : WireFault). BreaksOff z p old reader) is h
@@ -104,6 +106,7 @@ serves_more gives n left left' reader output output' output'' clock clock' clock
   told = (clock', g.told, r.told);
   written = appends_more output output' output'' g.text r.answers g.written r.written;
   held = holds_more k keeper keeper' keeper'' r.gave_up g.held r.held;
+  lasts = λ none. then_through g.lasts (r.lasts none);
   session = session.served n (g.front ++ r.stream) r.stream s mid after g.request g.moment r.moments g.text r.answers e r.gave_up (g.message r.stream) g.answers r.session;
 }
 
@@ -126,6 +129,7 @@ serves_none gives left reader output clock k keeper s = record {
   told = refl;
   written = nothing_written output;
   held = holds_still k keeper false;
+  lasts = λ none. never_changed refl still;
   session = session.limit (rest_of left) s;
 }
 
@@ -147,8 +151,8 @@ module _ {C K : Type 0} (gives : C → ℕ → C → Type 0) (p : Place) (left r
   all_read = consumes_more left (prepend_known waits reader) reader (text ++ body) waits m.taken (all_taken reader waits)
 
   answered_done : Handles gives clock clock' output output' k keeper keeper' s r Answered → Steps gives p left (prepend_known waits reader) reader output output' clock clock' k keeper keeper' s None
-  answered_done (answered now written after told appends same keeps answers) =
-      (after, keeps, record { front = text ++ body; request = r; moment = now; text = written; taken = m.taken; message = stands; told = told; written = appends; answers = answers; held = same })
+  answered_done (answered now written after told appends same lasts keeps answers) =
+      (after, keeps, record { front = text ++ body; request = r; moment = now; text = written; taken = m.taken; message = stands; told = told; written = appends; answers = answers; held = same; lasts = lasts })
 
   gave_up_done : Handles gives clock clock' output output' k keeper keeper' s r GaveUp → Steps gives p left (prepend_known waits reader) reader output output' clock clock' k keeper keeper' s (Some (Refused 40))
   gave_up_done (gave_up_at now told appends less readable keeps) = (
@@ -163,12 +167,13 @@ module _ {C K : Type 0} (gives : C → ℕ → C → Type 0) (p : Place) (left r
       told = (clock', told, refl);
       written = appends;
       held = less;
+      lasts = λ none. absurd cc;
       session = session.gave_up_at n ((text ++ body) ++ waits) waits s r now (stands waits) readable;
     },
   )
 
   broken_done : Handles gives clock clock' output output' k keeper keeper' s r Broken → Steps gives p left (prepend_known waits reader) reader output output' clock clock' k keeper keeper' s (Some WriteFault)
-  broken_done (broke now written front after told appends begins same keeps answers) =
+  broken_done (broke now written front after told appends begins same lasts keeps answers) =
       let rest = rest_of (prepend_known waits reader) in (
         after,
         keeps,
@@ -181,6 +186,7 @@ module _ {C K : Type 0} (gives : C → ℕ → C → Type 0) (p : Place) (left r
           told = (clock', told, refl);
           written = appends;
           held = same;
+          lasts = λ none. lasts;
           session = session.write_failed n ((text ++ body) ++ rest) rest s after r now written front (stands rest) answers begins;
         },
       )
@@ -196,6 +202,7 @@ module _ {C K : Type 0} (gives : C → ℕ → C → Type 0) (p : Place) (left r
       told = (clock', told, refl);
       written = appends;
       held = less;
+      lasts = λ none. absurd cc;
       session = session.write_failed_giving_up_at n ((text ++ body) ++ waits) waits s r now front (stands waits) readable begins;
     },
   )
@@ -214,60 +221,138 @@ module _ {C K : Type 0} (gives : C → ℕ → C → Type 0) (p : Place) (left r
 
 -- ---- steps without a message
 
-module _ {C K : Type 0} (gives : C → ℕ → C → Type 0) (p : Place) (left left' reader output output' : Option (List ℕ)) (clock : C) (k : Ghosts K) (keeper : K) (s : State) (keeps : IsLeft (k.means keeper) s) where
+-- what a session that ends without a message leaves of the keeper
+pub record Leaves {K : Type 0} (k : Ghosts K) (old new : K) (s : State) (gave_up : Bool) : Type 0 where
+  pub keeps : IsLeft (k.means new) s
+  pub held : HoldsUp k gave_up old new
+  pub adds : AddsStanding k old new s
+
+-- the keeper was not called
+pub leaves_still : {K : Type 0} (k : Ghosts K) (keeper : K) (s : State) (gave_up : Bool) → IsLeft (k.means keeper) s → Leaves k keeper keeper s gave_up
+leaves_still k keeper s gave_up keeps = record { keeps = keeps; held = holds_still k keeper gave_up; adds = still }
+
+module _ {C K : Type 0} (gives : C → ℕ → C → Type 0) (p : Place) (left left' reader output output' : Option (List ℕ)) (clock : C) (k : Ghosts K) (keeper keeper' : K) (s : State) where
   -- the session ends, and the state stays
-  ends : (e : SessionEnd) (gave_up : Bool) (stream text : List ℕ) → IsStream gave_up e left reader stream → Appends output output' text
-      → ((n : ℕ) → ToCome p (suc n) → Session (suc n) stream s [] text e gave_up s) → Steps gives p left left' reader output output' clock clock k keeper keeper s (Some e)
-  ends e gave_up stream text read written whole = (
+  pub ends : (e : SessionEnd) (gave_up : Bool) (stream text : List ℕ) → Leaves k keeper keeper' s gave_up → IsStream gave_up e left reader stream → Appends output output' text
+      → ((n : ℕ) → ToCome p (suc n) → Session (suc n) stream s [] text e gave_up s) → Steps gives p left left' reader output output' clock clock k keeper keeper' s (Some e)
+  ends e gave_up stream text leaves read written whole = (
     s,
-    keeps,
-    λ n all. record { stream = stream; moments = []; answers = text; gave_up = gave_up; read = read; told = refl; written = written; held = holds_still k keeper gave_up; session = whole n all },
+    leaves.keeps,
+    λ n all. record {
+      stream = stream;
+      moments = [];
+      answers = text;
+      gave_up = gave_up;
+      read = read;
+      told = refl;
+      written = written;
+      held = leaves.held;
+      lasts = λ none. never_changed refl leaves.adds;
+      session = whole n all;
+    },
   )
 
-  pub closed_step : (q : Refusal) (e : SessionEnd) → OfStream left (λ stream. Next stream (frame.Refused q) []) → IsClosed output output' q e
-      → Steps gives p left left' reader output output' clock clock k keeper keeper s (Some e)
-  closed_step q (Refused number) o closed =
-      ends (Refused number) false o.stream (session.closing q) (is_stream left (λ stream. Next stream (frame.Refused q) []) o) closed.1
+  pub closed_step : (q : Refusal) (e : SessionEnd) → Leaves k keeper keeper' s false → OfStream left (λ stream. Next stream (frame.Refused q) []) → IsClosed output output' q e
+      → Steps gives p left left' reader output output' clock clock k keeper keeper' s (Some e)
+  closed_step q (Refused number) leaves o closed =
+      ends (Refused number) false o.stream (session.closing q) leaves (is_stream left (λ stream. Next stream (frame.Refused q) []) o) closed.1
       (λ n _. subst (λ (m : ℕ). Session (suc n) o.stream s [] (session.closing q) (Refused m) false s) (sym closed.0) (session.unframed n o.stream s q o.holds))
-  closed_step q WriteFault o closed =
-      ends WriteFault false o.stream closed.0 (is_stream left (λ stream. Next stream (frame.Refused q) []) o) closed.1
+  closed_step q WriteFault leaves o closed =
+      ends WriteFault false o.stream closed.0 leaves (is_stream left (λ stream. Next stream (frame.Refused q) []) o) closed.1
       (λ n _. session.write_failed_unframed n o.stream s q closed.0 o.holds closed.2)
-  closed_step q Ended o closed = absurd closed
-  closed_step q Truncated o closed = absurd closed
-  closed_step q Limit o closed = absurd closed
-  closed_step q ReadFault o closed = absurd closed
+  closed_step q Ended leaves o closed = absurd closed
+  closed_step q Truncated leaves o closed = absurd closed
+  closed_step q Limit leaves o closed = absurd closed
+  closed_step q ReadFault leaves o closed = absurd closed
 
-  why_reading : (n : ℕ) (front : List ℕ) → ((p ≡ place.Fresh) × (front ≡ [])) ⊎ AnnouncesBody front → ToCome p (suc n) → MayGiveUpReading (suc n) front
+  why_reading : (n : ℕ) (front : List ℕ) → ((p ≡ place.Fresh) × (front ≡ [])) ⊎ HasBegunMessage front → ToCome p (suc n) → MayGiveUpReading (suc n) front
   why_reading n front (inl (fresh, none)) all = inl (all fresh, none)
   why_reading n front (inr a) all = inr a
 
-  pub no_memory_step : (e : SessionEnd) (front : List ℕ) → Consumes left reader front → ((p ≡ place.Fresh) × (front ≡ [])) ⊎ AnnouncesBody front → IsClosed output output' rule.TryAgain e
-      → Steps gives p left left' reader output output' clock clock k keeper keeper s (Some e)
-  no_memory_step (Refused number) front taken why closed =
-      ends (Refused number) true front (session.closing rule.TryAgain) taken closed.1
+  -- refusal 40 closed the connection before a message was read whole
+  pub gave_up_reading_step : (e : SessionEnd) (front : List ℕ) → Leaves k keeper keeper' s true → Consumes left reader front → ((p ≡ place.Fresh) × (front ≡ [])) ⊎ HasBegunMessage front
+      → IsClosed output output' rule.TryAgain e → Steps gives p left left' reader output output' clock clock k keeper keeper' s (Some e)
+  gave_up_reading_step (Refused number) front leaves taken why closed =
+      ends (Refused number) true front (session.closing rule.TryAgain) leaves taken closed.1
       (λ n all. subst (λ (m : ℕ). Session (suc n) front s [] (session.closing rule.TryAgain) (Refused m) true s) (sym closed.0) (session.gave_up_reading n front s (why_reading n front why all)))
-  no_memory_step WriteFault front taken why closed =
-      ends WriteFault true front closed.0 taken closed.1 (λ n all. session.write_failed_giving_up_reading n front s closed.0 (why_reading n front why all) closed.2)
-  no_memory_step Ended front taken none closed = absurd closed
-  no_memory_step Truncated front taken none closed = absurd closed
-  no_memory_step Limit front taken none closed = absurd closed
-  no_memory_step ReadFault front taken none closed = absurd closed
+  gave_up_reading_step WriteFault front leaves taken why closed =
+      ends WriteFault true front closed.0 leaves taken closed.1 (λ n all. session.write_failed_giving_up_reading n front s closed.0 (why_reading n front why all) closed.2)
+  gave_up_reading_step Ended front leaves taken none closed = absurd closed
+  gave_up_reading_step Truncated front leaves taken none closed = absurd closed
+  gave_up_reading_step Limit front leaves taken none closed = absurd closed
+  gave_up_reading_step ReadFault front leaves taken none closed = absurd closed
 
-module _ {C K : Type 0} (gives : C → ℕ → C → Type 0) (p : Place) (left left' reader output : Option (List ℕ)) (clock : C) (k : Ghosts K) (keeper : K) (s : State) (keeps : IsLeft (k.means keeper) s) where
-  pub ended_step : IsAtEnd reader → OfStream left (λ stream. Next stream frame.Ended []) → Steps gives p left left' reader output output clock clock k keeper keeper s (Some Ended)
-  ended_step at_end o =
-      ends gives p left left' reader output output clock k keeper s keeps Ended false o.stream [] (is_stream left (λ stream. Next stream frame.Ended []) o, at_end) (nothing_written output)
+module _ {C K : Type 0} (gives : C → ℕ → C → Type 0) (p : Place) (left left' reader output : Option (List ℕ)) (clock : C) (k : Ghosts K) (keeper keeper' : K) (s : State) where
+  pub ended_step : Leaves k keeper keeper' s false → IsAtEnd reader → OfStream left (λ stream. Next stream frame.Ended []) → Steps gives p left left' reader output output clock clock k keeper keeper' s (Some Ended)
+  ended_step leaves at_end o =
+      ends gives p left left' reader output output clock k keeper keeper' s Ended false o.stream [] leaves (is_stream left (λ stream. Next stream frame.Ended []) o, at_end) (nothing_written output)
       (λ n _. session.ended n o.stream s o.holds)
 
-  pub truncated_step : IsAtEnd reader → OfStream left (λ stream. Next stream frame.Truncated []) → Steps gives p left left' reader output output clock clock k keeper keeper s (Some Truncated)
-  truncated_step at_end o =
-      ends gives p left left' reader output output clock k keeper s keeps Truncated false o.stream [] (is_stream left (λ stream. Next stream frame.Truncated []) o, at_end) (nothing_written output)
+  pub truncated_step : Leaves k keeper keeper' s false → IsAtEnd reader → OfStream left (λ stream. Next stream frame.Truncated []) → Steps gives p left left' reader output output clock clock k keeper keeper' s (Some Truncated)
+  truncated_step leaves at_end o =
+      ends gives p left left' reader output output clock k keeper keeper' s Truncated false o.stream [] leaves (is_stream left (λ stream. Next stream frame.Truncated []) o, at_end) (nothing_written output)
       (λ n _. session.truncated n o.stream s o.holds)
 
-  pub read_failed_step : (front : List ℕ) → Consumes left reader front → Awaits front → Steps gives p left left' reader output output clock clock k keeper keeper s (Some ReadFault)
-  read_failed_step front taken none =
-      ends gives p left left' reader output output clock k keeper s keeps ReadFault false front [] taken (nothing_written output)
+  pub read_failed_step : (front : List ℕ) → Leaves k keeper keeper' s false → Consumes left reader front → Awaits front → Steps gives p left left' reader output output clock clock k keeper keeper' s (Some ReadFault)
+  read_failed_step front leaves taken none =
+      ends gives p left left' reader output output clock k keeper keeper' s ReadFault false front [] leaves taken (nothing_written output)
       (λ n _. session.read_failed n front s none)
+
+  -- the same where the keeper counted a fault
+  pub read_failed_giving_up_step : (front : List ℕ) → Leaves k keeper keeper' s true → Consumes left reader front → Awaits front → HasBegunMessage front
+      → Steps gives p left left' reader output output clock clock k keeper keeper' s (Some ReadFault)
+  read_failed_giving_up_step front leaves taken none begun =
+      ends gives p left left' reader output output clock k keeper keeper' s ReadFault true front [] leaves taken (nothing_written output)
+      (λ n _. session.read_failed_giving_up n front s none begun)
+
+-- ---- calls before a step that change nothing
+
+-- the keeper counted nothing, and a crash leaves nothing new
+pub record Before {K : Type 0} (k : Ghosts K) (old new : K) (s : State) : Type 0 where
+  pub faults : k.faults new ≡ k.faults old
+  pub open_still : k.is_open old → k.is_open new
+  pub adds : AddsStanding k old new s
+
+before_held : {K : Type 0} (k : Ghosts K) (a b c : K) (s : State) (gave_up : Bool) → Before k a b s → HoldsUp k gave_up b c → HoldsUp k gave_up a c
+before_held k a b c s gave_up x held = holds_more k a b c gave_up (x.faults, x.open_still) held
+
+pub steps_after : {C K : Type 0} (gives : C → ℕ → C → Type 0) (p : Place) (left left' reader output output' : Option (List ℕ)) (clock clock' : C) (k : Ghosts K) (a b c : K) (s : State) (end : Option SessionEnd)
+    → Before k a b s → Steps gives p left left' reader output output' clock clock' k b c s end → Steps gives p left left' reader output output' clock clock' k a c s end
+steps_after gives p left left' reader output output' clock clock' k a b c s None x (after, keeps, g) = (
+  after,
+  keeps,
+  record {
+    front = g.front;
+    request = g.request;
+    moment = g.moment;
+    text = g.text;
+    taken = g.taken;
+    message = g.message;
+    told = g.told;
+    written = g.written;
+    answers = g.answers;
+    held = before_held k a b c s false x g.held;
+    lasts = through_after x.adds g.lasts;
+  },
+)
+steps_after gives p left left' reader output output' clock clock' k a b c s (Some e) x (after, keeps, serves) = (
+  after,
+  keeps,
+  λ n all.
+      let r = serves n all in
+      record {
+        stream = r.stream;
+        moments = r.moments;
+        answers = r.answers;
+        gave_up = r.gave_up;
+        read = r.read;
+        told = r.told;
+        written = r.written;
+        held = before_held k a b c s r.gave_up x r.held;
+        lasts = λ none. through_after x.adds (r.lasts none);
+        session = r.session;
+      },
+)
 
 -- ---- the messages so far
 

@@ -80,7 +80,7 @@ stands (Some stream) (Some rest) text body has_length o c =
     let same : text ++ (body ++ rest) ≡ stream = sym (append_assoc text body rest) ∙ sym c in
     (rest, subst (λ (s : List ℕ). Next s (Message (request_of o.head has_length body)) rest) same (message_stands text body rest has_length o), refl)
 
-pub message_joined : (known mid new : Option (List ℕ)) (text body : List ℕ) (has_length : Bool) → Opens text has_length (length body)
+abbrev pub message_joined : (known mid new : Option (List ℕ)) (text body : List ℕ) (has_length : Bool) → Opens text has_length (length body)
     → IfSome known (λ stream. (rest : List ℕ) × IsFront stream text rest × (mid ≡ Some rest)) → Consumes mid new body → IsNextMessage text has_length body known new
 message_joined known mid new text body has_length o f c =
     let taken = Consumes-trans known mid new text body (head_taken known mid text f) c in
