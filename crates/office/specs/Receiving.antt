@@ -1,5 +1,5 @@
 -- How far a body was read and staged.
-use Rattle.std.specs.Prelude.{◌≡◌, ℕ, ◌-◌, ◌≤◌, List, length, Option}
+use Rattle.std.specs.Prelude.{◌≡◌, ◌++◌, ℕ, ◌-◌, ◌≤◌, List, length, Option}
 use Rattle.std.specs.Io.KnownBytes.{Consumes}
 use Rattle.sigtext.specs.Bytes.{AreBytes}
 use Rattle.sigv4.specs.Hashers.{ShaHolds}
@@ -20,6 +20,12 @@ pub record HasStaged {R K : Type 0} (remaining : R → Option (List ℕ)) (size 
   pub staged : k.stages keeper given
   pub hashed : ShaHolds sha given
   pub octets : AreBytes given
+
+-- a front of the bytes is staged, and this is the rest
+pub record HasStagedFront {K : Type 0} (k : Ghosts K) (keeper : K) (bytes rest : List ℕ) : Type 0 where
+  pub given : List ℕ
+  pub staged : k.stages keeper given
+  pub whole : given ++ rest ≡ bytes
 
 -- the body of size bytes that was open came whole and is staged, and this is its digest
 pub record StagesBody {R K : Type 0} (remaining : R → Option (List ℕ)) (size : ℕ) (old new : Feed R) (k : Ghosts K) (keeper : K) (digest : List ℕ) : Type 0 where

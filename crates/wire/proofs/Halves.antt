@@ -72,7 +72,7 @@ pub head_taken : (known mid : Option (List ℕ)) (text : List ℕ)
 head_taken None mid text f = tt
 head_taken (Some stream) mid text (rest, front, e) = subst (λ (m : Option (List ℕ)). Consumes (Some stream) m text) (sym e) front.whole
 
-stands : (known new : Option (List ℕ)) (text body : List ℕ) (has_length : Bool) (o : Opens text has_length (length body)) → Consumes known new (text ++ body)
+pub stands : (known new : Option (List ℕ)) (text body : List ℕ) (has_length : Bool) (o : Opens text has_length (length body)) → Consumes known new (text ++ body)
     → IfSome known (λ stream. (rest : List ℕ) × Next stream (Message (request_of o.head has_length body)) rest × (new ≡ Some rest))
 stands None new text body has_length o c = tt
 stands (Some stream) None text body has_length o c = absurd c

@@ -159,8 +159,11 @@ impl<K: Keeper> Office<K> {
         ensures rest { HoldsUnless K.Keeper self.old.keeper self.new.keeper (IsFault result) }
     {
         self.keeper.stage_begin()?;
-        'pieces: for piece in body.chunks(MOST_PIECE) {
+        let mut rest = body;
+        'pieces: while !rest.is_empty() {
+            let (piece, more) = rest.split_at(rest.len().min(MOST_PIECE));
             self.keeper.stage(piece)?;
+            rest = more;
         }
         Ok(())
     }
