@@ -1,5 +1,5 @@
 -- An office file that was looked at for both versions, and where it was of version 1, changed.
-use Rattle.std.proofs.Common.{◌≡◌, ◌≢◌, inl, inr, ℕ, length, IsTrue, sym, ap, subst, ◌∙◌}
+use Rattle.std.proofs.Common.{◌≡◌, ◌≢◌, inl, inr, ℕ, length, IsTrue, refl, sym, ap, subst, ◌∙◌}
 use Rattle.sqlite_rules.specs.Lists.{Has}
 use Rattle.sqlite_schema.specs.declared.schema.Schema.{Schema}
 use Rattle.sqlite.specs.Effect.{Database}
@@ -76,7 +76,7 @@ module _ (old mid : State) (looks : LeavesUntouched old mid) where
           let is = tells ours clean (was_open clean) in
           let same = looks.same clean in (
             is.0,
-            record { means = means_old v1 old mid (stays clean) same (rest clean) is.0 is.1; sound = is.1.sound },
+            record { means = means_old v1 old mid (stays clean) same (rest clean) is.0 is.1; sound = is.1.sound; short = is.1.short refl },
             means_new v1 old mid (stays clean) same (rest clean) is.0 is.1,
           )
 
