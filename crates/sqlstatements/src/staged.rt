@@ -1,13 +1,14 @@
 //! The rows that another program left staged, inside a transaction.
 
-ghost use Rattle.std.specs.Prelude.{◌≡◌, ◌↔◌, IsFalse, IsTrue, IfOk, OnOk};
+ghost use Rattle.std.specs.Prelude.{◌≡◌, ◌≢◌, ◌↔◌, IsFalse, IsTrue, IfOk, OnOk};
+ghost use Rattle.std.specs.List.{AllByRecursion};
 ghost use Rattle.sqlite.specs.State.{HasCleanDisk};
 ghost use Rattle.sqlite.specs.Held.{state};
-ghost use Rattle.sqltables.specs.Schema.{v2};
+ghost use Rattle.sqltables.specs.Schema.{v2, staged_tree};
 ghost use Rattle.sqltables.specs.Tables.{NoneStaged, IsEmptied};
-ghost use Rattle.sqltables.specs.Inside.{seen, GoesOnInside, GoesOnBegun, StillSecond, HasSchema, HasWhole};
+ghost use Rattle.sqltables.specs.Inside.{seen, GoesOnInside, GoesOnBegun, StillSecond, HasSchema};
 
-use sqlite::{Alter, Error, Transaction};
+use sqlite::{Alter, Error, ErrorCode, Transaction};
 use sqltables::calls::{execute, query};
 
 /// Whether a row is staged.
@@ -25,11 +26,15 @@ fn has_staged<S: Alter>(tx: &mut Transaction<'_, S>) -> Result<bool, Error>
     Ok(!rows.is_empty())
 }
 
-/// The rows that are staged go.
+/// The rows that are staged go, and no others.
 fn delete_staged<S: Alter>(tx: &mut Transaction<'_, S>) -> Result<(), Error>
     ensures done { StillSecond S.Store tx.old tx.new result }
-    ensures emptied { HasSchema v2.schema (seen S.Store tx.old) → HasCleanDisk (seen S.Store tx.new)
-        → OnOk result (IsEmptied (seen S.Store tx.old).now (seen S.Store tx.new).now) }
+    ensures schema { HasSchema v2.schema (seen S.Store tx.old) → HasCleanDisk (seen S.Store tx.new)
+        → OnOk result ((seen S.Store tx.new).now.schema ≡ (seen S.Store tx.old).now.schema) }
+    ensures others { HasSchema v2.schema (seen S.Store tx.old) → HasCleanDisk (seen S.Store tx.new)
+        → OnOk result (AllByRecursion (λ t. t.tree ≢ staged_tree
+        → (seen S.Store tx.new).now.trees t.tree ≡ (seen S.Store tx.old).now.trees t.tree)
+        (seen S.Store tx.old).now.schema.tables) }
     ensures rest { GoesOnInside S.Store tx.old tx.new result }
 {
     execute(tx, "DELETE FROM staged", &[])?;
@@ -37,7 +42,7 @@ fn delete_staged<S: Alter>(tx: &mut Transaction<'_, S>) -> Result<(), Error>
 }
 
 /// The rows that are staged go, where there are any; the office's tables are as they were. Where there are none nothing is
-/// written.
+/// written. A row that does not go is told as `DatabaseCorrupt`.
 pub fn empty_staged<S: Alter>(tx: &mut Transaction<'_, S>) -> Result<(), Error>
     ensures done { StillSecond S.Store tx.old tx.new result }
     ensures emptied { HasSchema v2.schema (seen S.Store tx.old)
@@ -52,5 +57,9 @@ pub fn empty_staged<S: Alter>(tx: &mut Transaction<'_, S>) -> Result<(), Error>
     if !has_staged(tx)? {
         return Ok(());
     }
-    delete_staged(tx)
+    delete_staged(tx)?;
+    if has_staged(tx)? {
+        return Err(Error::SqliteFailure(ErrorCode::DatabaseCorrupt));
+    }
+    Ok(())
 }
