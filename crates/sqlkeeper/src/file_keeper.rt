@@ -17,7 +17,7 @@ ghost use Rattle.sqltables.specs.OneState.{one_kept};
 ghost use Rattle.sqlaudit.specs.Opened.{HasOurs, AreFirstNamed, AreNamed, OnlyLooks, LeavesUntouched, IsFound, IsEither};
 ghost use Rattle.sqlkeeper.specs.Emptying.{EmptiesStaged, HasNoneStaged};
 ghost use Rattle.sqlkeeper.specs.OneText.{one_text};
-ghost use Rattle.sqlkeeper.specs.Versions.{KeepsFirst, IsOfficeFile, IsRefusedFile};
+ghost use Rattle.sqlkeeper.specs.Versions.{IsOfficeFile, IsRefusedFile};
 
 use crate::applying::apply_change;
 use crate::asking;
@@ -539,7 +539,7 @@ impl<S: Alter> Keeper for SqlKeeper<S> {
 
     ghost one = { λ k s t honest opened a b. one_kept _ s t honest opened a b };
 
-    ghost one_staged = { λ k a b honest opened x y. one_text k a b x y };
+    ghost one_staged = { λ k a b honest opened x y. one_text k.staged.items a b x y };
 
     ghost always = { λ none k. absurd (none tt) };
 }

@@ -1,14 +1,11 @@
-use Rattle.std.proofs.Common.{◌≡◌, ℕ, List, Result, OnOk, OnErr, sym, subst}
+use Rattle.std.proofs.Common.{◌≡◌, ℕ, List, sym, subst, ◌∙◌}
+use Rattle.std.proofs.lemmas.Bool.{false≢true}
 use Rattle.sqlite.specs.Held.{state}
-use Rattle.boxes.specs.State.{State}
 use Rattle.boxes.specs.Changes.{IsChangeOf}
 use Rattle.boxes.proofs.Staging.{may_change}
-use Rattle.keeper.specs.declared.keep.KeepFault.{KeepFault}
-use Rattle.keeper.specs.Keeping.{LeavesAlone, LeavesEither}
-use Rattle.sqltables.specs.Kept.{KeepsState, MayLeave, LeavesStates}
+use Rattle.sqltables.specs.Kept.{KeepsState}
 use Rattle.sqlkeeper.proofs.Stays.{ok_too, err_too, alone, either, kept_then, kept_at_error}
-use Rattle.sqltables.proofs.Results.{at_error}
-use Rattle.sqlkeeper.proofs.file_keeper.SqlKeeperKeeper.apply.Given as given
+use Rattle.sqltables.proofs.Results.{at_answer, at_error}
 use Rattle.sqlkeeper.proofs.file_keeper.SqlKeeperKeeper.apply.Goals as goal
 
 pub returns-clause-made : goal.returns-clause-made
@@ -41,3 +38,12 @@ returns-clause-crash g c s after keeps sound change clean =
     let may = may_change _ s after c.args.change.now change in
     at_error c.emptied.result (either (λ k. state g.S.Store k.conn) (λ k. k.faults) c.args.self.now (record { conn = c.apply_change.new.conn; staged = c.emptied.new.staged; faults = c.counted.new.faults; alloc = c.args.self.now.alloc }) c.apply_change.result c.counted.result c.counted.ensures.value c.counted.ensures.fault
     s after (c.law_of_changes.ensures s after c.args.change.now sound may) clean (c.apply_change.ensures.honest clean) (c.apply_change.ensures.crash s after keeps.means sound lent))
+
+-- ---- room for one more receipt
+
+pub returns-then-is_past_full-clause-full : goal.returns-then-is_past_full-clause-full
+returns-then-is_past_full-clause-full g c s after keeps sound change told = (c.is_past_full.ensures s after (may_change _ s after c.args.change.now change)).0 c.if-is_past_full.true
+
+pub returns-clause-room : goal.returns-clause-room
+returns-clause-room g c s after keeps sound change =
+    at_answer c.emptied.result (λ past. false≢true (sym c.if-is_past_full.false ∙ (c.is_past_full.ensures s after (may_change _ s after c.args.change.now change)).1 past))
