@@ -6,7 +6,7 @@ ghost use Rattle.std.specs.FinMap.{get};
 ghost use Rattle.sqlite.specs.Held.{state};
 ghost use Rattle.boxes.specs.Rows.{IsOfficeOf, key_of, settings_of, IsFileAt, numbered_receipt, receipts_from};
 ghost use Rattle.boxes.specs.Rules.{HasBytes};
-ghost use Rattle.boxes.specs.Views.{AreTotals};
+ghost use Rattle.boxes.specs.Views.{AreTotals, IsReceiptAt};
 ghost use Rattle.boxes.specs.Clerks.{clerks};
 ghost use Rattle.boxes.specs.Limits.{IsLimitedTo, MayUse};
 ghost use Rattle.sqltables.specs.Tables.{placed};
@@ -122,6 +122,25 @@ pub(crate) fn file<S: Alter>(
     let file = standing::file(&mut tx, alloc, in_box, name)?;
     tx.commit()?;
     Ok(file)
+}
+
+/// The receipt of the file of this box and name.
+pub(crate) fn file_receipt<S: Alter>(
+    conn: &mut Connection<S>,
+    in_box: &str,
+    name: &str,
+) -> Result<Option<ReceiptRow>, Error>
+    ensures found { AnswersOf (state S.Store conn.old) (state S.Store conn.new) result
+        (λ s. IsReceiptAt s (placed in_box.now name.now)) }
+    ensures rest { LeavesOffice (state S.Store conn.old) (state S.Store conn.new) result }
+{
+    if !conn.is_autocommit() {
+        return Err(Error::SqliteFailure(ErrorCode::TransactionState));
+    }
+    let mut tx = conn.transaction();
+    let receipt = standing::standing_receipt(&mut tx, in_box, name)?;
+    tx.commit()?;
+    Ok(receipt)
 }
 
 /// Whether the file of this box and name stands with just these bytes.
