@@ -70,8 +70,8 @@ returns-clause-unstaged g c s means =
     let same : c.commit.new.self.0 ≡ c.conn-2-1.given.0 = search rules in
     let first : Pends v1 begun (tables_of s) = rw c.transaction-tx.ensures.begun (λ was_clean _ is_open. ((means was_clean).tables is_open).holds) in
     let none : HasCleanDisk end → NoneStaged mid.now.trees = λ clean.
-        let early : HasCleanDisk mid = omega (arith, clean, c.commit.ensures.survives.clean) in
-        let running = c.in_ok-upgrade.ensures.rest.running early in
-        c.in_ok-upgrade.ensures.unstaged (tables_of s) first early running.0 running.1 in
+    let early : HasCleanDisk mid = omega (arith, clean, c.commit.ensures.survives.clean) in
+    let running = c.in_ok-upgrade.ensures.rest.running early in
+    c.in_ok-upgrade.ensures.unstaged (tables_of s) first early running.0 running.1 in
     let out = unstaged mid end none c.commit.result c.commit.ensures.ok in
     subst (λ h. OnOk c.commit.result (HasCleanDisk (state g.S.Store h) → HasNoneStaged (state g.S.Store h))) same out

@@ -50,9 +50,10 @@ returns-then-not-branch-clause-found g c v tables there ours pends size pieces i
     let next = next_piece bytes c.loop-rest.rest.now count c.loop-rest.invariant.0 some in
     let front : c.split_at.result.0.now ≡ take (min 65536 (length c.loop-rest.rest.now)) c.loop-rest.rest.now = search rules in
     let cut : piece_of bytes count ≡ Some c.split_at.result.0.now = next.0 ∙ ap Some (sym front) in
-    let is = c.in_ok-is_piece.ensures.found v tables ours (so_far.still v tables ours pends) (so_far.inside early inside) clean in
-    (λ t. let e : ◌≡◌ false true = t in absurd cc,
-      λ same. absurd (not_same tables place there bytes count size pieces c.split_at.result.0.now cut (λ some. false≢true (sym c.if-not-branch.true ∙ is.1 some)) same))
+    let is = c.in_ok-is_piece.ensures.found v tables ours (so_far.still v tables ours pends) (so_far.inside early inside) clean in (
+      λ t. let e : ◌≡◌ false true = t in absurd cc,
+      λ same. absurd (not_same tables place there bytes count size pieces c.split_at.result.0.now cut (λ some. false≢true (sym c.if-not-branch.true ∙ is.1 some)) same),
+    )
 
 pub returns-clause-found : goal.returns-clause-found
 returns-clause-found g c v tables there ours pends size pieces inside clean =

@@ -65,9 +65,9 @@ returns-in-Err-empty_file-clause-crash g c s is =
     let new = state g.S.Store c.empty_file.new.conn in
     elim is [
       | inl first ↦ λ clean. absurd (not_second old mid c.in-Ok-Second.ensures.rest (λ clean. c.in-Ok-Second.ensures.opened clean (second_is_whole c.in-Ok-Second.field-0-is))
-            (λ ours clean was_open. subst (λ f. IsEither f old.now) c.in-Ok-Second.field-0-is (c.in-Ok-Second.ensures.found ours clean was_open)) s first (c.empty_file.ensures.honest clean))
+          (λ ours clean was_open. subst (λ f. IsEither f old.now) c.in-Ok-Second.field-0-is (c.in-Ok-Second.ensures.found ours clean was_open)) s first (c.empty_file.ensures.honest clean))
       | inr second ↦ failed old mid c.in-Ok-Second.ensures.rest (λ clean. c.in-Ok-Second.ensures.opened clean (second_is_whole c.in-Ok-Second.field-0-is)) c.in-Ok-Second.ensures.at_rest
-    (λ ours clean was_open. subst (λ f. IsEither f old.now) c.in-Ok-Second.field-0-is (c.in-Ok-Second.ensures.found ours clean was_open)) new c.empty_file.ensures.honest c.empty_file.ensures.crash s second
+          (λ ours clean was_open. subst (λ f. IsEither f old.now) c.in-Ok-Second.field-0-is (c.in-Ok-Second.ensures.found ours clean was_open)) new c.empty_file.ensures.honest c.empty_file.ensures.crash s second
     ]
 
 pub returns-in-Err-empty_file-clause-others : goal.returns-in-Err-empty_file-clause-others
@@ -124,7 +124,7 @@ returns-in-Err-upgrade_file-clause-crash g c s is =
     elim is [
       | inl first ↦ adds_still old mid c.in-Ok-First.ensures.rest end c.upgrade_file.ensures.honest s (c.in-Err-upgrade_file.ensures.crash s (first_means old mid c.in-Ok-First.ensures.rest s first))
       | inr second ↦ λ clean. absurd (not_first old mid c.in-Ok-First.ensures.rest (λ clean. c.in-Ok-First.ensures.opened clean (first_is_whole c.in-Ok-First.field-0-is))
-            (λ ours clean was_open. subst (λ f. IsEither f old.now) c.in-Ok-First.field-0-is (c.in-Ok-First.ensures.found ours clean was_open)) s second (c.upgrade_file.ensures.honest clean))
+          (λ ours clean was_open. subst (λ f. IsEither f old.now) c.in-Ok-First.field-0-is (c.in-Ok-First.ensures.found ours clean was_open)) s second (c.upgrade_file.ensures.honest clean))
     ]
 
 pub returns-in-Err-upgrade_file-clause-others : goal.returns-in-Err-upgrade_file-clause-others
