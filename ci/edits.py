@@ -265,15 +265,15 @@ class Beside:
 
     def has_built(self, crate):
         """Whether the library is there as a whole, and younger than what it is made of, its own sources and the libraries below; of
-        a run that goes on, written since it began. What was there once stays so: another run that takes a library of this one for
-        its own makes it look younger."""
+        a run that goes on, written since it began. What was there once stays so. Another run that takes a library of this one for
+        its own makes some of its files look younger, so of a library below the oldest file counts."""
         if crate.name not in self.built and self.is_whole(crate):
             self.built.add(crate.name)
         return crate.name in self.built
 
     def is_whole(self, crate):
         times, sources = times_of(crate), [*map(os.path.getmtime, RT.rtlib.files_of(crate.folder))]
-        below = [max(times_of(it), default=math.inf) for it in crate.deps]
+        below = [min(times_of(it), default=math.inf) for it in crate.deps]
         if not times or min(times) < max(sources + below):
             return False
         return not self.is_running() or self.begin < min(times) and max(times) < time.time() - SETTLES
