@@ -274,8 +274,15 @@ fn making_an_office_stops(rt: HostRuntime) -> Result<(), Fail> {
 }
 
 #[test]
-fn setting_files_stops(rt: HostRuntime) -> Result<(), Fail> {
-    let Count { stops, states } = stop_alone(rt.alloc(), &[Step::SetNew, Step::Replace])?;
+fn setting_a_new_file_stops(rt: HostRuntime) -> Result<(), Fail> {
+    let Count { stops, states } = stop_alone(rt.alloc(), &[Step::SetNew])?;
+    println!(rt; "{stops} stops, {states} states")?;
+    Ok(())
+}
+
+#[test]
+fn replacing_a_file_stops(rt: HostRuntime) -> Result<(), Fail> {
+    let Count { stops, states } = stop_alone(rt.alloc(), &[Step::Replace])?;
     println!(rt; "{stops} stops, {states} states")?;
     Ok(())
 }

@@ -126,17 +126,31 @@ fn the_short_are_cut_at_each_place_from_the_501st_on(rt: HostRuntime) -> Result<
     Ok(())
 }
 
-// The buffer of a feed has room for 222 of these messages and the beginning of the next one.
-#[test]
-fn a_thousand_are_cut_at_each_place_of_three_of_them(rt: HostRuntime) -> Result<(), Fail> {
-    let alloc = rt.alloc();
+// Whether a thousand messages and more are served so, cut once at each place of the message of this number.
+fn is_cut_in(alloc: Global, message: usize) -> Result<bool, Fail> {
     let owed = thousand(alloc, NO_BOX)?;
     let stream = joined(alloc, &[&thousand(alloc, REQUEST)?, b"GET /"])?;
-    for message in [0_usize, 222, 999] {
-        let start = message.saturating_mul(REQUEST.len());
-        let end = start.saturating_add(REQUEST.len());
-        assert!(rt; is_cut_so(alloc, &stream, start..end, &owed)?);
-    }
+    let start = message.saturating_mul(REQUEST.len());
+    let end = start.saturating_add(REQUEST.len());
+    is_cut_so(alloc, &stream, start..end, &owed)
+}
+
+#[test]
+fn a_thousand_are_cut_at_each_place_of_the_first(rt: HostRuntime) -> Result<(), Fail> {
+    assert!(rt; is_cut_in(rt.alloc(), 0)?);
+    Ok(())
+}
+
+// The buffer of a feed has room for 222 of these messages and the beginning of the next one.
+#[test]
+fn a_thousand_are_cut_at_each_place_of_the_223rd(rt: HostRuntime) -> Result<(), Fail> {
+    assert!(rt; is_cut_in(rt.alloc(), 222)?);
+    Ok(())
+}
+
+#[test]
+fn a_thousand_are_cut_at_each_place_of_the_last(rt: HostRuntime) -> Result<(), Fail> {
+    assert!(rt; is_cut_in(rt.alloc(), 999)?);
     Ok(())
 }
 
