@@ -28,3 +28,6 @@ pub mod Standing
 pub mod Placing
 pub mod Begun
 pub mod BodySteps
+mod Foreseen
+mod Staged
+mod Unstaged
