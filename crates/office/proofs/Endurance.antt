@@ -90,6 +90,13 @@ module _ {K : Type 0} {k : Ghosts K} where
       (is.0, is.1, is.2, record { means = record { meant = left.means.meant; lasts = then_lasts adds left.means.lasts }; sound = left.sound }, is.4)
   then_replied c s r now (Err q) adds is = is
 
+  -- a question came before the answer
+  pub then_answered : {a b : K} (c : K) (s : State) (r : Request) (now : ℕ) (answer : Answer) → AddsStanding k a b s
+      → IsAnswered (Endures k b c s) s r now answer → IsAnswered (Endures k a c s) s r now answer
+  then_answered c s r now answer adds is = λ other.
+      let x = is other in
+      (x.0, record { means = record { meant = x.1.means.meant; lasts = then_lasts adds x.1.means.lasts }; sound = x.1.sound }, x.2)
+
   -- a state that endures is meant
   pub meant_only : {a b : K} (s : State) (r : Request) (now : ℕ) (answer : Answer) → IsAnswered (Endures k a b s) s r now answer → IsAnswered (k.means b) s r now answer
   meant_only s r now answer is = λ other. let x = is other in (x.0, record { means = x.1.means.meant; sound = x.1.sound }, x.2)

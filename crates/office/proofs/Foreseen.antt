@@ -1,6 +1,6 @@
 -- What follows from what was foreseen of a message.
 use Rattle.std.proofs.Common.{◌≡◌, ◌≢◌, ℕ, Result, Ok, Err, ap, refl, sym, subst, ◌∙◌}
-use Rattle.std.specs.Prelude.{IfErr, IfOk, IsErr, OnErr}
+use Rattle.std.specs.Prelude.{IfErr, IfOk, IsErr, OnErr, OnOk, is_err, true, false}
 use Rattle.keeper.specs.declared.keep.KeepFault.{KeepFault}
 use Rattle.office.specs.Premise.{IsFault}
 use Rattle.sigtext.specs.declared.refusal.Refusal.{Refusal}
@@ -32,10 +32,10 @@ pub read_of : (s : State) (r : Request) (foreseen : Result Prospect Refusal) →
 read_of s r (Ok f) is other = (is.parts, is.link)
 read_of s r (Err q) is other = λ again. absurd (other (ap Err again))
 
-ok_no_err : {T : Type 0} (x : T) (q : Refusal) (result : Result T Refusal) → result ≡ Ok x → result ≡ Err q → ⊥
+pub ok_no_err : {T : Type 0} (x : T) (q : Refusal) (result : Result T Refusal) → result ≡ Ok x → result ≡ Err q → ⊥
 ok_no_err x q result a b = cc
 
-err_is : {T : Type 0} (x y : Refusal) (result : Result T Refusal) → result ≡ Err x → result ≡ Err y → x ≡ y
+pub err_is : {T : Type 0} (x y : Refusal) (result : Result T Refusal) → result ≡ Err x → result ≡ Err y → x ≡ y
 err_is x y result a b = cc
 
 ok_is : {T : Type 0} (x y : T) (result : Result T Refusal) → result ≡ Ok x → result ≡ Ok y → x ≡ y
@@ -103,3 +103,15 @@ upload_readable r (Err q) upload is = absurd upload
 pub err_whatever : {T P : Type 0} (result : Result T Refusal) → P → IfErr result (λ q. q ≡ rule.TryAgain → P)
 err_whatever (Ok x) is = tt
 err_whatever (Err q) is = λ again. is
+
+pub of_err : {T E P : Type 0} (result : Result T E) → true ≡ is_err result → OnErr result P → P
+of_err (Ok x) e is = absurd cc
+of_err (Err f) e is = is
+
+pub of_ok : {T E P : Type 0} (result : Result T E) → is_err result ≡ false → OnOk result P → P
+of_ok (Ok x) e is = is
+of_ok (Err f) e is = absurd cc
+
+pub no_fault : {T : Type 0} (result : Result T KeepFault) → is_err result ≡ false → IsFault result → ⊥
+no_fault (Ok x) e is = is
+no_fault (Err f) e is = cc

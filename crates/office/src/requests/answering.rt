@@ -25,8 +25,8 @@ pub(crate) fn asks_head(message: &Announced<'_>) -> bool
 
 impl<K: Keeper> Office<K> {
     ghost use Rattle.std.specs.Prelude.{◌≡◌, ◌≢◌, ◌⊎◌, ◌≤◌, ℕ, List, [], length, Err, IfErr, IfOk, IsFalse, IsTrue, OnErr, OnOk};
+    ghost use Rattle.sigtext.specs.Bytes.{AreBytes};
     ghost use Rattle.sigtext.specs.Counts.{Rose};
-    ghost use Rattle.sigtext.specs.Limits.{most_body};
     ghost use Rattle.sigtext.specs.Request.{Request};
     ghost use Rattle.boxes.specs.State.{State};
     ghost use Rattle.keeper.specs.Keeping.{KeepsStaged};
@@ -134,8 +134,8 @@ impl<K: Keeper> Office<K> {
             → RefusedLasts K.Keeper self.old.keeper self.new.keeper s r now result }
         ensures unstaged { IsUpload foreseen.entry ⊎ K.stages self.old.keeper []
             → EndsUnstaged K.Keeper self.old.keeper self.new.keeper }
-        ensures rest { HoldsUnless K.Keeper self.old.keeper self.new.keeper
-            (IsGivenUp result) }
+        ensures given_up { foreseen.entry ≡ Err Refusal.TryAgain → IsGivenUp result }
+        ensures rest { HoldsUnless K.Keeper self.old.keeper self.new.keeper (IsGivenUp result) }
     {
         match foreseen {
             Ok(prospect) => self.finish(prospect, body, now),
@@ -167,6 +167,7 @@ impl<K: Keeper> Office<K> {
             → AddsAsked K.Keeper self.old.keeper self.new.keeper s (IsAsked s r now) }
         ensures unstaged { IsUpload foreseen.entry ⊎ K.stages self.old.keeper []
             → EndsUnstaged K.Keeper self.old.keeper self.new.keeper }
+        ensures given_up { foreseen.entry ≡ Err Refusal.TryAgain → IsTryAgain result }
         ensures rest { HoldsUnless K.Keeper self.old.keeper self.new.keeper (IsTryAgain result) }
     {
         match self.reply_to(foreseen, body, now) {
@@ -202,6 +203,7 @@ impl<K: Keeper> Office<K> {
         ensures staged { IsTrue is_upload → OnOk result (K.stages self.new.keeper body.now) }
         ensures passed { IsFalse is_upload → KeepsStaged K.stages self.old.keeper self.new.keeper }
         ensures asked { OnErr result (IsTrue is_upload) }
+        ensures octets { AreBytes body.now }
         ensures same { (s : State) → K.means self.old.keeper s → K.means self.new.keeper s }
         ensures crash { (s : State) → K.means self.old.keeper s → K.is_honest self.new.keeper
             → AddsStanding K.Keeper self.old.keeper self.new.keeper s }

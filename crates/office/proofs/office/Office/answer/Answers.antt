@@ -1,42 +1,77 @@
-use Rattle.std.proofs.Common.{rules, ◌≡◌, codes, ◌≢◌, ◌⊎◌, ◌≤◌, ℕ, List, [], length, Err, IfErr, IfOk, IsFalse, IsTrue, OnErr, OnOk, ◌+◌, ◌-◌, ◌*◌, ◌<◌, ◌/◌, ◌%◌, Bool, true, false, nat_eq, nat_lt, ◌∷◌, ◌++◌, slice_index_or, slice_set, bit_and, bit_or, Fits, w8, w32, w64, Bor, MutBor}
-use Rattle.sigtext.specs.Bytes.{same_bytes}
-use Rattle.sigtext.specs.Counts.{Rose}
-use Rattle.sigtext.specs.Limits.{most_body}
+use Rattle.std.proofs.Common.{◌≡◌, ◌∙◌, List, ℕ, ap, arith, rules, subst, sym}
 use Rattle.sigtext.specs.Request.{Request}
-use Rattle.boxes.specs.State.{State}
-use Rattle.keeper.specs.Keeping.{KeepsStaged}
 use Rattle.wire.specs.Messages.{request_in}
-use Rattle.office.specs.Admitted.{IsAdmitted}
 use Rattle.office.specs.Alike.{AreAlike}
+use Rattle.office.specs.Announcing.{request_with}
 use Rattle.office.specs.Answering.{is_head}
-use Rattle.office.specs.Crashes.{AddsAsked, AddsStanding, Endures, IsAsked, RefusedLasts}
-use Rattle.office.specs.Foreseeing.{AreStaged, Foresees, IsForeseen, IsPutting, IsReadOf, IsUpload}
-use Rattle.office.specs.Offices.{IsTryAgain, IsAnswered, IsTheAnswer}
-use Rattle.office.specs.Premise.{EndsUnstaged, HoldsUnless, IsFault, IsGivenUp, StaysUnstaged, WasKept}
+use Rattle.office.specs.Foreseeing.{AreStaged, Foresees, IsUpload}
+use Rattle.office.specs.Premise.{WasKept}
 use Rattle.office.specs.Readable.{IsReadable}
-use Rattle.office.specs.Replying.{IsReplied, IsNoRefusal}
+use Rattle.office.proofs.Alikeness.{the_answer}
+use Rattle.office.proofs.Endurance.{then_adds, then_answered, then_asked}
+use Rattle.office.proofs.Foreseen.{no_fault, of_err, of_ok, upload_readable}
+use Rattle.office.proofs.Unstaged.{then_holds}
 use Rattle.office.proofs.office.Office.answer.Goals as goal
 
--- src/requests/answering.rt:256:13
 pub returns-then-is_err-clause-readable : goal.returns-then-is_err-clause-readable
-returns-then-is_err-clause-readable g c = ?
+returns-then-is_err-clause-readable g c again =
+    let body = c.args.message.now.body.now in
+    let upload = c.is_upload-upload.ensures.0 (of_err c.stage_upload.result c.if-is_err.ensures.value c.stage_upload.ensures.asked) in
+    subst IsReadable c.announce-head.ensures.request
+    (upload_readable (request_with c.announce-head.result body) c.foresee-foreseen.result upload (c.foresee-foreseen.ensures.readable body))
 
--- src/requests/answering.rt:233:5
 pub returns-clause-answers : goal.returns-clause-answers
-returns-clause-answers g c = ?
+returns-clause-answers g c s kept =
+    let body = c.args.message.now.body.now in
+    let honest-2 = c.answer_whole.ensures.rest.honest kept.is_honest in
+    let honest-1 = c.stage_upload.ensures.rest.honest honest-2 in
+    let means-1 = c.foresee-foreseen.ensures.same s kept.means in
+    let means-2 = c.stage_upload.ensures.same s means-1 in
+    let foresees = subst (λ (r : Request). Foresees s r c.foresee-foreseen.result) c.announce-head.ensures.request
+    (c.foresee-foreseen.ensures.foresees s body (record { means = kept.means; is_honest = honest-1; sound = kept.sound }) (sym c.announce-head.ensures.length)) in
+    then_answered c.answer_whole.new.self.keeper s (request_in c.args.message.now) c.args.now c.answer_whole.result
+    (then_adds (c.foresee-foreseen.ensures.crash s kept.means honest-1) (c.stage_upload.ensures.crash s means-1 honest-2))
+    (c.answer_whole.ensures.answers s (request_in c.args.message.now) (record { means = means-2; is_honest = kept.is_honest; sound = kept.sound }) foresees
+    (c.asks_head-to_head.ensures ∙ ap is_head c.announce-head.ensures.request)
+    (λ upload. record {
+      staged = of_ok c.stage_upload.result (search rules) (c.stage_upload.ensures.staged (c.is_upload-upload.ensures.1 upload));
+      octets = c.stage_upload.ensures.octets;
+      short = c.args.message.now.short;
+      length_is = search rules;
+      digest = c.digest.ensures;
+    }))
 
--- src/requests/answering.rt:233:5
 pub returns-clause-alike : goal.returns-clause-alike
-returns-clause-alike g c = ?
+returns-clause-alike g c s other kept alike =
+    the_answer _ s (request_in c.args.message.now) other c.args.now _ alike (returns-clause-answers g c s kept)
 
--- src/requests/answering.rt:233:5
 pub returns-clause-readable : goal.returns-clause-readable
-returns-clause-readable g c = ?
+returns-clause-readable g c again =
+    let body = c.args.message.now.body.now in
+    subst IsReadable c.announce-head.ensures.request
+    (c.answer_whole.ensures.readable again (request_with c.announce-head.result body) (c.foresee-foreseen.ensures.readable body))
 
--- src/requests/answering.rt:233:5
 pub returns-clause-rest : goal.returns-clause-rest
-returns-clause-rest g c = ?
+returns-clause-rest g c =
+    then_holds
+    (then_holds c.foresee-foreseen.ensures.rest c.stage_upload.ensures.rest (λ not given. not (c.answer_whole.ensures.given_up given)) (λ not fault. no_fault c.stage_upload.result (search rules) fault))
+    c.answer_whole.ensures.rest (λ not none. not none) (λ not again. not again)
 
--- src/requests/answering.rt:233:5
 pub returns-clause-crash : goal.returns-clause-crash
-returns-clause-crash g c = ?
+returns-clause-crash g c s kept again =
+    let body = c.args.message.now.body.now in
+    let honest-2 = c.answer_whole.ensures.rest.honest kept.is_honest in
+    let honest-1 = c.stage_upload.ensures.rest.honest honest-2 in
+    let means-1 = c.foresee-foreseen.ensures.same s kept.means in
+    let means-2 = c.stage_upload.ensures.same s means-1 in
+    let foresees = subst (λ (r : Request). Foresees s r c.foresee-foreseen.result) c.announce-head.ensures.request
+    (c.foresee-foreseen.ensures.foresees s body (record { means = kept.means; is_honest = honest-1; sound = kept.sound }) (sym c.announce-head.ensures.length)) in
+    then_asked (then_adds (c.foresee-foreseen.ensures.crash s kept.means honest-1) (c.stage_upload.ensures.crash s means-1 honest-2))
+    (c.answer_whole.ensures.crash s (request_in c.args.message.now) (record { means = means-2; is_honest = kept.is_honest; sound = kept.sound }) foresees
+    (λ upload. record {
+      staged = of_ok c.stage_upload.result (search rules) (c.stage_upload.ensures.staged (c.is_upload-upload.ensures.1 upload));
+      octets = c.stage_upload.ensures.octets;
+      short = c.args.message.now.short;
+      length_is = search rules;
+      digest = c.digest.ensures;
+    }) again)

@@ -1,4 +1,4 @@
-use Rattle.std.proofs.Common.{◌∙◌, Bool, ap, refl}
+use Rattle.std.proofs.Common.{◌∙◌, Bool, Ok, Err, ap, refl}
 use Rattle.sigtext.specs.declared.refusal.Refusal.TheVariants as rule
 use Rattle.wire.specs.Answers.{answer_text}
 use Rattle.wire.specs.Answers as said
@@ -6,6 +6,7 @@ use Rattle.wire.specs.Shown.{said_of}
 use Rattle.office.specs.Answering.{accepts, is_head, shown}
 use Rattle.office.specs.Crashes.{unchanged}
 use Rattle.office.proofs.Answered.{again_is, is_again, refused_text}
+use Rattle.office.proofs.Foreseen.{err_is, ok_no_err}
 use Rattle.office.proofs.office.Office.answer_whole.Goals as goal
 
 pub returns-in-Ok-clause-answers : goal.returns-in-Ok-clause-answers
@@ -36,3 +37,10 @@ returns-in-Ok-clause-readable g c again r is = absurd (c.in-Ok.ensures.plain rul
 
 pub returns-in-Err-clause-readable : goal.returns-in-Err-clause-readable
 returns-in-Err-clause-readable g c again r is = c.in-Err.ensures.readable (again_is c.refused.result c.in-Err.refusal c.refused.ensures.reply again) r is
+
+pub returns-in-Ok-clause-given_up : goal.returns-in-Ok-clause-given_up
+returns-in-Ok-clause-given_up g c given = absurd (ok_no_err c.in-Ok.reply rule.TryAgain (Ok c.in-Ok.reply) refl (c.in-Ok.ensures.given_up given))
+
+pub returns-in-Err-clause-given_up : goal.returns-in-Err-clause-given_up
+returns-in-Err-clause-given_up g c given =
+    is_again c.refused.result c.in-Err.refusal c.refused.ensures.reply (err_is c.in-Err.refusal rule.TryAgain (Err c.in-Err.refusal) refl (c.in-Err.ensures.given_up given))

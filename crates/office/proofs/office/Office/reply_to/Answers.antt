@@ -1,7 +1,8 @@
-use Rattle.std.proofs.Common.{inl, inr, subst, sym}
+use Rattle.std.proofs.Common.{Err, ap, inl, inr, subst, sym}
+use Rattle.sigtext.specs.declared.refusal.Refusal.TheVariants as rule
 use Rattle.office.specs.Foreseeing.{Foresees, IsReadOf, IsUpload}
 use Rattle.office.proofs.Endurance.{refused_same, still}
-use Rattle.office.proofs.Foreseen.{err_whatever, readable_of}
+use Rattle.office.proofs.Foreseen.{err_is, err_whatever, ok_no_err, readable_of}
 use Rattle.office.proofs.office.Office.reply_to.Goals as goal
 
 pub returns-in-Ok-clause-replies : goal.returns-in-Ok-clause-replies
@@ -32,3 +33,9 @@ returns-in-Err-clause-readable g c again r is = subst (IsReadOf r) c.in-Err.is i
 pub returns-in-Err-clause-unstaged : goal.returns-in-Err-clause-unstaged
 returns-in-Err-clause-unstaged g c (inl upload) = absurd (subst IsUpload c.in-Err.is upload)
 returns-in-Err-clause-unstaged g c (inr none) = inl none
+
+pub returns-in-Ok-clause-given_up : goal.returns-in-Ok-clause-given_up
+returns-in-Ok-clause-given_up g c given = absurd (ok_no_err c.in-Ok.prospect rule.TryAgain c.args.foreseen c.in-Ok.is given)
+
+pub returns-in-Err-clause-given_up : goal.returns-in-Err-clause-given_up
+returns-in-Err-clause-given_up g c given = ap Err (err_is c.in-Err.refusal rule.TryAgain c.args.foreseen c.in-Err.is given)
