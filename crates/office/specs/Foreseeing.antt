@@ -20,6 +20,7 @@ use Rattle.office.specs.declared.requests.foreseeing.Errand.TheVariants as erran
 use Rattle.office.specs.declared.requests.foreseeing.Prospect.{Prospect}
 use Rattle.office.specs.declared.requests.foreseeing.Body.{Body}
 use Rattle.office.specs.Admitted.{IsAdmitted, ReachesBoxes}
+use Rattle.office.specs.Readable.{IsReadable}
 use Rattle.office.specs.Rules.{IsPut, IsPost, IsFetch, Rule, place_of}
 
 -- the request's link has these parts, and this key, which is there and unrevoked, signed it
@@ -57,6 +58,11 @@ pub record IsForeseen (s : State) (r : Request) (f : Prospect) : Type 0 where
 abbrev pub Foresees : State → Request → Result Prospect Refusal → Type 0
 Foresees s r (Ok f) = IsForeseen s r f
 Foresees s r (Err q) = IsAlwaysRefused s r q
+
+-- its link was read; or, where memory was refused for that, it is readable
+abbrev pub IsReadOf : Request → Result Prospect Refusal → Type 0
+IsReadOf r (Ok f) = (p : LinkValues) × IsLinkOf f.link r p
+IsReadOf r (Err q) = q ≡ rule.TryAgain → IsReadable r
 
 -- an upload, whose body is to be staged
 abbrev pub IsPutting : Result Errand Refusal → Type 0

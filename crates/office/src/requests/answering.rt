@@ -24,19 +24,20 @@ pub(crate) fn asks_head(message: &Announced<'_>) -> bool
 }
 
 impl<K: Keeper> Office<K> {
-    ghost use Rattle.std.specs.Prelude.{◌≡◌, ◌≢◌, ◌⊎◌, ◌≤◌, ℕ, List, [], length, Err, IfErr, IfOk, OnErr, OnOk};
+    ghost use Rattle.std.specs.Prelude.{◌≡◌, ◌≢◌, ◌⊎◌, ◌≤◌, ℕ, List, [], length, Err, IfErr, IfOk, IsFalse, IsTrue, OnErr, OnOk};
     ghost use Rattle.sigtext.specs.Counts.{Rose};
     ghost use Rattle.sigtext.specs.Limits.{most_body};
     ghost use Rattle.sigtext.specs.Request.{Request};
     ghost use Rattle.boxes.specs.State.{State};
+    ghost use Rattle.keeper.specs.Keeping.{KeepsStaged};
     ghost use Rattle.wire.specs.Messages.{request_in};
     ghost use Rattle.office.specs.Admitted.{IsAdmitted};
     ghost use Rattle.office.specs.Alike.{AreAlike};
     ghost use Rattle.office.specs.Answering.{is_head};
     ghost use Rattle.office.specs.Crashes.{AddsAsked, AddsStanding, Endures, IsAsked, RefusedLasts};
-    ghost use Rattle.office.specs.Foreseeing.{AreStaged, Foresees, IsForeseen, IsPutting, IsUpload};
+    ghost use Rattle.office.specs.Foreseeing.{AreStaged, Foresees, IsForeseen, IsPutting, IsReadOf, IsUpload};
     ghost use Rattle.office.specs.Offices.{IsTryAgain, IsAnswered, IsTheAnswer};
-    ghost use Rattle.office.specs.Premise.{EndsUnstaged, HoldsUnless, IsGivenUp, StaysUnstaged, WasKept};
+    ghost use Rattle.office.specs.Premise.{EndsUnstaged, HoldsUnless, IsFault, IsGivenUp, StaysUnstaged, WasKept};
     ghost use Rattle.office.specs.Readable.{IsReadable};
     ghost use Rattle.office.specs.Replying.{IsReplied, IsNoRefusal};
 
@@ -109,6 +110,39 @@ impl<K: Keeper> Office<K> {
         }
     }
 
+    // What a message is replied of which this was foreseen, and whose body came, at its moment.
+    fn reply_to(
+        &mut self,
+        foreseen: Result<Prospect<'_>, Refusal>,
+        body: &Body,
+        now: Moment,
+    ) -> Result<Reply, Refusal>
+        ensures replies { (s : State) (r : Request)
+            → WasKept K.Keeper self.old.keeper self.new.keeper s
+            → Foresees s r foreseen
+            → (IsUpload foreseen → AreStaged K.Keeper self.old.keeper r.body body.now)
+            → IsReplied (Endures K.Keeper self.old.keeper self.new.keeper s) s r now result }
+        ensures readable { IfErr result (λ q. q ≡ Refusal.TryAgain → (r : Request)
+            → IsReadOf r foreseen → IsReadable r) }
+        ensures same { (s : State) → K.means self.old.keeper s
+            → IfErr result (λ q. K.means self.new.keeper s) }
+        ensures plain { IfOk result IsNoRefusal }
+        ensures crash { (s : State) (r : Request)
+            → WasKept K.Keeper self.old.keeper self.new.keeper s
+            → Foresees s r foreseen
+            → (IsUpload foreseen → AreStaged K.Keeper self.old.keeper r.body body.now)
+            → RefusedLasts K.Keeper self.old.keeper self.new.keeper s r now result }
+        ensures unstaged { IsUpload foreseen ⊎ K.stages self.old.keeper []
+            → EndsUnstaged K.Keeper self.old.keeper self.new.keeper }
+        ensures rest { HoldsUnless K.Keeper self.old.keeper self.new.keeper
+            (IsGivenUp result) }
+    {
+        match foreseen {
+            Ok(prospect) => self.finish(prospect, body, now),
+            Err(refusal) => Err(refusal),
+        }
+    }
+
     // The answer to a message whose body came, at its moment. The bytes of an upload are staged.
     pub(crate) fn answer_whole(
         &mut self,
@@ -124,8 +158,7 @@ impl<K: Keeper> Office<K> {
             → IsAnswered (Endures K.Keeper self.old.keeper self.new.keeper s) s r now result }
         ensures again { IsTryAgain result → (s : State) → K.means self.old.keeper s
             → K.means self.new.keeper s }
-        ensures readable { IsTryAgain result → (foreseen ≢ Err Refusal.TryAgain) → (s : State)
-            (r : Request) → Foresees s r foreseen → IsReadable r }
+        ensures readable { IsTryAgain result → (r : Request) → IsReadOf r foreseen → IsReadable r }
         ensures crash { (s : State) (r : Request)
             → WasKept K.Keeper self.old.keeper self.new.keeper s
             → Foresees s r foreseen
@@ -136,11 +169,7 @@ impl<K: Keeper> Office<K> {
             → EndsUnstaged K.Keeper self.old.keeper self.new.keeper }
         ensures rest { HoldsUnless K.Keeper self.old.keeper self.new.keeper (IsTryAgain result) }
     {
-        let reply = match foreseen {
-            Ok(prospect) => self.finish(prospect, body, now),
-            Err(refusal) => Err(refusal),
-        };
-        match reply {
+        match self.reply_to(foreseen, body, now) {
             Ok(reply) => Answer {
                 reply,
                 is_head: to_head,
@@ -166,6 +195,24 @@ impl<K: Keeper> Office<K> {
             rest = more;
         }
         Ok(())
+    }
+
+    // Stages the body of an upload; of another message nothing.
+    fn stage_upload(&mut self, is_upload: bool, body: &[u8]) -> Result<(), KeepFault>
+        ensures staged { IsTrue is_upload → OnOk result (K.stages self.new.keeper body.now) }
+        ensures passed { IsFalse is_upload → KeepsStaged K.stages self.old.keeper self.new.keeper }
+        ensures asked { OnErr result (IsTrue is_upload) }
+        ensures same { (s : State) → K.means self.old.keeper s → K.means self.new.keeper s }
+        ensures crash { (s : State) → K.means self.old.keeper s → K.is_honest self.new.keeper
+            → AddsStanding K.Keeper self.old.keeper self.new.keeper s }
+        ensures fault { OnErr result (Rose (K.faults self.old.keeper) (K.faults self.new.keeper)) }
+        ensures rest { HoldsUnless K.Keeper self.old.keeper self.new.keeper (IsFault result) }
+    {
+        if is_upload {
+            self.stage_whole(body)
+        } else {
+            Ok(())
+        }
     }
 
     /// Answers a message at a moment. The answer and the state after it are those of the rules; or the
@@ -204,7 +251,8 @@ impl<K: Keeper> Office<K> {
         let head = announced(message);
         let foreseen = self.foresee(&head);
         let to_head = asks_head(&head);
-        if is_upload(&foreseen) && self.stage_whole(message.body).is_err() {
+        let upload = is_upload(&foreseen);
+        if self.stage_upload(upload, message.body).is_err() {
             return Answer::refused(Refusal::TryAgain, to_head);
         }
         let body = Body {

@@ -64,7 +64,7 @@ pub(crate) fn is_upload(foreseen: &Result<Prospect<'_>, Refusal>) -> bool
 }
 
 impl<K: Keeper> Office<K> {
-    ghost use Rattle.std.specs.Prelude.{◌≡◌, ◌≢◌, ℕ, List, length, Err, IfErr};
+    ghost use Rattle.std.specs.Prelude.{◌≡◌, ◌≢◌, ℕ, List, length, Err};
     ghost use Rattle.sigtext.specs.Request.{Request};
     ghost use Rattle.boxes.specs.State.{Key, State};
     ghost use Rattle.keeper.specs.Keeping.{KeepsStaged};
@@ -74,9 +74,8 @@ impl<K: Keeper> Office<K> {
     ghost use Rattle.office.specs.Admitted.{IsAdmitted, ReachesBoxes};
     ghost use Rattle.office.specs.Announcing.{request_with};
     ghost use Rattle.office.specs.Crashes.{AddsStanding};
-    ghost use Rattle.office.specs.Foreseeing.{ComesTo, Foresees, IsSigned};
+    ghost use Rattle.office.specs.Foreseeing.{ComesTo, Foresees, IsReadOf, IsSigned};
     ghost use Rattle.office.specs.Premise.{HoldsUnless, IsGivenUp, WasKept};
-    ghost use Rattle.office.specs.Readable.{IsReadable};
     ghost use Rattle.office.specs.Rules.{IsPut};
 
     // What an upload comes to of whose request the rules up to number 26 hold: its box, where the rules 27 to 29 hold, else the
@@ -157,6 +156,9 @@ impl<K: Keeper> Office<K> {
             → length body ≡ message.now.length
             → IsLinkOf link (request_with message.now body) p
             → Foresees s (request_with message.now body) result }
+        ensures readable { (body : List ℕ) (p : LinkValues)
+            → IsLinkOf link (request_with message.now body) p
+            → IsReadOf (request_with message.now body) result }
         ensures same { (s : State) → K.means self.old.keeper s → K.means self.new.keeper s }
         ensures crash { (s : State) → K.means self.old.keeper s → K.is_honest self.new.keeper
             → AddsStanding K.Keeper self.old.keeper self.new.keeper s }
@@ -180,8 +182,7 @@ impl<K: Keeper> Office<K> {
             → WasKept K.Keeper self.old.keeper self.new.keeper s
             → length body ≡ message.now.length
             → Foresees s (request_with message.now body) result }
-        ensures readable { IfErr result (λ q. q ≡ Refusal.TryAgain → (body : List ℕ)
-            → IsReadable (request_with message.now body)) }
+        ensures readable { (body : List ℕ) → IsReadOf (request_with message.now body) result }
         ensures same { (s : State) → K.means self.old.keeper s → K.means self.new.keeper s }
         ensures crash { (s : State) → K.means self.old.keeper s → K.is_honest self.new.keeper
             → AddsStanding K.Keeper self.old.keeper self.new.keeper s }

@@ -58,7 +58,7 @@ impl<K: Keeper> Office<K> {
     ghost use Rattle.boxes.specs.Rows.{settings_of};
     ghost use Rattle.boxes.specs.Rules.{Stands, Upload};
     ghost use Rattle.boxes.specs.State.{State};
-    ghost use Rattle.boxes.specs.Views.{IsUploadViewOf};
+    ghost use Rattle.boxes.specs.Views.{IsReceiptAt, IsUploadViewOf};
     ghost use Rattle.keeper.specs.Bound.{StaysBy};
     ghost use Rattle.keeper.specs.Keeping.{KeepsStaged, LeavesEither};
     ghost use Rattle.links.specs.LinkReadings.{IsLinkOf};
@@ -70,6 +70,27 @@ impl<K: Keeper> Office<K> {
     ghost use Rattle.office.specs.Premise.{EndsUnstaged, HoldsUnless, IsGivenUp, IsLeft, WasKept};
     ghost use Rattle.office.specs.Replying.{IsReplied, IsNoRefusal, IsReceiptFor};
     ghost use Rattle.office.specs.Rules.{IsPut, place_of};
+
+    // Asks the keeper whether the staged bytes stand at the place, of which this is the receipt, already.
+    fn stand(
+        &mut self,
+        place: FilePlace<'_>,
+        receipt: &Option<ReceiptRow>,
+        body: &Body,
+    ) -> Result<bool, KeepFault>
+        ensures value { (s : State) (u : Upload)
+            → WasKept K.Keeper self.old.keeper self.new.keeper s
+            → u.place ≡ place_at place.entry → IsReceiptAt s u.place receipt.now
+            → AreStaged K.Keeper self.old.keeper u.bytes body.now
+            → IfOk result (λ b. IsTrue b ↔ Stands s u) }
+        ensures staged { OnOk result (KeepsStaged K.stages self.old.keeper self.new.keeper) }
+        ensures rest { StaysBy K.Keeper self.old.keeper self.new.keeper result }
+    {
+        if !may_stand(receipt, body) {
+            return Ok(false);
+        }
+        self.keeper.staged_equals(place.in_box, place.name)
+    }
 
     // Asks the keeper what an upload of the staged bytes to the place needs, whose box was asked before.
     fn look_up(
@@ -93,11 +114,7 @@ impl<K: Keeper> Office<K> {
         let totals = self.keeper.sizes(place.in_box)?;
         let next_number = self.keeper.next_number()?;
         let standing = self.keeper.file_receipt(place.in_box, place.name)?;
-        let stand = if may_stand(&standing, body) {
-            self.keeper.staged_equals(place.in_box, place.name)?
-        } else {
-            false
-        };
+        let stand = self.stand(place, &standing, body)?;
         let view = UploadView {
             office,
             in_box,

@@ -1,0 +1,76 @@
+-- What follows from what was foreseen of a message.
+use Rattle.std.proofs.Common.{◌≡◌, ◌≢◌, ℕ, Result, Ok, Err, ap, refl, sym, subst, ◌∙◌}
+use Rattle.std.specs.Prelude.{IfErr, IfOk, OnErr}
+use Rattle.sigtext.specs.declared.refusal.Refusal.{Refusal}
+use Rattle.sigtext.specs.declared.refusal.Refusal.TheVariants as rule
+use Rattle.sigtext.specs.Request.{Request}
+use Rattle.sigtext.specs.Rules.{IsFirstToFail}
+use Rattle.links.specs.WellFormed.{LinkValues, IsWellFormed}
+use Rattle.boxes.specs.State.{State}
+use Rattle.wire.specs.declared.answer.Reply.{Reply}
+use Rattle.office.specs.declared.requests.foreseeing.Prospect.{Prospect}
+use Rattle.office.specs.Foreseeing.{Foresees, IsReadOf}
+use Rattle.office.specs.Readable.{IsReadable}
+use Rattle.office.specs.Replying.{IsReplied}
+use Rattle.office.specs.Rules.{Rule}
+
+pub readable_of : (r : Request) (p : LinkValues) → IsWellFormed r p → IsReadable r
+readable_of r p formed = record {
+  served = formed rule.Method;
+  path = p.path;
+  params = p.params;
+  target = formed rule.Target;
+  named = (formed rule.NotSigned, (formed rule.Parameters).no_other);
+}
+
+-- a message that was not given up was read
+pub read_of : (s : State) (r : Request) (foreseen : Result Prospect Refusal) → Foresees s r foreseen → foreseen ≢ Err rule.TryAgain → IsReadOf r foreseen
+read_of s r (Ok f) is other = (is.parts, is.link)
+read_of s r (Err q) is other = λ again. absurd (other (ap Err again))
+
+ok_no_err : {T : Type 0} (x : T) (q : Refusal) (result : Result T Refusal) → result ≡ Ok x → result ≡ Err q → ⊥
+ok_no_err x q result a b = cc
+
+err_is : {T : Type 0} (x y : Refusal) (result : Result T Refusal) → result ≡ Err x → result ≡ Err y → x ≡ y
+err_is x y result a b = cc
+
+ok_is : {T : Type 0} (x y : T) (result : Result T Refusal) → result ≡ Ok x → result ≡ Ok y → x ≡ y
+ok_is x y result a b = cc
+
+-- ---- a reply that is given once nothing is staged any more, or refusal 40
+
+-- what was to be refused is refused so
+pub denied : (means : State → Type 0) (s : State) (r : Request) (now : ℕ) (q : Refusal) (result : Result Reply Refusal) → (result ≢ Err rule.TryAgain → result ≡ Err q)
+    → (q ≢ rule.TryAgain → IsFirstToFail (Rule s r now) q) → IsReplied means s r now result
+denied means s r now q (Ok x) gives fails = absurd (ok_no_err x q (Ok x) refl (gives (ok_no_err x rule.TryAgain (Ok x) refl)))
+denied means s r now q (Err y) gives fails = λ other.
+    let same : y ≡ q = err_is y q (Err y) refl (gives (λ again. other (err_is y rule.TryAgain (Err y) refl again))) in
+    subst (IsFirstToFail (Rule s r now)) (sym same) (fails (λ again. other (same ∙ again)))
+
+-- it is replied nothing
+pub no_reply : (P : Reply → Type 0) (q : Refusal) (result : Result Reply Refusal) → (result ≢ Err rule.TryAgain → result ≡ Err q) → IfOk result P
+no_reply P q (Ok x) gives = absurd (ok_no_err x q (Ok x) refl (gives (ok_no_err x rule.TryAgain (Ok x) refl)))
+no_reply P q (Err y) gives = tt
+
+-- what was to be replied is replied
+pub told : (means : State → Type 0) (s : State) (r : Request) (now : ℕ) (x : Reply) (result : Result Reply Refusal) → (result ≢ Err rule.TryAgain → result ≡ Ok x)
+    → IsReplied means s r now (Ok x) → IsReplied means s r now result
+told means s r now x (Ok y) gives is =
+    subst (λ (z : Reply). IsReplied means s r now (Ok z)) (ok_is x y (Ok y) (gives (ok_no_err y rule.TryAgain (Ok y) refl)) refl) is
+told means s r now x (Err y) gives is = λ other. absurd (ok_no_err x y (Err y) (gives (λ again. other (err_is y rule.TryAgain (Err y) refl again))) refl)
+
+pub if_told : (P : Reply → Type 0) (x : Reply) (result : Result Reply Refusal) → (result ≢ Err rule.TryAgain → result ≡ Ok x) → P x → IfOk result P
+if_told P x (Ok y) gives is = subst P (ok_is x y (Ok y) (gives (ok_no_err y rule.TryAgain (Ok y) refl)) refl) is
+if_told P x (Err y) gives is = tt
+
+pub whatever_err : {T E : Type 0} {P : Type 0} (result : Result T E) → P → OnErr result P
+whatever_err (Ok x) is = tt
+whatever_err (Err e) is = is
+
+pub if_whatever_err : {T E : Type 0} {P : Type 0} (result : Result T E) → P → IfErr result (λ e. P)
+if_whatever_err (Ok x) is = tt
+if_whatever_err (Err e) is = is
+
+pub weaker_ok : {T E : Type 0} {P Q : T → Type 0} (result : Result T E) → ((x : T) → P x → Q x) → IfOk result P → IfOk result Q
+weaker_ok (Ok x) f is = f x is
+weaker_ok (Err e) f is = tt

@@ -1,0 +1,52 @@
+-- How the keeper holds up over several calls, and that nothing stays staged.
+use Rattle.std.proofs.Common.{◌≡◌, ℕ, ◌≤◌, ◌⊎◌, [], inl, inr, arith, sym, ◌∙◌}
+use Rattle.std.proofs.lemmas.Bool.{cases_lt}
+use Rattle.sigtext.specs.Counts.{Rose}
+use Rattle.keeper.specs.Keeping.{KeepsStaged}
+use Rattle.keeper.specs.declared.keep.Keeper.{Ghosts}
+use Rattle.office.specs.Premise.{EndsUnstaged, HoldsUnless}
+
+-- a count that did not fall before rose over both
+pub rose_later : (a b c : ℕ) → a ≤ b → Rose b c → Rose a c
+rose_later a b c least (inl more) = inl (omega (arith, least, more))
+rose_later a b c least (inr (top, same)) =
+    elim (cases_lt a b) [
+      | inl less ↦ inl (omega (arith, less, same))
+      | inr most ↦ let e : a ≡ b = omega (arith, least, most) in inr (e ∙ top, same ∙ sym e)
+    ]
+
+-- a count that rose did not fall behind
+pub rose_before : (a b c : ℕ) → Rose a b → b ≤ c → Rose a c
+rose_before a b c (inl less) most = inl (omega (arith, less, most))
+rose_before a b c (inr (top, same)) most =
+    elim (cases_lt b c) [
+      | inl less ↦ inl (omega (arith, less, same))
+      | inr least ↦ inr (top, omega (arith, least, most, same))
+    ]
+
+pub rose_least : (a b : ℕ) → Rose a b → a ≤ b
+rose_least a b (inl less) = omega (arith, less)
+rose_least a b (inr (top, same)) = omega (arith, same)
+
+module _ {K : Type 0} {k : Ghosts K} where
+  -- nothing is staged in the end, whatever came before
+  pub ends_later : {a b c : K} → k.faults a ≤ k.faults b → EndsUnstaged k b c → EndsUnstaged k a c
+  ends_later least (inl none) = inl none
+  ends_later {a = a} {b = b} {c = c} least (inr rose) = inr (rose_later (k.faults a) (k.faults b) (k.faults c) least rose)
+
+  -- a fault that was counted stays
+  pub ends_before : {a b c : K} → Rose (k.faults a) (k.faults b) → k.faults b ≤ k.faults c → EndsUnstaged k a c
+  ends_before {a = a} {b = b} {c = c} rose most = inr (rose_before (k.faults a) (k.faults b) (k.faults c) rose most)
+
+  -- nothing was staged, and it stays so
+  pub still_unstaged : {a b : K} → KeepsStaged k.stages a b → k.stages a [] → EndsUnstaged k a b
+  still_unstaged keeps none = inl (keeps [] none)
+
+  -- one call after another
+  pub then_holds : {a b c : K} {P Q R : Type 0} → HoldsUnless k a b P → HoldsUnless k b c Q → ((R → ⊥) → P → ⊥) → ((R → ⊥) → Q → ⊥) → HoldsUnless k a c R
+  then_holds x y f g = record {
+    honest = λ is. x.honest (y.honest is);
+    opened = λ is was not. y.opened is (x.opened (y.honest is) was (f not)) (g not);
+    counted = λ not. y.counted (g not) ∙ x.counted (f not);
+    never_less = let low = x.never_less in let high = y.never_less in omega (arith, low, high);
+  }
