@@ -1,10 +1,11 @@
 -- What a keeper leaves that is asked several times.
 use Rattle.std.proofs.Common.{◌≡◌, Ok, Err, inl, inr, refl, subst, ap}
-use Rattle.std.specs.Prelude.{◌⊎◌, ⊤, Result}
+use Rattle.std.specs.Prelude.{◌⊎◌, ℕ, ⊤, Result}
 use Rattle.sigtext.specs.Counts.{CountsErrors}
 use Rattle.boxes.specs.Sound.{IsSound}
 use Rattle.boxes.specs.State.{State}
 use Rattle.keeper.specs.Bound.{StaysBy}
+use Rattle.keeper.specs.Keeping.{Stays}
 use Rattle.keeper.specs.declared.keep.Keeper.{Ghosts}
 use Rattle.keeper.specs.declared.keep.KeepFault.{KeepFault}
 use Rattle.keeper.specs.declared.keep.KeepFault.TheVariants.{Store}
@@ -15,14 +16,11 @@ no_error x f e = cc
 same_error : {T : Type 0} (f g : KeepFault) → ◌≡◌ {A = Result T KeepFault} (Err f) (Err g) → f ≡ g
 same_error f g e = cc
 
-module _ {K : Type 0} (k : Ghosts K) where
-  -- a sound state that it meant before, where it is honest after
-  abbrev pub Meant : K → K → State → Type 0
-  Meant old new s = k.means old s × IsSound s × k.is_honest new
-
+-- whatever keeper it is of which this is said
+module _ {K : Type 0} {means : K → State → Type 0} {is_honest is_open : K → Type 0} {faults : K → ℕ} {leaves : K → State → Type 0} {leaves_whole : K → Type 0} {has_store : Type 0} where
   -- nothing was asked
-  pub stays_unasked : (a : K) → StaysBy {T = ⊤} k a a (Ok tt)
-  stays_unasked a = record {
+  pub stays_still : (a : K) → Stays {T = ⊤} means is_honest is_open faults leaves leaves_whole has_store a a (Ok tt)
+  stays_still a = record {
     same = λ s m. m;
     honest = λ h. h;
     opened = λ h o. o;
@@ -34,21 +32,35 @@ module _ {K : Type 0} (k : Ghosts K) where
   }
 
   -- one question after another
-  pub stays_joined : {T : Type 0} (a b c : K) (r : Result T KeepFault) → StaysBy {T = ⊤} k a b (Ok tt) → StaysBy k b c r → StaysBy k a c r
-  stays_joined a b c r p q = record {
+  pub stays_further : {T : Type 0} (a b c : K) (r : Result T KeepFault) → Stays {T = ⊤} means is_honest is_open faults leaves leaves_whole has_store a b (Ok tt)
+      → Stays means is_honest is_open faults leaves leaves_whole has_store b c r → Stays means is_honest is_open faults leaves leaves_whole has_store a c r
+  stays_further a b c r p q = record {
     same = λ s m. q.same s (p.same s m);
     honest = λ h. p.honest (q.honest h);
     opened = λ h o. q.opened h (p.opened (q.honest h) o);
-    count = subst (λ n. CountsErrors n (k.faults c) r) p.count.ok q.count;
+    count = subst (λ n. CountsErrors n (faults c) r) p.count.ok q.count;
     room = q.room;
     store = q.store;
     crash = λ s t m h l. from_either s t m h (q.crash s t (p.same s m) h l);
     whole = λ s m h w. q.whole s (p.same s m) h (p.whole s m (q.honest h) w);
   }
     where
-      from_either : (s t : State) → k.means a s → k.is_honest c → k.leaves b t ⊎ (t ≡ s) → k.leaves a t ⊎ (t ≡ s)
+      from_either : (s t : State) → means a s → is_honest c → leaves b t ⊎ (t ≡ s) → leaves a t ⊎ (t ≡ s)
       from_either s t m h (inl l) = p.crash s t m (q.honest h) l
       from_either s t m h (inr e) = inr e
+
+module _ {K : Type 0} (k : Ghosts K) where
+  -- a sound state that it meant before, where it is honest after
+  abbrev pub Meant : K → K → State → Type 0
+  Meant old new s = k.means old s × IsSound s × k.is_honest new
+
+  -- nothing was asked
+  pub stays_unasked : (a : K) → StaysBy {T = ⊤} k a a (Ok tt)
+  stays_unasked a = stays_still a
+
+  -- one question after another
+  pub stays_joined : {T : Type 0} (a b c : K) (r : Result T KeepFault) → StaysBy {T = ⊤} k a b (Ok tt) → StaysBy k b c r → StaysBy k a c r
+  stays_joined a b c r p q = stays_further a b c r p q
 
   -- whatever the answer was
   pub stays_ok : {T : Type 0} (a b : K) (x : T) → StaysBy k a b (Ok x) → StaysBy {T = ⊤} k a b (Ok tt)

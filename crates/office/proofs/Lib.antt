@@ -28,3 +28,5 @@ pub mod Standing
 pub mod Placing
 pub mod Begun
 pub mod BodySteps
+pub mod KeeperCalls
+pub mod Stagings

@@ -136,13 +136,9 @@ serves_none gives left reader output clock k keeper s = record {
 -- ---- steps with a message
 
 module _ {C K : Type 0} (gives : C → ℕ → C → Type 0) (p : Place) (left reader output output' : Option (List ℕ)) (clock clock' : C) (k : Ghosts K) (keeper keeper' : K) (s : State)
-    (text : List ℕ) (has_length : Bool) (body waits : List ℕ) (m : IsNextMessage text has_length body left (prepend_known waits reader)) (given : List ℕ) (same_body : given ≡ body) where
+    (text : List ℕ) (has_length : Bool) (body waits : List ℕ) (m : IsNextMessage text has_length body left (prepend_known waits reader)) where
   abbrev r : Request
   r = request_of m.opens.head has_length body
-
-  -- as it was handled
-  of_body : (h : Handled) → Handles gives clock clock' output output' k keeper keeper' s (request_of m.opens.head has_length given) h → Handles gives clock clock' output output' k keeper keeper' s r h
-  of_body h handles = subst (λ (b : List ℕ). Handles gives clock clock' output output' k keeper keeper' s (request_of m.opens.head has_length b) h) same_body handles
 
   stands : (more : List ℕ) → Next ((text ++ body) ++ more) (Message r) more
   stands more = subst (λ (t : List ℕ). Next t (Message r) more) (sym (append_assoc text body more)) (message_stands text body more has_length m.opens)
@@ -150,12 +146,12 @@ module _ {C K : Type 0} (gives : C → ℕ → C → Type 0) (p : Place) (left r
   all_read : Consumes left reader ((text ++ body) ++ waits)
   all_read = consumes_more left (prepend_known waits reader) reader (text ++ body) waits m.taken (all_taken reader waits)
 
-  answered_done : Handles gives clock clock' output output' k keeper keeper' s r Answered → Steps gives p left (prepend_known waits reader) reader output output' clock clock' k keeper keeper' s None
-  answered_done (answered now written after told appends same lasts keeps answers) =
+  pub answered_step : Handles gives clock clock' output output' k keeper keeper' s r Answered → Steps gives p left (prepend_known waits reader) reader output output' clock clock' k keeper keeper' s None
+  answered_step (answered now written after told appends same lasts keeps answers) =
       (after, keeps, record { front = text ++ body; request = r; moment = now; text = written; taken = m.taken; message = stands; told = told; written = appends; answers = answers; held = same; lasts = lasts })
 
-  gave_up_done : Handles gives clock clock' output output' k keeper keeper' s r GaveUp → Steps gives p left (prepend_known waits reader) reader output output' clock clock' k keeper keeper' s (Some (Refused 40))
-  gave_up_done (gave_up_at now told appends less readable keeps) = (
+  pub gave_up_step : Handles gives clock clock' output output' k keeper keeper' s r GaveUp → Steps gives p left (prepend_known waits reader) reader output output' clock clock' k keeper keeper' s (Some (Refused 40))
+  gave_up_step (gave_up_at now told appends less readable keeps) = (
     s,
     keeps,
     λ n _. record {
@@ -172,8 +168,8 @@ module _ {C K : Type 0} (gives : C → ℕ → C → Type 0) (p : Place) (left r
     },
   )
 
-  broken_done : Handles gives clock clock' output output' k keeper keeper' s r Broken → Steps gives p left (prepend_known waits reader) reader output output' clock clock' k keeper keeper' s (Some WriteFault)
-  broken_done (broke now written front after told appends begins same lasts keeps answers) =
+  pub broken_step : Handles gives clock clock' output output' k keeper keeper' s r Broken → Steps gives p left (prepend_known waits reader) reader output output' clock clock' k keeper keeper' s (Some WriteFault)
+  broken_step (broke now written front after told appends begins same lasts keeps answers) =
       let rest = rest_of (prepend_known waits reader) in (
         after,
         keeps,
@@ -190,7 +186,7 @@ module _ {C K : Type 0} (gives : C → ℕ → C → Type 0) (p : Place) (left r
           session = session.write_failed n ((text ++ body) ++ rest) rest s after r now written front (stands rest) answers begins;
         },
       )
-  broken_done (broke_giving_up_at now front told appends begins less readable keeps) = (
+  broken_step (broke_giving_up_at now front told appends begins less readable keeps) = (
     s,
     keeps,
     λ n _. record {
@@ -206,18 +202,6 @@ module _ {C K : Type 0} (gives : C → ℕ → C → Type 0) (p : Place) (left r
       session = session.write_failed_giving_up_at n ((text ++ body) ++ waits) waits s r now front (stands waits) readable begins;
     },
   )
-
-  pub answered_step : Handles gives clock clock' output output' k keeper keeper' s (request_of m.opens.head has_length given) Answered
-      → Steps gives p left (prepend_known waits reader) reader output output' clock clock' k keeper keeper' s None
-  answered_step handles = answered_done (of_body Answered handles)
-
-  pub gave_up_step : Handles gives clock clock' output output' k keeper keeper' s (request_of m.opens.head has_length given) GaveUp
-      → Steps gives p left (prepend_known waits reader) reader output output' clock clock' k keeper keeper' s (Some (Refused 40))
-  gave_up_step handles = gave_up_done (of_body GaveUp handles)
-
-  pub broken_step : Handles gives clock clock' output output' k keeper keeper' s (request_of m.opens.head has_length given) Broken
-      → Steps gives p left (prepend_known waits reader) reader output output' clock clock' k keeper keeper' s (Some WriteFault)
-  broken_step handles = broken_done (of_body Broken handles)
 
 -- ---- steps without a message
 
