@@ -1,9 +1,11 @@
 -- How the keeper holds up over several calls, and that nothing stays staged.
-use Rattle.std.proofs.Common.{◌≡◌, ℕ, ◌≤◌, ◌⊎◌, [], inl, inr, arith, sym, ◌∙◌}
+use Rattle.std.proofs.Common.{◌≡◌, ℕ, ◌≤◌, ◌⊎◌, [], inl, inr, arith, sym, List, ◌∙◌}
 use Rattle.std.proofs.lemmas.Bool.{cases_lt}
 use Rattle.sigtext.specs.Counts.{Rose}
 use Rattle.keeper.specs.Keeping.{KeepsStaged}
 use Rattle.keeper.specs.declared.keep.Keeper.{Ghosts}
+use Rattle.office.specs.Foreseeing.{AreStaged}
+use Rattle.office.specs.declared.requests.foreseeing.Body.{Body}
 use Rattle.office.specs.Premise.{EndsUnstaged, HoldsUnless}
 
 -- a count that did not fall before rose over both
@@ -50,3 +52,7 @@ module _ {K : Type 0} {k : Ghosts K} where
     counted = λ not. y.counted (g not) ∙ x.counted (f not);
     never_less = let low = x.never_less in let high = y.never_less in omega (arith, low, high);
   }
+
+  -- what was staged is staged behind a call that keeps it
+  pub staged_later : {a b : K} {bytes : List ℕ} {body : Body} → KeepsStaged k.stages a b → AreStaged k a bytes body → AreStaged k b bytes body
+  staged_later {bytes = bytes} keeps are = record { staged = keeps bytes are.staged; octets = are.octets; short = are.short; length_is = are.length_is; digest = are.digest }

@@ -22,7 +22,7 @@ pub(crate) struct Announced<'a> {
 }
 
 /// What a whole message announced.
-pub(crate) fn announced<'a>(message: &Message<'a>) -> Announced<'a>
+pub(crate) fn announce<'a>(message: &Message<'a>) -> Announced<'a>
     ensures request { request_with result message.now.body.now ≡ request_in message.now }
     ensures length { result.length ≡ length message.now.body.now }
 {

@@ -4,7 +4,7 @@ ghost use Rattle.std.specs.Prelude.{◌≡◌};
 ghost use Rattle.sigtext.specs.Bytes.{same_bytes};
 ghost use Rattle.std.specs.Prelude.{codes};
 
-use super::announced::{Announced, announced};
+use super::announced::{Announced, announce};
 use super::foreseeing::{Body, Errand, Prospect, is_putting, is_upload};
 use crate::office::Office;
 use keeper::{KeepFault, Keeper};
@@ -248,7 +248,7 @@ impl<K: Keeper> Office<K> {
             → AddsAsked K.Keeper self.old.keeper self.new.keeper s
             (IsAsked s (request_in message.now) now) }
     {
-        let head = announced(message);
+        let head = announce(message);
         let foreseen = self.foresee(&head);
         let to_head = asks_head(&head);
         let upload = is_upload(&foreseen);
