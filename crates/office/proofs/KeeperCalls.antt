@@ -1,6 +1,7 @@
 -- Calls of a keeper that change nothing of the state, and how its faults add up.
-use Rattle.std.proofs.Common.{◌≡◌, ◌≢◌, ◌≤◌, ◌<◌, ◌∙◌, ℕ, List, [], ◌⊎◌, ⊎_elim, inl, inr, Result, Ok, Err, refl, sym, subst, arith}
+use Rattle.std.proofs.Common.{◌≡◌, ◌≢◌, ◌≤◌, ◌<◌, ◌∙◌, ℕ, Bool, false, List, [], ◌⊎◌, ⊎_elim, inl, inr, Result, Ok, Err, refl, sym, subst, arith}
 use Rattle.std.specs.Prelude.{OnOk, OnErr}
+use Rattle.std.specs.Result.{is_err}
 use Rattle.std.proofs.lemmas.Bool.{cases_lt}
 use Rattle.sigtext.specs.Counts.{Rose}
 use Rattle.boxes.specs.State.{State}
@@ -44,19 +45,25 @@ module _ {K : Type 0} {k : Ghosts K} where
     never_less = rose_less (k.faults a) (k.faults b) rest.count.err;
   }
 
+module _ {K : Type 0} (k : Ghosts K) (a b c : K) where
   -- after a call that counted nothing
-  pub ends_after : {a b c : K} → k.faults b ≡ k.faults a → EndsUnstaged k b c → EndsUnstaged k a c
+  pub ends_after : k.faults b ≡ k.faults a → EndsUnstaged k b c → EndsUnstaged k a c
   ends_after same (inl none) = inl none
-  ends_after {a = a} {b = b} {c = c} same (inr rose) = inr (rose_after (k.faults a) (k.faults b) (k.faults c) same rose)
+  ends_after same (inr rose) = inr (rose_after (k.faults a) (k.faults b) (k.faults c) same rose)
 
   -- after a call that counted a fault
-  pub ends_risen : {a b c : K} → Rose (k.faults a) (k.faults b) → k.faults b ≤ k.faults c → EndsUnstaged k a c
-  ends_risen {a = a} {b = b} {c = c} rose more = inr (rose_more (k.faults a) (k.faults b) (k.faults c) rose more)
+  pub ends_risen : Rose (k.faults a) (k.faults b) → k.faults b ≤ k.faults c → EndsUnstaged k a c
+  ends_risen rose more = inr (rose_more (k.faults a) (k.faults b) (k.faults c) rose more)
 
-  -- nothing is staged any more, where that succeeded
-  pub ends_dropped : {T : Type 0} {a b : K} (result : Result T KeepFault) → OnOk result (k.stages b []) → OnErr result (Rose (k.faults a) (k.faults b)) → EndsUnstaged k a b
-  ends_dropped (Ok x) none rose = inl none
-  ends_dropped (Err f) none rose = inr rose
+-- of a call that was no error
+pub on_ok : {T E : Type 0} (P : Type 0) (b : Bool) (result : Result T E) → b ≡ is_err result → b ≡ false → OnOk result P → P
+on_ok P b (Ok x) is false_is holds = holds
+on_ok P b (Err e) is false_is holds = absurd cc
+
+-- nothing is staged any more, where that succeeded
+pub ends_dropped : {T K : Type 0} (k : Ghosts K) (a b : K) (result : Result T KeepFault) → OnOk result (k.stages b []) → OnErr result (Rose (k.faults a) (k.faults b)) → EndsUnstaged k a b
+ends_dropped k a b (Ok x) none rose = inl none
+ends_dropped k a b (Err f) none rose = inr rose
 
 -- ---- calls that leave the state, one after another
 

@@ -35,6 +35,28 @@ pub reader_taken : (start reader : Option (List ℕ)) (given waits : List ℕ) �
 reader_taken start reader given waits taken =
     Consumes-trans start (prepend_known waits reader) reader given waits taken (consumes_waiting (prepend_known waits reader) reader waits (Keeps-refl (prepend_known waits reader)))
 
+-- nothing was read, but what waits
+pub nothing_read : (reader : Option (List ℕ)) (waits : List ℕ) → (given : List ℕ) × Consumes (prepend_known waits reader) reader given
+nothing_read reader waits = (waits, consumes_waiting (prepend_known waits reader) reader waits (Keeps-refl (prepend_known waits reader)))
+
+done_given : (n : ℕ) (p q : Place) (known reader : Option (List ℕ)) (waits : List ℕ) (result : Result (Piece (Bor (List ℕ))) WireFault)
+    → result ≡ Ok piece.Done → p ≡ place.Body n → GivesPiece p known (part result) q waits reader → GivesPiece (place.Body n) known (Ok Done) q waits reader
+done_given n p q known reader waits result is at gives =
+    subst (λ (x : Place). GivesPiece x known (Ok Done) q waits reader) at
+    (subst (λ (x : Result (Piece (Bor (List ℕ))) WireFault). GivesPiece p known (part x) q waits reader) is gives)
+
+fault_given : (n : ℕ) (p q : Place) (known reader : Option (List ℕ)) (waits : List ℕ) (result : Result (Piece (Bor (List ℕ))) WireFault) (f : WireFault)
+    → result ≡ Err f → p ≡ place.Body n → GivesPiece p known (part result) q waits reader → GivesPiece (place.Body n) known (Err f) q waits reader
+fault_given n p q known reader waits result f is at gives =
+    subst (λ (x : Place). GivesPiece x known (Err f) q waits reader) at
+    (subst (λ (x : Result (Piece (Bor (List ℕ))) WireFault). GivesPiece p known (part x) q waits reader) is gives)
+
+broken_given : (size n : ℕ) (q : Place) (start known reader : Option (List ℕ)) (waits given : List ℕ) (f : WireFault) → Consumes start known given → length given + n ≡ size
+    → GivesPiece (place.Body n) known (Err f) q waits reader → Consumes start reader given × (length given < size)
+broken_given size n q start known reader waits given fault.Read taken both g = let some = g.1 in (pieces_taken start known reader waits given taken g.2 g.3, omega (arith, both, some))
+broken_given size n q start known reader waits given fault.Memory taken both g = absurd g
+broken_given size n q start known reader waits given fault.Write taken both g = absurd g
+
 module _ {R K : Type 0} {remaining : R → Option (List ℕ)} {size : ℕ} {k : Ghosts K} where
   -- it was read so far
   abbrev pub as_skipped : {first here : Feed R} {keeper : K} {sha : Sha} → HasStaged remaining size first here k keeper sha → HasSkipped remaining size first here
@@ -88,12 +110,6 @@ module _ {R K : Type 0} {remaining : R → Option (List ℕ)} {size : ℕ} {k : 
       let reader = remaining (reader_of next).inner in
       (m.given ++ waits_in next, reader_taken (left remaining first) reader m.given (waits_in next) m.taken)
 
-  done_given : (n : ℕ) (p q : Place) (known reader : Option (List ℕ)) (waits : List ℕ) (result : Result (Piece (Bor (List ℕ))) WireFault)
-      → result ≡ Ok piece.Done → p ≡ place.Body n → GivesPiece p known (part result) q waits reader → GivesPiece (place.Body n) known (Ok Done) q waits reader
-  done_given n p q known reader waits result is at gives =
-      subst (λ (x : Place). GivesPiece x known (Ok Done) q waits reader) at
-      (subst (λ (x : Result (Piece (Bor (List ℕ))) WireFault). GivesPiece p known (part x) q waits reader) is gives)
-
   -- the body is whole
   pub stages_whole : (first here next : Feed R) (keeper : K) (sha : Sha) (result : Result (Piece (Bor (List ℕ))) WireFault) (digest : List ℕ) → HasStaged remaining size first here k keeper sha
       → result ≡ Ok piece.Done
@@ -112,18 +128,6 @@ module _ {R K : Type 0} {remaining : R → Option (List ℕ)} {size : ℕ} {k : 
         digest_is = finished h.given h.hashed;
       }
 
-  fault_given : (n : ℕ) (p q : Place) (known reader : Option (List ℕ)) (waits : List ℕ) (result : Result (Piece (Bor (List ℕ))) WireFault) (f : WireFault)
-      → result ≡ Err f → p ≡ place.Body n → GivesPiece p known (part result) q waits reader → GivesPiece (place.Body n) known (Err f) q waits reader
-  fault_given n p q known reader waits result f is at gives =
-      subst (λ (x : Place). GivesPiece x known (Err f) q waits reader) at
-      (subst (λ (x : Result (Piece (Bor (List ℕ))) WireFault). GivesPiece p known (part x) q waits reader) is gives)
-
-  broken_given : (n : ℕ) (q : Place) (start known reader : Option (List ℕ)) (waits given : List ℕ) (f : WireFault) → Consumes start known given → length given + n ≡ size
-      → GivesPiece (place.Body n) known (Err f) q waits reader → Consumes start reader given × (length given < size)
-  broken_given n q start known reader waits given fault.Read taken both g = let some = g.1 in (pieces_taken start known reader waits given taken g.2 g.3, omega (arith, both, some))
-  broken_given n q start known reader waits given fault.Memory taken both g = absurd g
-  broken_given n q start known reader waits given fault.Write taken both g = absurd g
-
   -- a read failed
   pub stages_broken : (first here next : Feed R) (keeper : K) (sha : Sha) (result : Result (Piece (Bor (List ℕ))) WireFault) (f : WireFault) → HasStaged remaining size first here k keeper sha
       → result ≡ Err f
@@ -135,7 +139,8 @@ module _ {R K : Type 0} {remaining : R → Option (List ℕ)} {size : ℕ} {k : 
       let g = fault_given n (place_of here) (place_of next) (left remaining here) reader (waits_in next) result f is h.open_still gives in
       let fits = h.fits in
       let both : length h.given + n ≡ size = omega (arith, fits) in
-      (h.given, broken_given n (place_of next) (left remaining first) (left remaining here) reader (waits_in next) h.given f h.taken both g)
+      let b = broken_given size n (place_of next) (left remaining first) (left remaining here) reader (waits_in next) h.given f h.taken both g in
+      (h.given, b.0, b.1)
 
   -- the stream ended
   pub stages_lacking : (first here next : Feed R) (keeper : K) (sha : Sha) (result : Result (Piece (Bor (List ℕ))) WireFault) (r : Refusal) → HasStaged remaining size first here k keeper sha
