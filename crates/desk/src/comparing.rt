@@ -7,7 +7,7 @@ ghost use Rattle.boxes.specs.Rows.{file_of, IsFileAt};
 ghost use Rattle.boxes.specs.Sound.{IsSound};
 ghost use Rattle.boxes.specs.State.{State};
 ghost use Rattle.keeper.specs.Bound.{StaysBy};
-ghost use Rattle.desk.specs.Asking.{stays_further, stays_still, Meant};
+ghost use Rattle.desk.specs.Asking.{stays_joined, stays_unasked, Meant};
 ghost use Rattle.desk.specs.Lists.{line, by_keeper, by_reader, by_writer, AnswersList};
 ghost use Rattle.desk.specs.Manifests as said;
 ghost use Rattle.desk.specs.Manifests.{entry_of, findings_head, manifest_head, texts_with, word_of, IsEntry, IsComparison, IsComparisonLine, IsManifestRow};
@@ -169,9 +169,9 @@ impl<K: Keeper> Answerer for Comparer<'_, K> {
         Ok(Some(entry_line(alloc, &entry, found.word())?))
     }
 
-    ghost unasked = { λ a. (refl, stays_still a.keeper.now) };
+    ghost unasked = { λ a. (refl, stays_unasked a.keeper.now) };
 
-    ghost joins = { λ a b c r p q. (q.0 ∙ p.0, stays_further _ _ _ _ p.1 q.1) };
+    ghost joins = { λ a b c r p q. (q.0 ∙ p.0, stays_joined _ _ _ _ p.1 q.1) };
 
     ghost same = { λ a b s r p h. (p.1.same s h.0, h.1) };
 

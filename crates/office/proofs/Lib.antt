@@ -33,3 +33,6 @@ pub mod Stagings
 pub mod Foreseen
 pub mod Staged
 pub mod Unstaged
+mod Foreseen
+mod Staged
+mod Unstaged

@@ -154,10 +154,10 @@ impl<K: Keeper> Office<K> {
         ensures foresees { (s : State) (body : List ℕ) (p : LinkValues)
             → WasKept K.Keeper self.old.keeper self.new.keeper s
             → length body ≡ message.now.length
-            → IsLinkOf link (request_with message.now body) p
+            → IsLinkOf link.entry (request_with message.now body) p
             → Foresees s (request_with message.now body) result }
         ensures readable { (body : List ℕ) (p : LinkValues)
-            → IsLinkOf link (request_with message.now body) p
+            → IsLinkOf link.entry (request_with message.now body) p
             → IsReadOf (request_with message.now body) result }
         ensures same { (s : State) → K.means self.old.keeper s → K.means self.new.keeper s }
         ensures crash { (s : State) → K.means self.old.keeper s → K.is_honest self.new.keeper

@@ -1,5 +1,6 @@
-use Rattle.std.proofs.Common.{refl}
+use Rattle.std.proofs.Common.{refl, subst}
 use Rattle.office.specs.Announcing.{request_with}
+use Rattle.office.specs.Foreseeing.{ComesTo}
 use Rattle.office.proofs.Foreseen.{readable_of}
 use Rattle.office.proofs.office.Office.foresee_link.Goals as goal
 
@@ -15,8 +16,8 @@ returns-in-Err-TryAgain-clause-foresees g c s body p kept long is other now = ab
 pub returns-in-Err-TryAgain-clause-readable : goal.returns-in-Err-TryAgain-clause-readable
 returns-in-Err-TryAgain-clause-readable g c body p is again = readable_of (request_with c.args.message.now body) p is.well_formed
 
-pub returns-in_default-clause-foresees : goal.returns-in_default-clause-foresees
-returns-in_default-clause-foresees g c s body p kept long is =
+pub returns-clause-foresees : goal.returns-clause-foresees
+returns-clause-foresees g c s body p kept long is =
     let r = request_with c.args.message.now body in
     let x = c.in-Ok.ensures.identifies s r p (record { means = kept.means; is_honest = c.foresee_errand.ensures.rest.honest kept.is_honest; sound = kept.sound }) is in
     record {
@@ -24,8 +25,8 @@ returns-in_default-clause-foresees g c s body p kept long is =
       link = is;
       key = x.0;
       signed = x.1;
-      comes = c.foresee_errand.ensures.comes s body p x.0 (record { means = c.in-Ok.ensures.same s kept.means; is_honest = kept.is_honest; sound = kept.sound }) long is x.1 x.2;
+      comes = subst (ComesTo s r p x.0) c.in_default-1.is (c.foresee_errand.ensures.comes s body p x.0 (record { means = c.in-Ok.ensures.same s kept.means; is_honest = kept.is_honest; sound = kept.sound }) long is x.1 x.2);
     }
 
-pub returns-in_default-clause-readable : goal.returns-in_default-clause-readable
-returns-in_default-clause-readable g c body p is = (p, is)
+pub returns-clause-readable : goal.returns-clause-readable
+returns-clause-readable g c body p is = (p, is)

@@ -15,10 +15,10 @@ returns-in-Ok-place-clause-comes g c s r p k kept is is_put reaches =
     let rules = c.in-Ok-place.ensures s (place_of p.path) box (ap (λ (x : Place). x.name) (sym same)) in
     ((is_put, c.in-Ok.ensures r p is, box, rules), reaches)
 
-pub returns-in-Err-place-clause-comes : goal.returns-in-Err-place-clause-comes
-returns-in-Err-place-clause-comes g c s r p k kept is is_put reaches other now admitted =
+pub returns-in-Err-clause-comes : goal.returns-in-Err-clause-comes
+returns-in-Err-clause-comes g c s r p k kept is is_put reaches other now admitted =
     let path = c.deref.ensures.value ∙ c.in-Ok.ensures r p is in
     let same : place_at c.read_place-at.result ≡ place_of p.path = c.read_place-at.ensures ∙ ap place_of path in
     let box = c.in-Ok-box_row.ensures.value s kept.means kept.sound kept.is_honest ∙ ap (λ (x : Place). get s.boxes x.box) same in
-    let least = c.in-Err-place.ensures s (place_of p.path) box (ap (λ (x : Place). x.name) (sym same)) in
-    first_put s r now p (reaches now admitted) c.in-Err-place.refusal is_put (refused_at_place s (upload_of r now p) c.in-Err-place.refusal least)
+    let least = c.in-Err.ensures s (place_of p.path) box (ap (λ (x : Place). x.name) (sym same)) in
+    first_put s r now p (reaches now admitted) c.in-Err.refusal is_put (refused_at_place s (upload_of r now p) c.in-Err.refusal least)

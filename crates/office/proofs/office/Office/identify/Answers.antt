@@ -14,10 +14,10 @@ returns-then-key-clause-identifies g c s r p kept is other now =
     let there = asked_some s c.key_id.result.now p.key_id c.in-Ok-Some.field-0 c.in-Ok-Some.key (c.in-Ok-Some.ensures.value s kept.means kept.sound kept.is_honest) c.in-Ok-Some.field-0-is (c.key_id.ensures r p is) in
     key_revoked s r now p (key_of c.in-Ok-Some.key) is.well_formed there c.if-key.true
 
-pub returns-in-Ok-check_signature-clause-identifies : goal.returns-in-Ok-check_signature-clause-identifies
-returns-in-Ok-check_signature-clause-identifies g c s r p kept is =
+pub returns-in-Ok-clause-identifies : goal.returns-in-Ok-clause-identifies
+returns-in-Ok-clause-identifies g c s r p kept is =
     let there = asked_some s c.key_id.result.now p.key_id c.in-Ok-Some.field-0 c.in-Ok-Some.key (c.in-Ok-Some.ensures.value s kept.means kept.sound kept.is_honest) c.in-Ok-Some.field-0-is (c.key_id.ensures r p is) in
-    let right = c.in-Ok-check_signature.ensures r p is in (
+    let right = c.in-Ok.ensures r p is in (
       key_of c.in-Ok-Some.key,
       record {
         well_formed = is.well_formed;
@@ -28,8 +28,8 @@ returns-in-Ok-check_signature-clause-identifies g c s r p kept is =
       refl,
     )
 
-pub returns-in-Err-check_signature-clause-identifies : goal.returns-in-Err-check_signature-clause-identifies
-returns-in-Err-check_signature-clause-identifies g c s r p kept is other now =
+pub returns-in-Ok-Some-clause-identifies : goal.returns-in-Ok-Some-clause-identifies
+returns-in-Ok-Some-clause-identifies g c s r p kept is other now =
     let there = asked_some s c.key_id.result.now p.key_id c.in-Ok-Some.field-0 c.in-Ok-Some.key (c.in-Ok-Some.ensures.value s kept.means kept.sound kept.is_honest) c.in-Ok-Some.field-0-is (c.key_id.ensures r p is) in
     let key : HasKey s p (key_of c.in-Ok-Some.key) = record { there = there; unrevoked = c.if-key.false } in
     let fails = c.in-Err-check_signature.ensures r p is in
