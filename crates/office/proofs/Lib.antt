@@ -30,9 +30,6 @@ pub mod Begun
 pub mod BodySteps
 pub mod KeeperCalls
 pub mod Stagings
-pub mod Foreseen
-pub mod Staged
-pub mod Unstaged
 mod Foreseen
 mod Staged
 mod Unstaged

@@ -62,14 +62,14 @@ impl<K: Keeper> Office<K> {
     ) -> Handled
         ensures handled { (s : State) (r : Request)
             → WasKept K.Keeper self.old.keeper self.new.keeper s
-            → Foresees s r foreseen → (foreseen ≢ Err Refusal.TryAgain) → to_head ≡ is_head r
-            → (IsUpload foreseen → AreStaged K.Keeper self.old.keeper r.body body.now)
+            → Foresees s r foreseen.entry → (foreseen.entry ≢ Err Refusal.TryAgain) → to_head ≡ is_head r
+            → (IsUpload foreseen.entry → AreStaged K.Keeper self.old.keeper r.body body.now)
             → Handles C.now_gives clock.old clock.new
             (W.contents writer.old.inner) (W.contents writer.new.inner)
             K.Keeper self.old.keeper self.new.keeper s r result }
         ensures fault { result ≡ Handled.Broken → Rose writer.old.faults writer.new.faults }
         ensures clean { (result ≢ Handled.Broken) → writer.new.faults ≡ writer.old.faults }
-        ensures unstaged { IsUpload foreseen ⊎ K.stages self.old.keeper []
+        ensures unstaged { IsUpload foreseen.entry ⊎ K.stages self.old.keeper []
             → EndsUnstaged K.Keeper self.old.keeper self.new.keeper }
         ensures rest { HoldsUnless K.Keeper self.old.keeper self.new.keeper (MayBeGivenUp result) }
     {
@@ -113,7 +113,7 @@ impl<K: Keeper> Office<K> {
         ensures goes_on { IfNone result (place_of feed.new ≡ stands.Between) }
         ensures steps { (s : State) (p : Place) (known : Option (List ℕ))
             → WasKept K.Keeper self.old.keeper self.new.keeper s
-            → IsExpected s size known (left R.remaining feed.old) foreseen to_head
+            → IsExpected s size known (left R.remaining feed.old) foreseen.entry to_head
             → Steps C.now_gives p known (left R.remaining feed.new)
             (R.remaining (reader_of feed.new).inner)
             (W.contents writer.old.inner) (W.contents writer.new.inner) clock.old clock.new

@@ -48,20 +48,20 @@ impl<K: Keeper> Office<K> {
         body: &Body,
         now: Moment,
     ) -> Result<Reply, Refusal>
-        ensures replies { (s : State) (r : Request) (f : IsForeseen s r prospect)
+        ensures replies { (s : State) (r : Request) (f : IsForeseen s r prospect.entry)
             → WasKept K.Keeper self.old.keeper self.new.keeper s
             → IsAdmitted s r now f.parts f.key
-            → (IsPutting prospect.errand → AreStaged K.Keeper self.old.keeper r.body body.now)
+            → (IsPutting prospect.entry.errand → AreStaged K.Keeper self.old.keeper r.body body.now)
             → IsReplied (Endures K.Keeper self.old.keeper self.new.keeper s) s r now result }
         ensures same { (s : State) → K.means self.old.keeper s
             → IfErr result (λ q. K.means self.new.keeper s) }
         ensures plain { IfOk result IsNoRefusal }
-        ensures crash { (s : State) (r : Request) (f : IsForeseen s r prospect)
+        ensures crash { (s : State) (r : Request) (f : IsForeseen s r prospect.entry)
             → WasKept K.Keeper self.old.keeper self.new.keeper s
             → IsAdmitted s r now f.parts f.key
-            → (IsPutting prospect.errand → AreStaged K.Keeper self.old.keeper r.body body.now)
+            → (IsPutting prospect.entry.errand → AreStaged K.Keeper self.old.keeper r.body body.now)
             → RefusedLasts K.Keeper self.old.keeper self.new.keeper s r now result }
-        ensures unstaged { IsPutting prospect.errand ⊎ K.stages self.old.keeper []
+        ensures unstaged { IsPutting prospect.entry.errand ⊎ K.stages self.old.keeper []
             → EndsUnstaged K.Keeper self.old.keeper self.new.keeper }
         ensures rest { HoldsUnless K.Keeper self.old.keeper self.new.keeper (IsGivenUp result) }
     {
@@ -83,18 +83,18 @@ impl<K: Keeper> Office<K> {
     ) -> Result<Reply, Refusal>
         ensures replies { (s : State) (r : Request)
             → WasKept K.Keeper self.old.keeper self.new.keeper s
-            → IsForeseen s r prospect
-            → (IsPutting prospect.errand → AreStaged K.Keeper self.old.keeper r.body body.now)
+            → IsForeseen s r prospect.entry
+            → (IsPutting prospect.entry.errand → AreStaged K.Keeper self.old.keeper r.body body.now)
             → IsReplied (Endures K.Keeper self.old.keeper self.new.keeper s) s r now result }
         ensures same { (s : State) → K.means self.old.keeper s
             → IfErr result (λ q. K.means self.new.keeper s) }
         ensures plain { IfOk result IsNoRefusal }
         ensures crash { (s : State) (r : Request)
             → WasKept K.Keeper self.old.keeper self.new.keeper s
-            → IsForeseen s r prospect
-            → (IsPutting prospect.errand → AreStaged K.Keeper self.old.keeper r.body body.now)
+            → IsForeseen s r prospect.entry
+            → (IsPutting prospect.entry.errand → AreStaged K.Keeper self.old.keeper r.body body.now)
             → RefusedLasts K.Keeper self.old.keeper self.new.keeper s r now result }
-        ensures unstaged { IsPutting prospect.errand ⊎ K.stages self.old.keeper []
+        ensures unstaged { IsPutting prospect.entry.errand ⊎ K.stages self.old.keeper []
             → EndsUnstaged K.Keeper self.old.keeper self.new.keeper }
         ensures rest { HoldsUnless K.Keeper self.old.keeper self.new.keeper (IsGivenUp result) }
     {
@@ -119,8 +119,8 @@ impl<K: Keeper> Office<K> {
     ) -> Result<Reply, Refusal>
         ensures replies { (s : State) (r : Request)
             → WasKept K.Keeper self.old.keeper self.new.keeper s
-            → Foresees s r foreseen
-            → (IsUpload foreseen → AreStaged K.Keeper self.old.keeper r.body body.now)
+            → Foresees s r foreseen.entry
+            → (IsUpload foreseen.entry → AreStaged K.Keeper self.old.keeper r.body body.now)
             → IsReplied (Endures K.Keeper self.old.keeper self.new.keeper s) s r now result }
         ensures readable { IfErr result (λ q. q ≡ Refusal.TryAgain → (r : Request)
             → IsReadOf r foreseen → IsReadable r) }
@@ -129,10 +129,10 @@ impl<K: Keeper> Office<K> {
         ensures plain { IfOk result IsNoRefusal }
         ensures crash { (s : State) (r : Request)
             → WasKept K.Keeper self.old.keeper self.new.keeper s
-            → Foresees s r foreseen
-            → (IsUpload foreseen → AreStaged K.Keeper self.old.keeper r.body body.now)
+            → Foresees s r foreseen.entry
+            → (IsUpload foreseen.entry → AreStaged K.Keeper self.old.keeper r.body body.now)
             → RefusedLasts K.Keeper self.old.keeper self.new.keeper s r now result }
-        ensures unstaged { IsUpload foreseen ⊎ K.stages self.old.keeper []
+        ensures unstaged { IsUpload foreseen.entry ⊎ K.stages self.old.keeper []
             → EndsUnstaged K.Keeper self.old.keeper self.new.keeper }
         ensures rest { HoldsUnless K.Keeper self.old.keeper self.new.keeper
             (IsGivenUp result) }
@@ -153,19 +153,19 @@ impl<K: Keeper> Office<K> {
     ) -> Answer
         ensures answers { (s : State) (r : Request)
             → WasKept K.Keeper self.old.keeper self.new.keeper s
-            → Foresees s r foreseen → to_head ≡ is_head r
-            → (IsUpload foreseen → AreStaged K.Keeper self.old.keeper r.body body.now)
+            → Foresees s r foreseen.entry → to_head ≡ is_head r
+            → (IsUpload foreseen.entry → AreStaged K.Keeper self.old.keeper r.body body.now)
             → IsAnswered (Endures K.Keeper self.old.keeper self.new.keeper s) s r now result }
         ensures again { IsTryAgain result → (s : State) → K.means self.old.keeper s
             → K.means self.new.keeper s }
         ensures readable { IsTryAgain result → (r : Request) → IsReadOf r foreseen → IsReadable r }
         ensures crash { (s : State) (r : Request)
             → WasKept K.Keeper self.old.keeper self.new.keeper s
-            → Foresees s r foreseen
-            → (IsUpload foreseen → AreStaged K.Keeper self.old.keeper r.body body.now)
+            → Foresees s r foreseen.entry
+            → (IsUpload foreseen.entry → AreStaged K.Keeper self.old.keeper r.body body.now)
             → IsTryAgain result
             → AddsAsked K.Keeper self.old.keeper self.new.keeper s (IsAsked s r now) }
-        ensures unstaged { IsUpload foreseen ⊎ K.stages self.old.keeper []
+        ensures unstaged { IsUpload foreseen.entry ⊎ K.stages self.old.keeper []
             → EndsUnstaged K.Keeper self.old.keeper self.new.keeper }
         ensures rest { HoldsUnless K.Keeper self.old.keeper self.new.keeper (IsTryAgain result) }
     {
