@@ -1,5 +1,5 @@
 -- What became of a message, by what was sent.
-use Rattle.std.proofs.Common.{◌≡◌, ℕ, Bool, false, List, [], Option, refl, ap, subst, ◌∙◌, ⊎_elim, inl, inr}
+use Rattle.std.proofs.Common.{◌≡◌, ◌≢◌, ℕ, Bool, false, List, [], Option, Result, Ok, Err, refl, ap, subst, ◌∙◌, ⊎_elim, inl, inr}
 use Rattle.std.specs.Io.KnownBytes.{Appends}
 use Rattle.sigtext.specs.declared.refusal.Refusal.TheVariants as rule
 use Rattle.httparse.specs.Grammar.{RequestHead}
@@ -17,6 +17,9 @@ use Rattle.wire.specs.Shown.{said_of, whole_text}
 use Rattle.office.specs.declared.connections.handling.Handled.{Handled}
 use Rattle.office.specs.declared.connections.handling.Handled.TheVariants.{Answered, GaveUp, Broken}
 use Rattle.office.specs.Crashes.{Endures}
+use Rattle.office.specs.Foreseeing.{Foresees, IsReadOf}
+use Rattle.office.specs.declared.requests.foreseeing.Prospect.{Prospect}
+use Rattle.sigtext.specs.declared.refusal.Refusal.{Refusal}
 use Rattle.office.specs.Connections.{MayGiveUp}
 use Rattle.office.specs.Handling.{Handles, MayBeGivenUp, answered, gave_up_at, broke, broke_giving_up_at}
 use Rattle.office.specs.Offices.{IsTryAgain, IsAnswered}
@@ -79,3 +82,8 @@ same_request text found head method target headers has_length body is_found is_h
     ∙ ap (λ (x : List ℕ). record { method = found.method; target = x; headers = headers; has_length = has_length; body = body }) b
     ∙ ap (λ (x : List Header). record { method = found.method; target = found.target; headers = x; has_length = has_length; body = body }) c
     ∙ ap (λ (x : RequestHead). request_of x has_length body) once
+
+-- what was foreseen of a request tells that it is readable, unless it was refused
+pub read_of : (s : State) (r : Request) (foreseen : Result Prospect Refusal) → Foresees s r foreseen → foreseen ≢ Err rule.TryAgain → IsReadOf r foreseen
+read_of s r (Ok f) foresees other = (foresees.parts, foresees.link)
+read_of s r (Err q) foresees other = λ is. absurd (other (ap Err is))
