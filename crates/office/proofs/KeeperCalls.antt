@@ -1,6 +1,6 @@
 -- Calls of a keeper that change nothing of the state, and how its faults add up.
-use Rattle.std.proofs.Common.{◌≡◌, ◌≢◌, ◌≤◌, ◌<◌, ◌∙◌, ℕ, Bool, false, List, [], ◌⊎◌, ⊎_elim, inl, inr, Result, Ok, Err, refl, sym, subst, arith}
-use Rattle.std.specs.Prelude.{OnOk, OnErr}
+use Rattle.std.proofs.Common.{◌≡◌, ◌≢◌, ◌≤◌, ◌<◌, ◌∙◌, ℕ, Bool, true, false, List, [], ◌⊎◌, ⊎_elim, inl, inr, Result, Ok, Err, refl, sym, subst, arith}
+use Rattle.std.specs.Prelude.{IsFalse, IsTrue, OnOk, OnErr}
 use Rattle.std.specs.Result.{is_err}
 use Rattle.std.proofs.lemmas.Bool.{cases_lt}
 use Rattle.sigtext.specs.Counts.{Rose}
@@ -10,7 +10,7 @@ use Rattle.keeper.specs.Keeping.{KeepsStaged}
 use Rattle.keeper.specs.declared.keep.KeepFault.{KeepFault}
 use Rattle.keeper.specs.declared.keep.Keeper.{Ghosts}
 use Rattle.office.specs.Crashes.{AddsStanding}
-use Rattle.office.specs.Premise.{EndsUnstaged, HoldsUnless, IsFault}
+use Rattle.office.specs.Premise.{EndsUnstaged, HoldsUnless, IsFault, StaysUnstaged}
 use Rattle.office.proofs.Endurance.{asked_standing, still, then_adds}
 use Rattle.office.proofs.Holding.{holds_less, holds_still, holds_then}
 
@@ -103,3 +103,9 @@ module _ {K : Type 0} {k : Ghosts K} where
       never_less = omega (arith, x.rest.never_less, y.rest.never_less);
     };
   }
+
+-- nothing stays staged, over a call that keeps what is staged unless something is to be staged
+pub unstaged_after : {K : Type 0} (k : Ghosts K) (a b c : K) (upload : Bool) → k.faults b ≡ k.faults a → (IsFalse upload → KeepsStaged k.stages a b) → (IsTrue upload → EndsUnstaged k b c)
+    → StaysUnstaged k b c → StaysUnstaged k a c
+unstaged_after k a b c true same keeps ends stays = λ none. ends_after k a b c same (ends refl)
+unstaged_after k a b c false same keeps ends stays = λ none. ends_after k a b c same (stays (keeps refl [] none))

@@ -24,7 +24,8 @@ use Rattle.office.specs.Connections.{IsKnown, IsStream, Serves}
 use Rattle.office.specs.Crashes.{AddsStanding, never_changed}
 use Rattle.office.proofs.Endurance.{still, then_through, through_after}
 use Rattle.office.specs.Handling.{Handles, answered, gave_up_at, broke, broke_giving_up_at}
-use Rattle.office.specs.Premise.{HoldsUp, IsLeft}
+use Rattle.office.specs.Premise.{HoldsUp, IsLeft, WasKept}
+use Rattle.office.proofs.KeeperCalls.{Quiet}
 use Rattle.office.specs.Sessions.{HasBegunMessage, Session, MayGiveUpReading}
 use Rattle.office.specs.Sessions as session
 use Rattle.office.specs.Stepping.{Goes, IsClosed, Steps, ToCome}
@@ -211,6 +212,21 @@ pub record Leaves {K : Type 0} (k : Ghosts K) (old new : K) (s : State) (gave_up
   pub held : HoldsUp k gave_up old new
   pub adds : AddsStanding k old new s
 
+-- calls that leave the state
+pub leaves_quiet : {K : Type 0} (k : Ghosts K) (old new : K) (s : State) (gave_up : Type 0) → Quiet k old new gave_up → WasKept k old new s → (gave_up → ⊥) → Leaves k old new s false
+leaves_quiet k old new s gave_up quiet kept other = record {
+  keeps = record { means = quiet.means s kept.means; sound = kept.sound };
+  held = (quiet.rest.counted other, λ was. quiet.rest.opened kept.is_honest was other);
+  adds = quiet.crash s kept.means kept.is_honest;
+}
+
+pub leaves_given_up : {K : Type 0} (k : Ghosts K) (old new : K) (s : State) (gave_up : Type 0) → Quiet k old new gave_up → WasKept k old new s → Leaves k old new s true
+leaves_given_up k old new s gave_up quiet kept = record {
+  keeps = record { means = quiet.means s kept.means; sound = kept.sound };
+  held = quiet.rest.never_less;
+  adds = quiet.crash s kept.means kept.is_honest;
+}
+
 -- the keeper was not called
 pub leaves_still : {K : Type 0} (k : Ghosts K) (keeper : K) (s : State) (gave_up : Bool) → IsLeft (k.means keeper) s → Leaves k keeper keeper s gave_up
 leaves_still k keeper s gave_up keeps = record { keeps = keeps; held = holds_still k keeper gave_up; adds = still }
@@ -296,6 +312,11 @@ pub record Before {K : Type 0} (k : Ghosts K) (old new : K) (s : State) : Type 0
   pub faults : k.faults new ≡ k.faults old
   pub open_still : k.is_open old → k.is_open new
   pub adds : AddsStanding k old new s
+
+-- calls that leave the state, and did not give up
+pub before_quiet : {K : Type 0} (k : Ghosts K) (a b : K) (s : State) (gave_up : Type 0) → Quiet k a b gave_up → (gave_up → ⊥) → k.means a s → k.is_honest b → Before k a b s
+before_quiet k a b s gave_up quiet other means honest =
+    record { faults = quiet.rest.counted other; open_still = λ was. quiet.rest.opened honest was other; adds = quiet.crash s means honest }
 
 before_held : {K : Type 0} (k : Ghosts K) (a b c : K) (s : State) (gave_up : Bool) → Before k a b s → HoldsUp k gave_up b c → HoldsUp k gave_up a c
 before_held k a b c s gave_up x held = holds_more k a b c gave_up (x.faults, x.open_still) held
