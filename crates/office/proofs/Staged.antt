@@ -1,6 +1,8 @@
 -- Whether staged bytes stand already, by the receipt of what stands.
-use Rattle.std.proofs.Common.{◌≡◌, ◌∙◌, ℕ, Option, Some, None, length, refl, sym, ap, subst}
-use Rattle.std.specs.Prelude.{option_map, IsSomeAnd}
+use Rattle.std.proofs.Common.{◌≡◌, ◌∙◌, ℕ, List, true, Option, Some, None, length, refl, sym, ap, subst}
+use Rattle.std.specs.Cmp.Lexicographic.{pointwise}
+use Rattle.std.specs.Prelude.{option_map, nat_eq, IsSomeAnd}
+use Rattle.std.proofs.lemmas.Cmp.{nat_list_eq_equiv}
 use Rattle.std.specs.FinMap.{get}
 use Rattle.sigv4.specs.Hmac.{sha256}
 use Rattle.boxes.specs.declared.rows.ReceiptRow.{ReceiptRow}
@@ -43,3 +45,7 @@ its_receipt s u row sound is stands =
     let number : row.number ≡ h.file.receipt = some_is row.number h.file.receipt (is.there ∙ ap (option_map (λ (f : File). f.receipt)) h.there) in
     let same = receipt_once s h.file.receipt (receipt_in row) f.receipt (subst (λ (n : ℕ). HasReceipt s n (receipt_in row)) number (is.receipt row refl)) f.listed in
     (ap (λ (r : Receipt). r.size) same ∙ f.size ∙ ap length h.bytes, ap (λ (r : Receipt). r.digest) same ∙ f.digest ∙ ap sha256 h.bytes)
+
+-- digests that are the same are told to be
+pub digests_same : (a b : List ℕ) → a ≡ b → pointwise nat_eq a b ≡ true
+digests_same a b same = subst (λ (x : List ℕ). pointwise nat_eq a x ≡ true) same (nat_list_eq_equiv.refl a)

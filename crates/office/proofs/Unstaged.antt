@@ -30,20 +30,16 @@ pub rose_least : (a b : ℕ) → Rose a b → a ≤ b
 rose_least a b (inl less) = omega (arith, less)
 rose_least a b (inr (top, same)) = omega (arith, same)
 
+-- nothing is staged in the end, whatever came before
+pub ends_later : {K : Type 0} (k : Ghosts K) (a b c : K) → k.faults a ≤ k.faults b → EndsUnstaged k b c → EndsUnstaged k a c
+ends_later k a b c least (inl none) = inl none
+ends_later k a b c least (inr rose) = inr (rose_later (k.faults a) (k.faults b) (k.faults c) least rose)
+
+-- a fault that was counted stays
+pub ends_before : {K : Type 0} (k : Ghosts K) (a b c : K) → Rose (k.faults a) (k.faults b) → k.faults b ≤ k.faults c → EndsUnstaged k a c
+ends_before k a b c rose most = inr (rose_before (k.faults a) (k.faults b) (k.faults c) rose most)
+
 module _ {K : Type 0} {k : Ghosts K} where
-  -- nothing is staged in the end, whatever came before
-  pub ends_later : {a b c : K} → k.faults a ≤ k.faults b → EndsUnstaged k b c → EndsUnstaged k a c
-  ends_later least (inl none) = inl none
-  ends_later {a = a} {b = b} {c = c} least (inr rose) = inr (rose_later (k.faults a) (k.faults b) (k.faults c) least rose)
-
-  -- a fault that was counted stays
-  pub ends_before : {a b c : K} → Rose (k.faults a) (k.faults b) → k.faults b ≤ k.faults c → EndsUnstaged k a c
-  ends_before {a = a} {b = b} {c = c} rose most = inr (rose_before (k.faults a) (k.faults b) (k.faults c) rose most)
-
-  -- nothing was staged, and it stays so
-  pub still_unstaged : {a b : K} → KeepsStaged k.stages a b → k.stages a [] → EndsUnstaged k a b
-  still_unstaged keeps none = inl (keeps [] none)
-
   -- one call after another
   pub then_holds : {a b c : K} {P Q R : Type 0} → HoldsUnless k a b P → HoldsUnless k b c Q → ((R → ⊥) → P → ⊥) → ((R → ⊥) → Q → ⊥) → HoldsUnless k a c R
   then_holds x y f g = record {

@@ -1,6 +1,7 @@
 //! What is known of a message before its body comes: what its head and the state decide, whatever the moment.
 ghost use Rattle.std.specs.Prelude.{◌↔◌, IsTrue};
 ghost use Rattle.office.specs.Foreseeing.{IsPutting, IsUpload};
+ghost use Rattle.office.specs.Premise.{IsGivenUp};
 
 use super::announced::Announced;
 use super::forms::check_form;
@@ -44,6 +45,13 @@ pub(crate) struct Body {
     pub(crate) length: u64,
     /// Their SHA-256 digest, where they were staged.
     pub(crate) digest: [u8; 32],
+}
+
+/// Whether it is refusal 40: memory was refused, or the keeper counted a fault.
+pub(crate) fn is_given_up<T>(told: &Result<T, Refusal>) -> bool
+    ensures { IsTrue result ↔ IsGivenUp told.now }
+{
+    matches!(told, Err(Refusal::TryAgain))
 }
 
 /// Whether it is an upload, whose body is to be staged.
@@ -169,10 +177,11 @@ impl<K: Keeper> Office<K> {
             Ok(role) => role,
             Err(refusal) => return Err(refusal),
         };
-        match self.foresee_errand(&link, method, role, message) {
-            Err(Refusal::TryAgain) => Err(Refusal::TryAgain),
-            errand => Ok(Prospect { link, errand }),
+        let errand = self.foresee_errand(&link, method, role, message);
+        if is_given_up(&errand) {
+            return Err(Refusal::TryAgain);
         }
+        Ok(Prospect { link, errand })
     }
 
     // What is known of a message before its body: the refusal of the least of the rules 7 to 21 that fails; or its link, and

@@ -31,7 +31,7 @@ pub returns-in_default-clause-plain : goal.returns-in_default-clause-plain
 returns-in_default-clause-plain g c = no_reply _ rule.TryAgain c.let_go.result c.let_go.ensures.gives
 
 pub returns-in_default-clause-unstaged : goal.returns-in_default-clause-unstaged
-returns-in_default-clause-unstaged g c = ends_later (rose_least _ _ c.in_default.ensures.rest.count.err) c.let_go.ensures.unstaged
+returns-in_default-clause-unstaged g c = ends_later g.K.Keeper c.args.self.now.keeper c.look_up.new.self.keeper c.let_go.new.self.keeper (rose_least _ _ c.in_default.ensures.rest.count.err) c.let_go.ensures.unstaged
 
 -- ---- it is refused
 
@@ -40,11 +40,11 @@ returns-in-Refused-clause-replies g c s r p kept is is_put reached path box stag
     let u = upload_of r c.args.now p in
     let means = g.K.Keeper.means c.look_up.new.self.keeper in
     let still : WasKept g.K.Keeper c.args.self.now.keeper c.look_up.new.self.keeper s =
-    record { means = kept.means; is_honest = c.let_go.ensures.rest.honest kept.is_honest; sound = kept.sound } in
+    record { means = kept.means; is_honest = c.let_go-in-Refused.ensures.rest.honest kept.is_honest; sound = kept.sound } in
     let same = c.read_place-place.ensures ∙ ap place_of path in
     let brings = brought means s r c.args.now p reached staged.short staged.octets (omega (arith, c.well_formed)) in
     let view = subst (λ (x : Place). IsUploadViewOf s x c.in-Ok.field-0.view) same (c.in-Ok.ensures.view s still (box ∙ ap (λ (x : Place). get s.boxes x.box) (sym same))) in
-    denied (Endures g.K.Keeper c.args.self.now.keeper c.let_go.new.self.keeper s) s r c.args.now c.in-Refused.refusal c.let_go.result c.let_go.ensures.gives
+    denied (Endures g.K.Keeper c.args.self.now.keeper c.let_go-in-Refused.new.self.keeper s) s r c.args.now c.in-Refused.refusal c.let_go-in-Refused.result c.let_go-in-Refused.ensures.gives
     (λ other. not_put means s r c.args.now p reached c.in-Refused.refusal is_put
     (c.in-Refused.ensures s u kept.sound brings view
     (record { length_is = staged.length_is; digest = staged.digest; stand = c.in-Ok.ensures.stand s u still (sym same) staged })
@@ -52,33 +52,33 @@ returns-in-Refused-clause-replies g c s r p kept is is_put reached path box stag
 
 pub returns-in-Refused-clause-crash : goal.returns-in-Refused-clause-crash
 returns-in-Refused-clause-crash g c s r p kept is is_put reached path box staged =
-    refused_adds s r c.args.now c.let_go.result
-    (then_adds (asked_standing c.in-Ok.ensures.rest kept.means (c.let_go.ensures.rest.honest kept.is_honest)) (c.let_go.ensures.crash s (c.in-Ok.ensures.rest.same s kept.means) kept.is_honest))
+    refused_adds s r c.args.now c.let_go-in-Refused.result
+    (then_adds (asked_standing c.in-Ok.ensures.rest kept.means (c.let_go-in-Refused.ensures.rest.honest kept.is_honest)) (c.let_go-in-Refused.ensures.crash s (c.in-Ok.ensures.rest.same s kept.means) kept.is_honest))
 
 pub returns-in-Refused-clause-plain : goal.returns-in-Refused-clause-plain
-returns-in-Refused-clause-plain g c = no_reply _ c.in-Refused.refusal c.let_go.result c.let_go.ensures.gives
+returns-in-Refused-clause-plain g c = no_reply _ c.in-Refused.refusal c.let_go-in-Refused.result c.let_go-in-Refused.ensures.gives
 
 pub returns-in-Refused-clause-unstaged : goal.returns-in-Refused-clause-unstaged
-returns-in-Refused-clause-unstaged g c = ends_later (omega (arith, c.in-Ok.ensures.rest.count.ok)) c.let_go.ensures.unstaged
+returns-in-Refused-clause-unstaged g c = ends_later g.K.Keeper c.args.self.now.keeper c.look_up.new.self.keeper c.let_go-in-Refused.new.self.keeper (omega (arith, c.in-Ok.ensures.rest.count.ok)) c.let_go-in-Refused.ensures.unstaged
 
 -- ---- its bytes stand already
 
 pub returns-in-Again-clause-replies : goal.returns-in-Again-clause-replies
 returns-in-Again-clause-replies g c s r p kept is is_put reached path box staged =
     let u = upload_of r c.args.now p in
-    let means = Endures g.K.Keeper c.args.self.now.keeper c.let_go.new.self.keeper s in
-    let honest = c.let_go.ensures.rest.honest kept.is_honest in
+    let means = Endures g.K.Keeper c.args.self.now.keeper c.let_go-in-Again.new.self.keeper s in
+    let honest = c.let_go-in-Again.ensures.rest.honest kept.is_honest in
     let still : WasKept g.K.Keeper c.args.self.now.keeper c.look_up.new.self.keeper s =
     record { means = kept.means; is_honest = honest; sound = kept.sound } in
     let same = c.read_place-place.ensures ∙ ap place_of path in
     let brings = brought means s r c.args.now p reached staged.short staged.octets (omega (arith, c.well_formed)) in
     let view = subst (λ (x : Place). IsUploadViewOf s x c.in-Ok.field-0.view) same (c.in-Ok.ensures.view s still (box ∙ ap (λ (x : Place). get s.boxes x.box) (sym same))) in
     let mid = c.in-Ok.ensures.rest.same s kept.means in
-    told means s r c.args.now c.reply_of.result c.let_go.result c.let_go.ensures.gives
+    told means s r c.args.now c.reply_of.result c.let_go-in-Again.result c.let_go-in-Again.ensures.gives
     (subst (λ (x : Reply). IsReplied means s r c.args.now (Ok x)) (sym c.reply_of.ensures)
     (again means s r c.args.now p reached c.in-Again.receipt is_put
     (record {
-      means = record { meant = c.let_go.ensures.same s mid; lasts = unchanged refl (then_adds (asked_standing c.in-Ok.ensures.rest kept.means honest) (c.let_go.ensures.crash s mid kept.is_honest)) };
+      means = record { meant = c.let_go-in-Again.ensures.same s mid; lasts = unchanged refl (then_adds (asked_standing c.in-Ok.ensures.rest kept.means honest) (c.let_go-in-Again.ensures.crash s mid kept.is_honest)) };
       sound = kept.sound;
     })
     (c.in-Again.ensures s u kept.sound brings view
@@ -87,11 +87,11 @@ returns-in-Again-clause-replies g c s r p kept is is_put reached path box staged
 
 pub returns-in-Again-clause-crash : goal.returns-in-Again-clause-crash
 returns-in-Again-clause-crash g c s r p kept is is_put reached path box staged =
-    refused_adds s r c.args.now c.let_go.result
-    (then_adds (asked_standing c.in-Ok.ensures.rest kept.means (c.let_go.ensures.rest.honest kept.is_honest)) (c.let_go.ensures.crash s (c.in-Ok.ensures.rest.same s kept.means) kept.is_honest))
+    refused_adds s r c.args.now c.let_go-in-Again.result
+    (then_adds (asked_standing c.in-Ok.ensures.rest kept.means (c.let_go-in-Again.ensures.rest.honest kept.is_honest)) (c.let_go-in-Again.ensures.crash s (c.in-Ok.ensures.rest.same s kept.means) kept.is_honest))
 
 pub returns-in-Again-clause-unstaged : goal.returns-in-Again-clause-unstaged
-returns-in-Again-clause-unstaged g c = ends_later (omega (arith, c.in-Ok.ensures.rest.count.ok)) c.let_go.ensures.unstaged
+returns-in-Again-clause-unstaged g c = ends_later g.K.Keeper c.args.self.now.keeper c.look_up.new.self.keeper c.let_go-in-Again.new.self.keeper (omega (arith, c.in-Ok.ensures.rest.count.ok)) c.let_go-in-Again.ensures.unstaged
 
 -- ---- it is taken
 
@@ -134,4 +134,4 @@ returns-clause-crash g c s r p kept is is_put reached path box staged =
     c.set_file.ensures.again (asks means s r c.args.now p reached c.in-Taken.file is_put decided)
 
 pub returns-clause-unstaged : goal.returns-clause-unstaged
-returns-clause-unstaged g c = ends_later (omega (arith, c.in-Ok.ensures.rest.count.ok)) c.set_file.ensures.unstaged
+returns-clause-unstaged g c = ends_later g.K.Keeper c.args.self.now.keeper c.look_up.new.self.keeper c.set_file.new.self.keeper (omega (arith, c.in-Ok.ensures.rest.count.ok)) c.set_file.ensures.unstaged
