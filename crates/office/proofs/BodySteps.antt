@@ -40,6 +40,7 @@ use Rattle.keeper.specs.declared.keep.KeepFault.{KeepFault}
 use Rattle.wire.specs.Feeds.{left, reader_of, waits_in}
 use Rattle.wire.specs.declared.feed.Place.{Place}
 use Rattle.office.proofs.KeeperCalls.{Quiet, quiet_then}
+use Rattle.office.proofs.Stagings.{reader_taken}
 use Rattle.office.proofs.SessionSteps.{Before, answered_step, broken_step, closed_step, gave_up_reading_step, gave_up_step, leaves_given_up, leaves_quiet, read_failed_giving_up_step, read_failed_step, steps_after}
 
 -- the head announces as many bytes as the body has
@@ -170,3 +171,14 @@ module _ {R C K T : Type 0} (remaining : R → Option (List ℕ)) (size : ℕ) (
       read_failed_giving_up_step gives p known (left remaining new) (remaining (reader_of new).inner) output clock k a b s (x.text ++ given) (leaves_given_up k a b s (IsFault {T = T} (Err f)) quiet kept)
       (read_on s size known (left remaining old) foreseen to_head x (remaining (reader_of new).inner) given taken) (awaits s size known (left remaining old) foreseen to_head x given few)
       (upload_begun s size known (left remaining old) foreseen to_head x given (is asked))
+
+-- a head was read, and refusal 40 closed the connection before its body was
+pub head_given_up_step : {R C K : Type 0} (remaining : R → Option (List ℕ)) (feed : Feed R) (gives : C → ℕ → C → Type 0) (p : Place) (known output output' : Option (List ℕ)) (clock : C) (k : Ghosts K) (a b : K) (s : State)
+    (text : List ℕ) (has_length : Bool) (size : ℕ) (x : IsOpening text has_length size known (left remaining feed)) (e : SessionEnd) (gave_up : Type 0) → Quiet k a b gave_up → WasKept k a b s
+    → IsReadable (request_of x.opens.head has_length []) → IsClosed output output' rule.TryAgain e
+    → Steps gives p known (left remaining feed) (remaining (reader_of feed).inner) output output' clock clock k a b s (Some e)
+head_given_up_step remaining feed gives p known output output' clock k a b s text has_length size x e gave_up quiet kept readable closed =
+    let reader = remaining (reader_of feed).inner in
+    let begun : HasBegunMessage (text ++ waits_in feed) = record { text = text; given = waits_in feed; has_length = has_length; size = size; whole = refl; opens = x.opens; readable = readable } in
+    gave_up_reading_step gives p known (left remaining feed) reader output output' clock k a b s e (text ++ waits_in feed) (leaves_given_up k a b s gave_up quiet kept)
+    (reader_taken known reader text (waits_in feed) (head_taken known (left remaining feed) text x.front)) (inr begun) closed

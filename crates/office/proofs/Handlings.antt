@@ -87,3 +87,6 @@ same_request text found head method target headers has_length body is_found is_h
 pub read_of : (s : State) (r : Request) (foreseen : Result Prospect Refusal) → Foresees s r foreseen → foreseen ≢ Err rule.TryAgain → IsReadOf r foreseen
 read_of s r (Ok f) foresees other = (foresees.parts, foresees.link)
 read_of s r (Err q) foresees other = λ is. absurd (other (ap Err is))
+
+pub read_given_up : (r : Request) (foreseen : Result Prospect Refusal) → foreseen ≡ Err rule.TryAgain → IsReadOf r foreseen → IsReadable r
+read_given_up r foreseen is read = subst (IsReadOf r) is read refl

@@ -10,7 +10,7 @@ use crate::clocks::Clock;
 use crate::office::Office;
 use crate::requests::announced::Announced;
 use crate::requests::answering::asks_head;
-use crate::requests::foreseeing::{Body, Prospect, is_upload};
+use crate::requests::foreseeing::{Body, Prospect, is_given_up, is_upload};
 use keeper::Keeper;
 use sigtext::{Field, Refusal};
 use std::io::{Read, Write};
@@ -190,13 +190,12 @@ impl<K: Keeper> Office<K> {
             has_length,
             length: size,
         };
-        match self.foresee(&message) {
-            Err(Refusal::TryAgain) => Some(close(Refusal::TryAgain, writer)),
-            foreseen => {
-                let to_head = asks_head(&message);
-                self.serve_body(feed, foreseen, to_head, size, writer, clock)
-            }
+        let foreseen = self.foresee(&message);
+        if is_given_up(&foreseen) {
+            return Some(close(Refusal::TryAgain, writer));
         }
+        let to_head = asks_head(&message);
+        self.serve_body(feed, foreseen, to_head, size, writer, clock)
     }
 
     // Reads the next message of a feed and answers it; or tells how the session ended.
