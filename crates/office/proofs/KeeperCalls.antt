@@ -26,6 +26,12 @@ rose_more a b c (inl less) more = inl (omega (arith, less, more))
 rose_more a b c (inr (most, same)) more =
     ⊎_elim (λ (less : b < c). inl (omega (arith, same, less))) (λ (still : c ≤ b). inr (most, omega (arith, same, more, still))) (cases_lt b c)
 
+-- a count that had not fallen, and rose
+pub rose_before : (a b c : ℕ) → a ≤ b → Rose b c → Rose a c
+rose_before a b c less (inl more) = inl (omega (arith, less, more))
+rose_before a b c less (inr (most, same)) =
+    ⊎_elim (λ (below : a < b). inl (omega (arith, same, below))) (λ (above : b ≤ a). let is : a ≡ b = omega (arith, less, above) in inr (is ∙ most, same ∙ sym is)) (cases_lt a b)
+
 pub rose_after : (a b c : ℕ) → b ≡ a → Rose b c → Rose a c
 rose_after a b c same rose = subst (λ (n : ℕ). Rose n c) same rose
 
@@ -109,3 +115,11 @@ pub unstaged_after : {K : Type 0} (k : Ghosts K) (a b c : K) (upload : Bool) →
     → StaysUnstaged k b c → StaysUnstaged k a c
 unstaged_after k a b c true same keeps ends stays = λ none. ends_after k a b c same (ends refl)
 unstaged_after k a b c false same keeps ends stays = λ none. ends_after k a b c same (stays (keeps refl [] none))
+
+-- one call after another, whatever they gave up
+pub unstaged_then : {K : Type 0} (k : Ghosts K) (a b c : K) → StaysUnstaged k a b → k.faults a ≤ k.faults b → StaysUnstaged k b c → k.faults b ≤ k.faults c → StaysUnstaged k a c
+unstaged_then k a b c first less second more = λ none. ⊎_elim (λ (still : k.stages b []). later (second still)) (λ (rose : Rose (k.faults a) (k.faults b)). ends_risen k a b c rose more) (first none)
+  where
+    later : EndsUnstaged k b c → EndsUnstaged k a c
+    later (inl none) = inl none
+    later (inr rose) = inr (rose_before (k.faults a) (k.faults b) (k.faults c) less rose)
