@@ -9,7 +9,9 @@ use Rattle.links.specs.WellFormed.{LinkValues, IsWellFormed}
 use Rattle.boxes.specs.State.{State}
 use Rattle.wire.specs.declared.answer.Reply.{Reply}
 use Rattle.office.specs.declared.requests.foreseeing.Prospect.{Prospect}
-use Rattle.office.specs.Foreseeing.{Foresees, IsReadOf}
+use Rattle.office.specs.declared.requests.foreseeing.Errand.{Errand}
+use Rattle.office.specs.Admitted.{IsAdmitted, ReachesBoxes}
+use Rattle.office.specs.Foreseeing.{ComesTo, Foresees, IsErrandOf, IsForeseen, IsReadOf, IsUpload}
 use Rattle.office.specs.Readable.{IsReadable}
 use Rattle.office.specs.Replying.{IsReplied}
 use Rattle.office.specs.Rules.{Rule}
@@ -74,3 +76,24 @@ if_whatever_err (Err e) is = is
 pub weaker_ok : {T E : Type 0} {P Q : T → Type 0} (result : Result T E) → ((x : T) → P x → Q x) → IfOk result P → IfOk result Q
 weaker_ok (Ok x) f is = f x is
 weaker_ok (Err e) f is = tt
+
+-- ---- what was foreseen, within the window of the link
+
+module _ (s : State) (r : Request) (f : Prospect) (is : IsForeseen s r f) (now : ℕ) (admitted : IsAdmitted s r now is.parts is.key) where
+  -- the errand that it comes to
+  pub errand_of : (e : Errand) → f.errand ≡ Ok e → IsErrandOf s r is.parts e × ReachesBoxes s r now is.parts
+  errand_of e same = let x = subst (ComesTo s r is.parts is.key) same is.comes in (x.0, x.1 now admitted)
+
+  -- or the refusal
+  pub refused_of : (q : Refusal) → f.errand ≡ Err q → q ≢ rule.TryAgain → IsFirstToFail (Rule s r now) q
+  refused_of q same other = subst (ComesTo s r is.parts is.key) same is.comes other now admitted
+
+-- ---- what of a message that was not answered can be read
+
+pub upload_readable : (r : Request) (foreseen : Result Prospect Refusal) → IsUpload foreseen → IsReadOf r foreseen → IsReadable r
+upload_readable r (Ok f) upload is = readable_of r is.0 is.1.well_formed
+upload_readable r (Err q) upload is = absurd upload
+
+pub err_whatever : {T P : Type 0} (result : Result T Refusal) → P → IfErr result (λ q. q ≡ rule.TryAgain → P)
+err_whatever (Ok x) is = tt
+err_whatever (Err q) is = λ again. is

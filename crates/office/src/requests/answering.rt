@@ -123,7 +123,7 @@ impl<K: Keeper> Office<K> {
             → (IsUpload foreseen.entry → AreStaged K.Keeper self.old.keeper r.body body.now)
             → IsReplied (Endures K.Keeper self.old.keeper self.new.keeper s) s r now result }
         ensures readable { IfErr result (λ q. q ≡ Refusal.TryAgain → (r : Request)
-            → IsReadOf r foreseen → IsReadable r) }
+            → IsReadOf r foreseen.entry → IsReadable r) }
         ensures same { (s : State) → K.means self.old.keeper s
             → IfErr result (λ q. K.means self.new.keeper s) }
         ensures plain { IfOk result IsNoRefusal }
@@ -158,7 +158,7 @@ impl<K: Keeper> Office<K> {
             → IsAnswered (Endures K.Keeper self.old.keeper self.new.keeper s) s r now result }
         ensures again { IsTryAgain result → (s : State) → K.means self.old.keeper s
             → K.means self.new.keeper s }
-        ensures readable { IsTryAgain result → (r : Request) → IsReadOf r foreseen → IsReadable r }
+        ensures readable { IsTryAgain result → (r : Request) → IsReadOf r foreseen.entry → IsReadable r }
         ensures crash { (s : State) (r : Request)
             → WasKept K.Keeper self.old.keeper self.new.keeper s
             → Foresees s r foreseen.entry

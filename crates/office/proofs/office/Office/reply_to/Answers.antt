@@ -1,0 +1,34 @@
+use Rattle.std.proofs.Common.{inl, inr, subst, sym}
+use Rattle.office.specs.Foreseeing.{Foresees, IsReadOf, IsUpload}
+use Rattle.office.proofs.Endurance.{refused_same, still}
+use Rattle.office.proofs.Foreseen.{err_whatever, readable_of}
+use Rattle.office.proofs.office.Office.reply_to.Goals as goal
+
+pub returns-in-Ok-clause-replies : goal.returns-in-Ok-clause-replies
+returns-in-Ok-clause-replies g c s r kept f staged =
+    c.finish.ensures.replies s r kept (subst (Foresees s r) c.in-Ok.is f) (λ putting. staged (subst IsUpload (sym c.in-Ok.is) putting))
+
+pub returns-in-Ok-clause-crash : goal.returns-in-Ok-clause-crash
+returns-in-Ok-clause-crash g c s r kept f staged =
+    c.finish.ensures.crash s r kept (subst (Foresees s r) c.in-Ok.is f) (λ putting. staged (subst IsUpload (sym c.in-Ok.is) putting))
+
+pub returns-in-Ok-clause-readable : goal.returns-in-Ok-clause-readable
+returns-in-Ok-clause-readable g c =
+    err_whatever c.finish.result (λ r is. let x = subst (IsReadOf r) c.in-Ok.is is in readable_of r x.0 x.1.well_formed)
+
+pub returns-in-Ok-clause-unstaged : goal.returns-in-Ok-clause-unstaged
+returns-in-Ok-clause-unstaged g c (inl upload) = c.finish.ensures.unstaged (inl (subst IsUpload c.in-Ok.is upload))
+returns-in-Ok-clause-unstaged g c (inr none) = c.finish.ensures.unstaged (inr none)
+
+pub returns-in-Err-clause-replies : goal.returns-in-Err-clause-replies
+returns-in-Err-clause-replies g c s r kept f staged other = subst (Foresees s r) c.in-Err.is f other c.args.now
+
+pub returns-in-Err-clause-crash : goal.returns-in-Err-clause-crash
+returns-in-Err-clause-crash g c s r kept f staged = refused_same c.in-Err.refusal still
+
+pub returns-in-Err-clause-readable : goal.returns-in-Err-clause-readable
+returns-in-Err-clause-readable g c again r is = subst (IsReadOf r) c.in-Err.is is again
+
+pub returns-in-Err-clause-unstaged : goal.returns-in-Err-clause-unstaged
+returns-in-Err-clause-unstaged g c (inl upload) = absurd (subst IsUpload c.in-Err.is upload)
+returns-in-Err-clause-unstaged g c (inr none) = inl none
