@@ -221,11 +221,13 @@ impl<K: Keeper> Office<K> {
     {
         let mut text = [0; MOST_HEAD];
         match read_opening(feed, &mut text) {
-            Ok(Came::Head {
-                size,
-                has_length,
-                length,
-            }) => self.serve_head(feed, &text[..size], has_length, length, writer, clock),
+            Ok(
+                Came::Head {
+                    size,
+                    has_length,
+                    length,
+                },
+            ) => self.serve_head(feed, &text[..size], has_length, length, writer, clock),
             Ok(Came::Refused(refusal)) => Some(close(refusal, writer)),
             Ok(Came::End) => Some(SessionEnd::Ended),
             Ok(Came::Truncated) => Some(SessionEnd::Truncated),

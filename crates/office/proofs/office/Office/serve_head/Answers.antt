@@ -27,7 +27,7 @@ returns-then-is_given_up-clause-steps g c s p known kept x =
     let headers = map header_of (take c.in-Some.head.count c.read_head.new.fields) in
     let message : Request = record { method = method; target = target; headers = headers; has_length = c.args.has_length; body = [] } in
     let same : message ≡ request_of x.opens.head c.args.has_length [] =
-        same_request c.args.text.now f.0 x.opens.head method target headers c.args.has_length [] f.1 x.opens.tells.is_head f.2 f.3 f.5 in
+    same_request c.args.text.now f.0 x.opens.head method target headers c.args.has_length [] f.1 x.opens.tells.is_head f.2 f.3 f.5 in
     let quiet : Quiet g.K.Keeper c.args.self.now.keeper c.foresee-foreseen.new.self.keeper (IsGivenUp c.foresee-foreseen.result) = record { means = foreseen.same; crash = foreseen.crash; rest = foreseen.rest } in
     head_given_up_step g.R.Read.remaining c.args.feed.now g.C.Clock.now_gives p known (g.W.Write.contents c.args.writer.now.inner) (g.W.Write.contents c.close.new.writer.inner) c.args.clock.now
     g.K.Keeper c.args.self.now.keeper c.foresee-foreseen.new.self.keeper s c.args.text.now c.args.has_length c.args.size x c.close.result (IsGivenUp c.foresee-foreseen.result) quiet kept
@@ -44,7 +44,7 @@ returns-clause-steps g c s p known kept x =
     let headers = map header_of (take c.in-Some.head.count c.read_head.new.fields) in
     let message : List ℕ → Request = λ body. record { method = method; target = target; headers = headers; has_length = c.args.has_length; body = body } in
     let same : (body : List ℕ) → message body ≡ request_of x.opens.head c.args.has_length body =
-        λ body. same_request c.args.text.now f.0 x.opens.head method target headers c.args.has_length body f.1 x.opens.tells.is_head f.2 f.3 f.5 in
+    λ body. same_request c.args.text.now f.0 x.opens.head method target headers c.args.has_length body f.1 x.opens.tells.is_head f.2 f.3 f.5 in
     let quiet : Quiet g.K.Keeper c.args.self.now.keeper mid (IsGivenUp result) = record { means = foreseen.same; crash = foreseen.crash; rest = foreseen.rest } in
     let other : IsGivenUp result → ⊥ = λ is. both_ways c.is_given_up.result c.if-is_given_up.false (c.is_given_up.ensures.1 is) in
     let honest = c.serve_body.ensures.rest.honest kept.is_honest in
