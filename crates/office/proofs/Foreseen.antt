@@ -1,6 +1,8 @@
 -- What follows from what was foreseen of a message.
 use Rattle.std.proofs.Common.{◌≡◌, ◌≢◌, ℕ, Result, Ok, Err, ap, refl, sym, subst, ◌∙◌}
-use Rattle.std.specs.Prelude.{IfErr, IfOk, OnErr}
+use Rattle.std.specs.Prelude.{IfErr, IfOk, IsErr, OnErr}
+use Rattle.keeper.specs.declared.keep.KeepFault.{KeepFault}
+use Rattle.office.specs.Premise.{IsFault}
 use Rattle.sigtext.specs.declared.refusal.Refusal.{Refusal}
 use Rattle.sigtext.specs.declared.refusal.Refusal.TheVariants as rule
 use Rattle.sigtext.specs.Request.{Request}
@@ -68,6 +70,10 @@ if_told P x (Err y) gives is = tt
 pub whatever_err : {T E : Type 0} {P : Type 0} (result : Result T E) → P → OnErr result P
 whatever_err (Ok x) is = tt
 whatever_err (Err e) is = is
+
+pub failed_is : {T : Type 0} (result : Result T KeepFault) → IsErr result → IsFault result
+failed_is (Ok x) is = absurd cc
+failed_is (Err f) is = tt
 
 pub if_whatever_err : {T E : Type 0} {P : Type 0} (result : Result T E) → P → IfErr result (λ e. P)
 if_whatever_err (Ok x) is = tt

@@ -1,8 +1,10 @@
 -- How the keeper holds up over several calls, and that nothing stays staged.
-use Rattle.std.proofs.Common.{◌≡◌, ℕ, ◌≤◌, ◌⊎◌, [], inl, inr, arith, sym, List, ◌∙◌}
+use Rattle.std.proofs.Common.{◌≡◌, ℕ, ◌≤◌, ◌⊎◌, [], Ok, Err, inl, inr, arith, refl, sym, List, ◌∙◌}
 use Rattle.std.proofs.lemmas.Bool.{cases_lt}
 use Rattle.sigtext.specs.Counts.{Rose}
+use Rattle.keeper.specs.Bound.{StaysBy}
 use Rattle.keeper.specs.Keeping.{KeepsStaged}
+use Rattle.keeper.specs.declared.keep.KeepFault.{KeepFault}
 use Rattle.keeper.specs.declared.keep.Keeper.{Ghosts}
 use Rattle.office.specs.Foreseeing.{AreStaged}
 use Rattle.office.specs.declared.requests.foreseeing.Body.{Body}
@@ -38,6 +40,28 @@ ends_later k a b c least (inr rose) = inr (rose_later (k.faults a) (k.faults b) 
 -- a fault that was counted stays
 pub ends_before : {K : Type 0} (k : Ghosts K) (a b c : K) → Rose (k.faults a) (k.faults b) → k.faults b ≤ k.faults c → EndsUnstaged k a c
 ends_before k a b c rose most = inr (rose_before (k.faults a) (k.faults b) (k.faults c) rose most)
+
+-- a question that was answered
+pub asked_holds : {K T : Type 0} {P : Type 0} (k : Ghosts K) (a b : K) (x : T) → StaysBy k a b (Ok x) → HoldsUnless k a b P
+asked_holds k a b x rest = record {
+  honest = rest.honest;
+  opened = λ is was not. rest.opened is was;
+  counted = λ not. rest.count.ok;
+  never_less = let same = rest.count.ok in omega (arith, same);
+}
+
+-- one that failed
+pub failed_holds : {K T : Type 0} {P : Type 0} (k : Ghosts K) (a b : K) (f : KeepFault) → StaysBy {T = T} k a b (Err f) → P → HoldsUnless k a b P
+failed_holds k a b f rest is = record {
+  honest = rest.honest;
+  opened = λ h was not. absurd (not is);
+  counted = λ not. absurd (not is);
+  never_less = rose_least (k.faults a) (k.faults b) rest.count.err;
+}
+
+-- nothing was asked
+pub asked_nothing : {K P : Type 0} (k : Ghosts K) (a : K) → HoldsUnless k a a P
+asked_nothing k a = record { honest = λ is. is; opened = λ is was not. was; counted = λ not. refl; never_less = omega arith }
 
 module _ {K : Type 0} {k : Ghosts K} where
   -- one call after another

@@ -1,44 +1,42 @@
-use Rattle.std.proofs.Common.{◌≡◌, ◌∙◌, Bool, ap, codes, refl}
+use Rattle.std.proofs.Common.{rules, ◌≡◌, codes, ◌≢◌, ◌⊎◌, ◌≤◌, ℕ, List, [], length, Err, IfErr, IfOk, IsFalse, IsTrue, OnErr, OnOk, ◌+◌, ◌-◌, ◌*◌, ◌<◌, ◌/◌, ◌%◌, Bool, true, false, nat_eq, nat_lt, ◌∷◌, ◌++◌, slice_index_or, slice_set, bit_and, bit_or, Fits, w8, w32, w64, Bor, MutBor}
 use Rattle.sigtext.specs.Bytes.{same_bytes}
-use Rattle.wire.specs.Answers.{answer_text}
-use Rattle.wire.specs.Answers as said
+use Rattle.sigtext.specs.Counts.{Rose}
+use Rattle.sigtext.specs.Limits.{most_body}
+use Rattle.sigtext.specs.Request.{Request}
+use Rattle.boxes.specs.State.{State}
+use Rattle.keeper.specs.Keeping.{KeepsStaged}
 use Rattle.wire.specs.Messages.{request_in}
-use Rattle.wire.specs.Shown.{said_of}
-use Rattle.office.specs.Answering.{accepts, shown}
-use Rattle.office.specs.Crashes.{unchanged}
-use Rattle.office.proofs.Alikeness.{the_answer}
-use Rattle.office.proofs.Answered.{is_again, refused_text}
+use Rattle.office.specs.Admitted.{IsAdmitted}
+use Rattle.office.specs.Alike.{AreAlike}
+use Rattle.office.specs.Answering.{is_head}
+use Rattle.office.specs.Crashes.{AddsAsked, AddsStanding, Endures, IsAsked, RefusedLasts}
+use Rattle.office.specs.Foreseeing.{AreStaged, Foresees, IsForeseen, IsPutting, IsReadOf, IsUpload}
+use Rattle.office.specs.Offices.{IsTryAgain, IsAnswered, IsTheAnswer}
+use Rattle.office.specs.Premise.{EndsUnstaged, HoldsUnless, IsFault, IsGivenUp, StaysUnstaged, WasKept}
+use Rattle.office.specs.Readable.{IsReadable}
+use Rattle.office.specs.Replying.{IsReplied, IsNoRefusal}
 use Rattle.office.proofs.office.Office.answer.Goals as goal
 
-pub returns-in-Ok-clause-answers : goal.returns-in-Ok-clause-answers
-returns-in-Ok-clause-answers g c s kept other =
-    let x = c.in-Ok.ensures.replies s kept in
-    let head : c.eq-is_head.result ≡ same_bytes c.args.message.now.method.now (codes "HEAD") = c.eq-is_head.ensures ∙ ap (same_bytes c.args.message.now.method.now) c.text.ensures in (
-      x.1,
-      x.3,
-      record {
-        reply = shown x.0;
-        replies = accepts x.0 x.1 x.2;
-        is = ap (λ (b : Bool). answer_text b (said_of c.in-Ok.reply)) head ∙ ap (answer_text (same_bytes c.args.message.now.method.now (codes "HEAD"))) x.4;
-      },
-    )
+-- src/requests/answering.rt:256:13
+pub returns-then-is_err-clause-readable : goal.returns-then-is_err-clause-readable
+returns-then-is_err-clause-readable g c = ?
 
-pub returns-in-Err-clause-answers : goal.returns-in-Err-clause-answers
-returns-in-Err-clause-answers g c s kept other =
-    let q = c.in-Err.refusal in
-    let fails = c.in-Err.ensures.replies s kept (λ again. other (is_again c.refused.result q c.refused.ensures.reply again)) in
-    let head : c.eq-is_head.result ≡ same_bytes c.args.message.now.method.now (codes "HEAD") = c.eq-is_head.ensures ∙ ap (same_bytes c.args.message.now.method.now) c.text.ensures in
-    let text = c.refused.ensures.text ∙ ap (λ (b : Bool). answer_text b (said.Refused q)) head in
-    let lasts = unchanged refl ((c.in-Err.ensures.crash s kept).1 (λ again. other (is_again c.refused.result q c.refused.ensures.reply again))) in
-    (s, record { means = record { meant = c.in-Err.ensures.same s kept.means; lasts = lasts }; sound = kept.sound }, refused_text s (request_in c.args.message.now) c.args.now c.refused.result q text fails)
+-- src/requests/answering.rt:233:5
+pub returns-clause-answers : goal.returns-clause-answers
+returns-clause-answers g c = ?
 
-pub returns-in-Err-clause-crash : goal.returns-in-Err-clause-crash
-returns-in-Err-clause-crash g c s kept again = (c.in-Err.ensures.crash s kept).0
+-- src/requests/answering.rt:233:5
+pub returns-clause-alike : goal.returns-clause-alike
+returns-clause-alike g c = ?
 
-pub returns-in-Ok-clause-alike : goal.returns-in-Ok-clause-alike
-returns-in-Ok-clause-alike g c s other kept alike =
-    the_answer _ s (request_in c.args.message.now) other c.args.now _ alike (returns-in-Ok-clause-answers g c s kept)
+-- src/requests/answering.rt:233:5
+pub returns-clause-readable : goal.returns-clause-readable
+returns-clause-readable g c = ?
 
-pub returns-in-Err-clause-alike : goal.returns-in-Err-clause-alike
-returns-in-Err-clause-alike g c s other kept alike =
-    the_answer _ s (request_in c.args.message.now) other c.args.now _ alike (returns-in-Err-clause-answers g c s kept)
+-- src/requests/answering.rt:233:5
+pub returns-clause-rest : goal.returns-clause-rest
+returns-clause-rest g c = ?
+
+-- src/requests/answering.rt:233:5
+pub returns-clause-crash : goal.returns-clause-crash
+returns-clause-crash g c = ?
