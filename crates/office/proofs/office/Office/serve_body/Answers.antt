@@ -1,5 +1,4 @@
-use Rattle.std.proofs.Common.{◌≡◌, inl, inr, refl}
-use Rattle.wire.specs.Feeds.{left, reader_of}
+use Rattle.std.proofs.Common.{◌≡◌, refl}
 use Rattle.office.specs.Connections.{MayGiveUp}
 use Rattle.office.specs.Premise.{IsFault}
 use Rattle.office.specs.declared.connections.handling.Handled.TheVariants as handled

@@ -1,11 +1,9 @@
 use Rattle.std.proofs.lemmas.Bool.{both_ways}
-use Rattle.std.proofs.Common.{◌≡◌, ◌∙◌, Err, List, ℕ, [], ap, map, subst, take}
+use Rattle.std.proofs.Common.{◌≡◌, ◌∙◌, List, ℕ, [], ap, map, subst, take}
 use Rattle.sigtext.specs.Fields.{header_of}
 use Rattle.sigtext.specs.Request.{Request}
-use Rattle.sigtext.specs.declared.refusal.Refusal.TheVariants as rule
 use Rattle.wire.specs.Feeds.{left, reader_of}
 use Rattle.wire.specs.Framing.{request_of}
-use Rattle.wire.specs.Whole.{IsOpening}
 use Rattle.office.specs.Answering.{is_head}
 use Rattle.office.specs.Foreseeing.{Foresees}
 use Rattle.office.specs.Premise.{IsGivenUp}

@@ -1,5 +1,5 @@
-use Rattle.std.proofs.Common.{Ok, ap, ◌∙◌, rules, ◌++◌}
-use Rattle.wire.specs.Feeds.{left, reader_of}
+use Rattle.std.proofs.Common.{Ok, ap, ◌∙◌, ◌++◌}
+use Rattle.wire.specs.Feeds.{reader_of}
 use Rattle.wire.proofs.Skips.{counts_none}
 use Rattle.sigv4.specs.Hashers.{ShaHolds}
 use Rattle.office.proofs.KeeperCalls.{on_ok, quiet_asked, quiet_less, quiet_then}
