@@ -1,5 +1,5 @@
 -- What became of a message, by what was sent.
-use Rattle.std.proofs.Common.{◌≡◌, ℕ, Bool, false, List, [], Option, refl, ap, subst, ◌∙◌, ⊎_elim}
+use Rattle.std.proofs.Common.{◌≡◌, ◌≢◌, ℕ, Bool, false, List, [], Option, Result, Ok, Err, refl, ap, subst, ◌∙◌, ⊎_elim, inl, inr}
 use Rattle.std.specs.Io.KnownBytes.{Appends}
 use Rattle.sigtext.specs.declared.refusal.Refusal.TheVariants as rule
 use Rattle.httparse.specs.Grammar.{RequestHead}
@@ -17,12 +17,19 @@ use Rattle.wire.specs.Shown.{said_of, whole_text}
 use Rattle.office.specs.declared.connections.handling.Handled.{Handled}
 use Rattle.office.specs.declared.connections.handling.Handled.TheVariants.{Answered, GaveUp, Broken}
 use Rattle.office.specs.Crashes.{Endures}
-use Rattle.office.specs.Handling.{Handles, answered, gave_up_at, broke, broke_giving_up_at}
+use Rattle.office.specs.Foreseeing.{Foresees, IsReadOf}
+use Rattle.office.specs.declared.requests.foreseeing.Prospect.{Prospect}
+use Rattle.sigtext.specs.declared.refusal.Refusal.{Refusal}
+use Rattle.office.specs.Connections.{MayGiveUp}
+use Rattle.office.specs.Handling.{Handles, MayBeGivenUp, answered, gave_up_at, broke, broke_giving_up_at}
 use Rattle.office.specs.Offices.{IsTryAgain, IsAnswered}
 use Rattle.office.specs.Premise.{HoldsUnless, HoldsUp, IsLeft}
 use Rattle.office.specs.Readable.{IsReadable}
 use Rattle.office.specs.Sent.{IsSent}
 use Rattle.office.specs.Sessions.{closing}
+use Rattle.office.specs.Stepping.{IsClosed}
+use Rattle.office.specs.declared.connections.session.SessionEnd.{SessionEnd}
+use Rattle.office.specs.declared.connections.session.SessionEnd.TheVariants.{Ended, Truncated, Refused, Limit, ReadFault, WriteFault}
 use Rattle.office.proofs.Endurance.{through}
 
 closes_always : (is_head : Bool) → answer_text is_head (said.Refused rule.TryAgain) ≡ closing rule.TryAgain
@@ -35,6 +42,21 @@ again_written a e = ap (λ r. answer_text a.is_head (said_of r)) e ∙ closes_al
 
 held_up : {K : Type 0} {k : Ghosts K} {keeper keeper' : K} {gave_up : Type 0} → HoldsUnless k keeper keeper' gave_up → k.is_honest keeper' → (gave_up → ⊥) → HoldsUp k false keeper keeper'
 held_up rest honest other = (rest.counted other, λ was. rest.opened honest was other)
+
+-- refusal 40 was written, or its writing broke off
+pub sent_again : (old new : Option (List ℕ)) (a : Answer) (h : Handled) → IsSent old new a h → IsTryAgain a → MayBeGivenUp h
+sent_again old new a Answered sent again = absurd (sent.0 again)
+sent_again old new a GaveUp sent again = inl refl
+sent_again old new a Broken sent again = inr refl
+
+-- a connection that refusal 40 closed
+pub closed_again : (old new : Option (List ℕ)) (e : SessionEnd) → IsClosed old new rule.TryAgain e → MayGiveUp e
+closed_again old new (Refused number) closed = inl (ap Refused closed.0)
+closed_again old new WriteFault closed = inr (inl refl)
+closed_again old new Ended closed = absurd closed
+closed_again old new Truncated closed = absurd closed
+closed_again old new Limit closed = absurd closed
+closed_again old new ReadFault closed = absurd closed
 
 -- a message whose moment was taken
 pub handled_at : {C K : Type 0} (gives : C → ℕ → C → Type 0) (clock clock' : C) (old new : Option (List ℕ)) (k : Ghosts K) (keeper keeper' : K) (s : State) (r : Request) (now : ℕ) (a : Answer) (h : Handled)
@@ -60,3 +82,11 @@ same_request text found head method target headers has_length body is_found is_h
     ∙ ap (λ (x : List ℕ). record { method = found.method; target = x; headers = headers; has_length = has_length; body = body }) b
     ∙ ap (λ (x : List Header). record { method = found.method; target = found.target; headers = x; has_length = has_length; body = body }) c
     ∙ ap (λ (x : RequestHead). request_of x has_length body) once
+
+-- what was foreseen of a request tells that it is readable, unless it was refused
+pub read_of : (s : State) (r : Request) (foreseen : Result Prospect Refusal) → Foresees s r foreseen → foreseen ≢ Err rule.TryAgain → IsReadOf r foreseen
+read_of s r (Ok f) foresees other = (foresees.parts, foresees.link)
+read_of s r (Err q) foresees other = λ is. absurd (other (ap Err is))
+
+pub read_given_up : (r : Request) (foreseen : Result Prospect Refusal) → foreseen ≡ Err rule.TryAgain → IsReadOf r foreseen → IsReadable r
+read_given_up r foreseen is read = subst (IsReadOf r) is read refl

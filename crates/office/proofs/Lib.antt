@@ -28,6 +28,8 @@ pub mod Standing
 pub mod Placing
 pub mod Begun
 pub mod BodySteps
+pub mod KeeperCalls
+pub mod Stagings
 mod Foreseen
 mod Staged
 mod Unstaged

@@ -24,7 +24,8 @@ use Rattle.office.specs.Connections.{IsKnown, IsStream, Serves}
 use Rattle.office.specs.Crashes.{AddsStanding, never_changed}
 use Rattle.office.proofs.Endurance.{still, then_through, through_after}
 use Rattle.office.specs.Handling.{Handles, answered, gave_up_at, broke, broke_giving_up_at}
-use Rattle.office.specs.Premise.{HoldsUp, IsLeft}
+use Rattle.office.specs.Premise.{HoldsUp, IsLeft, WasKept}
+use Rattle.office.proofs.KeeperCalls.{Quiet}
 use Rattle.office.specs.Sessions.{HasBegunMessage, Session, MayGiveUpReading}
 use Rattle.office.specs.Sessions as session
 use Rattle.office.specs.Stepping.{Goes, IsClosed, Steps, ToCome}
@@ -136,13 +137,9 @@ serves_none gives left reader output clock k keeper s = record {
 -- ---- steps with a message
 
 module _ {C K : Type 0} (gives : C → ℕ → C → Type 0) (p : Place) (left reader output output' : Option (List ℕ)) (clock clock' : C) (k : Ghosts K) (keeper keeper' : K) (s : State)
-    (text : List ℕ) (has_length : Bool) (body waits : List ℕ) (m : IsNextMessage text has_length body left (prepend_known waits reader)) (given : List ℕ) (same_body : given ≡ body) where
+    (text : List ℕ) (has_length : Bool) (body waits : List ℕ) (m : IsNextMessage text has_length body left (prepend_known waits reader)) where
   abbrev r : Request
   r = request_of m.opens.head has_length body
-
-  -- as it was handled
-  of_body : (h : Handled) → Handles gives clock clock' output output' k keeper keeper' s (request_of m.opens.head has_length given) h → Handles gives clock clock' output output' k keeper keeper' s r h
-  of_body h handles = subst (λ (b : List ℕ). Handles gives clock clock' output output' k keeper keeper' s (request_of m.opens.head has_length b) h) same_body handles
 
   stands : (more : List ℕ) → Next ((text ++ body) ++ more) (Message r) more
   stands more = subst (λ (t : List ℕ). Next t (Message r) more) (sym (append_assoc text body more)) (message_stands text body more has_length m.opens)
@@ -150,12 +147,12 @@ module _ {C K : Type 0} (gives : C → ℕ → C → Type 0) (p : Place) (left r
   all_read : Consumes left reader ((text ++ body) ++ waits)
   all_read = consumes_more left (prepend_known waits reader) reader (text ++ body) waits m.taken (all_taken reader waits)
 
-  answered_done : Handles gives clock clock' output output' k keeper keeper' s r Answered → Steps gives p left (prepend_known waits reader) reader output output' clock clock' k keeper keeper' s None
-  answered_done (answered now written after told appends same lasts keeps answers) =
+  pub answered_step : Handles gives clock clock' output output' k keeper keeper' s r Answered → Steps gives p left (prepend_known waits reader) reader output output' clock clock' k keeper keeper' s None
+  answered_step (answered now written after told appends same lasts keeps answers) =
       (after, keeps, record { front = text ++ body; request = r; moment = now; text = written; taken = m.taken; message = stands; told = told; written = appends; answers = answers; held = same; lasts = lasts })
 
-  gave_up_done : Handles gives clock clock' output output' k keeper keeper' s r GaveUp → Steps gives p left (prepend_known waits reader) reader output output' clock clock' k keeper keeper' s (Some (Refused 40))
-  gave_up_done (gave_up_at now told appends less readable keeps) = (
+  pub gave_up_step : Handles gives clock clock' output output' k keeper keeper' s r GaveUp → Steps gives p left (prepend_known waits reader) reader output output' clock clock' k keeper keeper' s (Some (Refused 40))
+  gave_up_step (gave_up_at now told appends less readable keeps) = (
     s,
     keeps,
     λ n _. record {
@@ -172,8 +169,8 @@ module _ {C K : Type 0} (gives : C → ℕ → C → Type 0) (p : Place) (left r
     },
   )
 
-  broken_done : Handles gives clock clock' output output' k keeper keeper' s r Broken → Steps gives p left (prepend_known waits reader) reader output output' clock clock' k keeper keeper' s (Some WriteFault)
-  broken_done (broke now written front after told appends begins same lasts keeps answers) =
+  pub broken_step : Handles gives clock clock' output output' k keeper keeper' s r Broken → Steps gives p left (prepend_known waits reader) reader output output' clock clock' k keeper keeper' s (Some WriteFault)
+  broken_step (broke now written front after told appends begins same lasts keeps answers) =
       let rest = rest_of (prepend_known waits reader) in (
         after,
         keeps,
@@ -190,7 +187,7 @@ module _ {C K : Type 0} (gives : C → ℕ → C → Type 0) (p : Place) (left r
           session = session.write_failed n ((text ++ body) ++ rest) rest s after r now written front (stands rest) answers begins;
         },
       )
-  broken_done (broke_giving_up_at now front told appends begins less readable keeps) = (
+  broken_step (broke_giving_up_at now front told appends begins less readable keeps) = (
     s,
     keeps,
     λ n _. record {
@@ -207,18 +204,6 @@ module _ {C K : Type 0} (gives : C → ℕ → C → Type 0) (p : Place) (left r
     },
   )
 
-  pub answered_step : Handles gives clock clock' output output' k keeper keeper' s (request_of m.opens.head has_length given) Answered
-      → Steps gives p left (prepend_known waits reader) reader output output' clock clock' k keeper keeper' s None
-  answered_step handles = answered_done (of_body Answered handles)
-
-  pub gave_up_step : Handles gives clock clock' output output' k keeper keeper' s (request_of m.opens.head has_length given) GaveUp
-      → Steps gives p left (prepend_known waits reader) reader output output' clock clock' k keeper keeper' s (Some (Refused 40))
-  gave_up_step handles = gave_up_done (of_body GaveUp handles)
-
-  pub broken_step : Handles gives clock clock' output output' k keeper keeper' s (request_of m.opens.head has_length given) Broken
-      → Steps gives p left (prepend_known waits reader) reader output output' clock clock' k keeper keeper' s (Some WriteFault)
-  broken_step handles = broken_done (of_body Broken handles)
-
 -- ---- steps without a message
 
 -- what a session that ends without a message leaves of the keeper
@@ -226,6 +211,21 @@ pub record Leaves {K : Type 0} (k : Ghosts K) (old new : K) (s : State) (gave_up
   pub keeps : IsLeft (k.means new) s
   pub held : HoldsUp k gave_up old new
   pub adds : AddsStanding k old new s
+
+-- calls that leave the state
+pub leaves_quiet : {K : Type 0} (k : Ghosts K) (old new : K) (s : State) (gave_up : Type 0) → Quiet k old new gave_up → WasKept k old new s → (gave_up → ⊥) → Leaves k old new s false
+leaves_quiet k old new s gave_up quiet kept other = record {
+  keeps = record { means = quiet.means s kept.means; sound = kept.sound };
+  held = (quiet.rest.counted other, λ was. quiet.rest.opened kept.is_honest was other);
+  adds = quiet.crash s kept.means kept.is_honest;
+}
+
+pub leaves_given_up : {K : Type 0} (k : Ghosts K) (old new : K) (s : State) (gave_up : Type 0) → Quiet k old new gave_up → WasKept k old new s → Leaves k old new s true
+leaves_given_up k old new s gave_up quiet kept = record {
+  keeps = record { means = quiet.means s kept.means; sound = kept.sound };
+  held = quiet.rest.never_less;
+  adds = quiet.crash s kept.means kept.is_honest;
+}
 
 -- the keeper was not called
 pub leaves_still : {K : Type 0} (k : Ghosts K) (keeper : K) (s : State) (gave_up : Bool) → IsLeft (k.means keeper) s → Leaves k keeper keeper s gave_up
@@ -312,6 +312,11 @@ pub record Before {K : Type 0} (k : Ghosts K) (old new : K) (s : State) : Type 0
   pub faults : k.faults new ≡ k.faults old
   pub open_still : k.is_open old → k.is_open new
   pub adds : AddsStanding k old new s
+
+-- calls that leave the state, and did not give up
+pub before_quiet : {K : Type 0} (k : Ghosts K) (a b : K) (s : State) (gave_up : Type 0) → Quiet k a b gave_up → (gave_up → ⊥) → k.means a s → k.is_honest b → Before k a b s
+before_quiet k a b s gave_up quiet other means honest =
+    record { faults = quiet.rest.counted other; open_still = λ was. quiet.rest.opened honest was other; adds = quiet.crash s means honest }
 
 before_held : {K : Type 0} (k : Ghosts K) (a b c : K) (s : State) (gave_up : Bool) → Before k a b s → HoldsUp k gave_up b c → HoldsUp k gave_up a c
 before_held k a b c s gave_up x held = holds_more k a b c gave_up (x.faults, x.open_still) held

@@ -1,5 +1,5 @@
 -- What came where no whole message did.
-use Rattle.std.proofs.Common.{◌≡◌, ◌<◌, ℕ, Bool, List, [], ◌++◌, length, Option, Some, Result, Err, inl, inr, arith, refl, ap, subst, ◌∙◌}
+use Rattle.std.proofs.Common.{◌≡◌, ◌<◌, ℕ, Bool, List, [], ◌++◌, length, Option, Result, Err, inl, inr, arith, refl, ap, subst, ◌∙◌}
 use Rattle.std.specs.Io.KnownBytes.{Consumes, Keeps, prepend_known}
 use Rattle.std.proofs.KnownBytes.{Consumes-kept, prepend_known-nil}
 use Rattle.wire.specs.Feeding.{AnnouncesBody, Awaits, a_body, Finds, GivesStep, told, Opens}

@@ -59,9 +59,11 @@ BreaksOffWithin n fault.Write old reader = ⊥
 abbrev pub TakesBody : {R : Type 0} → (R → Option (List ℕ)) → ℕ → Feed R → Feed R → List ℕ → Type 0
 TakesBody remaining n old new body = (length body ≡ n) × (place_of new ≡ place.Between) × Consumes (left remaining old) (left remaining new) body
 
--- the stream ended in the body of n bytes that was open
+-- the stream ended in the body of n bytes that was open, of which these were given
 abbrev pub LacksBody : {R : Type 0} → (R → Option (List ℕ)) → ℕ → Feed R → Feed R → Type 0
-LacksBody remaining n old new = (place_of new ≡ place.Over) × (0 < n) × IfSome (left remaining old) (λ rest. length rest < n)
+LacksBody remaining n old new =
+    (place_of new ≡ place.Over) × (0 < n) × IfSome (left remaining old) (λ rest. length rest < n)
+    × (given : List ℕ) × Consumes (left remaining old) (remaining (reader_of new).inner) given
 
 -- reading broke off in the body of n bytes that was open
 abbrev pub BreaksOffBody : {R : Type 0} → (R → Option (List ℕ)) → ℕ → Feed R → Feed R → WireFault → Type 0

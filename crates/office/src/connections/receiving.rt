@@ -49,17 +49,36 @@ fn pass_over<R: Read>(feed: &mut Feed<'_, R>, size: usize) -> Received
 }
 
 impl<K: Keeper> Office<K> {
-    ghost use Rattle.std.specs.Prelude.{◌≡◌, ◌≢◌, ◌<◌, ℕ, List, [], length, IsTrue, IsFalse, OnErr, OnOk};
+    ghost use Rattle.std.specs.Prelude.{◌≡◌, ◌≢◌, ◌<◌, ◌≤◌, ℕ, List, [], ◌++◌, length, IsTrue, IsFalse, OnErr, OnOk};
     ghost use Rattle.std.specs.Io.KnownBytes.{Consumes};
     ghost use Rattle.sigtext.specs.Counts.{Rose};
     ghost use Rattle.boxes.specs.State.{State};
+    ghost use Rattle.keeper.specs.Bound.{StaysBy};
     ghost use Rattle.keeper.specs.Keeping.{KeepsStaged};
+    ghost use Rattle.sigtext.specs.Bytes.{AreBytes};
+    ghost use Rattle.sigv4.specs.Hashers.{ShaHolds};
     ghost use Rattle.wire.specs.Feeds.{SameReader, left, place_of, reader_of};
     ghost use Rattle.wire.specs.Whole.{LacksBody, TakesBody};
     ghost use Rattle.wire.specs.declared.feed.Place.TheVariants as stands;
     ghost use Rattle.office.specs.Crashes.{AddsStanding};
     ghost use Rattle.office.specs.Premise.{EndsUnstaged, HoldsUnless, IsFault, StaysUnstaged};
     ghost use Rattle.office.specs.Receiving.{StagesBody};
+
+    // Stages a piece of a body, and feeds it to the hasher.
+    fn stage_piece(&mut self, bytes: &[u8], sha: &mut Sha) -> Result<(), KeepFault>
+        requires some { 1 ≤ length bytes.now }
+        requires short { length bytes.now ≤ 65536 }
+        ensures added { (staged : List ℕ) → K.stages self.old.keeper staged
+            → OnOk result (K.stages self.new.keeper (staged ++ bytes.now)) }
+        ensures hashed { (fed : List ℕ) → ShaHolds sha.old fed
+            → OnOk result (ShaHolds sha.new (fed ++ bytes.now)) }
+        ensures octets { AreBytes bytes.now }
+        ensures rest { StaysBy K.Keeper self.old.keeper self.new.keeper result }
+    {
+        self.keeper.stage(bytes)?;
+        sha.update(bytes);
+        Ok(())
+    }
 
     // Stages the body that is open, of which so many bytes are to come, piece after piece, and takes its digest on the way.
     // The first piece that the keeper refuses ends the reading.
@@ -93,10 +112,9 @@ impl<K: Keeper> Office<K> {
         'pieces: loop {
             match feed.piece() {
                 Ok(Piece::Bytes(bytes)) => {
-                    if self.keeper.stage(bytes).is_err() {
+                    if self.stage_piece(bytes, &mut sha).is_err() {
                         return Received::GaveUp;
                     }
-                    sha.update(bytes);
                 }
                 Ok(Piece::Done) => return Received::Whole(sha.finish()),
                 Ok(Piece::Refused(_)) => return Received::Lacking,

@@ -10,7 +10,7 @@ use crate::clocks::Clock;
 use crate::office::Office;
 use crate::requests::announced::Announced;
 use crate::requests::answering::asks_head;
-use crate::requests::foreseeing::{Body, Prospect, is_upload};
+use crate::requests::foreseeing::{Body, Prospect, is_given_up, is_upload};
 use keeper::Keeper;
 use sigtext::{Field, Refusal};
 use std::io::{Read, Write};
@@ -62,14 +62,14 @@ impl<K: Keeper> Office<K> {
     ) -> Handled
         ensures handled { (s : State) (r : Request)
             → WasKept K.Keeper self.old.keeper self.new.keeper s
-            → Foresees s r foreseen → (foreseen ≢ Err Refusal.TryAgain) → to_head ≡ is_head r
-            → (IsUpload foreseen → AreStaged K.Keeper self.old.keeper r.body body.now)
+            → Foresees s r foreseen.entry → (foreseen.entry ≢ Err Refusal.TryAgain) → to_head ≡ is_head r
+            → (IsUpload foreseen.entry → AreStaged K.Keeper self.old.keeper r.body body.now)
             → Handles C.now_gives clock.old clock.new
             (W.contents writer.old.inner) (W.contents writer.new.inner)
             K.Keeper self.old.keeper self.new.keeper s r result }
         ensures fault { result ≡ Handled.Broken → Rose writer.old.faults writer.new.faults }
         ensures clean { (result ≢ Handled.Broken) → writer.new.faults ≡ writer.old.faults }
-        ensures unstaged { IsUpload foreseen ⊎ K.stages self.old.keeper []
+        ensures unstaged { IsUpload foreseen.entry ⊎ K.stages self.old.keeper []
             → EndsUnstaged K.Keeper self.old.keeper self.new.keeper }
         ensures rest { HoldsUnless K.Keeper self.old.keeper self.new.keeper (MayBeGivenUp result) }
     {
@@ -113,7 +113,7 @@ impl<K: Keeper> Office<K> {
         ensures goes_on { IfNone result (place_of feed.new ≡ stands.Between) }
         ensures steps { (s : State) (p : Place) (known : Option (List ℕ))
             → WasKept K.Keeper self.old.keeper self.new.keeper s
-            → IsExpected s size known (left R.remaining feed.old) foreseen to_head
+            → IsExpected s size known (left R.remaining feed.old) foreseen.entry to_head
             → Steps C.now_gives p known (left R.remaining feed.new)
             (R.remaining (reader_of feed.new).inner)
             (W.contents writer.old.inner) (W.contents writer.new.inner) clock.old clock.new
@@ -190,13 +190,12 @@ impl<K: Keeper> Office<K> {
             has_length,
             length: size,
         };
-        match self.foresee(&message) {
-            Err(Refusal::TryAgain) => Some(close(Refusal::TryAgain, writer)),
-            foreseen => {
-                let to_head = asks_head(&message);
-                self.serve_body(feed, foreseen, to_head, size, writer, clock)
-            }
+        let foreseen = self.foresee(&message);
+        if is_given_up(&foreseen) {
+            return Some(close(Refusal::TryAgain, writer));
         }
+        let to_head = asks_head(&message);
+        self.serve_body(feed, foreseen, to_head, size, writer, clock)
     }
 
     // Reads the next message of a feed and answers it; or tells how the session ended.
@@ -222,11 +221,13 @@ impl<K: Keeper> Office<K> {
     {
         let mut text = [0; MOST_HEAD];
         match read_opening(feed, &mut text) {
-            Ok(Came::Head {
-                size,
-                has_length,
-                length,
-            }) => self.serve_head(feed, &text[..size], has_length, length, writer, clock),
+            Ok(
+                Came::Head {
+                    size,
+                    has_length,
+                    length,
+                },
+            ) => self.serve_head(feed, &text[..size], has_length, length, writer, clock),
             Ok(Came::Refused(refusal)) => Some(close(refusal, writer)),
             Ok(Came::End) => Some(SessionEnd::Ended),
             Ok(Came::Truncated) => Some(SessionEnd::Truncated),

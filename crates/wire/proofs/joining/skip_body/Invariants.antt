@@ -1,4 +1,4 @@
-use Rattle.std.proofs.Common.{◌≡◌, ◌-◌, length}
+use Rattle.std.proofs.Common.{◌≡◌}
 use Rattle.wire.specs.Skipping.{HasSkipped, to_come}
 use Rattle.wire.proofs.joining.skip_body.Given as goal
 
