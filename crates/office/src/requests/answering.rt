@@ -75,12 +75,7 @@ impl<K: Keeper> Office<K> {
     }
 
     // What a message is replied whose body came, at its moment.
-    fn finish(
-        &mut self,
-        prospect: Prospect<'_>,
-        body: &Body,
-        now: Moment,
-    ) -> Result<Reply, Refusal>
+    fn finish(&mut self, prospect: Prospect<'_>, body: &Body, now: Moment) -> Result<Reply, Refusal>
         ensures replies { (s : State) (r : Request)
             → WasKept K.Keeper self.old.keeper self.new.keeper s
             → IsForeseen s r prospect.entry
