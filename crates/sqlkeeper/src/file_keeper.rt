@@ -119,26 +119,15 @@ fn is_past_full(change: &Change<'_>) -> bool
     }
 }
 
-// Behind a file that was set nothing is staged.
-fn emptied(
-    staged: &mut Vec<u8>,
-    alloc: Global,
-    change: &Change<'_>,
-    answer: Result<(), KeepFault>,
-) -> Result<(), KeepFault>
-    ensures same { result ≡ answer }
-    ensures empty { TakesStaged change.now → OnOk result (staged.new.items ≡ []) }
+// Behind a change that sets a file nothing is staged, whether it was made or not.
+fn unstage(staged: &mut Vec<u8>, alloc: Global, change: &Change<'_>)
+    ensures empty { TakesStaged change.now → staged.new.items ≡ [] }
     ensures kept { (TakesStaged change.now → ⊥) → staged.new ≡ staged.old }
 {
     match change {
-        Change::SetFile(_) => {
-            if answer.is_ok() {
-                *staged = Vec::new(alloc);
-            }
-        }
+        Change::SetFile(_) => *staged = Vec::new(alloc),
         Change::Desk(_) => {}
     }
-    answer
 }
 
 impl<S: Alter> SqlKeeper<S> {
@@ -526,6 +515,7 @@ impl<S: Alter> Keeper for SqlKeeper<S> {
 
     fn apply(&mut self, change: &Change<'_>) -> Result<(), KeepFault> {
         if is_past_full(change) {
+            self.staged = Vec::new(self.alloc);
             self.faults = self.faults.saturating_add(1);
             return Err(KeepFault::Full);
         }
@@ -534,7 +524,8 @@ impl<S: Alter> Keeper for SqlKeeper<S> {
             &mut self.faults,
             apply_change(&mut self.conn, change, &self.staged),
         );
-        emptied(&mut self.staged, self.alloc, change, answer)
+        unstage(&mut self.staged, self.alloc, change);
+        answer
     }
 
     ghost one = { λ k s t honest opened a b. one_kept _ s t honest opened a b };
