@@ -591,7 +591,7 @@ def test_allowance(drop, count):
 def test_pieces(drop, count):
     """Files by their sizes, each with the pieces that it is owed."""
     file = limited(drop, "pieces", tables.Box("in", quota=10**12, max_files=9))
-    for number, size in enumerate([10**6, 65536, 65537, 1048576, 0, 1], 1):
+    for number, size in enumerate([10**6, 65536, 65537, 1048577, 8388608, 0, 1], 1):
         data = b"a" * size
         path = f"/in/{size}".encode()
         count.add(f"{size} bytes", difference(drop.replay(file, put(path, data)), answered(receipt(number, data))))
@@ -600,8 +600,8 @@ def test_pieces(drop, count):
         owed = [(part, min(tables.PIECE, size - at)) for part, at in enumerate(range(0, size, tables.PIECE))]
         count.add(f"pieces of {size} bytes", None if found == owed else f"{found} and not {owed}")
         count.add(f"GET {size} bytes", difference(drop.replay(file, get(path)), answered(fetched(number, data))))
-    found = drop.replay(file, put(b"/in/more", b"a" * 1048577))
-    count.add("1048577 bytes", difference(found, answered(answer(5))))
+    found = drop.replay(file, put(b"/in/more", b"a" * 8388609))
+    count.add("8388609 bytes", difference(found, answered(answer(5))))
 
 
 def test_streams(drop, count):

@@ -196,7 +196,7 @@ def receipt_breaks():
                  "CAST(x'ff2e747874' AS TEXT)", "'a' || char(10) || '.txt'"]:
         yield set_to("receipts", "name", name, "number = 3")
     yield set_to("receipts", "box", "'begins.1-2'", "number = 3")
-    for length in [-1, 1048577, 2**62]:
+    for length in [-1, 8388609, 2**62]:
         yield set_to("receipts", "length", length, "number = 3")
     for digest in ["x''", f"x'{'00' * 31}'", f"x'{'00' * 33}'"]:
         yield set_to("receipts", "digest", digest, "number = 3")
