@@ -604,6 +604,22 @@ def test_pieces(drop, count):
     count.add("8388609 bytes", difference(found, answered(answer(5))))
 
 
+def test_staged(drop, count):
+    """What was left in the table `staged` is gone once the file was opened, and the office is what it was."""
+    whole = drop.filled("staged-whole")
+    owed = drop.replay(whole, get(b"/in/a.txt"))
+    for number, left in enumerate([
+        ["INSERT INTO staged VALUES (0, x'616263')"], [f"INSERT INTO staged VALUES ({part}, zeroblob(65536))" for part in range(128)],
+        ["INSERT INTO staged VALUES (-5, x'')", "INSERT INTO staged VALUES (9223372036854775807, x'00')"],
+    ]):
+        file = drop.path(f"staged-{number}")
+        shutil.copy(whole, file)
+        before = tables.dump(file)
+        tables.run(file, left)
+        count.add(f"{len(left)} rows staged", difference(drop.replay(file, get(b"/in/a.txt")), owed))
+        count.add(f"{len(left)} rows staged: emptied", None if tables.dump(file) == before else "the tables are others")
+
+
 def test_streams(drop, count):
     """Several streams in one run: each is a connection, over the office as the one before left it."""
     for name in ["file", "memory"]:
@@ -760,7 +776,7 @@ def test_changed(drop, count):
 # Those that need no office that opens; and the others.
 CLOSED = [test_umasks, test_made, test_malformed_keys, test_secret_files, test_malformed_secret_files, test_init_over,
           test_init_that_fails, test_words, test_link_faults, test_replay_faults]
-OPEN = [test_not_offices, test_links, test_written_links, test_uploads, test_boxes, test_allowance, test_pieces, test_streams,
+OPEN = [test_not_offices, test_links, test_written_links, test_uploads, test_boxes, test_allowance, test_pieces, test_staged, test_streams,
         test_stock, test_broken, test_versions, test_cut, test_changed]
 
 
