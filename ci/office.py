@@ -604,6 +604,29 @@ def test_pieces(drop, count):
     count.add("8388609 bytes", difference(found, answered(answer(5))))
 
 
+def test_streamed(drop, count):
+    """Uploads that come in pieces: one that breaks off, one of just the quota, one byte beyond, and one of a wrong signature."""
+    boxes = [tables.Box(name, quota=8388608, max_files=5) for name in ["in", "full"]]
+    file = limited(drop, "streamed", *boxes)
+    large, full = bytes(range(250)) * 800, b"f" * 8388608
+    before = tables.dump(file)
+    found = drop.replay(file, put(b"/in/large", large)[:-50000])
+    count.add("150000 of 200000 bytes", difference(found, answered(answer(6))))
+    wrong = put(b"/in/wrong", b"w" * 1048577)
+    at = wrong.index(b"X-Amz-Signature=") + len(b"X-Amz-Signature=")
+    wrong = wrong[:at] + (b"1" if wrong[at:at + 1] == b"0" else b"0") + wrong[at + 1:]
+    count.add("1048577 bytes and a wrong signature", difference(drop.replay(file, wrong), answered(answer(21))))
+    count.add("the tables stay", None if tables.dump(file) == before else "they are others")
+    count.add("200000 bytes", difference(drop.replay(file, put(b"/in/large", large)), answered(receipt(1, large))))
+    query = "SELECT part, length(bytes) FROM pieces WHERE name = ? ORDER BY part"
+    found = tables.rows(file, query, "large")
+    count.add("their parts", difference(found, [(0, 65536), (1, 65536), (2, 65536), (3, 3392)]))
+    count.add("8388608 bytes", difference(drop.replay(file, put(b"/full/a", full)), answered(receipt(2, full))))
+    count.add("their parts", difference(tables.rows(file, query, "a"), [(part, 65536) for part in range(128)]))
+    count.add("a byte more", difference(drop.replay(file, put(b"/full/b", b"b")), answered(answer(33))))
+    count.add("the first again", difference(drop.replay(file, put(b"/full/a", full)), answered(receipt(2, full))))
+
+
 def test_staged(drop, count):
     """What was left in the table `staged` is gone once the file was opened, and the office is what it was."""
     whole = drop.filled("staged-whole")
@@ -776,8 +799,8 @@ def test_changed(drop, count):
 # Those that need no office that opens; and the others.
 CLOSED = [test_umasks, test_made, test_malformed_keys, test_secret_files, test_malformed_secret_files, test_init_over,
           test_init_that_fails, test_words, test_link_faults, test_replay_faults]
-OPEN = [test_not_offices, test_links, test_written_links, test_uploads, test_boxes, test_allowance, test_pieces, test_staged, test_streams,
-        test_stock, test_broken, test_versions, test_cut, test_changed]
+OPEN = [test_not_offices, test_links, test_written_links, test_uploads, test_boxes, test_allowance, test_pieces, test_streamed, test_staged,
+        test_streams, test_stock, test_broken, test_versions, test_cut, test_changed]
 
 
 def run_all(tests):
