@@ -1,5 +1,5 @@
 -- An office file whose table `staged` was emptied in a transaction.
-use Rattle.std.proofs.Common.{◌≡◌, inl, inr, false, IsTrue, Result, Ok, Err, OnOk, [], arith, refl, sym, ap, subst, subst₂, ◌∙◌}
+use Rattle.std.proofs.Common.{◌≡◌, inl, inr, false, IsTrue, Result, Ok, Err, OnOk, [], arith, sym, ap, subst, subst₂, ◌∙◌}
 use Rattle.std.specs.Prelude.{IfErr}
 use Rattle.sqlite_trees.specs.Tree.{Trees}
 use Rattle.sqlite.specs.declared.error.Error.{Error}
@@ -8,8 +8,8 @@ use Rattle.sqlite.specs.State.{State, HasCleanDisk, IsRolledBack, Shows, KeepsCo
 use Rattle.sqlite.specs.Steps.{FailsToCommit}
 use Rattle.boxes.specs.State.{State as Office}
 use Rattle.sqltables.specs.Schema.{v2}
-use Rattle.sqltables.specs.Tables.{tables_of, NoneStaged, IsEmptied}
-use Rattle.sqltables.specs.Means.{Holds, Means, IsOffice, IsRunning, LeavesLast}
+use Rattle.sqltables.specs.Tables.{NoneStaged, IsEmptied}
+use Rattle.sqltables.specs.Means.{Means, IsOffice, IsRunning, LeavesLast}
 use Rattle.sqltables.specs.Inside.{HasSchema}
 use Rattle.sqlaudit.specs.Opened.{SeesSame, LeavesUntouched}
 use Rattle.sqlaudit.proofs.Looking.{Begins}

@@ -1,12 +1,11 @@
 -- An office file that was looked at, and whose table `staged` was emptied then.
-use Rattle.std.proofs.Common.{◌≡◌, inl, inr, IsTrue, sym, ap, subst, subst₂, ◌∙◌}
-use Rattle.sqlite_trees.specs.Tree.{Trees}
+use Rattle.std.proofs.Common.{◌≡◌, IsTrue, sym, subst, ◌∙◌}
 use Rattle.sqlite.specs.Effect.{Database}
 use Rattle.sqlite.specs.State.{State, HasCleanDisk}
 use Rattle.boxes.specs.State.{State as Office}
 use Rattle.sqltables.specs.Schema.{v2}
 use Rattle.sqltables.specs.Tables.{NoneStaged, IsEmptied}
-use Rattle.sqltables.specs.Means.{Means, OfficeMeans, AddsOnly}
+use Rattle.sqltables.specs.Means.{Means, AddsOnly}
 use Rattle.sqltables.specs.Kept.{KeepsState}
 use Rattle.sqltables.specs.OneState.{one_kept}
 use Rattle.sqlaudit.specs.Opened.{HasOurs, LeavesUntouched, IsAtRest, AreOffice}

@@ -7,7 +7,7 @@ use Rattle.sqltables.specs.Schema.{v2}
 use Rattle.sqltables.specs.Tables.{tables_of}
 use Rattle.sqltables.specs.Means.{Pends, Holds, Means, LeavesOnly, AddsOnly, LeavesLast}
 use Rattle.sqlaudit.specs.Opened.{LeavesUntouched}
-use Rattle.sqlaudit.proofs.Looking.{Begins, as_it_is, untouched}
+use Rattle.sqlaudit.proofs.Looking.{Begins}
 use Rattle.sqlkeeper.specs.Emptying.{EmptiesStaged}
 use Rattle.sqlkeeper.proofs.Taken.{made, durable, crash, open_still}
 use Rattle.sqlkeeper.proofs.Emptied.{emptied, spared}

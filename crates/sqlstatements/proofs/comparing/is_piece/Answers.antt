@@ -5,7 +5,6 @@ use Rattle.boxes.proofs.FileTotals.{texts_alike, same_as_itself}
 use Rattle.sqlite.specs.State.{HasCleanDisk}
 use Rattle.sqlite.specs.Held.{state}
 use Rattle.boxes.specs.State.{Place}
-use Rattle.sqltables.specs.Means.{Holds}
 use Rattle.sqltables.specs.Pieces.{IsPieceAt, HasPiece}
 use Rattle.sqlstatements.proofs.Compared.{piece_there, no_piece_there}
 use Rattle.sqlstatements.proofs.comparing.is_piece.Goals as goal

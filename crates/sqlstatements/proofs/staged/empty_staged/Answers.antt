@@ -1,4 +1,4 @@
-use Rattle.std.proofs.Common.{◌≡◌, true, false, IsTrue, arith, refl, sym, ap, subst, ◌∙◌}
+use Rattle.std.proofs.Common.{◌≡◌, arith, sym, ap, subst, ◌∙◌}
 use Rattle.sqlite.specs.Effect.{Database}
 use Rattle.sqlite.specs.State.{HasCleanDisk}
 use Rattle.sqlite.specs.Held.{state}
@@ -6,7 +6,6 @@ use Rattle.sqltables.specs.Schema.{v2}
 use Rattle.sqltables.specs.Tables.{IsEmptied, NoneStaged}
 use Rattle.sqltables.specs.Inside.{HasSchema}
 use Rattle.sqlstatements.proofs.StagedRows.{emptied_itself}
-use Rattle.sqlstatements.proofs.staged.empty_staged.Given as given
 use Rattle.sqlstatements.proofs.staged.empty_staged.Goals as goal
 
 pub returns-then-not-branch-clause-emptied : goal.returns-then-not-branch-clause-emptied

@@ -1,14 +1,10 @@
-use Rattle.std.proofs.Common.{IsTrue, subst}
+use Rattle.std.proofs.Common.{subst}
 use Rattle.sqlite.specs.Held.{state}
-use Rattle.sqlite.specs.State.{HasCleanDisk}
 use Rattle.sqltables.specs.Schema.{v2}
-use Rattle.sqlaudit.specs.Opened.{HasOurs, IsFound}
-use Rattle.sqlaudit.specs.declared.opening.Finding.TheVariants.{Sound}
+use Rattle.sqlaudit.specs.Opened.{IsFound}
 use Rattle.sqlkeeper.proofs.AtRest.{sound_is_whole, leaves_kept}
-use Rattle.sqlkeeper.proofs.Migrated.{untouched_never}
 use Rattle.sqlkeeper.proofs.Reopened.{accepted, crashes, emptied, failed, means_still, others, spared}
 use Rattle.sqlkeeper.proofs.Stays.{left_alone}
-use Rattle.sqlkeeper.proofs.file_keeper.SqlKeeper.open.Given as given
 use Rattle.sqlkeeper.proofs.file_keeper.SqlKeeper.open.Goals as goal
 
 -- ---- a sound file, whose table `staged` was emptied
