@@ -109,11 +109,7 @@ pub trait Keeper {
         ensures staged { KeepsStaged stages self.old self.new };
 
     /// The receipt of the file of this box and name.
-    fn file_receipt(
-        &mut self,
-        in_box: &[u8],
-        name: &[u8],
-    ) -> Result<Option<ReceiptRow>, KeepFault>
+    fn file_receipt(&mut self, in_box: &[u8], name: &[u8]) -> Result<Option<ReceiptRow>, KeepFault>
         ensures value { Answers means is_honest self.old self.new result
             (λ s r. IsReceiptAt s (record { box = in_box.now; name = name.now }) r) }
         ensures rest { Stays means is_honest is_open faults leaves leaves_whole has_store
