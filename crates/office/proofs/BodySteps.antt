@@ -5,6 +5,7 @@ use Rattle.std.proofs.lemmas.Bool.{false≢true}
 use Rattle.std.specs.Io.KnownBytes.{Consumes}
 use Rattle.std.proofs.KnownBytes.{Consumes-trans}
 use Rattle.std.proofs.lemmas.List.{length-replicate}
+use Rattle.sigtext.specs.Counts.{Rose}
 use Rattle.sigtext.specs.declared.refusal.Refusal.{Refusal}
 use Rattle.sigtext.specs.declared.refusal.Refusal.TheVariants as rule
 use Rattle.sigtext.specs.Limits.{most_body}
@@ -150,25 +151,25 @@ module _ {R C K : Type 0} (remaining : R → Option (List ℕ)) (size : ℕ) (ol
       (read_on s size known (left remaining old) foreseen to_head x (remaining (reader_of new).inner) given taken) (inr (upload_begun s size known (left remaining old) foreseen to_head x given upload)) closed
 
   -- the stream ended in the body
-  pub lacking_step : (e : SessionEnd) (mid : K) (upload : Bool) → Quiet k a mid ⊥ → Quiet k mid b (MayGiveUp e) → WasKept k a b s → LacksBody remaining size old new → (IsTrue upload → IsUpload foreseen)
+  pub lacking_step : (e : SessionEnd) (mid : K) (upload : Bool) → Quiet k a mid ⊥ → Quiet k mid b (MayGiveUp k mid b e) → WasKept k a b s → LacksBody remaining size old new → (IsTrue upload → IsUpload foreseen)
       → LeavesOff output output' k mid b upload e → Steps gives p known (left remaining new) (remaining (reader_of new).inner) output output' clock clock k a b s (Some e)
   lacking_step e mid upload first second kept lacking is (inl (closed, rest)) =
       closed_step gives p known (left remaining new) (remaining (reader_of new).inner) output output' clock k a b s rule.BodyIncomplete e
       (leaves_quiet k a b s ⊥ (quiet_then first (record { means = second.means; crash = second.crash; rest = rest })) kept (λ none. none))
       (lacks s size known (left remaining old) foreseen to_head x lacking.1 lacking.2) closed
   lacking_step e mid upload first second kept lacking is (inr (closed, up)) =
-      given_up_step e lacking.3 (MayGiveUp e) (quiet_then first second) kept lacking.4 (is up) closed
+      given_up_step e lacking.3 (MayGiveUp k mid b e) (quiet_then first second) kept lacking.4 (is up) closed
 
 module _ {R C K T : Type 0} (remaining : R → Option (List ℕ)) (size : ℕ) (old new : Feed R) (gives : C → ℕ → C → Type 0) (p : Place) (known output : Option (List ℕ)) (clock : C) (k : Ghosts K) (a b : K) (s : State)
     (foreseen : Result Prospect Refusal) (to_head : Bool) (x : IsExpected s size known (left remaining old) foreseen to_head) where
   -- a read failed in the body, and what was staged of it was let go
-  pub broken_off_step : (result : Result T KeepFault) (upload : Bool) (given : List ℕ) → Quiet k a b (IsFault result) → WasKept k a b s → OnErr result (IsTrue upload) → (IsTrue upload → IsUpload foreseen)
+  pub broken_off_step : (result : Result T KeepFault) (upload : Bool) (given : List ℕ) → Quiet k a b (IsFault result) → OnErr result (Rose (k.faults a) (k.faults b)) → WasKept k a b s → OnErr result (IsTrue upload) → (IsTrue upload → IsUpload foreseen)
       → Consumes (left remaining old) (remaining (reader_of new).inner) given → length given < size → Steps gives p known (left remaining new) (remaining (reader_of new).inner) output output clock clock k a b s (Some ReadFault)
-  broken_off_step (Ok done) upload given quiet kept asked is taken few =
+  broken_off_step (Ok done) upload given quiet rose kept asked is taken few =
       read_failed_step gives p known (left remaining new) (remaining (reader_of new).inner) output clock k a b s (x.text ++ given) (leaves_quiet k a b s ⊥ quiet kept (λ none. none))
       (read_on s size known (left remaining old) foreseen to_head x (remaining (reader_of new).inner) given taken) (awaits s size known (left remaining old) foreseen to_head x given few)
-  broken_off_step (Err f) upload given quiet kept asked is taken few =
-      read_failed_giving_up_step gives p known (left remaining new) (remaining (reader_of new).inner) output clock k a b s (x.text ++ given) (leaves_given_up k a b s (IsFault {T = T} (Err f)) quiet kept)
+  broken_off_step (Err f) upload given quiet rose kept asked is taken few =
+      read_failed_giving_up_step gives p known (left remaining new) (remaining (reader_of new).inner) output clock k a b s (x.text ++ given) (leaves_given_up k a b s (IsFault {T = T} (Err f)) quiet kept) rose
       (read_on s size known (left remaining old) foreseen to_head x (remaining (reader_of new).inner) given taken) (awaits s size known (left remaining old) foreseen to_head x given few)
       (upload_begun s size known (left remaining old) foreseen to_head x given (is asked))
 

@@ -50,13 +50,13 @@ sent_again old new a GaveUp sent again = inl refl
 sent_again old new a Broken sent again = inr refl
 
 -- a connection that refusal 40 closed
-pub closed_again : (old new : Option (List ℕ)) (e : SessionEnd) → IsClosed old new rule.TryAgain e → MayGiveUp e
-closed_again old new (Refused number) closed = inl (ap Refused closed.0)
-closed_again old new WriteFault closed = inr (inl refl)
-closed_again old new Ended closed = absurd closed
-closed_again old new Truncated closed = absurd closed
-closed_again old new Limit closed = absurd closed
-closed_again old new ReadFault closed = absurd closed
+pub closed_again : {K : Type 0} (k : Ghosts K) (a b : K) (old new : Option (List ℕ)) (e : SessionEnd) → IsClosed old new rule.TryAgain e → MayGiveUp k a b e
+closed_again k a b old new (Refused number) closed = inl (ap Refused closed.0)
+closed_again k a b old new WriteFault closed = inr (inl refl)
+closed_again k a b old new Ended closed = absurd closed
+closed_again k a b old new Truncated closed = absurd closed
+closed_again k a b old new Limit closed = absurd closed
+closed_again k a b old new ReadFault closed = absurd closed
 
 -- a message whose moment was taken
 pub handled_at : {C K : Type 0} (gives : C → ℕ → C → Type 0) (clock clock' : C) (old new : Option (List ℕ)) (k : Ghosts K) (keeper keeper' : K) (s : State) (r : Request) (now : ℕ) (a : Answer) (h : Handled)

@@ -20,7 +20,8 @@ use Rattle.office.specs.declared.connections.session.SessionEnd.{SessionEnd}
 use Rattle.office.specs.declared.connections.session.SessionEnd.TheVariants.{Ended, Truncated, Refused, Limit, ReadFault, WriteFault}
 use Rattle.office.specs.declared.connections.handling.Handled.{Handled}
 use Rattle.office.specs.declared.connections.handling.Handled.TheVariants.{Answered, GaveUp, Broken}
-use Rattle.office.specs.Connections.{IsKnown, IsStream, Serves}
+use Rattle.sigtext.specs.Counts.{Rose}
+use Rattle.office.specs.Connections.{HoldsUpTo, IsKnown, IsStream, Serves}
 use Rattle.office.specs.Crashes.{AddsStanding, never_changed}
 use Rattle.office.proofs.Endurance.{still, then_through, through_after}
 use Rattle.office.specs.Handling.{Handles, answered, gave_up_at, broke, broke_giving_up_at}
@@ -90,6 +91,38 @@ holds_more : {K : Type 0} (k : Ghosts K) (a b c : K) (gave_up : Bool) → HoldsU
 holds_more k a b c true x y = let same = x.0 in omega (arith, same, y)
 holds_more k a b c false x y = (y.0 ∙ x.0, λ was. y.1 (x.1 was))
 
+-- no session that ends otherwise than by a failed read gave up so
+pub held_to : {K : Type 0} (k : Ghosts K) (a b : K) (gave_up : Bool) (e : SessionEnd) → HoldsUp k gave_up a b → (e ≡ ReadFault → ⊥) → HoldsUpTo k gave_up e a b
+held_to k a b gave_up e held other = (held, λ gave is. absurd (other is))
+
+-- a call before that counted nothing
+pub held_more_to : {K : Type 0} (k : Ghosts K) (a b c : K) (gave_up : Bool) (e : SessionEnd) → HoldsUp k false a b → HoldsUpTo k gave_up e b c → HoldsUpTo k gave_up e a c
+held_more_to k a b c gave_up e x (held, rose) =
+    (holds_more k a b c gave_up x held, λ gave is. subst (λ (n : ℕ). Rose n (k.faults c)) x.0 (rose gave is))
+
+limit_no_read : Limit ≡ ReadFault → ⊥
+limit_no_read e = cc
+
+refused_no_read : (number : ℕ) → Refused number ≡ ReadFault → ⊥
+refused_no_read number e = cc
+
+false_no_true : false ≡ true → ⊥
+false_no_true e = cc
+
+write_no_read : WriteFault ≡ ReadFault → ⊥
+write_no_read e = cc
+
+ended_no_read : Ended ≡ ReadFault → ⊥
+ended_no_read e = cc
+
+truncated_no_read : Truncated ≡ ReadFault → ⊥
+truncated_no_read e = cc
+
+-- refusal 40, or its beginning, says nothing of a crash
+given_no_more : {P : Type 0} (e : SessionEnd) → (e ≡ ReadFault → ⊥) → (true ≡ false) ⊎ (e ≡ ReadFault) → P
+given_no_more e other (inl none) = absurd cc
+given_no_more e other (inr is) = absurd (other is)
+
 -- nothing was asked
 pub holds_still : {K : Type 0} (k : Ghosts K) (a : K) (gave_up : Bool) → HoldsUp k gave_up a a
 holds_still k a true = omega arith
@@ -106,7 +139,7 @@ serves_more gives n left left' reader output output' output'' clock clock' clock
   read = stream_more r.gave_up e left left' reader g.front r.stream g.taken r.read;
   told = (clock', g.told, r.told);
   written = appends_more output output' output'' g.text r.answers g.written r.written;
-  held = holds_more k keeper keeper' keeper'' r.gave_up g.held r.held;
+  held = held_more_to k keeper keeper' keeper'' r.gave_up e g.held r.held;
   lasts = λ none. then_through g.lasts (r.lasts none);
   session = session.served n (g.front ++ r.stream) r.stream s mid after g.request g.moment r.moments g.text r.answers e r.gave_up (g.message r.stream) g.answers r.session;
 }
@@ -129,7 +162,7 @@ serves_none gives left reader output clock k keeper s = record {
   read = known_whole left;
   told = refl;
   written = nothing_written output;
-  held = holds_still k keeper false;
+  held = held_to k keeper keeper false Limit (holds_still k keeper false) limit_no_read;
   lasts = λ none. never_changed refl still;
   session = session.limit (rest_of left) s;
 }
@@ -163,8 +196,8 @@ module _ {C K : Type 0} (gives : C → ℕ → C → Type 0) (p : Place) (left r
       read = all_read;
       told = (clock', told, refl);
       written = appends;
-      held = less;
-      lasts = λ none. absurd cc;
+      held = held_to k keeper keeper' true (Refused 40) less (refused_no_read 40);
+      lasts = given_no_more (Refused 40) (refused_no_read 40);
       session = session.gave_up_at n ((text ++ body) ++ waits) waits s r now (stands waits) readable;
     },
   )
@@ -182,7 +215,7 @@ module _ {C K : Type 0} (gives : C → ℕ → C → Type 0) (p : Place) (left r
           read = known_rest left (prepend_known waits reader) (text ++ body) m.taken;
           told = (clock', told, refl);
           written = appends;
-          held = same;
+          held = held_to k keeper keeper' false WriteFault same write_no_read;
           lasts = λ none. lasts;
           session = session.write_failed n ((text ++ body) ++ rest) rest s after r now written front (stands rest) answers begins;
         },
@@ -198,8 +231,8 @@ module _ {C K : Type 0} (gives : C → ℕ → C → Type 0) (p : Place) (left r
       read = all_read;
       told = (clock', told, refl);
       written = appends;
-      held = less;
-      lasts = λ none. absurd cc;
+      held = held_to k keeper keeper' true WriteFault less write_no_read;
+      lasts = given_no_more WriteFault write_no_read;
       session = session.write_failed_giving_up_at n ((text ++ body) ++ waits) waits s r now front (stands waits) readable begins;
     },
   )
@@ -233,9 +266,9 @@ leaves_still k keeper s gave_up keeps = record { keeps = keeps; held = holds_sti
 
 module _ {C K : Type 0} (gives : C → ℕ → C → Type 0) (p : Place) (left left' reader output output' : Option (List ℕ)) (clock : C) (k : Ghosts K) (keeper keeper' : K) (s : State) where
   -- the session ends, and the state stays
-  pub ends : (e : SessionEnd) (gave_up : Bool) (stream text : List ℕ) → Leaves k keeper keeper' s gave_up → IsStream gave_up e left reader stream → Appends output output' text
+  pub ends : (e : SessionEnd) (gave_up : Bool) (stream text : List ℕ) → Leaves k keeper keeper' s gave_up → (gave_up ≡ true → e ≡ ReadFault → Rose (k.faults keeper) (k.faults keeper')) → IsStream gave_up e left reader stream → Appends output output' text
       → ((n : ℕ) → ToCome p (suc n) → Session (suc n) stream s [] text e gave_up s) → Steps gives p left left' reader output output' clock clock k keeper keeper' s (Some e)
-  ends e gave_up stream text leaves read written whole = (
+  ends e gave_up stream text leaves rose read written whole = (
     s,
     leaves.keeps,
     λ n all. record {
@@ -246,7 +279,7 @@ module _ {C K : Type 0} (gives : C → ℕ → C → Type 0) (p : Place) (left l
       read = read;
       told = refl;
       written = written;
-      held = leaves.held;
+      held = (leaves.held, rose);
       lasts = λ none. never_changed refl leaves.adds;
       session = whole n all;
     },
@@ -255,10 +288,10 @@ module _ {C K : Type 0} (gives : C → ℕ → C → Type 0) (p : Place) (left l
   pub closed_step : (q : Refusal) (e : SessionEnd) → Leaves k keeper keeper' s false → OfStream left (λ stream. Next stream (frame.Refused q) []) → IsClosed output output' q e
       → Steps gives p left left' reader output output' clock clock k keeper keeper' s (Some e)
   closed_step q (Refused number) leaves o closed =
-      ends (Refused number) false o.stream (session.closing q) leaves (is_stream left (λ stream. Next stream (frame.Refused q) []) o) closed.1
+      ends (Refused number) false o.stream (session.closing q) leaves (λ gave is. absurd (refused_no_read number is)) (is_stream left (λ stream. Next stream (frame.Refused q) []) o) closed.1
       (λ n _. subst (λ (m : ℕ). Session (suc n) o.stream s [] (session.closing q) (Refused m) false s) (sym closed.0) (session.unframed n o.stream s q o.holds))
   closed_step q WriteFault leaves o closed =
-      ends WriteFault false o.stream closed.0 leaves (is_stream left (λ stream. Next stream (frame.Refused q) []) o) closed.1
+      ends WriteFault false o.stream closed.0 leaves (λ gave is. absurd (write_no_read is)) (is_stream left (λ stream. Next stream (frame.Refused q) []) o) closed.1
       (λ n _. session.write_failed_unframed n o.stream s q closed.0 o.holds closed.2)
   closed_step q Ended leaves o closed = absurd closed
   closed_step q Truncated leaves o closed = absurd closed
@@ -273,10 +306,10 @@ module _ {C K : Type 0} (gives : C → ℕ → C → Type 0) (p : Place) (left l
   pub gave_up_reading_step : (e : SessionEnd) (front : List ℕ) → Leaves k keeper keeper' s true → Consumes left reader front → ((p ≡ place.Fresh) × (front ≡ [])) ⊎ HasBegunMessage front
       → IsClosed output output' rule.TryAgain e → Steps gives p left left' reader output output' clock clock k keeper keeper' s (Some e)
   gave_up_reading_step (Refused number) front leaves taken why closed =
-      ends (Refused number) true front (session.closing rule.TryAgain) leaves taken closed.1
+      ends (Refused number) true front (session.closing rule.TryAgain) leaves (λ gave is. absurd (refused_no_read number is)) taken closed.1
       (λ n all. subst (λ (m : ℕ). Session (suc n) front s [] (session.closing rule.TryAgain) (Refused m) true s) (sym closed.0) (session.gave_up_reading n front s (why_reading n front why all)))
   gave_up_reading_step WriteFault front leaves taken why closed =
-      ends WriteFault true front closed.0 leaves taken closed.1 (λ n all. session.write_failed_giving_up_reading n front s closed.0 (why_reading n front why all) closed.2)
+      ends WriteFault true front closed.0 leaves (λ gave is. absurd (write_no_read is)) taken closed.1 (λ n all. session.write_failed_giving_up_reading n front s closed.0 (why_reading n front why all) closed.2)
   gave_up_reading_step Ended front leaves taken none closed = absurd closed
   gave_up_reading_step Truncated front leaves taken none closed = absurd closed
   gave_up_reading_step Limit front leaves taken none closed = absurd closed
@@ -285,24 +318,24 @@ module _ {C K : Type 0} (gives : C → ℕ → C → Type 0) (p : Place) (left l
 module _ {C K : Type 0} (gives : C → ℕ → C → Type 0) (p : Place) (left left' reader output : Option (List ℕ)) (clock : C) (k : Ghosts K) (keeper keeper' : K) (s : State) where
   pub ended_step : Leaves k keeper keeper' s false → IsAtEnd reader → OfStream left (λ stream. Next stream frame.Ended []) → Steps gives p left left' reader output output clock clock k keeper keeper' s (Some Ended)
   ended_step leaves at_end o =
-      ends gives p left left' reader output output clock k keeper keeper' s Ended false o.stream [] leaves (is_stream left (λ stream. Next stream frame.Ended []) o, at_end) (nothing_written output)
+      ends gives p left left' reader output output clock k keeper keeper' s Ended false o.stream [] leaves (λ gave is. absurd (ended_no_read is)) (is_stream left (λ stream. Next stream frame.Ended []) o, at_end) (nothing_written output)
       (λ n _. session.ended n o.stream s o.holds)
 
   pub truncated_step : Leaves k keeper keeper' s false → IsAtEnd reader → OfStream left (λ stream. Next stream frame.Truncated []) → Steps gives p left left' reader output output clock clock k keeper keeper' s (Some Truncated)
   truncated_step leaves at_end o =
-      ends gives p left left' reader output output clock k keeper keeper' s Truncated false o.stream [] leaves (is_stream left (λ stream. Next stream frame.Truncated []) o, at_end) (nothing_written output)
+      ends gives p left left' reader output output clock k keeper keeper' s Truncated false o.stream [] leaves (λ gave is. absurd (truncated_no_read is)) (is_stream left (λ stream. Next stream frame.Truncated []) o, at_end) (nothing_written output)
       (λ n _. session.truncated n o.stream s o.holds)
 
   pub read_failed_step : (front : List ℕ) → Leaves k keeper keeper' s false → Consumes left reader front → Awaits front → Steps gives p left left' reader output output clock clock k keeper keeper' s (Some ReadFault)
   read_failed_step front leaves taken none =
-      ends gives p left left' reader output output clock k keeper keeper' s ReadFault false front [] leaves taken (nothing_written output)
+      ends gives p left left' reader output output clock k keeper keeper' s ReadFault false front [] leaves (λ gave is. absurd (false_no_true gave)) taken (nothing_written output)
       (λ n _. session.read_failed n front s none)
 
   -- the same where the keeper counted a fault
-  pub read_failed_giving_up_step : (front : List ℕ) → Leaves k keeper keeper' s true → Consumes left reader front → Awaits front → HasBegunMessage front
+  pub read_failed_giving_up_step : (front : List ℕ) → Leaves k keeper keeper' s true → Rose (k.faults keeper) (k.faults keeper') → Consumes left reader front → Awaits front → HasBegunMessage front
       → Steps gives p left left' reader output output clock clock k keeper keeper' s (Some ReadFault)
-  read_failed_giving_up_step front leaves taken none begun =
-      ends gives p left left' reader output output clock k keeper keeper' s ReadFault true front [] leaves taken (nothing_written output)
+  read_failed_giving_up_step front leaves rose taken none begun =
+      ends gives p left left' reader output output clock k keeper keeper' s ReadFault true front [] leaves (λ gave is. rose) taken (nothing_written output)
       (λ n _. session.read_failed_giving_up n front s none begun)
 
 -- ---- calls before a step that change nothing
@@ -318,8 +351,8 @@ pub before_quiet : {K : Type 0} (k : Ghosts K) (a b : K) (s : State) (gave_up : 
 before_quiet k a b s gave_up quiet other means honest =
     record { faults = quiet.rest.counted other; open_still = λ was. quiet.rest.opened honest was other; adds = quiet.crash s means honest }
 
-before_held : {K : Type 0} (k : Ghosts K) (a b c : K) (s : State) (gave_up : Bool) → Before k a b s → HoldsUp k gave_up b c → HoldsUp k gave_up a c
-before_held k a b c s gave_up x held = holds_more k a b c gave_up (x.faults, x.open_still) held
+before_held : {K : Type 0} (k : Ghosts K) (a b c : K) (s : State) → Before k a b s → HoldsUp k false b c → HoldsUp k false a c
+before_held k a b c s x held = holds_more k a b c false (x.faults, x.open_still) held
 
 pub steps_after : {C K : Type 0} (gives : C → ℕ → C → Type 0) (p : Place) (left left' reader output output' : Option (List ℕ)) (clock clock' : C) (k : Ghosts K) (a b c : K) (s : State) (end : Option SessionEnd)
     → Before k a b s → Steps gives p left left' reader output output' clock clock' k b c s end → Steps gives p left left' reader output output' clock clock' k a c s end
@@ -336,7 +369,7 @@ steps_after gives p left left' reader output output' clock clock' k a b c s None
     told = g.told;
     written = g.written;
     answers = g.answers;
-    held = before_held k a b c s false x g.held;
+    held = before_held k a b c s x g.held;
     lasts = through_after x.adds g.lasts;
   },
 )
@@ -353,7 +386,7 @@ steps_after gives p left left' reader output output' clock clock' k a b c s (Som
         read = r.read;
         told = r.told;
         written = r.written;
-        held = before_held k a b c s r.gave_up x r.held;
+        held = held_more_to k a b c r.gave_up e (x.faults, x.open_still) r.held;
         lasts = λ none. through_after x.adds (r.lasts none);
         session = r.session;
       },

@@ -1,5 +1,6 @@
 -- How the keeper holds up over several calls, and that nothing stays staged.
-use Rattle.std.proofs.Common.{◌≡◌, ℕ, ◌≤◌, ◌⊎◌, [], Ok, Err, inl, inr, arith, refl, sym, List, ◌∙◌}
+use Rattle.std.proofs.Common.{◌≡◌, ℕ, ◌≤◌, ◌⊎◌, [], Option, None, Some, Result, Ok, Err, inl, inr, arith, refl, sym, List, ◌∙◌}
+use Rattle.std.specs.Prelude.{IsSomeAnd, OnErr}
 use Rattle.std.proofs.lemmas.Bool.{cases_lt}
 use Rattle.sigtext.specs.Counts.{Rose}
 use Rattle.keeper.specs.Bound.{StaysBy}
@@ -8,7 +9,11 @@ use Rattle.keeper.specs.declared.keep.KeepFault.{KeepFault}
 use Rattle.keeper.specs.declared.keep.Keeper.{Ghosts}
 use Rattle.office.specs.Foreseeing.{AreStaged}
 use Rattle.office.specs.declared.requests.foreseeing.Body.{Body}
-use Rattle.office.specs.Premise.{EndsUnstaged, HoldsUnless}
+use Rattle.office.specs.declared.connections.session.SessionEnd.{SessionEnd}
+use Rattle.office.specs.declared.connections.session.SessionEnd.TheVariants.{ReadFault}
+use Rattle.office.specs.Connections.{MayGiveUp}
+use Rattle.office.specs.Premise.{EndsUnstaged, HoldsUnless, IsFault}
+use Rattle.office.proofs.Holding.{holds_less, holds_then}
 
 -- a count that did not fall before rose over both
 pub rose_later : (a b c : ℕ) → a ≤ b → Rose b c → Rose a c
@@ -57,6 +62,29 @@ failed_holds k a b f rest is = record {
   opened = λ h was not. absurd (not is);
   counted = λ not. absurd (not is);
   never_less = rose_least (k.faults a) (k.faults b) rest.count.err;
+}
+
+-- ---- where a session may have given up
+
+-- the same over calls before, of which the count did not fall
+pub may_later : {K : Type 0} (k : Ghosts K) (a b c : K) (e : SessionEnd) → k.faults a ≤ k.faults b → MayGiveUp k b c e → MayGiveUp k a c e
+may_later k a b c e least (inl refused) = inl refused
+may_later k a b c e least (inr (inl write)) = inr (inl write)
+may_later k a b c e least (inr (inr (read, rose))) = inr (inr (read, rose_later (k.faults a) (k.faults b) (k.faults c) least rose))
+
+pub some_may_later : {K : Type 0} (k : Ghosts K) (a b c : K) (end : Option SessionEnd) → k.faults a ≤ k.faults b → IsSomeAnd end (MayGiveUp k b c) → IsSomeAnd end (MayGiveUp k a c)
+some_may_later k a b c None least may = absurd may
+some_may_later k a b c (Some e) least may = may_later k a b c e least may
+
+-- a read failed, and then what was staged was let go, or was not
+pub broke_off_holds : {K T : Type 0} (k : Ghosts K) (a b c : K) (result : Result T KeepFault) → HoldsUnless k a b ⊥ → HoldsUnless k b c (IsFault result) → OnErr result (Rose (k.faults b) (k.faults c))
+    → HoldsUnless k a c (MayGiveUp k a c ReadFault)
+broke_off_holds k a b c (Ok done) x y rose = holds_less (λ none. absurd none) (holds_then x y)
+broke_off_holds k a b c (Err f) x y rose = record {
+  honest = λ honest. x.honest (y.honest honest);
+  opened = λ honest was other. absurd (other (inr (inr (refl, rose_later (k.faults a) (k.faults b) (k.faults c) x.never_less rose))));
+  counted = λ other. absurd (other (inr (inr (refl, rose_later (k.faults a) (k.faults b) (k.faults c) x.never_less rose))));
+  never_less = let low = x.never_less in let high = y.never_less in omega (arith, low, high);
 }
 
 -- nothing was asked

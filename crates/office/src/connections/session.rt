@@ -63,7 +63,7 @@ impl<K: Keeper> Office<K> {
         ensures faults { TellsFaults result
             (reader_of feed.old) (reader_of feed.new) writer.old writer.new }
         ensures unstaged { StaysUnstaged K.Keeper self.old.keeper self.new.keeper }
-        ensures rest { HoldsUnless K.Keeper self.old.keeper self.new.keeper (MayGiveUp result) }
+        ensures rest { HoldsUnless K.Keeper self.old.keeper self.new.keeper (MayGiveUp K.Keeper self.old.keeper self.new.keeper result) }
     {
         'messages: for _ in 0..MOST_MESSAGES {
             match self.step(feed, writer, clock) {
@@ -79,7 +79,7 @@ impl<K: Keeper> Office<K> {
     /// those of a session of the machine. Its end tells the fault of the reader or the writer, where one was counted.
     /// A keeper that was open is open, unless the session gave up. A body comes to the keeper in pieces, and is kept whole or
     /// not at all: where nothing was staged before, nothing is after, unless the keeper counted a fault. Where nothing was given
-    /// up, what was changed outlasts a crash: one that follows leaves the state after, and nothing else.
+    /// up, what was changed outlasts a crash: whatever one leaves that follows is the state after.
     pub fn session<R: Read, W: Write, C: Clock>(
         &mut self,
         reader: &mut Counted<R>,
@@ -94,7 +94,7 @@ impl<K: Keeper> Office<K> {
             K.Keeper self.old.keeper self.new.keeper s after result }
         ensures faults { TellsFaults result reader.old reader.new writer.old writer.new }
         ensures unstaged { StaysUnstaged K.Keeper self.old.keeper self.new.keeper }
-        ensures rest { HoldsUnless K.Keeper self.old.keeper self.new.keeper (MayGiveUp result) }
+        ensures rest { HoldsUnless K.Keeper self.old.keeper self.new.keeper (MayGiveUp K.Keeper self.old.keeper self.new.keeper result) }
     {
         let mut feed = Feed::new(self.alloc, reader);
         let end = self.serve_feed(&mut feed, writer, clock);

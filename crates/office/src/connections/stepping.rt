@@ -90,7 +90,7 @@ impl<K: Keeper> Office<K> {
             → AddsStanding K.Keeper self.old.keeper self.new.keeper s }
         ensures ends { IsTrue is_upload → EndsUnstaged K.Keeper self.old.keeper self.new.keeper }
         ensures stays { StaysUnstaged K.Keeper self.old.keeper self.new.keeper }
-        ensures rest { HoldsUnless K.Keeper self.old.keeper self.new.keeper (MayGiveUp result) }
+        ensures rest { HoldsUnless K.Keeper self.old.keeper self.new.keeper (MayGiveUp K.Keeper self.old.keeper self.new.keeper result) }
     {
         match self.drop_staged(is_upload) {
             Ok(()) => close(Refusal::BodyIncomplete, writer),
@@ -122,7 +122,7 @@ impl<K: Keeper> Office<K> {
             (reader_of feed.old) (reader_of feed.new) writer.old writer.new }
         ensures unstaged { StaysUnstaged K.Keeper self.old.keeper self.new.keeper }
         ensures rest { HoldsUnless K.Keeper self.old.keeper self.new.keeper
-            (IsSomeAnd result MayGiveUp) }
+            (IsSomeAnd result (MayGiveUp K.Keeper self.old.keeper self.new.keeper)) }
     {
         let upload = is_upload(&foreseen);
         match self.receive(feed, size, upload) {
@@ -174,7 +174,7 @@ impl<K: Keeper> Office<K> {
             (reader_of feed.old) (reader_of feed.new) writer.old writer.new }
         ensures unstaged { StaysUnstaged K.Keeper self.old.keeper self.new.keeper }
         ensures rest { HoldsUnless K.Keeper self.old.keeper self.new.keeper
-            (IsSomeAnd result MayGiveUp) }
+            (IsSomeAnd result (MayGiveUp K.Keeper self.old.keeper self.new.keeper)) }
     {
         let mut fields = [Field {
             name: &[],
@@ -217,7 +217,7 @@ impl<K: Keeper> Office<K> {
             (reader_of feed.old) (reader_of feed.new) writer.old writer.new }
         ensures unstaged { StaysUnstaged K.Keeper self.old.keeper self.new.keeper }
         ensures rest { HoldsUnless K.Keeper self.old.keeper self.new.keeper
-            (IsSomeAnd result MayGiveUp) }
+            (IsSomeAnd result (MayGiveUp K.Keeper self.old.keeper self.new.keeper)) }
     {
         let mut text = [0; MOST_HEAD];
         match read_opening(feed, &mut text) {

@@ -193,7 +193,7 @@ impl<K: Keeper> Office<K> {
         Ok(())
     }
 
-    // Stages the body of an upload; of another message nothing.
+    // Stages the body of an upload; of another message nothing. What the keeper did not take whole is let go of.
     fn stage_upload(&mut self, is_upload: bool, body: &[u8]) -> Result<(), KeepFault>
         ensures staged { IsTrue is_upload → OnOk result (K.stages self.new.keeper body.now) }
         ensures passed { IsFalse is_upload → KeepsStaged K.stages self.old.keeper self.new.keeper }
@@ -205,11 +205,14 @@ impl<K: Keeper> Office<K> {
         ensures fault { OnErr result (Rose (K.faults self.old.keeper) (K.faults self.new.keeper)) }
         ensures rest { HoldsUnless K.Keeper self.old.keeper self.new.keeper (IsFault result) }
     {
-        if is_upload {
-            self.stage_whole(body)
-        } else {
-            Ok(())
+        if !is_upload {
+            return Ok(());
         }
+        let staged = self.stage_whole(body);
+        if staged.is_err() {
+            let _ = self.keeper.stage_drop();
+        }
+        staged
     }
 
     /// Answers a message at a moment. The answer and the state after it are those of the rules; or the

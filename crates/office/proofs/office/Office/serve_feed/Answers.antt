@@ -4,6 +4,7 @@ use Rattle.wire.specs.Feeds.{left, place_of, reader_of}
 use Rattle.office.proofs.KeeperCalls.{unstaged_then}
 use Rattle.office.proofs.Holding.{holds_less, holds_still, holds_then}
 use Rattle.office.proofs.SessionSteps.{follows_first, follows_more, follows_end, follows_limit, not_fresh}
+use Rattle.office.proofs.Unstaged.{may_later}
 use Rattle.office.proofs.office.Office.serve_feed.Goals as goal
 
 pub messages-init : goal.messages-init
@@ -86,7 +87,9 @@ returns-clause-faults g c = record {
 }
 
 pub returns-in-Some-clause-rest : goal.returns-in-Some-clause-rest
-returns-in-Some-clause-rest g c = holds_then c.messages.invariant.4 c.in-Some.ensures.rest
+returns-in-Some-clause-rest g c =
+    holds_then c.messages.invariant.4
+    (holds_less (may_later g.K.Keeper c.args.self.now.keeper c.messages.self.keeper c.step.new.self.keeper c.in-Some.end c.messages.invariant.4.never_less) c.in-Some.ensures.rest)
 
 pub returns-clause-rest : goal.returns-clause-rest
 returns-clause-rest g c = holds_less (λ none. absurd none) c.messages.invariant.4

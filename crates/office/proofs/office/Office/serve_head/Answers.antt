@@ -14,6 +14,7 @@ use Rattle.office.proofs.Handlings.{read_given_up, same_request}
 use Rattle.office.proofs.Holding.{holds_less, holds_then}
 use Rattle.office.proofs.KeeperCalls.{Quiet}
 use Rattle.office.proofs.SessionSteps.{before_quiet, steps_after}
+use Rattle.office.proofs.Unstaged.{some_may_later}
 use Rattle.office.proofs.office.Office.serve_head.Goals as goal
 
 pub returns-then-is_given_up-clause-steps : goal.returns-then-is_given_up-clause-steps
@@ -61,4 +62,5 @@ returns-clause-steps g c s p known kept x =
 
 pub returns-clause-rest : goal.returns-clause-rest
 returns-clause-rest g c =
-    holds_then (holds_less (λ is. both_ways c.is_given_up.result c.if-is_given_up.false (c.is_given_up.ensures.1 is)) c.foresee-foreseen.ensures.rest) c.serve_body.ensures.rest
+    holds_then (holds_less (λ is. both_ways c.is_given_up.result c.if-is_given_up.false (c.is_given_up.ensures.1 is)) c.foresee-foreseen.ensures.rest)
+    (holds_less (some_may_later g.K.Keeper c.args.self.now.keeper c.foresee-foreseen.new.self.keeper c.serve_body.new.self.keeper c.serve_body.result c.foresee-foreseen.ensures.rest.never_less) c.serve_body.ensures.rest)
