@@ -33,3 +33,4 @@ pub mod Stagings
 mod Foreseen
 mod Staged
 mod Unstaged
+pub mod StagedSoFar

@@ -24,7 +24,8 @@ use Rattle.sigtext.specs.declared.refusal.Refusal.{Refusal}
 use Rattle.wire.proofs.Backlogs.{consumes_waiting}
 use Rattle.wire.proofs.BrokenOff.{pieces_taken}
 use Rattle.wire.proofs.Skips.{lacks, piece_given, skips_on}
-use Rattle.office.specs.Receiving.{HasStaged, StagesBody}
+use Rattle.office.specs.Receiving.{StagesBody}
+use Rattle.office.proofs.StagedSoFar.{HasStaged}
 
 bytes_joined : (xs ys : List ℕ) → AreBytes xs → AreBytes ys → AreBytes (xs ++ ys)
 bytes_joined [] ys a b = b

@@ -2,7 +2,7 @@ use Rattle.std.proofs.Common.{length}
 use Rattle.boxes.specs.State.{State}
 use Rattle.office.specs.Crashes.{AddsStanding}
 use Rattle.office.specs.Premise.{HoldsUnless}
-use Rattle.office.specs.Receiving.{HasStagedFront}
+use Rattle.office.proofs.StagedSoFar.{HasStagedFront}
 use Rattle.office.proofs.office.Office.stage_whole.Given as goal
 
 abbrev pub invariant-pieces : goal.invariant-pieces
