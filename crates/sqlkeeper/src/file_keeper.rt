@@ -249,6 +249,8 @@ impl<S: Alter> SqlKeeper<S> {
             → IfErr result (λ e. LeavesUntouched (state S.Store conn) (state S.Store e.1)) }
         ensures unharmed { IfErr result (λ e. IsRefusedFile e.0
             → LeavesUntouched (state S.Store conn) (state S.Store e.1)) }
+        ensures idle { HasOurs (state S.Store conn) → HasNoneStaged (state S.Store conn)
+            → IfErr result (λ e. LeavesUntouched (state S.Store conn) (state S.Store e.1)) }
     {
         match find(&mut conn, alloc) {
             Ok(Finding::Sound) => match empty_file(&mut conn) {
@@ -324,6 +326,9 @@ impl<S: Alter> SqlKeeper<S> {
             → IfErr result (λ e. LeavesUntouched (state S.Store conn) (state S.Store e.1)) }
         ensures unharmed { IfErr result (λ e. IsRefusedFile e.0
             → LeavesUntouched (state S.Store conn) (state S.Store e.1)) }
+        ensures idle { HasOurs (state S.Store conn) → HasNoneStaged (state S.Store conn)
+            → (AreFirstNamed (state S.Store conn).now.schema → ⊥)
+            → IfErr result (λ e. LeavesUntouched (state S.Store conn) (state S.Store e.1)) }
     {
         match find_either(&mut conn, alloc) {
             Ok(Found::Second) => match empty_file(&mut conn) {

@@ -171,3 +171,20 @@ returns-in-Err-upgrade_file-clause-untouched g c other not_second =
     let mid = state g.S.Store c.find_either.new.conn in
     let end = state g.S.Store c.upgrade_file.new.conn in
     untouched_never old mid c.in-Ok-First.ensures.rest end c.upgrade_file.ensures.honest (λ clean. other (subst (λ f. HasNamesOf f old.now.schema) c.in-Ok-First.field-0-is (c.in-Ok-First.ensures.named clean)))
+
+-- ---- what is left of a file of version 2 with nothing staged
+
+pub returns-in-Err-empty_file-clause-idle : goal.returns-in-Err-empty_file-clause-idle
+returns-in-Err-empty_file-clause-idle g c ours none other =
+    let old = state g.S.Store c.args.conn in
+    let mid = state g.S.Store c.find_either.new.conn in
+    let new = state g.S.Store c.empty_file.new.conn in
+    spared old mid c.in-Ok-Second.ensures.rest (λ clean. c.in-Ok-Second.ensures.opened clean (second_is_whole c.in-Ok-Second.field-0-is)) c.in-Ok-Second.ensures.at_rest
+    (λ ours clean was_open. subst (λ f. IsEither f old.now) c.in-Ok-Second.field-0-is (c.in-Ok-Second.ensures.found ours clean was_open)) new c.empty_file.ensures.honest c.empty_file.ensures.spared ours none
+
+pub returns-in-Err-upgrade_file-clause-idle : goal.returns-in-Err-upgrade_file-clause-idle
+returns-in-Err-upgrade_file-clause-idle g c ours none other =
+    let old = state g.S.Store c.args.conn in
+    let mid = state g.S.Store c.find_either.new.conn in
+    let end = state g.S.Store c.upgrade_file.new.conn in
+    untouched_never old mid c.in-Ok-First.ensures.rest end c.upgrade_file.ensures.honest (λ clean. other (subst (λ f. HasNamesOf f old.now.schema) c.in-Ok-First.field-0-is (c.in-Ok-First.ensures.named clean)))

@@ -86,3 +86,11 @@ returns-in-Err-empty_file-clause-untouched g c other = absurd (other (c.in-Ok-So
 pub returns-in-Ok-OtherVersion-clause-version : goal.returns-in-Ok-OtherVersion-clause-version
 returns-in-Ok-OtherVersion-clause-version g c ours told clean was_open =
     subst (λ f. IsFound v2 f (state g.S.Store c.args.conn).now) c.in-Ok-OtherVersion.field-0-is (c.in-Ok-OtherVersion.ensures.found ours clean was_open)
+
+pub returns-in-Err-empty_file-clause-idle : goal.returns-in-Err-empty_file-clause-idle
+returns-in-Err-empty_file-clause-idle g c =
+    let old = state g.S.Store c.args.conn in
+    let mid = state g.S.Store c.find.new.conn in
+    let new = state g.S.Store c.empty_file.new.conn in
+    spared old mid c.in-Ok-Sound.ensures.rest (λ clean. c.in-Ok-Sound.ensures.opened clean (sound_is_whole c.in-Ok-Sound.field-0-is)) c.in-Ok-Sound.ensures.at_rest
+    (λ ours clean was_open. subst (λ f. IsFound v2 f old.now) c.in-Ok-Sound.field-0-is (c.in-Ok-Sound.ensures.found ours clean was_open)) new c.empty_file.ensures.honest c.empty_file.ensures.spared
