@@ -207,7 +207,7 @@ def test_too_large(case, count):
     case.click("#de")
     found = case.result()
     count.add("too large, German", is_not(found["title"], "Nicht gesendet: Sie würde mit Nummer 5 abgelehnt")
-              or lacks(found["what"], "mehr als 1.048.576 Bytes") or lacks(found["remedy"], "Verkleinern Sie die Datei"))
+              or lacks(found["what"], "mehr als 8.388.608 Bytes") or lacks(found["remedy"], "Verkleinern Sie die Datei"))
 
 
 FAULTS = b"faults" * 100
