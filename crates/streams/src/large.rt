@@ -23,6 +23,10 @@ const SECOND_OF_MOST: &[u8] =
 const NOT_THE_SIGNATURE: &[u8] =
     b"HTTP/1.1 403 Forbidden\r\nContent-Type: text/plain\r\nContent-Length: 54\r\n\r\nSignatureDoesNotMatch 21 the signature does not match\n";
 
+// The head of an upload of a byte more than the greatest body has.
+const TOO_LONG_A_BODY: &[u8] =
+    b"PUT /in/a.txt HTTP/1.1\r\nHost: files.example\r\nContent-Length: 8388609\r\n\r\n";
+
 // An upload comes no further than this front of it: it is refused, or unanswered where a read fails. Nothing is staged then,
 // and the office is as it was.
 fn breaks_off(alloc: Global, front: &[u8], at_once: usize, fails: bool) -> Result<(), Fail> {
@@ -87,11 +91,11 @@ fn the_greatest_upload_lacks_a_byte(rt: HostRuntime) -> Result<(), Fail> {
 #[test]
 fn a_greater_upload_is_refused_and_not_read(rt: HostRuntime) -> Result<(), Fail> {
     let alloc = rt.alloc();
-    let head = b"PUT /in/a.txt HTTP/1.1\r\nHost: files.example\r\nContent-Length: 8388609\r\n\r\n";
-    let stream = joined(alloc, &[head, &body(alloc, 1000)?])?;
+    let rest = body(alloc, 1000)?;
+    let stream = joined(alloc, &[TOO_LONG_A_BODY, &rest])?;
     let mut office = make_watched(alloc, 10_000_000)?;
     office.keeper.refuse(0);
-    let left = left_by(&mut office, source(&stream, head.len()))?;
+    let left = left_by(&mut office, source(&stream, TOO_LONG_A_BODY.len()))?;
     left.comes_to(TOO_LARGE, SessionEnd::Refused(5))?;
     assert_eq!(rt; left.unread, 1000);
     assert_eq!(rt; office.keeper.calls, 0);
