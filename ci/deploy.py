@@ -36,7 +36,7 @@ PAGES = {"put.html": "text/html; charset=utf-8", "get.html": "text/html; charset
 # What comes with each answer of the front.
 FIELDS = {"Cache-Control": "no-store", "Referrer-Policy": "no-referrer", "X-Content-Type-Options": "nosniff",
           "X-Frame-Options": "DENY"}
-MEBIBYTE = 1 << 20
+LIMIT = 8 << 20
 MOST_EXPOSED = 12  # tenths, as systemd-analyze counts
 AWAY = (502, b"the office does not answer: try again\n")
 IN_THE_CLEAR = (403, b"https: alone is served here, and a link is the same behind it\n")
@@ -120,8 +120,8 @@ def test_bodies(front, count):
     count.add("in chunks", difference((status, body), owed_receipt(number, data)))
     found = front.said("PUT", front.link("PUT", "no-chunk"), iter([]), [("Transfer-Encoding", "chunked")])
     count.add("no chunk", difference(found, owed_receipt(number + 1, b"")))
-    for letter, size, expects in [("e", MEBIBYTE, True), ("f", MEBIBYTE, False), ("g", MEBIBYTE + 1, True),
-                                  ("h", MEBIBYTE + 1, False), ("i", 3 * MEBIBYTE, False)]:
+    for letter, size, expects in [("e", LIMIT, True), ("f", LIMIT, False), ("g", LIMIT + 1, True),
+                                  ("h", LIMIT + 1, False), ("i", 3 * LIMIT, False)]:
         file = front.folder / f"{letter}.bin"
         file.write_bytes(letter.encode() * size)
         target = front.link("PUT", file.name)
@@ -130,7 +130,7 @@ def test_bodies(front, count):
         ran = front.curl("-i", "-T", file, "-H", field, f"https://{front.host}{target}")
         goes_on, _, rest = ran.out.rpartition(b"HTTP/1.1 ")
         found = ran.status, int(rest[:3]), rest.partition(b"\r\n\r\n")[2]
-        if size > MEBIBYTE:
+        if size > LIMIT:
             owed = 0, *owed_refusal(5)
         else:
             number += 2 if expects else 1
@@ -138,9 +138,9 @@ def test_bodies(front, count):
         count.add(f"{size} bytes, Expect {expects}", difference(found, owed))
         if expects:
             said = "HTTP/1.1 100 Continue" in goes_on.decode()
-            count.add(f"{size} bytes: 100 is said", difference(said, size == MEBIBYTE))
+            count.add(f"{size} bytes: 100 is said", difference(said, size == LIMIT))
     found = front.raw(head_of(front, "PUT", front.link("PUT", "much"), "Transfer-Encoding: chunked")
-                      + b"100001\r\n" + bytes(MEBIBYTE + 1) + b"\r\n0\r\n\r\n")
+                      + b"800001\r\n" + bytes(LIMIT + 1) + b"\r\n0\r\n\r\n")
     count.add("too much in chunks", difference(found, owed_refusal(5)))
 
 
@@ -209,7 +209,7 @@ def test_slow(front, count):
                 for _ in range(4)]
         answers = [it.getresponse() for it in slow]
         others_are_answered(front, "peers that take nothing", count)
-        whole = [it.read() == b"e" * MEBIBYTE for it in answers]
+        whole = [it.read() == b"e" * LIMIT for it in answers]
         count.add("peers that take all at last", None if all(whole) else f"{whole}")
 
 

@@ -19,6 +19,8 @@ import kit
 
 VERSION_1 = kit.ROOT / "ci" / "version1"
 FILES = ["office", "office-wal"]
+# The length that is the least too large for a body: in version 1, and today. It is told in a field that nobody signs.
+GREATER = (b"\r\nContent-Length: 1048577\r\n", b"\r\nContent-Length: 8388609\r\n")
 
 
 @dataclasses.dataclass(frozen=True)
@@ -72,7 +74,9 @@ class Kept:
 
     @property
     def asked(self):
-        return [as_asked(row) for row in json.loads(gzip.decompress((self.folder / "asked.json.gz").read_bytes()))]
+        """What was asked. A length that was one byte too large then is told as one that is so today."""
+        rows = json.loads(gzip.decompress((self.folder / "asked.json.gz").read_bytes()))
+        return [dataclasses.replace(it, stream=it.stream.replace(*GREATER)) for it in map(as_asked, rows)]
 
     def copied(self, folder):
         """A copy of the office file, with its journal, in this folder, which is made."""

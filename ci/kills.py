@@ -37,11 +37,12 @@ LONGEST_PAUSE = 0.004  # seconds from an answer to the kill
 MOST_ON_A_CONNECTION = 8
 LEAST_RECEIPTS = 20  # for each kill, that clients were told
 KEEPS, REPLACES = "in", "out.1-2"
+GREATEST = 8 << 20  # bytes of a body
 PIECES = [tables.PIECE, tables.PIECE + 1, 2 * tables.PIECE, 300_000]
 SHARED = 200
 # What clients ask, and how often.
 KINDS = {"new": 40, "large": 4, "shared": 8, "repeat": 10, "replace": 12, "other": 4, "fetch": 10, "head": 4, "key": 4,
-         "drop": 4}
+         "drop": 4, "greatest": 2}
 
 
 # ---- clients
@@ -135,6 +136,10 @@ class Client:
 
     def large(self):
         return self.upload("large", self.placed(), self.source.randbytes(self.source.choice(PIECES)))
+
+    def greatest(self):
+        """A file as large as any may be, in the place of this client's last one."""
+        return self.upload("greatest", (REPLACES, f"{self.name}-greatest"), self.source.randbytes(GREATEST))
 
     def shared(self):
         """A file that every client puts."""

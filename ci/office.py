@@ -591,7 +591,7 @@ def test_allowance(drop, count):
 def test_pieces(drop, count):
     """Files by their sizes, each with the pieces that it is owed."""
     file = limited(drop, "pieces", tables.Box("in", quota=10**12, max_files=9))
-    for number, size in enumerate([10**6, 65536, 65537, 1048576, 0, 1], 1):
+    for number, size in enumerate([10**6, 65536, 65537, 1048577, 8388608, 0, 1], 1):
         data = b"a" * size
         path = f"/in/{size}".encode()
         count.add(f"{size} bytes", difference(drop.replay(file, put(path, data)), answered(receipt(number, data))))
@@ -600,8 +600,47 @@ def test_pieces(drop, count):
         owed = [(part, min(tables.PIECE, size - at)) for part, at in enumerate(range(0, size, tables.PIECE))]
         count.add(f"pieces of {size} bytes", None if found == owed else f"{found} and not {owed}")
         count.add(f"GET {size} bytes", difference(drop.replay(file, get(path)), answered(fetched(number, data))))
-    found = drop.replay(file, put(b"/in/more", b"a" * 1048577))
-    count.add("1048577 bytes", difference(found, answered(answer(5))))
+    found = drop.replay(file, put(b"/in/more", b"a" * 8388609))
+    count.add("8388609 bytes", difference(found, answered(answer(5))))
+
+
+def test_streamed(drop, count):
+    """Uploads that come in pieces: one that breaks off, one of just the quota, one byte beyond, and one of a wrong signature."""
+    boxes = [tables.Box(name, quota=8388608, max_files=5) for name in ["in", "full"]]
+    file = limited(drop, "streamed", *boxes)
+    large, full = bytes(range(250)) * 800, b"f" * 8388608
+    before = tables.dump(file)
+    found = drop.replay(file, put(b"/in/large", large)[:-50000])
+    count.add("150000 of 200000 bytes", difference(found, answered(answer(6))))
+    wrong = put(b"/in/wrong", b"w" * 1048577)
+    at = wrong.index(b"X-Amz-Signature=") + len(b"X-Amz-Signature=")
+    wrong = wrong[:at] + (b"1" if wrong[at:at + 1] == b"0" else b"0") + wrong[at + 1:]
+    count.add("1048577 bytes and a wrong signature", difference(drop.replay(file, wrong), answered(answer(21))))
+    count.add("the tables stay", None if tables.dump(file) == before else "they are others")
+    count.add("200000 bytes", difference(drop.replay(file, put(b"/in/large", large)), answered(receipt(1, large))))
+    query = "SELECT part, length(bytes) FROM pieces WHERE name = ? ORDER BY part"
+    found = tables.rows(file, query, "large")
+    count.add("their parts", difference(found, [(0, 65536), (1, 65536), (2, 65536), (3, 3392)]))
+    count.add("8388608 bytes", difference(drop.replay(file, put(b"/full/a", full)), answered(receipt(2, full))))
+    count.add("their parts", difference(tables.rows(file, query, "a"), [(part, 65536) for part in range(128)]))
+    count.add("a byte more", difference(drop.replay(file, put(b"/full/b", b"b")), answered(answer(33))))
+    count.add("the first again", difference(drop.replay(file, put(b"/full/a", full)), answered(receipt(2, full))))
+
+
+def test_staged(drop, count):
+    """What was left in the table `staged` is gone once the file was opened, and the office is what it was."""
+    whole = drop.filled("staged-whole")
+    owed = drop.replay(whole, get(b"/in/a.txt"))
+    for number, left in enumerate([
+        ["INSERT INTO staged VALUES (0, x'616263')"], [f"INSERT INTO staged VALUES ({part}, zeroblob(65536))" for part in range(128)],
+        ["INSERT INTO staged VALUES (-5, x'')", "INSERT INTO staged VALUES (9223372036854775807, x'00')"],
+    ]):
+        file = drop.path(f"staged-{number}")
+        shutil.copy(whole, file)
+        before = tables.dump(file)
+        tables.run(file, left)
+        count.add(f"{len(left)} rows staged", difference(drop.replay(file, get(b"/in/a.txt")), owed))
+        count.add(f"{len(left)} rows staged: emptied", None if tables.dump(file) == before else "the tables are others")
 
 
 def test_streams(drop, count):
@@ -760,8 +799,8 @@ def test_changed(drop, count):
 # Those that need no office that opens; and the others.
 CLOSED = [test_umasks, test_made, test_malformed_keys, test_secret_files, test_malformed_secret_files, test_init_over,
           test_init_that_fails, test_words, test_link_faults, test_replay_faults]
-OPEN = [test_not_offices, test_links, test_written_links, test_uploads, test_boxes, test_allowance, test_pieces, test_streams,
-        test_stock, test_broken, test_versions, test_cut, test_changed]
+OPEN = [test_not_offices, test_links, test_written_links, test_uploads, test_boxes, test_allowance, test_pieces, test_streamed, test_staged,
+        test_streams, test_stock, test_broken, test_versions, test_cut, test_changed]
 
 
 def run_all(tests):

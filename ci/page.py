@@ -23,7 +23,7 @@ from front import PAGE, Front, Office
 from office import Drop
 from shown import RESULT, Case, digest, is_not, lacks, of, receipt_facts
 
-MEBIBYTE = 1 << 20
+LIMIT = 8 << 20
 TAB, ENTER, SPACE = "\ue004", "\ue007", " "
 DATA = bytes(range(256)) * 300
 BOXES = [tables.Box("in", max_files=1000), tables.Box("closed", closes=1), tables.Box("full", max_files=0),
@@ -65,8 +65,8 @@ def test_put(case, count):
     found = case.put("put empty", "empty", b"")
     owed = receipt_facts(2, b"")
     count.add("an empty file", is_not((found["kind"], of(found, owed)), ("receipt", owed)))
-    found = case.put("put large", "large", b"l" * MEBIBYTE)
-    owed = receipt_facts(3, b"l" * MEBIBYTE)
+    found = case.put("put large", "large", b"l" * LIMIT)
+    owed = receipt_facts(3, b"l" * LIMIT)
     count.add("the largest file", is_not((found["kind"], of(found, owed)), ("receipt", owed)))
     count.add("receipts", is_not(len(receipts(case)), 3))
 
@@ -197,17 +197,17 @@ def test_too_large(case, count):
     """A file that is too large is told before it is sent."""
     before = len(case.front.passed)
     case.open("put", "put new")
-    case.choose("large", b"l" * (MEBIBYTE + 1))
+    case.choose("large", b"l" * (LIMIT + 1))
     found = case.result()
     count.add("too large", is_not(found["title"], "Not sent: it would be refused with number 5")
-              or lacks(found["what"], "more than 1,048,576 bytes") or lacks(found["remedy"], "Make the file smaller"))
+              or lacks(found["what"], "more than 8,388,608 bytes") or lacks(found["remedy"], "Make the file smaller"))
     case.click("#go")
     found = case.result()
     count.add("it is not sent", is_not((found["kind"], len(case.front.passed)), ("refused", before)))
     case.click("#de")
     found = case.result()
     count.add("too large, German", is_not(found["title"], "Nicht gesendet: Sie würde mit Nummer 5 abgelehnt")
-              or lacks(found["what"], "mehr als 1.048.576 Bytes") or lacks(found["remedy"], "Verkleinern Sie die Datei"))
+              or lacks(found["what"], "mehr als 8.388.608 Bytes") or lacks(found["remedy"], "Verkleinern Sie die Datei"))
 
 
 FAULTS = b"faults" * 100
@@ -448,7 +448,7 @@ NETWORK = {"offline": False, "latency": 0, "downloadThroughput": -1, "uploadThro
 def test_progress(case, count):
     """How much is sent is shown and said while it is."""
     case.open("put", "put progress")
-    case.choose("p", b"p" * MEBIBYTE)
+    case.choose("p", b"p" * LIMIT)
     case.browser.wait_for("return document.querySelectorAll('#facts .code').length")
     case.browser.js("""window.said = [];
         new MutationObserver(() => window.said.push(document.getElementById("live").textContent)).observe(
@@ -458,7 +458,7 @@ def test_progress(case, count):
     case.click("#go")
     shown = case.browser.wait_for("const it = document.getElementById('so_far').textContent;"
                                   "return /^[1-9]/.test(it) ? it : null")
-    count.add("how much", None if re.fullmatch(r"\d+ % – [\d,]+ of 1,048,576 bytes", shown) else shown)
+    count.add("how much", None if re.fullmatch(r"\d+ % – [\d,]+ of 8,388,608 bytes", shown) else shown)
     bar = case.browser.js("return document.getElementById('bar').value")
     count.add("the bar", None if 0 < bar <= 100 else bar)
     label = case.browser.find("#bar").label()
@@ -468,7 +468,7 @@ def test_progress(case, count):
     case.browser.cdp("Network.emulateNetworkConditions", **NETWORK)
     case.browser.cdp("Network.disable")
     found = case.result()
-    count.add("then the receipt", is_not(found["facts"].get("office_digest"), digest(b"p" * MEBIBYTE)))
+    count.add("then the receipt", is_not(found["facts"].get("office_digest"), digest(b"p" * LIMIT)))
     said = case.browser.js("return window.said")
     count.add("it is said", None if said[0] == "Sending" and "% – " in said[1] and "Receipt" in said[-1] else said)
 

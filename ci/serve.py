@@ -28,6 +28,7 @@ from replays import ID, fault
 CANNOT_LISTEN = fault("cannot listen")
 SECONDS = 20
 MEBIBYTE = 1 << 20
+LIMIT = 8 << 20
 
 
 def add_boxes(file):
@@ -163,7 +164,7 @@ def curl(*words, given=b""):
 
 
 def test_curl(drop, count):
-    file, data, large = open_office(drop, "curl"), bytes(range(256)) * 8, b"l" * MEBIBYTE
+    file, data, large = open_office(drop, "curl"), bytes(range(256)) * 8, b"l" * LIMIT
     server = Server(drop, file, 8)
     files = [("in/a.txt", data), ("out.1-2/é b+%2F..//", b""), ("in/large", large)]
     puts = {target: server.link("PUT", target) for target, _ in files}
@@ -255,7 +256,7 @@ PREFACE = b"PRI * HTTP/2.0\r\n\r\nSM\r\n\r\n"
 def test_nonsense(drop, count):
     """Bytes that are no request are refused, and the refusal arrives, though more bytes were sent than were read."""
     file = open_office(drop, "nonsense")
-    large = b"PUT /in/a HTTP/1.1\r\nContent-Length: 1048577\r\n\r\n" + b"a" * 100000
+    large = b"PUT /in/a HTTP/1.1\r\nContent-Length: 8388609\r\n\r\n" + b"a" * 100000
     rows = [
         ("a TLS hello", [HELLO], b""), ("a TLS hello that goes on", [HELLO + bytes(8192)], answer(2)),
         ("an HTTP/2 preface", [PREFACE], answer(1)), ("line ends", [b"\r\n" * 2], answer(1)),

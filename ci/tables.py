@@ -196,7 +196,7 @@ def receipt_breaks():
                  "CAST(x'ff2e747874' AS TEXT)", "'a' || char(10) || '.txt'"]:
         yield set_to("receipts", "name", name, "number = 3")
     yield set_to("receipts", "box", "'begins.1-2'", "number = 3")
-    for length in [-1, 1048577, 2**62]:
+    for length in [-1, 8388609, 2**62]:
         yield set_to("receipts", "length", length, "number = 3")
     for digest in ["x''", f"x'{'00' * 31}'", f"x'{'00' * 33}'"]:
         yield set_to("receipts", "digest", digest, "number = 3")
@@ -270,15 +270,20 @@ def table_breaks(tables):
     yield broken("ALTER TABLE pieces RENAME COLUMN part TO other")
 
 
-def breaks_of_version_1():
-    """Each rule of the tables of version 1 broken by itself, in an office that is filled as by `fill`."""
+def breaks_of_both():
+    """Each rule of both versions broken by itself, in an office that is filled as by `fill`."""
     return [*office_breaks(), *key_breaks(), *box_breaks(), *receipt_breaks(), *file_breaks(), *piece_breaks(),
             *table_breaks(OF_VERSION_1)]
 
 
+def breaks_of_version_1():
+    """Each rule of the tables of version 1 broken by itself, in an office that is filled as by `fill`."""
+    return [*breaks_of_both(), set_to("receipts", "length", 1048577, "number = 3")]
+
+
 def breaks():
     """Each rule of an office that is filled by `fill`, broken by itself."""
-    return [*breaks_of_version_1(), *allowance_breaks(), *limit_breaks(), *table_breaks(NEW_TABLES)]
+    return [*breaks_of_both(), *allowance_breaks(), *limit_breaks(), *table_breaks(NEW_TABLES)]
 
 
 def run(file, statements):

@@ -5,7 +5,7 @@
 
 (() => {
   const PUT = document.documentElement.dataset.page === "put";
-  const LIMIT = 1048576;
+  const LIMIT = 8388608;
   const state = { link: null, file: null, missing: false, busy: null, result: null, url: null };
   const given = new Set(); // the receipts that were told since the page was loaded
   let language = /^de\b/i.test(navigator.language) ? "de" : "en";

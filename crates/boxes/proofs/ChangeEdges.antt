@@ -140,11 +140,11 @@ pub no_more_than_four_milliards : 4000000001 ≤ most_receipts → ⊥
 no_more_than_four_milliards more = omega arith
 
 -- with so many receipts no file can be set; with one fewer one more can
-pub full : (s : State) (f : NewFile) (bytes : _) → length s.receipts ≡ 4000000000 → IsPastFull s (change.SetFile f bytes)
-full s f bytes many = omega arith
+pub full : (s : State) (f : NewFile) → length s.receipts ≡ 4000000000 → IsPastFull s (change.SetFile f)
+full s f many = omega arith
 
-pub not_full : (s : State) (f : NewFile) (bytes : _) → length s.receipts ≡ 3999999999 → IsPastFull s (change.SetFile f bytes) → ⊥
-not_full s f bytes many past = omega arith
+pub not_full : (s : State) (f : NewFile) → length s.receipts ≡ 3999999999 → IsPastFull s (change.SetFile f) → ⊥
+not_full s f many past = omega arith
 
 -- the desk adds no receipt
 pub desk_is_never_full : (s : State) (c : row.Command) → IsPastFull s (change.Desk c) → ⊥

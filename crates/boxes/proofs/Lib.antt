@@ -16,6 +16,7 @@ pub mod EntrySums
 pub mod FileTotals
 pub mod NoBox
 pub mod SoundUploads
+pub mod Staging
 pub mod SoundCommands
 pub mod OtherClerks
 pub mod Asked

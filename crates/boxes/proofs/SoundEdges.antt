@@ -135,15 +135,15 @@ no_more_files are = let files : 1000001 ≤ 1000000 = are.max_files in omega ari
 -- ---- receipts and files: each part at its greatest, and one more
 
 pub greatest_receipt : (s : State) (r : Receipt) → IsSomeAnd (get s.boxes r.box) (λ b. Fits b.rule r.name) → IsName r.name → length r.name ≡ 1024
-    → r.size ≡ 1048576 → IsDigest r.digest → r.moment ≡ 253402300799 → IsSomeAnd (get s.keys r.key) (λ k. ⊤) → IsReceipt s r
+    → r.size ≡ 8388608 → IsDigest r.digest → r.moment ≡ 253402300799 → IsSomeAnd (get s.keys r.key) (λ k. ⊤) → IsReceipt s r
 greatest_receipt s r box name long size digest moment key =
     record { box = box; name = name; short = omega arith; size = omega arith; digest = digest; moment = omega arith; key = key }
 
 pub no_longer_name : (s : State) (r : Receipt) → length r.name ≡ 1025 → IsReceipt s r → ⊥
 no_longer_name s r long is = let short : length r.name ≤ 1024 = is.short in omega arith
 
-pub no_larger_size : (s : State) (r : Receipt) → r.size ≡ 1048577 → IsReceipt s r → ⊥
-no_larger_size s r large is = let size : r.size ≤ 1048576 = is.size in omega arith
+pub no_larger_size : (s : State) (r : Receipt) → r.size ≡ 8388609 → IsReceipt s r → ⊥
+no_larger_size s r large is = let size : r.size ≤ 8388608 = is.size in omega arith
 
 pub no_later_receipt : (s : State) (r : Receipt) → r.moment ≡ 253402300800 → IsReceipt s r → ⊥
 no_later_receipt s r late is = let moment : r.moment ≤ 253402300799 = is.moment in omega arith

@@ -1,5 +1,5 @@
 -- Which changes the rules give for a state, and the state after each.
-use Rattle.std.specs.Prelude.{◌≡◌, ℕ, ◌+◌, ◌≤◌, List, length, IsSome}
+use Rattle.std.specs.Prelude.{◌≡◌, ℕ, ◌+◌, ◌≤◌, List, length, ⊤, IsSome}
 use Rattle.std.specs.FinMap.{get}
 use Rattle.sigtext.specs.Bytes.{AreBytes}
 use Rattle.sigtext.specs.Limits.{most_body}
@@ -62,10 +62,19 @@ pub record IsFileSet (s : State) (f : NewFile) (bytes : List ℕ) (after : State
   pub file : IsFileFor s f bytes
   pub sets : after ≡ after_upload s (upload_in f bytes)
 
--- the change is one that the rules give for the state, which goes on to the other
-abbrev pub IsChangeOf : State → Change → State → Type 0
-IsChangeOf s (change.SetFile f bytes) after = IsFileSet s f bytes.now after
-IsChangeOf s (change.Desk c) after = IsObeyed s (command_of c) after
+-- the change is one that the rules give for the state, which goes on to the other; a file is set to what is staged
+abbrev pub IsChangeOf : (List ℕ → Type 0) → State → Change → State → Type 0
+IsChangeOf Stages s (change.SetFile f) after = (bytes : List ℕ) × Stages bytes × IsFileSet s f bytes after
+IsChangeOf Stages s (change.Desk c) after = IsObeyed s (command_of c) after
+
+-- the same, whatever is staged
+abbrev pub MayChange : State → Change → State → Type 0
+MayChange = IsChangeOf (λ bytes. ⊤)
+
+-- the change uses up what is staged
+abbrev pub TakesStaged : Change → Type 0
+TakesStaged (change.SetFile f) = ⊤
+TakesStaged (change.Desk c) = ⊥
 
 -- the greatest number of receipts that an office may have
 abbrev pub most_receipts : ℕ
@@ -73,5 +82,5 @@ most_receipts = 4000000000
 
 -- the change adds a receipt, and there is no room for one
 abbrev pub IsPastFull : State → Change → Type 0
-IsPastFull s (change.SetFile f bytes) = most_receipts ≤ length s.receipts
+IsPastFull s (change.SetFile f) = most_receipts ≤ length s.receipts
 IsPastFull s (change.Desk c) = ⊥

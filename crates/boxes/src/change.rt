@@ -75,8 +75,8 @@ pub struct NewFile<'a> {
 /// A change of the state.
 #[derive(Clone, Copy)]
 pub enum Change<'a> {
-    /// Sets a file to these bytes, and adds its receipt.
-    SetFile(NewFile<'a>, &'a [u8]),
+    /// Sets a file to the bytes that are staged, and adds its receipt. Nothing is staged then.
+    SetFile(NewFile<'a>),
     /// What a command of the desk does.
     Desk(Command<'a>),
 }

@@ -5,7 +5,7 @@ ghost use Rattle.boxes.specs.Clerks.{clerks};
 ghost use Rattle.boxes.specs.Steps.{HasOtherClerk};
 ghost use Rattle.boxes.specs.State.{Key, State};
 ghost use Rattle.boxes.specs.Sound.{IsSound};
-ghost use Rattle.boxes.specs.Changes.{IsChangeOf};
+ghost use Rattle.boxes.specs.Changes.{MayChange};
 ghost use Rattle.boxes.specs.declared.change.Change.{Change};
 
 use crate::rows::Role;
@@ -13,7 +13,7 @@ use crate::rows::Role;
 /// Each change that the rules give leaves a sound state: quotas, numbers of files, receipts without a gap, and each
 /// file's receipt of its length and digest.
 pub fn law_of_changes()
-    ensures { (s after : State) (change : Change) → IsSound s → IsChangeOf s change after
+    ensures { (s after : State) (change : Change) → IsSound s → MayChange s change after
         → IsSound after }
 {}
 

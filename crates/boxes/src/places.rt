@@ -24,6 +24,18 @@ pub(crate) fn is_name(name: &[u8]) -> bool
     name.iter().all(|byte| *byte >= 0x20 && *byte != 0x7F)
 }
 
+/// Tells before the body whether an upload may come to its place: the box and the name hold the rules 27 to 29; else it is
+/// refused by the least that fails. Takes no memory.
+pub fn place(in_box: &Option<BoxRow>, name: &[u8]) -> Result<(), Refusal>
+    ensures { (s : State) (place : Place)
+        → option_map settings_of in_box.now ≡ get s.boxes place.box → place.name ≡ name.now
+        → MatchResult result (λ done. (r : refusal.Refusal) → PlaceRule r s place)
+        (λ q. IsLeastToFail (λ r. PlaceRule r s place) q) }
+{
+    box_for(in_box, name)?;
+    Ok(())
+}
+
 /// The box, where the box and the name hold the rules 27 to 29; else the least that fails. Takes no memory.
 pub fn box_for<'a>(in_box: &'a Option<BoxRow>, name: &[u8]) -> Result<&'a BoxRow, Refusal>
     ensures { (s : State) (place : Place)

@@ -169,9 +169,9 @@ impl<K: Keeper> Answerer for Comparer<'_, K> {
         Ok(Some(entry_line(alloc, &entry, found.word())?))
     }
 
-    ghost unasked = { λ a. (refl, stays_unasked _ a.keeper.now) };
+    ghost unasked = { λ a. (refl, stays_unasked a.keeper.now) };
 
-    ghost joins = { λ a b c r p q. (q.0 ∙ p.0, stays_joined _ _ _ _ _ p.1 q.1) };
+    ghost joins = { λ a b c r p q. (q.0 ∙ p.0, stays_joined _ _ _ _ p.1 q.1) };
 
     ghost same = { λ a b s r p h. (p.1.same s h.0, h.1) };
 

@@ -19,6 +19,10 @@ const SERVED_PAGES: usize = 16_384;
 /// is written again and again, as the totals of a box, is then copied once for thousands of uploads, and not for every hundred.
 const SERVED_FRAMES: usize = 16_384;
 
+/// While an office is served, a transaction that has written so many pages puts further ones into the log at once, and not only
+/// when it is committed: 2 MB. An upload of 8 MiB then takes less memory, and is as quick.
+const SERVED_SPILL: usize = 512;
+
 // The store of an office file.
 pub(crate) type Store = FileStore<File>;
 
@@ -50,6 +54,7 @@ fn options(rt: &HostRuntime, purpose: Purpose) -> Result<Options, Fault<'static>
     if purpose == Purpose::Serve {
         options.cache_pages = SERVED_PAGES;
         options.checkpoint_frames = SERVED_FRAMES;
+        options.spill_pages = SERVED_SPILL;
     }
     Ok(options)
 }

@@ -1,13 +1,19 @@
 -- What a shelf finds.
 use Rattle.std.proofs.Common.{◌≡◌, ◌∙◌, ℕ, zero, suc, ◌+◌, List, [], ◌∷◌, length, Option, Some, None, refl, sym, ap, subst, arith}
-use Rattle.std.specs.Prelude.{option_map, slice_get}
+use Rattle.std.specs.Prelude.{◌↔◌, Bool, false, option_map, slice_get, IsSomeAnd, IsTrue}
+use Rattle.std.specs.FinMap.{get}
+use Rattle.std.proofs.lemmas.Bool.Decides.{Decides-eqb}
+use Rattle.std.proofs.lemmas.Slice.Eq.{slice_eq-Decides}
+use Rattle.sigtext.specs.Bytes.{same_bytes}
 use Rattle.std.proofs.lemmas.List.{length-map}
 use Rattle.std.proofs.lemmas.Option.{slice_get-map}
 use Rattle.boxes.specs.declared.rows.ReceiptRow.{ReceiptRow}
 use Rattle.boxes.specs.declared.rows.FileRow.{FileRow}
 use Rattle.boxes.specs.State.{Place, place_cmp, File, Receipt, State}
 use Rattle.boxes.specs.Rows.{numbered, numbered_receipt, receipt_in, IsFileAt}
+use Rattle.boxes.specs.Rules.{HasBytes}
 use Rattle.boxes.specs.Steps.{HasReceipt}
+use Rattle.boxes.specs.Views.{IsReceiptAt}
 use Rattle.keeper.specs.declared.shelf.Shelf.{Shelf}
 use Rattle.keeper.specs.declared.shelf.StoredFile.{StoredFile}
 use Rattle.keeper.specs.Maps.{found}
@@ -50,3 +56,32 @@ file_at k s place stored receipt at copy h there number listed bytes given =
           ∙ sym (h.files.each place ∙ ap (option_map stored_file) there);
       receipt = λ f e. let it : copy ≡ f = cc in subst (λ (x : FileRow). HasReceipt s x.receipt.number (receipt_in x.receipt)) it is;
     }
+
+-- the same of its receipt alone
+pub receipt_at : (k : Shelf) (s : State) (place : Place) (stored : StoredFile) (receipt : ReceiptRow) (at : ℕ) (copy : ReceiptRow) → Holds k s
+    → found place_cmp place_of k.files.entries place ≡ Some stored → stored.number ≡ at + 1 → slice_get k.receipts.items at ≡ Some receipt
+    → numbered_receipt copy ≡ numbered_receipt receipt → IsReceiptAt s place (Some copy)
+receipt_at k s place stored receipt at copy h there number listed given =
+    let f : FileRow = record { bytes = stored.bytes; receipt = copy } in
+    let is = file_at k s place stored receipt at f h there number listed refl given in
+    record {
+      there = ap (option_map (λ (x : File). x.receipt)) is.file;
+      receipt = λ r e. let same : copy ≡ r = cc in subst (λ (x : ReceiptRow). HasReceipt s x.number (receipt_in x)) same (is.receipt f refl);
+    }
+
+-- whether the file that was found has these bytes
+pub bytes_found : (k : Shelf) (s : State) (place : Place) (stored : StoredFile) (bytes held staged : List ℕ) (test : Bool) → Holds k s
+    → found place_cmp place_of k.files.entries place ≡ Some stored → held ≡ stored.bytes.items → staged ≡ bytes → test ≡ same_bytes held staged
+    → IsTrue test ↔ HasBytes s place bytes
+bytes_found k s place stored bytes held staged test h there is was tested =
+    let stands : get s.files place ≡ Some (stored_file stored) = h.files.each place ∙ ap (option_map stored_file) there in
+    let decides = slice_eq-Decides Decides-eqb held staged test tested in
+    subst (λ (o : Option File). IsTrue test ↔ IsSomeAnd o (λ f. f.bytes ≡ bytes)) (sym stands)
+    (λ yes. sym is ∙ decides.0 yes ∙ was, λ same. decides.1 (is ∙ same ∙ sym was))
+
+-- none was found
+pub no_bytes_found : (k : Shelf) (s : State) (place : Place) (bytes : List ℕ) → Holds k s → found place_cmp place_of k.files.entries place ≡ None
+    → IsTrue false ↔ HasBytes s place bytes
+no_bytes_found k s place bytes h there =
+    let none : get s.files place ≡ None = h.files.each place ∙ ap (option_map stored_file) there in
+    subst (λ (o : Option File). IsTrue false ↔ IsSomeAnd o (λ f. f.bytes ≡ bytes)) (sym none) (λ yes. absurd cc, λ has. absurd has)

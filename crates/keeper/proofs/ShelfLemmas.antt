@@ -32,6 +32,21 @@ use Rattle.keeper.proofs.MapLemmas.{means-set, means-same, some_of}
 clash : false ≡ true → ⊥
 clash e = cc
 
+-- other bytes are staged
+pub holds_staged : (k : Shelf) (s : State) (bytes : Vec ℕ Global) → Holds k s → Holds (record k { staged = bytes }) s
+holds_staged k s bytes h = record {
+  offset = h.offset;
+  allowance = h.allowance;
+  keys = h.keys;
+  boxes = h.boxes;
+  files = h.files;
+  receipts = h.receipts;
+  totals = h.totals;
+  clerks = h.clerks;
+  fewer = h.fewer;
+  limits = h.limits;
+}
+
 -- a key was set
 pub holds_keys : (k : Shelf) (s : State) (keys : BTreeMap (Vec ℕ Global) KeyRow) (id : List ℕ) (row : KeyRow) (n : ℕ) → Holds k s
     → Sets bytes_cmp bytes_of id (Some row) k.keys.entries keys.entries

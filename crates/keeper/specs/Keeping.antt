@@ -1,5 +1,5 @@
 -- What the calls of a keeper say, over its ghost members.
-use Rattle.std.specs.Prelude.{◌≡◌, ◌≢◌, ℕ, ◌⊎◌, Result, IfOk, IfErr, OnOk, IsErrOf}
+use Rattle.std.specs.Prelude.{◌≡◌, ◌≢◌, ℕ, List, ◌⊎◌, Result, IfOk, IfErr, OnOk, IsErrOf}
 use Rattle.sigtext.specs.Counts.{CountsErrors}
 use Rattle.boxes.specs.State.{State}
 use Rattle.boxes.specs.Sound.{IsSound}
@@ -23,6 +23,10 @@ pub record Stays {K T : Type 0} (means : K → State → Type 0) (is_honest is_o
   pub store : IsErrOf result Store → has_store
   pub crash : (s t : State) → means old s → is_honest new → leaves new t → leaves old t ⊎ (t ≡ s)
   pub whole : (s : State) → means old s → is_honest new → leaves_whole old → leaves_whole new
+
+-- what was staged still is
+abbrev pub KeepsStaged : {K : Type 0} → (K → List ℕ → Type 0) → K → K → Type 0
+KeepsStaged stages old new = (bytes : List ℕ) → stages old bytes → stages new bytes
 
 -- a crash leaves the state after, and nothing else
 pub record LeavesAlone {K : Type 0} (leaves : K → State → Type 0) (leaves_whole : K → Type 0) (new : K) (after : State) : Type 0 where

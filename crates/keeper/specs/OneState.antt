@@ -51,3 +51,7 @@ one_state k s t a b =
     let limits = same_limits k.limits.entries s.limits t.limits a.limits b.limits in
     let receipts = one_list 1 s.receipts t.receipts (sym a.receipts ∙ b.receipts) in
     λ i. record { offset = offset i; allowance = allowance i; keys = keys i; boxes = boxes i; files = files i; receipts = receipts i; limits = limits i }
+
+-- it stages one text
+pub one_text : (k : Shelf) (a b : List ℕ) → k.staged.items ≡ a → k.staged.items ≡ b → a ≡ b
+one_text k a b x y = sym x ∙ y

@@ -57,11 +57,13 @@ pub record Holds (k : Shelf) (s : State) : Type 0 where
   pub fewer : k.clerks ≤ length k.keys.entries
   pub limits : LimitsMean k.limits.entries s.limits
 
--- What a call leaves that only asks: the shelf means what it meant, and an error, of memory alone, is counted.
+-- What a call leaves that only asks: the shelf means what it meant and stages what it staged, and an error, of memory
+-- alone, is counted.
 pub record Looks {T : Type 0} (old new : Shelf) (result : Result T KeepFault) : Type 0 where
   pub same : (s : State) → Holds old s → Holds new s
   pub count : CountsErrors old.faults new.faults result
   pub fault : IfErr result (λ f. f ≡ Memory)
+  pub staged : new.staged ≡ old.staged
 
 -- a key that is added
 abbrev pub added_key : Role → List ℕ → Key

@@ -1,15 +1,16 @@
 //! The trait that every keeper meets.
-ghost use Rattle.std.specs.Prelude.{◌≡◌, ◌↔◌, ℕ, ◌+◌, ◌⊎◌, length, map, option_map, IsTrue, IfErr, OnOk, OnErr, IsErrOf};
+ghost use Rattle.std.specs.Prelude.{◌≡◌, ◌↔◌, ◌≤◌, ℕ, ◌+◌, ◌⊎◌, List, [], ◌++◌, length, map, option_map, IsTrue, IfErr, OnOk, OnErr, IsErrOf};
 ghost use Rattle.std.specs.FinMap.{get};
 ghost use Rattle.sigtext.specs.Counts.{CountsErrors};
 ghost use Rattle.boxes.specs.State.{State};
-ghost use Rattle.boxes.specs.Views.{AreTotals};
+ghost use Rattle.boxes.specs.Views.{AreTotals, IsReceiptAt};
 ghost use Rattle.boxes.specs.Clerks.{clerks};
 ghost use Rattle.boxes.specs.Limits.{IsLimitedTo, MayUse};
 ghost use Rattle.boxes.specs.Rows.{IsOfficeOf, key_of, settings_of, IsFileAt, receipts_from, numbered_receipt};
+ghost use Rattle.boxes.specs.Rules.{HasBytes};
 ghost use Rattle.boxes.specs.Sound.{IsSound};
-ghost use Rattle.boxes.specs.Changes.{IsChangeOf, IsPastFull};
-ghost use Rattle.keeper.specs.Keeping.{Answers, Stays, LeavesAlone, LeavesEither};
+ghost use Rattle.boxes.specs.Changes.{IsChangeOf, IsPastFull, TakesStaged};
+ghost use Rattle.keeper.specs.Keeping.{Answers, Stays, KeepsStaged, LeavesAlone, LeavesEither};
 
 use boxes::{BoxRow, Change, FileRow, KeyRow, OfficeRow, ReceiptRow, Totals};
 use thiserror::Error;
@@ -34,6 +35,10 @@ pub trait Keeper {
     /// What is kept means this state. A relation, since a store that is shut shows nothing.
     ghost means: { Self → State → Type 0 };
 
+    /// These bytes are staged beside the state: none at first. It is of no bytes where that is not known: after an error, until
+    /// the next `stage_begin` that succeeds.
+    ghost stages: { Self → List ℕ → Type 0 };
+
     /// What the store gave back so far is what was written. Memory is always honest.
     ghost is_honest: { Self → Type 0 };
 
@@ -57,6 +62,7 @@ pub trait Keeper {
         ensures value { Answers means is_honest self.old self.new result IsOfficeOf }
         ensures rest { Stays means is_honest is_open faults leaves leaves_whole has_store
             self.old self.new result }
+        ensures staged { KeepsStaged stages self.old self.new }
         ensures sure { OnErr result has_store };
 
     /// The key of this id.
@@ -64,7 +70,8 @@ pub trait Keeper {
         ensures value { Answers means is_honest self.old self.new result
             (λ s k. option_map key_of k ≡ get s.keys id.now) }
         ensures rest { Stays means is_honest is_open faults leaves leaves_whole has_store
-            self.old self.new result };
+            self.old self.new result }
+        ensures staged { KeepsStaged stages self.old self.new };
 
     /// Whether the key of this id may use the box of this name: it is not limited, or this box is one of those that it is
     /// limited to. Neither need be there. Takes no memory.
@@ -73,6 +80,7 @@ pub trait Keeper {
             (λ s b. IsTrue b ↔ MayUse s id.now in_box.now) }
         ensures rest { Stays means is_honest is_open faults leaves leaves_whole has_store
             self.old self.new result }
+        ensures staged { KeepsStaged stages self.old self.new }
         ensures sure { OnErr result has_store };
 
     /// Whether this box is one of those that the key of this id is limited to. Takes no memory.
@@ -81,6 +89,7 @@ pub trait Keeper {
             (λ s b. IsTrue b ↔ IsLimitedTo s id.now in_box.now) }
         ensures rest { Stays means is_honest is_open faults leaves leaves_whole has_store
             self.old self.new result }
+        ensures staged { KeepsStaged stages self.old self.new }
         ensures sure { OnErr result has_store };
 
     /// The box of this name.
@@ -88,14 +97,24 @@ pub trait Keeper {
         ensures value { Answers means is_honest self.old self.new result
             (λ s b. option_map settings_of b ≡ get s.boxes name.now) }
         ensures rest { Stays means is_honest is_open faults leaves leaves_whole has_store
-            self.old self.new result };
+            self.old self.new result }
+        ensures staged { KeepsStaged stages self.old self.new };
 
     /// The file of this box and name, with its receipt.
     fn file(&mut self, in_box: &[u8], name: &[u8]) -> Result<Option<FileRow>, KeepFault>
         ensures value { Answers means is_honest self.old self.new result
             (λ s f. IsFileAt s (record { box = in_box.now; name = name.now }) f) }
         ensures rest { Stays means is_honest is_open faults leaves leaves_whole has_store
-            self.old self.new result };
+            self.old self.new result }
+        ensures staged { KeepsStaged stages self.old self.new };
+
+    /// The receipt of the file of this box and name.
+    fn file_receipt(&mut self, in_box: &[u8], name: &[u8]) -> Result<Option<ReceiptRow>, KeepFault>
+        ensures value { Answers means is_honest self.old self.new result
+            (λ s r. IsReceiptAt s (record { box = in_box.now; name = name.now }) r) }
+        ensures rest { Stays means is_honest is_open faults leaves leaves_whole has_store
+            self.old self.new result }
+        ensures staged { KeepsStaged stages self.old self.new };
 
     /// What the box of this name holds; nothing, where it is not there. Takes no memory.
     fn sizes(&mut self, in_box: &[u8]) -> Result<Totals, KeepFault>
@@ -103,6 +122,7 @@ pub trait Keeper {
             (λ s t. AreTotals s in_box.now t) }
         ensures rest { Stays means is_honest is_open faults leaves leaves_whole has_store
             self.old self.new result }
+        ensures staged { KeepsStaged stages self.old self.new }
         ensures sure { OnErr result has_store };
 
     /// How many unrevoked clerk's keys stand. Takes no memory.
@@ -110,6 +130,7 @@ pub trait Keeper {
         ensures value { Answers means is_honest self.old self.new result (λ s n. n ≡ clerks s) }
         ensures rest { Stays means is_honest is_open faults leaves leaves_whole has_store
             self.old self.new result }
+        ensures staged { KeepsStaged stages self.old self.new }
         ensures sure { OnErr result has_store };
 
     /// The number of the next receipt. Takes no memory.
@@ -118,6 +139,7 @@ pub trait Keeper {
             (λ s n. n ≡ length s.receipts + 1) }
         ensures rest { Stays means is_honest is_open faults leaves leaves_whole has_store
             self.old self.new result }
+        ensures staged { KeepsStaged stages self.old self.new }
         ensures sure { OnErr result has_store };
 
     /// The receipts numbered `from` or more, ascending, at most `most`.
@@ -125,37 +147,78 @@ pub trait Keeper {
         ensures value { Answers means is_honest self.old self.new result
             (λ s rs. map numbered_receipt rs.items ≡ receipts_from s from most) }
         ensures rest { Stays means is_honest is_open faults leaves leaves_whole has_store
-            self.old self.new result };
+            self.old self.new result }
+        ensures staged { KeepsStaged stages self.old self.new };
 
-    /// Makes a change that the rules give for the state, whole or not at all. Where the office has its greatest number
+    /// Nothing is staged from now on. Takes no memory.
+    fn stage_begin(&mut self) -> Result<(), KeepFault>
+        ensures rest { Stays means is_honest is_open faults leaves leaves_whole has_store
+            self.old self.new result }
+        ensures empty { OnOk result (stages self.new []) }
+        ensures sure { OnErr result has_store };
+
+    /// Stages these bytes, 1 to 65536, behind those that are staged.
+    fn stage(&mut self, bytes: &[u8]) -> Result<(), KeepFault>
+        requires some { 1 ≤ length bytes.now }
+        requires short { length bytes.now ≤ 65536 }
+        ensures rest { Stays means is_honest is_open faults leaves leaves_whole has_store
+            self.old self.new result }
+        ensures added { (staged : List ℕ) → stages self.old staged
+            → OnOk result (stages self.new (staged ++ bytes.now)) };
+
+    /// Whether the file of this box and name stands with just the staged bytes.
+    fn staged_equals(&mut self, in_box: &[u8], name: &[u8]) -> Result<bool, KeepFault>
+        ensures value { (staged : List ℕ) → stages self.old staged
+            → Answers means is_honest self.old self.new result
+            (λ s b. IsTrue b ↔ HasBytes s (record { box = in_box.now; name = name.now }) staged) }
+        ensures rest { Stays means is_honest is_open faults leaves leaves_whole has_store
+            self.old self.new result }
+        ensures staged { OnOk result (KeepsStaged stages self.old self.new) };
+
+    /// Nothing is staged any more. Takes no memory.
+    fn stage_drop(&mut self) -> Result<(), KeepFault>
+        ensures rest { Stays means is_honest is_open faults leaves leaves_whole has_store
+            self.old self.new result }
+        ensures empty { OnOk result (stages self.new []) }
+        ensures sure { OnErr result has_store };
+
+    /// Makes a change that the rules give for the state, whole or not at all. A file is set to the staged bytes, and nothing
+    /// is staged then; both are one change. Where the office has its greatest number
     /// of receipts and the change would add one, no change is made: the error is `Full`, or the store's own. Elsewhere
     /// `Full` never comes.
     fn apply(&mut self, change: &Change<'_>) -> Result<(), KeepFault>
         ensures made { (s after : State) → means self.old s → IsSound s
-            → IsChangeOf s change.now after → OnOk result (means self.new after) }
+            → IsChangeOf (stages self.old) s change.now after → OnOk result (means self.new after) }
+        ensures emptied { TakesStaged change.now → OnOk result (stages self.new []) }
+        ensures staged { (TakesStaged change.now → ⊥)
+            → OnOk result (KeepsStaged stages self.old self.new) }
         ensures same { (s : State) → means self.old s → OnErr result (means self.new s) }
         ensures honest { is_honest self.new → is_honest self.old }
         ensures opened { is_honest self.new → OnOk result (is_open self.new) }
         ensures count { CountsErrors (faults self.old) (faults self.new) result }
         ensures full { (s after : State) → means self.old s → IsSound s
-            → IsChangeOf s change.now after → IsErrOf result KeepFault.Full
+            → IsChangeOf (stages self.old) s change.now after → IsErrOf result KeepFault.Full
             → IsPastFull s change.now }
         ensures room { (s after : State) → means self.old s → IsSound s
-            → IsChangeOf s change.now after → OnOk result (IsPastFull s change.now → ⊥) }
+            → IsChangeOf (stages self.old) s change.now after → OnOk result (IsPastFull s change.now → ⊥) }
         ensures first { (s after : State) → means self.old s → IsSound s
-            → IsChangeOf s change.now after → IsPastFull s change.now
+            → IsChangeOf (stages self.old) s change.now after → IsPastFull s change.now
             → IfErr result (λ f. (f ≡ KeepFault.Full) ⊎ has_store) }
         ensures store { IsErrOf result KeepFault.Store → has_store }
         ensures durable { (s after : State) → means self.old s → IsSound s
-            → IsChangeOf s change.now after → is_honest self.new
+            → IsChangeOf (stages self.old) s change.now after → is_honest self.new
             → OnOk result (LeavesAlone leaves leaves_whole self.new after) }
         ensures crash { (s after : State) → means self.old s → IsSound s
-            → IsChangeOf s change.now after → is_honest self.new
+            → IsChangeOf (stages self.old) s change.now after → is_honest self.new
             → OnErr result (LeavesEither leaves leaves_whole self.old self.new s after) };
 
     /// An honest keeper that is open means one state.
     ghost one: { (k : Self) (s t : State) → is_honest k → is_open k → means k s → means k t
         → s ≡ t };
+
+    /// An honest keeper that is open stages one text at most.
+    ghost one_staged: { (k : Self) (a b : List ℕ) → is_honest k → is_open k → stages k a
+        → stages k b → a ≡ b };
 
     /// A keeper without a store is honest and open at all times.
     ghost always: { (has_store → ⊥) → (k : Self) → is_honest k × is_open k };

@@ -6,8 +6,9 @@ ghost use Rattle.boxes.specs.State.{State};
 ghost use Rattle.boxes.specs.Sound.{IsSound};
 ghost use Rattle.boxes.specs.Clerks.{is_acting};
 ghost use Rattle.boxes.specs.Limits.{IsLimitedTo, MayUse};
+ghost use Rattle.boxes.specs.Rules.{HasBytes};
 ghost use Rattle.boxes.specs.Rows.{key_of, settings_of, receipts_from, numbered_receipt, IsFileAt};
-ghost use Rattle.boxes.specs.Views.{AreTotals};
+ghost use Rattle.boxes.specs.Views.{AreTotals, IsReceiptAt};
 ghost use Rattle.boxes.specs.Changes.{most_receipts};
 ghost use Rattle.keeper.specs.Shelves.{Holds, Looks, place_of};
 
@@ -41,6 +42,8 @@ pub struct Shelf {
     // The boxes that a key is limited to, by its id. No set is empty.
     pub(crate) limits: BTreeMap<Vec<u8>, BTreeSet<Vec<u8>>>,
     pub(crate) receipts: Vec<ReceiptRow>,
+    // The bytes that are staged.
+    pub(crate) staged: Vec<u8>,
     pub(crate) clerks: u64,
     pub(crate) faults: u64,
     pub(crate) alloc: Global,
@@ -120,6 +123,7 @@ impl Shelf {
     pub(crate) fn count(&mut self) -> KeepFault
         ensures result { result ≡ KeepFault.Memory }
         ensures rose { Rose self.old.faults self.new.faults }
+        ensures staged { self.new.staged ≡ self.old.staged }
         ensures same { (s : State) → Holds self.old s → Holds self.new s }
     {
         self.faults = self.faults.saturating_add(1);
@@ -197,6 +201,47 @@ impl Shelf {
             Ok(copy) => Ok(Some(copy)),
             Err(_) => Err(self.count()),
         }
+    }
+
+    /// The receipt of the file of this box and name.
+    pub(crate) fn find_file_receipt(
+        &mut self,
+        in_box: &[u8],
+        name: &[u8],
+    ) -> Result<Option<ReceiptRow>, KeepFault>
+        ensures value { (s : State) → Holds self.old s → IsSound s
+            → IfOk result (IsReceiptAt s (record { box = in_box.now; name = name.now })) }
+        ensures rest { Looks self.old self.new result }
+    {
+        let Ok(place) = new_place(self.alloc, in_box, name) else {
+            return Err(self.count());
+        };
+        let Some(stored) = self.files.get(&place) else {
+            return Ok(None);
+        };
+        let Some(receipt) = numbered_of(&self.receipts, stored.number) else {
+            return Err(self.count());
+        };
+        match copy_receipt(self.alloc, receipt) {
+            Ok(copy) => Ok(Some(copy)),
+            Err(_) => Err(self.count()),
+        }
+    }
+
+    /// Whether the file of this box and name has the bytes that are staged.
+    pub(crate) fn has_staged(&mut self, in_box: &[u8], name: &[u8]) -> Result<bool, KeepFault>
+        ensures value { (s : State) → Holds self.old s
+            → IfOk result (λ b. IsTrue b ↔ HasBytes s (record { box = in_box.now; name = name.now })
+            self.old.staged.items) }
+        ensures rest { Looks self.old self.new result }
+    {
+        let Ok(place) = new_place(self.alloc, in_box, name) else {
+            return Err(self.count());
+        };
+        let Some(stored) = self.files.get(&place) else {
+            return Ok(false);
+        };
+        Ok(stored.bytes.as_slice() == self.staged.as_slice())
     }
 
     /// What the box of this name holds.

@@ -1,10 +1,10 @@
 //! The keeper in memory meets the trait.
-ghost use Rattle.std.specs.Prelude.{◌≡◌, pos, neg_ℤ, ◌≤ℤ◌, IfOk, IfErr};
+ghost use Rattle.std.specs.Prelude.{◌≡◌, [], pos, neg_ℤ, ◌≤ℤ◌, IfOk, IfErr};
 ghost use Rattle.sigv4.specs.Credential.{IsKeyId, IsSecret};
 ghost use Rattle.boxes.specs.FirstState.{first_state};
 ghost use Rattle.boxes.specs.Sound.{IsSound};
 ghost use Rattle.keeper.specs.Shelves.{Holds};
-ghost use Rattle.keeper.specs.OneState.{one_state};
+ghost use Rattle.keeper.specs.OneState.{one_state, one_text};
 
 use crate::keep::{KeepFault, Keeper};
 use crate::shelf::Shelf;
@@ -15,6 +15,8 @@ use std::collections::BTreeMap;
 
 impl Keeper for Shelf {
     ghost means = { Holds };
+
+    ghost stages = { λ k b. k.staged.items ≡ b };
 
     ghost is_honest = { λ _. Unit {0} };
 
@@ -52,6 +54,14 @@ impl Keeper for Shelf {
         self.find_file(in_box, name)
     }
 
+    fn file_receipt(
+        &mut self,
+        in_box: &[u8],
+        name: &[u8],
+    ) -> Result<Option<ReceiptRow>, KeepFault> {
+        self.find_file_receipt(in_box, name)
+    }
+
     fn sizes(&mut self, in_box: &[u8]) -> Result<Totals, KeepFault> {
         Ok(self.totals_of(in_box))
     }
@@ -68,14 +78,37 @@ impl Keeper for Shelf {
         self.find_receipts(from, most)
     }
 
+    fn stage_begin(&mut self) -> Result<(), KeepFault> {
+        self.staged = Vec::new(self.alloc);
+        Ok(())
+    }
+
+    fn stage(&mut self, bytes: &[u8]) -> Result<(), KeepFault> {
+        match self.staged.extend_from_slice(bytes) {
+            Ok(()) => Ok(()),
+            Err(_) => Err(self.count()),
+        }
+    }
+
+    fn staged_equals(&mut self, in_box: &[u8], name: &[u8]) -> Result<bool, KeepFault> {
+        self.has_staged(in_box, name)
+    }
+
+    fn stage_drop(&mut self) -> Result<(), KeepFault> {
+        self.staged = Vec::new(self.alloc);
+        Ok(())
+    }
+
     fn apply(&mut self, change: &Change<'_>) -> Result<(), KeepFault> {
         match change {
-            Change::SetFile(file, bytes) => self.set_file(file, bytes),
+            Change::SetFile(file) => self.set_staged(file),
             Change::Desk(command) => self.obey(command),
         }
     }
 
     ghost one = { λ k s t honest opened a b. one_state k s t a b };
+
+    ghost one_staged = { λ k a b honest opened x y. one_text k a b x y };
 
     ghost always = { λ none k. (tt, tt) };
 }
@@ -99,6 +132,7 @@ impl Shelf {
             → IsSound (first_state office.east office.allowance id.now secret.now) }
         ensures honest { IfOk result ⟦<Shelf as Keeper>⟧.is_honest }
         ensures opened { IfOk result ⟦<Shelf as Keeper>⟧.is_open }
+        ensures staged { IfOk result (λ k. ⟦<Shelf as Keeper>⟧.stages k []) }
         ensures none { IfOk result (λ k. ⟦<Shelf as Keeper>⟧.faults k ≡ 0) }
         ensures no_store { ⟦<Shelf as Keeper>⟧.has_store → ⊥ }
         ensures fault { IfErr result (λ f. f ≡ KeepFault.Memory) }
@@ -117,6 +151,7 @@ impl Shelf {
                 files: BTreeMap::new(alloc),
                 limits: BTreeMap::new(alloc),
                 receipts: Vec::new(alloc),
+                staged: Vec::new(alloc),
                 clerks: 1,
                 faults: 0,
                 alloc,

@@ -1,5 +1,5 @@
 //! What changes a keeper in memory. Growth comes first, and the change last.
-ghost use Rattle.std.specs.Prelude.{◌≡◌, ◌≤◌, ◌<◌, ◌⊎◌, Some, true, length, cond, option_map, IfOk, IfErr, OnOk, OnErr};
+ghost use Rattle.std.specs.Prelude.{◌≡◌, ◌≤◌, ◌<◌, ◌⊎◌, [], Some, true, length, cond, option_map, IfOk, IfErr, OnOk, OnErr};
 ghost use Rattle.std.specs.FinMap.{FinMap, insert};
 ghost use Rattle.sigtext.specs.Bytes.{bytes_cmp};
 ghost use Rattle.sigtext.specs.Counts.{CountsErrors};
@@ -21,6 +21,7 @@ use boxes::{BoxRow, Command, KeyRow, NewFile, ReceiptRow, Role, Totals};
 use sigv4::Allowance;
 use std::alloc::{AllocError, Global};
 use std::collections::{BTreeMap, BTreeSet};
+use std::mem;
 
 /// A key that is added, as it is kept.
 pub(crate) fn new_key(
@@ -56,21 +57,21 @@ fn new_box(alloc: Global, name: &[u8], row: &BoxRow) -> Result<(Vec<u8>, Shelved
     ))
 }
 
-/// A file that is set and its receipt, as they are kept.
+/// A file that is set and its receipt, as they are kept. The bytes are moved.
 fn new_file(
     alloc: Global,
     file: &NewFile<'_>,
-    bytes: &[u8],
+    bytes: Vec<u8>,
 ) -> Result<((Vec<u8>, Vec<u8>), StoredFile, ReceiptRow), AllocError>
     ensures { IfOk result
         (λ f. (place_of f.0 ≡ record { box = file.now.in_box.now; name = file.now.name.now })
-        × (stored_file f.1 ≡ record { bytes = bytes.now; receipt = file.now.number })
+        × (stored_file f.1 ≡ record { bytes = bytes.items; receipt = file.now.number })
         × (numbered_receipt f.2 ≡ set_receipt file.now)) }
 {
     Ok((
         new_place(alloc, file.in_box, file.name)?,
         StoredFile {
-            bytes: Vec::from_slice(alloc, bytes)?,
+            bytes,
             number: file.number,
         },
         ReceiptRow {
@@ -166,21 +167,23 @@ fn set_totals(boxes: &mut BTreeMap<Vec<u8>, ShelvedBox>, name: &[u8], totals: To
 
 impl Shelf {
     /// Sets a file to these bytes, and adds its receipt.
-    pub(crate) fn set_file(&mut self, file: &NewFile<'_>, bytes: &[u8]) -> Result<(), KeepFault>
+    fn set_file(&mut self, file: &NewFile<'_>, bytes: Vec<u8>) -> Result<(), KeepFault>
         ensures made { (s after : State) → Holds self.old s → IsSound s
-            → IsFileSet s file.now bytes.now after → OnOk result (Holds self.new after) }
+            → IsFileSet s file.now bytes.items after → OnOk result (Holds self.new after) }
         ensures same { (s : State) → Holds self.old s → OnErr result (Holds self.new s) }
         ensures count { CountsErrors self.old.faults self.new.faults result }
         ensures fault { IfErr result
             (λ f. ((f ≡ KeepFault.Memory) × (file.now.number ≤ most_receipts))
             ⊎ ((f ≡ KeepFault.Full) × (most_receipts < file.now.number))) }
         ensures room { OnOk result (file.now.number ≤ most_receipts) }
+        ensures staged { self.new.staged ≡ self.old.staged }
     {
         if !has_room(file.number) {
             self.faults = self.faults.saturating_add(1);
             return Err(KeepFault::Full);
         }
         let totals = self.totals_of(file.in_box);
+        let size = bytes.len() as u64;
         let Ok((place, stored, receipt)) = new_file(self.alloc, file, bytes) else {
             return Err(self.count());
         };
@@ -190,12 +193,28 @@ impl Shelf {
         match self.files.insert(place, stored) {
             Ok(old) => {
                 let _ = self.receipts.push(receipt);
-                let totals = totals.set(length_of(&old), bytes.len() as u64);
+                let totals = totals.set(length_of(&old), size);
                 set_totals(&mut self.boxes, file.in_box, totals);
                 Ok(())
             }
             Err(_) => Err(self.count()),
         }
+    }
+
+    /// Sets a file to the bytes that are staged, and adds its receipt. Nothing is staged then, whatever came of it.
+    pub(crate) fn set_staged(&mut self, file: &NewFile<'_>) -> Result<(), KeepFault>
+        ensures made { (s after : State) → Holds self.old s → IsSound s
+            → IsFileSet s file.now self.old.staged.items after → OnOk result (Holds self.new after) }
+        ensures same { (s : State) → Holds self.old s → OnErr result (Holds self.new s) }
+        ensures count { CountsErrors self.old.faults self.new.faults result }
+        ensures fault { IfErr result
+            (λ f. ((f ≡ KeepFault.Memory) × (file.now.number ≤ most_receipts))
+            ⊎ ((f ≡ KeepFault.Full) × (most_receipts < file.now.number))) }
+        ensures room { OnOk result (file.now.number ≤ most_receipts) }
+        ensures emptied { self.new.staged.items ≡ [] }
+    {
+        let staged = mem::replace(&mut self.staged, Vec::new(self.alloc));
+        self.set_file(file, staged)
     }
 
     /// Adds a key.
@@ -205,6 +224,7 @@ impl Shelf {
             → OnOk result (Holds self.new after) }
         ensures same { (s : State) → Holds self.old s → OnErr result (Holds self.new s) }
         ensures count { CountsErrors self.old.faults self.new.faults result }
+        ensures staged { self.new.staged ≡ self.old.staged }
         ensures fault { IfErr result (λ f. f ≡ KeepFault.Memory) }
     {
         let most = self.keys.len() as u64 + 1;
@@ -226,6 +246,7 @@ impl Shelf {
         ensures made { (s after : State) → Holds self.old s → IsObeyed s (RevokeKey id.now) after
             → Holds self.new after }
         ensures faults { self.new.faults ≡ self.old.faults }
+        ensures staged { self.new.staged ≡ self.old.staged }
     {
         let gone = acting_at(&self.keys, id);
         mark_revoked(&mut self.keys, id);
@@ -239,6 +260,7 @@ impl Shelf {
             → OnOk result (Holds self.new after) }
         ensures same { (s : State) → Holds self.old s → OnErr result (Holds self.new s) }
         ensures count { CountsErrors self.old.faults self.new.faults result }
+        ensures staged { self.new.staged ≡ self.old.staged }
         ensures fault { IfErr result (λ f. f ≡ KeepFault.Memory) }
     {
         let Ok((name, shelved)) = new_box(self.alloc, name, row) else {
@@ -255,6 +277,7 @@ impl Shelf {
         ensures made { (s after : State) → Holds self.old s
             → IsObeyed s (CloseBox name.now moment) after → Holds self.new after }
         ensures faults { self.new.faults ≡ self.old.faults }
+        ensures staged { self.new.staged ≡ self.old.staged }
     {
         set_closing(&mut self.boxes, name, moment);
     }
@@ -266,6 +289,7 @@ impl Shelf {
             → OnOk result (Holds self.new after) }
         ensures same { (s : State) → Holds self.old s → OnErr result (Holds self.new s) }
         ensures count { CountsErrors self.old.faults self.new.faults result }
+        ensures staged { self.new.staged ≡ self.old.staged }
         ensures fault { IfErr result (λ f. f ≡ KeepFault.Memory) }
     {
         let Ok(place) = new_place(self.alloc, in_box, name) else {
@@ -285,6 +309,7 @@ impl Shelf {
             → IsObeyed s (LimitKey id.now in_box.now) after → OnOk result (Holds self.new after) }
         ensures same { (s : State) → Holds self.old s → OnErr result (Holds self.new s) }
         ensures count { CountsErrors self.old.faults self.new.faults result }
+        ensures staged { self.new.staged ≡ self.old.staged }
         ensures fault { IfErr result (λ f. f ≡ KeepFault.Memory) }
     {
         match add_limit(self.alloc, &mut self.limits, id, in_box) {
@@ -298,6 +323,7 @@ impl Shelf {
         ensures made { (s after : State) → Holds self.old s
             → IsObeyed s (SetAllowance seconds) after → Holds self.new after }
         ensures faults { self.new.faults ≡ self.old.faults }
+        ensures staged { self.new.staged ≡ self.old.staged }
     {
         if let Some(allowance) = Allowance::new(seconds) {
             self.office.allowance = allowance;
@@ -310,6 +336,7 @@ impl Shelf {
             → IsObeyed s (command_of command.now) after → OnOk result (Holds self.new after) }
         ensures same { (s : State) → Holds self.old s → OnErr result (Holds self.new s) }
         ensures count { CountsErrors self.old.faults self.new.faults result }
+        ensures staged { self.new.staged ≡ self.old.staged }
         ensures fault { IfErr result (λ f. f ≡ KeepFault.Memory) }
     {
         match command {

@@ -1,6 +1,7 @@
 -- What the test of a link's signature says.
-use Rattle.std.proofs.Common.{◌≡◌, ℕ, Bool, true, false, List, sym, ap, subst, ◌∙◌}
+use Rattle.std.proofs.Common.{◌≡◌, ℕ, Bool, true, false, List, Result, Ok, Err, sym, ap, subst, ◌∙◌}
 use Rattle.std.specs.Prelude.{IsTrue, ◌↔◌}
+use Rattle.sigtext.specs.declared.refusal.Refusal.{Refusal}
 use Rattle.sigtext.specs.declared.refusal.Refusal.TheVariants as rule
 use Rattle.sigtext.specs.Request.{Request}
 use Rattle.sigtext.specs.CanonicalRequest.{Signed, IsCanonicalRequest, IsTheOnly}
@@ -14,7 +15,9 @@ use Rattle.sigv4.specs.Signature.{CredentialScope, signature_of}
 use Rattle.links.specs.WellFormed.{LinkValues}
 use Rattle.links.specs.Admits.{IsSignedBy, signed_of}
 use Rattle.links.specs.SixValues.{texts_of}
+use Rattle.links.specs.Judging.{FailsAt, IsOutside, Judges, LiesIn}
 use Rattle.links.specs.LinkReadings.{IsLinkOf}
+use Rattle.links.specs.Moments.{Now}
 use Rattle.links.specs.declared.link_parts.LinkParts.{LinkParts}
 
 -- the test is that of the signature of the one canonical request
@@ -60,3 +63,16 @@ pub same_key_id : (l : LinkParts) (r : Request) (p : LinkValues) (text date : Li
 same_key_id l r p text date scope is a b read =
     (credential_once (texts_of l.six).credential (texts_of l.six).date p.key_id scope.key_id.now p.scope (scope_of scope) is.credential
     (subst (λ (d : List ℕ). IsCredential (texts_of l.six).credential d scope.key_id.now (scope_of scope)) b (subst (λ (t : List ℕ). IsCredential t date scope.key_id.now (scope_of scope)) a read))).0
+
+-- a link is judged by its signature, and then by its window
+pub judged_unsigned : (secret : List ℕ) (r : Request) (n : Now) (p : LinkValues) (q : Refusal) → q ≡ rule.SignatureMismatch → (IsSignedBy secret r p → ⊥) → FailsAt q secret r n p
+judged_unsigned secret r n p q is fails = subst (λ (x : Refusal). FailsAt x secret r n p) (sym is) fails
+
+outside : (secret : List ℕ) (r : Request) (n : Now) (p : LinkValues) (q : Refusal) → IsSignedBy secret r p → IsOutside q n p → FailsAt q secret r n p
+outside secret r n p rule.NotYetValid signed fails = (signed, fails)
+outside secret r n p rule.Expired signed fails = (signed, fails.0, fails.1)
+outside secret r n p _ signed fails = absurd fails
+
+pub judged_signed : {T : Type 0} (secret : List ℕ) (r : Request) (n : Now) (p : LinkValues) (result : Result T Refusal) → IsSignedBy secret r p → LiesIn n p result → Judges secret r n p result
+judged_signed secret r n p (Ok done) signed lies = (signed, lies.0, lies.1)
+judged_signed secret r n p (Err q) signed lies = outside secret r n p q signed lies

@@ -1,11 +1,27 @@
 -- What is said of a link's signature and window.
-use Rattle.std.specs.Prelude.{ℕ, ◌+◌, ◌<◌, ◌≤◌, List, Result, Ok, Err}
+use Rattle.std.specs.Prelude.{◌≡◌, ℕ, ◌+◌, ◌<◌, ◌≤◌, List, Result, Ok, Err}
 use Rattle.sigtext.specs.declared.refusal.Refusal.{Refusal}
 use Rattle.sigtext.specs.declared.refusal.Refusal.TheVariants as rule
 use Rattle.sigtext.specs.Request.{Request}
 use Rattle.links.specs.WellFormed.{LinkValues}
 use Rattle.links.specs.Moments.{Now, HasBegun, IsNotOver}
 use Rattle.links.specs.Admits.{IsSignedBy}
+
+-- the signature is the standard's under the secret, or refusal 21 says that it is not
+abbrev pub Verifies : {T : Type 0} → List ℕ → Request → LinkValues → Result T Refusal → Type 0
+Verifies secret r p (Ok done) = IsSignedBy secret r p
+Verifies secret r p (Err q) = (q ≡ rule.SignatureMismatch) × (IsSignedBy secret r p → ⊥)
+
+-- of the start and the end of the window, the first that fails
+abbrev pub IsOutside : Refusal → Now → LinkValues → Type 0
+IsOutside rule.NotYetValid n p = n.moment + n.allowance < p.start
+IsOutside rule.Expired n p = HasBegun n p.start × (p.start + p.expires ≤ n.moment)
+IsOutside _ n p = ⊥
+
+-- the moment lies in the window, or this end of it is the first that fails
+abbrev pub LiesIn : {T : Type 0} → Now → LinkValues → Result T Refusal → Type 0
+LiesIn n p (Ok done) = HasBegun n p.start × IsNotOver n p.start p.expires
+LiesIn n p (Err q) = IsOutside q n p
 
 -- of the signature, the start and the end of the window, the first that fails
 abbrev pub FailsAt : Refusal → List ℕ → Request → Now → LinkValues → Type 0

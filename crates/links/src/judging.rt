@@ -9,7 +9,7 @@ ghost use Rattle.sigv4.specs.Signature.{signature_of};
 ghost use Rattle.links.specs.WellFormed.{LinkValues};
 ghost use Rattle.links.specs.SixValues.{texts_of};
 ghost use Rattle.links.specs.LinkReadings.{IsLinkOf};
-ghost use Rattle.links.specs.Judging.{Judges};
+ghost use Rattle.links.specs.Judging.{Judges, LiesIn, Verifies};
 ghost use Rattle.links.specs.Moments.{moment_with};
 
 use crate::link_parts::LinkParts;
@@ -28,10 +28,43 @@ fn is_signed_by(link: &LinkParts<'_>, scope: &Scope<'_>, secret: &[u8], last: &m
     link.six.signature() == digits.as_slice()
 }
 
+/// Checks the signature of a link that was read, under its key's secret: refusal 21 where it is not that of the canonical
+/// request. A signing key that was not the last one is derived, and then is. What is answered does not depend on memory.
+pub fn check_signature(
+    link: &LinkParts<'_>,
+    secret: &[u8],
+    last: &mut LastKey,
+) -> Result<(), Refusal>
+    ensures { (r : Request) (p : LinkValues) → IsLinkOf link.now r p
+        → Verifies secret.now r p result }
+{
+    let scope = Scope::read(link.six.credential(), link.six.date())?;
+    if !is_signed_by(link, &scope, secret, last) {
+        return Err(Refusal::SignatureMismatch);
+    }
+    Ok(())
+}
+
+/// Checks the window of a link that was read, at a moment: refusal 22 before it, and 23 at its end or past it. It begins
+/// earlier by the allowance, and ends no later for it. Takes no memory.
+pub fn check_window(link: &LinkParts<'_>, allowance: Allowance, now: Moment) -> Result<(), Refusal>
+    ensures { (r : Request) (p : LinkValues) → IsLinkOf link.now r p
+        → LiesIn (moment_with allowance now) p result }
+{
+    let moment = now.seconds();
+    let start = link.start.seconds();
+    if moment + allowance.seconds() < start {
+        return Err(Refusal::NotYetValid);
+    }
+    if moment >= start.saturating_add(link.expires) {
+        return Err(Refusal::Expired);
+    }
+    Ok(())
+}
+
 /// Judges a link that was read, under its key's secret and at a moment: refusal 21 where the signature is
 /// not that of the canonical request, 22 before the window and 23 at its end or past it. The window begins
-/// earlier by the allowance, and ends no later for it. A signing key that was not the last one is derived, and
-/// then is. What is answered does not depend on memory.
+/// earlier by the allowance, and ends no later for it. What is answered does not depend on memory.
 pub fn judge(
     link: &LinkParts<'_>,
     secret: &[u8],
@@ -42,17 +75,8 @@ pub fn judge(
     ensures { (r : Request) (p : LinkValues) → IsLinkOf link.now r p
         → Judges secret.now r (moment_with allowance now) p result }
 {
-    let scope = Scope::read(link.six.credential(), link.six.date())?;
-    if !is_signed_by(link, &scope, secret, last) {
-        return Err(Refusal::SignatureMismatch);
+    match check_signature(link, secret, last) {
+        Ok(()) => check_window(link, allowance, now),
+        Err(refusal) => Err(refusal),
     }
-    let moment = now.seconds();
-    let start = link.start.seconds();
-    if moment + allowance.seconds() < start {
-        return Err(Refusal::NotYetValid);
-    }
-    if moment >= start.saturating_add(link.expires) {
-        return Err(Refusal::Expired);
-    }
-    Ok(())
 }

@@ -14,7 +14,7 @@ pub mod writing;
 
 pub use forms::{is_hex_digest, read_expiry};
 pub use inspecting::{inspect, read_moment};
-pub use judging::judge;
+pub use judging::{check_signature, check_window, judge};
 pub use laws::{law_of_links, law_of_parts, law_of_texts};
 pub use link_parts::LinkParts;
 pub use methods::Method;

@@ -1,5 +1,5 @@
 -- How what a crash may leave adds up over calls.
-use Rattle.std.proofs.Common.{◌≡◌, ℕ, ◌⊎◌, inl, inr, Result, Ok, Err, refl, sym, subst}
+use Rattle.std.proofs.Common.{◌≡◌, ◌∙◌, ℕ, ◌⊎◌, ⊎_elim, inl, inr, Result, Ok, Err, refl, sym, subst}
 use Rattle.std.specs.Prelude.{◌≢◌, IfErr, OnErr}
 use Rattle.sigtext.specs.declared.refusal.Refusal.{Refusal}
 use Rattle.sigtext.specs.declared.refusal.Refusal.TheVariants as rule
@@ -13,7 +13,7 @@ use Rattle.keeper.specs.declared.keep.KeepFault.{KeepFault}
 use Rattle.keeper.specs.declared.keep.Keeper.{Ghosts}
 use Rattle.office.specs.declared.requests.commanding.DeskFault.{DeskFault}
 use Rattle.office.specs.declared.requests.commanding.DeskFault.TheVariants as fault
-use Rattle.office.specs.Crashes.{AddsStanding, AddsAsked, Lasts, changed, unchanged, Endures, IsAsked, RefusedLasts, UndoneLasts}
+use Rattle.office.specs.Crashes.{AddsStanding, AddsAsked, Lasts, changed, unchanged, LastsThrough, changed_once, never_changed, Endures, IsAsked, RefusedLasts, UndoneLasts}
 use Rattle.office.specs.Offices.{IsAnswered}
 use Rattle.office.specs.Replying.{IsReplied}
 
@@ -64,6 +64,24 @@ module _ {K : Type 0} {k : Ghosts K} where
   then_lasts x (changed alone) = changed alone
   then_lasts x (unchanged same y) = unchanged same (then_adds x y)
 
+  -- what lasted over one call lasts through
+  pub through : {a b : K} {s after : State} → Lasts k a b s after → LastsThrough k a b s after
+  through (changed alone) = changed_once alone.alone alone.whole
+  through (unchanged same adds) = never_changed same adds
+
+  -- nothing was changed before
+  pub through_after : {a b c : K} {s after : State} → AddsStanding k a b s → LastsThrough k b c s after → LastsThrough k a c s after
+  through_after x (changed_once alone whole) = changed_once alone whole
+  through_after x (never_changed same y) = never_changed same (then_adds x y)
+
+  -- one after another
+  pub then_through : {a b c : K} {s mid after : State} → LastsThrough k a b s mid → LastsThrough k b c mid after → LastsThrough k a c s after
+  then_through x (changed_once alone whole) = changed_once alone whole
+  then_through {after = after} (changed_once alone whole) (never_changed same y) =
+      changed_once (λ t at. ⊎_elim (λ (was : k.leaves _ t). alone t was) (λ (is : t ≡ _). is) (y.adds t at) ∙ sym same) (y.whole whole)
+  then_through {a = a} {b = b} {c = c} {s = s} {mid = mid} (never_changed first x) (never_changed same y) =
+      never_changed (same ∙ first) (then_adds x (subst (λ (z : State). AddsStanding k b c z) first y))
+
   -- a question came before the reply
   pub then_replied : {a b : K} (c : K) (s : State) (r : Request) (now : ℕ) (result : Result Reply Refusal) → AddsStanding k a b s
       → IsReplied (Endures k b c s) s r now result → IsReplied (Endures k a c s) s r now result
@@ -71,6 +89,13 @@ module _ {K : Type 0} {k : Ghosts K} where
       let left = is.3 in
       (is.0, is.1, is.2, record { means = record { meant = left.means.meant; lasts = then_lasts adds left.means.lasts }; sound = left.sound }, is.4)
   then_replied c s r now (Err q) adds is = is
+
+  -- a question came before the answer
+  pub then_answered : {a b : K} (c : K) (s : State) (r : Request) (now : ℕ) (answer : Answer) → AddsStanding k a b s
+      → IsAnswered (Endures k b c s) s r now answer → IsAnswered (Endures k a c s) s r now answer
+  then_answered c s r now answer adds is = λ other.
+      let x = is other in
+      (x.0, record { means = record { meant = x.1.means.meant; lasts = then_lasts adds x.1.means.lasts }; sound = x.1.sound }, x.2)
 
   -- a state that endures is meant
   pub meant_only : {a b : K} (s : State) (r : Request) (now : ℕ) (answer : Answer) → IsAnswered (Endures k a b s) s r now answer → IsAnswered (k.means b) s r now answer

@@ -26,3 +26,11 @@ pub mod RepeatEdges
 pub mod Repeats
 pub mod Standing
 pub mod Placing
+pub mod Begun
+pub mod BodySteps
+pub mod KeeperCalls
+pub mod Stagings
+mod Foreseen
+mod Staged
+mod Unstaged
+pub mod StagedSoFar

@@ -168,6 +168,7 @@ session_acts _ _ _ _ _ _ _ _ (session.gave_up_at n stream rest s r now next read
     record { acts = []; are = act.given_up n stream rest s r now _ _ next readable (refl, refl); by_rules = refl }
 session_acts _ _ _ _ _ _ _ _ (session.gave_up_reading n stream s may) = over _ stream s _ _ _ (session.gave_up_reading n stream s may)
 session_acts _ _ _ _ _ _ _ _ (session.read_failed n stream s awaits) = over _ stream s _ _ _ (session.read_failed n stream s awaits)
+session_acts _ _ _ _ _ _ _ _ (session.read_failed_giving_up n stream s awaits begun) = over _ stream s _ _ _ (session.read_failed_giving_up n stream s awaits begun)
 session_acts _ _ _ _ _ _ _ _ (session.write_failed n stream rest s after r now text front next answers begins) =
     let a : Act = the_act s r now answers.reply after in
     record {

@@ -9,7 +9,7 @@ use Rattle.boxes.specs.State.{State}
 use Rattle.keeper.specs.declared.keep.Keeper.{Ghosts}
 use Rattle.wire.specs.declared.counted.Counted.{Counted}
 use Rattle.office.specs.declared.connections.session.SessionEnd.{SessionEnd}
-use Rattle.office.specs.Connections.{TellsMoments, IsStream, Serves, TellsFaults, HoldsUpOver, NoneGaveUp, StaysOpen, AreServed, is_fault, Runs}
+use Rattle.office.specs.Connections.{TellsMoments, IsStream, Serves, TellsFaults, HoldsUpOver, HoldsUpTo, NoneGaveUp, StaysOpen, AreServed, is_fault, Runs}
 use Rattle.office.specs.Premise.{HoldsUp, IsLeft}
 use Rattle.office.specs.Sessions.{Session, Connection, Run, most_messages}
 use Rattle.office.proofs.Repeats.{runs_act_once}
@@ -43,8 +43,8 @@ count_more cs c =
     let one : sum_by (λ d. cond (is_fault d.end) 1 0) (c ∷ []) ≡ cond (is_fault c.end) 1 0 = omega arith in
     sum_by-append (λ d. cond (is_fault d.end) 1 0) cs (c ∷ []) ∙ ap (λ n. count_by (λ d. is_fault d.end) cs + n) one
 
-held_more : {K : Type 0} (k : Ghosts K) (cs : List Connection) (c : Connection) (first mid last : K) → HoldsUpOver k cs first mid → HoldsUp k c.gave_up mid last → HoldsUpOver k (cs ++ c ∷ []) first last
-held_more k [] c first mid last same held = (last, subst (λ n. HoldsUp k c.gave_up n last) same held, refl)
+held_more : {K : Type 0} (k : Ghosts K) (cs : List Connection) (c : Connection) (first mid last : K) → HoldsUpOver k cs first mid → HoldsUpTo k c.gave_up c.end mid last → HoldsUpOver k (cs ++ c ∷ []) first last
+held_more k [] c first mid last same held = (last, subst (λ n. HoldsUpTo k c.gave_up c.end n last) same held, refl)
 held_more k (d ∷ cs) c first mid last h held = (h.0, h.1, held_more k cs c h.0 mid last h.2 held)
 
 none_more : (cs : List Connection) (c : Connection) → NoneGaveUp (cs ++ c ∷ []) → NoneGaveUp cs × (c.gave_up ≡ false)
@@ -83,7 +83,7 @@ runs_more gives remaining contents first clock clock' olds news old new k keeper
       told = told_more gives first clock clock' r.moments served.moments r.told served.told;
       served = served_more remaining contents old new c olds news r.connections r.served served.read served.written risen;
       held = held_more k r.connections c keeper keeper' keeper'' r.held served.held;
-      opened = opened_more k r.connections c keeper keeper' keeper'' mid after one left r.opened served.held;
+      opened = opened_more k r.connections c keeper keeper' keeper'' mid after one left r.opened served.held.0;
       run = run;
       without = runs_without s after (r.connections ++ c ∷ []) (r.moments ++ served.moments) run;
       repeats = runs_act_once s after (r.connections ++ c ∷ []) (r.moments ++ served.moments) run;

@@ -2,19 +2,21 @@
 use Rattle.std.proofs.Common.{◌≡◌, ℕ, suc, true, false, List, [], ◌⊎◌, inl, inr}
 use Rattle.boxes.specs.State.{State}
 use Rattle.wire.specs.Framing.{Next, Step}
-use Rattle.wire.proofs.Awaiting.{IsAnnounced, IsAwaited, announced, awaited}
+use Rattle.wire.proofs.Awaiting.{IsAwaited, awaited}
 use Rattle.office.specs.declared.connections.session.SessionEnd.{SessionEnd}
 use Rattle.office.specs.declared.connections.session.SessionEnd.TheVariants.{ReadFault}
 use Rattle.office.specs.Sessions.{Session, most_messages}
 use Rattle.office.specs.Sessions as session
+use Rattle.office.proofs.Begun.{IsBegunStep, begun_step}
 
--- the first thing of a connection of which nothing was read, or in the place of a message with a body, or of refusal 6
+-- the first thing of a connection of which nothing was read, or in the place of a readable message, or of refusal 6
 pub gives_up_reading : (n : ℕ) (stream rest out : List ℕ) (s after : State) (e : SessionEnd) (step : Step) → Session (suc n) stream s [] out e true after
-    → Next stream step rest → ((suc n ≡ most_messages) × (stream ≡ [])) ⊎ IsAnnounced step
+    → Next stream step rest → ((suc n ≡ most_messages) × (stream ≡ [])) ⊎ IsBegunStep step
 gives_up_reading n stream rest _ s _ _ step (session.gave_up_reading _ _ _ (inl first)) next = inl first
-gives_up_reading n stream rest _ s _ _ step (session.gave_up_reading _ _ _ (inr a)) next = inr (announced stream rest step a next)
+gives_up_reading n stream rest _ s _ _ step (session.gave_up_reading _ _ _ (inr a)) next = inr (begun_step stream rest step a next)
+gives_up_reading n stream rest _ s _ _ step (session.read_failed_giving_up _ _ _ awaits a) next = inr (begun_step stream rest step a next)
 gives_up_reading n stream rest _ s _ _ step (session.write_failed_giving_up_reading _ _ _ front (inl first) begins) next = inl first
-gives_up_reading n stream rest _ s _ _ step (session.write_failed_giving_up_reading _ _ _ front (inr a) begins) next = inr (announced stream rest step a next)
+gives_up_reading n stream rest _ s _ _ step (session.write_failed_giving_up_reading _ _ _ front (inr a) begins) next = inr (begun_step stream rest step a next)
 
 -- in the place of no message, and of no refusal but 6
 pub fails_reading : (n : ℕ) (stream rest out : List ℕ) (s after : State) (step : Step) → Session (suc n) stream s [] out ReadFault false after

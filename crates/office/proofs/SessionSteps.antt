@@ -7,7 +7,7 @@ use Rattle.sigtext.specs.declared.refusal.Refusal.TheVariants as rule
 use Rattle.sigtext.specs.Request.{Request}
 use Rattle.boxes.specs.State.{State}
 use Rattle.keeper.specs.declared.keep.Keeper.{Ghosts}
-use Rattle.wire.specs.Feeding.{AnnouncesBody, Awaits, OfStream}
+use Rattle.wire.specs.Feeding.{Awaits, OfStream}
 use Rattle.wire.specs.Framing.{IsHead, Next, Message, request_of}
 use Rattle.wire.specs.Framing as frame
 use Rattle.wire.specs.declared.fault.WireFault.{WireFault}
@@ -20,10 +20,14 @@ use Rattle.office.specs.declared.connections.session.SessionEnd.{SessionEnd}
 use Rattle.office.specs.declared.connections.session.SessionEnd.TheVariants.{Ended, Truncated, Refused, Limit, ReadFault, WriteFault}
 use Rattle.office.specs.declared.connections.handling.Handled.{Handled}
 use Rattle.office.specs.declared.connections.handling.Handled.TheVariants.{Answered, GaveUp, Broken}
-use Rattle.office.specs.Connections.{IsKnown, IsStream, Serves}
+use Rattle.sigtext.specs.Counts.{Rose}
+use Rattle.office.specs.Connections.{HoldsUpTo, IsKnown, IsStream, Serves}
+use Rattle.office.specs.Crashes.{AddsStanding, never_changed}
+use Rattle.office.proofs.Endurance.{still, then_through, through_after}
 use Rattle.office.specs.Handling.{Handles, answered, gave_up_at, broke, broke_giving_up_at}
-use Rattle.office.specs.Premise.{HoldsUp, IsLeft}
-use Rattle.office.specs.Sessions.{Session, MayGiveUpReading}
+use Rattle.office.specs.Premise.{HoldsUp, IsLeft, WasKept}
+use Rattle.office.proofs.KeeperCalls.{Quiet}
+use Rattle.office.specs.Sessions.{HasBegunMessage, Session, MayGiveUpReading}
 use Rattle.office.specs.Sessions as session
 use Rattle.office.specs.Stepping.{Goes, IsClosed, Steps, ToCome}
 
@@ -75,8 +79,8 @@ is_stream None Holds o = tt
 is_stream (Some p) Holds o = sym o.is
 
 -- what was told of what came, and of what broke off
-pub brought_by : (text body : List ℕ) (old new reader : Option (List ℕ)) (p : Place) (x y : Came) → x ≡ y → Brings x text body old new reader p → Brings y text body old new reader p
-brought_by text body old new reader p x y is h = subst (λ (z : Came). Brings z text body old new reader p) is h
+pub brought_by : (text : List ℕ) (old new reader : Option (List ℕ)) (p : Place) (x y : Came) → x ≡ y → Brings x text old new reader p → Brings y text old new reader p
+brought_by text old new reader p x y is h = subst (λ (z : Came). Brings z text old new reader p) is h
 
 pub broke_off_by : (p : Place) (old reader : Option (List ℕ)) (x y : WireFault) → x ≡ y → BreaksOff x p old reader → BreaksOff y p old reader
 broke_off_by p old reader x y is h = subst (λ (z : WireFault). BreaksOff z p old reader) is h
@@ -86,6 +90,38 @@ broke_off_by p old reader x y is h = subst (λ (z : WireFault). BreaksOff z p ol
 holds_more : {K : Type 0} (k : Ghosts K) (a b c : K) (gave_up : Bool) → HoldsUp k false a b → HoldsUp k gave_up b c → HoldsUp k gave_up a c
 holds_more k a b c true x y = let same = x.0 in omega (arith, same, y)
 holds_more k a b c false x y = (y.0 ∙ x.0, λ was. y.1 (x.1 was))
+
+-- no session that ends otherwise than by a failed read gave up so
+pub held_to : {K : Type 0} (k : Ghosts K) (a b : K) (gave_up : Bool) (e : SessionEnd) → HoldsUp k gave_up a b → (e ≡ ReadFault → ⊥) → HoldsUpTo k gave_up e a b
+held_to k a b gave_up e held other = (held, λ gave is. absurd (other is))
+
+-- a call before that counted nothing
+pub held_more_to : {K : Type 0} (k : Ghosts K) (a b c : K) (gave_up : Bool) (e : SessionEnd) → HoldsUp k false a b → HoldsUpTo k gave_up e b c → HoldsUpTo k gave_up e a c
+held_more_to k a b c gave_up e x (held, rose) =
+    (holds_more k a b c gave_up x held, λ gave is. subst (λ (n : ℕ). Rose n (k.faults c)) x.0 (rose gave is))
+
+limit_no_read : Limit ≡ ReadFault → ⊥
+limit_no_read e = cc
+
+refused_no_read : (number : ℕ) → Refused number ≡ ReadFault → ⊥
+refused_no_read number e = cc
+
+false_no_true : false ≡ true → ⊥
+false_no_true e = cc
+
+write_no_read : WriteFault ≡ ReadFault → ⊥
+write_no_read e = cc
+
+ended_no_read : Ended ≡ ReadFault → ⊥
+ended_no_read e = cc
+
+truncated_no_read : Truncated ≡ ReadFault → ⊥
+truncated_no_read e = cc
+
+-- refusal 40, or its beginning, says nothing of a crash
+given_no_more : {P : Type 0} (e : SessionEnd) → (e ≡ ReadFault → ⊥) → (true ≡ false) ⊎ (e ≡ ReadFault) → P
+given_no_more e other (inl none) = absurd cc
+given_no_more e other (inr is) = absurd (other is)
 
 -- nothing was asked
 pub holds_still : {K : Type 0} (k : Ghosts K) (a : K) (gave_up : Bool) → HoldsUp k gave_up a a
@@ -103,7 +139,8 @@ serves_more gives n left left' reader output output' output'' clock clock' clock
   read = stream_more r.gave_up e left left' reader g.front r.stream g.taken r.read;
   told = (clock', g.told, r.told);
   written = appends_more output output' output'' g.text r.answers g.written r.written;
-  held = holds_more k keeper keeper' keeper'' r.gave_up g.held r.held;
+  held = held_more_to k keeper keeper' keeper'' r.gave_up e g.held r.held;
+  lasts = λ none. then_through g.lasts (r.lasts none);
   session = session.served n (g.front ++ r.stream) r.stream s mid after g.request g.moment r.moments g.text r.answers e r.gave_up (g.message r.stream) g.answers r.session;
 }
 
@@ -125,20 +162,17 @@ serves_none gives left reader output clock k keeper s = record {
   read = known_whole left;
   told = refl;
   written = nothing_written output;
-  held = holds_still k keeper false;
+  held = held_to k keeper keeper false Limit (holds_still k keeper false) limit_no_read;
+  lasts = λ none. never_changed refl still;
   session = session.limit (rest_of left) s;
 }
 
 -- ---- steps with a message
 
 module _ {C K : Type 0} (gives : C → ℕ → C → Type 0) (p : Place) (left reader output output' : Option (List ℕ)) (clock clock' : C) (k : Ghosts K) (keeper keeper' : K) (s : State)
-    (text : List ℕ) (has_length : Bool) (body waits : List ℕ) (m : IsNextMessage text has_length body left (prepend_known waits reader)) (given : List ℕ) (same_body : given ≡ body) where
+    (text : List ℕ) (has_length : Bool) (body waits : List ℕ) (m : IsNextMessage text has_length body left (prepend_known waits reader)) where
   abbrev r : Request
   r = request_of m.opens.head has_length body
-
-  -- as it was handled
-  of_body : (h : Handled) → Handles gives clock clock' output output' k keeper keeper' s (request_of m.opens.head has_length given) h → Handles gives clock clock' output output' k keeper keeper' s r h
-  of_body h handles = subst (λ (b : List ℕ). Handles gives clock clock' output output' k keeper keeper' s (request_of m.opens.head has_length b) h) same_body handles
 
   stands : (more : List ℕ) → Next ((text ++ body) ++ more) (Message r) more
   stands more = subst (λ (t : List ℕ). Next t (Message r) more) (sym (append_assoc text body more)) (message_stands text body more has_length m.opens)
@@ -146,12 +180,12 @@ module _ {C K : Type 0} (gives : C → ℕ → C → Type 0) (p : Place) (left r
   all_read : Consumes left reader ((text ++ body) ++ waits)
   all_read = consumes_more left (prepend_known waits reader) reader (text ++ body) waits m.taken (all_taken reader waits)
 
-  answered_done : Handles gives clock clock' output output' k keeper keeper' s r Answered → Steps gives p left (prepend_known waits reader) reader output output' clock clock' k keeper keeper' s None
-  answered_done (answered now written after told appends same keeps answers) =
-      (after, keeps, record { front = text ++ body; request = r; moment = now; text = written; taken = m.taken; message = stands; told = told; written = appends; answers = answers; held = same })
+  pub answered_step : Handles gives clock clock' output output' k keeper keeper' s r Answered → Steps gives p left (prepend_known waits reader) reader output output' clock clock' k keeper keeper' s None
+  answered_step (answered now written after told appends same lasts keeps answers) =
+      (after, keeps, record { front = text ++ body; request = r; moment = now; text = written; taken = m.taken; message = stands; told = told; written = appends; answers = answers; held = same; lasts = lasts })
 
-  gave_up_done : Handles gives clock clock' output output' k keeper keeper' s r GaveUp → Steps gives p left (prepend_known waits reader) reader output output' clock clock' k keeper keeper' s (Some (Refused 40))
-  gave_up_done (gave_up_at now told appends less readable keeps) = (
+  pub gave_up_step : Handles gives clock clock' output output' k keeper keeper' s r GaveUp → Steps gives p left (prepend_known waits reader) reader output output' clock clock' k keeper keeper' s (Some (Refused 40))
+  gave_up_step (gave_up_at now told appends less readable keeps) = (
     s,
     keeps,
     λ n _. record {
@@ -162,13 +196,14 @@ module _ {C K : Type 0} (gives : C → ℕ → C → Type 0) (p : Place) (left r
       read = all_read;
       told = (clock', told, refl);
       written = appends;
-      held = less;
+      held = held_to k keeper keeper' true (Refused 40) less (refused_no_read 40);
+      lasts = given_no_more (Refused 40) (refused_no_read 40);
       session = session.gave_up_at n ((text ++ body) ++ waits) waits s r now (stands waits) readable;
     },
   )
 
-  broken_done : Handles gives clock clock' output output' k keeper keeper' s r Broken → Steps gives p left (prepend_known waits reader) reader output output' clock clock' k keeper keeper' s (Some WriteFault)
-  broken_done (broke now written front after told appends begins same keeps answers) =
+  pub broken_step : Handles gives clock clock' output output' k keeper keeper' s r Broken → Steps gives p left (prepend_known waits reader) reader output output' clock clock' k keeper keeper' s (Some WriteFault)
+  broken_step (broke now written front after told appends begins same lasts keeps answers) =
       let rest = rest_of (prepend_known waits reader) in (
         after,
         keeps,
@@ -180,11 +215,12 @@ module _ {C K : Type 0} (gives : C → ℕ → C → Type 0) (p : Place) (left r
           read = known_rest left (prepend_known waits reader) (text ++ body) m.taken;
           told = (clock', told, refl);
           written = appends;
-          held = same;
+          held = held_to k keeper keeper' false WriteFault same write_no_read;
+          lasts = λ none. lasts;
           session = session.write_failed n ((text ++ body) ++ rest) rest s after r now written front (stands rest) answers begins;
         },
       )
-  broken_done (broke_giving_up_at now front told appends begins less readable keeps) = (
+  broken_step (broke_giving_up_at now front told appends begins less readable keeps) = (
     s,
     keeps,
     λ n _. record {
@@ -195,79 +231,166 @@ module _ {C K : Type 0} (gives : C → ℕ → C → Type 0) (p : Place) (left r
       read = all_read;
       told = (clock', told, refl);
       written = appends;
-      held = less;
+      held = held_to k keeper keeper' true WriteFault less write_no_read;
+      lasts = given_no_more WriteFault write_no_read;
       session = session.write_failed_giving_up_at n ((text ++ body) ++ waits) waits s r now front (stands waits) readable begins;
     },
   )
 
-  pub answered_step : Handles gives clock clock' output output' k keeper keeper' s (request_of m.opens.head has_length given) Answered
-      → Steps gives p left (prepend_known waits reader) reader output output' clock clock' k keeper keeper' s None
-  answered_step handles = answered_done (of_body Answered handles)
-
-  pub gave_up_step : Handles gives clock clock' output output' k keeper keeper' s (request_of m.opens.head has_length given) GaveUp
-      → Steps gives p left (prepend_known waits reader) reader output output' clock clock' k keeper keeper' s (Some (Refused 40))
-  gave_up_step handles = gave_up_done (of_body GaveUp handles)
-
-  pub broken_step : Handles gives clock clock' output output' k keeper keeper' s (request_of m.opens.head has_length given) Broken
-      → Steps gives p left (prepend_known waits reader) reader output output' clock clock' k keeper keeper' s (Some WriteFault)
-  broken_step handles = broken_done (of_body Broken handles)
-
 -- ---- steps without a message
 
-module _ {C K : Type 0} (gives : C → ℕ → C → Type 0) (p : Place) (left left' reader output output' : Option (List ℕ)) (clock : C) (k : Ghosts K) (keeper : K) (s : State) (keeps : IsLeft (k.means keeper) s) where
+-- what a session that ends without a message leaves of the keeper
+pub record Leaves {K : Type 0} (k : Ghosts K) (old new : K) (s : State) (gave_up : Bool) : Type 0 where
+  pub keeps : IsLeft (k.means new) s
+  pub held : HoldsUp k gave_up old new
+  pub adds : AddsStanding k old new s
+
+-- calls that leave the state
+pub leaves_quiet : {K : Type 0} (k : Ghosts K) (old new : K) (s : State) (gave_up : Type 0) → Quiet k old new gave_up → WasKept k old new s → (gave_up → ⊥) → Leaves k old new s false
+leaves_quiet k old new s gave_up quiet kept other = record {
+  keeps = record { means = quiet.means s kept.means; sound = kept.sound };
+  held = (quiet.rest.counted other, λ was. quiet.rest.opened kept.is_honest was other);
+  adds = quiet.crash s kept.means kept.is_honest;
+}
+
+pub leaves_given_up : {K : Type 0} (k : Ghosts K) (old new : K) (s : State) (gave_up : Type 0) → Quiet k old new gave_up → WasKept k old new s → Leaves k old new s true
+leaves_given_up k old new s gave_up quiet kept = record {
+  keeps = record { means = quiet.means s kept.means; sound = kept.sound };
+  held = quiet.rest.never_less;
+  adds = quiet.crash s kept.means kept.is_honest;
+}
+
+-- the keeper was not called
+pub leaves_still : {K : Type 0} (k : Ghosts K) (keeper : K) (s : State) (gave_up : Bool) → IsLeft (k.means keeper) s → Leaves k keeper keeper s gave_up
+leaves_still k keeper s gave_up keeps = record { keeps = keeps; held = holds_still k keeper gave_up; adds = still }
+
+module _ {C K : Type 0} (gives : C → ℕ → C → Type 0) (p : Place) (left left' reader output output' : Option (List ℕ)) (clock : C) (k : Ghosts K) (keeper keeper' : K) (s : State) where
   -- the session ends, and the state stays
-  ends : (e : SessionEnd) (gave_up : Bool) (stream text : List ℕ) → IsStream gave_up e left reader stream → Appends output output' text
-      → ((n : ℕ) → ToCome p (suc n) → Session (suc n) stream s [] text e gave_up s) → Steps gives p left left' reader output output' clock clock k keeper keeper s (Some e)
-  ends e gave_up stream text read written whole = (
+  pub ends : (e : SessionEnd) (gave_up : Bool) (stream text : List ℕ) → Leaves k keeper keeper' s gave_up → (gave_up ≡ true → e ≡ ReadFault → Rose (k.faults keeper) (k.faults keeper')) → IsStream gave_up e left reader stream → Appends output output' text
+      → ((n : ℕ) → ToCome p (suc n) → Session (suc n) stream s [] text e gave_up s) → Steps gives p left left' reader output output' clock clock k keeper keeper' s (Some e)
+  ends e gave_up stream text leaves rose read written whole = (
     s,
-    keeps,
-    λ n all. record { stream = stream; moments = []; answers = text; gave_up = gave_up; read = read; told = refl; written = written; held = holds_still k keeper gave_up; session = whole n all },
+    leaves.keeps,
+    λ n all. record {
+      stream = stream;
+      moments = [];
+      answers = text;
+      gave_up = gave_up;
+      read = read;
+      told = refl;
+      written = written;
+      held = (leaves.held, rose);
+      lasts = λ none. never_changed refl leaves.adds;
+      session = whole n all;
+    },
   )
 
-  pub closed_step : (q : Refusal) (e : SessionEnd) → OfStream left (λ stream. Next stream (frame.Refused q) []) → IsClosed output output' q e
-      → Steps gives p left left' reader output output' clock clock k keeper keeper s (Some e)
-  closed_step q (Refused number) o closed =
-      ends (Refused number) false o.stream (session.closing q) (is_stream left (λ stream. Next stream (frame.Refused q) []) o) closed.1
+  pub closed_step : (q : Refusal) (e : SessionEnd) → Leaves k keeper keeper' s false → OfStream left (λ stream. Next stream (frame.Refused q) []) → IsClosed output output' q e
+      → Steps gives p left left' reader output output' clock clock k keeper keeper' s (Some e)
+  closed_step q (Refused number) leaves o closed =
+      ends (Refused number) false o.stream (session.closing q) leaves (λ gave is. absurd (refused_no_read number is)) (is_stream left (λ stream. Next stream (frame.Refused q) []) o) closed.1
       (λ n _. subst (λ (m : ℕ). Session (suc n) o.stream s [] (session.closing q) (Refused m) false s) (sym closed.0) (session.unframed n o.stream s q o.holds))
-  closed_step q WriteFault o closed =
-      ends WriteFault false o.stream closed.0 (is_stream left (λ stream. Next stream (frame.Refused q) []) o) closed.1
+  closed_step q WriteFault leaves o closed =
+      ends WriteFault false o.stream closed.0 leaves (λ gave is. absurd (write_no_read is)) (is_stream left (λ stream. Next stream (frame.Refused q) []) o) closed.1
       (λ n _. session.write_failed_unframed n o.stream s q closed.0 o.holds closed.2)
-  closed_step q Ended o closed = absurd closed
-  closed_step q Truncated o closed = absurd closed
-  closed_step q Limit o closed = absurd closed
-  closed_step q ReadFault o closed = absurd closed
+  closed_step q Ended leaves o closed = absurd closed
+  closed_step q Truncated leaves o closed = absurd closed
+  closed_step q Limit leaves o closed = absurd closed
+  closed_step q ReadFault leaves o closed = absurd closed
 
-  why_reading : (n : ℕ) (front : List ℕ) → ((p ≡ place.Fresh) × (front ≡ [])) ⊎ AnnouncesBody front → ToCome p (suc n) → MayGiveUpReading (suc n) front
+  why_reading : (n : ℕ) (front : List ℕ) → ((p ≡ place.Fresh) × (front ≡ [])) ⊎ HasBegunMessage front → ToCome p (suc n) → MayGiveUpReading (suc n) front
   why_reading n front (inl (fresh, none)) all = inl (all fresh, none)
   why_reading n front (inr a) all = inr a
 
-  pub no_memory_step : (e : SessionEnd) (front : List ℕ) → Consumes left reader front → ((p ≡ place.Fresh) × (front ≡ [])) ⊎ AnnouncesBody front → IsClosed output output' rule.TryAgain e
-      → Steps gives p left left' reader output output' clock clock k keeper keeper s (Some e)
-  no_memory_step (Refused number) front taken why closed =
-      ends (Refused number) true front (session.closing rule.TryAgain) taken closed.1
+  -- refusal 40 closed the connection before a message was read whole
+  pub gave_up_reading_step : (e : SessionEnd) (front : List ℕ) → Leaves k keeper keeper' s true → Consumes left reader front → ((p ≡ place.Fresh) × (front ≡ [])) ⊎ HasBegunMessage front
+      → IsClosed output output' rule.TryAgain e → Steps gives p left left' reader output output' clock clock k keeper keeper' s (Some e)
+  gave_up_reading_step (Refused number) front leaves taken why closed =
+      ends (Refused number) true front (session.closing rule.TryAgain) leaves (λ gave is. absurd (refused_no_read number is)) taken closed.1
       (λ n all. subst (λ (m : ℕ). Session (suc n) front s [] (session.closing rule.TryAgain) (Refused m) true s) (sym closed.0) (session.gave_up_reading n front s (why_reading n front why all)))
-  no_memory_step WriteFault front taken why closed =
-      ends WriteFault true front closed.0 taken closed.1 (λ n all. session.write_failed_giving_up_reading n front s closed.0 (why_reading n front why all) closed.2)
-  no_memory_step Ended front taken none closed = absurd closed
-  no_memory_step Truncated front taken none closed = absurd closed
-  no_memory_step Limit front taken none closed = absurd closed
-  no_memory_step ReadFault front taken none closed = absurd closed
+  gave_up_reading_step WriteFault front leaves taken why closed =
+      ends WriteFault true front closed.0 leaves (λ gave is. absurd (write_no_read is)) taken closed.1 (λ n all. session.write_failed_giving_up_reading n front s closed.0 (why_reading n front why all) closed.2)
+  gave_up_reading_step Ended front leaves taken none closed = absurd closed
+  gave_up_reading_step Truncated front leaves taken none closed = absurd closed
+  gave_up_reading_step Limit front leaves taken none closed = absurd closed
+  gave_up_reading_step ReadFault front leaves taken none closed = absurd closed
 
-module _ {C K : Type 0} (gives : C → ℕ → C → Type 0) (p : Place) (left left' reader output : Option (List ℕ)) (clock : C) (k : Ghosts K) (keeper : K) (s : State) (keeps : IsLeft (k.means keeper) s) where
-  pub ended_step : IsAtEnd reader → OfStream left (λ stream. Next stream frame.Ended []) → Steps gives p left left' reader output output clock clock k keeper keeper s (Some Ended)
-  ended_step at_end o =
-      ends gives p left left' reader output output clock k keeper s keeps Ended false o.stream [] (is_stream left (λ stream. Next stream frame.Ended []) o, at_end) (nothing_written output)
+module _ {C K : Type 0} (gives : C → ℕ → C → Type 0) (p : Place) (left left' reader output : Option (List ℕ)) (clock : C) (k : Ghosts K) (keeper keeper' : K) (s : State) where
+  pub ended_step : Leaves k keeper keeper' s false → IsAtEnd reader → OfStream left (λ stream. Next stream frame.Ended []) → Steps gives p left left' reader output output clock clock k keeper keeper' s (Some Ended)
+  ended_step leaves at_end o =
+      ends gives p left left' reader output output clock k keeper keeper' s Ended false o.stream [] leaves (λ gave is. absurd (ended_no_read is)) (is_stream left (λ stream. Next stream frame.Ended []) o, at_end) (nothing_written output)
       (λ n _. session.ended n o.stream s o.holds)
 
-  pub truncated_step : IsAtEnd reader → OfStream left (λ stream. Next stream frame.Truncated []) → Steps gives p left left' reader output output clock clock k keeper keeper s (Some Truncated)
-  truncated_step at_end o =
-      ends gives p left left' reader output output clock k keeper s keeps Truncated false o.stream [] (is_stream left (λ stream. Next stream frame.Truncated []) o, at_end) (nothing_written output)
+  pub truncated_step : Leaves k keeper keeper' s false → IsAtEnd reader → OfStream left (λ stream. Next stream frame.Truncated []) → Steps gives p left left' reader output output clock clock k keeper keeper' s (Some Truncated)
+  truncated_step leaves at_end o =
+      ends gives p left left' reader output output clock k keeper keeper' s Truncated false o.stream [] leaves (λ gave is. absurd (truncated_no_read is)) (is_stream left (λ stream. Next stream frame.Truncated []) o, at_end) (nothing_written output)
       (λ n _. session.truncated n o.stream s o.holds)
 
-  pub read_failed_step : (front : List ℕ) → Consumes left reader front → Awaits front → Steps gives p left left' reader output output clock clock k keeper keeper s (Some ReadFault)
-  read_failed_step front taken none =
-      ends gives p left left' reader output output clock k keeper s keeps ReadFault false front [] taken (nothing_written output)
+  pub read_failed_step : (front : List ℕ) → Leaves k keeper keeper' s false → Consumes left reader front → Awaits front → Steps gives p left left' reader output output clock clock k keeper keeper' s (Some ReadFault)
+  read_failed_step front leaves taken none =
+      ends gives p left left' reader output output clock k keeper keeper' s ReadFault false front [] leaves (λ gave is. absurd (false_no_true gave)) taken (nothing_written output)
       (λ n _. session.read_failed n front s none)
+
+  -- the same where the keeper counted a fault
+  pub read_failed_giving_up_step : (front : List ℕ) → Leaves k keeper keeper' s true → Rose (k.faults keeper) (k.faults keeper') → Consumes left reader front → Awaits front → HasBegunMessage front
+      → Steps gives p left left' reader output output clock clock k keeper keeper' s (Some ReadFault)
+  read_failed_giving_up_step front leaves rose taken none begun =
+      ends gives p left left' reader output output clock k keeper keeper' s ReadFault true front [] leaves (λ gave is. rose) taken (nothing_written output)
+      (λ n _. session.read_failed_giving_up n front s none begun)
+
+-- ---- calls before a step that change nothing
+
+-- the keeper counted nothing, and a crash leaves nothing new
+pub record Before {K : Type 0} (k : Ghosts K) (old new : K) (s : State) : Type 0 where
+  pub faults : k.faults new ≡ k.faults old
+  pub open_still : k.is_open old → k.is_open new
+  pub adds : AddsStanding k old new s
+
+-- calls that leave the state, and did not give up
+pub before_quiet : {K : Type 0} (k : Ghosts K) (a b : K) (s : State) (gave_up : Type 0) → Quiet k a b gave_up → (gave_up → ⊥) → k.means a s → k.is_honest b → Before k a b s
+before_quiet k a b s gave_up quiet other means honest =
+    record { faults = quiet.rest.counted other; open_still = λ was. quiet.rest.opened honest was other; adds = quiet.crash s means honest }
+
+before_held : {K : Type 0} (k : Ghosts K) (a b c : K) (s : State) → Before k a b s → HoldsUp k false b c → HoldsUp k false a c
+before_held k a b c s x held = holds_more k a b c false (x.faults, x.open_still) held
+
+pub steps_after : {C K : Type 0} (gives : C → ℕ → C → Type 0) (p : Place) (left left' reader output output' : Option (List ℕ)) (clock clock' : C) (k : Ghosts K) (a b c : K) (s : State) (end : Option SessionEnd)
+    → Before k a b s → Steps gives p left left' reader output output' clock clock' k b c s end → Steps gives p left left' reader output output' clock clock' k a c s end
+steps_after gives p left left' reader output output' clock clock' k a b c s None x (after, keeps, g) = (
+  after,
+  keeps,
+  record {
+    front = g.front;
+    request = g.request;
+    moment = g.moment;
+    text = g.text;
+    taken = g.taken;
+    message = g.message;
+    told = g.told;
+    written = g.written;
+    answers = g.answers;
+    held = before_held k a b c s x g.held;
+    lasts = through_after x.adds g.lasts;
+  },
+)
+steps_after gives p left left' reader output output' clock clock' k a b c s (Some e) x (after, keeps, serves) = (
+  after,
+  keeps,
+  λ n all.
+      let r = serves n all in
+      record {
+        stream = r.stream;
+        moments = r.moments;
+        answers = r.answers;
+        gave_up = r.gave_up;
+        read = r.read;
+        told = r.told;
+        written = r.written;
+        held = held_more_to k a b c r.gave_up e (x.faults, x.open_still) r.held;
+        lasts = λ none. through_after x.adds (r.lasts none);
+        session = r.session;
+      },
+)
 
 -- ---- the messages so far
 

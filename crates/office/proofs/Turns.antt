@@ -71,7 +71,7 @@ pub over_more : {C K : Type 0} (gives : C → ℕ → C → Type 0) (output mid_
 unfolding turn_more
 over_more gives output mid_output output' input input' clock clock' k first keeper keeper' s mid after moment n n' faults faults' e one left t tells served more counted = record {
   turn = turn_more gives output mid_output output' input input' clock clock' k keeper keeper' s mid after moment n n' faults faults' e t.turn tells served more counted;
-  opened = opened_more k t.turn.connections (record { stream = served.stream; answers = served.answers; end = e; gave_up = served.gave_up }) first keeper keeper' mid after one left t.opened served.held;
+  opened = opened_more k t.turn.connections (record { stream = served.stream; answers = served.answers; end = e; gave_up = served.gave_up }) first keeper keeper' mid after one left t.opened served.held.0;
 }
 
 -- whatever became of the keeper

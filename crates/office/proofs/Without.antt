@@ -9,7 +9,7 @@ use Rattle.office.specs.Answering.{AnswersRequest}
 use Rattle.office.specs.Readable.{IsReadable}
 use Rattle.office.specs.Sessions.{Session, Connection, Run, MayGiveUpReading, closing, most_messages}
 use Rattle.office.specs.Sessions as session
-use Rattle.office.specs.WithoutTryAgain.{GivesUp, IsLastRefusal, IsCutShort, RunsWithout}
+use Rattle.office.specs.WithoutTryAgain.{GivesUp, IsGivenUpBy, IsCutShort, RunsWithout}
 use Rattle.office.specs.WithoutTryAgain as without
 use Rattle.office.specs.declared.connections.session.SessionEnd.{SessionEnd}
 use Rattle.office.specs.declared.connections.session.SessionEnd.TheVariants.{Ended, Refused}
@@ -58,12 +58,12 @@ pub record IsSessionCut (n : ℕ) (stream : List ℕ) (s : State) (moments answe
   pub later : n < most_messages → (read : List ℕ) → GivesUp read rest others
   pub taken : moments ≡ told ++ others
   pub answers_are : answers ≡ written ++ last
-  pub refused : IsLastRefusal last e
+  pub refused : IsGivenUpBy last e
   pub before : Session n front s told written Ended false after
 
 -- it gave up at the first message that was to come
 at_once : (n : ℕ) (stream : List ℕ) (s : State) (moments answers : List ℕ) (e : SessionEnd) → GivesUp [] stream moments
-    → (suc n < most_messages → (read : List ℕ) → GivesUp read stream moments) → IsLastRefusal answers e → IsSessionCut (suc n) stream s moments answers e s
+    → (suc n < most_messages → (read : List ℕ) → GivesUp read stream moments) → IsGivenUpBy answers e → IsSessionCut (suc n) stream s moments answers e s
 at_once n stream s moments answers e gives_up later refused = record {
   front = [];
   rest = stream;
@@ -110,13 +110,15 @@ session_cut _ stream s _ _ e after most (session.served n _ rest _ mid _ r now m
       before = session.served n (m.text ++ c.front) c.front s mid after r now c.told text c.written Ended false (m.stands c.front) answered c.before;
     }
 session_cut _ stream s _ _ _ _ _ (session.gave_up_at n _ rest _ r now next readable) =
-    at_once n stream s (now ∷ []) _ _ (without.at_message r now rest next readable) (λ _ _. without.at_message r now rest next readable) (refl, refl)
+    at_once n stream s (now ∷ []) _ _ (without.at_message r now rest next readable) (λ _ _. without.at_message r now rest next readable) (inl (refl, refl))
 session_cut _ stream s _ _ _ _ _ (session.gave_up_reading n _ _ may) =
-    at_once n stream s [] _ _ (gave_up_reading (suc n) stream may) (gave_up_later (suc n) stream may) (refl, refl)
+    at_once n stream s [] _ _ (gave_up_reading (suc n) stream may) (gave_up_later (suc n) stream may) (inl (refl, refl))
+session_cut _ stream s _ _ _ _ _ (session.read_failed_giving_up n _ _ awaits begun) =
+    at_once n stream s [] [] _ (without.within_message begun) (λ lt read. without.within_message begun) (inr (refl, refl))
 session_cut _ stream s _ _ _ _ _ (session.write_failed_giving_up_at n _ rest _ r now front next readable begins) =
-    at_once n stream s (now ∷ []) front _ (without.at_message r now rest next readable) (λ _ _. without.at_message r now rest next readable) begins
+    at_once n stream s (now ∷ []) front _ (without.at_message r now rest next readable) (λ _ _. without.at_message r now rest next readable) (inl begins)
 session_cut _ stream s _ _ _ _ _ (session.write_failed_giving_up_reading n _ _ front may begins) =
-    at_once n stream s [] front _ (gave_up_reading (suc n) stream may) (gave_up_later (suc n) stream may) begins
+    at_once n stream s [] front _ (gave_up_reading (suc n) stream may) (gave_up_later (suc n) stream may) (inl begins)
 
 -- ---- runs
 

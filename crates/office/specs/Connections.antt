@@ -8,6 +8,7 @@ use Rattle.keeper.specs.declared.keep.Keeper.{Ghosts}
 use Rattle.wire.specs.declared.counted.Counted.{Counted}
 use Rattle.office.specs.declared.connections.session.SessionEnd.{SessionEnd}
 use Rattle.office.specs.declared.connections.session.SessionEnd.TheVariants.{Ended, Truncated, Refused, Limit, ReadFault, WriteFault}
+use Rattle.office.specs.Crashes.{LastsThrough}
 use Rattle.office.specs.Premise.{HoldsUp}
 use Rattle.office.specs.Repeats.{ActsOnce}
 use Rattle.office.specs.Sessions.{Session, Connection, Run}
@@ -34,12 +35,17 @@ IsStream false (Refused number) old new stream = IsKnown old stream
 IsStream false Limit old new stream = IsKnown old stream
 IsStream false WriteFault old new stream = IsKnown old stream
 
--- the session may have given up: refusal 40 closed it, or the writing of an answer broke off
-abbrev pub MayGiveUp : SessionEnd → Type 0
-MayGiveUp e = (e ≡ Refused 40) ⊎ (e ≡ WriteFault)
+-- the session may have given up: refusal 40 closed it, or the writing of an answer broke off, or a read failed and the keeper
+-- counted a fault
+abbrev pub MayGiveUp : {K : Type 0} → Ghosts K → K → K → SessionEnd → Type 0
+MayGiveUp k old new e = (e ≡ Refused 40) ⊎ (e ≡ WriteFault) ⊎ ((e ≡ ReadFault) × Rose (k.faults old) (k.faults new))
 
--- what was read, which moments were told, what was written, that the keeper held up, and that these are a session of up
--- to n messages
+-- the keeper held up; and where a read failed, something was given up only where the keeper counted a fault
+abbrev pub HoldsUpTo : {K : Type 0} → Ghosts K → Bool → SessionEnd → K → K → Type 0
+HoldsUpTo k gave_up e old new = HoldsUp k gave_up old new × (gave_up ≡ true → e ≡ ReadFault → Rose (k.faults old) (k.faults new))
+
+-- What was read, which moments were told, what was written, that the keeper held up, and that these are a session of up to n
+-- messages. Where nothing was given up, and at a failed read, the state after outlasts a crash.
 pub record Serves {C K : Type 0} (n : ℕ) (gives : C → ℕ → C → Type 0) (input input' output output' : Option (List ℕ)) (clock clock' : C)
     (k : Ghosts K) (keeper keeper' : K) (s after : State) (e : SessionEnd) : Type 0 where
   pub stream : List ℕ
@@ -49,7 +55,8 @@ pub record Serves {C K : Type 0} (n : ℕ) (gives : C → ℕ → C → Type 0) 
   pub read : IsStream gave_up e input input' stream
   pub told : TellsMoments gives clock moments clock'
   pub written : Appends output output' answers
-  pub held : HoldsUp k gave_up keeper keeper'
+  pub held : HoldsUpTo k gave_up e keeper keeper'
+  pub lasts : (gave_up ≡ false) ⊎ (e ≡ ReadFault) → LastsThrough k keeper keeper' s after
   pub session : Session n stream s moments answers e gave_up after
 
 -- A fault of the reader or the writer that was counted is the end that is told, and no other end is told as one.
@@ -71,7 +78,7 @@ AreServed remaining contents olds news cs = ⊥
 -- the keeper over the connections, one after another
 abbrev pub HoldsUpOver : {K : Type 0} → Ghosts K → List Connection → K → K → Type 0
 HoldsUpOver k [] old new = new ≡ old
-HoldsUpOver {K} k (c ∷ cs) old new = (mid : K) × HoldsUp k c.gave_up old mid × HoldsUpOver k cs mid new
+HoldsUpOver {K} k (c ∷ cs) old new = (mid : K) × HoldsUpTo k c.gave_up c.end old mid × HoldsUpOver k cs mid new
 
 abbrev pub NoneGaveUp : List Connection → Type 0
 NoneGaveUp cs = AllByRecursion (λ c. c.gave_up ≡ false) cs

@@ -28,6 +28,11 @@ pub data Lasts {K : Type 0} (k : Ghosts K) (old new : K) (s after : State) : Typ
   changed : LeavesAlone k.leaves k.leaves_whole new after → Lasts k old new s after
   unchanged : after ≡ s → AddsStanding k old new s → Lasts k old new s after
 
+-- the same over several calls, each of which lasts
+pub data LastsThrough {K : Type 0} (k : Ghosts K) (old new : K) (s after : State) : Type 0 where
+  changed_once : ((t : State) → k.leaves new t → t ≡ after) → k.leaves_whole new → LastsThrough k old new s after
+  never_changed : after ≡ s → AddsStanding k old new s → LastsThrough k old new s after
+
 -- the keeper means the state after, and this outlasts a crash
 pub record Endures {K : Type 0} (k : Ghosts K) (old new : K) (s after : State) : Type 0 where
   pub meant : k.means new after

@@ -9,6 +9,7 @@ use Rattle.sigtext.specs.Bytes.{IsBeginning}
 use Rattle.office.specs.declared.connections.handling.Handled.{Handled}
 use Rattle.office.specs.declared.connections.handling.Handled.TheVariants.{Answered, GaveUp, Broken}
 use Rattle.office.specs.Answering.{AnswersRequest}
+use Rattle.office.specs.Crashes.{LastsThrough}
 use Rattle.office.specs.Premise.{HoldsUp, IsLeft}
 use Rattle.office.specs.Readable.{IsReadable}
 use Rattle.office.specs.Sessions.{closing}
@@ -21,11 +22,11 @@ MayBeGivenUp h = (h ≡ GaveUp) ⊎ (h ≡ Broken)
 -- writing broke off
 pub data Handles {C K : Type 0} (gives : C → ℕ → C → Type 0) (clock clock' : C) (output output' : Option (List ℕ)) (k : Ghosts K) (keeper keeper' : K) (s : State) (r : Request)
     : Handled → Type 0 where
-  answered : (now : ℕ) (text : List ℕ) (after : State) → gives clock now clock' → Appends output output' text → HoldsUp k false keeper keeper' → IsLeft (k.means keeper') after → AnswersRequest s r now text after
+  answered : (now : ℕ) (text : List ℕ) (after : State) → gives clock now clock' → Appends output output' text → HoldsUp k false keeper keeper' → LastsThrough k keeper keeper' s after → IsLeft (k.means keeper') after → AnswersRequest s r now text after
       → Handles gives clock clock' output output' k keeper keeper' s r Answered
   gave_up_at : (now : ℕ) → gives clock now clock' → Appends output output' (closing rule.TryAgain) → HoldsUp k true keeper keeper' → IsReadable r → IsLeft (k.means keeper') s
       → Handles gives clock clock' output output' k keeper keeper' s r GaveUp
-  broke : (now : ℕ) (text front : List ℕ) (after : State) → gives clock now clock' → Appends output output' front → IsBeginning front text → HoldsUp k false keeper keeper' → IsLeft (k.means keeper') after → AnswersRequest s r now text after
+  broke : (now : ℕ) (text front : List ℕ) (after : State) → gives clock now clock' → Appends output output' front → IsBeginning front text → HoldsUp k false keeper keeper' → LastsThrough k keeper keeper' s after → IsLeft (k.means keeper') after → AnswersRequest s r now text after
       → Handles gives clock clock' output output' k keeper keeper' s r Broken
   broke_giving_up_at : (now : ℕ) (front : List ℕ) → gives clock now clock' → Appends output output' front → IsBeginning front (closing rule.TryAgain) → HoldsUp k true keeper keeper' → IsReadable r → IsLeft (k.means keeper') s
       → Handles gives clock clock' output output' k keeper keeper' s r Broken

@@ -1,9 +1,11 @@
 -- What an office's promises stand on, and what its calls leave: of the keeper's state, and of the keeper beside it.
-use Rattle.std.specs.Prelude.{◌≡◌, ◌≤◌, Bool, true, false, Result, Err}
+use Rattle.std.specs.Prelude.{◌≡◌, ◌≤◌, ◌⊎◌, [], Bool, true, false, Result, Err, OnOk}
 use Rattle.sigtext.specs.declared.refusal.Refusal.{Refusal}
 use Rattle.sigtext.specs.declared.refusal.Refusal.TheVariants as rule
+use Rattle.sigtext.specs.Counts.{Rose}
 use Rattle.boxes.specs.State.{State}
 use Rattle.boxes.specs.Sound.{IsSound}
+use Rattle.keeper.specs.declared.keep.KeepFault.{KeepFault}
 use Rattle.keeper.specs.declared.keep.Keeper.{Ghosts}
 
 -- before a call the keeper meant this state, which is sound; and it is honest after the call
@@ -28,6 +30,18 @@ pub record HoldsUnless {K : Type 0} (k : Ghosts K) (old new : K) (gave_up : Type
 -- it is refusal 40
 abbrev pub IsGivenUp : {T : Type 0} → Result T Refusal → Type 0
 IsGivenUp result = result ≡ Err rule.TryAgain
+
+-- nothing is staged any more, or the keeper counted a fault
+abbrev pub EndsUnstaged : {K : Type 0} → Ghosts K → K → K → Type 0
+EndsUnstaged k old new = k.stages new [] ⊎ Rose (k.faults old) (k.faults new)
+
+-- the same where nothing was staged
+abbrev pub StaysUnstaged : {K : Type 0} → Ghosts K → K → K → Type 0
+StaysUnstaged k old new = k.stages old [] → EndsUnstaged k old new
+
+-- it is a fault of the keeper
+abbrev pub IsFault : {T : Type 0} → Result T KeepFault → Type 0
+IsFault result = OnOk result ⊥
 
 -- where something was given up the keeper's count of faults has not fallen; else it stays, and one that was open is open
 abbrev pub HoldsUp : {K : Type 0} → Ghosts K → Bool → K → K → Type 0

@@ -7,9 +7,9 @@ use Rattle.sigtext.specs.Request.{Request}
 use Rattle.boxes.specs.State.{State}
 use Rattle.wire.specs.Answers.{answer_text}
 use Rattle.wire.specs.Answers as answer
-use Rattle.wire.specs.Framing.{Next}
+use Rattle.wire.specs.Framing.{Next, request_of}
 use Rattle.wire.specs.Framing as frame
-use Rattle.wire.specs.Feeding.{AnnouncesBody, Awaits}
+use Rattle.wire.specs.Feeding.{Awaits, Opens}
 use Rattle.sigtext.specs.Bytes.{IsBeginning}
 use Rattle.office.specs.declared.connections.session.SessionEnd.{SessionEnd}
 use Rattle.office.specs.declared.connections.session.SessionEnd.TheVariants.{Ended, Truncated, Refused, Limit, ReadFault, WriteFault}
@@ -24,14 +24,25 @@ closing q = answer_text false (answer.Refused q)
 abbrev pub most_messages : ℕ
 most_messages = 1000
 
+-- A message has begun: a head that keeps the rules 1 to 5 stands whole at the front of the bytes, and its request is readable,
+-- whatever its body.
+pub record HasBegunMessage (bytes : List ℕ) : Type 0 where
+  pub text : List ℕ
+  pub given : List ℕ
+  pub has_length : Bool
+  pub size : ℕ
+  pub whole : bytes ≡ text ++ given
+  pub opens : Opens text has_length size
+  pub readable : IsReadable (request_of opens.head has_length [])
+
 -- Where a session may give up before a message was read whole, if up to n are to come. For the first buffer: as the first
--- thing of a connection, before anything was read. Or for a body: where a head announces it.
+-- thing of a connection, before anything was read. Or within a message that has begun.
 abbrev pub MayGiveUpReading : ℕ → List ℕ → Type 0
-MayGiveUpReading n stream = ((n ≡ most_messages) × (stream ≡ [])) ⊎ AnnouncesBody stream
+MayGiveUpReading n stream = ((n ≡ most_messages) × (stream ≡ [])) ⊎ HasBegunMessage stream
 
 -- Up to n further messages of a stream are served from a state. This takes the moments, one for each
 -- message that was read whole, writes the bytes, ends so, and leaves the last state. The mark says
--- whether the session gave up: whether refusal 40 is its last answer, written or begun.
+-- whether the session gave up: whether refusal 40 is its last answer, written or begun, or a fault took its place.
 pub data Session : ℕ → List ℕ → State → List ℕ → List ℕ → SessionEnd → Bool → State → Type 0 where
   limit : (stream : List ℕ) (s : State) → Session zero stream s [] [] Limit false s
   ended : (n : ℕ) (stream : List ℕ) (s : State) → Next stream frame.Ended [] → Session (suc n) stream s [] [] Ended false s
@@ -44,11 +55,13 @@ pub data Session : ℕ → List ℕ → State → List ℕ → List ℕ → Sess
   -- memory was refused, or the keeper counted a fault, at a message
   gave_up_at : (n : ℕ) (stream rest : List ℕ) (s : State) (r : Request) (now : ℕ) → Next stream (frame.Message r) rest → IsReadable r
       → Session (suc n) stream s (now ∷ []) (closing rule.TryAgain) (Refused 40) true s
-  -- memory was refused where a message is read
+  -- memory was refused, or the keeper counted a fault, before a message was read whole
   gave_up_reading : (n : ℕ) (stream : List ℕ) (s : State) → MayGiveUpReading (suc n) stream
       → Session (suc n) stream s [] (closing rule.TryAgain) (Refused 40) true s
   -- a read failed, and the bytes read before it don't tell the next step
   read_failed : (n : ℕ) (stream : List ℕ) (s : State) → Awaits stream → Session (suc n) stream s [] [] ReadFault false s
+  -- the same, and the keeper counted a fault as it let go of what it was given of the body
+  read_failed_giving_up : (n : ℕ) (stream : List ℕ) (s : State) → Awaits stream → HasBegunMessage stream → Session (suc n) stream s [] [] ReadFault true s
   -- a write failed, and a beginning of the answer was written; the request has taken effect, or was refused
   write_failed : (n : ℕ) (stream rest : List ℕ) (s after : State) (r : Request) (now : ℕ) (text front : List ℕ)
       → Next stream (frame.Message r) rest → AnswersRequest s r now text after → IsBeginning front text

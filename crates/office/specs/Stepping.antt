@@ -1,21 +1,26 @@
 -- What one step of a session does: it handles a message, or it ends the session.
-use Rattle.std.specs.Prelude.{◌≡◌, ℕ, suc, List, ◌++◌, Option, Some, None, false}
+use Rattle.std.specs.Prelude.{◌≡◌, ◌≢◌, ◌⊎◌, ℕ, suc, Bool, List, ◌++◌, length, Option, Some, None, false, IsTrue, Result, Err}
 use Rattle.std.specs.Io.KnownBytes.{Appends, Consumes}
 use Rattle.sigtext.specs.Bytes.{IsBeginning}
 use Rattle.sigtext.specs.declared.refusal.Refusal.{Refusal}
+use Rattle.sigtext.specs.declared.refusal.Refusal.TheVariants as rule
 use Rattle.sigtext.specs.Refusals.{number_of}
 use Rattle.sigtext.specs.Request.{Request}
 use Rattle.boxes.specs.State.{State}
 use Rattle.keeper.specs.declared.keep.Keeper.{Ghosts}
-use Rattle.wire.specs.Framing.{Next, Message}
+use Rattle.wire.specs.Framing.{Next, Message, request_of}
+use Rattle.wire.specs.Whole.{IsOpening}
 use Rattle.wire.specs.declared.counted.Counted.{Counted}
 use Rattle.wire.specs.declared.feed.Place.{Place}
 use Rattle.wire.specs.declared.feed.Place.TheVariants as place
 use Rattle.office.specs.declared.connections.session.SessionEnd.{SessionEnd}
 use Rattle.office.specs.declared.connections.session.SessionEnd.TheVariants.{Refused, WriteFault}
-use Rattle.office.specs.Answering.{AnswersRequest}
+use Rattle.office.specs.declared.requests.foreseeing.Prospect.{Prospect}
+use Rattle.office.specs.Answering.{AnswersRequest, is_head}
 use Rattle.office.specs.Connections.{Serves, TellsFaults}
-use Rattle.office.specs.Premise.{HoldsUp, IsLeft}
+use Rattle.office.specs.Crashes.{LastsThrough}
+use Rattle.office.specs.Foreseeing.{Foresees}
+use Rattle.office.specs.Premise.{HoldsUnless, HoldsUp, IsLeft}
 use Rattle.office.specs.Sessions.{closing, most_messages}
 
 -- One message was answered, and the session goes on. left and left': what is left of the stream before and after.
@@ -31,6 +36,7 @@ pub record Goes {C K : Type 0} (gives : C → ℕ → C → Type 0) (left left' 
   pub written : Appends output output' text
   pub answers : AnswersRequest s request moment text after
   pub held : HoldsUp k false keeper keeper'
+  pub lasts : LastsThrough k keeper keeper' s after
 
 -- up to n messages are to come of a feed that stands there: all of a connection's, where it is fresh
 abbrev pub ToCome : Place → ℕ → Type 0
@@ -54,3 +60,19 @@ abbrev pub IsClosed : Option (List ℕ) → Option (List ℕ) → Refusal → Se
 IsClosed old new q (Refused number) = (number ≡ number_of q) × Appends old new (closing q)
 IsClosed old new q WriteFault = (front : List ℕ) × Appends old new front × IsBeginning front (closing q)
 IsClosed old new q _ = ⊥
+
+-- A head was read that announces a body of this size, and this was foreseen of its message, whatever the body. known: what was
+-- left of the stream before the head, and left: what is left behind it.
+pub record IsExpected (s : State) (size : ℕ) (known left : Option (List ℕ)) (foreseen : Result Prospect Refusal) (to_head : Bool) : Type 0 where
+  pub text : List ℕ
+  pub has_length : Bool
+  pub opening : IsOpening text has_length size known left
+  pub foresees : (body : List ℕ) → length body ≡ size → Foresees s (request_of opening.opens.head has_length body) foreseen
+  pub tells : foreseen ≢ Err rule.TryAgain
+  pub head : (body : List ℕ) → to_head ≡ is_head (request_of opening.opens.head has_length body)
+
+-- Refusal 6 closed the connection, and the keeper counted nothing; or refusal 40, and what was to be staged is not.
+abbrev pub LeavesOff : {K : Type 0} → Option (List ℕ) → Option (List ℕ) → Ghosts K → K → K → Bool → SessionEnd → Type 0
+LeavesOff output output' k old new is_upload e =
+    (IsClosed output output' rule.BodyIncomplete e × HoldsUnless k old new ⊥)
+    ⊎ (IsClosed output output' rule.TryAgain e × IsTrue is_upload)

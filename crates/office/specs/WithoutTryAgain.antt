@@ -1,22 +1,21 @@
 -- A run without the messages that were answered with refusal 40.
-use Rattle.std.specs.Prelude.{◌≡◌, ℕ, true, false, List, [], ◌∷◌, ◌++◌}
+use Rattle.std.specs.Prelude.{◌≡◌, ◌⊎◌, ℕ, true, false, List, [], ◌∷◌, ◌++◌}
 use Rattle.sigtext.specs.Bytes.{IsBeginning}
 use Rattle.sigtext.specs.Request.{Request}
 use Rattle.sigtext.specs.declared.refusal.Refusal.TheVariants as rule
 use Rattle.boxes.specs.State.{State}
-use Rattle.wire.specs.Feeding.{AnnouncesBody}
 use Rattle.wire.specs.Framing.{Next}
 use Rattle.wire.specs.Framing as frame
 use Rattle.office.specs.Readable.{IsReadable}
-use Rattle.office.specs.Sessions.{Session, Connection, Run, closing, most_messages}
+use Rattle.office.specs.Sessions.{HasBegunMessage, Session, Connection, Run, closing, most_messages}
 use Rattle.office.specs.declared.connections.session.SessionEnd.{SessionEnd}
-use Rattle.office.specs.declared.connections.session.SessionEnd.TheVariants.{Ended, Refused, WriteFault}
+use Rattle.office.specs.declared.connections.session.SessionEnd.TheVariants.{Ended, Refused, ReadFault, WriteFault}
 
 -- Where a connection gave up: what of its stream was answered, what was left, and the moments that it took there. This
--- was at a readable message, at one moment; or within a message with a body, or before anything was read, at none.
+-- was at a readable message, at one moment; or within one that had begun, or before anything was read, at none.
 pub data GivesUp (front rest : List ℕ) : List ℕ → Type 0 where
   at_message : (r : Request) (now : ℕ) (more : List ℕ) → Next rest (frame.Message r) more → IsReadable r → GivesUp front rest (now ∷ [])
-  within_message : AnnouncesBody rest → GivesUp front rest []
+  within_message : HasBegunMessage rest → GivesUp front rest []
   before_all : front ≡ [] → rest ≡ [] → GivesUp front rest []
 
 -- refusal 40 was the last answer: it was written, or a beginning of it where the write failed
@@ -24,6 +23,10 @@ abbrev pub IsLastRefusal : List ℕ → SessionEnd → Type 0
 IsLastRefusal last (Refused number) = (number ≡ 40) × (last ≡ closing rule.TryAgain)
 IsLastRefusal last WriteFault = IsBeginning last (closing rule.TryAgain)
 IsLastRefusal last _ = ⊥
+
+-- the last answer of a connection that gave up: refusal 40, or none where a read failed
+abbrev pub IsGivenUpBy : List ℕ → SessionEnd → Type 0
+IsGivenUpBy last e = IsLastRefusal last e ⊎ ((last ≡ []) × (e ≡ ReadFault))
 
 -- d is the connection c, which gave up, as it is where its stream ends before the message at which c gave up: all
 -- before that is answered as it was, and refusal 40 is not written. moments and told: those of c and of d.
@@ -36,7 +39,7 @@ pub record IsCutShort (c d : Connection) (moments told : List ℕ) : Type 0 wher
   pub gives_up : GivesUp d.stream rest others
   pub taken : moments ≡ told ++ others
   pub answers : c.answers ≡ d.answers ++ last
-  pub refused : IsLastRefusal last c.end
+  pub refused : IsGivenUpBy last c.end
   pub ended : d.end ≡ Ended
   pub unmarked : d.gave_up ≡ false
 

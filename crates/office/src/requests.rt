@@ -1,8 +1,10 @@
 //! One request: what it is answered, and what it changes.
 mod admitting;
+pub(crate) mod announced;
 pub mod answering;
 pub mod commanding;
 mod fetching;
+pub(crate) mod foreseeing;
 mod forms;
 mod places;
 mod putting;

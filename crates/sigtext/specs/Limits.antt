@@ -3,7 +3,7 @@ use Rattle.std.specs.Prelude.{ℕ}
 
 -- the greatest length of a body, and so of a file, in bytes
 abbrev pub most_body : ℕ
-most_body = 1048576
+most_body = 8388608
 
 -- the greatest length of a front, which is a head with its empty line, in bytes
 abbrev pub most_head : ℕ

@@ -10,7 +10,7 @@ use Rattle.sqlite_rules.proofs.ListLemmas.{contains_had}
 use Rattle.sqlite.specs.Effect.{Database}
 use Rattle.boxes.specs.State.{Place, File, State as Office}
 use Rattle.boxes.proofs.Lookups.{some_none}
-use Rattle.sqltables.specs.Schema.{Version, IsVersion}
+use Rattle.sqltables.specs.Schema.{Version, IsVersion, v1}
 use Rattle.sqltables.specs.Tables.{Box, Part, RowsMean, IsBoxRow, IsFileRow, IsPieceRow, TablesMean, tables_of, piece_of}
 use Rattle.sqltables.specs.Means.{IsWhole}
 use Rattle.sqlaudit.specs.Lines.{AreLines, HaveRowids, IsPieceLine}
@@ -19,7 +19,8 @@ use Rattle.sqlaudit.specs.declared.lines.FileLine.{FileLine}
 use Rattle.sqlaudit.specs.declared.lines.PieceLine.{PieceLine}
 use Rattle.sqlaudit.specs.declared.rules.Lines.{Lines}
 use Rattle.sqlaudit.specs.Outlines.{Outline, AreSoundLines, ArePiecesOf}
-use Rattle.sqlaudit.specs.Opened.{AreListed, AreOffice, HasBytes}
+use Rattle.sqlaudit.specs.Opened.{AreListed, AreOffice, AreShortLines, HasBytes}
+use Rattle.sqlaudit.proofs.ShortReceipts.{short_receipts}
 use Rattle.sqlaudit.proofs.PieceKeys.{one_piece_row}
 use Rattle.sqlaudit.proofs.AcceptedTables.{office_means, keys_mean, boxes_mean, receipts_mean, files_mean, rules_mean, limits_mean, unlimited_then}
 use Rattle.sqlaudit.proofs.AcceptedFiles.{IsStored, told_size, bytes_at, bytes_stored}
@@ -100,8 +101,9 @@ pub accepted : (v : Version) → IsVersion v → (db : Database) (lines : Lines)
     → ((line : OfficeLine) → Contains lines.office.now line → line.version ≡ v.number)
     → AreSoundLines lines
     → ((file : FileLine) → Contains lines.files.now file → HasBytes (db.trees 9) lines.receipts.now file)
+    → (v ≡ v1 → AreShortLines lines.receipts.now)
     → (office : Office) × AreOffice v db office
-accepted v ours db lines schema whole listed first a has =
+accepted v ours db lines schema whole listed first a has short =
     let o : Outline = a.office in
     let bytes : Place → List ℕ = bytes_at (db.trees 9) lines o a.lines_are a.sound has in
     let stored : (place : Place) (number : ℕ) → get o.files place ≡ Some number → IsStored (db.trees 9) o place number (bytes place) = bytes_stored (db.trees 9) lines o a.lines_are a.sound has in (
@@ -109,5 +111,6 @@ accepted v ours db lines schema whole listed first a has =
       record {
         holds = record { schema = schema; sound = whole; means = means_office v ours db lines schema whole listed first a bytes stored };
         sound = office_sound o bytes (db.trees 9) a.sound stored;
+        short = λ one. short_receipts o.receipts lines.receipts.now a.lines_are.receipts (short one);
       },
     )

@@ -27,3 +27,4 @@ pub mod EitherVersion
 pub mod Looking
 pub mod PieceLines
 pub mod WholeTables
+pub mod ShortReceipts

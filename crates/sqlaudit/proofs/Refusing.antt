@@ -7,12 +7,13 @@ use Rattle.sqlite_value.specs.Order.{Row}
 use Rattle.sqlite.specs.Effect.{Database}
 use Rattle.sigv4.specs.Hmac.{sha256}
 use Rattle.boxes.specs.State.{Place, File, Receipt, State as Office}
-use Rattle.sqltables.specs.Schema.{Version, IsVersion}
+use Rattle.sqltables.specs.Schema.{Version, IsVersion, v1}
 use Rattle.sqltables.specs.Tables.{Box, Part, RowsMean, IsOfficeRow, IsKeyRow, IsBoxRow, IsReceiptRow, IsFileRow, IsPieceRow, IsRulesRow, IsLimitRow, TablesMean, tables_of, piece_of}
 use Rattle.sqlaudit.specs.Lines.{AreLines, IsOfficeLine, IsKeyLine, IsBoxLine, IsReceiptLine, IsFileLine, IsRulesLine, IsLimitLine}
 use Rattle.sqltables.specs.Pieces.{AreBytesOf, HasPiece}
 use Rattle.sqlaudit.specs.Outlines.{AreEntries, IsOfficeEntry, IsKeyEntry, IsBoxEntry, IsReceiptEntry, IsFileEntry, IsRulesEntry, IsLimitEntry, ArePiecesOf, AreLinesOf, AreSoundLines}
-use Rattle.sqlaudit.specs.Opened.{AreOffice, AreListed, IsGivenFor, LacksBytes, place_in}
+use Rattle.sqlaudit.specs.Opened.{AreOffice, AreListed, AreShortLines, IsGivenFor, LacksBytes, place_in}
+use Rattle.sqlaudit.proofs.ShortReceipts.{short_lines}
 use Rattle.sqltables.specs.OneState.{same_pieces}
 use Rattle.sqlaudit.specs.declared.lines.ReceiptLine.{ReceiptLine}
 use Rattle.sqlaudit.specs.declared.lines.FileLine.{FileLine}
@@ -165,6 +166,9 @@ module _ (v : Version) (ours : IsVersion v) (db : Database) (lines : Lines) (off
 
   pub sound_lines : AreSoundLines lines
   sound_lines = record { office = outline_of office; lines_are = lines_of; sound = sound_outline office are.sound; pieces = pieces_of }
+
+  pub short_first : v ≡ v1 → AreShortLines lines.receipts.now
+  short_first first = short_lines office.receipts lines.receipts.now lines_of.receipts (are.short first)
 
   -- ---- the bytes of a file
 

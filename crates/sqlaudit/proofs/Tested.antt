@@ -8,7 +8,7 @@ use Rattle.sqlite_rules.proofs.ListLemmas.{has_contained, contains_had}
 use Rattle.sqlite_schema.specs.declared.schema.Schema.{Schema}
 use Rattle.sqlite.specs.Effect.{Database}
 use Rattle.boxes.specs.State.{State as Office}
-use Rattle.sqltables.specs.Schema.{Version, IsVersion, begun_schemas}
+use Rattle.sqltables.specs.Schema.{Version, IsVersion, v1, begun_schemas}
 use Rattle.sqltables.specs.Means.{IsWhole}
 use Rattle.sqlaudit.specs.Lines.{AreLines, HaveRowids, IsOfficeLine, IsKeyLine, IsBoxLine, IsReceiptLine, IsFileLine, IsPieceLine}
 use Rattle.sqlaudit.specs.Outlines.{AreSoundLines}
@@ -21,10 +21,10 @@ use Rattle.sqlaudit.specs.declared.opening.Extent.{Extent}
 use Rattle.sqlaudit.specs.declared.opening.Extent.TheVariants.{Nothing, Begun, Whole}
 use Rattle.sqlaudit.specs.declared.opening.Finding.{Finding}
 use Rattle.sqlaudit.specs.declared.opening.Finding.TheVariants.{Sound, Damaged}
-use Rattle.sqlaudit.specs.Opened.{IsFound, BeginsAsOffice, IsExtent, AreOffice, SaysVersion, AreDamaged, AreAdded, AreListed, AreTables, AreOfVersion, HasBytes, LacksBytes}
+use Rattle.sqlaudit.specs.Opened.{IsFound, BeginsAsOffice, IsExtent, AreOffice, SaysVersion, AreDamaged, AreAdded, AreListed, AreTables, AreShortLines, AreOfVersion, HasBytes, LacksBytes}
 use Rattle.sqlaudit.proofs.Accepting.{accepted}
 use Rattle.sqlaudit.proofs.Extents.{begun_named, ours_begun, ours_named}
-use Rattle.sqlaudit.proofs.Refusing.{sound_lines, no_bytes}
+use Rattle.sqlaudit.proofs.Refusing.{sound_lines, short_first, no_bytes}
 
 pub record AreLent (lines : Lines) (first : List OfficeLine) (listed : Listed) : Type 0 where
   pub office : lines.office.now ≡ first
@@ -130,13 +130,17 @@ module _ (v : Version) (ours : IsVersion v) (db : Database) (lines : Lines) (off
   pub unsound : (AreSoundLines lines → ⊥) → (o : Office) → AreOffice v db o → ⊥
   unsound not o is = not (sound_lines v ours db lines o are is)
 
+  pub unfit : ((v ≡ v1 → AreShortLines lines.receipts.now) → ⊥) → (o : Office) → AreOffice v db o → ⊥
+  unfit not o is = not (short_first v ours db lines o are is)
+
   pub tested : db.schema ≡ v.schema → IsWhole db → AreOfVersion office v.number → AreSoundLines lines → (receipts : List ReceiptLine) (files : List FileLine) → receipts ≡ listed.receipts.items → files ≡ listed.files.items → (b : Bool)
       → MatchBool b ((file : FileLine) → Contains files file → HasBytes (db.trees 9) receipts file) ((file : FileLine) × Contains files file × LacksBytes (db.trees 9) receipts file)
+      → (v ≡ v1 → AreShortLines lines.receipts.now)
       → MatchBool b ((o : Office) × AreOffice v db o) ((o : Office) → AreOffice v db o → ⊥)
-  tested schema whole of sound receipts files rs fs true all =
+  tested schema whole of sound receipts files rs fs true all short =
       accepted v ours db lines schema whole are (λ line there. of.each line (subst (λ xs. Contains xs line) lent.office there)) sound
-      (λ file there. subst (λ r. HasBytes (db.trees 9) r file) (rs ∙ sym lent.receipts) (all file (subst (λ xs. Contains xs file) (lent.files ∙ sym fs) there)))
-  tested schema whole of sound receipts files rs fs false lacks = λ o is.
+      (λ file there. subst (λ r. HasBytes (db.trees 9) r file) (rs ∙ sym lent.receipts) (all file (subst (λ xs. Contains xs file) (lent.files ∙ sym fs) there))) short
+  tested schema whole of sound receipts files rs fs false lacks short = λ o is.
       no_bytes v ours db lines o are is lacks.0 (subst (λ xs. Contains xs lacks.0) (fs ∙ sym lent.files) lacks.1) (subst (λ r. LacksBytes (db.trees 9) r lacks.0) (rs ∙ sym lent.receipts) lacks.2)
 
 -- what is found of an office's tables of this version

@@ -1,5 +1,5 @@
 -- What is found in an office file that is opened.
-use Rattle.std.specs.Prelude.{◌≡◌, ◌≢◌, ◌⊎◌, ℕ, ℤ, ◌<◌, pos, codes, List, [], ◌∷◌, length, slice_get, Some, Contains, IsTrue, false, ⊤}
+use Rattle.std.specs.Prelude.{◌≡◌, ◌≢◌, ◌⊎◌, ℕ, ℤ, ◌<◌, ◌≤◌, ◌≤ℤ◌, pos, codes, List, [], ◌∷◌, length, slice_get, Some, Contains, IsTrue, false, ⊤}
 use Rattle.sqlite_value.specs.declared.value.Value.TheVariants.{Int}
 use Rattle.sqlite_value.specs.Order.{Row, column}
 use Rattle.sqlite_rules.specs.Lists.{Has}
@@ -9,7 +9,7 @@ use Rattle.sqlite.specs.Effect.{Database}
 use Rattle.sqlite.specs.State.{State, HasCleanDisk}
 use Rattle.sigtext.specs.Bytes.{AreBytes}
 use Rattle.sigv4.specs.Hmac.{sha256}
-use Rattle.boxes.specs.State.{State as Office, Place}
+use Rattle.boxes.specs.State.{State as Office, Place, Receipt}
 use Rattle.boxes.specs.Sound.{IsSound}
 use Rattle.sqltables.specs.Schema.{Version, v1, v2, begun_schemas}
 use Rattle.sqltables.specs.Tables.{tables_of}
@@ -122,10 +122,19 @@ IsBegunAs v extent s = IsTrue s.is_open → Has begun_schemas s.now.schema × Is
 
 -- ---- what they are
 
+-- the greatest length of a file in version 1, in bytes
+abbrev pub most_first_body : ℕ
+most_first_body = 1048576
+
+-- no file of this office was ever longer
+abbrev pub AreShort : Office → Type 0
+AreShort office = (at : ℕ) (r : Receipt) → slice_get office.receipts at ≡ Some r → r.size ≤ most_first_body
+
 -- the tables are those of an office of this version that keeps every rule
 pub record AreOffice (v : Version) (db : Database) (office : Office) : Type 0 where
   pub holds : Holds v db (tables_of office)
   pub sound : IsSound office
+  pub short : v ≡ v1 → AreShort office
 
 -- the row of the office says this version
 pub record SaysVersion (db : Database) (version : ℤ) : Type 0 where
@@ -207,6 +216,10 @@ pub record AreTables (v : Version) (db : Database) (listed : Listed) : Type 0 wh
   pub files_rowids : HaveRowids (db.trees 6)
   pub pieces_rowids : HaveRowids (db.trees 9)
   pub added : AreAdded v db listed.added.rules.items listed.added.limits.items
+
+-- none of these lines tells a longer file than version 1 holds
+abbrev pub AreShortLines : List ReceiptLine → Type 0
+AreShortLines lines = (line : ReceiptLine) → Contains lines line → line.length ≤ℤ pos most_first_body
 
 -- one line or more, each of this version
 pub record AreOfVersion (lines : List OfficeLine) (version : ℤ) : Type 0 where

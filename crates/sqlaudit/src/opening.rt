@@ -6,7 +6,7 @@ ghost use Rattle.sqlite.specs.State.{HasCleanDisk};
 ghost use Rattle.sqlite.specs.Held.{state};
 ghost use Rattle.boxes.specs.State.{State as Office};
 ghost use Rattle.sqlaudit.specs.declared.lines.OfficeLine.{OfficeLine};
-ghost use Rattle.sqltables.specs.Schema.{Version, IsVersion, v2};
+ghost use Rattle.sqltables.specs.Schema.{v2};
 ghost use Rattle.sqltables.specs.Inside.{seen, GoesOnWhere, GoesOnBegun};
 ghost use Rattle.sqltables.specs.Means.{IsRunning};
 ghost use Rattle.sqlaudit.specs.Formats.{version_of};
@@ -17,6 +17,7 @@ use crate::digests::have_bytes;
 use crate::formats::Format;
 use crate::lines::OfficeLine;
 use crate::listing::{Listed, list_all, list_office};
+use crate::receipt_rules::fit_version;
 use crate::rules::{Lines, are_sound};
 use sqlite::{Alter, Connection, Error, ErrorCode, Transaction};
 use sqlite_schema::schema::{Schema, Table};
@@ -161,17 +162,20 @@ fn versioned(lines: &[OfficeLine]) -> Option<&OfficeLine>
     }
 }
 
-/// Whether the lines are those of an office, and its files have their bytes.
+/// Whether the lines are those of an office of this version, and its files have their bytes.
 fn is_sound<S: Alter>(
     tx: &mut Transaction<'_, S>,
     alloc: Global,
     office: &[OfficeLine],
     listed: &Listed,
+    format: Format,
 ) -> Result<bool, Error>
-    ensures found { (v : Version) → IsVersion v → OfVersion v S.Store tx.old tx.new office.now
-        (AreTables v (seen S.Store tx.old).now listed.now → IfOk result (λ sound. MatchBool sound
-        ((office : Office) × AreOffice v (seen S.Store tx.old).now office)
-        ((office : Office) → AreOffice v (seen S.Store tx.old).now office → ⊥))) }
+    ensures found { OfVersion (version_of format) S.Store tx.old tx.new office.now
+        (AreTables (version_of format) (seen S.Store tx.old).now listed.now → IfOk result
+        (λ sound. MatchBool sound
+        ((office : Office) × AreOffice (version_of format) (seen S.Store tx.old).now office)
+        ((office : Office) → AreOffice (version_of format) (seen S.Store tx.old).now office
+        → ⊥))) }
     ensures rest { GoesOnWhere (IsRunning (seen S.Store tx.old))
         (IsRunning (seen S.Store tx.old)) S.Store tx.old tx.new result }
 {
@@ -185,6 +189,9 @@ fn is_sound<S: Alter>(
         rules: &listed.added.rules,
         limits: &listed.added.limits,
     };
+    if !fit_version(lines.receipts, format) {
+        return Ok(false);
+    }
     let Ok(sound) = are_sound(alloc, &lines) else {
         return Err(Error::SqliteFailure(ErrorCode::OutOfMemory));
     };
@@ -218,7 +225,7 @@ fn look_at_all<S: Alter>(
         (IsRunning (seen S.Store tx.old)) S.Store tx.old tx.new result }
 {
     let listed = list_all(tx, alloc, format)?;
-    let sound = is_sound(tx, alloc, office, &listed)?;
+    let sound = is_sound(tx, alloc, office, &listed, format)?;
     Ok(finding_of(sound))
 }
 

@@ -1,17 +1,21 @@
 //! The lines of the receipts, as receipts among keys and boxes.
 
-ghost use Rattle.std.specs.Prelude.{◌≡◌, ◌↔◌, ℕ, ◌+◌, pos, Some, IsTrue, IsSomeAnd, IfOk, MatchOption, ⊤};
+ghost use Rattle.std.specs.Prelude.{◌≡◌, ◌↔◌, ℕ, ◌+◌, ◌≤ℤ◌, pos, Some, IsTrue, IsSomeAnd, IfOk, MatchOption, ⊤};
 ghost use Rattle.std.specs.FinMap.{FinMap, get};
 ghost use Rattle.std.specs.Ordering.{nat_cmp};
 ghost use Rattle.sigtext.specs.Bytes.{bytes_cmp};
 ghost use Rattle.boxes.specs.State.{Key, Receipt};
 ghost use Rattle.boxes.specs.Opening.{Fits};
 ghost use Rattle.boxes.specs.Sound.{IsDigest};
+ghost use Rattle.sqltables.specs.Schema.{v1};
 ghost use Rattle.sqltables.specs.Tables.{Box};
+ghost use Rattle.sqlaudit.specs.Formats.{version_of};
+ghost use Rattle.sqlaudit.specs.Opened.{most_first_body, AreShortLines};
 ghost use Rattle.sqlaudit.specs.Outlines.{IsReceiptEntry, IsReceiptRule};
 ghost use Rattle.sqlaudit.specs.Sorting.{HoldsBoxes, HoldsKeys, HasReceiptForms, IsGiven, IsRead, given_in};
 
 use crate::box_rules::Boxes;
+use crate::formats::Format;
 use crate::key_rules::Keys;
 use crate::lines::ReceiptLine;
 use boxes::{Command, has_form, name_fits};
@@ -34,6 +38,38 @@ pub(crate) struct ReceiptEntry<'a> {
 pub(crate) type Receipts<'a> = BTreeMap<u64, ReceiptEntry<'a>>;
 
 const DIGEST_BYTES: usize = 32;
+
+/// The greatest length of a file in version 1, in bytes.
+const MOST_FIRST_BODY: i64 = 1_048_576;
+
+/// Whether version 1 holds a file of this length.
+fn is_short(line: &ReceiptLine) -> bool
+    ensures { IsTrue result ↔ line.now.length ≤ℤ pos most_first_body }
+{
+    line.length <= MOST_FIRST_BODY
+}
+
+/// Whether version 1 holds files of all these lengths.
+fn are_short(lines: &[ReceiptLine]) -> bool
+    ensures { IsTrue result ↔ AreShortLines lines.now }
+{
+    for line in lines {
+        if !is_short(line) {
+            return false;
+        }
+    }
+    true
+}
+
+/// Whether this version holds files of all these lengths. Of version 2 the rules of a receipt tell it.
+pub(crate) fn fit_version(lines: &[ReceiptLine], format: Format) -> bool
+    ensures { IsTrue result ↔ (version_of format ≡ v1 → AreShortLines lines.now) }
+{
+    match format {
+        Format::First => are_short(lines),
+        Format::Second => true,
+    }
+}
 
 /// The number, where it is not below 0.
 pub(crate) fn natural(number: i64) -> Option<u64>

@@ -11,7 +11,7 @@ use Rattle.sqlaudit.proofs.Looking.{Begins}
 use Rattle.sqlkeeper.specs.Asking.{LeavesOffice}
 use Rattle.sqlkeeper.proofs.Taken.{by_rows}
 
-rolled : (mid new : State) (e : Error) → FailsToCommit mid new e → IsTrue mid.in_transaction → IsRolledBack mid new
+pub rolled : (mid new : State) (e : Error) → FailsToCommit mid new e → IsTrue mid.in_transaction → IsRolledBack mid new
 rolled mid new e (inl fails) inside = fails.3
 rolled mid new e (inr refused) inside = absurd (let no = sym inside ∙ refused.1 in cc)
 

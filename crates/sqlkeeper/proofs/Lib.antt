@@ -6,3 +6,5 @@ pub mod Stays
 pub mod AtRest
 pub mod Migrated
 pub mod Asked
+pub mod Emptied
+pub mod Reopened

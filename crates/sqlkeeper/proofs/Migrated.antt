@@ -1,5 +1,5 @@
 -- An office file that was looked at for both versions, and where it was of version 1, changed.
-use Rattle.std.proofs.Common.{◌≡◌, ◌≢◌, inl, inr, ℕ, length, IsTrue, sym, ap, subst, ◌∙◌}
+use Rattle.std.proofs.Common.{◌≡◌, ◌≢◌, inl, inr, ℕ, length, IsTrue, refl, sym, ap, subst, ◌∙◌}
 use Rattle.sqlite_rules.specs.Lists.{Has}
 use Rattle.sqlite_schema.specs.declared.schema.Schema.{Schema}
 use Rattle.sqlite.specs.Effect.{Database}
@@ -50,7 +50,7 @@ module _ (old mid : State) (looks : LeavesUntouched old mid) where
         let is = tells (has_ours v2 second_version old s keeps.means was) clean (was_open clean) in
         apart old.now is.0 s is.1.holds ((keeps.means was).tables (was_open clean)).holds
 
-    not_second : Tells found.Second → (s : Office) → KeepsFirst old s → HasCleanDisk mid → ⊥
+    pub not_second : Tells found.Second → (s : Office) → KeepsFirst old s → HasCleanDisk mid → ⊥
     not_second tells s keeps clean =
         let was = looks.honest clean in
         let is = tells (has_ours v1 first_version old s keeps.means was) clean (was_open clean) in
@@ -61,22 +61,13 @@ module _ (old mid : State) (looks : LeavesUntouched old mid) where
     second_means tells s (inr second) = keeps_same old mid looks.honest looks.same s second
 
     module _ (rest : HasCleanDisk mid → IsAtRest mid) where
-      pub second_accepts : Tells found.Second → HasOurs old → HasCleanDisk mid → (s : Office) × IsOfficeFile old s × KeepsState mid s
-      second_accepts tells ours clean =
-          let is = tells ours clean (was_open clean) in
-          let same = looks.same clean in (
-            is.0,
-            inr (record { means = means_old v2 old mid (stays clean) same (rest clean) is.0 is.1; sound = is.1.sound }),
-            record { means = means_new v2 old mid (stays clean) same (rest clean) is.0 is.1; sound = is.1.sound },
-          )
-
       -- what was found of version 1
       pub first_found : Tells found.First → HasOurs old → HasCleanDisk mid → (s : Office) × KeepsFirst old s × Means v1 mid s
       first_found tells ours clean =
           let is = tells ours clean (was_open clean) in
           let same = looks.same clean in (
             is.0,
-            record { means = means_old v1 old mid (stays clean) same (rest clean) is.0 is.1; sound = is.1.sound },
+            record { means = means_old v1 old mid (stays clean) same (rest clean) is.0 is.1; sound = is.1.sound; short = is.1.short refl },
             means_new v1 old mid (stays clean) same (rest clean) is.0 is.1,
           )
 

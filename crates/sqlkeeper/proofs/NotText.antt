@@ -1,5 +1,5 @@
 -- What is named by bytes that are no UTF-8 is not in a sound state.
-use Rattle.std.proofs.Common.{◌≡◌, ℕ, ◌<◌, ◌≤◌, Bool, true, List, [], ◌∷◌, length, Option, Some, None, All, ⊎_elim, arith, lit<, refl, sym, subst}
+use Rattle.std.proofs.Common.{◌≡◌, ℕ, ◌<◌, ◌≤◌, Bool, true, List, [], ◌∷◌, length, Option, Some, None, option_map, All, ⊎_elim, arith, lit<, refl, sym, ap, subst}
 use Rattle.std.specs.Prelude.{IsUtf8, slice_index, IsSomeAnd}
 use Rattle.std.specs.List.{list_all}
 use Rattle.std.specs.FinMap.{get}
@@ -10,9 +10,11 @@ use Rattle.std.proofs.lemmas.Str.{IsUtf8-from_ascii}
 use Rattle.std.proofs.lemmas.List.Elements.{All-nil, All-cons}
 use Rattle.sigtext.specs.Bytes.{IsWord}
 use Rattle.sigv4.specs.Credential.{is_key_byte}
-use Rattle.boxes.specs.State.{Place, State}
+use Rattle.boxes.specs.State.{Place, File, State}
 use Rattle.boxes.specs.Limits.{IsLimitedTo}
 use Rattle.boxes.specs.Rows.{IsFileAt}
+use Rattle.boxes.specs.Rules.{HasBytes}
+use Rattle.boxes.specs.Views.{IsReceiptAt}
 use Rattle.boxes.specs.Sound.{IsSound, IsReceipt, is_box_byte}
 use Rattle.boxes.proofs.NoBox.{all_at}
 
@@ -67,3 +69,9 @@ no_limit s sound id box none held = some_box (get s.keys id) _ (sound.limits id 
 
 pub none_at : (s : State) (place : Place) → None ≡ get s.files place → IsFileAt s place None
 none_at s place none = record { file = none; receipt = λ f is. absurd cc }
+
+pub no_receipt_at : (s : State) (place : Place) → None ≡ get s.files place → IsReceiptAt s place None
+no_receipt_at s place none = record { there = ap (option_map (λ (f : File). f.receipt)) none; receipt = λ r is. absurd cc }
+
+pub no_bytes_at : (s : State) (place : Place) (bytes : List ℕ) → None ≡ get s.files place → HasBytes s place bytes → ⊥
+no_bytes_at s place bytes none has = some_box (get s.files place) _ has none

@@ -5,8 +5,9 @@ use Rattle.sqlite.specs.Effect.{Database}
 use Rattle.sqlite.specs.State.{State, HasCleanDisk, Shows, KeepsCounts, Survives}
 use Rattle.boxes.specs.State.{State as Office}
 use Rattle.sqltables.specs.Schema.{Version}
-use Rattle.sqltables.specs.Tables.{tables_of}
+use Rattle.sqltables.specs.Tables.{tables_of, NoneStaged}
 use Rattle.sqltables.specs.Means.{Holds, IsWhole, Means, OfficeMeans, LeavesOnly, AddsOnly, LeavesLast}
+use Rattle.sqlkeeper.specs.Emptying.{HasNoneStaged}
 
 -- by the rows alone
 pub by_rows : (v : Version) (db : Database) (office : Office) → Holds v db (tables_of office) → OfficeMeans v db.trees office
@@ -43,3 +44,9 @@ pub open_still : {X E : Type 0} (mid new : State) (r : Result X E) → (HasClean
     → HasCleanDisk new → (IsTrue new.is_open → LeavesLast new) → OnOk r (IsTrue new.is_open × LeavesLast new)
 open_still mid new (Ok x) shows clean law = let shown = (shows clean).1 in (shown.is_open, law shown.is_open)
 open_still mid new (Err e) shows clean law = tt
+
+-- what was committed has nothing staged
+pub unstaged : {X E : Type 0} (mid new : State) → (HasCleanDisk new → NoneStaged mid.now.trees) → (r : Result X E) → (HasCleanDisk new → OnOk r (IsTrue mid.in_transaction × Shows mid new mid.now mid.now false × KeepsCounts mid new × (new.marks ≡ [])))
+    → OnOk r (HasCleanDisk new → HasNoneStaged new)
+unstaged mid new none (Ok x) shows = λ clean is_open. subst (λ (d : Database). NoneStaged d.trees) (sym (shows clean).1.now_is) (none clean)
+unstaged mid new none (Err e) shows = tt

@@ -1,6 +1,6 @@
 //! A change that is made, in a transaction of its own.
 
-ghost use Rattle.std.specs.Prelude.{OnOk, OnErr};
+ghost use Rattle.std.specs.Prelude.{◌≡◌, OnOk, OnErr};
 ghost use Rattle.sqlite.specs.State.{HasCleanDisk};
 ghost use Rattle.sqlite.specs.Held.{state};
 ghost use Rattle.boxes.specs.State.{State};
@@ -23,14 +23,15 @@ use sqlstatements::changes::write_change;
 pub(crate) fn apply_change<S: Alter>(
     conn: &mut Connection<S>,
     change: &Change<'_>,
+    staged: &[u8],
 ) -> Result<(), Error>
-    ensures made { (s after : State) → Means v2 (state S.Store conn.old) s → IsSound s → IsChangeOf s change.now after
+    ensures made { (s after : State) → Means v2 (state S.Store conn.old) s → IsSound s → IsChangeOf (λ bytes. staged.now ≡ bytes) s change.now after
         → OnOk result (Means v2 (state S.Store conn.new) after) }
     ensures kept { (s : State) → Means v2 (state S.Store conn.old) s
         → OnErr result (Means v2 (state S.Store conn.new) s) }
-    ensures durable { (s after : State) → Means v2 (state S.Store conn.old) s → IsSound s → IsChangeOf s change.now after
+    ensures durable { (s after : State) → Means v2 (state S.Store conn.old) s → IsSound s → IsChangeOf (λ bytes. staged.now ≡ bytes) s change.now after
         → OnOk result (LeavesOnly v2 (state S.Store conn.new) after) }
-    ensures crash { (s after : State) → Means v2 (state S.Store conn.old) s → IsSound s → IsChangeOf s change.now after
+    ensures crash { (s after : State) → Means v2 (state S.Store conn.old) s → IsSound s → IsChangeOf (λ bytes. staged.now ≡ bytes) s change.now after
         → AddsOnly v2 (state S.Store conn.old) (state S.Store conn.new) after }
     ensures honest { HasCleanDisk (state S.Store conn.new) → HasCleanDisk (state S.Store conn.old) }
     ensures opened { EndsOpen (state S.Store conn.new) result }
@@ -39,6 +40,6 @@ pub(crate) fn apply_change<S: Alter>(
         return Err(Error::SqliteFailure(ErrorCode::TransactionState));
     }
     let mut tx = conn.transaction();
-    write_change(&mut tx, change)?;
+    write_change(&mut tx, change, staged)?;
     tx.commit()
 }

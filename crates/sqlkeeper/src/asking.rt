@@ -5,7 +5,8 @@ ghost use Rattle.std.specs.Prelude.{◌≡◌, ◌↔◌, IsTrue, ◌+◌, lengt
 ghost use Rattle.std.specs.FinMap.{get};
 ghost use Rattle.sqlite.specs.Held.{state};
 ghost use Rattle.boxes.specs.Rows.{IsOfficeOf, key_of, settings_of, IsFileAt, numbered_receipt, receipts_from};
-ghost use Rattle.boxes.specs.Views.{AreTotals};
+ghost use Rattle.boxes.specs.Rules.{HasBytes};
+ghost use Rattle.boxes.specs.Views.{AreTotals, IsReceiptAt};
 ghost use Rattle.boxes.specs.Clerks.{clerks};
 ghost use Rattle.boxes.specs.Limits.{IsLimitedTo, MayUse};
 ghost use Rattle.sqltables.specs.Tables.{placed};
@@ -121,6 +122,45 @@ pub(crate) fn file<S: Alter>(
     let file = standing::file(&mut tx, alloc, in_box, name)?;
     tx.commit()?;
     Ok(file)
+}
+
+/// The receipt of the file of this box and name.
+pub(crate) fn file_receipt<S: Alter>(
+    conn: &mut Connection<S>,
+    in_box: &str,
+    name: &str,
+) -> Result<Option<ReceiptRow>, Error>
+    ensures found { AnswersOf (state S.Store conn.old) (state S.Store conn.new) result
+        (λ s. IsReceiptAt s (placed in_box.now name.now)) }
+    ensures rest { LeavesOffice (state S.Store conn.old) (state S.Store conn.new) result }
+{
+    if !conn.is_autocommit() {
+        return Err(Error::SqliteFailure(ErrorCode::TransactionState));
+    }
+    let mut tx = conn.transaction();
+    let receipt = standing::standing_receipt(&mut tx, in_box, name)?;
+    tx.commit()?;
+    Ok(receipt)
+}
+
+/// Whether the file of this box and name stands with just these bytes.
+pub(crate) fn has_bytes<S: Alter>(
+    conn: &mut Connection<S>,
+    in_box: &str,
+    name: &str,
+    bytes: &[u8],
+) -> Result<bool, Error>
+    ensures found { AnswersOf (state S.Store conn.old) (state S.Store conn.new) result
+        (λ s has. IsTrue has ↔ HasBytes s (placed in_box.now name.now) bytes.now) }
+    ensures rest { LeavesOffice (state S.Store conn.old) (state S.Store conn.new) result }
+{
+    if !conn.is_autocommit() {
+        return Err(Error::SqliteFailure(ErrorCode::TransactionState));
+    }
+    let mut tx = conn.transaction();
+    let has = standing::has_bytes(&mut tx, in_box, name, bytes)?;
+    tx.commit()?;
+    Ok(has)
 }
 
 /// What the box of this name holds; nothing, where it is not there.

@@ -1,24 +1,28 @@
 //! The keeper over an office file.
 
-ghost use Rattle.std.specs.Prelude.{◌≡◌, ◌≢◌, ◌↔◌, ◌⊎◌, pos, neg_ℤ, ◌≤ℤ◌, Ok, IfOk, IfErr, IsErr, IsTrue, ⊤};
+ghost use Rattle.std.specs.Prelude.{◌≡◌, ◌≢◌, ◌↔◌, ◌⊎◌, [], pos, neg_ℤ, ◌≤ℤ◌, Ok, IfOk, IfErr, IsErr, OnOk, IsTrue, ⊤};
 ghost use Rattle.sigv4.specs.Credential.{IsKeyId, IsSecret};
 ghost use Rattle.boxes.specs.FirstState.{first_state};
 ghost use Rattle.boxes.specs.State.{State};
-ghost use Rattle.boxes.specs.Changes.{IsChangeOf, IsPastFull};
+ghost use Rattle.boxes.specs.Changes.{MayChange, IsPastFull, TakesStaged};
 ghost use Rattle.sigtext.specs.Counts.{CountsErrors};
 ghost use Rattle.sqlite.specs.State.{HasCleanDisk};
 ghost use Rattle.sqlite.specs.Held.{state};
 ghost use Rattle.keeper.specs.Keeping.{LeavesAlone};
-ghost use Rattle.sqltables.specs.Means.{IsBare, AddsOnly, AddsNothing};
+ghost use Rattle.sqltables.specs.Means.{IsBare, AddsOnly};
 ghost use Rattle.sqltables.specs.Schema.{v2, s0};
+ghost use Rattle.sqltables.specs.Tables.{NoneStaged};
 ghost use Rattle.sqltables.specs.Kept.{KeepsState, MayLeave, LeavesStates};
 ghost use Rattle.sqltables.specs.OneState.{one_kept};
 ghost use Rattle.sqlaudit.specs.Opened.{HasOurs, AreFirstNamed, AreNamed, OnlyLooks, LeavesUntouched, IsFound, IsEither};
-ghost use Rattle.sqlkeeper.specs.Versions.{KeepsFirst, IsOfficeFile, IsRefusedFile};
+ghost use Rattle.sqlkeeper.specs.Emptying.{EmptiesStaged, HasNoneStaged};
+ghost use Rattle.sqlkeeper.specs.OneText.{one_text};
+ghost use Rattle.sqlkeeper.specs.Versions.{IsOfficeFile, IsRefusedFile};
 
 use crate::applying::apply_change;
 use crate::asking;
 use crate::creating::create;
+use crate::emptying::empty_file;
 use crate::upgrading::upgrade_file;
 use boxes::{BoxRow, Change, FileRow, KeyRow, OfficeRow, ReceiptRow, Totals, law_of_changes};
 use keeper::{KeepFault, Keeper, has_room};
@@ -33,6 +37,8 @@ use thiserror::Error;
 #[derive(Drop)]
 pub struct SqlKeeper<S: Alter> {
     conn: Connection<S>,
+    // The bytes that are staged. No table has them.
+    staged: Vec<u8>,
     faults: u64,
     alloc: Global,
 }
@@ -104,12 +110,23 @@ fn counted<T>(faults: &mut u64, answer: Result<T, sqlite::Error>) -> Result<T, K
 
 // The change adds a receipt, and there is no room for one.
 fn is_past_full(change: &Change<'_>) -> bool
-    ensures { (s after : State) → IsChangeOf s change.now after
+    ensures { (s after : State) → MayChange s change.now after
         → (IsTrue result ↔ IsPastFull s change.now) }
 {
     match change {
-        Change::SetFile(file, _) => !has_room(file.number),
+        Change::SetFile(file) => !has_room(file.number),
         Change::Desk(_) => false,
+    }
+}
+
+// Behind a change that sets a file nothing is staged, whether it was made or not.
+fn unstage(staged: &mut Vec<u8>, alloc: Global, change: &Change<'_>)
+    ensures empty { TakesStaged change.now → staged.new.items ≡ [] }
+    ensures kept { (TakesStaged change.now → ⊥) → staged.new ≡ staged.old }
+{
+    match change {
+        Change::SetFile(_) => *staged = Vec::new(alloc),
+        Change::Desk(_) => {}
     }
 }
 
@@ -136,6 +153,7 @@ impl<S: Alter> SqlKeeper<S> {
             → ⟦<SqlKeeper<S> as Keeper>⟧.is_honest k) }
         ensures opened { IfOk result (λ k. ⟦<SqlKeeper<S> as Keeper>⟧.is_honest k
             → ⟦<SqlKeeper<S> as Keeper>⟧.is_open k) }
+        ensures staged { IfOk result (λ k. ⟦<SqlKeeper<S> as Keeper>⟧.stages k []) }
         ensures none { IfOk result (λ k. ⟦<SqlKeeper<S> as Keeper>⟧.faults k ≡ 0) }
         ensures durable { neg_ℤ (pos 840) ≤ℤ office.east → office.east ≤ℤ pos 840 → IsKeyId id.now
             → IsSecret secret.now
@@ -166,6 +184,7 @@ impl<S: Alter> SqlKeeper<S> {
         match create(&mut conn, office.east, office.allowance, id, secret) {
             Ok(()) => Ok(SqlKeeper {
                 conn,
+                staged: Vec::new(alloc),
                 faults: 0,
                 alloc,
             }),
@@ -175,12 +194,14 @@ impl<S: Alter> SqlKeeper<S> {
 
     /// Opens an office file, where its tables are those of an office that keeps every rule: the state of that office is what
     /// the keeper means. What is opened has exactly the tables of an office, by their names and the number of their columns.
-    /// Nothing is written, and whatever file it is, opened or refused, it is as it was.
+    /// What another program left staged is gone then, in one transaction. Else nothing is written: a file that has nothing
+    /// staged is as it was, and so is one that is refused.
     ///
     /// # Errors
     ///
     /// The fault, with the connection as it is. `Version` comes where the row of the office says another version, whatever
-    /// else is broken; `Shape` where the tables are those of no office that keeps every rule.
+    /// else is broken; `Shape` where the tables are those of no office that keeps every rule. Then nothing was tried. After
+    /// any other fault, too, the office is as it was.
     pub fn open(
         alloc: Global,
         mut conn: Connection<S>,
@@ -191,17 +212,26 @@ impl<S: Alter> SqlKeeper<S> {
         ensures means { (s : State) → KeepsState (state S.Store conn) s
             → IfOk result (λ k. ⟦<SqlKeeper<S> as Keeper>⟧.means k s) }
         ensures named { IfOk result (λ k. AreNamed (state S.Store conn).now.schema) }
-        ensures same { IfOk result (λ k. OnlyLooks (state S.Store conn) (state S.Store k.conn)) }
+        ensures same { HasOurs (state S.Store conn)
+            → IfOk result (λ k. EmptiesStaged (state S.Store conn) (state S.Store k.conn)) }
+        ensures spared { HasOurs (state S.Store conn) → HasNoneStaged (state S.Store conn)
+            → IfOk result (λ k. LeavesUntouched (state S.Store conn) (state S.Store k.conn)) }
+        ensures emptied { HasOurs (state S.Store conn)
+            → IfOk result (λ k. ⟦<SqlKeeper<S> as Keeper>⟧.is_honest k
+            → NoneStaged (state S.Store k.conn).now.trees) }
         ensures honest { IfOk result (λ k. HasCleanDisk (state S.Store k.conn)
             → ⟦<SqlKeeper<S> as Keeper>⟧.is_honest k) }
         ensures opened { IfOk result (λ k. ⟦<SqlKeeper<S> as Keeper>⟧.is_honest k
             → ⟦<SqlKeeper<S> as Keeper>⟧.is_open k) }
+        ensures staged { IfOk result (λ k. ⟦<SqlKeeper<S> as Keeper>⟧.stages k []) }
         ensures none { IfOk result (λ k. ⟦<SqlKeeper<S> as Keeper>⟧.faults k ≡ 0) }
         ensures durable { IfOk result (λ k. ⟦<SqlKeeper<S> as Keeper>⟧.is_honest k → (s : State)
             → ⟦<SqlKeeper<S> as Keeper>⟧.means k s
             → LeavesAlone ⟦<SqlKeeper<S> as Keeper>⟧.leaves ⟦<SqlKeeper<S> as Keeper>⟧.leaves_whole
             k s) }
-        ensures crash { IfOk result (λ k. AddsNothing (state S.Store conn) (state S.Store k.conn)) }
+        ensures crash { HasOurs (state S.Store conn) → IfOk result (λ k. (s : State)
+            → ⟦<SqlKeeper<S> as Keeper>⟧.means k s
+            → AddsOnly v2 (state S.Store conn) (state S.Store k.conn) s) }
         ensures version { HasOurs (state S.Store conn) → IfErr result (λ e. e.0 ≡ OpenFault.Version
             → HasCleanDisk (state S.Store e.1) → IsTrue (state S.Store conn).is_open
             → IsFound v2 Finding.OtherVersion (state S.Store conn).now) }
@@ -210,15 +240,28 @@ impl<S: Alter> SqlKeeper<S> {
             → IsFound v2 Finding.Damaged (state S.Store conn).now) }
         ensures told { IfErr result (λ e. e.0 ≢ OpenFault.Exists) }
         ensures kept { IfErr result (λ e. OnlyLooks (state S.Store conn) (state S.Store e.1)) }
-        ensures unharmed { IfErr result (λ e. AddsNothing (state S.Store conn)
-            (state S.Store e.1)) }
+        ensures failed { (s : State) → KeepsState (state S.Store conn) s
+            → IfErr result (λ e. AddsOnly v2 (state S.Store conn) (state S.Store e.1) s) }
+        ensures untouched { (AreNamed (state S.Store conn).now.schema → ⊥)
+            → IfErr result (λ e. LeavesUntouched (state S.Store conn) (state S.Store e.1)) }
+        ensures others { HasOurs (state S.Store conn)
+            → ((s : State) → KeepsState (state S.Store conn) s → ⊥)
+            → IfErr result (λ e. LeavesUntouched (state S.Store conn) (state S.Store e.1)) }
+        ensures unharmed { IfErr result (λ e. IsRefusedFile e.0
+            → LeavesUntouched (state S.Store conn) (state S.Store e.1)) }
+        ensures idle { HasOurs (state S.Store conn) → HasNoneStaged (state S.Store conn)
+            → IfErr result (λ e. LeavesUntouched (state S.Store conn) (state S.Store e.1)) }
     {
         match find(&mut conn, alloc) {
-            Ok(Finding::Sound) => Ok(SqlKeeper {
-                conn,
-                faults: 0,
-                alloc,
-            }),
+            Ok(Finding::Sound) => match empty_file(&mut conn) {
+                Ok(()) => Ok(SqlKeeper {
+                    conn,
+                    staged: Vec::new(alloc),
+                    faults: 0,
+                    alloc,
+                }),
+                Err(error) => Err((open_fault_of(error), conn)),
+            },
             Ok(Finding::OtherVersion) => Err((OpenFault::Version, conn)),
             Ok(Finding::Damaged) => Err((OpenFault::Shape, conn)),
             Err(error) => Err((open_fault_of(error), conn)),
@@ -226,7 +269,7 @@ impl<S: Alter> SqlKeeper<S> {
     }
 
     /// Takes an office file of version 1 over to version 2, in one transaction: the state is the same, with no allowance and
-    /// no limits. A file of version 2 is opened as it is.
+    /// no limits. A file of version 2 is opened as `open` does it.
     ///
     /// # Errors
     ///
@@ -246,12 +289,20 @@ impl<S: Alter> SqlKeeper<S> {
         ensures named { IfOk result (λ k. ⟦<SqlKeeper<S> as Keeper>⟧.is_honest k
             → AreFirstNamed (state S.Store conn).now.schema
             ⊎ AreNamed (state S.Store conn).now.schema) }
-        ensures same { (AreFirstNamed (state S.Store conn).now.schema → ⊥)
+        ensures same { HasOurs (state S.Store conn)
+            → (AreFirstNamed (state S.Store conn).now.schema → ⊥)
+            → IfOk result (λ k. EmptiesStaged (state S.Store conn) (state S.Store k.conn)) }
+        ensures spared { HasOurs (state S.Store conn) → HasNoneStaged (state S.Store conn)
+            → (AreFirstNamed (state S.Store conn).now.schema → ⊥)
             → IfOk result (λ k. LeavesUntouched (state S.Store conn) (state S.Store k.conn)) }
+        ensures emptied { HasOurs (state S.Store conn)
+            → IfOk result (λ k. ⟦<SqlKeeper<S> as Keeper>⟧.is_honest k
+            → NoneStaged (state S.Store k.conn).now.trees) }
         ensures honest { IfOk result (λ k. HasCleanDisk (state S.Store k.conn)
             → ⟦<SqlKeeper<S> as Keeper>⟧.is_honest k) }
         ensures opened { IfOk result (λ k. ⟦<SqlKeeper<S> as Keeper>⟧.is_honest k
             → ⟦<SqlKeeper<S> as Keeper>⟧.is_open k) }
+        ensures staged { IfOk result (λ k. ⟦<SqlKeeper<S> as Keeper>⟧.stages k []) }
         ensures none { IfOk result (λ k. ⟦<SqlKeeper<S> as Keeper>⟧.faults k ≡ 0) }
         ensures durable { IfOk result (λ k. ⟦<SqlKeeper<S> as Keeper>⟧.is_honest k → (s : State)
             → ⟦<SqlKeeper<S> as Keeper>⟧.means k s
@@ -265,25 +316,34 @@ impl<S: Alter> SqlKeeper<S> {
             → IsEither Found.Damaged (state S.Store conn).now) }
         ensures told { IfErr result (λ e. e.0 ≢ OpenFault.Exists) }
         ensures kept { IfErr result (λ e. OnlyLooks (state S.Store conn) (state S.Store e.1)) }
-        ensures crash { (s : State) → KeepsFirst (state S.Store conn) s
+        ensures crash { (s : State) → IsOfficeFile (state S.Store conn) s
             → IfErr result (λ e. AddsOnly v2 (state S.Store conn) (state S.Store e.1) s) }
         ensures untouched { (AreFirstNamed (state S.Store conn).now.schema → ⊥)
+            → (AreNamed (state S.Store conn).now.schema → ⊥)
             → IfErr result (λ e. LeavesUntouched (state S.Store conn) (state S.Store e.1)) }
         ensures others { HasOurs (state S.Store conn)
             → ((s : State) → IsOfficeFile (state S.Store conn) s → ⊥)
             → IfErr result (λ e. LeavesUntouched (state S.Store conn) (state S.Store e.1)) }
         ensures unharmed { IfErr result (λ e. IsRefusedFile e.0
             → LeavesUntouched (state S.Store conn) (state S.Store e.1)) }
+        ensures idle { HasOurs (state S.Store conn) → HasNoneStaged (state S.Store conn)
+            → (AreFirstNamed (state S.Store conn).now.schema → ⊥)
+            → IfErr result (λ e. LeavesUntouched (state S.Store conn) (state S.Store e.1)) }
     {
         match find_either(&mut conn, alloc) {
-            Ok(Found::Second) => Ok(SqlKeeper {
-                conn,
-                faults: 0,
-                alloc,
-            }),
+            Ok(Found::Second) => match empty_file(&mut conn) {
+                Ok(()) => Ok(SqlKeeper {
+                    conn,
+                    staged: Vec::new(alloc),
+                    faults: 0,
+                    alloc,
+                }),
+                Err(error) => Err((open_fault_of(error), conn)),
+            },
             Ok(Found::First) => match upgrade_file(&mut conn) {
                 Ok(()) => Ok(SqlKeeper {
                     conn,
+                    staged: Vec::new(alloc),
                     faults: 0,
                     alloc,
                 }),
@@ -312,6 +372,7 @@ impl<S: Alter> SqlKeeper<S> {
     {
         let SqlKeeper {
             conn,
+            staged: _,
             faults: _,
             alloc: _,
         } = self;
@@ -321,6 +382,8 @@ impl<S: Alter> SqlKeeper<S> {
 
 impl<S: Alter> Keeper for SqlKeeper<S> {
     ghost means = { λ k. KeepsState (state S.Store k.conn) };
+
+    ghost stages = { λ k b. k.staged.items ≡ b };
 
     ghost is_honest = { λ k. HasCleanDisk (state S.Store k.conn) };
 
@@ -385,6 +448,23 @@ impl<S: Alter> Keeper for SqlKeeper<S> {
         )
     }
 
+    fn file_receipt(
+        &mut self,
+        in_box: &[u8],
+        name: &[u8],
+    ) -> Result<Option<ReceiptRow>, KeepFault> {
+        let Ok(in_box) = str::from_utf8(in_box) else {
+            return Ok(None);
+        };
+        let Ok(name) = str::from_utf8(name) else {
+            return Ok(None);
+        };
+        counted(
+            &mut self.faults,
+            asking::file_receipt(&mut self.conn, in_box, name),
+        )
+    }
+
     fn sizes(&mut self, in_box: &[u8]) -> Result<Totals, KeepFault> {
         let Ok(name) = str::from_utf8(in_box) else {
             return Ok(Totals { used: 0, count: 0 });
@@ -407,16 +487,55 @@ impl<S: Alter> Keeper for SqlKeeper<S> {
         )
     }
 
+    fn stage_begin(&mut self) -> Result<(), KeepFault> {
+        self.staged = Vec::new(self.alloc);
+        Ok(())
+    }
+
+    fn stage(&mut self, bytes: &[u8]) -> Result<(), KeepFault> {
+        if self.staged.extend_from_slice(bytes).is_err() {
+            self.faults = self.faults.saturating_add(1);
+            return Err(KeepFault::Memory);
+        }
+        Ok(())
+    }
+
+    fn staged_equals(&mut self, in_box: &[u8], name: &[u8]) -> Result<bool, KeepFault> {
+        let Ok(in_box) = str::from_utf8(in_box) else {
+            return Ok(false);
+        };
+        let Ok(name) = str::from_utf8(name) else {
+            return Ok(false);
+        };
+        counted(
+            &mut self.faults,
+            asking::has_bytes(&mut self.conn, in_box, name, &self.staged),
+        )
+    }
+
+    fn stage_drop(&mut self) -> Result<(), KeepFault> {
+        self.staged = Vec::new(self.alloc);
+        Ok(())
+    }
+
     fn apply(&mut self, change: &Change<'_>) -> Result<(), KeepFault> {
         if is_past_full(change) {
+            self.staged = Vec::new(self.alloc);
             self.faults = self.faults.saturating_add(1);
             return Err(KeepFault::Full);
         }
         law_of_changes();
-        counted(&mut self.faults, apply_change(&mut self.conn, change))
+        let answer = counted(
+            &mut self.faults,
+            apply_change(&mut self.conn, change, &self.staged),
+        );
+        unstage(&mut self.staged, self.alloc, change);
+        answer
     }
 
     ghost one = { λ k s t honest opened a b. one_kept _ s t honest opened a b };
+
+    ghost one_staged = { λ k a b honest opened x y. one_text k.staged.items a b x y };
 
     ghost always = { λ none k. absurd (none tt) };
 }

@@ -4,6 +4,7 @@
 mod applying;
 mod asking;
 mod creating;
+mod emptying;
 mod file_keeper;
 mod upgrading;
 

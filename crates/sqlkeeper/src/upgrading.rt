@@ -8,13 +8,14 @@ ghost use Rattle.sqltables.specs.Schema.{v1, v2};
 ghost use Rattle.sqltables.specs.Means.{Means, LeavesOnly, AddsOnly};
 ghost use Rattle.sqlaudit.specs.Opened.{IsSettled, OnlyLooks};
 ghost use Rattle.sqlkeeper.specs.Committing.{EndsOpen};
+ghost use Rattle.sqlkeeper.specs.Emptying.{HasNoneStaged};
 
 use sigv4::Allowance;
 use sqlite::{Alter, Connection, Error, ErrorCode};
 use sqlstatements::making::upgrade;
 
 /// Takes an office of version 1 over to version 2, all of it or nothing: the state is the same, with no allowance and no
-/// limits. It is committed when the call returns `Ok`.
+/// limits, and nothing is staged. It is committed when the call returns `Ok`.
 ///
 /// # Errors
 ///
@@ -22,6 +23,8 @@ use sqlstatements::making::upgrade;
 pub(crate) fn upgrade_file<S: Alter>(conn: &mut Connection<S>) -> Result<(), Error>
     ensures made { (s : State) → Means v1 (state S.Store conn.old) s
         → OnOk result (Means v2 (state S.Store conn.new) s) }
+    ensures unstaged { (s : State) → Means v1 (state S.Store conn.old) s
+        → OnOk result (HasCleanDisk (state S.Store conn.new) → HasNoneStaged (state S.Store conn.new)) }
     ensures kept { IsSettled (state S.Store conn.old)
         → OnErr result (OnlyLooks (state S.Store conn.old) (state S.Store conn.new)) }
     ensures durable { (s : State) → Means v1 (state S.Store conn.old) s

@@ -22,3 +22,5 @@ pub mod FileBytes
 pub mod Chained
 pub mod Upgrades
 pub mod LimitRows
+pub mod StagedRows
+pub mod Compared

@@ -19,7 +19,7 @@ use Rattle.sqlite.specs.State.{State, Writes, Executes}
 use Rattle.sqlite.specs.Term.{Term, lit, col}
 use Rattle.sqlite.proofs.Callers.{runs_as}
 use Rattle.sqltables.specs.Schema.{Version, v1, v2, s6, s7, s8, s9, rules_table, key_box_table, staged_table}
-use Rattle.sqltables.specs.Tables.{Tables, TablesMean, RowsMean, IsOfficeRow, IsRulesRow, IsUnlimited}
+use Rattle.sqltables.specs.Tables.{Tables, TablesMean, RowsMean, IsOfficeRow, IsRulesRow, IsUnlimited, NoneStaged}
 use Rattle.sqltables.specs.Changes.{with_allowance}
 use Rattle.sqltables.specs.Means.{IsWhole, Holds, HoldsMore, HoldsRules, AddsTable}
 use Rattle.sqltables.proofs.Says.{Makes}
@@ -27,9 +27,9 @@ use Rattle.sqltables.proofs.Forms.{whole_number}
 use Rattle.sqltables.proofs.AddedTexts.{insert_rules, insert_rules_is, update_version, update_version_is}
 use Rattle.sqltables.proofs.Ours.{OthersStay, ours_2, rules_at, versions_differ}
 use Rattle.sqltables.proofs.Rows.{cast_null, cast_int}
-use Rattle.sqltables.proofs.Updates.{HaveRowids}
+use Rattle.sqltables.proofs.Updates.{RowsChange}
 use Rattle.sqltables.proofs.Maps.{means_put, means_update, Hits, Sets}
-use Rattle.sqlstatements.proofs.Steps.{inserts_row, updates_rows}
+use Rattle.sqlstatements.proofs.Steps.{Leaves, inserts_row, updates_rows}
 use Rattle.sqlstatements.proofs.FirstRows.{makes, none_mean, adds_one, office_at}
 use Rattle.sqlstatements.proofs.Creates.{create_rules, makes_rules, create_key_box, makes_key_box, create_staged, makes_staged}
 
@@ -143,6 +143,7 @@ puts_rules old new count tables seconds has ran =
       unlimited = has.unlimited;
       rules = rules;
       none = done.0.stay.limits refl (λ e. omega (arith, e)) ∙ has.none.1.0;
+      unstaged = done.0.stay.staged refl (λ e. omega (arith, e)) ∙ has.none.0;
     }
 
 -- ---- the office's row says version 2
@@ -206,28 +207,36 @@ none_of lookup rows none empty = rw empty (record {
   apart = λ a b has. absurd has;
 })
 
-pub moves_version : (old new : State) (count : ℕ) (tables : Tables) (seconds : ℕ) → HoldsRules tables seconds old.now → Executes update_version [] old new (Ok count)
-    → Holds v2 new.now (with_allowance tables seconds)
-moves_version old new count tables seconds has ran =
-    let means = has.holds.means in
-    let rows = old.now.trees 0 in
-    let apart : HaveRowids rows = record { keyed = means.office.keyed; apart = means.office.apart } in
-    let done = updates_rows s9 ours_2 office_at 0 refl update_version [] old new count (λ db. refl) has.holds.schema ran [] set_terms update_version_is apart in
-    let office = means_update (λ one. Some (pos 2, tables.offset)) rows (new.now.trees 0) (λ r. list_all (holds ([] ∷ r ∷ [])) []) moved tt second
-    (with_version (pos 1) tables.offset rows means.office) done.1 hits_office (sets_second tables.offset) in
-    let stay = done.0.stay in
-    record {
-      schema = done.0.same_schema;
-      sound = done.0.sound;
-      means = record {
-        office = without_version (pos 2) tables.offset (new.now.trees 0) office;
-        keys = rw (stay.keys (λ e. omega (arith, e))) means.keys;
-        boxes = rw (stay.boxes (λ e. omega (arith, e))) means.boxes;
-        receipts = rw (stay.receipts (λ e. omega (arith, e))) means.receipts;
-        files = rw (stay.files (λ e. omega (arith, e))) means.files;
-        pieces = rw (stay.pieces (λ e. omega (arith, e))) means.pieces;
-        unlimited = λ one. absurd (versions_differ (sym one));
-        rules = λ two. rw (stay.rules refl (λ e. omega (arith, e))) has.rules;
-        limits = λ two. none_of tables.limit (new.now.trees 12) has.unlimited.1 (stay.limits refl (λ e. omega (arith, e)) ∙ has.none);
-      };
-    }
+module _ (old new : State) (count : ℕ) (tables : Tables) (seconds : ℕ) (has : HoldsRules tables seconds old.now) (ran : Executes update_version [] old new (Ok count)) where
+  versioned : Leaves s9 0 old.now new.now × RowsChange (old.now.trees 0) (new.now.trees 0) (λ r. list_all (holds ([] ∷ r ∷ [])) []) moved
+  versioned =
+      let means = has.holds.means in
+      updates_rows s9 ours_2 office_at 0 refl update_version [] old new count (λ db. refl) has.holds.schema ran [] set_terms update_version_is (record { keyed = means.office.keyed; apart = means.office.apart })
+
+  pub moves_version : Holds v2 new.now (with_allowance tables seconds)
+  moves_version =
+      let means = has.holds.means in
+      let rows = old.now.trees 0 in
+      let done = versioned in
+      let office = means_update (λ one. Some (pos 2, tables.offset)) rows (new.now.trees 0) (λ r. list_all (holds ([] ∷ r ∷ [])) []) moved tt second
+      (with_version (pos 1) tables.offset rows means.office) done.1 hits_office (sets_second tables.offset) in
+      let stay = done.0.stay in
+      record {
+        schema = done.0.same_schema;
+        sound = done.0.sound;
+        means = record {
+          office = without_version (pos 2) tables.offset (new.now.trees 0) office;
+          keys = rw (stay.keys (λ e. omega (arith, e))) means.keys;
+          boxes = rw (stay.boxes (λ e. omega (arith, e))) means.boxes;
+          receipts = rw (stay.receipts (λ e. omega (arith, e))) means.receipts;
+          files = rw (stay.files (λ e. omega (arith, e))) means.files;
+          pieces = rw (stay.pieces (λ e. omega (arith, e))) means.pieces;
+          unlimited = λ one. absurd (versions_differ (sym one));
+          rules = λ two. rw (stay.rules refl (λ e. omega (arith, e))) has.rules;
+          limits = λ two. none_of tables.limit (new.now.trees 12) has.unlimited.1 (stay.limits refl (λ e. omega (arith, e)) ∙ has.none);
+        };
+      }
+
+  -- what was not staged is not staged now
+  pub still_unstaged : NoneStaged new.now.trees
+  still_unstaged = versioned.0.stay.staged refl (λ e. omega (arith, e)) ∙ has.unstaged

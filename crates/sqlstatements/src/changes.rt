@@ -303,15 +303,19 @@ fn obey<S: Alter>(tx: &mut Transaction<'_, S>, command: &Command<'_>) -> Result<
     }
 }
 
-/// Writes what the change says.
-pub fn write_change<S: Alter>(tx: &mut Transaction<'_, S>, change: &Change<'_>) -> Result<(), Error>
+/// Writes what the change says, where these bytes are staged.
+pub fn write_change<S: Alter>(
+    tx: &mut Transaction<'_, S>,
+    change: &Change<'_>,
+    staged: &[u8],
+) -> Result<(), Error>
     ensures done { (s after : State) → Pends v2 (seen S.Store tx.old) (tables_of s) → IsSound s
-        → IsChangeOf s change.now after → IsTrue (seen S.Store tx.old).in_transaction
+        → IsChangeOf (λ bytes. staged.now ≡ bytes) s change.now after → IsTrue (seen S.Store tx.old).in_transaction
         → OnOk result (Pends v2 (seen S.Store tx.new) (tables_of after)) }
     ensures rest { GoesOnBegun S.Store tx.old tx.new result }
 {
     match change {
-        Change::SetFile(file, bytes) => set_file(tx, file, bytes),
+        Change::SetFile(file) => set_file(tx, file, staged),
         Change::Desk(command) => obey(tx, command),
     }
 }

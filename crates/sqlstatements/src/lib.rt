@@ -3,7 +3,9 @@
 
 mod box_rows;
 pub mod changes;
+mod comparing;
 pub mod making;
 pub mod questions;
+pub mod staged;
 pub mod standing;
 mod statements;

@@ -6,7 +6,7 @@ ghost use Rattle.sqlite_schema.specs.declared.schema.Schema.{Schema};
 ghost use Rattle.sqltables.specs.Schema.{v1, v2, s0, s6, s9};
 ghost use Rattle.sqltables.specs.Changes.{no_rows, with_allowance, with_key};
 ghost use Rattle.sqltables.specs.Inside.{seen, GoesOnInside};
-ghost use Rattle.sqltables.specs.Means.{SeesNothing, Pends, Creates, SeesMore, SeesRules, AddsTable};
+ghost use Rattle.sqltables.specs.Means.{SeesNothing, Pends, Creates, SeesMore, SeesRules, SeesUnstaged, AddsTable};
 ghost use Rattle.sqltables.specs.Tables.{Tables};
 
 use crate::statements::insert_key;
@@ -111,16 +111,20 @@ fn insert_rules<S: Alter>(tx: &mut Transaction<'_, S>, seconds: u32) -> Result<(
 fn update_version<S: Alter>(tx: &mut Transaction<'_, S>) -> Result<(), Error>
     ensures done { (tables : Tables) (seconds : ℕ) → SeesRules (seen S.Store tx.old) tables seconds
         → OnOk result (Pends v2 (seen S.Store tx.new) (with_allowance tables seconds)) }
+    ensures unstaged { (tables : Tables) (seconds : ℕ) → SeesRules (seen S.Store tx.old) tables seconds
+        → OnOk result (SeesUnstaged (seen S.Store tx.new)) }
     ensures rest { GoesOnInside S.Store tx.old tx.new result }
 {
     execute(tx, "UPDATE office SET version = 2", &[])?;
     Ok(())
 }
 
-/// Makes the tables of an office of version 1 those of version 2. All rows stay, and no key is limited.
+/// Makes the tables of an office of version 1 those of version 2. All rows stay, no key is limited, and nothing is staged.
 pub fn upgrade<S: Alter>(tx: &mut Transaction<'_, S>, allowance: Allowance) -> Result<(), Error>
     ensures done { (tables : Tables) → Pends v1 (seen S.Store tx.old) tables
         → OnOk result (Pends v2 (seen S.Store tx.new) (with_allowance tables allowance)) }
+    ensures unstaged { (tables : Tables) → Pends v1 (seen S.Store tx.old) tables
+        → OnOk result (SeesUnstaged (seen S.Store tx.new)) }
     ensures rest { GoesOnInside S.Store tx.old tx.new result }
 {
     add_tables(tx)?;

@@ -1,11 +1,12 @@
 //! The file that stands under a name, inside a transaction.
 
-ghost use Rattle.std.specs.Prelude.{◌≡◌, length, option_map, IsTrue, IfOk};
+ghost use Rattle.std.specs.Prelude.{◌≡◌, ◌↔◌, length, option_map, IsTrue, IfOk};
 ghost use Rattle.std.specs.FinMap.{get};
 ghost use Rattle.sqlite.specs.State.{HasCleanDisk};
 ghost use Rattle.sqlite.specs.Held.{state};
 ghost use Rattle.boxes.specs.State.{State};
 ghost use Rattle.boxes.specs.Rows.{IsFileAt};
+ghost use Rattle.boxes.specs.Rules.{HasBytes};
 ghost use Rattle.boxes.specs.Views.{IsReceiptAt};
 ghost use Rattle.boxes.specs.Sound.{IsSound};
 ghost use Rattle.sqltables.specs.Schema.{Version, IsVersion};
@@ -13,13 +14,14 @@ ghost use Rattle.sqltables.specs.Tables.{placed, tables_of};
 ghost use Rattle.sqltables.specs.Inside.{seen, GoesOnBegun, Still, FindsOf};
 ghost use Rattle.sqltables.specs.Means.{Pends};
 
+use crate::comparing::has_pieces;
 use crate::questions::{file_bytes, file_number, receipt};
 use boxes::{FileRow, ReceiptRow};
 use sqlite::{Alter, Error, Transaction};
 use std::alloc::Global;
 
 /// The receipt of the file of this box and name.
-pub(crate) fn standing_receipt<S: Alter>(
+pub fn standing_receipt<S: Alter>(
     tx: &mut Transaction<'_, S>,
     in_box: &str,
     name: &str,
@@ -72,4 +74,25 @@ pub fn file<S: Alter>(
     };
     let bytes = file_bytes(tx, alloc, in_box, name, receipt.size)?;
     Ok(Some(FileRow { bytes, receipt }))
+}
+
+/// Whether the file of this box and name stands with just these bytes. Its receipt's length is looked at first.
+pub fn has_bytes<S: Alter>(
+    tx: &mut Transaction<'_, S>,
+    in_box: &str,
+    name: &str,
+    bytes: &[u8],
+) -> Result<bool, Error>
+    ensures found { FindsOf S.Store tx.old tx.new result
+        (λ s has. IsTrue has ↔ HasBytes s (placed in_box.now name.now) bytes.now) }
+    ensures still { Still S.Store tx.old tx.new result }
+    ensures rest { GoesOnBegun S.Store tx.old tx.new result }
+{
+    let Some(size) = standing_size(tx, in_box, name)? else {
+        return Ok(false);
+    };
+    if size != bytes.len() as u64 {
+        return Ok(false);
+    }
+    has_pieces(tx, in_box, name, bytes)
 }

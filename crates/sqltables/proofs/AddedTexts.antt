@@ -6,7 +6,7 @@ use Rattle.sqlite.specs.Term.{lit, col}
 use Rattle.sqlite_tied.specs.Compute.{everything}
 use Rattle.sqlite.specs.Listing.{understood}
 use Rattle.sqltables.specs.Schema.{s6, s9}
-use Rattle.sqltables.proofs.Forms.{query, some_rows, no_limit, is, rising, whole_number, select, update, insert}
+use Rattle.sqltables.proofs.Forms.{query, some_rows, no_limit, is, rising, whole_number, select, update, insert, delete}
 use Rattle.sqltables.proofs.Says.{Says, Asks}
 
 abbrev pub insert_office : List ℕ
@@ -108,3 +108,23 @@ list_limits_command = select (query 12 [] (col 1 0 ∷ col 1 1 ∷ col 1 2 ∷ [
 pub list_limits_is : Asks s9 list_limits list_limits_command
 unfolding understood everything
 list_limits_is = record { says = record { is = refl; plain = (refl, refl) }; unlisted = refl }
+
+abbrev pub any_staged : List ℕ
+any_staged = codes "SELECT 1 FROM staged LIMIT 1"
+
+abbrev pub any_staged_command : Command
+any_staged_command = select (query 14 [] (whole_number 1 ∷ []) [] (whole_number 1)) (codes "1" ∷ [])
+
+pub any_staged_is : Asks s9 any_staged any_staged_command
+unfolding understood everything
+any_staged_is = record { says = record { is = refl; plain = (refl, refl) }; unlisted = refl }
+
+abbrev pub delete_staged : List ℕ
+delete_staged = codes "DELETE FROM staged"
+
+abbrev pub delete_staged_command : Command
+delete_staged_command = delete 8 14 []
+
+pub delete_staged_is : Says s9 delete_staged delete_staged_command
+unfolding understood everything
+delete_staged_is = record { is = refl; plain = (refl, refl) }

@@ -4,7 +4,7 @@ use Rattle.std.specs.List.{AllByRecursion}
 use Rattle.sqlite_trees.specs.Tree.{Trees}
 use Rattle.sqlite_schema.specs.declared.schema.Table.{Table}
 use Rattle.sqlite_schema.specs.declared.schema.Schema.{Schema}
-use Rattle.sqltables.specs.Schema.{Version, IsVersion, v1, v2, s6, s9, keys_table, boxes_table, receipts_table, files_table, pieces_table, rules_table, key_box_table}
+use Rattle.sqltables.specs.Schema.{Version, IsVersion, v1, v2, s6, s9, keys_table, boxes_table, receipts_table, files_table, pieces_table, rules_table, key_box_table, staged_table}
 use Rattle.sqlite_schema.specs.declared.command.Command.{Command}
 use Rattle.sqltables.proofs.Says.{Says, Asks, BothSay, BothAsk}
 use Rattle.sqltables.proofs.Restrict.{AllRestrict}
@@ -19,6 +19,7 @@ pub record OthersStay (schema : Schema) (tree : ℕ) (db after : Trees) : Type 0
   pub pieces : 9 ≢ tree → after 9 ≡ db 9
   pub rules : schema ≡ s9 → 11 ≢ tree → after 11 ≡ db 11
   pub limits : schema ≡ s9 → 12 ≢ tree → after 12 ≡ db 12
+  pub staged : schema ≡ s9 → 14 ≢ tree → after 14 ≡ db 14
 
 abbrev pub boxes_at : Table
 boxes_at = record boxes_table { tree = 3 }
@@ -40,6 +41,9 @@ rules_at = record rules_table { tree = 11 }
 
 abbrev pub limits_at : Table
 limits_at = record key_box_table { tree = 12 }
+
+abbrev pub staged_at : Table
+staged_at = record staged_table { tree = 14 }
 
 pub record IsOurs (schema : Schema) : Type 0 where
   pub restricts : AllRestrict schema
@@ -65,7 +69,7 @@ ours_1 = record {
   receipts = refl;
   files = refl;
   pieces = refl;
-  stay = λ tree db after all. record { office = all.0; keys = all.1.0; boxes = all.1.1.0; receipts = all.1.1.1.0; files = all.1.1.1.1.0; pieces = all.1.1.1.1.1.0; rules = λ is. absurd (lacks is); limits = λ is. absurd (lacks is) };
+  stay = λ tree db after all. record { office = all.0; keys = all.1.0; boxes = all.1.1.0; receipts = all.1.1.1.0; files = all.1.1.1.1.0; pieces = all.1.1.1.1.1.0; rules = λ is. absurd (lacks is); limits = λ is. absurd (lacks is); staged = λ is. absurd (lacks is) };
 }
 
 pub ours_2 : IsOurs s9
@@ -85,6 +89,7 @@ ours_2 = record {
     pieces = all.1.1.1.1.1.0;
     rules = λ is. all.1.1.1.1.1.1.0;
     limits = λ is. all.1.1.1.1.1.1.1.0;
+    staged = λ is. all.1.1.1.1.1.1.1.1.0;
   };
 }
 

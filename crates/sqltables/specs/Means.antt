@@ -7,7 +7,7 @@ use Rattle.std.specs.List.{AllByRecursion}
 use Rattle.boxes.specs.State.{State as Office}
 use Rattle.sqlite_schema.specs.declared.schema.Schema.{Schema}
 use Rattle.sqltables.specs.Schema.{Version, s0, s9}
-use Rattle.sqltables.specs.Tables.{Tables, RowsMean, IsRulesRow, IsUnlimited, TablesMean, tables_of}
+use Rattle.sqltables.specs.Tables.{Tables, RowsMean, IsRulesRow, IsUnlimited, NoneStaged, TablesMean, tables_of}
 
 -- ---- SQL level: what a transaction sees, which may be no office's tables
 
@@ -47,12 +47,17 @@ pub record HoldsRules (tables : Tables) (seconds : ℕ) (db : Database) : Type 0
   pub unlimited : IsUnlimited tables
   pub rules : RowsMean IsRulesRow (λ one. Some seconds) (db.trees 11)
   pub none : db.trees 12 ≡ []
+  pub unstaged : NoneStaged db.trees
 
 abbrev pub SeesMore : Schema → List ℕ → State → Tables → Type 0
 SeesMore schema empty s tables = HasCleanDisk s → IsTrue s.in_transaction → IsTrue s.is_open → HoldsMore schema empty tables s.now
 
 abbrev pub SeesRules : State → Tables → ℕ → Type 0
 SeesRules s tables seconds = HasCleanDisk s → IsTrue s.in_transaction → IsTrue s.is_open → HoldsRules tables seconds s.now
+
+-- what a transaction sees has nothing staged, if the database is open
+abbrev pub SeesUnstaged : State → Type 0
+SeesUnstaged s = HasCleanDisk s → IsTrue s.in_transaction → IsTrue s.is_open → NoneStaged s.now.trees
 
 -- the text was run in such a database, and left one with another table, which is empty
 abbrev pub AddsTable : List ℕ → Schema → Schema → List ℕ → List ℕ → Tables → State → State → Type 0

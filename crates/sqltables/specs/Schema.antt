@@ -102,6 +102,10 @@ key_box_table = keyed_by (1 ∷ 2 ∷ []) (table (codes "key_box") (text (codes 
 abbrev pub staged_table : Table
 staged_table = numbered (table (codes "staged") (integer (codes "part") ∷ blob (codes "bytes") ∷ []) [] [])
 
+-- where the rows of `staged` lie in version 2
+abbrev pub staged_tree : ℕ
+staged_tree = 14
+
 abbrev pub s0 : Schema
 s0 = record { tables = []; indexes = []; views = [] }
 

@@ -1,10 +1,12 @@
 -- The tables of an office as maps, the rows that mean them, and the tables of a state.
-use Rattle.std.specs.Prelude.{◌≡◌, ℕ, ◌+◌, ◌*◌, ◌&&◌, ℤ, pos, Bool, if◌then◌else◌, nat_lt, nat_eq, List, [], ◌∷◌, ◌++◌, map, take, drop, length, Option, Some, None, option_map, option_and_then, slice_get}
+use Rattle.std.specs.Prelude.{◌≡◌, ◌≢◌, ℕ, ◌+◌, ◌*◌, ◌&&◌, ℤ, pos, Bool, if◌then◌else◌, nat_lt, nat_eq, List, [], ◌∷◌, ◌++◌, map, take, drop, length, Option, Some, None, option_map, option_and_then, slice_get}
 use Rattle.std.specs.FinMap.{get}
+use Rattle.std.specs.List.{AllByRecursion}
 use Rattle.sqlite_value.specs.declared.value.Value.TheVariants.{Int, Text, Blob}
 use Rattle.sqlite_value.specs.Order.{Row, column}
 use Rattle.sqlite_trees.specs.Tree.{Trees, rowid}
 use Rattle.sqlite_rules.specs.Lists.{Has}
+use Rattle.sqlite.specs.Effect.{Database}
 use Rattle.sigtext.specs.Bytes.{same_bytes}
 use Rattle.boxes.specs.declared.rows.Role.{Role}
 use Rattle.boxes.specs.declared.rows.Role.TheVariants.{Clerk, Link}
@@ -12,7 +14,7 @@ use Rattle.boxes.specs.declared.rows.Mode.{Mode}
 use Rattle.boxes.specs.declared.rows.Mode.TheVariants.{Keep, Replace}
 use Rattle.boxes.specs.State.{Key, NameRule, AnyName, Ends, Begins, Settings, Place, Receipt, Limit, State}
 use Rattle.boxes.specs.Totals.{used, count}
-use Rattle.sqltables.specs.Schema.{Version, v1, v2}
+use Rattle.sqltables.specs.Schema.{Version, v1, v2, staged_tree}
 
 -- ---- the tables as maps
 
@@ -200,3 +202,15 @@ pub record TablesMean (v : Version) (trees : Trees) (tables : Tables) : Type 0 w
   pub unlimited : v ≡ v1 → IsUnlimited tables
   pub rules : v ≡ v2 → RowsMean IsRulesRow (λ one. Some tables.allowance) (trees 11)
   pub limits : v ≡ v2 → RowsMean IsLimitRow tables.limit (trees 12)
+
+-- ---- what is staged
+
+-- nothing is staged
+abbrev pub NoneStaged : Trees → Type 0
+NoneStaged trees = trees staged_tree ≡ []
+
+-- nothing is staged any more, and each other table has the rows that it had
+pub record IsEmptied (old new : Database) : Type 0 where
+  pub schema : new.schema ≡ old.schema
+  pub others : AllByRecursion (λ t. t.tree ≢ staged_tree → new.trees t.tree ≡ old.trees t.tree) old.schema.tables
+  pub none : NoneStaged new.trees

@@ -13,7 +13,7 @@ use sqlite::{Alter, Error, ErrorCode, Transaction, params};
 use std::alloc::Global;
 
 /// One piece of a file, if it is there.
-fn read_piece<S: Alter>(
+pub fn read_piece<S: Alter>(
     tx: &mut Transaction<'_, S>,
     in_box: &str,
     name: &str,

@@ -165,7 +165,7 @@ fn a_file_is_sent_with_its_head(rt: HostRuntime) -> Result<(), Fail> {
         (0, b"0".as_slice(), [178].as_slice()),
         (3915, b"3915", &[4096]),
         (3916, b"3916", &[4096, 1]),
-        (1048576, b"1048576", &[4096, 1044664]),
+        (8388608, b"8388608", &[4096, 8384696]),
     ] {
         let mut writer = Counted::new(Pieces {
             text: Vec::new(alloc),

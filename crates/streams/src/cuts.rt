@@ -22,7 +22,7 @@ const NO_CODINGS: &[u8] =
 pub(crate) const NOT_SIGNED: &[u8] =
     b"HTTP/1.1 403 Forbidden\r\nContent-Type: text/plain\r\nContent-Length: 41\r\n\r\nAccessDenied 9 the request is not signed\n";
 
-const TOO_LARGE: &[u8] =
+pub(crate) const TOO_LARGE: &[u8] =
     b"HTTP/1.1 400 Bad Request\r\nContent-Type: text/plain\r\nContent-Length: 39\r\nConnection: close\r\n\r\nEntityTooLarge 5 the body is too large\n";
 
 // Whether the stream, so many bytes of it a read, is answered so and ends so.
@@ -79,7 +79,7 @@ fn heads_that_break_off_or_break_a_rule(rt: HostRuntime) -> Result<(), Fail> {
         )?;
         assert!(rt; is_answered(rt.alloc(), &stream, NO_LENGTH, SessionEnd::Refused(4))?);
     }
-    let large = b"PUT / HTTP/1.1\r\nContent-Length: 1048577\r\n\r\nabc";
+    let large = b"PUT / HTTP/1.1\r\nContent-Length: 8388609\r\n\r\nabc";
     assert!(rt; is_answered(rt.alloc(), large, TOO_LARGE, SessionEnd::Refused(5))?);
     assert!(rt; is_answered(rt.alloc(), &REQUEST[..20], b"", SessionEnd::Truncated)?);
     assert!(rt; is_answered(rt.alloc(), b"", b"", SessionEnd::Ended)?);

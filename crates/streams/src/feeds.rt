@@ -5,7 +5,7 @@ use std::test::Fail;
 use trials::fakes::Source;
 use wire::{Counted, Feed, Piece, Step, WireFault};
 
-const GET: &[u8] = b"GET /b HTTP/1.1\r\n\r\n";
+pub(crate) const GET: &[u8] = b"GET /b HTTP/1.1\r\n\r\n";
 
 /// A PUT of a body of so many bytes, and a GET behind it.
 pub(crate) fn two_messages(alloc: Global, size: usize) -> Result<Vec<u8>, Fail> {
@@ -97,6 +97,16 @@ fn messages_come_whatever_is_read_at_once(rt: HostRuntime) -> Result<(), Fail> {
     Ok(())
 }
 
+#[test]
+fn a_body_of_the_greatest_size_comes_whole(rt: HostRuntime) -> Result<(), Fail> {
+    let stream = two_messages(rt.alloc(), 8_388_608)?;
+    for at_once in [4096, 9_000_000] {
+        let fed = is_fed(rt.alloc(), &stream, 8_388_608, at_once)?;
+        assert!(rt; fed, "{at_once} at once");
+    }
+    Ok(())
+}
+
 /// What the feed of a stream, so many bytes of it at once, tells first; `None` for a head.
 fn refusal_of(alloc: Global, stream: &[u8], at_once: usize) -> Option<Refusal> {
     let mut reader = Counted::new(Source {
@@ -132,7 +142,7 @@ fn broken_rules_are_told(rt: HostRuntime) {
             Refusal::LengthMalformed,
         ),
         (
-            b"PUT /a HTTP/1.1\r\nContent-Length: 1048577\r\n\r\nab",
+            b"PUT /a HTTP/1.1\r\nContent-Length: 8388609\r\n\r\nab",
             Refusal::BodyTooLarge,
         ),
         (

@@ -48,7 +48,9 @@ impl Stub {
 impl Keeper for Stub {
     ghost means = { λ _ _. ⊥ };
 
-    ghost is_honest = { λ _. Unit {0} };
+    ghost stages = { λ _ _. Unit {0} };
+
+    ghost is_honest = { λ _. ⊥ };
 
     ghost is_open = { λ _. Unit {0} };
 
@@ -97,6 +99,14 @@ impl Keeper for Stub {
         Err(self.count(KeepFault::Store))
     }
 
+    fn file_receipt(
+        &mut self,
+        _in_box: &[u8],
+        _name: &[u8],
+    ) -> Result<Option<ReceiptRow>, KeepFault> {
+        Err(self.count(KeepFault::Store))
+    }
+
     fn sizes(&mut self, _in_box: &[u8]) -> Result<Totals, KeepFault> {
         Err(self.count(KeepFault::Store))
     }
@@ -113,11 +123,29 @@ impl Keeper for Stub {
         Err(self.count(KeepFault::Store))
     }
 
+    fn stage_begin(&mut self) -> Result<(), KeepFault> {
+        Err(self.count(KeepFault::Store))
+    }
+
+    fn stage(&mut self, _bytes: &[u8]) -> Result<(), KeepFault> {
+        Err(self.count(KeepFault::Store))
+    }
+
+    fn staged_equals(&mut self, _in_box: &[u8], _name: &[u8]) -> Result<bool, KeepFault> {
+        Err(self.count(KeepFault::Store))
+    }
+
+    fn stage_drop(&mut self) -> Result<(), KeepFault> {
+        Err(self.count(KeepFault::Store))
+    }
+
     fn apply(&mut self, _change: &Change<'_>) -> Result<(), KeepFault> {
         Err(self.count(KeepFault::Store))
     }
 
     ghost one = { λ k s t honest opened a b. absurd a };
+
+    ghost one_staged = { λ k a b honest opened p q. absurd honest };
 
     ghost always = { λ none k. absurd (none tt) };
 }

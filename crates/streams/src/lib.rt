@@ -17,6 +17,8 @@ mod feeds;
 #[cfg(test)]
 mod keepers;
 #[cfg(test)]
+mod large;
+#[cfg(test)]
 mod link_lists;
 #[cfg(test)]
 mod list_streams;
@@ -30,6 +32,8 @@ mod sessions;
 mod sinks;
 #[cfg(test)]
 mod sockets;
+#[cfg(test)]
+mod staging;
 #[cfg(test)]
 mod texts;
 #[cfg(test)]

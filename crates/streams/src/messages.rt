@@ -1,49 +1,89 @@
-//! Whole messages of streams that are cut, slow, or break off or a rule.
-use crate::feeds::{long_head, many_fields, two_messages};
+//! Heads of streams that are cut, slow, or break off or a rule, and bodies that nobody keeps.
+ghost use Rattle.std.specs.Prelude.{IfOk, IsTrue};
+ghost use Rattle.wire.specs.Feeds.{place_of};
+ghost use Rattle.wire.specs.Whole.{MayBegin};
+
+use crate::feeds::{GET, long_head, many_fields, two_messages};
 use sigtext::Refusal;
 use std::alloc::Global;
 use std::test::Fail;
 use trials::fakes::{FailsOnce, Source};
-use wire::{Came, Counted, Feed, WireFault, read_message};
+use wire::{Came, Counted, Ending, Feed, MOST_HEAD, WireFault, read_opening, skip_body};
 
 // What reading a stream to its end gave.
 #[derive(Debug, Drop)]
 struct Outcome {
-    // The heads and bodies that came, one behind another.
+    // The heads that came, one behind another.
     text: Vec<u8>,
+    // How many bytes the bodies had that came whole.
+    skipped: usize,
     // How many messages came, and how many of them told a length.
     messages: usize,
     lengths: usize,
-    // What came in place of the next message.
+    // What came in place of the next message; for a body that lacks this is refusal 6.
     end: Result<Came, WireFault>,
     faults: u64,
 }
 
-// Reads message after message.
+impl Outcome {
+    // Reads a message, of whose body nothing is kept; tells whether another may follow.
+    fn read_one(
+        &mut self,
+        feed: &mut Feed<'_, Source<'_>>,
+        head: &mut [u8; MOST_HEAD],
+    ) -> Result<bool, Fail>
+        requires { MayBegin (place_of feed.old) }
+        ensures { IfOk result (λ goes_on. IsTrue goes_on → MayBegin (place_of feed.new)) }
+    {
+        let (size, has_length, length) = match read_opening(feed, head) {
+            Ok(
+                Came::Head {
+                    size,
+                    has_length,
+                    length,
+                },
+            ) => (size, has_length, length),
+            end => {
+                self.end = end;
+                return Ok(false);
+            }
+        };
+        self.text
+            .extend_from_slice(head.get(..size).unwrap_or(b""))?;
+        match skip_body(feed, length) {
+            Ok(Ending::Whole) => {}
+            Ok(Ending::Lacking) => {
+                self.end = Ok(Came::Refused(Refusal::BodyIncomplete));
+                return Ok(false);
+            }
+            Err(fault) => {
+                self.end = Err(fault);
+                return Ok(false);
+            }
+        }
+        self.skipped = self.skipped.saturating_add(length);
+        self.messages = self.messages.saturating_add(1);
+        self.lengths = self.lengths.saturating_add(if has_length { 1 } else { 0 });
+        Ok(true)
+    }
+}
+
+// Reads message after message, and keeps the heads alone.
 fn read_all(alloc: Global, reader: Source<'_>) -> Result<Outcome, Fail> {
     let mut reader = Counted::new(reader);
     let mut feed = Feed::new(alloc, &mut reader);
-    let mut head = [0; 8192];
-    let mut body = Vec::new(alloc);
+    let mut head = [0; MOST_HEAD];
     let mut got = Outcome {
         text: Vec::new(alloc),
+        skipped: 0,
         messages: 0,
         lengths: 0,
         end: Ok(Came::End),
         faults: 0,
     };
     'messages: for _ in 0..9 {
-        match read_message(&mut feed, &mut head, &mut body) {
-            Ok(Came::Message { size, has_length }) => {
-                got.text.extend_from_slice(head.get(..size).unwrap_or(b""))?;
-                got.text.extend_from_slice(&body)?;
-                got.messages = got.messages.saturating_add(1);
-                got.lengths = got.lengths.saturating_add(if has_length { 1 } else { 0 });
-            }
-            end => {
-                got.end = end;
-                break;
-            }
+        if !got.read_one(&mut feed, &mut head)? {
+            break;
         }
     }
     got.faults = feed.into_reader().faults();
@@ -60,19 +100,41 @@ fn read_stream(alloc: Global, stream: &[u8], at_once: usize, fails: bool) -> Res
     read_all(alloc, source)
 }
 
+// The heads of the two messages of a stream whose body has so many bytes.
+fn heads(alloc: Global, stream: &[u8], size: usize) -> Result<Vec<u8>, Fail> {
+    let behind = stream.len().saturating_sub(GET.len());
+    let front = stream.get(..behind.saturating_sub(size)).unwrap_or(b"");
+    let mut heads = Vec::from_slice(alloc, front)?;
+    heads.extend_from_slice(GET)?;
+    Ok(heads)
+}
+
+// Whether such a stream, so many bytes of it at once, comes whole.
+fn comes_whole(alloc: Global, stream: &[u8], size: usize, at_once: usize) -> Result<bool, Fail> {
+    let got = read_stream(alloc, stream, at_once, false)?;
+    let heads = heads(alloc, stream, size)?;
+    let counts = (got.skipped, got.messages, got.lengths) == (size, 2, 1);
+    Ok(got.text == heads && counts && got.end == Ok(Came::End) && got.faults == 0)
+}
+
 #[test]
 fn messages_come_whole_whatever_is_read_at_once(rt: HostRuntime) -> Result<(), Fail> {
     for size in [0, 1, 65536, 65537, 1_048_576] {
         let stream = two_messages(rt.alloc(), size)?;
         for at_once in [1, 4096, 65536, 2_000_000] {
-            let got = read_stream(rt.alloc(), &stream, at_once, false)?;
-            assert!(rt;
-                got.text.as_slice() == stream.as_slice(),
-                "{size} bytes, {at_once} at once"
-            );
-            assert_eq!(rt; (got.messages, got.lengths, got.faults), (2, 1, 0));
-            assert_eq!(rt; got.end, Ok(Came::End), "{size} bytes, {at_once} at once");
+            let whole = comes_whole(rt.alloc(), &stream, size, at_once)?;
+            assert!(rt; whole, "{size} bytes, {at_once} at once");
         }
+    }
+    Ok(())
+}
+
+#[test]
+fn a_message_of_the_greatest_size_comes_whole(rt: HostRuntime) -> Result<(), Fail> {
+    let stream = two_messages(rt.alloc(), 8_388_608)?;
+    for at_once in [4096, 65536, 9_000_000] {
+        let whole = comes_whole(rt.alloc(), &stream, 8_388_608, at_once)?;
+        assert!(rt; whole, "{at_once} at once");
     }
     Ok(())
 }
@@ -80,21 +142,22 @@ fn messages_come_whole_whatever_is_read_at_once(rt: HostRuntime) -> Result<(), F
 #[test]
 fn whole_messages_come_before_a_failed_read(rt: HostRuntime) -> Result<(), Fail> {
     let stream = two_messages(rt.alloc(), 5)?;
+    let heads = heads(rt.alloc(), &stream, 5)?;
     // The PUT has 38 and 5 bytes, the GET 19.
-    for (len, whole, messages) in [
+    for (len, size, messages) in [
         (0, 0, 0),
         (37, 0, 0),
-        (38, 0, 0),
-        (42, 0, 0),
-        (43, 43, 1),
-        (61, 43, 1),
-        (62, 62, 2),
+        (38, 38, 0),
+        (42, 38, 0),
+        (43, 38, 1),
+        (61, 38, 1),
+        (62, 57, 2),
     ] {
         for at_once in [1, 7, 4096] {
             let got = read_stream(rt.alloc(), stream.get(..len).unwrap_or(b""), at_once, true)?;
             assert_eq!(rt;
                 got.text.as_slice(),
-                stream.get(..whole).unwrap_or(b""),
+                heads.get(..size).unwrap_or(b""),
                 "after {len} bytes"
             );
             assert_eq!(rt;
@@ -146,11 +209,11 @@ fn a_broken_rule_is_told_behind_a_message(rt: HostRuntime) -> Result<(), Fail> {
             Refusal::LengthMalformed,
         ),
         (
-            b"PUT /a HTTP/1.1\r\nContent-Length: 1048577\r\n\r\nab",
+            b"PUT /a HTTP/1.1\r\nContent-Length: 8388609\r\n\r\nab",
             Refusal::BodyTooLarge,
         ),
         (
-            b"PUT /a HTTP/1.1\r\nContent-Length: 1048576\r\n\r\nab",
+            b"PUT /a HTTP/1.1\r\nContent-Length: 8388608\r\n\r\nab",
             Refusal::BodyIncomplete,
         ),
         (
@@ -163,10 +226,9 @@ fn a_broken_rule_is_told_behind_a_message(rt: HostRuntime) -> Result<(), Fail> {
         ),
     ] {
         let mut stream = two_messages(rt.alloc(), 3)?;
-        let before = stream.len();
         stream.extend_from_slice(second)?;
         let got = read_stream(rt.alloc(), &stream, 4096, false)?;
-        assert_eq!(rt; (got.messages, got.text.len()), (2, before), "{want:?}");
+        assert_eq!(rt; (got.messages, got.skipped), (2, 3), "{want:?}");
         assert_eq!(rt; got.end, Ok(Came::Refused(want)));
     }
     Ok(())
@@ -176,12 +238,8 @@ fn a_broken_rule_is_told_behind_a_message(rt: HostRuntime) -> Result<(), Fail> {
 fn a_read_that_fails_once_is_not_tried_again(rt: HostRuntime) {
     let mut reader = Counted::new(FailsOnce { calls: 0 });
     let mut feed = Feed::new(rt.alloc(), &mut reader);
-    let mut head = [0; 8192];
-    let mut body = Vec::new(rt.alloc());
-    assert_eq!(rt;
-        read_message(&mut feed, &mut head, &mut body),
-        Err(WireFault::Read)
-    );
+    let mut head = [0; MOST_HEAD];
+    assert_eq!(rt; read_opening(&mut feed, &mut head), Err(WireFault::Read));
     let reader = feed.into_reader();
     assert_eq!(rt; (reader.inner.calls, reader.faults()), (1, 1));
 }

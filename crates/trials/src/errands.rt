@@ -25,6 +25,18 @@ pub const ROOMY: BoxRow = BoxRow {
     rule: NameRule::Any,
 };
 
+// The most bytes that are staged at once.
+const MOST_PIECE: usize = 65536;
+
+// Stages these bytes, in pieces.
+fn stage_all<K: Keeper>(keeper: &mut K, bytes: &[u8]) -> Result<(), KeepFault> {
+    keeper.stage_begin()?;
+    for piece in bytes.chunks(MOST_PIECE) {
+        keeper.stage(piece)?;
+    }
+    Ok(())
+}
+
 /// Sets a file of the box `in`, by the next receipt.
 pub fn set_file<K: Keeper>(keeper: &mut K, name: &[u8], bytes: &[u8]) -> Result<u64, KeepFault> {
     let number = keeper.next_number()?;
@@ -39,7 +51,8 @@ pub fn set_file<K: Keeper>(keeper: &mut K, name: &[u8], bytes: &[u8]) -> Result<
         moment: 1_369_353_600,
         key: ID,
     };
-    keeper.apply(&Change::SetFile(file, bytes))?;
+    stage_all(keeper, bytes)?;
+    keeper.apply(&Change::SetFile(file))?;
     Ok(number)
 }
 
@@ -164,7 +177,12 @@ impl Errand {
             holds(office.keeper.faults == 0, "a fault beside an answer")?;
             return Ok(false);
         }
-        holds(office.keeper.calls == call, "another call behind a refusal")?;
+        // What was staged is let go of.
+        holds(office.keeper.drops <= 1, "let go of twice")?;
+        holds(
+            office.keeper.calls == call.saturating_add(office.keeper.drops),
+            "another call behind a refusal",
+        )?;
         holds(office.keeper.faults == 1, "another count of faults")?;
         let stays = told(alloc, &mut office.keeper)? == before;
         holds(stays, "another office behind a refusal")?;

@@ -77,6 +77,9 @@ fn put_boxes<K: Keeper>(text: &mut Vec<u8>, alloc: Global, keeper: &mut K) -> Re
 fn put_files<K: Keeper>(text: &mut Vec<u8>, alloc: Global, keeper: &mut K) -> Result<(), Fail> {
     for name in FILES {
         put_file(text, alloc, keeper.file(b"in", name)?)?;
+        if let Some(receipt) = keeper.file_receipt(b"in", name)? {
+            put_receipt(text, alloc, &receipt)?;
+        }
     }
     put_file(text, alloc, keeper.file(b"out", b"a.txt")?)
 }

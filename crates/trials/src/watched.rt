@@ -11,6 +11,10 @@ pub struct Watched<K> {
     pub inner: K,
     /// How many calls came since the last `refuse`.
     pub calls: u64,
+    /// How many of them staged bytes, or were to.
+    pub pieces: u64,
+    /// How many of them let go of what was staged.
+    pub drops: u64,
     /// How many calls failed.
     pub faults: u64,
     // The number of the call that is refused; 0 where none is.
@@ -23,6 +27,8 @@ impl<K> Watched<K> {
         Watched {
             inner,
             calls: 0,
+            pieces: 0,
+            drops: 0,
             faults: 0,
             refused: 0,
         }
@@ -31,6 +37,8 @@ impl<K> Watched<K> {
     /// Refuses the call of this number, counted from 1 on, from now.
     pub fn refuse(&mut self, call: u64) {
         self.calls = 0;
+        self.pieces = 0;
+        self.drops = 0;
         self.refused = call;
     }
 
@@ -62,7 +70,9 @@ impl<K> Watched<K> {
 impl<K: Keeper> Keeper for Watched<K> {
     ghost means = { λ _ _. ⊥ };
 
-    ghost is_honest = { λ _. Unit {0} };
+    ghost stages = { λ _ _. Unit {0} };
+
+    ghost is_honest = { λ _. ⊥ };
 
     ghost is_open = { λ _. Unit {0} };
 
@@ -110,6 +120,16 @@ impl<K: Keeper> Keeper for Watched<K> {
         self.leave(outcome)
     }
 
+    fn file_receipt(
+        &mut self,
+        in_box: &[u8],
+        name: &[u8],
+    ) -> Result<Option<ReceiptRow>, KeepFault> {
+        self.enter()?;
+        let outcome = self.inner.file_receipt(in_box, name);
+        self.leave(outcome)
+    }
+
     fn sizes(&mut self, in_box: &[u8]) -> Result<Totals, KeepFault> {
         self.enter()?;
         let outcome = self.inner.sizes(in_box);
@@ -134,6 +154,32 @@ impl<K: Keeper> Keeper for Watched<K> {
         self.leave(outcome)
     }
 
+    fn stage_begin(&mut self) -> Result<(), KeepFault> {
+        self.enter()?;
+        let outcome = self.inner.stage_begin();
+        self.leave(outcome)
+    }
+
+    fn stage(&mut self, bytes: &[u8]) -> Result<(), KeepFault> {
+        self.pieces = self.pieces.saturating_add(1);
+        self.enter()?;
+        let outcome = self.inner.stage(bytes);
+        self.leave(outcome)
+    }
+
+    fn staged_equals(&mut self, in_box: &[u8], name: &[u8]) -> Result<bool, KeepFault> {
+        self.enter()?;
+        let outcome = self.inner.staged_equals(in_box, name);
+        self.leave(outcome)
+    }
+
+    fn stage_drop(&mut self) -> Result<(), KeepFault> {
+        self.enter()?;
+        self.drops = self.drops.saturating_add(1);
+        let outcome = self.inner.stage_drop();
+        self.leave(outcome)
+    }
+
     fn apply(&mut self, change: &Change<'_>) -> Result<(), KeepFault> {
         self.enter()?;
         let outcome = self.inner.apply(change);
@@ -141,6 +187,8 @@ impl<K: Keeper> Keeper for Watched<K> {
     }
 
     ghost one = { λ k s t honest opened a b. absurd a };
+
+    ghost one_staged = { λ k a b honest opened p q. absurd honest };
 
     ghost always = { λ none k. absurd (none tt) };
 }

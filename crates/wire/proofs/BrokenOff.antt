@@ -1,11 +1,9 @@
 -- What came where no whole message did.
-use Rattle.std.proofs.Common.{◌≡◌, ◌<◌, ℕ, Bool, List, [], ◌++◌, length, Option, Some, Result, Err, inl, inr, arith, refl, ap, subst, ◌∙◌}
-use Rattle.std.specs.Prelude.{IfSome}
+use Rattle.std.proofs.Common.{◌≡◌, ◌<◌, ℕ, Bool, List, [], ◌++◌, length, Option, Result, Err, inl, inr, arith, refl, ap, subst, ◌∙◌}
 use Rattle.std.specs.Io.KnownBytes.{Consumes, Keeps, prepend_known}
-use Rattle.std.proofs.KnownBytes.{Consumes-trans, Consumes-kept, prepend_known-nil}
-use Rattle.wire.specs.Framing.{IsFront}
-use Rattle.wire.specs.Feeding.{AnnouncesBody, Awaits, a_head, a_body, Finds, GivesStep, told, Opens}
-use Rattle.wire.specs.Whole.{BreaksOff, BreaksOffWithin, MayBegin}
+use Rattle.std.proofs.KnownBytes.{Consumes-kept, prepend_known-nil}
+use Rattle.wire.specs.Feeding.{AnnouncesBody, Awaits, a_body, Finds, GivesStep, told, Opens}
+use Rattle.wire.specs.Whole.{BreaksOff, MayBegin}
 use Rattle.wire.specs.declared.fault.WireFault.{WireFault}
 use Rattle.wire.specs.declared.fault.WireFault.TheVariants as fault
 use Rattle.wire.specs.declared.feed.Opening.{Opening}
@@ -14,23 +12,15 @@ use Rattle.wire.specs.declared.feed.Place.{Place}
 use Rattle.wire.specs.declared.feed.Place.TheVariants as place
 use Rattle.wire.proofs.Backlogs.{consumes_waiting}
 use Rattle.wire.proofs.Beginnings.{fresh, between, over_fresh, over_between}
-use Rattle.wire.proofs.Halves.{head_taken}
 
 -- ---- in a body
 
-abbrev announced : (text given : List ℕ) (has_length : Bool) (n : ℕ) → Opens text has_length n → 0 < n → AnnouncesBody (text ++ given)
+abbrev pub announced : (text given : List ℕ) (has_length : Bool) (n : ℕ) → Opens text has_length n → 0 < n → AnnouncesBody (text ++ given)
 announced text given has_length n o some = record { text = text; given = given; has_length = has_length; size = n; whole = refl; opens = o; some = some }
 
-awaits_body : (text given : List ℕ) (has_length : Bool) (n : ℕ) → Opens text has_length n → length given < n → Awaits (text ++ given)
+-- a read failed in the body of a head
+pub awaits_body : (text given : List ℕ) (has_length : Bool) (n : ℕ) → Opens text has_length n → length given < n → Awaits (text ++ given)
 awaits_body text given has_length n o few = a_body (announced text given has_length n o (omega (arith, few))) few
-
-pub broken_in_body : (f : WireFault) (p : Place) (known mid reader : Option (List ℕ)) (text : List ℕ) (has_length : Bool) (n : ℕ) → Opens text has_length n
-    → IfSome known (λ stream. (rest : List ℕ) × IsFront stream text rest × (mid ≡ Some rest)) → BreaksOffWithin n f mid reader → BreaksOff f p known reader
-broken_in_body fault.Read p known mid reader text has_length n o h (given, taken, few) =
-    (text ++ given, Consumes-trans known mid reader text given (head_taken known mid text h) taken, awaits_body text given has_length n o few)
-broken_in_body fault.Memory p known mid reader text has_length n o h (given, taken, some) =
-    (text ++ given, Consumes-trans known mid reader text given (head_taken known mid text h) taken, inr (announced text given has_length n o some))
-broken_in_body fault.Write p known mid reader text has_length n o h never = absurd never
 
 -- pieces came, and nothing waits
 pub pieces_taken : (start here reader : Option (List ℕ)) (waits given : List ℕ) → Consumes start here given → waits ≡ []
@@ -42,13 +32,13 @@ pieces_taken start here reader waits given taken none kept =
 -- ---- where a message may begin
 
 broken_finding : (f : WireFault) (p : Place) (known reader : Option (List ℕ)) (waits : List ℕ) → Finds known (Err f) waits reader → BreaksOff f p known reader
-broken_finding fault.Read p known reader waits (head, kept) = (waits, consumes_waiting known reader waits kept, a_head head)
+broken_finding fault.Read p known reader waits (head, kept) = (waits, consumes_waiting known reader waits kept, head)
 broken_finding fault.Memory p known reader waits never = absurd never
 broken_finding fault.Write p known reader waits never = absurd never
 
 no_buffer : (f : WireFault) (known reader : Option (List ℕ)) (waits : List ℕ) → f ≡ fault.Memory → waits ≡ [] → Keeps known (prepend_known waits reader)
     → BreaksOff f place.Fresh known reader
-no_buffer fault.Memory known reader waits is none kept = (waits, consumes_waiting known reader waits kept, inl (refl, none))
+no_buffer fault.Memory known reader waits is none kept = (refl, subst (Consumes known reader) none (consumes_waiting known reader waits kept))
 no_buffer fault.Read known reader waits is none kept = absurd cc
 no_buffer fault.Write known reader waits is none kept = absurd cc
 

@@ -46,19 +46,19 @@ head_of_64 bytes head reads many = record { reads = reads; few = omega arith }
 pub no_head_of_65 : (bytes : List ℕ) (head : RequestHead) → length head.fields ≡ 65 → IsHead bytes head → ⊥
 no_head_of_65 bytes head many is = let few : length head.fields ≤ 64 = is.few in omega arith
 
--- a body of 1048576 bytes makes a message
-pub full_body : (stream body rest : List ℕ) (head : RequestHead) → length body ≡ 1048576 → HasHead stream head true 1048576 (body ++ rest)
+-- a body of 8388608 bytes makes a message
+pub full_body : (stream body rest : List ℕ) (head : RequestHead) → length body ≡ 8388608 → HasHead stream head true 8388608 (body ++ rest)
     → Next stream (Message (request_of head true body)) rest
-full_body stream body rest head long has = whole head true 1048576 body rest has (omega arith) long
+full_body stream body rest head long has = whole head true 8388608 body rest has (omega arith) long
 
 -- where that many were told, a byte less is a stream that ended in the body, and none that is too large
-pub short_body : (stream rest : List ℕ) (head : RequestHead) → length rest ≡ 1048575 → HasHead stream head true 1048576 rest
+pub short_body : (stream rest : List ℕ) (head : RequestHead) → length rest ≡ 8388607 → HasHead stream head true 8388608 rest
     → Next stream (Refused rule.BodyIncomplete) []
-short_body stream rest head long has = incomplete head 1048576 rest has (omega arith) (omega arith)
+short_body stream rest head long has = incomplete head 8388608 rest has (omega arith) (omega arith)
 
 -- one more is refused as too large, however many follow
-pub large_body : (stream rest : List ℕ) (head : RequestHead) → HasHead stream head true 1048577 rest → Next stream (Refused rule.BodyTooLarge) []
-large_body stream rest head has = too_large head 1048577 rest has (omega arith)
+pub large_body : (stream rest : List ℕ) (head : RequestHead) → HasHead stream head true 8388609 rest → Next stream (Refused rule.BodyTooLarge) []
+large_body stream rest head has = too_large head 8388609 rest has (omega arith)
 
 -- what a body that is too large, one that is incomplete, and a message tell of the length
 pub record HasLengthOf (stream : List ℕ) (Holds : ℕ → Type 0) : Type 0 where
@@ -69,13 +69,13 @@ pub record HasLengthOf (stream : List ℕ) (Holds : ℕ → Type 0) : Type 0 whe
   pub has : HasHead stream head has_length n rest
   pub holds : Holds n
 
-pub large_is : (stream rest : List ℕ) → Next stream (Refused rule.BodyTooLarge) rest → HasLengthOf stream (λ n. 1048576 < n)
+pub large_is : (stream rest : List ℕ) → Next stream (Refused rule.BodyTooLarge) rest → HasLengthOf stream (λ n. 8388608 < n)
 large_is stream _ (too_large head n rest has large) = record { head = head; has_length = true; n = n; rest = rest; has = has; holds = large }
 
-pub incomplete_is : (stream rest : List ℕ) → Next stream (Refused rule.BodyIncomplete) rest → HasLengthOf stream (λ n. n ≤ 1048576)
+pub incomplete_is : (stream rest : List ℕ) → Next stream (Refused rule.BodyIncomplete) rest → HasLengthOf stream (λ n. n ≤ 8388608)
 incomplete_is stream _ (incomplete head n rest has fits short) = record { head = head; has_length = true; n = n; rest = rest; has = has; holds = fits }
 
-pub message_is : (stream rest : List ℕ) (r : Request) → Next stream (Message r) rest → HasLengthOf stream (λ n. n ≤ 1048576)
+pub message_is : (stream rest : List ℕ) (r : Request) → Next stream (Message r) rest → HasLengthOf stream (λ n. n ≤ 8388608)
 message_is stream rest _ (whole head has_length n body _ has fits long) =
     record { head = head; has_length = has_length; n = n; rest = body ++ rest; has = has; holds = fits }
 

@@ -3,7 +3,7 @@ use Rattle.std.proofs.Common.{◌≡◌, ◌<◌, ◌≤◌, ◌-◌, ℕ, Bool,
 use Rattle.std.specs.Prelude.{IfSome}
 use Rattle.std.specs.Io.KnownBytes.{Consumes}
 use Rattle.std.proofs.KnownBytes.{Consumes-trans}
-use Rattle.wire.specs.Whole.{IsNextMessage}
+use Rattle.wire.specs.Whole.{IsNextMessage, IsOpening}
 use Rattle.std.proofs.lemmas.List.{length-take-le}
 use Rattle.std.proofs.Math.Seq.{take-append_seam}
 use Rattle.httparse.specs.Grammar.{RequestHead}
@@ -72,7 +72,7 @@ pub head_taken : (known mid : Option (List ℕ)) (text : List ℕ)
 head_taken None mid text f = tt
 head_taken (Some stream) mid text (rest, front, e) = subst (λ (m : Option (List ℕ)). Consumes (Some stream) m text) (sym e) front.whole
 
-stands : (known new : Option (List ℕ)) (text body : List ℕ) (has_length : Bool) (o : Opens text has_length (length body)) → Consumes known new (text ++ body)
+pub stands : (known new : Option (List ℕ)) (text body : List ℕ) (has_length : Bool) (o : Opens text has_length (length body)) → Consumes known new (text ++ body)
     → IfSome known (λ stream. (rest : List ℕ) × Next stream (Message (request_of o.head has_length body)) rest × (new ≡ Some rest))
 stands None new text body has_length o c = tt
 stands (Some stream) None text body has_length o c = absurd c
@@ -80,7 +80,7 @@ stands (Some stream) (Some rest) text body has_length o c =
     let same : text ++ (body ++ rest) ≡ stream = sym (append_assoc text body rest) ∙ sym c in
     (rest, subst (λ (s : List ℕ). Next s (Message (request_of o.head has_length body)) rest) same (message_stands text body rest has_length o), refl)
 
-pub message_joined : (known mid new : Option (List ℕ)) (text body : List ℕ) (has_length : Bool) → Opens text has_length (length body)
+abbrev pub message_joined : (known mid new : Option (List ℕ)) (text body : List ℕ) (has_length : Bool) → Opens text has_length (length body)
     → IfSome known (λ stream. (rest : List ℕ) × IsFront stream text rest × (mid ≡ Some rest)) → Consumes mid new body → IsNextMessage text has_length body known new
 message_joined known mid new text body has_length o f c =
     let taken = Consumes-trans known mid new text body (head_taken known mid text f) c in
@@ -101,7 +101,7 @@ lacking_joined (Some stream) mid text has_length n o (rest, front, e) some few =
     }
 
 -- the text was copied to the front of an array
-pub copied : (new text rest : List ℕ) (has_length : Bool) (body : List ℕ) (known after : Option (List ℕ)) → new ≡ text → IsNextMessage text has_length body known after
-    → IsNextMessage (take (length text) (new ++ rest)) has_length body known after
-copied new text rest has_length body known after e h =
-    subst (λ (t : List ℕ). IsNextMessage t has_length body known after) (sym (ap (λ (t : List ℕ). take (length text) (t ++ rest)) e ∙ take-append_seam text rest)) h
+pub copied : (new text rest : List ℕ) (has_length : Bool) (n : ℕ) (known after : Option (List ℕ)) → new ≡ text → IsOpening text has_length n known after
+    → IsOpening (take (length text) (new ++ rest)) has_length n known after
+copied new text rest has_length n known after e h =
+    subst (λ (t : List ℕ). IsOpening t has_length n known after) (sym (ap (λ (t : List ℕ). take (length text) (t ++ rest)) e ∙ take-append_seam text rest)) h

@@ -1,4 +1,5 @@
 pub mod Written
+pub mod Skips
 pub mod Texts
 pub mod AnswerRows
 pub mod Heads

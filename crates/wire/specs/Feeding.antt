@@ -116,7 +116,8 @@ GoesOn n known (Ok (Bytes bytes)) new waits reader =
     (new ≡ place.Body (n - length bytes)) × (0 < length bytes) × (length bytes ≤ most_piece) × (length bytes ≤ n)
     × Consumes known (prepend_known waits reader) bytes
 GoesOn n known (Ok Done) new waits reader = (new ≡ place.Between) × (n ≡ 0) × Keeps known (prepend_known waits reader)
-GoesOn n known (Ok (Lacking r)) new waits reader = (new ≡ place.Over) × (0 < n) × (r ≡ rule.BodyIncomplete) × IsAtEnd known
+GoesOn n known (Ok (Lacking r)) new waits reader =
+    (new ≡ place.Over) × (0 < n) × (r ≡ rule.BodyIncomplete) × IsAtEnd known × Keeps known (prepend_known waits reader)
 GoesOn n known (Err fault.Read) new waits reader = (new ≡ place.Over) × (0 < n) × (waits ≡ []) × Keeps known (prepend_known waits reader)
 GoesOn n known (Err _) new waits reader = ⊥
 

@@ -3,9 +3,9 @@ use Rattle.std.specs.Prelude.{◌≡◌, ℕ, ◌<◌, ◌≤◌, ◌⊎◌, Boo
 use Rattle.std.specs.Io.KnownBytes.{Consumes, IsAtEnd}
 use Rattle.sigtext.specs.Limits.{most_head}
 use Rattle.sigtext.specs.Refusals.{number_of}
-use Rattle.wire.specs.Framing.{Next, Message, request_of}
+use Rattle.wire.specs.Framing.{IsFront, Next, Message, request_of}
 use Rattle.wire.specs.Framing as framing
-use Rattle.wire.specs.Feeding.{AnnouncesBody, Awaits, OfStream, Opens}
+use Rattle.wire.specs.Feeding.{AwaitsHead, OfStream, Opens}
 use Rattle.wire.specs.Feeds.{left, place_of, reader_of}
 use Rattle.wire.specs.declared.feed.Feed.{Feed}
 use Rattle.wire.specs.declared.fault.WireFault.{WireFault}
@@ -26,37 +26,44 @@ pub record IsNextMessage (text : List ℕ) (has_length : Bool) (body : List ℕ)
   pub taken : Consumes old new (text ++ body)
   pub next : IfSome old (λ stream. (rest : List ℕ) × Next stream (Message (request_of opens.head has_length body)) rest × (new ≡ Some rest))
 
--- What was read. text and body: the array and the vector it was put into; old and new: what was left of the
--- stream; reader: what the reader has now; p: where the feed stands now.
-abbrev pub Brings : Came → List ℕ → List ℕ → Option (List ℕ) → Option (List ℕ) → Option (List ℕ) → Place → Type 0
-Brings (came.Message size has_length) text body old new reader p =
-    (size ≤ most_head) × (p ≡ place.Between) × IsNextMessage (take size text) has_length body old new
-Brings (came.Refused r) text body old new reader p =
-    (p ≡ place.Over) × (0 < number_of r) × (number_of r ≤ 6) × OfStream old (λ stream. Next stream (framing.Refused r) [])
-Brings came.End text body old new reader p = (p ≡ place.Over) × IsAtEnd reader × OfStream old (λ stream. Next stream framing.Ended [])
-Brings came.Truncated text body old new reader p = (p ≡ place.Over) × IsAtEnd reader × OfStream old (λ stream. Next stream framing.Truncated [])
+-- The text is a head that announces a body of n bytes, and stands at the front of the stream that was left.
+-- old and new: what was left of the stream, where that is known, and what is left now.
+pub record IsOpening (text : List ℕ) (has_length : Bool) (n : ℕ) (old new : Option (List ℕ)) : Type 0 where
+  pub opens : Opens text has_length n
+  pub front : IfSome old (λ stream. (rest : List ℕ) × IsFront stream text rest × (new ≡ Some rest))
 
--- What all the bytes that came hold where reading failed. At a failed read they don't tell the step yet. Where memory
--- was refused, this was for the feed's buffer, before anything was read; or for a body that a head announces. old: what was
--- left of the stream; reader: what the reader has now; p: where the feed stood before.
+-- What was read. text: the array that a head was put into; old and new: what was left of the stream; reader: what the reader
+-- has now; p: where the feed stands now.
+abbrev pub Brings : Came → List ℕ → Option (List ℕ) → Option (List ℕ) → Option (List ℕ) → Place → Type 0
+Brings (came.Head size has_length n) text old new reader p =
+    (size ≤ most_head) × (p ≡ place.Body n) × IsOpening (take size text) has_length n old new
+Brings (came.Refused r) text old new reader p =
+    (p ≡ place.Over) × (0 < number_of r) × (number_of r ≤ 5) × OfStream old (λ stream. Next stream (framing.Refused r) [])
+Brings came.End text old new reader p = (p ≡ place.Over) × IsAtEnd reader × OfStream old (λ stream. Next stream framing.Ended [])
+Brings came.Truncated text old new reader p = (p ≡ place.Over) × IsAtEnd reader × OfStream old (λ stream. Next stream framing.Truncated [])
+
+-- What all the bytes that came hold where no head was read. At a failed read they don't tell the step yet. Where memory was
+-- refused, nothing was read. old: what was left of the stream; reader: what the reader has now; p: where the feed stood before.
 abbrev pub BreaksOff : WireFault → Place → Option (List ℕ) → Option (List ℕ) → Type 0
-BreaksOff fault.Read p old reader = (front : List ℕ) × Consumes old reader front × Awaits front
-BreaksOff fault.Memory p old reader = (front : List ℕ) × Consumes old reader front × (((p ≡ place.Fresh) × (front ≡ [])) ⊎ AnnouncesBody front)
+BreaksOff fault.Read p old reader = (front : List ℕ) × Consumes old reader front × AwaitsHead front
+BreaksOff fault.Memory p old reader = (p ≡ place.Fresh) × Consumes old reader []
 BreaksOff fault.Write p old reader = ⊥
 
--- the same of a body of which n bytes are to come: fewer came, or some are to come
+-- the same of a body of which n bytes are to come: fewer came
 abbrev pub BreaksOffWithin : ℕ → WireFault → Option (List ℕ) → Option (List ℕ) → Type 0
 BreaksOffWithin n fault.Read old reader = (given : List ℕ) × Consumes old reader given × (length given < n)
-BreaksOffWithin n fault.Memory old reader = (given : List ℕ) × Consumes old reader given × (0 < n)
+BreaksOffWithin n fault.Memory old reader = ⊥
 BreaksOffWithin n fault.Write old reader = ⊥
 
 -- the body of n bytes that was open came whole
 abbrev pub TakesBody : {R : Type 0} → (R → Option (List ℕ)) → ℕ → Feed R → Feed R → List ℕ → Type 0
 TakesBody remaining n old new body = (length body ≡ n) × (place_of new ≡ place.Between) × Consumes (left remaining old) (left remaining new) body
 
--- the stream ended in the body of n bytes that was open
+-- the stream ended in the body of n bytes that was open, of which these were given
 abbrev pub LacksBody : {R : Type 0} → (R → Option (List ℕ)) → ℕ → Feed R → Feed R → Type 0
-LacksBody remaining n old new = (place_of new ≡ place.Over) × (0 < n) × IfSome (left remaining old) (λ rest. length rest < n)
+LacksBody remaining n old new =
+    (place_of new ≡ place.Over) × (0 < n) × IfSome (left remaining old) (λ rest. length rest < n)
+    × (given : List ℕ) × Consumes (left remaining old) (remaining (reader_of new).inner) given
 
 -- reading broke off in the body of n bytes that was open
 abbrev pub BreaksOffBody : {R : Type 0} → (R → Option (List ℕ)) → ℕ → Feed R → Feed R → WireFault → Type 0

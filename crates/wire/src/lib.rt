@@ -21,5 +21,5 @@ pub use fault::WireFault;
 pub use feed::{Feed, Opening, Piece, Step};
 pub use found::hex_digits;
 pub use head::{Head, MOST_FIELDS, Message, head_end, read_head};
-pub use joining::{Came, read_message};
+pub use joining::{Came, Ending, read_opening, skip_body};
 pub use sending::send;

@@ -87,6 +87,33 @@ impl Tried {
         self.call(|shelf| shelf.apply(&change))
     }
 
+    // Stages the bytes, and does this behind.
+    fn staging<T: Drop, F: Fn(&mut Shelf) -> Result<T, KeepFault>>(
+        &mut self,
+        bytes: &[u8],
+        call: F,
+    ) -> Result<T, Fail>
+        requires { F.IsAlwaysCallable call }
+    {
+        self.call(|shelf| {
+            shelf.stage_begin()?;
+            for piece in bytes.chunks(2) {
+                shelf.stage(piece)?;
+            }
+            call(shelf)
+        })
+    }
+
+    // Sets the file of the box `in` to these bytes.
+    fn set(&mut self, number: u64, bytes: &[u8]) -> Result<(), Fail> {
+        self.staging(bytes, |shelf| shelf.apply(&sets(number, bytes)))
+    }
+
+    // Whether the file of the box `in` stands with just these bytes.
+    fn stands(&mut self, bytes: &[u8]) -> Result<bool, Fail> {
+        self.staging(bytes, |shelf| shelf.staged_equals(b"in", NAME))
+    }
+
     // Whether the box `in` holds so many bytes in so many files.
     fn holds(&mut self, used: u64, count: u64) -> Result<bool, Fail> {
         let totals = self.call(|shelf| shelf.sizes(b"in"))?;
@@ -123,8 +150,8 @@ fn a_box(alloc: Global) -> Result<BoxRow, AllocError> {
     })
 }
 
-// The change that sets a file of the box `in`.
-fn sets(number: u64, bytes: &[u8]) -> Change<'_> {
+// The change that sets a file of the box `in` to the staged bytes, which are these.
+fn sets(number: u64, bytes: &[u8]) -> Change<'static> {
     let file = NewFile {
         number,
         in_box: b"in",
@@ -134,7 +161,7 @@ fn sets(number: u64, bytes: &[u8]) -> Change<'_> {
         moment: 100,
         key: b"ann",
     };
-    Change::SetFile(file, bytes)
+    Change::SetFile(file)
 }
 
 // The change that limits the key `lin` to a box.
@@ -213,10 +240,14 @@ fn keeps_the_allowance(rt: &impl Abort, office: &mut Tried) -> Result<(), Fail> 
 }
 
 fn keeps_files(rt: &impl Abort, office: &mut Tried) -> Result<(), Fail> {
-    office.change(sets(1, b"abc"))?;
-    assert!(rt; office.holds(3, 1)?);
-    office.change(sets(2, b"hello"))?;
-    assert!(rt; office.holds(5, 1)?);
+    assert!(rt; !office.stands(b"abc")?);
+    office.set(1, b"abc")?;
+    assert!(rt; office.holds(3, 1)? && office.stands(b"abc")?);
+    assert!(rt; !office.stands(b"abd")? && !office.stands(b"ab")? && !office.stands(b"abcd")?);
+    office.set(2, b"hello")?;
+    assert!(rt; office.holds(5, 1)? && office.stands(b"hello")? && !office.stands(b"abc")?);
+    let receipt = office.call(|shelf| shelf.file_receipt(b"in", NAME))?;
+    assert!(rt; receipt.is_some_and(|receipt| receipt.number == 2));
     let file = office
         .call(|shelf| shelf.file(b"in", NAME))?
         .ok_or("no file")?;

@@ -9,7 +9,7 @@ impl<K: Keeper> Office<K> {
     ghost use Rattle.std.specs.Prelude.{◌≤◌};
     ghost use Rattle.boxes.specs.State.{State};
     ghost use Rattle.office.specs.Connections.{Runs};
-    ghost use Rattle.office.specs.Premise.{IsLeft, WasKept};
+    ghost use Rattle.office.specs.Premise.{IsLeft, StaysUnstaged, WasKept};
 
     /// Serves the connections one after another, each by a session, and answers how many sessions ended
     /// by a read or a write that failed. A run in which messages are answered with refusal 40 is one without
@@ -32,6 +32,7 @@ impl<K: Keeper> Office<K> {
             connections.old connections.new
             K.Keeper self.old.keeper self.new.keeper s after result }
         ensures honest { K.is_honest self.new.keeper → K.is_honest self.old.keeper }
+        ensures unstaged { StaysUnstaged K.Keeper self.old.keeper self.new.keeper }
         ensures never_less { K.faults self.old.keeper ≤ K.faults self.new.keeper }
     {
         let mut faulty = 0;

@@ -42,7 +42,7 @@ impl<K: Keeper> Office<K> {
     ghost use Rattle.wire.specs.Feeds.{SameReader, left, place_of, reader_of};
     ghost use Rattle.wire.specs.Whole.{MayBegin};
     ghost use Rattle.office.specs.Connections.{MayGiveUp, Serves, TellsFaults};
-    ghost use Rattle.office.specs.Premise.{HoldsUnless, IsLeft, WasKept};
+    ghost use Rattle.office.specs.Premise.{HoldsUnless, IsLeft, StaysUnstaged, WasKept};
     ghost use Rattle.office.specs.Sessions.{most_messages};
 
     // Serves the messages of a feed, at most 1000.
@@ -62,11 +62,11 @@ impl<K: Keeper> Office<K> {
             K.Keeper self.old.keeper self.new.keeper s after result }
         ensures faults { TellsFaults result
             (reader_of feed.old) (reader_of feed.new) writer.old writer.new }
-        ensures rest { HoldsUnless K.Keeper self.old.keeper self.new.keeper (MayGiveUp result) }
+        ensures unstaged { StaysUnstaged K.Keeper self.old.keeper self.new.keeper }
+        ensures rest { HoldsUnless K.Keeper self.old.keeper self.new.keeper (MayGiveUp K.Keeper self.old.keeper self.new.keeper result) }
     {
-        let mut body = Vec::new(self.alloc);
         'messages: for _ in 0..MOST_MESSAGES {
-            match self.step(feed, &mut body, writer, clock) {
+            match self.step(feed, writer, clock) {
                 None => {}
                 Some(end) => return end,
             }
@@ -77,7 +77,9 @@ impl<K: Keeper> Office<K> {
     /// Serves a connection: reads its messages, at most 1000, and answers one after another. What was read,
     /// which moments were told, what was written, how it ended, what the keeper counted and the state after it are
     /// those of a session of the machine. Its end tells the fault of the reader or the writer, where one was counted.
-    /// A keeper that was open is open, unless the session gave up.
+    /// A keeper that was open is open, unless the session gave up. A body comes to the keeper in pieces, and is kept whole or
+    /// not at all: where nothing was staged before, nothing is after, unless the keeper counted a fault. Where nothing was given
+    /// up, what was changed outlasts a crash: whatever one leaves that follows is the state after.
     pub fn session<R: Read, W: Write, C: Clock>(
         &mut self,
         reader: &mut Counted<R>,
@@ -91,7 +93,8 @@ impl<K: Keeper> Office<K> {
             (W.contents writer.old.inner) (W.contents writer.new.inner) clock.old clock.new
             K.Keeper self.old.keeper self.new.keeper s after result }
         ensures faults { TellsFaults result reader.old reader.new writer.old writer.new }
-        ensures rest { HoldsUnless K.Keeper self.old.keeper self.new.keeper (MayGiveUp result) }
+        ensures unstaged { StaysUnstaged K.Keeper self.old.keeper self.new.keeper }
+        ensures rest { HoldsUnless K.Keeper self.old.keeper self.new.keeper (MayGiveUp K.Keeper self.old.keeper self.new.keeper result) }
     {
         let mut feed = Feed::new(self.alloc, reader);
         let end = self.serve_feed(&mut feed, writer, clock);

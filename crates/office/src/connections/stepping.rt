@@ -4,15 +4,19 @@ ghost use Rattle.sigtext.specs.Counts.{Rose};
 ghost use Rattle.office.specs.Stepping.{IsClosed};
 
 use super::handling::{Handled, send_answer};
+use super::receiving::Received;
 use super::session::SessionEnd;
 use crate::clocks::Clock;
 use crate::office::Office;
+use crate::requests::announced::Announced;
+use crate::requests::answering::asks_head;
+use crate::requests::foreseeing::{Body, Prospect, is_given_up, is_upload};
 use keeper::Keeper;
 use sigtext::{Field, Refusal};
 use std::io::{Read, Write};
 use wire::{
-    Answer, Came, Counted, Feed, MOST_FIELDS, MOST_HEAD, Message, WireFault, put_answer, read_head,
-    read_message,
+    Answer, Came, Counted, Feed, MOST_FIELDS, MOST_HEAD, WireFault, put_answer, read_head,
+    read_opening,
 };
 
 // Writes the answer of a refusal that closes the connection, and tells the end.
@@ -29,59 +33,148 @@ fn close<W: Write>(refusal: Refusal, writer: &mut Counted<W>) -> SessionEnd
 }
 
 impl<K: Keeper> Office<K> {
-    ghost use Rattle.std.specs.Prelude.{◌≡◌, ◌≢◌, length, IfNone, IsSomeAnd};
+    ghost use Rattle.std.specs.Prelude.{◌≡◌, ◌≢◌, ◌⊎◌, ℕ, List, [], length, Err, IfNone, IsSomeAnd, IsTrue, Option};
     ghost use Rattle.sigtext.specs.Counts.{Rose};
-    ghost use Rattle.httparse.specs.Grammar.{RequestHead};
+    ghost use Rattle.sigtext.specs.Request.{Request};
     ghost use Rattle.boxes.specs.State.{State};
     ghost use Rattle.wire.specs.Feeding.{Opens};
     ghost use Rattle.wire.specs.Feeds.{SameReader, left, place_of, reader_of};
-    ghost use Rattle.wire.specs.Framing.{IsHead, request_of};
-    ghost use Rattle.wire.specs.Messages.{request_in};
-    ghost use Rattle.wire.specs.Whole.{MayBegin};
+    ghost use Rattle.wire.specs.Whole.{IsOpening, MayBegin};
+    ghost use Rattle.wire.specs.declared.feed.Place.{Place};
     ghost use Rattle.wire.specs.declared.feed.Place.TheVariants as stands;
+    ghost use Rattle.office.specs.Answering.{is_head};
     ghost use Rattle.office.specs.Connections.{MayGiveUp};
+    ghost use Rattle.office.specs.Crashes.{AddsStanding};
+    ghost use Rattle.office.specs.Foreseeing.{AreStaged, Foresees, IsUpload};
     ghost use Rattle.office.specs.Handling.{Handles, MayBeGivenUp};
-    ghost use Rattle.office.specs.Premise.{HoldsUnless, WasKept};
-    ghost use Rattle.office.specs.Stepping.{Steps, TellsStep};
+    ghost use Rattle.office.specs.Premise.{EndsUnstaged, HoldsUnless, StaysUnstaged, WasKept};
+    ghost use Rattle.office.specs.Readable.{IsReadable};
+    ghost use Rattle.office.specs.Stepping.{IsExpected, LeavesOff, Steps, TellsStep};
 
-    // Handles one message: takes its moment, and writes its answer.
+    // Handles a message whose body came: takes its moment, and writes its answer.
     fn serve_message<W: Write, C: Clock>(
         &mut self,
-        message: &Message<'_>,
+        foreseen: Result<Prospect<'_>, Refusal>,
+        body: &Body,
+        to_head: bool,
         writer: &mut Counted<W>,
         clock: &mut C,
     ) -> Handled
-        ensures handled { (s : State) → WasKept K.Keeper self.old.keeper self.new.keeper s
+        ensures handled { (s : State) (r : Request)
+            → WasKept K.Keeper self.old.keeper self.new.keeper s
+            → Foresees s r foreseen.entry → (foreseen.entry ≢ Err Refusal.TryAgain) → to_head ≡ is_head r
+            → (IsUpload foreseen.entry → AreStaged K.Keeper self.old.keeper r.body body.now)
             → Handles C.now_gives clock.old clock.new
             (W.contents writer.old.inner) (W.contents writer.new.inner)
-            K.Keeper self.old.keeper self.new.keeper s (request_in message.now) result }
+            K.Keeper self.old.keeper self.new.keeper s r result }
         ensures fault { result ≡ Handled.Broken → Rose writer.old.faults writer.new.faults }
         ensures clean { (result ≢ Handled.Broken) → writer.new.faults ≡ writer.old.faults }
+        ensures unstaged { IsUpload foreseen.entry ⊎ K.stages self.old.keeper []
+            → EndsUnstaged K.Keeper self.old.keeper self.new.keeper }
         ensures rest { HoldsUnless K.Keeper self.old.keeper self.new.keeper (MayBeGivenUp result) }
     {
         let now = clock.now();
-        let answer = self.answer(message, now);
+        let answer = self.answer_whole(foreseen, body, to_head, now);
         send_answer(&answer, writer)
     }
 
-    // Handles the message of a head and its body.
-    fn serve_text<W: Write, C: Clock>(
+    // Answers a message whose body the stream did not bring: refusal 6 once nothing of it is staged; or refusal 40.
+    fn close_lacking<W: Write>(&mut self, is_upload: bool, writer: &mut Counted<W>) -> SessionEnd
+        ensures closed { LeavesOff (W.contents writer.old.inner) (W.contents writer.new.inner)
+            K.Keeper self.old.keeper self.new.keeper is_upload result }
+        ensures fault { result ≡ SessionEnd.WriteFault → Rose writer.old.faults writer.new.faults }
+        ensures clean { (result ≢ SessionEnd.WriteFault) → writer.new.faults ≡ writer.old.faults }
+        ensures end { result ≢ SessionEnd.ReadFault }
+        ensures means { (s : State) → K.means self.old.keeper s → K.means self.new.keeper s }
+        ensures crash { (s : State) → K.means self.old.keeper s → K.is_honest self.new.keeper
+            → AddsStanding K.Keeper self.old.keeper self.new.keeper s }
+        ensures ends { IsTrue is_upload → EndsUnstaged K.Keeper self.old.keeper self.new.keeper }
+        ensures stays { StaysUnstaged K.Keeper self.old.keeper self.new.keeper }
+        ensures rest { HoldsUnless K.Keeper self.old.keeper self.new.keeper (MayGiveUp K.Keeper self.old.keeper self.new.keeper result) }
+    {
+        match self.drop_staged(is_upload) {
+            Ok(()) => close(Refusal::BodyIncomplete, writer),
+            Err(_) => close(Refusal::TryAgain, writer),
+        }
+    }
+
+    // Reads the body of a message of which this was foreseen, and answers the message; or tells how the session ended.
+    fn serve_body<R: Read, W: Write, C: Clock>(
         &mut self,
-        text: &[u8],
-        has_length: bool,
-        body: &[u8],
+        feed: &mut Feed<'_, R>,
+        foreseen: Result<Prospect<'_>, Refusal>,
+        to_head: bool,
+        size: usize,
         writer: &mut Counted<W>,
         clock: &mut C,
-    ) -> Handled
-        requires { Opens text.now has_length (length body.now) }
-        ensures handled { (s : State) → WasKept K.Keeper self.old.keeper self.new.keeper s
-            → (head : RequestHead) → IsHead text.now head
-            → Handles C.now_gives clock.old clock.new
-            (W.contents writer.old.inner) (W.contents writer.new.inner)
-            K.Keeper self.old.keeper self.new.keeper s (request_of head has_length body.now) result }
-        ensures fault { result ≡ Handled.Broken → Rose writer.old.faults writer.new.faults }
-        ensures clean { (result ≢ Handled.Broken) → writer.new.faults ≡ writer.old.faults }
-        ensures rest { HoldsUnless K.Keeper self.old.keeper self.new.keeper (MayBeGivenUp result) }
+    ) -> Option<SessionEnd>
+        requires { place_of feed.old ≡ stands.Body size }
+        ensures same { SameReader feed.old feed.new }
+        ensures goes_on { IfNone result (place_of feed.new ≡ stands.Between) }
+        ensures steps { (s : State) (p : Place) (known : Option (List ℕ))
+            → WasKept K.Keeper self.old.keeper self.new.keeper s
+            → IsExpected s size known (left R.remaining feed.old) foreseen.entry to_head
+            → Steps C.now_gives p known (left R.remaining feed.new)
+            (R.remaining (reader_of feed.new).inner)
+            (W.contents writer.old.inner) (W.contents writer.new.inner) clock.old clock.new
+            K.Keeper self.old.keeper self.new.keeper s result }
+        ensures faults { TellsStep result
+            (reader_of feed.old) (reader_of feed.new) writer.old writer.new }
+        ensures unstaged { StaysUnstaged K.Keeper self.old.keeper self.new.keeper }
+        ensures rest { HoldsUnless K.Keeper self.old.keeper self.new.keeper
+            (IsSomeAnd result (MayGiveUp K.Keeper self.old.keeper self.new.keeper)) }
+    {
+        let upload = is_upload(&foreseen);
+        match self.receive(feed, size, upload) {
+            Received::Whole(digest) => {
+                let body = Body {
+                    length: size as u64,
+                    digest,
+                };
+                match self.serve_message(foreseen, &body, to_head, writer, clock) {
+                    Handled::Answered => None,
+                    Handled::GaveUp => Some(SessionEnd::Refused(40)),
+                    Handled::Broken => Some(SessionEnd::WriteFault),
+                }
+            }
+            Received::Lacking => Some(self.close_lacking(upload, writer)),
+            Received::Broken => {
+                let _ = self.drop_staged(upload);
+                Some(SessionEnd::ReadFault)
+            }
+            Received::GaveUp => {
+                let _ = self.drop_staged(upload);
+                Some(close(Refusal::TryAgain, writer))
+            }
+        }
+    }
+
+    // Serves the message of a head that was read.
+    fn serve_head<R: Read, W: Write, C: Clock>(
+        &mut self,
+        feed: &mut Feed<'_, R>,
+        text: &[u8],
+        has_length: bool,
+        size: usize,
+        writer: &mut Counted<W>,
+        clock: &mut C,
+    ) -> Option<SessionEnd>
+        requires open { place_of feed.old ≡ stands.Body size }
+        requires head { Opens text.now has_length size }
+        ensures same { SameReader feed.old feed.new }
+        ensures goes_on { IfNone result (place_of feed.new ≡ stands.Between) }
+        ensures steps { (s : State) (p : Place) (known : Option (List ℕ))
+            → WasKept K.Keeper self.old.keeper self.new.keeper s
+            → IsOpening text.now has_length size known (left R.remaining feed.old)
+            → Steps C.now_gives p known (left R.remaining feed.new)
+            (R.remaining (reader_of feed.new).inner)
+            (W.contents writer.old.inner) (W.contents writer.new.inner) clock.old clock.new
+            K.Keeper self.old.keeper self.new.keeper s result }
+        ensures faults { TellsStep result
+            (reader_of feed.old) (reader_of feed.new) writer.old writer.new }
+        ensures unstaged { StaysUnstaged K.Keeper self.old.keeper self.new.keeper }
+        ensures rest { HoldsUnless K.Keeper self.old.keeper self.new.keeper
+            (IsSomeAnd result (MayGiveUp K.Keeper self.old.keeper self.new.keeper)) }
     {
         let mut fields = [Field {
             name: &[],
@@ -90,21 +183,25 @@ impl<K: Keeper> Office<K> {
         let Some(head) = read_head(text, &mut fields) else {
             unreachable!()
         };
-        let message = Message {
+        let message = Announced {
             method: head.method,
             target: head.target,
             fields: &fields[..head.count],
             has_length,
-            body,
+            length: size,
         };
-        self.serve_message(&message, writer, clock)
+        let foreseen = self.foresee(&message);
+        if is_given_up(&foreseen) {
+            return Some(close(Refusal::TryAgain, writer));
+        }
+        let to_head = asks_head(&message);
+        self.serve_body(feed, foreseen, to_head, size, writer, clock)
     }
 
     // Reads the next message of a feed and answers it; or tells how the session ended.
     pub(crate) fn step<R: Read, W: Write, C: Clock>(
         &mut self,
         feed: &mut Feed<'_, R>,
-        body: &mut Vec<u8>,
         writer: &mut Counted<W>,
         clock: &mut C,
     ) -> Option<SessionEnd>
@@ -118,18 +215,19 @@ impl<K: Keeper> Office<K> {
             K.Keeper self.old.keeper self.new.keeper s result }
         ensures faults { TellsStep result
             (reader_of feed.old) (reader_of feed.new) writer.old writer.new }
+        ensures unstaged { StaysUnstaged K.Keeper self.old.keeper self.new.keeper }
         ensures rest { HoldsUnless K.Keeper self.old.keeper self.new.keeper
-            (IsSomeAnd result MayGiveUp) }
+            (IsSomeAnd result (MayGiveUp K.Keeper self.old.keeper self.new.keeper)) }
     {
         let mut text = [0; MOST_HEAD];
-        match read_message(feed, &mut text, body) {
-            Ok(Came::Message { size, has_length }) => {
-                match self.serve_text(&text[..size], has_length, body, writer, clock) {
-                    Handled::Answered => None,
-                    Handled::GaveUp => Some(SessionEnd::Refused(40)),
-                    Handled::Broken => Some(SessionEnd::WriteFault),
-                }
-            }
+        match read_opening(feed, &mut text) {
+            Ok(
+                Came::Head {
+                    size,
+                    has_length,
+                    length,
+                },
+            ) => self.serve_head(feed, &text[..size], has_length, length, writer, clock),
             Ok(Came::Refused(refusal)) => Some(close(refusal, writer)),
             Ok(Came::End) => Some(SessionEnd::Ended),
             Ok(Came::Truncated) => Some(SessionEnd::Truncated),

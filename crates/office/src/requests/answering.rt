@@ -1,85 +1,218 @@
-//! What the office answers to one message.
-use super::reading::read_link;
+//! What the office answers to one message: what its head and the state decide before its body comes, and what its moment and
+//! its body decide then.
+ghost use Rattle.std.specs.Prelude.{◌≡◌};
+ghost use Rattle.sigtext.specs.Bytes.{same_bytes};
+ghost use Rattle.std.specs.Prelude.{codes};
+
+use super::announced::{Announced, announce};
+use super::foreseeing::{Body, Errand, Prospect, is_putting, is_upload};
 use crate::office::Office;
-use keeper::Keeper;
-use links::{LinkParts, Method};
+use keeper::{KeepFault, Keeper};
+use links::Method;
 use sigtext::Refusal;
-use sigv4::Moment;
+use sigv4::{Moment, Sha};
 use wire::{Answer, Message, Reply};
 
+/// How many bytes of a whole body are staged at once, at most.
+const MOST_PIECE: usize = 65536;
+
+/// Whether the method is HEAD.
+pub(crate) fn asks_head(message: &Announced<'_>) -> bool
+    ensures { result ≡ same_bytes message.now.method.now (codes "HEAD") }
+{
+    message.method == Method::Head.text()
+}
+
 impl<K: Keeper> Office<K> {
-    ghost use Rattle.std.specs.Prelude.{◌≡◌, Err, IfErr, IfOk};
-    ghost use Rattle.boxes.specs.State.{State};
+    ghost use Rattle.std.specs.Prelude.{◌≡◌, ◌≢◌, ◌⊎◌, ◌≤◌, ℕ, List, [], length, Err, IfErr, IfOk, IsFalse, IsTrue, OnErr, OnOk};
+    ghost use Rattle.sigtext.specs.Bytes.{AreBytes};
+    ghost use Rattle.sigtext.specs.Counts.{Rose};
     ghost use Rattle.sigtext.specs.Request.{Request};
-    ghost use Rattle.links.specs.LinkReadings.{IsLinkOf};
-    ghost use Rattle.links.specs.Methods.{method_text};
-    ghost use Rattle.links.specs.WellFormed.{LinkValues};
+    ghost use Rattle.boxes.specs.State.{State};
+    ghost use Rattle.keeper.specs.Keeping.{KeepsStaged};
     ghost use Rattle.wire.specs.Messages.{request_in};
+    ghost use Rattle.office.specs.Admitted.{IsAdmitted};
     ghost use Rattle.office.specs.Alike.{AreAlike};
-    ghost use Rattle.office.specs.Crashes.{AddsAsked, Endures, IsAsked, RefusedLasts};
+    ghost use Rattle.office.specs.Answering.{is_head};
+    ghost use Rattle.office.specs.Crashes.{AddsAsked, AddsStanding, Endures, IsAsked, RefusedLasts};
+    ghost use Rattle.office.specs.Foreseeing.{AreStaged, Foresees, IsForeseen, IsPutting, IsReadOf, IsUpload};
     ghost use Rattle.office.specs.Offices.{IsTryAgain, IsAnswered, IsTheAnswer};
-    ghost use Rattle.office.specs.Premise.{HoldsUnless, IsGivenUp, WasKept};
+    ghost use Rattle.office.specs.Premise.{EndsUnstaged, HoldsUnless, IsFault, IsGivenUp, StaysUnstaged, WasKept};
     ghost use Rattle.office.specs.Readable.{IsReadable};
     ghost use Rattle.office.specs.Replying.{IsReplied, IsNoRefusal};
 
-    // What a message is replied whose link was read.
-    fn reply_to_link(
+    // Does what a message comes to whose body came and whose link is admitted.
+    fn run_errand(
         &mut self,
-        link: &LinkParts<'_>,
-        method: Method,
-        message: &Message<'_>,
+        prospect: Prospect<'_>,
+        body: &Body,
         now: Moment,
     ) -> Result<Reply, Refusal>
-        requires { message.now.method.now ≡ method_text method }
-        ensures replies { (s : State) (p : LinkValues)
+        ensures replies { (s : State) (r : Request) (f : IsForeseen s r prospect.entry)
             → WasKept K.Keeper self.old.keeper self.new.keeper s
-            → IsLinkOf link.now (request_in message.now) p
-            → IsReplied (Endures K.Keeper self.old.keeper self.new.keeper s) s
-            (request_in message.now) now result }
+            → IsAdmitted s r now f.parts f.key
+            → (IsPutting prospect.entry.errand → AreStaged K.Keeper self.old.keeper r.body body.now)
+            → IsReplied (Endures K.Keeper self.old.keeper self.new.keeper s) s r now result }
         ensures same { (s : State) → K.means self.old.keeper s
             → IfErr result (λ q. K.means self.new.keeper s) }
         ensures plain { IfOk result IsNoRefusal }
-        ensures crash { (s : State) (p : LinkValues)
+        ensures crash { (s : State) (r : Request) (f : IsForeseen s r prospect.entry)
             → WasKept K.Keeper self.old.keeper self.new.keeper s
-            → IsLinkOf link.now (request_in message.now) p
-            → RefusedLasts K.Keeper self.old.keeper self.new.keeper s
-            (request_in message.now) now result }
+            → IsAdmitted s r now f.parts f.key
+            → (IsPutting prospect.entry.errand → AreStaged K.Keeper self.old.keeper r.body body.now)
+            → RefusedLasts K.Keeper self.old.keeper self.new.keeper s r now result }
+        ensures unstaged { IsPutting prospect.entry.errand ⊎ K.stages self.old.keeper []
+            → EndsUnstaged K.Keeper self.old.keeper self.new.keeper }
         ensures rest { HoldsUnless K.Keeper self.old.keeper self.new.keeper (IsGivenUp result) }
     {
-        match self.check_message(link, method, message, now) {
-            Ok(()) => {}
-            Err(refusal) => return Err(refusal),
-        }
-        match method {
-            Method::Put => self.put(link, message.body, now),
-            Method::Get => self.fetch(link),
-            Method::Head => self.fetch(link),
-            Method::Post => self.post(link),
+        let Prospect { link, errand } = prospect;
+        match errand {
+            Ok(Errand::Put { path, in_box }) => self.put(&link, &path, in_box, body, now),
+            Ok(Errand::Fetch) => self.fetch(&link),
+            Ok(Errand::Post) => self.post(&link),
+            Err(refusal) => Err(refusal),
         }
     }
 
-    // What a message is replied.
-    fn reply_to(&mut self, message: &Message<'_>, now: Moment) -> Result<Reply, Refusal>
-        ensures replies { (s : State) → WasKept K.Keeper self.old.keeper self.new.keeper s
-            → IsReplied (Endures K.Keeper self.old.keeper self.new.keeper s) s
-            (request_in message.now) now result }
-        ensures readable { IfErr result (λ q. q ≡ Refusal.TryAgain
-            → IsReadable (request_in message.now)) }
+    // What a message is replied whose body came, at its moment.
+    fn finish(&mut self, prospect: Prospect<'_>, body: &Body, now: Moment) -> Result<Reply, Refusal>
+        ensures replies { (s : State) (r : Request)
+            → WasKept K.Keeper self.old.keeper self.new.keeper s
+            → IsForeseen s r prospect.entry
+            → (IsPutting prospect.entry.errand → AreStaged K.Keeper self.old.keeper r.body body.now)
+            → IsReplied (Endures K.Keeper self.old.keeper self.new.keeper s) s r now result }
         ensures same { (s : State) → K.means self.old.keeper s
             → IfErr result (λ q. K.means self.new.keeper s) }
         ensures plain { IfOk result IsNoRefusal }
-        ensures crash { (s : State) → WasKept K.Keeper self.old.keeper self.new.keeper s
-            → RefusedLasts K.Keeper self.old.keeper self.new.keeper s
-            (request_in message.now) now result }
+        ensures crash { (s : State) (r : Request)
+            → WasKept K.Keeper self.old.keeper self.new.keeper s
+            → IsForeseen s r prospect.entry
+            → (IsPutting prospect.entry.errand → AreStaged K.Keeper self.old.keeper r.body body.now)
+            → RefusedLasts K.Keeper self.old.keeper self.new.keeper s r now result }
+        ensures unstaged { IsPutting prospect.entry.errand ⊎ K.stages self.old.keeper []
+            → EndsUnstaged K.Keeper self.old.keeper self.new.keeper }
         ensures rest { HoldsUnless K.Keeper self.old.keeper self.new.keeper (IsGivenUp result) }
     {
-        let Some(method) = Method::read(message.method) else {
-            return Err(Refusal::Method);
-        };
-        match read_link(self.alloc, method, message) {
-            Ok(link) => self.reply_to_link(&link, method, message, now),
+        match self.check_moment(&prospect.link, now) {
+            Ok(()) => self.run_errand(prospect, body, now),
+            Err(refusal) => {
+                if is_putting(&prospect.errand) {
+                    self.let_go(Err(refusal))
+                } else {
+                    Err(refusal)
+                }
+            }
+        }
+    }
+
+    // What a message is replied of which this was foreseen, and whose body came, at its moment.
+    fn reply_to(
+        &mut self,
+        foreseen: Result<Prospect<'_>, Refusal>,
+        body: &Body,
+        now: Moment,
+    ) -> Result<Reply, Refusal>
+        ensures replies { (s : State) (r : Request)
+            → WasKept K.Keeper self.old.keeper self.new.keeper s
+            → Foresees s r foreseen.entry
+            → (IsUpload foreseen.entry → AreStaged K.Keeper self.old.keeper r.body body.now)
+            → IsReplied (Endures K.Keeper self.old.keeper self.new.keeper s) s r now result }
+        ensures readable { IfErr result (λ q. q ≡ Refusal.TryAgain → (r : Request)
+            → IsReadOf r foreseen.entry → IsReadable r) }
+        ensures same { (s : State) → K.means self.old.keeper s
+            → IfErr result (λ q. K.means self.new.keeper s) }
+        ensures plain { IfOk result IsNoRefusal }
+        ensures crash { (s : State) (r : Request)
+            → WasKept K.Keeper self.old.keeper self.new.keeper s
+            → Foresees s r foreseen.entry
+            → (IsUpload foreseen.entry → AreStaged K.Keeper self.old.keeper r.body body.now)
+            → RefusedLasts K.Keeper self.old.keeper self.new.keeper s r now result }
+        ensures unstaged { IsUpload foreseen.entry ⊎ K.stages self.old.keeper []
+            → EndsUnstaged K.Keeper self.old.keeper self.new.keeper }
+        ensures given_up { foreseen.entry ≡ Err Refusal.TryAgain → IsGivenUp result }
+        ensures rest { HoldsUnless K.Keeper self.old.keeper self.new.keeper (IsGivenUp result) }
+    {
+        match foreseen {
+            Ok(prospect) => self.finish(prospect, body, now),
             Err(refusal) => Err(refusal),
         }
+    }
+
+    // The answer to a message whose body came, at its moment. The bytes of an upload are staged.
+    pub(crate) fn answer_whole(
+        &mut self,
+        foreseen: Result<Prospect<'_>, Refusal>,
+        body: &Body,
+        to_head: bool,
+        now: Moment,
+    ) -> Answer
+        ensures answers { (s : State) (r : Request)
+            → WasKept K.Keeper self.old.keeper self.new.keeper s
+            → Foresees s r foreseen.entry → to_head ≡ is_head r
+            → (IsUpload foreseen.entry → AreStaged K.Keeper self.old.keeper r.body body.now)
+            → IsAnswered (Endures K.Keeper self.old.keeper self.new.keeper s) s r now result }
+        ensures again { IsTryAgain result → (s : State) → K.means self.old.keeper s
+            → K.means self.new.keeper s }
+        ensures readable { IsTryAgain result → (r : Request) → IsReadOf r foreseen.entry → IsReadable r }
+        ensures crash { (s : State) (r : Request)
+            → WasKept K.Keeper self.old.keeper self.new.keeper s
+            → Foresees s r foreseen.entry
+            → (IsUpload foreseen.entry → AreStaged K.Keeper self.old.keeper r.body body.now)
+            → IsTryAgain result
+            → AddsAsked K.Keeper self.old.keeper self.new.keeper s (IsAsked s r now) }
+        ensures unstaged { IsUpload foreseen.entry ⊎ K.stages self.old.keeper []
+            → EndsUnstaged K.Keeper self.old.keeper self.new.keeper }
+        ensures given_up { foreseen.entry ≡ Err Refusal.TryAgain → IsTryAgain result }
+        ensures rest { HoldsUnless K.Keeper self.old.keeper self.new.keeper (IsTryAgain result) }
+    {
+        match self.reply_to(foreseen, body, now) {
+            Ok(reply) => Answer {
+                reply,
+                is_head: to_head,
+            },
+            Err(refusal) => Answer::refused(refusal, to_head),
+        }
+    }
+
+    // Stages a whole body, in pieces.
+    fn stage_whole(&mut self, body: &[u8]) -> Result<(), KeepFault>
+        ensures staged { OnOk result (K.stages self.new.keeper body.now) }
+        ensures same { (s : State) → K.means self.old.keeper s → K.means self.new.keeper s }
+        ensures crash { (s : State) → K.means self.old.keeper s → K.is_honest self.new.keeper
+            → AddsStanding K.Keeper self.old.keeper self.new.keeper s }
+        ensures fault { OnErr result (Rose (K.faults self.old.keeper) (K.faults self.new.keeper)) }
+        ensures rest { HoldsUnless K.Keeper self.old.keeper self.new.keeper (IsFault result) }
+    {
+        self.keeper.stage_begin()?;
+        let mut rest = body;
+        'pieces: while !rest.is_empty() {
+            let (piece, more) = rest.split_at(rest.len().min(MOST_PIECE));
+            self.keeper.stage(piece)?;
+            rest = more;
+        }
+        Ok(())
+    }
+
+    // Stages the body of an upload; of another message nothing. What the keeper did not take whole is let go of.
+    fn stage_upload(&mut self, is_upload: bool, body: &[u8]) -> Result<(), KeepFault>
+        ensures staged { IsTrue is_upload → OnOk result (K.stages self.new.keeper body.now) }
+        ensures passed { IsFalse is_upload → KeepsStaged K.stages self.old.keeper self.new.keeper }
+        ensures asked { OnErr result (IsTrue is_upload) }
+        ensures octets { AreBytes body.now }
+        ensures same { (s : State) → K.means self.old.keeper s → K.means self.new.keeper s }
+        ensures crash { (s : State) → K.means self.old.keeper s → K.is_honest self.new.keeper
+            → AddsStanding K.Keeper self.old.keeper self.new.keeper s }
+        ensures fault { OnErr result (Rose (K.faults self.old.keeper) (K.faults self.new.keeper)) }
+        ensures rest { HoldsUnless K.Keeper self.old.keeper self.new.keeper (IsFault result) }
+    {
+        if !is_upload {
+            return Ok(());
+        }
+        let staged = self.stage_whole(body);
+        if staged.is_err() {
+            let _ = self.keeper.stage_drop();
+        }
+        staged
     }
 
     /// Answers a message at a moment. The answer and the state after it are those of the rules; or the
@@ -95,7 +228,8 @@ impl<K: Keeper> Office<K> {
     /// What was answered outlasts a crash: one that follows leaves the state after, and nothing else; or, where nothing was
     /// changed, nothing new but the standing state. After a 40 it may also leave the state with this request, whole.
     ///
-    /// Of a keeper that was open each answer but refusal 40 leaves it open, so the state after is the one that is kept.
+    /// Of a keeper that was open each answer but refusal 40 leaves it open, so the state after is the one that is kept. The body
+    /// of an upload is staged in the keeper; where nothing was staged before, nothing is after, unless the keeper counted a fault.
     pub fn answer(&mut self, message: &Message<'_>, now: Moment) -> Answer
         ensures answers { (s : State) → WasKept K.Keeper self.old.keeper self.new.keeper s
             → IsAnswered (Endures K.Keeper self.old.keeper self.new.keeper s) s
@@ -107,16 +241,24 @@ impl<K: Keeper> Office<K> {
         ensures again { IsTryAgain result → (s : State) → K.means self.old.keeper s
             → K.means self.new.keeper s }
         ensures readable { IsTryAgain result → IsReadable (request_in message.now) }
+        ensures unstaged { StaysUnstaged K.Keeper self.old.keeper self.new.keeper }
         ensures rest { HoldsUnless K.Keeper self.old.keeper self.new.keeper (IsTryAgain result) }
         ensures crash { (s : State) → WasKept K.Keeper self.old.keeper self.new.keeper s
             → IsTryAgain result
             → AddsAsked K.Keeper self.old.keeper self.new.keeper s
             (IsAsked s (request_in message.now) now) }
     {
-        let is_head = message.method == Method::Head.text();
-        match self.reply_to(message, now) {
-            Ok(reply) => Answer { reply, is_head },
-            Err(refusal) => Answer::refused(refusal, is_head),
+        let head = announce(message);
+        let foreseen = self.foresee(&head);
+        let to_head = asks_head(&head);
+        let upload = is_upload(&foreseen);
+        if self.stage_upload(upload, message.body).is_err() {
+            return Answer::refused(Refusal::TryAgain, to_head);
         }
+        let body = Body {
+            length: message.body.len() as u64,
+            digest: Sha::digest(message.body),
+        };
+        self.answer_whole(foreseen, &body, to_head, now)
     }
 }

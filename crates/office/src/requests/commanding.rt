@@ -38,13 +38,14 @@ impl<K: Keeper> Office<K> {
     ghost use Rattle.boxes.specs.Steps.{IsPossible};
     ghost use Rattle.boxes.specs.Views.{IsDeskViewOf};
     ghost use Rattle.keeper.specs.Bound.{StaysBy};
+    ghost use Rattle.keeper.specs.Keeping.{KeepsStaged};
     ghost use Rattle.links.specs.LinkReadings.{IsLinkOf};
     ghost use Rattle.links.specs.WellFormed.{LinkValues};
     ghost use Rattle.desk.specs.Lines.{HasListedRule};
     ghost use Rattle.office.specs.Admitted.{ReachesBoxes};
     ghost use Rattle.office.specs.Crashes.{Endures, IsToldBy, RefusedLasts, UndoneLasts};
     ghost use Rattle.office.specs.DeskLines.{IsKeepers, IsObeyedBy};
-    ghost use Rattle.office.specs.Premise.{HoldsUnless, IsGivenUp, IsLeft, WasKept};
+    ghost use Rattle.office.specs.Premise.{HoldsUnless, IsGivenUp, IsLeft, StaysUnstaged, WasKept};
     ghost use Rattle.office.specs.Replying.{IsReplied, IsNoRefusal};
     ghost use Rattle.office.specs.Rules.{IsPost};
 
@@ -52,6 +53,7 @@ impl<K: Keeper> Office<K> {
     fn has_box(&mut self, name: &[u8]) -> Result<bool, KeepFault>
         ensures value { (s : State) → WasKept K.Keeper self.old.keeper self.new.keeper s
             → IfOk result (λ there. IsTrue there ↔ IsSome (get s.boxes name.now)) }
+        ensures staged { KeepsStaged K.stages self.old.keeper self.new.keeper }
         ensures rest { StaysBy K.Keeper self.old.keeper self.new.keeper result }
     {
         Ok(self.keeper.box_row(name)?.is_some())
@@ -61,6 +63,7 @@ impl<K: Keeper> Office<K> {
     fn look_at(&mut self, command: &Command<'_>) -> Result<DeskView, KeepFault>
         ensures view { (s : State) → WasKept K.Keeper self.old.keeper self.new.keeper s
             → IfOk result (IsDeskViewOf s (command_of command.now)) }
+        ensures staged { KeepsStaged K.stages self.old.keeper self.new.keeper }
         ensures rest { StaysBy K.Keeper self.old.keeper self.new.keeper result }
     {
         let mut view = DeskView {
@@ -112,6 +115,7 @@ impl<K: Keeper> Office<K> {
             → HasForm (command_of command.now)
             → UndoneLasts K.Keeper self.old.keeper self.new.keeper s
             (IsObeyed s (command_of command.now)) result }
+        ensures unstaged { StaysUnstaged K.Keeper self.old.keeper self.new.keeper }
         ensures rest { HoldsUnless K.Keeper self.old.keeper self.new.keeper
             (IsErrAnd result IsKeepers) }
     {
@@ -147,6 +151,7 @@ impl<K: Keeper> Office<K> {
             → OnErr result (K.means self.new.keeper s) }
         ensures crash { (s : State) → WasKept K.Keeper self.old.keeper self.new.keeper s
             → UndoneLasts K.Keeper self.old.keeper self.new.keeper s (IsToldBy s line.now) result }
+        ensures unstaged { StaysUnstaged K.Keeper self.old.keeper self.new.keeper }
         ensures rest { HoldsUnless K.Keeper self.old.keeper self.new.keeper
             (IsErrAnd result IsKeepers) }
     {
@@ -170,6 +175,7 @@ impl<K: Keeper> Office<K> {
             → WasKept K.Keeper self.old.keeper self.new.keeper s
             → IsLinkOf link.now r p → IsPost r → ReachesBoxes s r now p
             → RefusedLasts K.Keeper self.old.keeper self.new.keeper s r now result }
+        ensures unstaged { StaysUnstaged K.Keeper self.old.keeper self.new.keeper }
         ensures rest { HoldsUnless K.Keeper self.old.keeper self.new.keeper (IsGivenUp result) }
     {
         let Ok(path) = decoded_path(self.alloc, link) else {

@@ -13,6 +13,7 @@ impl<K: Keeper> Office<K> {
     ghost use Rattle.boxes.specs.State.{State};
     ghost use Rattle.boxes.specs.Views.{IsFetchViewOf};
     ghost use Rattle.keeper.specs.Bound.{StaysBy};
+    ghost use Rattle.keeper.specs.Keeping.{KeepsStaged};
     ghost use Rattle.links.specs.LinkReadings.{IsLinkOf};
     ghost use Rattle.links.specs.WellFormed.{LinkValues};
     ghost use Rattle.office.specs.Admitted.{ReachesBoxes};
@@ -26,6 +27,7 @@ impl<K: Keeper> Office<K> {
     fn look_for(&mut self, place: FilePlace<'_>) -> Result<FetchView, KeepFault>
         ensures view { (s : State) → WasKept K.Keeper self.old.keeper self.new.keeper s
             → IfOk result (IsFetchViewOf s (place_at place.entry)) }
+        ensures staged { KeepsStaged K.stages self.old.keeper self.new.keeper }
         ensures rest { StaysBy K.Keeper self.old.keeper self.new.keeper result }
     {
         let in_box = self.keeper.box_row(place.in_box)?;
@@ -43,6 +45,7 @@ impl<K: Keeper> Office<K> {
         ensures plain { IfOk result IsNoRefusal }
         ensures crash { (s : State) → K.means self.old.keeper s → K.is_honest self.new.keeper
             → AddsStanding K.Keeper self.old.keeper self.new.keeper s }
+        ensures staged { KeepsStaged K.stages self.old.keeper self.new.keeper }
         ensures rest { HoldsUnless K.Keeper self.old.keeper self.new.keeper (IsGivenUp result) }
     {
         let Ok(path) = decoded_path(self.alloc, link) else {

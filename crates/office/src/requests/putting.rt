@@ -1,13 +1,22 @@
-//! Uploads.
-ghost use Rattle.std.specs.Prelude.{◌≡◌};
+//! Uploads whose bodies are staged.
+ghost use Rattle.std.specs.Prelude.{◌≡◌, IsTrue};
+ghost use Rattle.boxes.specs.Rules.{Stands, Upload};
+ghost use Rattle.boxes.specs.Sound.{IsSound};
+ghost use Rattle.boxes.specs.State.{State};
+ghost use Rattle.boxes.specs.Views.{IsReceiptAt};
+ghost use Rattle.sigv4.specs.Hmac.{sha256};
+ghost use Rattle.std.specs.Prelude.{length};
 
-use super::places::{FilePlace, decoded_path, read_place};
+use super::foreseeing::Body;
+use super::places::{FilePlace, read_place};
 use crate::office::Office;
-use boxes::{Change, NewBytes, NewFile, ReceiptRow, UploadView, Uploading, law_of_changes, upload};
+use boxes::{
+    BoxRow, Change, NewBytes, NewFile, ReceiptRow, UploadView, Uploading, law_of_changes, upload,
+};
 use keeper::{KeepFault, Keeper};
 use links::LinkParts;
 use sigtext::Refusal;
-use sigv4::{Moment, Sha};
+use sigv4::Moment;
 use wire::Reply;
 
 // What the keeper says for an upload, and whether its bytes stand already.
@@ -29,46 +38,83 @@ fn reply_of(receipt: &ReceiptRow) -> Reply
     }
 }
 
+// Whether the receipt of what stands is one that such bytes would have. Where it is not, they do not stand.
+fn may_stand(receipt: &Option<ReceiptRow>, body: &Body) -> bool
+    ensures { (s : State) (u : Upload) → IsSound s → IsReceiptAt s u.place receipt.now
+        → body.now.length ≡ length u.bytes → body.now.digest ≡ sha256 u.bytes → Stands s u
+        → IsTrue result }
+{
+    match receipt {
+        Some(receipt) => receipt.size == body.length && receipt.digest == body.digest,
+        None => false,
+    }
+}
+
 impl<K: Keeper> Office<K> {
-    ghost use Rattle.std.specs.Prelude.{◌≡◌, ◌≤◌, ◌↔◌, Err, IsTrue, IfErr, IfOk, OnErr, OnOk, length};
-    ghost use Rattle.sigtext.specs.Limits.{most_body};
+    ghost use Rattle.std.specs.Prelude.{◌≡◌, ◌≢◌, ◌↔◌, ℕ, List, [], Err, IsTrue, IfErr, IfOk, OnErr, OnOk, option_map};
+    ghost use Rattle.std.specs.FinMap.{get};
     ghost use Rattle.sigtext.specs.Request.{Request};
     ghost use Rattle.boxes.specs.Changes.{IsFileSet};
+    ghost use Rattle.boxes.specs.Rows.{settings_of};
     ghost use Rattle.boxes.specs.Rules.{Stands, Upload};
     ghost use Rattle.boxes.specs.State.{State};
-    ghost use Rattle.boxes.specs.Views.{IsUploadViewOf};
+    ghost use Rattle.boxes.specs.Views.{IsReceiptAt, IsUploadViewOf};
     ghost use Rattle.keeper.specs.Bound.{StaysBy};
-    ghost use Rattle.keeper.specs.Keeping.{LeavesEither};
+    ghost use Rattle.keeper.specs.Keeping.{KeepsStaged, LeavesEither};
     ghost use Rattle.links.specs.LinkReadings.{IsLinkOf};
     ghost use Rattle.links.specs.WellFormed.{LinkValues};
     ghost use Rattle.office.specs.Admitted.{ReachesBoxes};
-    ghost use Rattle.office.specs.Crashes.{Endures, RefusedLasts};
+    ghost use Rattle.office.specs.Crashes.{AddsStanding, Endures, RefusedLasts};
+    ghost use Rattle.office.specs.Foreseeing.{AreStaged};
     ghost use Rattle.office.specs.Places.{place_at};
-    ghost use Rattle.office.specs.Premise.{HoldsUnless, IsGivenUp, IsLeft, WasKept};
+    ghost use Rattle.office.specs.Premise.{EndsUnstaged, HoldsUnless, IsGivenUp, IsLeft, WasKept};
     ghost use Rattle.office.specs.Replying.{IsReplied, IsNoRefusal, IsReceiptFor};
-    ghost use Rattle.office.specs.Rules.{IsPut};
+    ghost use Rattle.office.specs.Rules.{IsPut, place_of};
 
-    // Asks the keeper what an upload of these bytes to the place needs.
-    fn look_up(&mut self, place: FilePlace<'_>, body: &[u8]) -> Result<Standing, KeepFault>
+    // Asks the keeper whether the staged bytes stand at the place, of which this is the receipt, already.
+    fn stand(
+        &mut self,
+        place: FilePlace<'_>,
+        receipt: &Option<ReceiptRow>,
+        body: &Body,
+    ) -> Result<bool, KeepFault>
+        ensures value { (s : State) (u : Upload)
+            → WasKept K.Keeper self.old.keeper self.new.keeper s
+            → u.place ≡ place_at place.entry → IsReceiptAt s u.place receipt.now
+            → AreStaged K.Keeper self.old.keeper u.bytes body.now
+            → IfOk result (λ b. IsTrue b ↔ Stands s u) }
+        ensures staged { OnOk result (KeepsStaged K.stages self.old.keeper self.new.keeper) }
+        ensures rest { StaysBy K.Keeper self.old.keeper self.new.keeper result }
+    {
+        if !may_stand(receipt, body) {
+            return Ok(false);
+        }
+        self.keeper.staged_equals(place.in_box, place.name)
+    }
+
+    // Asks the keeper what an upload of the staged bytes to the place needs, whose box was asked before.
+    fn look_up(
+        &mut self,
+        place: FilePlace<'_>,
+        in_box: Option<BoxRow>,
+        body: &Body,
+    ) -> Result<Standing, KeepFault>
         ensures view { (s : State) → WasKept K.Keeper self.old.keeper self.new.keeper s
+            → option_map settings_of in_box ≡ get s.boxes (place_at place.entry).box
             → IfOk result (λ l. IsUploadViewOf s (place_at place.entry) l.view) }
         ensures stand { (s : State) (u : Upload)
             → WasKept K.Keeper self.old.keeper self.new.keeper s
-            → u.place ≡ place_at place.entry → u.bytes ≡ body.now
+            → u.place ≡ place_at place.entry
+            → AreStaged K.Keeper self.old.keeper u.bytes body.now
             → IfOk result (λ l. IsTrue l.stand ↔ Stands s u) }
+        ensures staged { OnOk result (KeepsStaged K.stages self.old.keeper self.new.keeper) }
         ensures rest { StaysBy K.Keeper self.old.keeper self.new.keeper result }
     {
         let office = self.keeper.settings()?;
-        let in_box = self.keeper.box_row(place.in_box)?;
         let totals = self.keeper.sizes(place.in_box)?;
         let next_number = self.keeper.next_number()?;
-        let (standing, stand) = match self.keeper.file(place.in_box, place.name)? {
-            Some(file) => {
-                let stand = file.bytes.as_slice() == body;
-                (Some(file.receipt), stand)
-            }
-            None => (None, false),
-        };
+        let standing = self.keeper.file_receipt(place.in_box, place.name)?;
+        let stand = self.stand(place, &standing, body)?;
         let view = UploadView {
             office,
             in_box,
@@ -79,19 +125,22 @@ impl<K: Keeper> Office<K> {
         Ok(Standing { view, stand })
     }
 
-    // Sets a file to its bytes. Nothing that is answered takes memory afterwards.
-    fn set_file(&mut self, file: NewFile<'_>, body: &[u8]) -> Result<Reply, Refusal>
-        ensures sets { (s after : State) → WasKept K.Keeper self.old.keeper self.new.keeper s
-            → IsFileSet s file.entry body.now after
+    // Sets a file to the staged bytes. Nothing that is answered takes memory afterwards.
+    fn set_file(&mut self, file: NewFile<'_>) -> Result<Reply, Refusal>
+        ensures sets { (s after : State) (bytes : List ℕ)
+            → WasKept K.Keeper self.old.keeper self.new.keeper s
+            → K.stages self.old.keeper bytes → IsFileSet s file.entry bytes after
             → OnOk result (IsLeft (Endures K.Keeper self.old.keeper self.new.keeper s) after) }
         ensures receipt { IfOk result (IsReceiptFor file.entry) }
         ensures again { IfErr result (λ q. q ≡ Refusal.TryAgain) }
         ensures same { (s : State) → K.means self.old.keeper s
             → OnErr result (K.means self.new.keeper s) }
-        ensures crash { (s after : State) → WasKept K.Keeper self.old.keeper self.new.keeper s
-            → IsFileSet s file.entry body.now after
+        ensures crash { (s after : State) (bytes : List ℕ)
+            → WasKept K.Keeper self.old.keeper self.new.keeper s
+            → K.stages self.old.keeper bytes → IsFileSet s file.entry bytes after
             → OnErr result (LeavesEither K.leaves K.leaves_whole
             self.old.keeper self.new.keeper s after) }
+        ensures unstaged { EndsUnstaged K.Keeper self.old.keeper self.new.keeper }
         ensures rest { HoldsUnless K.Keeper self.old.keeper self.new.keeper (IsGivenUp result) }
     {
         law_of_changes();
@@ -101,50 +150,68 @@ impl<K: Keeper> Office<K> {
             size: file.size,
             digest,
         };
-        match self.keeper.apply(&Change::SetFile(file, body)) {
+        match self.keeper.apply(&Change::SetFile(file)) {
             Ok(()) => Ok(reply),
             Err(_) => Err(Refusal::TryAgain),
         }
     }
 
-    // Takes an upload whose link is admitted and whose form is right, or refuses it.
+    // Replies this once nothing is staged any more; or refusal 40, where the keeper counted a fault.
+    pub(crate) fn let_go(&mut self, reply: Result<Reply, Refusal>) -> Result<Reply, Refusal>
+        ensures gives { (result ≢ Err Refusal.TryAgain) → result ≡ reply }
+        ensures same { (s : State) → K.means self.old.keeper s → K.means self.new.keeper s }
+        ensures crash { (s : State) → K.means self.old.keeper s → K.is_honest self.new.keeper
+            → AddsStanding K.Keeper self.old.keeper self.new.keeper s }
+        ensures unstaged { EndsUnstaged K.Keeper self.old.keeper self.new.keeper }
+        ensures rest { HoldsUnless K.Keeper self.old.keeper self.new.keeper (IsGivenUp result) }
+    {
+        match self.keeper.stage_drop() {
+            Ok(()) => reply,
+            Err(_) => Err(Refusal::TryAgain),
+        }
+    }
+
+    // Takes an upload whose body is staged, and whose link is admitted, or refuses it.
     pub(crate) fn put(
         &mut self,
         link: &LinkParts<'_>,
-        body: &[u8],
+        path: &[u8],
+        in_box: Option<BoxRow>,
+        body: &Body,
         now: Moment,
     ) -> Result<Reply, Refusal>
-        requires { length body.now ≤ most_body }
         ensures replies { (s : State) (r : Request) (p : LinkValues)
             → WasKept K.Keeper self.old.keeper self.new.keeper s
-            → IsLinkOf link.now r p → IsPut r → r.body ≡ body.now → ReachesBoxes s r now p
+            → IsLinkOf link.now r p → IsPut r → ReachesBoxes s r now p → path.now ≡ p.path
+            → option_map settings_of in_box ≡ get s.boxes (place_of p.path).box
+            → AreStaged K.Keeper self.old.keeper r.body body.now
             → IsReplied (Endures K.Keeper self.old.keeper self.new.keeper s) s r now result }
         ensures same { (s : State) → K.means self.old.keeper s
             → OnErr result (K.means self.new.keeper s) }
         ensures plain { IfOk result IsNoRefusal }
         ensures crash { (s : State) (r : Request) (p : LinkValues)
             → WasKept K.Keeper self.old.keeper self.new.keeper s
-            → IsLinkOf link.now r p → IsPut r → r.body ≡ body.now → ReachesBoxes s r now p
+            → IsLinkOf link.now r p → IsPut r → ReachesBoxes s r now p → path.now ≡ p.path
+            → option_map settings_of in_box ≡ get s.boxes (place_of p.path).box
+            → AreStaged K.Keeper self.old.keeper r.body body.now
             → RefusedLasts K.Keeper self.old.keeper self.new.keeper s r now result }
+        ensures unstaged { EndsUnstaged K.Keeper self.old.keeper self.new.keeper }
         ensures rest { HoldsUnless K.Keeper self.old.keeper self.new.keeper (IsGivenUp result) }
     {
-        let Ok(path) = decoded_path(self.alloc, link) else {
-            return Err(Refusal::TryAgain);
+        let place = read_place(path);
+        let Ok(Standing { view, stand }) = self.look_up(place, in_box, body) else {
+            return self.let_go(Err(Refusal::TryAgain));
         };
-        let place = read_place(&path);
-        let Ok(Standing { view, stand }) = self.look_up(place, body) else {
-            return Err(Refusal::TryAgain);
-        };
-        let digest = Sha::digest(body);
+        let digest = body.digest;
         let bytes = NewBytes {
-            length: body.len() as u64,
+            length: body.length,
             digest,
             stand,
         };
         match upload(&view, now, link.key_id(), place.in_box, place.name, &bytes) {
-            Uploading::Refused(refusal) => Err(refusal),
-            Uploading::Again(receipt) => Ok(reply_of(receipt)),
-            Uploading::Taken(file) => self.set_file(file, body),
+            Uploading::Refused(refusal) => self.let_go(Err(refusal)),
+            Uploading::Again(receipt) => self.let_go(Ok(reply_of(receipt))),
+            Uploading::Taken(file) => self.set_file(file),
         }
     }
 }

@@ -1,15 +1,12 @@
-//! Which messages come to the rules of boxes and of the desk: those of which the rules 19 to 26 hold.
+//! What the key of a link may send: rule 24.
 ghost use Rattle.std.specs.Prelude.{◌≡◌, ◌↔◌, IsTrue};
 
-use super::forms::check_form;
 use super::places::{decoded_path, read_place};
 use crate::office::Office;
 use boxes::Role;
 use keeper::Keeper;
 use links::{LinkParts, Method};
 use sigtext::Refusal;
-use sigv4::Moment;
-use wire::Message;
 
 fn is_post(method: Method) -> bool
     ensures { IsTrue result ↔ (method ≡ Method.Post) }
@@ -22,11 +19,11 @@ impl<K: Keeper> Office<K> {
     ghost use Rattle.sigtext.specs.Request.{Request};
     ghost use Rattle.sigtext.specs.Rules.{IsFirstToFail};
     ghost use Rattle.boxes.specs.State.{Key, State};
+    ghost use Rattle.keeper.specs.Keeping.{KeepsStaged};
     ghost use Rattle.links.specs.LinkReadings.{IsLinkOf};
     ghost use Rattle.links.specs.Methods.{method_text};
     ghost use Rattle.links.specs.WellFormed.{LinkValues};
-    ghost use Rattle.wire.specs.Messages.{request_in};
-    ghost use Rattle.office.specs.Admitted.{IsAdmitted, ReachesBoxes};
+    ghost use Rattle.office.specs.Admitted.{IsAdmitted};
     ghost use Rattle.office.specs.Crashes.{AddsStanding};
     ghost use Rattle.office.specs.Premise.{HoldsUnless, IsGivenUp, WasKept};
     ghost use Rattle.office.specs.Rules.{MaySend, Rule};
@@ -34,7 +31,7 @@ impl<K: Keeper> Office<K> {
     // Checks whether the key of an admitted link, which has this role, may send this: a clerk's may send anything, another
     // nothing to the desk, and where it is limited, to the boxes of its set alone. Else it is refused by rule 24; or by 40,
     // where memory was refused or the keeper counted a fault.
-    fn check_reach(
+    pub(crate) fn check_reach(
         &mut self,
         link: &LinkParts<'_>,
         method: Method,
@@ -49,6 +46,7 @@ impl<K: Keeper> Office<K> {
         ensures same { (s : State) → K.means self.old.keeper s → K.means self.new.keeper s }
         ensures crash { (s : State) → K.means self.old.keeper s → K.is_honest self.new.keeper
             → AddsStanding K.Keeper self.old.keeper self.new.keeper s }
+        ensures staged { KeepsStaged K.stages self.old.keeper self.new.keeper }
         ensures rest { HoldsUnless K.Keeper self.old.keeper self.new.keeper (IsGivenUp result) }
     {
         match role {
@@ -66,36 +64,6 @@ impl<K: Keeper> Office<K> {
             Ok(true) => Ok(()),
             Ok(false) => Err(Refusal::RoleNotAllowed),
             Err(_) => Err(Refusal::TryAgain),
-        }
-    }
-
-    // Checks a message whose link was read: the rules 19 to 26 hold; else it is refused by the least that fails, or by 40,
-    // where memory was refused or the keeper counted a fault.
-    pub(crate) fn check_message(
-        &mut self,
-        link: &LinkParts<'_>,
-        method: Method,
-        message: &Message<'_>,
-        now: Moment,
-    ) -> Result<(), Refusal>
-        requires { message.now.method.now ≡ method_text method }
-        ensures reaches { (s : State) (p : LinkValues)
-            → WasKept K.Keeper self.old.keeper self.new.keeper s
-            → IsLinkOf link.now (request_in message.now) p
-            → MatchResult result (λ done. ReachesBoxes s (request_in message.now) now p)
-            (λ q. (q ≢ Refusal.TryAgain) → IsFirstToFail (Rule s (request_in message.now) now) q) }
-        ensures same { (s : State) → K.means self.old.keeper s → K.means self.new.keeper s }
-        ensures crash { (s : State) → K.means self.old.keeper s → K.is_honest self.new.keeper
-            → AddsStanding K.Keeper self.old.keeper self.new.keeper s }
-        ensures rest { HoldsUnless K.Keeper self.old.keeper self.new.keeper (IsGivenUp result) }
-    {
-        let role = match self.admit(link, now) {
-            Ok(role) => role,
-            Err(refusal) => return Err(refusal),
-        };
-        match self.check_reach(link, method, role) {
-            Ok(()) => check_form(method, message),
-            Err(refusal) => Err(refusal),
         }
     }
 }

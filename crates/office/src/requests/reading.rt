@@ -1,30 +1,31 @@
 //! Reading the link of a message.
-ghost use Rattle.std.specs.Prelude.{◌≡◌, ◌≢◌, IfOk, IfErr};
+ghost use Rattle.std.specs.Prelude.{◌≡◌, ◌≢◌, ℕ, List, IfOk, IfErr};
 ghost use Rattle.sigtext.specs.Rules.{IsFirstToFail};
 ghost use Rattle.links.specs.Methods.{method_text};
 ghost use Rattle.links.specs.WellFormed.{LinkValues, HeadRule};
 ghost use Rattle.links.specs.LinkReadings.{IsLinkOf};
-ghost use Rattle.wire.specs.Messages.{request_in};
+ghost use Rattle.office.specs.Announcing.{request_with};
 ghost use Rattle.office.specs.Readable.{IsReadable};
 
+use super::announced::Announced;
 use links::{LinkParts, Method, inspect};
 use sigtext::{Refusal, Target};
 use std::alloc::Global;
-use wire::Message;
 
 /// Reads the link of a message with this method: its parts, or the refusal of the least rule of the numbers 8 to 18
 /// that fails; or refusal 40, where memory was refused.
 pub(crate) fn read_link<'a>(
     alloc: Global,
     method: Method,
-    message: &Message<'a>,
+    message: &Announced<'a>,
 ) -> Result<LinkParts<'a>, Refusal>
     requires { message.now.method.now ≡ method_text method }
-    ensures ok { IfOk result (λ l. (p : LinkValues) × IsLinkOf l (request_in message.now) p) }
-    ensures err { IfErr result (λ q. (q ≢ Refusal.TryAgain)
-        → IsFirstToFail (λ x p. HeadRule x (request_in message.now) p) q) }
-    ensures readable { IfErr result (λ q. q ≡ Refusal.TryAgain
-        → IsReadable (request_in message.now)) }
+    ensures ok { IfOk result (λ l. (body : List ℕ) → (p : LinkValues)
+        × IsLinkOf l (request_with message.now body) p) }
+    ensures err { IfErr result (λ q. (q ≢ Refusal.TryAgain) → (body : List ℕ)
+        → IsFirstToFail (λ x p. HeadRule x (request_with message.now body) p) q) }
+    ensures readable { IfErr result (λ q. q ≡ Refusal.TryAgain → (body : List ℕ)
+        → IsReadable (request_with message.now body)) }
 {
     match Target::read(message.target) {
         Ok(target) => inspect(alloc, method, &target, message.fields),

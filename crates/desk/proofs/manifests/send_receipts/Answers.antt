@@ -13,7 +13,7 @@ use Rattle.desk.proofs.manifests.send_receipts.Goals as goal
 pub portions-init : goal.portions-init
 portions-init g c = record {
   from = omega arith;
-  stays = stays_unasked g.K.Keeper _;
+  stays = stays_unasked _;
   count = refl;
   sent = λ s means sound honest end. ([], lines_none _, sends_nothing _);
 }
@@ -83,7 +83,7 @@ portions-preserved g c =
     let next = c.saturating_add-from.ensures ∙ ap (λ k. min (c.portions.from + k) 18446744073709551615) (c.from-in-portions.ensures ∙ sym c.from.ensures) in
     record {
       from = omega (arith, next, c.portions.invariant.from);
-      stays = stays_joined g.K.Keeper _ _ _ _ c.portions.invariant.stays (stays_ok g.K.Keeper _ _ _ (rw c.in-Ok.is at c.receipts.ensures.rest));
+      stays = stays_joined _ _ _ _ c.portions.invariant.stays (stays_ok _ _ _ (rw c.in-Ok.is at c.receipts.ensures.rest));
       count = c.in_ok-send_text.ensures.count.ok ∙ c.portions.invariant.count;
       sent = λ s means sound honest end.
           let before = c.receipts.ensures.rest.honest honest in

@@ -1,12 +1,9 @@
-use Rattle.std.proofs.Common.{◌≡◌, IsTrue, subst}
+use Rattle.std.proofs.Common.{IsTrue, subst}
 use Rattle.sqlite.specs.State.{HasCleanDisk}
 use Rattle.sqlite.specs.Held.{state}
 use Rattle.sqltables.specs.Schema.{v1, v2}
-use Rattle.sqlaudit.specs.declared.opening.Finding.{Finding}
-use Rattle.sqlaudit.specs.declared.opening.Finding.TheVariants.{OtherVersion}
-use Rattle.sqlaudit.specs.Opened.{HasOurs, IsFound}
+use Rattle.sqlaudit.specs.Opened.{IsFound}
 use Rattle.sqlaudit.proofs.EitherVersion.{other_is_whole, ours_still, damaged_second, damaged_first, other_version}
-use Rattle.sqlaudit.proofs.opening.find_either.Given as given
 use Rattle.sqlaudit.proofs.opening.find_either.Goals as goal
 
 pub returns-in-Sound-clause-found : goal.returns-in-Sound-clause-found

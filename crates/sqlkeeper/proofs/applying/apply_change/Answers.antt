@@ -14,7 +14,7 @@ use Rattle.sqlkeeper.proofs.applying.apply_change.Goals as goal
 
 module _ (g : given.Over) (c : goal.After-conn-2-1 g) (s after : State) where
   -- what the transaction has written means the state after the change
-  holds : Means v2 (state g.S.Store c.args.conn.now) s → IsSound s → IsChangeOf s c.args.change.now after
+  holds : Means v2 (state g.S.Store c.args.conn.now) s → IsSound s → IsChangeOf (λ bytes. c.args.staged.now ≡ bytes) s c.args.change.now after
       → HasCleanDisk (state g.S.Store c.commit.new.self.0) → Holds v2 (state g.S.Store c.write_change.new.tx.conn.now).now (tables_of after)
   holds means sound change clean =
       let begun = state g.S.Store c.transaction-tx.result.conn.now in

@@ -10,3 +10,7 @@ returns-clause-done g c tables pends =
     let rules = c.in_ok-insert_rules.ensures.done tables (c.in_ok-add_tables.ensures.done tables pends) in
     subst (λ n. OnOk c.update_version.result (Pends v2 (state g.S.Store c.update_version.new.tx.conn.now) (with_allowance tables n)))
     c.seconds.ensures.value (c.update_version.ensures.done tables c.seconds.result rules)
+
+pub returns-clause-unstaged : goal.returns-clause-unstaged
+returns-clause-unstaged g c tables pends =
+    c.update_version.ensures.unstaged tables c.seconds.result (c.in_ok-insert_rules.ensures.done tables (c.in_ok-add_tables.ensures.done tables pends))

@@ -1,4 +1,4 @@
-use Rattle.std.proofs.Common.{◌≡◌, ◌∙◌, ◌+◌, ◌≤◌, ◌<◌, ◌^◌, ◌++◌, ◌∷◌, [], ℕ, List, Some, length, option_map, refl, sym, ap, subst, arith}
+use Rattle.std.proofs.Common.{rules, ◌≡◌, ◌∙◌, ◌+◌, ◌≤◌, ◌<◌, ◌^◌, ◌++◌, ◌∷◌, [], ℕ, List, Some, length, option_map, refl, sym, ap, subst, arith}
 use Rattle.std.specs.FinMap.{get, insert}
 use Rattle.std.specs.Vec.{vec_len, vec_capacity}
 use Rattle.sigtext.specs.declared.refusal.Refusal.TheVariants as rule
@@ -22,7 +22,7 @@ pub returns-in-Ok-insert-clause-made : goal.returns-in-Ok-insert-clause-made
 returns-in-Ok-insert-clause-made c s after h sound set =
     let k : Shelf = c.args.self.now in
     let file = c.args.file.now in
-    let bytes = c.args.bytes.now in
+    let bytes = c.args.bytes.items in
     let u = upload_in file bytes in
     let place : Place = u.place in
     let b = box_there k s place.box h (set.taken.rules rule.NoSuchBox).0 in
@@ -39,10 +39,12 @@ returns-in-Ok-insert-clause-made c s after h sound set =
     let held_files : count s place.box ≤ b.0.row.max_files = quota.1 in
     let most_bytes : b.0.row.quota ≤ 1000000000000 = settings.quota in
     let most_files : b.0.row.max_files ≤ 1000000 = settings.max_files in
-    let short : length bytes ≤ 1048576 = set.taken.brought.short in
-    let low : used s place.box + length bytes < 2 ^ 64 = omega (arith, held_bytes, most_bytes, short) in
+    let short : length bytes ≤ 8388608 = set.taken.brought.short in
+    let counted : vec_len c.args.bytes ≡ length bytes = search rules in
+    let size : length bytes ≡ c.len-size.result = sym counted ∙ sym c.len-size.ensures in
+    let low : used s place.box + c.len-size.result < 2 ^ 64 = omega (arith, held_bytes, most_bytes, short, size) in
     let few : count s place.box + 1 < 2 ^ 64 = omega (arith, held_files, most_files) in
-    let are = c.set-totals.ensures s place f (c.totals_of-totals.ensures s h sound) refl stood low few in
+    let are = c.set-totals.ensures s place f (c.totals_of-totals.ensures s h sound) size stood low few in
     let key = c.in-Ok.place in
     let stored = c.in-Ok.stored in
     let inserted : insert s.files (place_of key) (stored_file stored) ≡ insert s.files place f

@@ -1,44 +1,77 @@
-use Rattle.std.proofs.Common.{◌≡◌, ◌∙◌, Bool, ap, codes, refl}
-use Rattle.sigtext.specs.Bytes.{same_bytes}
-use Rattle.wire.specs.Answers.{answer_text}
-use Rattle.wire.specs.Answers as said
+use Rattle.std.proofs.Common.{◌≡◌, ◌∙◌, List, ℕ, ap, arith, rules, subst, sym}
+use Rattle.sigtext.specs.Request.{Request}
 use Rattle.wire.specs.Messages.{request_in}
-use Rattle.wire.specs.Shown.{said_of}
-use Rattle.office.specs.Answering.{accepts, shown}
-use Rattle.office.specs.Crashes.{unchanged}
+use Rattle.office.specs.Alike.{AreAlike}
+use Rattle.office.specs.Announcing.{request_with}
+use Rattle.office.specs.Answering.{is_head}
+use Rattle.office.specs.Foreseeing.{AreStaged, Foresees, IsUpload}
+use Rattle.office.specs.Premise.{WasKept}
+use Rattle.office.specs.Readable.{IsReadable}
 use Rattle.office.proofs.Alikeness.{the_answer}
-use Rattle.office.proofs.Answered.{is_again, refused_text}
+use Rattle.office.proofs.Endurance.{then_adds, then_answered, then_asked}
+use Rattle.office.proofs.Foreseen.{no_fault, of_err, of_ok, upload_readable}
+use Rattle.office.proofs.Unstaged.{then_holds}
 use Rattle.office.proofs.office.Office.answer.Goals as goal
 
-pub returns-in-Ok-clause-answers : goal.returns-in-Ok-clause-answers
-returns-in-Ok-clause-answers g c s kept other =
-    let x = c.in-Ok.ensures.replies s kept in
-    let head : c.eq-is_head.result ≡ same_bytes c.args.message.now.method.now (codes "HEAD") = c.eq-is_head.ensures ∙ ap (same_bytes c.args.message.now.method.now) c.text.ensures in (
-      x.1,
-      x.3,
-      record {
-        reply = shown x.0;
-        replies = accepts x.0 x.1 x.2;
-        is = ap (λ (b : Bool). answer_text b (said_of c.in-Ok.reply)) head ∙ ap (answer_text (same_bytes c.args.message.now.method.now (codes "HEAD"))) x.4;
-      },
-    )
+pub returns-then-is_err-clause-readable : goal.returns-then-is_err-clause-readable
+returns-then-is_err-clause-readable g c again =
+    let body = c.args.message.now.body.now in
+    let upload = c.is_upload-upload.ensures.0 (of_err c.stage_upload.result c.if-is_err.ensures.value c.stage_upload.ensures.asked) in
+    subst IsReadable c.announce-head.ensures.request
+    (upload_readable (request_with c.announce-head.result body) c.foresee-foreseen.result upload (c.foresee-foreseen.ensures.readable body))
 
-pub returns-in-Err-clause-answers : goal.returns-in-Err-clause-answers
-returns-in-Err-clause-answers g c s kept other =
-    let q = c.in-Err.refusal in
-    let fails = c.in-Err.ensures.replies s kept (λ again. other (is_again c.refused.result q c.refused.ensures.reply again)) in
-    let head : c.eq-is_head.result ≡ same_bytes c.args.message.now.method.now (codes "HEAD") = c.eq-is_head.ensures ∙ ap (same_bytes c.args.message.now.method.now) c.text.ensures in
-    let text = c.refused.ensures.text ∙ ap (λ (b : Bool). answer_text b (said.Refused q)) head in
-    let lasts = unchanged refl ((c.in-Err.ensures.crash s kept).1 (λ again. other (is_again c.refused.result q c.refused.ensures.reply again))) in
-    (s, record { means = record { meant = c.in-Err.ensures.same s kept.means; lasts = lasts }; sound = kept.sound }, refused_text s (request_in c.args.message.now) c.args.now c.refused.result q text fails)
+pub returns-clause-answers : goal.returns-clause-answers
+returns-clause-answers g c s kept =
+    let body = c.args.message.now.body.now in
+    let honest-2 = c.answer_whole.ensures.rest.honest kept.is_honest in
+    let honest-1 = c.stage_upload.ensures.rest.honest honest-2 in
+    let means-1 = c.foresee-foreseen.ensures.same s kept.means in
+    let means-2 = c.stage_upload.ensures.same s means-1 in
+    let foresees = subst (λ (r : Request). Foresees s r c.foresee-foreseen.result) c.announce-head.ensures.request
+    (c.foresee-foreseen.ensures.foresees s body (record { means = kept.means; is_honest = honest-1; sound = kept.sound }) (sym c.announce-head.ensures.length)) in
+    then_answered c.answer_whole.new.self.keeper s (request_in c.args.message.now) c.args.now c.answer_whole.result
+    (then_adds (c.foresee-foreseen.ensures.crash s kept.means honest-1) (c.stage_upload.ensures.crash s means-1 honest-2))
+    (c.answer_whole.ensures.answers s (request_in c.args.message.now) (record { means = means-2; is_honest = kept.is_honest; sound = kept.sound }) foresees
+    (c.asks_head-to_head.ensures ∙ ap is_head c.announce-head.ensures.request)
+    (λ upload. record {
+      staged = of_ok c.stage_upload.result (search rules) (c.stage_upload.ensures.staged (c.is_upload-upload.ensures.1 upload));
+      octets = c.stage_upload.ensures.octets;
+      short = c.args.message.now.short;
+      length_is = search rules;
+      digest = c.digest.ensures;
+    }))
 
-pub returns-in-Err-clause-crash : goal.returns-in-Err-clause-crash
-returns-in-Err-clause-crash g c s kept again = (c.in-Err.ensures.crash s kept).0
+pub returns-clause-alike : goal.returns-clause-alike
+returns-clause-alike g c s other kept alike =
+    the_answer _ s (request_in c.args.message.now) other c.args.now _ alike (returns-clause-answers g c s kept)
 
-pub returns-in-Ok-clause-alike : goal.returns-in-Ok-clause-alike
-returns-in-Ok-clause-alike g c s other kept alike =
-    the_answer _ s (request_in c.args.message.now) other c.args.now _ alike (returns-in-Ok-clause-answers g c s kept)
+pub returns-clause-readable : goal.returns-clause-readable
+returns-clause-readable g c again =
+    let body = c.args.message.now.body.now in
+    subst IsReadable c.announce-head.ensures.request
+    (c.answer_whole.ensures.readable again (request_with c.announce-head.result body) (c.foresee-foreseen.ensures.readable body))
 
-pub returns-in-Err-clause-alike : goal.returns-in-Err-clause-alike
-returns-in-Err-clause-alike g c s other kept alike =
-    the_answer _ s (request_in c.args.message.now) other c.args.now _ alike (returns-in-Err-clause-answers g c s kept)
+pub returns-clause-rest : goal.returns-clause-rest
+returns-clause-rest g c =
+    then_holds
+    (then_holds c.foresee-foreseen.ensures.rest c.stage_upload.ensures.rest (λ not given. not (c.answer_whole.ensures.given_up given)) (λ not fault. no_fault c.stage_upload.result (search rules) fault))
+    c.answer_whole.ensures.rest (λ not none. not none) (λ not again. not again)
+
+pub returns-clause-crash : goal.returns-clause-crash
+returns-clause-crash g c s kept again =
+    let body = c.args.message.now.body.now in
+    let honest-2 = c.answer_whole.ensures.rest.honest kept.is_honest in
+    let honest-1 = c.stage_upload.ensures.rest.honest honest-2 in
+    let means-1 = c.foresee-foreseen.ensures.same s kept.means in
+    let means-2 = c.stage_upload.ensures.same s means-1 in
+    let foresees = subst (λ (r : Request). Foresees s r c.foresee-foreseen.result) c.announce-head.ensures.request
+    (c.foresee-foreseen.ensures.foresees s body (record { means = kept.means; is_honest = honest-1; sound = kept.sound }) (sym c.announce-head.ensures.length)) in
+    then_asked (then_adds (c.foresee-foreseen.ensures.crash s kept.means honest-1) (c.stage_upload.ensures.crash s means-1 honest-2))
+    (c.answer_whole.ensures.crash s (request_in c.args.message.now) (record { means = means-2; is_honest = kept.is_honest; sound = kept.sound }) foresees
+    (λ upload. record {
+      staged = of_ok c.stage_upload.result (search rules) (c.stage_upload.ensures.staged (c.is_upload-upload.ensures.1 upload));
+      octets = c.stage_upload.ensures.octets;
+      short = c.args.message.now.short;
+      length_is = search rules;
+      digest = c.digest.ensures;
+    }) again)

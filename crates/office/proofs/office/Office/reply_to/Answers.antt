@@ -1,36 +1,41 @@
+use Rattle.std.proofs.Common.{Err, ap, inl, inr, subst, sym}
 use Rattle.sigtext.specs.declared.refusal.Refusal.TheVariants as rule
-use Rattle.wire.specs.Messages.{request_in}
-use Rattle.links.proofs.LinkRules.{method_first}
-use Rattle.links.proofs.Texts.{clash}
-use Rattle.office.proofs.Deciding.{head_first}
+use Rattle.office.specs.Foreseeing.{Foresees, IsReadOf, IsUpload}
 use Rattle.office.proofs.Endurance.{refused_same, still}
-use Rattle.office.proofs.Answered.{read_readable}
+use Rattle.office.proofs.Foreseen.{err_is, err_whatever, ok_no_err, readable_of}
 use Rattle.office.proofs.office.Office.reply_to.Goals as goal
 
-pub returns-in_default-clause-replies : goal.returns-in_default-clause-replies
-returns-in_default-clause-replies g c s kept other =
-    head_first s (request_in c.args.message.now) c.args.now rule.Method (method_first (request_in c.args.message.now) (λ is. clash _ c.in_default.ensures.none is))
-
 pub returns-in-Ok-clause-replies : goal.returns-in-Ok-clause-replies
-returns-in-Ok-clause-replies g c s kept =
-    let is = c.in-Ok.ensures.ok in
-    c.reply_to_link.ensures.replies s is.0 kept is.1
+returns-in-Ok-clause-replies g c s r kept f staged =
+    c.finish.ensures.replies s r kept (subst (Foresees s r) c.in-Ok.is f) (λ putting. staged (subst IsUpload (sym c.in-Ok.is) putting))
+
+pub returns-in-Ok-clause-crash : goal.returns-in-Ok-clause-crash
+returns-in-Ok-clause-crash g c s r kept f staged =
+    c.finish.ensures.crash s r kept (subst (Foresees s r) c.in-Ok.is f) (λ putting. staged (subst IsUpload (sym c.in-Ok.is) putting))
 
 pub returns-in-Ok-clause-readable : goal.returns-in-Ok-clause-readable
 returns-in-Ok-clause-readable g c =
-    let is = c.in-Ok.ensures.ok in
-    read_readable (request_in c.args.message.now) is.0 c.reply_to_link.result is.1.well_formed
+    err_whatever c.finish.result (λ r is. let x = subst (IsReadOf r) c.in-Ok.is is in readable_of r x.0 x.1.well_formed)
+
+pub returns-in-Ok-clause-unstaged : goal.returns-in-Ok-clause-unstaged
+returns-in-Ok-clause-unstaged g c (inl upload) = c.finish.ensures.unstaged (inl (subst IsUpload c.in-Ok.is upload))
+returns-in-Ok-clause-unstaged g c (inr none) = c.finish.ensures.unstaged (inr none)
 
 pub returns-in-Err-clause-replies : goal.returns-in-Err-clause-replies
-returns-in-Err-clause-replies g c s kept other = head_first s (request_in c.args.message.now) c.args.now c.in-Err.refusal (c.in-Err.ensures.err other)
-
-pub returns-in-Ok-clause-crash : goal.returns-in-Ok-clause-crash
-returns-in-Ok-clause-crash g c s kept =
-    let is = c.in-Ok.ensures.ok in
-    c.reply_to_link.ensures.crash s is.0 kept is.1
-
-pub returns-in_default-clause-crash : goal.returns-in_default-clause-crash
-returns-in_default-clause-crash g c s kept = refused_same rule.Method still
+returns-in-Err-clause-replies g c s r kept f staged other = subst (Foresees s r) c.in-Err.is f other c.args.now
 
 pub returns-in-Err-clause-crash : goal.returns-in-Err-clause-crash
-returns-in-Err-clause-crash g c s kept = refused_same c.in-Err.refusal still
+returns-in-Err-clause-crash g c s r kept f staged = refused_same c.in-Err.refusal still
+
+pub returns-in-Err-clause-readable : goal.returns-in-Err-clause-readable
+returns-in-Err-clause-readable g c again r is = subst (IsReadOf r) c.in-Err.is is again
+
+pub returns-in-Err-clause-unstaged : goal.returns-in-Err-clause-unstaged
+returns-in-Err-clause-unstaged g c (inl upload) = absurd (subst IsUpload c.in-Err.is upload)
+returns-in-Err-clause-unstaged g c (inr none) = inl none
+
+pub returns-in-Ok-clause-given_up : goal.returns-in-Ok-clause-given_up
+returns-in-Ok-clause-given_up g c given = absurd (ok_no_err c.in-Ok.prospect rule.TryAgain c.args.foreseen c.in-Ok.is given)
+
+pub returns-in-Err-clause-given_up : goal.returns-in-Err-clause-given_up
+returns-in-Err-clause-given_up g c given = ap Err (err_is c.in-Err.refusal rule.TryAgain c.args.foreseen c.in-Err.is given)

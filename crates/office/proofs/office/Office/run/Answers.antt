@@ -1,5 +1,6 @@
-use Rattle.std.proofs.Common.{◌≡◌, ◌+◌, ◌<◌, ◌∙◌, cond, length, refl, sym, ap, arith}
+use Rattle.std.proofs.Common.{◌≡◌, ◌+◌, ◌<◌, ◌∙◌, cond, inl, length, refl, sym, ap, arith}
 use Rattle.office.specs.Connections.{is_fault}
+use Rattle.office.proofs.KeeperCalls.{unstaged_then}
 use Rattle.office.proofs.RunSoFar.{starts, goes_on, others_stay, finishes}
 use Rattle.office.proofs.office.Office.run.Goals as goal
 use Rattle.office.proofs.office.Office.run.Goals.{then-is_fault, else-is_fault}
@@ -12,6 +13,7 @@ connections-init g c = (
   refl,
   omega arith,
   omega arith,
+  λ none. inl none,
 )
 
 pub connections-preserved : goal.connections-preserved
@@ -37,6 +39,7 @@ connections-preserved g c =
       others_stay old now i c.connection-item.result (c.session-end.new.reader, c.session-end.new.writer) lt lt' c.connections.invariant.2,
       elim c.if-is_fault.branch [ then-is_fault w ↦ omega arith | else-is_fault w ↦ omega arith ],
       omega (arith, c.connections.invariant.4, c.session-end.ensures.rest.never_less),
+      unstaged_then g.K.Keeper c.args.self.now.keeper c.connections.self.keeper c.session-end.new.self.keeper c.connections.invariant.5 c.connections.invariant.4 c.session-end.ensures.unstaged c.session-end.ensures.rest.never_less,
     )
 
 pub returns-clause-runs : goal.returns-clause-runs
@@ -50,3 +53,6 @@ returns-clause-honest g c = c.connections.invariant.1
 
 pub returns-clause-never_less : goal.returns-clause-never_less
 returns-clause-never_less g c = c.connections.invariant.4
+
+pub returns-clause-unstaged : goal.returns-clause-unstaged
+returns-clause-unstaged g c = c.connections.invariant.5

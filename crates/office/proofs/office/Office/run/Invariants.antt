@@ -1,6 +1,6 @@
 use Rattle.std.proofs.Common.{◌≡◌, ◌≤◌, drop}
 use Rattle.boxes.specs.State.{State}
-use Rattle.office.specs.Premise.{WasKept}
+use Rattle.office.specs.Premise.{StaysUnstaged, WasKept}
 use Rattle.office.proofs.RunSoFar.{SoFar}
 use Rattle.office.proofs.office.Office.run.Given as goal
 
@@ -13,3 +13,4 @@ invariant-connections g l =
     × (drop l.connection-index l.connections ≡ drop l.connection-index l.fn.connections)
     × (l.faulty ≤ l.connection-index)
     × (g.K.Keeper.faults l.fn.self.keeper ≤ g.K.Keeper.faults l.self.keeper)
+    × StaysUnstaged g.K.Keeper l.fn.self.keeper l.self.keeper

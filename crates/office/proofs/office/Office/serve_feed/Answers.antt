@@ -1,8 +1,10 @@
-use Rattle.std.proofs.Common.{◌∙◌, ℕ, inr, refl, subst, arith}
+use Rattle.std.proofs.Common.{◌∙◌, ℕ, inl, inr, refl, subst, arith}
 use Rattle.sigtext.specs.Counts.{Rose}
 use Rattle.wire.specs.Feeds.{left, place_of, reader_of}
+use Rattle.office.proofs.KeeperCalls.{unstaged_then}
 use Rattle.office.proofs.Holding.{holds_less, holds_still, holds_then}
 use Rattle.office.proofs.SessionSteps.{follows_first, follows_more, follows_end, follows_limit, not_fresh}
+use Rattle.office.proofs.Unstaged.{may_later}
 use Rattle.office.proofs.office.Office.serve_feed.Goals as goal
 
 pub messages-init : goal.messages-init
@@ -12,6 +14,7 @@ messages-init g c = (
   refl,
   refl,
   holds_still,
+  λ none. inl none,
   λ s kept. (
     s,
     record { means = kept.means; sound = kept.sound },
@@ -27,7 +30,7 @@ returns-in-Some-clause-same g c = c.step.ensures.same ∙ c.messages.invariant.1
 
 pub returns-in-Some-clause-serves : goal.returns-in-Some-clause-serves
 returns-in-Some-clause-serves g c s kept =
-    let x = c.messages.invariant.5 s (record { means = kept.means; is_honest = c.in-Some.ensures.rest.honest kept.is_honest; sound = kept.sound }) in
+    let x = c.messages.invariant.6 s (record { means = kept.means; is_honest = c.in-Some.ensures.rest.honest kept.is_honest; sound = kept.sound }) in
     let h = c.in-Some.ensures.steps x.0 (record { means = x.1.means; is_honest = kept.is_honest; sound = x.1.sound }) in (
       h.0,
       h.1,
@@ -52,8 +55,9 @@ messages-preserved g c = (
   c.in-None.ensures.faults.0 ∙ c.messages.invariant.2,
   c.in-None.ensures.faults.1 ∙ c.messages.invariant.3,
   holds_then c.messages.invariant.4 c.in-None.ensures.rest,
+  unstaged_then g.K.Keeper c.args.self.now.keeper c.messages.self.keeper c.step.new.self.keeper c.messages.invariant.5 c.messages.invariant.4.never_less c.step.ensures.unstaged c.in-None.ensures.rest.never_less,
   λ s kept.
-      let x = c.messages.invariant.5 s (record { means = kept.means; is_honest = c.in-None.ensures.rest.honest kept.is_honest; sound = kept.sound }) in
+      let x = c.messages.invariant.6 s (record { means = kept.means; is_honest = c.in-None.ensures.rest.honest kept.is_honest; sound = kept.sound }) in
       let h = c.in-None.ensures.steps x.0 (record { means = x.1.means; is_honest = kept.is_honest; sound = x.1.sound }) in (
         h.0,
         h.1,
@@ -67,7 +71,7 @@ returns-clause-same g c = c.messages.invariant.1
 
 pub returns-clause-serves : goal.returns-clause-serves
 returns-clause-serves g c s kept =
-    let x = c.messages.invariant.5 s kept in (
+    let x = c.messages.invariant.6 s kept in (
       x.0,
       x.1,
       follows_limit g.C.Clock.now_gives c.messages.counter (left g.R.Read.remaining c.args.feed.now) (left g.R.Read.remaining c.messages.feed) (g.W.Write.contents c.args.writer.now.inner) (g.W.Write.contents c.messages.writer.inner) c.args.clock.now c.messages.clock g.K.Keeper c.args.self.now.keeper c.messages.self.keeper s x.0 x.2
@@ -83,7 +87,16 @@ returns-clause-faults g c = record {
 }
 
 pub returns-in-Some-clause-rest : goal.returns-in-Some-clause-rest
-returns-in-Some-clause-rest g c = holds_then c.messages.invariant.4 c.in-Some.ensures.rest
+returns-in-Some-clause-rest g c =
+    holds_then c.messages.invariant.4
+    (holds_less (may_later g.K.Keeper c.args.self.now.keeper c.messages.self.keeper c.step.new.self.keeper c.in-Some.end c.messages.invariant.4.never_less) c.in-Some.ensures.rest)
 
 pub returns-clause-rest : goal.returns-clause-rest
 returns-clause-rest g c = holds_less (λ none. absurd none) c.messages.invariant.4
+
+pub returns-in-Some-clause-unstaged : goal.returns-in-Some-clause-unstaged
+returns-in-Some-clause-unstaged g c =
+    unstaged_then g.K.Keeper c.args.self.now.keeper c.messages.self.keeper c.step.new.self.keeper c.messages.invariant.5 c.messages.invariant.4.never_less c.step.ensures.unstaged c.step.ensures.rest.never_less
+
+pub returns-clause-unstaged : goal.returns-clause-unstaged
+returns-clause-unstaged g c = c.messages.invariant.5

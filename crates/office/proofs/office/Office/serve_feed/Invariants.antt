@@ -3,7 +3,7 @@ use Rattle.boxes.specs.State.{State}
 use Rattle.wire.specs.Feeds.{SameReader, left, place_of, reader_of}
 use Rattle.wire.specs.Whole.{MayBegin}
 use Rattle.wire.specs.declared.feed.Place.TheVariants as place
-use Rattle.office.specs.Premise.{HoldsUnless, IsLeft, WasKept}
+use Rattle.office.specs.Premise.{HoldsUnless, IsLeft, StaysUnstaged, WasKept}
 use Rattle.office.proofs.SessionSteps.{Follows}
 use Rattle.office.proofs.office.Office.serve_feed.Given as goal
 
@@ -13,6 +13,7 @@ invariant-messages g l =
     × ((reader_of l.feed).faults ≡ (reader_of l.fn.feed).faults)
     × (l.writer.faults ≡ l.fn.writer.faults)
     × HoldsUnless g.K.Keeper l.fn.self.keeper l.self.keeper ⊥
+    × StaysUnstaged g.K.Keeper l.fn.self.keeper l.self.keeper
     × ((s : State) → WasKept g.K.Keeper l.fn.self.keeper l.self.keeper s
     → (mid : State) × IsLeft (g.K.Keeper.means l.self.keeper) mid
     × Follows g.C.Clock.now_gives l.counter (left g.R.Read.remaining l.fn.feed) (left g.R.Read.remaining l.feed)

@@ -1,9 +1,22 @@
+use Rattle.std.proofs.Common.{inl, inr}
 use Rattle.boxes.specs.declared.change.Change.TheVariants as change
 use Rattle.office.specs.Crashes.{changed}
 use Rattle.office.proofs.office.Office.set_file.Goals as goal
 
 pub returns-in-Ok-clause-sets : goal.returns-in-Ok-clause-sets
-returns-in-Ok-clause-sets g c s after kept set = record {
-  means = record { meant = c.in-Ok.ensures.made s after kept.means kept.sound set; lasts = changed (c.in-Ok.ensures.durable s after kept.means kept.sound set kept.is_honest) };
-  sound = c.law_of_changes.ensures s after (change.SetFile c.args.file c.args.body) kept.sound set;
+returns-in-Ok-clause-sets g c s after bytes kept staged set = record {
+  means = record {
+    meant = c.in-Ok.ensures.made s after kept.means kept.sound (bytes, staged, set);
+    lasts = changed (c.in-Ok.ensures.durable s after kept.means kept.sound (bytes, staged, set) kept.is_honest);
+  };
+  sound = c.law_of_changes.ensures s after (change.SetFile c.args.file) kept.sound (bytes, tt, set);
 }
+
+pub returns-in-Err-clause-crash : goal.returns-in-Err-clause-crash
+returns-in-Err-clause-crash g c s after bytes kept staged set = c.in-Err.ensures.crash s after kept.means kept.sound (bytes, staged, set) kept.is_honest
+
+pub returns-in-Ok-clause-unstaged : goal.returns-in-Ok-clause-unstaged
+returns-in-Ok-clause-unstaged g c = inl (c.in-Ok.ensures.emptied tt)
+
+pub returns-in-Err-clause-unstaged : goal.returns-in-Err-clause-unstaged
+returns-in-Err-clause-unstaged g c = inr c.in-Err.ensures.count.err

@@ -2,35 +2,98 @@ use Rattle.std.proofs.Common.{inl, inr, IsTrue, subst}
 use Rattle.sqlite.specs.Held.{state}
 use Rattle.sqlaudit.specs.Opened.{IsEither, HasNamesOf}
 use Rattle.sqlkeeper.proofs.AtRest.{leaves_kept}
-use Rattle.sqlkeeper.proofs.Migrated.{first_is_whole, second_is_whole, second_accepts, first_found, first_means, not_first, adds_still, untouched_never}
+use Rattle.sqlkeeper.proofs.Migrated.{first_is_whole, second_is_whole, second_means, first_found, first_means, not_first, not_second, adds_still, untouched_never}
+use Rattle.sqlkeeper.proofs.Reopened.{accepted, emptied, failed, others, spared}
 use Rattle.sqlkeeper.proofs.Stays.{left_alone}
 use Rattle.sqlkeeper.proofs.file_keeper.SqlKeeper.migrate.Goals as goal
 
--- ---- a file of version 2
+-- ---- a file of version 2, whose table `staged` was emptied
 
-pub returns-in-Ok-Second-clause-accepts : goal.returns-in-Ok-Second-clause-accepts
-returns-in-Ok-Second-clause-accepts g c ours clean =
+pub returns-in-Ok-clause-accepts : goal.returns-in-Ok-clause-accepts
+returns-in-Ok-clause-accepts g c ours clean =
     let old = state g.S.Store c.args.conn in
     let mid = state g.S.Store c.find_either.new.conn in
-    second_accepts old mid c.in-Ok-Second.ensures.rest (λ clean. c.in-Ok-Second.ensures.opened clean (second_is_whole c.in-Ok-Second.field-0-is)) c.in-Ok-Second.ensures.at_rest
-    (λ ours clean was_open. subst (λ f. IsEither f old.now) c.in-Ok-Second.field-0-is (c.in-Ok-Second.ensures.found ours clean was_open)) ours clean
-
-pub returns-in-Ok-Second-clause-durable : goal.returns-in-Ok-Second-clause-durable
-returns-in-Ok-Second-clause-durable g c clean s keeps =
-    let end = state g.S.Store c.find_either.new.conn in
-    let is_open : IsTrue end.is_open = c.in-Ok-Second.ensures.opened clean (second_is_whole c.in-Ok-Second.field-0-is) in
-    left_alone (λ k. state g.S.Store k.conn) (record { conn = c.find_either.new.conn; faults = 0; alloc = c.args.alloc }) s keeps.sound clean (g.met.S.Store.stays c.find_either.new.conn.store is_open)
-    (leaves_kept end s is_open (λ db. g.met.S.Store.settled c.find_either.new.conn.store db is_open) keeps.means)
-
--- ---- one of version 1
+    let new = state g.S.Store c.empty_file.new.conn in
+    let it = accepted old mid c.in-Ok-Second.ensures.rest (λ clean. c.in-Ok-Second.ensures.opened clean (second_is_whole c.in-Ok-Second.field-0-is)) c.in-Ok-Second.ensures.at_rest
+    (λ ours clean was_open. subst (λ f. IsEither f old.now) c.in-Ok-Second.field-0-is (c.in-Ok-Second.ensures.found ours clean was_open)) new c.empty_file.ensures.honest c.in-Ok.ensures.made ours clean in
+    (it.0, inr it.1, it.2)
 
 pub returns-in-Ok-clause-means : goal.returns-in-Ok-clause-means
 returns-in-Ok-clause-means g c s is =
     let old = state g.S.Store c.args.conn in
     let mid = state g.S.Store c.find_either.new.conn in
+    let new = state g.S.Store c.empty_file.new.conn in
+    let keeps = second_means old mid c.in-Ok-Second.ensures.rest (λ clean. c.in-Ok-Second.ensures.opened clean (second_is_whole c.in-Ok-Second.field-0-is))
+    (λ ours clean was_open. subst (λ f. IsEither f old.now) c.in-Ok-Second.field-0-is (c.in-Ok-Second.ensures.found ours clean was_open)) s is in
+    record { means = c.in-Ok.ensures.made s keeps.means; sound = keeps.sound }
+
+pub returns-in-Ok-clause-same : goal.returns-in-Ok-clause-same
+returns-in-Ok-clause-same g c ours other =
+    let old = state g.S.Store c.args.conn in
+    let mid = state g.S.Store c.find_either.new.conn in
+    let new = state g.S.Store c.empty_file.new.conn in
+    emptied old mid c.in-Ok-Second.ensures.rest (λ clean. c.in-Ok-Second.ensures.opened clean (second_is_whole c.in-Ok-Second.field-0-is)) c.in-Ok-Second.ensures.at_rest
+    (λ ours clean was_open. subst (λ f. IsEither f old.now) c.in-Ok-Second.field-0-is (c.in-Ok-Second.ensures.found ours clean was_open)) new c.empty_file.ensures.honest c.in-Ok.ensures.emptied ours
+
+pub returns-in-Ok-clause-emptied : goal.returns-in-Ok-clause-emptied
+returns-in-Ok-clause-emptied g c ours clean =
+    let old = state g.S.Store c.args.conn in
+    let mid = state g.S.Store c.find_either.new.conn in
+    let new = state g.S.Store c.empty_file.new.conn in
+    let gone = emptied old mid c.in-Ok-Second.ensures.rest (λ clean. c.in-Ok-Second.ensures.opened clean (second_is_whole c.in-Ok-Second.field-0-is)) c.in-Ok-Second.ensures.at_rest
+    (λ ours clean was_open. subst (λ f. IsEither f old.now) c.in-Ok-Second.field-0-is (c.in-Ok-Second.ensures.found ours clean was_open)) new c.empty_file.ensures.honest c.in-Ok.ensures.emptied ours clean in
+    (gone.now_is (c.in-Ok.ensures.opened clean).0).none
+
+pub returns-in-Ok-clause-spared : goal.returns-in-Ok-clause-spared
+returns-in-Ok-clause-spared g c ours none other =
+    let old = state g.S.Store c.args.conn in
+    let mid = state g.S.Store c.find_either.new.conn in
+    let new = state g.S.Store c.empty_file.new.conn in
+    spared old mid c.in-Ok-Second.ensures.rest (λ clean. c.in-Ok-Second.ensures.opened clean (second_is_whole c.in-Ok-Second.field-0-is)) c.in-Ok-Second.ensures.at_rest
+    (λ ours clean was_open. subst (λ f. IsEither f old.now) c.in-Ok-Second.field-0-is (c.in-Ok-Second.ensures.found ours clean was_open)) new c.empty_file.ensures.honest c.empty_file.ensures.spared ours none
+
+pub returns-in-Ok-clause-durable : goal.returns-in-Ok-clause-durable
+returns-in-Ok-clause-durable g c clean s keeps =
+    let end = state g.S.Store c.empty_file.new.conn in
+    left_alone (λ k. state g.S.Store k.conn) _ s keeps.sound clean (c.in-Ok.ensures.opened clean).1
+    (leaves_kept end s (c.in-Ok.ensures.opened clean).0 (λ db. g.met.S.Store.settled c.empty_file.new.conn.store db (c.in-Ok.ensures.opened clean).0) keeps.means)
+
+pub returns-in-Err-empty_file-clause-crash : goal.returns-in-Err-empty_file-clause-crash
+returns-in-Err-empty_file-clause-crash g c s is =
+    let old = state g.S.Store c.args.conn in
+    let mid = state g.S.Store c.find_either.new.conn in
+    let new = state g.S.Store c.empty_file.new.conn in
+    elim is [
+      | inl first ↦ λ clean. absurd (not_second old mid c.in-Ok-Second.ensures.rest (λ clean. c.in-Ok-Second.ensures.opened clean (second_is_whole c.in-Ok-Second.field-0-is))
+          (λ ours clean was_open. subst (λ f. IsEither f old.now) c.in-Ok-Second.field-0-is (c.in-Ok-Second.ensures.found ours clean was_open)) s first (c.empty_file.ensures.honest clean))
+      | inr second ↦ failed old mid c.in-Ok-Second.ensures.rest (λ clean. c.in-Ok-Second.ensures.opened clean (second_is_whole c.in-Ok-Second.field-0-is)) c.in-Ok-Second.ensures.at_rest
+          (λ ours clean was_open. subst (λ f. IsEither f old.now) c.in-Ok-Second.field-0-is (c.in-Ok-Second.ensures.found ours clean was_open)) new c.empty_file.ensures.honest c.empty_file.ensures.crash s second
+    ]
+
+pub returns-in-Err-empty_file-clause-others : goal.returns-in-Err-empty_file-clause-others
+returns-in-Err-empty_file-clause-others g c ours none =
+    let old = state g.S.Store c.args.conn in
+    let mid = state g.S.Store c.find_either.new.conn in
+    let new = state g.S.Store c.empty_file.new.conn in
+    others old mid c.in-Ok-Second.ensures.rest (λ clean. c.in-Ok-Second.ensures.opened clean (second_is_whole c.in-Ok-Second.field-0-is)) c.in-Ok-Second.ensures.at_rest
+    (λ ours clean was_open. subst (λ f. IsEither f old.now) c.in-Ok-Second.field-0-is (c.in-Ok-Second.ensures.found ours clean was_open)) new c.empty_file.ensures.honest ours (λ s keeps. none s (inr keeps))
+
+pub returns-in-Err-empty_file-clause-untouched : goal.returns-in-Err-empty_file-clause-untouched
+returns-in-Err-empty_file-clause-untouched g c other not_named =
+    let old = state g.S.Store c.args.conn in
+    let mid = state g.S.Store c.find_either.new.conn in
+    let new = state g.S.Store c.empty_file.new.conn in
+    untouched_never old mid c.in-Ok-Second.ensures.rest new c.empty_file.ensures.honest (λ clean. not_named (subst (λ f. HasNamesOf f old.now.schema) c.in-Ok-Second.field-0-is (c.in-Ok-Second.ensures.named clean)))
+
+-- ---- one of version 1
+
+pub returns-in-Ok-upgrade_file-clause-means : goal.returns-in-Ok-upgrade_file-clause-means
+returns-in-Ok-upgrade_file-clause-means g c s is =
+    let old = state g.S.Store c.args.conn in
+    let mid = state g.S.Store c.find_either.new.conn in
     let end = state g.S.Store c.upgrade_file.new.conn in
     elim is [
-      | inl first ↦ record { means = c.in-Ok.ensures.made s (first_means old mid c.in-Ok-First.ensures.rest s first); sound = first.sound }
+      | inl first ↦ record { means = c.in-Ok-upgrade_file.ensures.made s (first_means old mid c.in-Ok-First.ensures.rest s first); sound = first.sound }
       | inr second ↦ record {
         means = λ clean. absurd (not_first old mid c.in-Ok-First.ensures.rest (λ clean. c.in-Ok-First.ensures.opened clean (first_is_whole c.in-Ok-First.field-0-is))
             (λ ours clean was_open. subst (λ f. IsEither f old.now) c.in-Ok-First.field-0-is (c.in-Ok-First.ensures.found ours clean was_open)) s second (c.upgrade_file.ensures.honest clean));
@@ -38,27 +101,31 @@ returns-in-Ok-clause-means g c s is =
       }
     ]
 
-pub returns-in-Ok-clause-accepts : goal.returns-in-Ok-clause-accepts
-returns-in-Ok-clause-accepts g c ours clean =
+pub returns-in-Ok-upgrade_file-clause-accepts : goal.returns-in-Ok-upgrade_file-clause-accepts
+returns-in-Ok-upgrade_file-clause-accepts g c ours clean =
     let old = state g.S.Store c.args.conn in
     let mid = state g.S.Store c.find_either.new.conn in
     let found = first_found old mid c.in-Ok-First.ensures.rest (λ clean. c.in-Ok-First.ensures.opened clean (first_is_whole c.in-Ok-First.field-0-is)) c.in-Ok-First.ensures.at_rest
     (λ ours clean was_open. subst (λ f. IsEither f old.now) c.in-Ok-First.field-0-is (c.in-Ok-First.ensures.found ours clean was_open)) ours (c.upgrade_file.ensures.honest clean) in
-    (found.0, inl found.1, record { means = c.in-Ok.ensures.made found.0 found.2; sound = found.1.sound })
+    (found.0, inl found.1, record { means = c.in-Ok-upgrade_file.ensures.made found.0 found.2; sound = found.1.sound })
 
-pub returns-in-Ok-clause-durable : goal.returns-in-Ok-clause-durable
-returns-in-Ok-clause-durable g c clean s keeps =
+pub returns-in-Ok-upgrade_file-clause-durable : goal.returns-in-Ok-upgrade_file-clause-durable
+returns-in-Ok-upgrade_file-clause-durable g c clean s keeps =
     let end = state g.S.Store c.upgrade_file.new.conn in
-    let is_open : IsTrue end.is_open = (c.in-Ok.ensures.opened clean).0 in
-    left_alone (λ k. state g.S.Store k.conn) (record { conn = c.upgrade_file.new.conn; faults = 0; alloc = c.args.alloc }) s keeps.sound clean (c.in-Ok.ensures.opened clean).1
+    let is_open : IsTrue end.is_open = (c.in-Ok-upgrade_file.ensures.opened clean).0 in
+    left_alone (λ k. state g.S.Store k.conn) _ s keeps.sound clean (c.in-Ok-upgrade_file.ensures.opened clean).1
     (leaves_kept end s is_open (λ db. g.met.S.Store.settled c.upgrade_file.new.conn.store db is_open) keeps.means)
 
 pub returns-in-Err-upgrade_file-clause-crash : goal.returns-in-Err-upgrade_file-clause-crash
-returns-in-Err-upgrade_file-clause-crash g c s first =
+returns-in-Err-upgrade_file-clause-crash g c s is =
     let old = state g.S.Store c.args.conn in
     let mid = state g.S.Store c.find_either.new.conn in
     let end = state g.S.Store c.upgrade_file.new.conn in
-    adds_still old mid c.in-Ok-First.ensures.rest end c.upgrade_file.ensures.honest s (c.in-Err-upgrade_file.ensures.crash s (first_means old mid c.in-Ok-First.ensures.rest s first))
+    elim is [
+      | inl first ↦ adds_still old mid c.in-Ok-First.ensures.rest end c.upgrade_file.ensures.honest s (c.in-Err-upgrade_file.ensures.crash s (first_means old mid c.in-Ok-First.ensures.rest s first))
+      | inr second ↦ λ clean. absurd (not_first old mid c.in-Ok-First.ensures.rest (λ clean. c.in-Ok-First.ensures.opened clean (first_is_whole c.in-Ok-First.field-0-is))
+          (λ ours clean was_open. subst (λ f. IsEither f old.now) c.in-Ok-First.field-0-is (c.in-Ok-First.ensures.found ours clean was_open)) s second (c.upgrade_file.ensures.honest clean))
+    ]
 
 pub returns-in-Err-upgrade_file-clause-others : goal.returns-in-Err-upgrade_file-clause-others
 returns-in-Err-upgrade_file-clause-others g c ours none =
@@ -70,25 +137,53 @@ returns-in-Err-upgrade_file-clause-others g c ours none =
     (λ ours clean was_open. subst (λ f. IsEither f old.now) c.in-Ok-First.field-0-is (c.in-Ok-First.ensures.found ours clean was_open)) ours clean in
     none found.0 (inl found.1))
 
+pub returns-in-Ok-upgrade_file-clause-emptied : goal.returns-in-Ok-upgrade_file-clause-emptied
+returns-in-Ok-upgrade_file-clause-emptied g c ours clean =
+    let old = state g.S.Store c.args.conn in
+    let mid = state g.S.Store c.find_either.new.conn in
+    let found = first_found old mid c.in-Ok-First.ensures.rest (λ clean. c.in-Ok-First.ensures.opened clean (first_is_whole c.in-Ok-First.field-0-is)) c.in-Ok-First.ensures.at_rest
+    (λ ours clean was_open. subst (λ f. IsEither f old.now) c.in-Ok-First.field-0-is (c.in-Ok-First.ensures.found ours clean was_open)) ours (c.upgrade_file.ensures.honest clean) in
+    c.in-Ok-upgrade_file.ensures.unstaged found.0 found.2 clean (c.in-Ok-upgrade_file.ensures.opened clean).0
+
 -- ---- the tables by their names
 
-pub returns-in-Ok-Second-clause-named : goal.returns-in-Ok-Second-clause-named
-returns-in-Ok-Second-clause-named g c clean = inr (subst (λ f. HasNamesOf f (state g.S.Store c.args.conn).now.schema) c.in-Ok-Second.field-0-is (c.in-Ok-Second.ensures.named clean))
-
 pub returns-in-Ok-clause-named : goal.returns-in-Ok-clause-named
-returns-in-Ok-clause-named g c clean = inl (subst (λ f. HasNamesOf f (state g.S.Store c.args.conn).now.schema) c.in-Ok-First.field-0-is (c.in-Ok-First.ensures.named (c.upgrade_file.ensures.honest clean)))
+returns-in-Ok-clause-named g c clean = inr (subst (λ f. HasNamesOf f (state g.S.Store c.args.conn).now.schema) c.in-Ok-Second.field-0-is (c.in-Ok-Second.ensures.named (c.empty_file.ensures.honest clean)))
+
+pub returns-in-Ok-upgrade_file-clause-named : goal.returns-in-Ok-upgrade_file-clause-named
+returns-in-Ok-upgrade_file-clause-named g c clean = inl (subst (λ f. HasNamesOf f (state g.S.Store c.args.conn).now.schema) c.in-Ok-First.field-0-is (c.in-Ok-First.ensures.named (c.upgrade_file.ensures.honest clean)))
 
 -- ---- a file that has other tables than those of version 1
 
-pub returns-in-Ok-clause-same : goal.returns-in-Ok-clause-same
-returns-in-Ok-clause-same g c other =
+pub returns-in-Ok-upgrade_file-clause-same : goal.returns-in-Ok-upgrade_file-clause-same
+returns-in-Ok-upgrade_file-clause-same g c ours other clean = absurd (other (subst (λ f. HasNamesOf f (state g.S.Store c.args.conn).now.schema) c.in-Ok-First.field-0-is (c.in-Ok-First.ensures.named (c.upgrade_file.ensures.honest clean))))
+
+pub returns-in-Ok-upgrade_file-clause-spared : goal.returns-in-Ok-upgrade_file-clause-spared
+returns-in-Ok-upgrade_file-clause-spared g c ours none other =
     let old = state g.S.Store c.args.conn in
     let mid = state g.S.Store c.find_either.new.conn in
     let end = state g.S.Store c.upgrade_file.new.conn in
     untouched_never old mid c.in-Ok-First.ensures.rest end c.upgrade_file.ensures.honest (λ clean. other (subst (λ f. HasNamesOf f old.now.schema) c.in-Ok-First.field-0-is (c.in-Ok-First.ensures.named clean)))
 
 pub returns-in-Err-upgrade_file-clause-untouched : goal.returns-in-Err-upgrade_file-clause-untouched
-returns-in-Err-upgrade_file-clause-untouched g c other =
+returns-in-Err-upgrade_file-clause-untouched g c other not_second =
+    let old = state g.S.Store c.args.conn in
+    let mid = state g.S.Store c.find_either.new.conn in
+    let end = state g.S.Store c.upgrade_file.new.conn in
+    untouched_never old mid c.in-Ok-First.ensures.rest end c.upgrade_file.ensures.honest (λ clean. other (subst (λ f. HasNamesOf f old.now.schema) c.in-Ok-First.field-0-is (c.in-Ok-First.ensures.named clean)))
+
+-- ---- what is left of a file of version 2 with nothing staged
+
+pub returns-in-Err-empty_file-clause-idle : goal.returns-in-Err-empty_file-clause-idle
+returns-in-Err-empty_file-clause-idle g c ours none other =
+    let old = state g.S.Store c.args.conn in
+    let mid = state g.S.Store c.find_either.new.conn in
+    let new = state g.S.Store c.empty_file.new.conn in
+    spared old mid c.in-Ok-Second.ensures.rest (λ clean. c.in-Ok-Second.ensures.opened clean (second_is_whole c.in-Ok-Second.field-0-is)) c.in-Ok-Second.ensures.at_rest
+    (λ ours clean was_open. subst (λ f. IsEither f old.now) c.in-Ok-Second.field-0-is (c.in-Ok-Second.ensures.found ours clean was_open)) new c.empty_file.ensures.honest c.empty_file.ensures.spared ours none
+
+pub returns-in-Err-upgrade_file-clause-idle : goal.returns-in-Err-upgrade_file-clause-idle
+returns-in-Err-upgrade_file-clause-idle g c ours none other =
     let old = state g.S.Store c.args.conn in
     let mid = state g.S.Store c.find_either.new.conn in
     let end = state g.S.Store c.upgrade_file.new.conn in

@@ -1,29 +1,96 @@
-use Rattle.std.proofs.Common.{IsTrue, subst}
+use Rattle.std.proofs.Common.{subst}
 use Rattle.sqlite.specs.Held.{state}
 use Rattle.sqltables.specs.Schema.{v2}
 use Rattle.sqlaudit.specs.Opened.{IsFound}
-use Rattle.sqlkeeper.proofs.AtRest.{sound_is_whole, keeps_found, keeps_same, leaves_kept}
+use Rattle.sqlkeeper.proofs.AtRest.{sound_is_whole, leaves_kept}
+use Rattle.sqlkeeper.proofs.Reopened.{accepted, crashes, emptied, failed, means_still, others, spared}
 use Rattle.sqlkeeper.proofs.Stays.{left_alone}
 use Rattle.sqlkeeper.proofs.file_keeper.SqlKeeper.open.Goals as goal
 
-pub returns-in-Ok-Sound-clause-accepts : goal.returns-in-Ok-Sound-clause-accepts
-returns-in-Ok-Sound-clause-accepts g c ours clean =
+-- ---- a sound file, whose table `staged` was emptied
+
+pub returns-in-Ok-clause-accepts : goal.returns-in-Ok-clause-accepts
+returns-in-Ok-clause-accepts g c ours clean =
     let old = state g.S.Store c.args.conn in
-    let end = state g.S.Store c.find.new.conn in
-    let looks = c.in-Ok-Sound.ensures.rest.same clean in
-    let is_open : IsTrue end.is_open = c.in-Ok-Sound.ensures.opened clean (sound_is_whole c.in-Ok-Sound.field-0-is) in
-    keeps_found old end is_open looks (c.in-Ok-Sound.ensures.at_rest clean) (subst (λ f. IsFound v2 f old.now) c.in-Ok-Sound.field-0-is (c.in-Ok-Sound.ensures.found ours clean (looks.was_open is_open)))
+    let mid = state g.S.Store c.find.new.conn in
+    let new = state g.S.Store c.empty_file.new.conn in
+    let it = accepted old mid c.in-Ok-Sound.ensures.rest (λ clean. c.in-Ok-Sound.ensures.opened clean (sound_is_whole c.in-Ok-Sound.field-0-is)) c.in-Ok-Sound.ensures.at_rest
+    (λ ours clean was_open. subst (λ f. IsFound v2 f old.now) c.in-Ok-Sound.field-0-is (c.in-Ok-Sound.ensures.found ours clean was_open)) new c.empty_file.ensures.honest c.in-Ok.ensures.made ours clean in
+    (it.0, it.2)
 
-pub returns-in-Ok-Sound-clause-durable : goal.returns-in-Ok-Sound-clause-durable
-returns-in-Ok-Sound-clause-durable g c clean s keeps =
-    let end = state g.S.Store c.find.new.conn in
-    let is_open : IsTrue end.is_open = c.in-Ok-Sound.ensures.opened clean (sound_is_whole c.in-Ok-Sound.field-0-is) in
-    left_alone (λ k. state g.S.Store k.conn) (record { conn = c.find.new.conn; faults = 0; alloc = c.args.alloc }) s keeps.sound clean (g.met.S.Store.stays c.find.new.conn.store is_open)
-    (leaves_kept end s is_open (λ db. g.met.S.Store.settled c.find.new.conn.store db is_open) keeps.means)
+pub returns-in-Ok-clause-means : goal.returns-in-Ok-clause-means
+returns-in-Ok-clause-means g c =
+    let old = state g.S.Store c.args.conn in
+    let mid = state g.S.Store c.find.new.conn in
+    let new = state g.S.Store c.empty_file.new.conn in
+    means_still old mid c.in-Ok-Sound.ensures.rest (λ clean. c.in-Ok-Sound.ensures.opened clean (sound_is_whole c.in-Ok-Sound.field-0-is)) c.in-Ok-Sound.ensures.at_rest
+    (λ ours clean was_open. subst (λ f. IsFound v2 f old.now) c.in-Ok-Sound.field-0-is (c.in-Ok-Sound.ensures.found ours clean was_open)) new c.empty_file.ensures.honest c.in-Ok.ensures.made
 
-pub returns-in-Ok-Sound-clause-means : goal.returns-in-Ok-Sound-clause-means
-returns-in-Ok-Sound-clause-means g c = keeps_same (state g.S.Store c.args.conn) (state g.S.Store c.find.new.conn) c.in-Ok-Sound.ensures.rest.honest c.in-Ok-Sound.ensures.rest.same
+pub returns-in-Ok-clause-same : goal.returns-in-Ok-clause-same
+returns-in-Ok-clause-same g c =
+    let old = state g.S.Store c.args.conn in
+    let mid = state g.S.Store c.find.new.conn in
+    let new = state g.S.Store c.empty_file.new.conn in
+    emptied old mid c.in-Ok-Sound.ensures.rest (λ clean. c.in-Ok-Sound.ensures.opened clean (sound_is_whole c.in-Ok-Sound.field-0-is)) c.in-Ok-Sound.ensures.at_rest
+    (λ ours clean was_open. subst (λ f. IsFound v2 f old.now) c.in-Ok-Sound.field-0-is (c.in-Ok-Sound.ensures.found ours clean was_open)) new c.empty_file.ensures.honest c.in-Ok.ensures.emptied
+
+pub returns-in-Ok-clause-emptied : goal.returns-in-Ok-clause-emptied
+returns-in-Ok-clause-emptied g c ours clean = ((returns-in-Ok-clause-same g c ours clean).now_is (c.in-Ok.ensures.opened clean).0).none
+
+pub returns-in-Ok-clause-spared : goal.returns-in-Ok-clause-spared
+returns-in-Ok-clause-spared g c =
+    let old = state g.S.Store c.args.conn in
+    let mid = state g.S.Store c.find.new.conn in
+    let new = state g.S.Store c.empty_file.new.conn in
+    spared old mid c.in-Ok-Sound.ensures.rest (λ clean. c.in-Ok-Sound.ensures.opened clean (sound_is_whole c.in-Ok-Sound.field-0-is)) c.in-Ok-Sound.ensures.at_rest
+    (λ ours clean was_open. subst (λ f. IsFound v2 f old.now) c.in-Ok-Sound.field-0-is (c.in-Ok-Sound.ensures.found ours clean was_open)) new c.empty_file.ensures.honest c.empty_file.ensures.spared
+
+pub returns-in-Ok-clause-crash : goal.returns-in-Ok-clause-crash
+returns-in-Ok-clause-crash g c ours =
+    let old = state g.S.Store c.args.conn in
+    let mid = state g.S.Store c.find.new.conn in
+    let new = state g.S.Store c.empty_file.new.conn in
+    crashes old mid c.in-Ok-Sound.ensures.rest (λ clean. c.in-Ok-Sound.ensures.opened clean (sound_is_whole c.in-Ok-Sound.field-0-is)) c.in-Ok-Sound.ensures.at_rest
+    (λ ours clean was_open. subst (λ f. IsFound v2 f old.now) c.in-Ok-Sound.field-0-is (c.in-Ok-Sound.ensures.found ours clean was_open)) new c.empty_file.ensures.honest c.in-Ok.ensures.made
+    c.empty_file.ensures.crash (λ clean. (c.in-Ok.ensures.opened clean).0) ours
+
+pub returns-in-Ok-clause-durable : goal.returns-in-Ok-clause-durable
+returns-in-Ok-clause-durable g c clean s keeps =
+    let end = state g.S.Store c.empty_file.new.conn in
+    left_alone (λ k. state g.S.Store k.conn) _ s keeps.sound clean (c.in-Ok.ensures.opened clean).1
+    (leaves_kept end s (c.in-Ok.ensures.opened clean).0 (λ db. g.met.S.Store.settled c.empty_file.new.conn.store db (c.in-Ok.ensures.opened clean).0) keeps.means)
+
+-- ---- one whose table `staged` could not be emptied
+
+pub returns-in-Err-empty_file-clause-failed : goal.returns-in-Err-empty_file-clause-failed
+returns-in-Err-empty_file-clause-failed g c =
+    let old = state g.S.Store c.args.conn in
+    let mid = state g.S.Store c.find.new.conn in
+    let new = state g.S.Store c.empty_file.new.conn in
+    failed old mid c.in-Ok-Sound.ensures.rest (λ clean. c.in-Ok-Sound.ensures.opened clean (sound_is_whole c.in-Ok-Sound.field-0-is)) c.in-Ok-Sound.ensures.at_rest
+    (λ ours clean was_open. subst (λ f. IsFound v2 f old.now) c.in-Ok-Sound.field-0-is (c.in-Ok-Sound.ensures.found ours clean was_open)) new c.empty_file.ensures.honest c.empty_file.ensures.crash
+
+pub returns-in-Err-empty_file-clause-others : goal.returns-in-Err-empty_file-clause-others
+returns-in-Err-empty_file-clause-others g c =
+    let old = state g.S.Store c.args.conn in
+    let mid = state g.S.Store c.find.new.conn in
+    let new = state g.S.Store c.empty_file.new.conn in
+    others old mid c.in-Ok-Sound.ensures.rest (λ clean. c.in-Ok-Sound.ensures.opened clean (sound_is_whole c.in-Ok-Sound.field-0-is)) c.in-Ok-Sound.ensures.at_rest
+    (λ ours clean was_open. subst (λ f. IsFound v2 f old.now) c.in-Ok-Sound.field-0-is (c.in-Ok-Sound.ensures.found ours clean was_open)) new c.empty_file.ensures.honest
+
+pub returns-in-Err-empty_file-clause-untouched : goal.returns-in-Err-empty_file-clause-untouched
+returns-in-Err-empty_file-clause-untouched g c other = absurd (other (c.in-Ok-Sound.ensures.named c.in-Ok-Sound.field-0-is))
+
+-- ---- one that is refused
 
 pub returns-in-Ok-OtherVersion-clause-version : goal.returns-in-Ok-OtherVersion-clause-version
 returns-in-Ok-OtherVersion-clause-version g c ours told clean was_open =
     subst (λ f. IsFound v2 f (state g.S.Store c.args.conn).now) c.in-Ok-OtherVersion.field-0-is (c.in-Ok-OtherVersion.ensures.found ours clean was_open)
+
+pub returns-in-Err-empty_file-clause-idle : goal.returns-in-Err-empty_file-clause-idle
+returns-in-Err-empty_file-clause-idle g c =
+    let old = state g.S.Store c.args.conn in
+    let mid = state g.S.Store c.find.new.conn in
+    let new = state g.S.Store c.empty_file.new.conn in
+    spared old mid c.in-Ok-Sound.ensures.rest (λ clean. c.in-Ok-Sound.ensures.opened clean (sound_is_whole c.in-Ok-Sound.field-0-is)) c.in-Ok-Sound.ensures.at_rest
+    (λ ours clean was_open. subst (λ f. IsFound v2 f old.now) c.in-Ok-Sound.field-0-is (c.in-Ok-Sound.ensures.found ours clean was_open)) new c.empty_file.ensures.honest c.empty_file.ensures.spared

@@ -14,4 +14,4 @@ returns-in_default-from_utf8-clause-value g c s keeps sound clean =
 
 pub returns-clause-rest : goal.returns-clause-rest
 returns-clause-rest g c =
-    stays (λ k. state g.S.Store k.conn) (λ k. k.faults) c.args.self.now (record { conn = c.file.new.conn; faults = c.counted.new.faults; alloc = c.args.self.now.alloc }) c.file.result c.counted.result c.counted.ensures.value c.file.ensures.rest c.counted.ensures.count c.counted.ensures.room
+    stays (λ k. state g.S.Store k.conn) (λ k. k.faults) c.args.self.now (record { conn = c.file.new.conn; staged = c.args.self.now.staged; faults = c.counted.new.faults; alloc = c.args.self.now.alloc }) c.file.result c.counted.result c.counted.ensures.value c.file.ensures.rest c.counted.ensures.count c.counted.ensures.room

@@ -17,4 +17,4 @@ returns-clause-value g c s keeps sound clean =
 
 pub returns-clause-rest : goal.returns-clause-rest
 returns-clause-rest g c =
-    stays (λ k. state g.S.Store k.conn) (λ k. k.faults) c.args.self.now (record { conn = c.has_limit.new.conn; faults = c.counted.new.faults; alloc = c.args.self.now.alloc }) c.has_limit.result c.counted.result c.counted.ensures.value c.has_limit.ensures.rest c.counted.ensures.count c.counted.ensures.room
+    stays (λ k. state g.S.Store k.conn) (λ k. k.faults) c.args.self.now (record { conn = c.has_limit.new.conn; staged = c.args.self.now.staged; faults = c.counted.new.faults; alloc = c.args.self.now.alloc }) c.has_limit.result c.counted.result c.counted.ensures.value c.has_limit.ensures.rest c.counted.ensures.count c.counted.ensures.room

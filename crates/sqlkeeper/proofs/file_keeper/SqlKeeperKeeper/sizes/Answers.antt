@@ -10,4 +10,4 @@ returns-in_default-clause-value g c s keeps sound clean = nothing_found s c.args
 
 pub returns-clause-rest : goal.returns-clause-rest
 returns-clause-rest g c =
-    stays (λ k. state g.S.Store k.conn) (λ k. k.faults) c.args.self.now (record { conn = c.totals.new.conn; faults = c.counted.new.faults; alloc = c.args.self.now.alloc }) c.totals.result c.counted.result c.counted.ensures.value c.totals.ensures.rest c.counted.ensures.count c.counted.ensures.room
+    stays (λ k. state g.S.Store k.conn) (λ k. k.faults) c.args.self.now (record { conn = c.totals.new.conn; staged = c.args.self.now.staged; faults = c.counted.new.faults; alloc = c.args.self.now.alloc }) c.totals.result c.counted.result c.counted.ensures.value c.totals.ensures.rest c.counted.ensures.count c.counted.ensures.room

@@ -1,0 +1,111 @@
+use Rattle.std.proofs.Common.{◌≡◌, ℕ, refl, subst}
+use Rattle.std.specs.Prelude.{OnErr}
+use Rattle.sigtext.specs.Counts.{Rose}
+use Rattle.office.specs.Connections.{MayGiveUp}
+use Rattle.office.specs.Premise.{IsFault}
+use Rattle.office.specs.declared.connections.handling.Handled.TheVariants as handled
+use Rattle.office.specs.declared.requests.foreseeing.Body.{Body}
+use Rattle.office.specs.declared.connections.receiving.Received.TheVariants as received
+use Rattle.office.proofs.BodySteps.{broken_off_step, came_whole, given_up_step, lacking_step, whole_step}
+use Rattle.office.proofs.KeeperCalls.{Quiet, quiet_both, quiet_less, quiet_then, unstaged_after}
+use Rattle.office.proofs.Holding.{holds_less, holds_then}
+use Rattle.office.proofs.SessionSteps.{before_quiet}
+use Rattle.office.proofs.Unstaged.{broke_off_holds, may_later}
+use Rattle.office.proofs.office.Office.serve_body.Goals as goal
+
+pub returns-in-Answered-clause-steps : goal.returns-in-Answered-clause-steps
+returns-in-Answered-clause-steps g c s p known kept x =
+    let r = c.in-Whole.ensures in
+    let took = c.receive.new in
+    let quiet : Quiet g.K.Keeper c.args.self.now.keeper took.self.keeper (received.Whole c.in-Whole.digest ≡ received.GaveUp) = record { means = r.means; crash = r.crash; rest = r.rest } in
+    let told : Body = record { length = c.args.size; digest = c.in-Whole.digest } in
+    whole_step g.R.Read.remaining c.args.size c.args.feed.now took.feed g.C.Clock.now_gives p known (g.W.Write.contents c.args.writer.now.inner) (g.W.Write.contents c.serve_message.new.writer.inner)
+    c.args.clock.now c.serve_message.new.clock g.K.Keeper c.args.self.now.keeper took.self.keeper c.serve_message.new.self.keeper s c.args.foreseen c.args.to_head x handled.Answered told
+    (came_whole g.R.Read.remaining c.args.size c.args.feed.now took.feed g.K.Keeper took.self.keeper c.args.foreseen c.is_upload-upload.result told x.opening.opens.small c.is_upload-upload.ensures
+    (r.whole c.in-Whole.digest refl) (λ up. r.staged up c.in-Whole.digest refl) refl)
+    (before_quiet g.K.Keeper c.args.self.now.keeper took.self.keeper s (received.Whole c.in-Whole.digest ≡ received.GaveUp) quiet (λ e. absurd cc) kept.means (c.in-Answered.ensures.rest.honest kept.is_honest))
+    (λ request foresees tells head staged. c.in-Answered.ensures.handled s request (record { means = r.means s kept.means; is_honest = kept.is_honest; sound = kept.sound }) foresees tells head staged)
+
+pub returns-in-GaveUp-serve_message-clause-steps : goal.returns-in-GaveUp-serve_message-clause-steps
+returns-in-GaveUp-serve_message-clause-steps g c s p known kept x =
+    let r = c.in-Whole.ensures in
+    let took = c.receive.new in
+    let quiet : Quiet g.K.Keeper c.args.self.now.keeper took.self.keeper (received.Whole c.in-Whole.digest ≡ received.GaveUp) = record { means = r.means; crash = r.crash; rest = r.rest } in
+    let told : Body = record { length = c.args.size; digest = c.in-Whole.digest } in
+    whole_step g.R.Read.remaining c.args.size c.args.feed.now took.feed g.C.Clock.now_gives p known (g.W.Write.contents c.args.writer.now.inner) (g.W.Write.contents c.serve_message.new.writer.inner)
+    c.args.clock.now c.serve_message.new.clock g.K.Keeper c.args.self.now.keeper took.self.keeper c.serve_message.new.self.keeper s c.args.foreseen c.args.to_head x handled.GaveUp told
+    (came_whole g.R.Read.remaining c.args.size c.args.feed.now took.feed g.K.Keeper took.self.keeper c.args.foreseen c.is_upload-upload.result told x.opening.opens.small c.is_upload-upload.ensures
+    (r.whole c.in-Whole.digest refl) (λ up. r.staged up c.in-Whole.digest refl) refl)
+    (before_quiet g.K.Keeper c.args.self.now.keeper took.self.keeper s (received.Whole c.in-Whole.digest ≡ received.GaveUp) quiet (λ e. absurd cc) kept.means (c.in-GaveUp-serve_message.ensures.rest.honest kept.is_honest))
+    (λ request foresees tells head staged. c.in-GaveUp-serve_message.ensures.handled s request (record { means = r.means s kept.means; is_honest = kept.is_honest; sound = kept.sound }) foresees tells head staged)
+
+pub returns-in-Broken-serve_message-clause-steps : goal.returns-in-Broken-serve_message-clause-steps
+returns-in-Broken-serve_message-clause-steps g c s p known kept x =
+    let r = c.in-Whole.ensures in
+    let took = c.receive.new in
+    let quiet : Quiet g.K.Keeper c.args.self.now.keeper took.self.keeper (received.Whole c.in-Whole.digest ≡ received.GaveUp) = record { means = r.means; crash = r.crash; rest = r.rest } in
+    let told : Body = record { length = c.args.size; digest = c.in-Whole.digest } in
+    whole_step g.R.Read.remaining c.args.size c.args.feed.now took.feed g.C.Clock.now_gives p known (g.W.Write.contents c.args.writer.now.inner) (g.W.Write.contents c.serve_message.new.writer.inner)
+    c.args.clock.now c.serve_message.new.clock g.K.Keeper c.args.self.now.keeper took.self.keeper c.serve_message.new.self.keeper s c.args.foreseen c.args.to_head x handled.Broken told
+    (came_whole g.R.Read.remaining c.args.size c.args.feed.now took.feed g.K.Keeper took.self.keeper c.args.foreseen c.is_upload-upload.result told x.opening.opens.small c.is_upload-upload.ensures
+    (r.whole c.in-Whole.digest refl) (λ up. r.staged up c.in-Whole.digest refl) refl)
+    (before_quiet g.K.Keeper c.args.self.now.keeper took.self.keeper s (received.Whole c.in-Whole.digest ≡ received.GaveUp) quiet (λ e. absurd cc) kept.means (c.in-Broken-serve_message.ensures.rest.honest kept.is_honest))
+    (λ request foresees tells head staged. c.in-Broken-serve_message.ensures.handled s request (record { means = r.means s kept.means; is_honest = kept.is_honest; sound = kept.sound }) foresees tells head staged)
+
+pub returns-in-Lacking-clause-steps : goal.returns-in-Lacking-clause-steps
+returns-in-Lacking-clause-steps g c s p known kept x =
+    let r = c.in-Lacking.ensures in
+    let took = c.receive.new in
+    let left_off = c.close_lacking.ensures in
+    let first : Quiet g.K.Keeper c.args.self.now.keeper took.self.keeper (received.Lacking ≡ received.GaveUp) = record { means = r.means; crash = r.crash; rest = r.rest } in
+    let second : Quiet g.K.Keeper took.self.keeper c.close_lacking.new.self.keeper (MayGiveUp g.K.Keeper took.self.keeper c.close_lacking.new.self.keeper c.close_lacking.result) = record { means = left_off.means; crash = left_off.crash; rest = left_off.rest } in
+    lacking_step g.R.Read.remaining c.args.size c.args.feed.now took.feed g.C.Clock.now_gives p known (g.W.Write.contents c.args.writer.now.inner) (g.W.Write.contents c.close_lacking.new.writer.inner)
+    c.args.clock.now g.K.Keeper c.args.self.now.keeper c.close_lacking.new.self.keeper s c.args.foreseen c.args.to_head x c.close_lacking.result took.self.keeper c.is_upload-upload.result
+    (quiet_less (λ e. absurd cc) first) second kept (r.lacking refl) c.is_upload-upload.ensures.0 left_off.closed
+
+pub returns-in-Lacking-clause-unstaged : goal.returns-in-Lacking-clause-unstaged
+returns-in-Lacking-clause-unstaged g c =
+    let r = c.in-Lacking.ensures in
+    unstaged_after g.K.Keeper c.args.self.now.keeper c.receive.new.self.keeper c.close_lacking.new.self.keeper c.is_upload-upload.result (r.rest.counted (λ e. absurd cc)) r.passed c.close_lacking.ensures.ends c.close_lacking.ensures.stays
+
+pub returns-in-Broken-clause-steps : goal.returns-in-Broken-clause-steps
+returns-in-Broken-clause-steps g c s p known kept x =
+    let r = c.in-Broken.ensures in
+    let took = c.receive.new in
+    let dropped = c.drop_staged.ensures in
+    let first : Quiet g.K.Keeper c.args.self.now.keeper took.self.keeper (received.Broken ≡ received.GaveUp) = record { means = r.means; crash = r.crash; rest = r.rest } in
+    let second : Quiet g.K.Keeper took.self.keeper c.drop_staged.new.self.keeper (IsFault c.drop_staged.result) = record { means = dropped.means; crash = dropped.crash; rest = dropped.rest } in
+    let broke = r.broken refl in
+    broken_off_step g.R.Read.remaining c.args.size c.args.feed.now took.feed g.C.Clock.now_gives p known (g.W.Write.contents c.args.writer.now.inner) c.args.clock.now
+    g.K.Keeper c.args.self.now.keeper c.drop_staged.new.self.keeper s c.args.foreseen c.args.to_head x c.drop_staged.result c.is_upload-upload.result broke.0
+    (quiet_then (quiet_less (λ e. absurd cc) first) second)
+    (subst (λ (n : ℕ). OnErr c.drop_staged.result (Rose n (g.K.Keeper.faults c.drop_staged.new.self.keeper))) (r.rest.counted (λ e. absurd cc)) dropped.counts)
+    kept dropped.asked c.is_upload-upload.ensures.0 broke.1 broke.2
+
+pub returns-in-Broken-clause-unstaged : goal.returns-in-Broken-clause-unstaged
+returns-in-Broken-clause-unstaged g c =
+    let r = c.in-Broken.ensures in
+    unstaged_after g.K.Keeper c.args.self.now.keeper c.receive.new.self.keeper c.drop_staged.new.self.keeper c.is_upload-upload.result (r.rest.counted (λ e. absurd cc)) r.passed c.drop_staged.ensures.ends c.drop_staged.ensures.stays
+
+pub returns-in-GaveUp-clause-steps : goal.returns-in-GaveUp-clause-steps
+returns-in-GaveUp-clause-steps g c s p known kept x =
+    let r = c.in-GaveUp.ensures in
+    let took = c.receive.new in
+    let dropped = c.drop_staged-in-GaveUp.ensures in
+    let first : Quiet g.K.Keeper c.args.self.now.keeper took.self.keeper (received.GaveUp ≡ received.GaveUp) = record { means = r.means; crash = r.crash; rest = r.rest } in
+    let second : Quiet g.K.Keeper took.self.keeper c.drop_staged-in-GaveUp.new.self.keeper (IsFault c.drop_staged-in-GaveUp.result) = record { means = dropped.means; crash = dropped.crash; rest = dropped.rest } in
+    let gave_up = r.gave_up refl in
+    given_up_step g.R.Read.remaining c.args.size c.args.feed.now took.feed g.C.Clock.now_gives p known (g.W.Write.contents c.args.writer.now.inner) (g.W.Write.contents c.close.new.writer.inner)
+    c.args.clock.now g.K.Keeper c.args.self.now.keeper c.drop_staged-in-GaveUp.new.self.keeper s c.args.foreseen c.args.to_head x c.close.result gave_up.0 _
+    (quiet_both first second) kept gave_up.1 (c.is_upload-upload.ensures.0 gave_up.2) c.close.ensures.closed
+
+pub returns-in-Lacking-clause-rest : goal.returns-in-Lacking-clause-rest
+returns-in-Lacking-clause-rest g c =
+    let first = c.in-Lacking.ensures.rest in
+    holds_then (holds_less (λ e. absurd cc) first)
+    (holds_less (may_later g.K.Keeper c.args.self.now.keeper c.receive.new.self.keeper c.close_lacking.new.self.keeper c.close_lacking.result first.never_less) c.close_lacking.ensures.rest)
+
+pub returns-in-Broken-clause-rest : goal.returns-in-Broken-clause-rest
+returns-in-Broken-clause-rest g c =
+    let first = c.in-Broken.ensures.rest in
+    broke_off_holds g.K.Keeper c.args.self.now.keeper c.receive.new.self.keeper c.drop_staged.new.self.keeper c.drop_staged.result (holds_less (λ e. absurd cc) first) c.drop_staged.ensures.rest c.drop_staged.ensures.counts

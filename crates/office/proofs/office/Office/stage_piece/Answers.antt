@@ -1,0 +1,5 @@
+use Rattle.links.proofs.WrittenBytes.{are_bytes}
+use Rattle.office.proofs.office.Office.stage_piece.Goals as goal
+
+pub returns-clause-octets : goal.returns-clause-octets
+returns-clause-octets g c = are_bytes c.args.bytes.now c.type_inv.bytes

@@ -1,0 +1,183 @@
+//! The body of a message: it is staged in the keeper, or read and not kept.
+ghost use Rattle.std.specs.Prelude.{◌≡◌, ◌≢◌, ◌<◌, ℕ, List, length};
+ghost use Rattle.std.specs.Io.KnownBytes.{Consumes};
+ghost use Rattle.sigtext.specs.Counts.{Rose};
+ghost use Rattle.wire.specs.Feeds.{SameReader, left, place_of, reader_of};
+ghost use Rattle.wire.specs.Whole.{LacksBody, TakesBody};
+ghost use Rattle.wire.specs.declared.feed.Place.TheVariants as stands;
+
+use crate::office::Office;
+use keeper::{KeepFault, Keeper};
+use sigv4::Sha;
+use std::io::Read;
+use wire::{Ending, Feed, Piece, skip_body};
+
+/// How a body came.
+#[derive(Clone, Copy, Debug, PartialEq, Eq)]
+pub(crate) enum Received {
+    /// Whole. Of one that was staged this is the SHA-256 digest.
+    Whole([u8; 32]),
+    /// The stream ended in it.
+    Lacking,
+    /// A read failed in it.
+    Broken,
+    /// The keeper refused a piece. The rest was not read.
+    GaveUp,
+}
+
+// Reads the body that is open, of which so many bytes are to come, and keeps nothing of it.
+fn pass_over<R: Read>(feed: &mut Feed<'_, R>, size: usize) -> Received
+    requires { place_of feed.old ≡ stands.Body size }
+    ensures same { SameReader feed.old feed.new }
+    ensures whole { (digest : List ℕ) → result ≡ Received.Whole digest
+        → (body : List ℕ) × TakesBody R.remaining size feed.old feed.new body }
+    ensures lacking { result ≡ Received.Lacking → LacksBody R.remaining size feed.old feed.new }
+    ensures broken { result ≡ Received.Broken → (given : List ℕ)
+        × Consumes (left R.remaining feed.old) (R.remaining (reader_of feed.new).inner) given
+        × (length given < size) }
+    ensures takes_all { result ≢ Received.GaveUp }
+    ensures fault { result ≡ Received.Broken
+        → Rose (reader_of feed.old).faults (reader_of feed.new).faults }
+    ensures clean { (result ≢ Received.Broken)
+        → (reader_of feed.new).faults ≡ (reader_of feed.old).faults }
+{
+    match skip_body(feed, size) {
+        Ok(Ending::Whole) => Received::Whole([0; 32]),
+        Ok(Ending::Lacking) => Received::Lacking,
+        Err(_) => Received::Broken,
+    }
+}
+
+impl<K: Keeper> Office<K> {
+    ghost use Rattle.std.specs.Prelude.{◌≡◌, ◌≢◌, ◌<◌, ◌≤◌, ℕ, List, [], ◌++◌, length, IsTrue, IsFalse, OnErr, OnOk};
+    ghost use Rattle.std.specs.Io.KnownBytes.{Consumes};
+    ghost use Rattle.sigtext.specs.Counts.{Rose};
+    ghost use Rattle.boxes.specs.State.{State};
+    ghost use Rattle.keeper.specs.Bound.{StaysBy};
+    ghost use Rattle.keeper.specs.Keeping.{KeepsStaged};
+    ghost use Rattle.sigtext.specs.Bytes.{AreBytes};
+    ghost use Rattle.sigv4.specs.Hashers.{ShaHolds};
+    ghost use Rattle.wire.specs.Feeds.{SameReader, left, place_of, reader_of};
+    ghost use Rattle.wire.specs.Whole.{LacksBody, TakesBody};
+    ghost use Rattle.wire.specs.declared.feed.Place.TheVariants as stands;
+    ghost use Rattle.office.specs.Crashes.{AddsStanding};
+    ghost use Rattle.office.specs.Premise.{EndsUnstaged, HoldsUnless, IsFault, StaysUnstaged};
+    ghost use Rattle.office.specs.Receiving.{StagesBody};
+
+    // Stages a piece of a body, and feeds it to the hasher.
+    fn stage_piece(&mut self, bytes: &[u8], sha: &mut Sha) -> Result<(), KeepFault>
+        requires some { 1 ≤ length bytes.now }
+        requires short { length bytes.now ≤ 65536 }
+        ensures added { (staged : List ℕ) → K.stages self.old.keeper staged
+            → OnOk result (K.stages self.new.keeper (staged ++ bytes.now)) }
+        ensures hashed { (fed : List ℕ) → ShaHolds sha.old fed
+            → OnOk result (ShaHolds sha.new (fed ++ bytes.now)) }
+        ensures octets { AreBytes bytes.now }
+        ensures rest { StaysBy K.Keeper self.old.keeper self.new.keeper result }
+    {
+        self.keeper.stage(bytes)?;
+        sha.update(bytes);
+        Ok(())
+    }
+
+    // Stages the body that is open, of which so many bytes are to come, piece after piece, and takes its digest on the way.
+    // The first piece that the keeper refuses ends the reading.
+    fn stage_body<R: Read>(&mut self, feed: &mut Feed<'_, R>, size: usize) -> Received
+        requires { place_of feed.old ≡ stands.Body size }
+        ensures same { SameReader feed.old feed.new }
+        ensures whole { (digest : List ℕ) → result ≡ Received.Whole digest
+            → StagesBody R.remaining size feed.old feed.new K.Keeper self.new.keeper digest }
+        ensures lacking { result ≡ Received.Lacking → LacksBody R.remaining size feed.old feed.new }
+        ensures broken { result ≡ Received.Broken → (given : List ℕ)
+            × Consumes (left R.remaining feed.old) (R.remaining (reader_of feed.new).inner) given
+            × (length given < size) }
+        ensures gave_up { result ≡ Received.GaveUp → (given : List ℕ)
+            × Consumes (left R.remaining feed.old) (R.remaining (reader_of feed.new).inner) given }
+        ensures fault { result ≡ Received.Broken
+            → Rose (reader_of feed.old).faults (reader_of feed.new).faults }
+        ensures clean { (result ≢ Received.Broken)
+            → (reader_of feed.new).faults ≡ (reader_of feed.old).faults }
+        ensures means { (s : State) → K.means self.old.keeper s → K.means self.new.keeper s }
+        ensures crash { (s : State) → K.means self.old.keeper s → K.is_honest self.new.keeper
+            → AddsStanding K.Keeper self.old.keeper self.new.keeper s }
+        ensures counts { result ≡ Received.GaveUp
+            → Rose (K.faults self.old.keeper) (K.faults self.new.keeper) }
+        ensures rest { HoldsUnless K.Keeper self.old.keeper self.new.keeper
+            (result ≡ Received.GaveUp) }
+    {
+        if self.keeper.stage_begin().is_err() {
+            return Received::GaveUp;
+        }
+        let mut sha = Sha::new();
+        'pieces: loop {
+            match feed.piece() {
+                Ok(Piece::Bytes(bytes)) => {
+                    if self.stage_piece(bytes, &mut sha).is_err() {
+                        return Received::GaveUp;
+                    }
+                }
+                Ok(Piece::Done) => return Received::Whole(sha.finish()),
+                Ok(Piece::Refused(_)) => return Received::Lacking,
+                Err(_) => return Received::Broken,
+            }
+        }
+    }
+
+    // Reads the body that is open, of which so many bytes are to come: that of an upload is staged, another is not kept.
+    pub(crate) fn receive<R: Read>(
+        &mut self,
+        feed: &mut Feed<'_, R>,
+        size: usize,
+        is_upload: bool,
+    ) -> Received
+        requires { place_of feed.old ≡ stands.Body size }
+        ensures same { SameReader feed.old feed.new }
+        ensures whole { (digest : List ℕ) → result ≡ Received.Whole digest
+            → (body : List ℕ) × TakesBody R.remaining size feed.old feed.new body }
+        ensures staged { IsTrue is_upload → (digest : List ℕ) → result ≡ Received.Whole digest
+            → StagesBody R.remaining size feed.old feed.new K.Keeper self.new.keeper digest }
+        ensures lacking { result ≡ Received.Lacking → LacksBody R.remaining size feed.old feed.new }
+        ensures broken { result ≡ Received.Broken → (given : List ℕ)
+            × Consumes (left R.remaining feed.old) (R.remaining (reader_of feed.new).inner) given
+            × (length given < size) }
+        ensures gave_up { result ≡ Received.GaveUp → (given : List ℕ)
+            × Consumes (left R.remaining feed.old) (R.remaining (reader_of feed.new).inner) given
+            × IsTrue is_upload }
+        ensures fault { result ≡ Received.Broken
+            → Rose (reader_of feed.old).faults (reader_of feed.new).faults }
+        ensures clean { (result ≢ Received.Broken)
+            → (reader_of feed.new).faults ≡ (reader_of feed.old).faults }
+        ensures means { (s : State) → K.means self.old.keeper s → K.means self.new.keeper s }
+        ensures crash { (s : State) → K.means self.old.keeper s → K.is_honest self.new.keeper
+            → AddsStanding K.Keeper self.old.keeper self.new.keeper s }
+        ensures passed { IsFalse is_upload → KeepsStaged K.stages self.old.keeper self.new.keeper }
+        ensures counts { result ≡ Received.GaveUp
+            → Rose (K.faults self.old.keeper) (K.faults self.new.keeper) }
+        ensures rest { HoldsUnless K.Keeper self.old.keeper self.new.keeper
+            (result ≡ Received.GaveUp) }
+    {
+        if is_upload {
+            self.stage_body(feed, size)
+        } else {
+            pass_over(feed, size)
+        }
+    }
+
+    // Lets go of what is staged of an upload.
+    pub(crate) fn drop_staged(&mut self, is_upload: bool) -> Result<(), KeepFault>
+        ensures means { (s : State) → K.means self.old.keeper s → K.means self.new.keeper s }
+        ensures crash { (s : State) → K.means self.old.keeper s → K.is_honest self.new.keeper
+            → AddsStanding K.Keeper self.old.keeper self.new.keeper s }
+        ensures ends { IsTrue is_upload → EndsUnstaged K.Keeper self.old.keeper self.new.keeper }
+        ensures stays { StaysUnstaged K.Keeper self.old.keeper self.new.keeper }
+        ensures counts { OnErr result (Rose (K.faults self.old.keeper) (K.faults self.new.keeper)) }
+        ensures asked { OnErr result (IsTrue is_upload) }
+        ensures rest { HoldsUnless K.Keeper self.old.keeper self.new.keeper (IsFault result) }
+    {
+        if is_upload {
+            self.keeper.stage_drop()
+        } else {
+            Ok(())
+        }
+    }
+}

@@ -1,0 +1,30 @@
+use Rattle.std.proofs.Common.{◌≡◌, ℕ, List, true, false, subst, subst₂, ◌∙◌}
+use Rattle.std.specs.Prelude.{◌↔◌, IsTrue, IfOk}
+use Rattle.sqlite.specs.Held.{state}
+use Rattle.boxes.specs.State.{Place}
+use Rattle.boxes.specs.Rules.{HasBytes}
+use Rattle.sqlkeeper.proofs.Stays.{stays, carried}
+use Rattle.sqlkeeper.proofs.NotText.{no_file_in, no_file_named, no_bytes_at}
+use Rattle.sqlkeeper.proofs.file_keeper.SqlKeeperKeeper.staged_equals.Goals as goal
+
+pub returns-in_default-clause-value : goal.returns-in_default-clause-value
+returns-in_default-clause-value g c staged is s keeps sound clean =
+    let place : Place = record { box = c.args.in_box.now; name = c.args.name.now } in
+    (λ t. let e : ◌≡◌ false true = t in cc, λ has. absurd (no_bytes_at s place staged (no_file_in s sound place c.in_default.ensures.cases.0) has))
+
+pub returns-in_default-from_utf8-clause-value : goal.returns-in_default-from_utf8-clause-value
+returns-in_default-from_utf8-clause-value g c staged is s keeps sound clean =
+    let place : Place = record { box = c.args.in_box.now; name = c.args.name.now } in
+    (λ t. let e : ◌≡◌ false true = t in cc, λ has. absurd (no_bytes_at s place staged (no_file_named s sound place c.in_default-from_utf8.ensures.cases.0) has))
+
+pub returns-clause-value : goal.returns-clause-value
+returns-clause-value g c staged is s keeps sound clean =
+    let place : Place = record { box = c.args.in_box.now; name = c.args.name.now } in
+    let there = subst₂ (λ (b n : List ℕ). IfOk c.has_bytes.result (λ has. IsTrue has ↔ HasBytes s (record { box = b; name = n }) c.deref.result.now)) c.in-Ok.ensures.cases.0 c.in-Ok-from_utf8.ensures.cases.0
+    (c.has_bytes.ensures.found s keeps.means sound clean) in
+    let found = subst (λ (l : List ℕ). IfOk c.has_bytes.result (λ has. IsTrue has ↔ HasBytes s place l)) (c.deref.ensures.value ∙ is) there in
+    carried (λ has. IsTrue has ↔ HasBytes s place staged) c.has_bytes.result c.counted.result c.counted.ensures.value found
+
+pub returns-clause-rest : goal.returns-clause-rest
+returns-clause-rest g c =
+    stays (λ k. state g.S.Store k.conn) (λ k. k.faults) c.args.self.now (record { conn = c.has_bytes.new.conn; staged = c.args.self.now.staged; faults = c.counted.new.faults; alloc = c.args.self.now.alloc }) c.has_bytes.result c.counted.result c.counted.ensures.value c.has_bytes.ensures.rest c.counted.ensures.count c.counted.ensures.room

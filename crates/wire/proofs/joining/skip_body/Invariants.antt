@@ -1,0 +1,13 @@
+use Rattle.std.proofs.Common.{◌≡◌}
+use Rattle.wire.specs.Skipping.{HasSkipped, to_come}
+use Rattle.wire.proofs.joining.skip_body.Given as goal
+
+abbrev pub invariant-pieces : goal.invariant-pieces
+invariant-pieces g l = record {
+  skipped : HasSkipped g.R.Read.remaining l.size l.fn.feed l.feed;
+  same : l.feed.reader.ghost_name ≡ l.fn.feed.reader.ghost_name;
+  count : l.feed.reader.now.faults ≡ l.fn.feed.reader.now.faults;
+}
+
+abbrev pub decreases-pieces : goal.decreases-pieces
+decreases-pieces g l = to_come l.feed.place
