@@ -18,7 +18,7 @@
 
 #define MOST_LINES 200000
 
-static char text[1 << 16], head[8192], body[1 << 20];
+static char text[1 << 16], head[8192], body[8 << 20];
 static char *lines[MOST_LINES];
 
 static int fail(const char *what) {

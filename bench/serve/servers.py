@@ -16,11 +16,11 @@ import tables
 from replays import ID
 
 HERE = pathlib.Path(__file__).resolve().parent
-KIB, MIB = 1 << 10, 1 << 20
+KIB, MIB, MOST = 1 << 10, 1 << 20, 8 << 20
 BOX = "bench"
 HOST = "127.0.0.1"
-UPLOADS = {KIB: 20000, MIB: 600}  # links to new names, more than a row takes
-FILES = {KIB: 1000, MIB: 40}  # files that stand at first
+UPLOADS = {KIB: 20000, MIB: 600, MOST: 1000}  # links to new names, more than a row takes
+FILES = {KIB: 1000, MIB: 40, MOST: 5}  # files that stand at first
 
 
 def body_of(size):
@@ -66,6 +66,8 @@ ROWS = [
     Row("PUT of 1 KiB, new", "PUT", KIB, upload=True),
     Row("PUT of 1 MiB, new", "PUT", MIB, upload=True),
     Row("GET of 1 MiB", "GET", MIB),
+    Row("PUT of 8 MiB, new", "PUT", MOST, upload=True),
+    Row("GET of 8 MiB", "GET", MOST),
 ]
 
 

@@ -8,11 +8,13 @@ ghost use Rattle.boxes.specs.Sound.{IsSound};
 ghost use Rattle.boxes.specs.Changes.{IsChangeOf};
 ghost use Rattle.sqltables.specs.Schema.{v2};
 ghost use Rattle.sqltables.specs.Means.{Means, LeavesOnly, AddsOnly};
+ghost use Rattle.sqlstatements.specs.Pieces.{held};
 ghost use Rattle.sqlkeeper.specs.Committing.{EndsOpen};
 
 use boxes::Change;
 use sqlite::{Alter, Connection, Error, ErrorCode};
 use sqlstatements::changes::write_change;
+use sqlstatements::pieces::Pieces;
 
 /// Makes a change that the rules give for the office, all of it or nothing. It is committed when the call returns `Ok`.
 ///
@@ -23,15 +25,15 @@ use sqlstatements::changes::write_change;
 pub(crate) fn apply_change<S: Alter>(
     conn: &mut Connection<S>,
     change: &Change<'_>,
-    staged: &[u8],
+    staged: &Pieces,
 ) -> Result<(), Error>
-    ensures made { (s after : State) → Means v2 (state S.Store conn.old) s → IsSound s → IsChangeOf (λ bytes. staged.now ≡ bytes) s change.now after
+    ensures made { (s after : State) → Means v2 (state S.Store conn.old) s → IsSound s → IsChangeOf (λ bytes. held staged.now ≡ bytes) s change.now after
         → OnOk result (Means v2 (state S.Store conn.new) after) }
     ensures kept { (s : State) → Means v2 (state S.Store conn.old) s
         → OnErr result (Means v2 (state S.Store conn.new) s) }
-    ensures durable { (s after : State) → Means v2 (state S.Store conn.old) s → IsSound s → IsChangeOf (λ bytes. staged.now ≡ bytes) s change.now after
+    ensures durable { (s after : State) → Means v2 (state S.Store conn.old) s → IsSound s → IsChangeOf (λ bytes. held staged.now ≡ bytes) s change.now after
         → OnOk result (LeavesOnly v2 (state S.Store conn.new) after) }
-    ensures crash { (s after : State) → Means v2 (state S.Store conn.old) s → IsSound s → IsChangeOf (λ bytes. staged.now ≡ bytes) s change.now after
+    ensures crash { (s after : State) → Means v2 (state S.Store conn.old) s → IsSound s → IsChangeOf (λ bytes. held staged.now ≡ bytes) s change.now after
         → AddsOnly v2 (state S.Store conn.old) (state S.Store conn.new) after }
     ensures honest { HasCleanDisk (state S.Store conn.new) → HasCleanDisk (state S.Store conn.old) }
     ensures opened { EndsOpen (state S.Store conn.new) result }

@@ -10,10 +10,12 @@ ghost use Rattle.boxes.specs.Views.{AreTotals, IsReceiptAt};
 ghost use Rattle.boxes.specs.Clerks.{clerks};
 ghost use Rattle.boxes.specs.Limits.{IsLimitedTo, MayUse};
 ghost use Rattle.sqltables.specs.Tables.{placed};
+ghost use Rattle.sqlstatements.specs.Pieces.{held};
 ghost use Rattle.sqlkeeper.specs.Asking.{AnswersOf, LeavesOffice};
 
 use boxes::{BoxRow, FileRow, KeyRow, OfficeRow, ReceiptRow, Totals};
 use sqlite::{Alter, Connection, Error, ErrorCode};
+use sqlstatements::pieces::Pieces;
 use sqlstatements::{questions, standing};
 use std::alloc::Global;
 
@@ -148,10 +150,10 @@ pub(crate) fn has_bytes<S: Alter>(
     conn: &mut Connection<S>,
     in_box: &str,
     name: &str,
-    bytes: &[u8],
+    bytes: &Pieces,
 ) -> Result<bool, Error>
     ensures found { AnswersOf (state S.Store conn.old) (state S.Store conn.new) result
-        (λ s has. IsTrue has ↔ HasBytes s (placed in_box.now name.now) bytes.now) }
+        (λ s has. IsTrue has ↔ HasBytes s (placed in_box.now name.now) (held bytes.now)) }
     ensures rest { LeavesOffice (state S.Store conn.old) (state S.Store conn.new) result }
 {
     if !conn.is_autocommit() {

@@ -7,12 +7,13 @@ ghost use Rattle.boxes.specs.FirstState.{first_state};
 ghost use Rattle.sqltables.specs.Schema.{v2};
 ghost use Rattle.sqltables.specs.Means.{IsBare, Means, LeavesOnly, AddsOnly};
 ghost use Rattle.sqlkeeper.specs.Committing.{EndsOpen};
+ghost use Rattle.sqlkeeper.specs.Emptying.{HasNoneStaged};
 
 use sigv4::Allowance;
 use sqlite::{Alter, Connection, Error, ErrorCode};
 use sqlstatements::making::make_office;
 
-/// Makes an office that begins, in a database without a table, all of it or nothing.
+/// Makes an office that begins, in a database without a table, all of it or nothing. Nothing is staged.
 ///
 /// # Errors
 ///
@@ -26,6 +27,8 @@ pub(crate) fn create<S: Alter>(
 ) -> Result<(), Error>
     ensures made { IsBare (state S.Store conn.old)
         → OnOk result (Means v2 (state S.Store conn.new) (first_state east allowance id.now secret.now)) }
+    ensures unstaged { IsBare (state S.Store conn.old)
+        → OnOk result (HasCleanDisk (state S.Store conn.new) → HasNoneStaged (state S.Store conn.new)) }
     ensures kept { IsBare (state S.Store conn.old)
         → OnErr result (IsBare (state S.Store conn.new)) }
     ensures durable { IsBare (state S.Store conn.old)

@@ -15,6 +15,7 @@ ghost use Rattle.sqltables.specs.Tables.{NoneStaged};
 ghost use Rattle.sqltables.specs.Kept.{KeepsState, MayLeave, LeavesStates};
 ghost use Rattle.sqltables.specs.OneState.{one_kept};
 ghost use Rattle.sqlaudit.specs.Opened.{HasOurs, AreFirstNamed, AreNamed, OnlyLooks, LeavesUntouched, IsFound, IsEither};
+ghost use Rattle.sqlstatements.specs.Pieces.{held};
 ghost use Rattle.sqlkeeper.specs.Emptying.{EmptiesStaged, HasNoneStaged};
 ghost use Rattle.sqlkeeper.specs.OneText.{one_text};
 ghost use Rattle.sqlkeeper.specs.Versions.{IsOfficeFile, IsRefusedFile};
@@ -29,6 +30,7 @@ use keeper::{KeepFault, Keeper, has_room};
 use sqlaudit::opening::{Finding, Found, find, find_either};
 use sqlite::{Alter, Connection, ErrorCode};
 use sqlite_schema::schema::Schema;
+use sqlstatements::pieces::Pieces;
 use std::alloc::Global;
 use std::str;
 use thiserror::Error;
@@ -38,7 +40,7 @@ use thiserror::Error;
 pub struct SqlKeeper<S: Alter> {
     conn: Connection<S>,
     // The bytes that are staged. No table has them.
-    staged: Vec<u8>,
+    staged: Pieces,
     faults: u64,
     alloc: Global,
 }
@@ -120,12 +122,12 @@ fn is_past_full(change: &Change<'_>) -> bool
 }
 
 // Behind a change that sets a file nothing is staged, whether it was made or not.
-fn unstage(staged: &mut Vec<u8>, alloc: Global, change: &Change<'_>)
-    ensures empty { TakesStaged change.now → staged.new.items ≡ [] }
+fn unstage(staged: &mut Pieces, alloc: Global, change: &Change<'_>)
+    ensures empty { TakesStaged change.now → held staged.new ≡ [] }
     ensures kept { (TakesStaged change.now → ⊥) → staged.new ≡ staged.old }
 {
     match change {
-        Change::SetFile(_) => *staged = Vec::new(alloc),
+        Change::SetFile(_) => *staged = Pieces::new(alloc),
         Change::Desk(_) => {}
     }
 }
@@ -153,6 +155,8 @@ impl<S: Alter> SqlKeeper<S> {
             → ⟦<SqlKeeper<S> as Keeper>⟧.is_honest k) }
         ensures opened { IfOk result (λ k. ⟦<SqlKeeper<S> as Keeper>⟧.is_honest k
             → ⟦<SqlKeeper<S> as Keeper>⟧.is_open k) }
+        ensures emptied { IfOk result (λ k. ⟦<SqlKeeper<S> as Keeper>⟧.is_honest k
+            → NoneStaged (state S.Store k.conn).now.trees) }
         ensures staged { IfOk result (λ k. ⟦<SqlKeeper<S> as Keeper>⟧.stages k []) }
         ensures none { IfOk result (λ k. ⟦<SqlKeeper<S> as Keeper>⟧.faults k ≡ 0) }
         ensures durable { neg_ℤ (pos 840) ≤ℤ office.east → office.east ≤ℤ pos 840 → IsKeyId id.now
@@ -184,7 +188,7 @@ impl<S: Alter> SqlKeeper<S> {
         match create(&mut conn, office.east, office.allowance, id, secret) {
             Ok(()) => Ok(SqlKeeper {
                 conn,
-                staged: Vec::new(alloc),
+                staged: Pieces::new(alloc),
                 faults: 0,
                 alloc,
             }),
@@ -256,7 +260,7 @@ impl<S: Alter> SqlKeeper<S> {
             Ok(Finding::Sound) => match empty_file(&mut conn) {
                 Ok(()) => Ok(SqlKeeper {
                     conn,
-                    staged: Vec::new(alloc),
+                    staged: Pieces::new(alloc),
                     faults: 0,
                     alloc,
                 }),
@@ -334,7 +338,7 @@ impl<S: Alter> SqlKeeper<S> {
             Ok(Found::Second) => match empty_file(&mut conn) {
                 Ok(()) => Ok(SqlKeeper {
                     conn,
-                    staged: Vec::new(alloc),
+                    staged: Pieces::new(alloc),
                     faults: 0,
                     alloc,
                 }),
@@ -343,7 +347,7 @@ impl<S: Alter> SqlKeeper<S> {
             Ok(Found::First) => match upgrade_file(&mut conn) {
                 Ok(()) => Ok(SqlKeeper {
                     conn,
-                    staged: Vec::new(alloc),
+                    staged: Pieces::new(alloc),
                     faults: 0,
                     alloc,
                 }),
@@ -383,7 +387,7 @@ impl<S: Alter> SqlKeeper<S> {
 impl<S: Alter> Keeper for SqlKeeper<S> {
     ghost means = { λ k. KeepsState (state S.Store k.conn) };
 
-    ghost stages = { λ k b. k.staged.items ≡ b };
+    ghost stages = { λ k b. held k.staged ≡ b };
 
     ghost is_honest = { λ k. HasCleanDisk (state S.Store k.conn) };
 
@@ -488,12 +492,12 @@ impl<S: Alter> Keeper for SqlKeeper<S> {
     }
 
     fn stage_begin(&mut self) -> Result<(), KeepFault> {
-        self.staged = Vec::new(self.alloc);
+        self.staged = Pieces::new(self.alloc);
         Ok(())
     }
 
     fn stage(&mut self, bytes: &[u8]) -> Result<(), KeepFault> {
-        if self.staged.extend_from_slice(bytes).is_err() {
+        if self.staged.push(bytes).is_err() {
             self.faults = self.faults.saturating_add(1);
             return Err(KeepFault::Memory);
         }
@@ -514,13 +518,13 @@ impl<S: Alter> Keeper for SqlKeeper<S> {
     }
 
     fn stage_drop(&mut self) -> Result<(), KeepFault> {
-        self.staged = Vec::new(self.alloc);
+        self.staged = Pieces::new(self.alloc);
         Ok(())
     }
 
     fn apply(&mut self, change: &Change<'_>) -> Result<(), KeepFault> {
         if is_past_full(change) {
-            self.staged = Vec::new(self.alloc);
+            self.staged = Pieces::new(self.alloc);
             self.faults = self.faults.saturating_add(1);
             return Err(KeepFault::Full);
         }
@@ -535,7 +539,7 @@ impl<S: Alter> Keeper for SqlKeeper<S> {
 
     ghost one = { λ k s t honest opened a b. one_kept _ s t honest opened a b };
 
-    ghost one_staged = { λ k a b honest opened x y. one_text k.staged.items a b x y };
+    ghost one_staged = { λ k a b honest opened x y. one_text (held k.staged) a b x y };
 
     ghost always = { λ none k. absurd (none tt) };
 }

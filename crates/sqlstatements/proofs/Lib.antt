@@ -24,3 +24,4 @@ pub mod Upgrades
 pub mod LimitRows
 pub mod StagedRows
 pub mod Compared
+pub mod Held

@@ -11,8 +11,10 @@ ghost use Rattle.sqltables.specs.Tables.{Tables, Box, placed, tables_of};
 ghost use Rattle.sqltables.specs.Changes.{with_file, with_receipt, without_pieces, with_upload, with_drop, with_totals, with_box};
 ghost use Rattle.sqltables.specs.Inside.{seen, GoesOnInside, GoesOnBegun};
 ghost use Rattle.sqltables.specs.Means.{Pends};
+ghost use Rattle.sqlstatements.specs.Pieces.{held};
 
 use crate::box_rows::insert_box;
+use crate::pieces::Pieces;
 use crate::questions::totals;
 use crate::standing::standing_size;
 use crate::statements::{
@@ -132,7 +134,7 @@ fn write_file<S: Alter>(
     file: &NewFile<'_>,
     in_box: &str,
     name: &str,
-    bytes: &[u8],
+    bytes: &Pieces,
     stands: bool,
     totals: Totals,
 ) -> Result<(), Error>
@@ -143,7 +145,7 @@ fn write_file<S: Alter>(
         → file.now.number ≡ at + 1 → r.box ≡ in_box.now → r.name ≡ name.now → r.size ≡ file.now.size
         → r.digest ≡ file.now.digest → r.moment ≡ file.now.moment → r.key ≡ file.now.key.now
         → OnOk result (Pends v (seen S.Store tx.new)
-        (with_upload tables (placed in_box.now name.now) bytes.now at r
+        (with_upload tables (placed in_box.now name.now) (held bytes.now) at r
         (with_totals totals.used totals.count b))) }
     ensures rest { GoesOnInside S.Store tx.old tx.new result }
 {
@@ -159,11 +161,11 @@ fn write_file<S: Alter>(
 fn set_file<S: Alter>(
     tx: &mut Transaction<'_, S>,
     file: &NewFile<'_>,
-    bytes: &[u8],
+    bytes: &Pieces,
 ) -> Result<(), Error>
     ensures done { (v : Version) (s after : State) → IsVersion v
         → Pends v (seen S.Store tx.old) (tables_of s) → IsSound s
-        → IsFileSet s file.now bytes.now after
+        → IsFileSet s file.now (held bytes.now) after
         → IsTrue (seen S.Store tx.old).in_transaction
         → OnOk result (Pends v (seen S.Store tx.new) (tables_of after)) }
     ensures rest { GoesOnBegun S.Store tx.old tx.new result }
@@ -307,10 +309,10 @@ fn obey<S: Alter>(tx: &mut Transaction<'_, S>, command: &Command<'_>) -> Result<
 pub fn write_change<S: Alter>(
     tx: &mut Transaction<'_, S>,
     change: &Change<'_>,
-    staged: &[u8],
+    staged: &Pieces,
 ) -> Result<(), Error>
     ensures done { (s after : State) → Pends v2 (seen S.Store tx.old) (tables_of s) → IsSound s
-        → IsChangeOf (λ bytes. staged.now ≡ bytes) s change.now after → IsTrue (seen S.Store tx.old).in_transaction
+        → IsChangeOf (λ bytes. held staged.now ≡ bytes) s change.now after → IsTrue (seen S.Store tx.old).in_transaction
         → OnOk result (Pends v2 (seen S.Store tx.new) (tables_of after)) }
     ensures rest { GoesOnBegun S.Store tx.old tx.new result }
 {

@@ -1,4 +1,4 @@
-//! The pieces of a file, compared with bytes inside a transaction.
+//! The pieces of a file, compared with those that are staged, inside a transaction.
 
 ghost use Rattle.std.specs.Prelude.{◌≡◌, ◌↔◌, ℕ, List, length, Some, IsTrue, IfOk};
 ghost use Rattle.sqlite.specs.State.{HasCleanDisk};
@@ -7,9 +7,10 @@ ghost use Rattle.sqltables.specs.Schema.{Version, IsVersion};
 ghost use Rattle.sqltables.specs.Tables.{Tables, piece_of, placed};
 ghost use Rattle.sqltables.specs.Inside.{seen, GoesOnWhere, GoesOnBegun, Still, FindsIn};
 ghost use Rattle.sqltables.specs.Means.{Pends, IsRunning};
+ghost use Rattle.sqlstatements.specs.Pieces.{held};
 
+use crate::pieces::Pieces;
 use sqlite::{Alter, Error, ErrorCode, Transaction};
-use sqltables::PIECE;
 use sqltables::pieces::read_piece;
 
 /// Whether this piece of a file is there, of just these bytes.
@@ -32,31 +33,28 @@ fn is_piece<S: Alter>(
     }
 }
 
-/// Whether the pieces of a file, of as many bytes as these, are those of these bytes. One of them is held at a time.
+/// Whether the pieces of a file, of as many bytes as these, are these. One that is read is held at a time.
 pub(crate) fn has_pieces<S: Alter>(
     tx: &mut Transaction<'_, S>,
     in_box: &str,
     name: &str,
-    bytes: &[u8],
+    bytes: &Pieces,
 ) -> Result<bool, Error>
     ensures found { (v : Version) (tables : Tables) (there : List ℕ) → IsVersion v
-        → Pends v (seen S.Store tx.old) tables → length there ≡ length bytes.now
+        → Pends v (seen S.Store tx.old) tables → length there ≡ length (held bytes.now)
         → ((at : ℕ) → tables.piece (record { place = placed in_box.now name.now; at = at })
         ≡ piece_of there at)
         → IsTrue (seen S.Store tx.old).in_transaction → HasCleanDisk (seen S.Store tx.new)
-        → IfOk result (λ same. IsTrue same ↔ there ≡ bytes.now) }
+        → IfOk result (λ same. IsTrue same ↔ there ≡ held bytes.now) }
     ensures still { Still S.Store tx.old tx.new result }
     ensures rest { GoesOnWhere (IsRunning (seen S.Store tx.old))
         (IsTrue (seen S.Store tx.old).in_transaction) S.Store tx.old tx.new result }
 {
-    let mut rest = bytes;
     let mut part: u32 = 0;
-    while !rest.is_empty() {
-        let (piece, more) = rest.split_at(PIECE.min(rest.len()));
+    while let Some(piece) = bytes.piece(part) {
         if !is_piece(tx, in_box, name, part, piece)? {
             return Ok(false);
         }
-        rest = more;
         match part.checked_add(1) {
             Some(next) => part = next,
             None => return Err(Error::SqliteFailure(ErrorCode::TooBig)),

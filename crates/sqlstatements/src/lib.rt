@@ -5,6 +5,7 @@ mod box_rows;
 pub mod changes;
 mod comparing;
 pub mod making;
+pub mod pieces;
 pub mod questions;
 pub mod staged;
 pub mod standing;

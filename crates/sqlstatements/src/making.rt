@@ -132,7 +132,8 @@ pub fn upgrade<S: Alter>(tx: &mut Transaction<'_, S>, allowance: Allowance) -> R
     update_version(tx)
 }
 
-/// The tables of an office of version 2 that has one key, a clerk's, and nothing else: an office of version 1 is made first.
+/// The tables of an office of version 2 that has one key, a clerk's, and nothing else, of which nothing is staged: an office of
+/// version 1 is made first.
 pub fn make_office<S: Alter>(
     tx: &mut Transaction<'_, S>,
     east: i16,
@@ -144,6 +145,8 @@ pub fn make_office<S: Alter>(
         → OnOk result (Pends v2 (seen S.Store tx.new)
         (with_key (no_rows east allowance) id.now
         (record { role = Clerk; secret = secret.now; revoked = false }))) }
+    ensures unstaged { SeesNothing s0 (seen S.Store tx.old)
+        → OnOk result (SeesUnstaged (seen S.Store tx.new)) }
     ensures rest { GoesOnInside S.Store tx.old tx.new result }
 {
     create_tables(tx)?;

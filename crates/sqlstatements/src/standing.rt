@@ -13,8 +13,10 @@ ghost use Rattle.sqltables.specs.Schema.{Version, IsVersion};
 ghost use Rattle.sqltables.specs.Tables.{placed, tables_of};
 ghost use Rattle.sqltables.specs.Inside.{seen, GoesOnBegun, Still, FindsOf};
 ghost use Rattle.sqltables.specs.Means.{Pends};
+ghost use Rattle.sqlstatements.specs.Pieces.{held};
 
 use crate::comparing::has_pieces;
+use crate::pieces::Pieces;
 use crate::questions::{file_bytes, file_number, receipt};
 use boxes::{FileRow, ReceiptRow};
 use sqlite::{Alter, Error, Transaction};
@@ -81,10 +83,10 @@ pub fn has_bytes<S: Alter>(
     tx: &mut Transaction<'_, S>,
     in_box: &str,
     name: &str,
-    bytes: &[u8],
+    bytes: &Pieces,
 ) -> Result<bool, Error>
     ensures found { FindsOf S.Store tx.old tx.new result
-        (λ s has. IsTrue has ↔ HasBytes s (placed in_box.now name.now) bytes.now) }
+        (λ s has. IsTrue has ↔ HasBytes s (placed in_box.now name.now) (held bytes.now)) }
     ensures still { Still S.Store tx.old tx.new result }
     ensures rest { GoesOnBegun S.Store tx.old tx.new result }
 {

@@ -7,10 +7,11 @@ ghost use Rattle.sqltables.specs.Tables.{Tables, Box, placed};
 ghost use Rattle.sqltables.specs.Changes.{with_key, with_limit, with_allowance, closing_at, without_file, with_receipt, without_pieces, with_totals, with_box, with_bytes, with_file, NoPieces, AddsPiece};
 ghost use Rattle.sqltables.specs.Inside.{seen, GoesOnInside, GoesOnWhere, Turns};
 ghost use Rattle.sqltables.specs.Means.{Pends, IsRunning};
+ghost use Rattle.sqlstatements.specs.Pieces.{held};
 
+use crate::pieces::Pieces;
 use boxes::Role;
 use sqlite::{Alter, Error, Transaction, params};
-use sqltables::PIECE;
 use sqltables::calls::execute;
 
 /// One more receipt.
@@ -106,21 +107,18 @@ pub(crate) fn insert_pieces<S: Alter>(
     tx: &mut Transaction<'_, S>,
     box_name: &str,
     name: &str,
-    bytes: &[u8],
+    bytes: &Pieces,
 ) -> Result<(), Error>
-    requires short { length bytes.now ≤ 8388608 }
+    requires short { length (held bytes.now) ≤ 8388608 }
     ensures done { (v : Version) (tables : Tables) → IsVersion v → Pends v (seen S.Store tx.old) tables
         → NoPieces tables (placed box_name.now name.now)
         → OnOk result (Pends v (seen S.Store tx.new)
-        (with_bytes tables (placed box_name.now name.now) bytes.now)) }
+        (with_bytes tables (placed box_name.now name.now) (held bytes.now))) }
     ensures rest { GoesOnWhere (IsRunning (seen S.Store tx.old)) ⊤ S.Store tx.old tx.new result }
 {
-    let mut rest = bytes;
     let mut part = 0;
-    while !rest.is_empty() {
-        let (piece, more) = rest.split_at(PIECE.min(rest.len()));
+    while let Some(piece) = bytes.piece(part) {
         insert_piece(tx, box_name, name, part, piece)?;
-        rest = more;
         part += 1;
     }
     Ok(())

@@ -8,13 +8,14 @@ use Rattle.boxes.specs.Changes.{IsChangeOf}
 use Rattle.sqltables.specs.Schema.{v2}
 use Rattle.sqltables.specs.Tables.{tables_of}
 use Rattle.sqltables.specs.Means.{Pends, Holds, Means, LeavesOnly, AddsOnly, LeavesLast}
+use Rattle.sqlstatements.specs.Pieces.{held}
 use Rattle.sqlkeeper.proofs.Taken.{made, durable, crash, open_still}
 use Rattle.sqlkeeper.proofs.applying.apply_change.Given as given
 use Rattle.sqlkeeper.proofs.applying.apply_change.Goals as goal
 
 module _ (g : given.Over) (c : goal.After-conn-2-1 g) (s after : State) where
   -- what the transaction has written means the state after the change
-  holds : Means v2 (state g.S.Store c.args.conn.now) s → IsSound s → IsChangeOf (λ bytes. c.args.staged.now ≡ bytes) s c.args.change.now after
+  holds : Means v2 (state g.S.Store c.args.conn.now) s → IsSound s → IsChangeOf (λ bytes. held c.args.staged.now ≡ bytes) s c.args.change.now after
       → HasCleanDisk (state g.S.Store c.commit.new.self.0) → Holds v2 (state g.S.Store c.write_change.new.tx.conn.now).now (tables_of after)
   holds means sound change clean =
       let begun = state g.S.Store c.transaction-tx.result.conn.now in

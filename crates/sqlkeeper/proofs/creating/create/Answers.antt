@@ -8,9 +8,10 @@ use Rattle.sqlite.specs.Held.{state}
 use Rattle.boxes.specs.State.{State}
 use Rattle.boxes.specs.FirstState.{first_state}
 use Rattle.sqltables.specs.Schema.{v2, s0}
-use Rattle.sqltables.specs.Tables.{tables_of}
+use Rattle.sqltables.specs.Tables.{tables_of, NoneStaged}
 use Rattle.sqltables.specs.Means.{Holds, Means, IsBare, SeesNothing, LeavesOnly, AddsOnly, LeavesLast}
-use Rattle.sqlkeeper.proofs.Taken.{made, durable, crash, open_still}
+use Rattle.sqlkeeper.specs.Emptying.{HasNoneStaged}
+use Rattle.sqlkeeper.proofs.Taken.{made, durable, crash, open_still, unstaged}
 use Rattle.sqlkeeper.proofs.FirstTables.{first_tables}
 use Rattle.sqlkeeper.proofs.creating.create.Given as given
 use Rattle.sqlkeeper.proofs.creating.create.Goals as goal
@@ -63,3 +64,17 @@ returns-clause-opened g c clean =
     let same : c.commit.new.self.0 ≡ c.conn-2-1.given.0 = search rules in
     let out = open_still (state g.S.Store c.make_office.new.tx.conn.now) end c.commit.result c.commit.ensures.ok (subst (λ h. HasCleanDisk (state g.S.Store h)) (sym same) clean) (λ is_open. g.met.S.Store.stays c.commit.new.self.0.store is_open) in
     subst (λ h. OnOk c.commit.result (IsTrue (state g.S.Store h).is_open × LeavesLast (state g.S.Store h))) same out
+
+pub returns-clause-unstaged : goal.returns-clause-unstaged
+returns-clause-unstaged g c bare =
+    let begun = state g.S.Store c.transaction-tx.result.conn.now in
+    let mid = state g.S.Store c.make_office.new.tx.conn.now in
+    let end = state g.S.Store c.commit.new.self.0 in
+    let same : c.commit.new.self.0 ≡ c.conn-2-1.given.0 = search rules in
+    let nothing : SeesNothing s0 begun = rw c.transaction-tx.ensures.begun (λ was_clean _ is_open. record { schema_is = ((bare was_clean).bare is_open).schema; empty = tt }) in
+    let none : HasCleanDisk end → NoneStaged mid.now.trees = λ clean.
+    let early : HasCleanDisk mid = omega (arith, clean, c.commit.ensures.survives.clean) in
+    let running = c.in_ok-make_office.ensures.rest.running early in
+    c.in_ok-make_office.ensures.unstaged nothing early running.0 running.1 in
+    let out = unstaged mid end none c.commit.result c.commit.ensures.ok in
+    subst (λ h. OnOk c.commit.result (HasCleanDisk (state g.S.Store h) → HasNoneStaged (state g.S.Store h))) same out

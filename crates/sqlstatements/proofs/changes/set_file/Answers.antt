@@ -8,13 +8,14 @@ use Rattle.boxes.specs.Steps.{receipt_of}
 use Rattle.boxes.specs.Changes.{upload_in}
 use Rattle.sqltables.specs.Tables.{tables_of}
 use Rattle.sqltables.specs.Means.{Pends}
+use Rattle.sqlstatements.specs.Pieces.{held}
 use Rattle.sqlstatements.proofs.Commands.{row_of}
 use Rattle.sqlstatements.proofs.FileChanges.{given, same_some, totals_are, upload, in_box, fits_used, fits_count, set_tables}
 use Rattle.sqlstatements.proofs.changes.set_file.Goals as goal
 
 pub returns-clause-done : goal.returns-clause-done
 returns-clause-done g c v s after ours pends sound set inside = given _ _ c.write_file.result (λ clean.
-    let bytes = c.args.bytes.now in
+    let bytes = held c.args.bytes.now in
     let place : Place = record { box = c.in_ok-in_box.in_box.now; name = c.in_ok-name.name.now } in
     let same : place ≡ (upload_in c.args.file.now bytes).place = λ i. record { box = c.in_ok-in_box.ensures i; name = c.in_ok-name.ensures i } in
     let b = in_box s c.args.file.now bytes after place same sound set in
@@ -25,9 +26,9 @@ returns-clause-done g c v s after ours pends sound set inside = given _ _ c.writ
     let asked = c.in_ok-old.ensures.still v (tables_of s) ours pends in
     let shown = c.in_ok-totals.ensures.found v (tables_of s) ours asked running.0 last in
     let still = c.in_ok-totals.ensures.still v (tables_of s) ours asked in
-    let held = totals_are s place.box b.0 c.in_ok-totals.field-0 b.1 shown in
+    let totals = totals_are s place.box b.0 c.in_ok-totals.field-0 b.1 shown in
     let file : File = record { bytes = bytes; receipt = length s.receipts + 1 } in
-    let counted = c.set-held.ensures s place file held (search rules) old_is (fits_used s c.args.file.now bytes after place same sound set) (fits_count s c.args.file.now bytes after place same sound set) in
+    let counted = c.set-held.ensures s place file totals (search rules) old_is (rw c.len.ensures (fits_used s c.args.file.now bytes after place same sound set)) (fits_count s c.args.file.now bytes after place same sound set) in
     let there : (tables_of s).box place.box ≡ _ = rw b.1 in
     let free : slice_get s.receipts (length s.receipts) ≡ None = slice_get_past s.receipts (length s.receipts) (omega arith) in
     let tested : c.is_some.result ≡ is_some c.in_ok-old.old = search rules in

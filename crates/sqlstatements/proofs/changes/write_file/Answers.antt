@@ -3,6 +3,7 @@ use Rattle.boxes.specs.State.{Place}
 use Rattle.sqltables.specs.Tables.{Tables}
 use Rattle.sqltables.specs.Changes.{with_file, with_receipt, without_pieces, with_bytes, NoPieces}
 use Rattle.sqltables.proofs.Keys.{tells_places}
+use Rattle.sqlstatements.specs.Pieces.{held}
 use Rattle.sqlstatements.proofs.changes.write_file.Goals as goal
 
 none_left : (tables : Tables) (place : Place) → NoPieces (without_pieces tables place) place
@@ -14,4 +15,4 @@ returns-clause-done g c v tables b at r ours pends free stands there number box_
     let row = with_file (with_receipt (without_pieces tables place) at r) place (at + 1) in
     let set = c.in_ok-write_rows.ensures.done v tables at r ours pends free stands number box_is name_is size digest moment key in
     let filled = c.in_ok-insert_pieces.ensures.done v row ours set (none_left tables place) in
-    c.set_totals.ensures.done v (with_bytes row place c.args.bytes.now) b ours filled there
+    c.set_totals.ensures.done v (with_bytes row place (held c.args.bytes.now)) b ours filled there

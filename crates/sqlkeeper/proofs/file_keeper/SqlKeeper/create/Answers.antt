@@ -40,3 +40,8 @@ returns-in-Err-clause-crash g c =
     let same : to_z w16 (of_z w16 c.args.office.east) ≡ c.args.office.east = search rules in
     let adds = subst (λ id. AddsOnly v2 old end (first_state (to_z w16 (of_z w16 c.args.office.east)) c.args.office.allowance id c.args.secret.now)) c.in-Ok.ensures.cases.0 (c.create.ensures.crash bare) in
     subst (λ n. AddsOnly v2 old end (first_state n c.args.office.allowance c.args.id.now c.args.secret.now)) same adds
+
+pub returns-in-Ok-create-clause-emptied : goal.returns-in-Ok-create-clause-emptied
+returns-in-Ok-create-clause-emptied g c clean =
+    let bare : IsBare (state g.S.Store c.args.conn) = bare_of (state g.S.Store c.args.conn) (search rules) (search rules) (c.is_autocommit.ensures.settled c.if-not-is_autocommit.false) in
+    c.in-Ok-create.ensures.unstaged bare clean (c.in-Ok-create.ensures.opened clean).0

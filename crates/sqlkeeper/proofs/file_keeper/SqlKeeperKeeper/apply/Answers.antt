@@ -1,7 +1,6 @@
-use Rattle.std.proofs.Common.{◌≡◌, ℕ, List, sym, subst, ◌∙◌}
+use Rattle.std.proofs.Common.{sym, ◌∙◌}
 use Rattle.std.proofs.lemmas.Bool.{false≢true}
 use Rattle.sqlite.specs.Held.{state}
-use Rattle.boxes.specs.Changes.{IsChangeOf}
 use Rattle.boxes.proofs.Staging.{may_change}
 use Rattle.sqltables.specs.Kept.{KeepsState}
 use Rattle.sqlkeeper.proofs.Stays.{ok_too, err_too, alone, either, kept_then, kept_at_error}
@@ -11,10 +10,9 @@ use Rattle.sqlkeeper.proofs.file_keeper.SqlKeeperKeeper.apply.Goals as goal
 pub returns-clause-made : goal.returns-clause-made
 returns-clause-made g c s after keeps sound change =
     let end = state g.S.Store c.apply_change.new.conn in
-    let lent = subst (λ (l : List ℕ). IsChangeOf (λ bytes. l ≡ bytes) s c.args.change.now after) (sym c.deref.ensures.value) change in
     let may = may_change _ s after c.args.change.now change in
     ok_too (λ k. state g.S.Store k.conn) (λ k. k.faults) c.args.self.now (record { conn = c.apply_change.new.conn; staged = c.unstage.new.staged; faults = c.counted-answer.new.faults; alloc = c.args.self.now.alloc }) c.apply_change.result c.counted-answer.result c.counted-answer.ensures.value c.counted-answer.ensures.fault
-    (KeepsState end after) (kept_then end after c.apply_change.result (c.law_of_changes.ensures s after c.args.change.now sound may) (c.apply_change.ensures.made s after keeps.means sound lent))
+    (KeepsState end after) (kept_then end after c.apply_change.result (c.law_of_changes.ensures s after c.args.change.now sound may) (c.apply_change.ensures.made s after keeps.means sound change))
 
 pub returns-clause-same : goal.returns-clause-same
 returns-clause-same g c s keeps =
@@ -24,17 +22,15 @@ returns-clause-same g c s keeps =
 
 pub returns-clause-durable : goal.returns-clause-durable
 returns-clause-durable g c s after keeps sound change clean =
-    let lent = subst (λ (l : List ℕ). IsChangeOf (λ bytes. l ≡ bytes) s c.args.change.now after) (sym c.deref.ensures.value) change in
     let may = may_change _ s after c.args.change.now change in
     alone (λ k. state g.S.Store k.conn) (λ k. k.faults) c.args.self.now (record { conn = c.apply_change.new.conn; staged = c.unstage.new.staged; faults = c.counted-answer.new.faults; alloc = c.args.self.now.alloc }) c.apply_change.result c.counted-answer.result c.counted-answer.ensures.value c.counted-answer.ensures.fault
-    after (c.law_of_changes.ensures s after c.args.change.now sound may) clean (c.apply_change.ensures.opened clean) (c.apply_change.ensures.durable s after keeps.means sound lent)
+    after (c.law_of_changes.ensures s after c.args.change.now sound may) clean (c.apply_change.ensures.opened clean) (c.apply_change.ensures.durable s after keeps.means sound change)
 
 pub returns-clause-crash : goal.returns-clause-crash
 returns-clause-crash g c s after keeps sound change clean =
-    let lent = subst (λ (l : List ℕ). IsChangeOf (λ bytes. l ≡ bytes) s c.args.change.now after) (sym c.deref.ensures.value) change in
     let may = may_change _ s after c.args.change.now change in
     at_error c.counted-answer.result (either (λ k. state g.S.Store k.conn) (λ k. k.faults) c.args.self.now (record { conn = c.apply_change.new.conn; staged = c.unstage.new.staged; faults = c.counted-answer.new.faults; alloc = c.args.self.now.alloc }) c.apply_change.result c.counted-answer.result c.counted-answer.ensures.value c.counted-answer.ensures.fault
-    s after (c.law_of_changes.ensures s after c.args.change.now sound may) clean (c.apply_change.ensures.honest clean) (c.apply_change.ensures.crash s after keeps.means sound lent))
+    s after (c.law_of_changes.ensures s after c.args.change.now sound may) clean (c.apply_change.ensures.honest clean) (c.apply_change.ensures.crash s after keeps.means sound change))
 
 -- ---- room for one more receipt
 

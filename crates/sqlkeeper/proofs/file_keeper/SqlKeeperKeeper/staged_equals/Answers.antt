@@ -1,8 +1,9 @@
-use Rattle.std.proofs.Common.{◌≡◌, ℕ, List, true, false, subst, subst₂, ◌∙◌}
+use Rattle.std.proofs.Common.{◌≡◌, ℕ, List, true, false, subst, subst₂}
 use Rattle.std.specs.Prelude.{◌↔◌, IsTrue, IfOk}
 use Rattle.sqlite.specs.Held.{state}
 use Rattle.boxes.specs.State.{Place}
 use Rattle.boxes.specs.Rules.{HasBytes}
+use Rattle.sqlstatements.specs.Pieces.{held}
 use Rattle.sqlkeeper.proofs.Stays.{stays, carried}
 use Rattle.sqlkeeper.proofs.NotText.{no_file_in, no_file_named, no_bytes_at}
 use Rattle.sqlkeeper.proofs.file_keeper.SqlKeeperKeeper.staged_equals.Goals as goal
@@ -20,9 +21,9 @@ returns-in_default-from_utf8-clause-value g c staged is s keeps sound clean =
 pub returns-clause-value : goal.returns-clause-value
 returns-clause-value g c staged is s keeps sound clean =
     let place : Place = record { box = c.args.in_box.now; name = c.args.name.now } in
-    let there = subst₂ (λ (b n : List ℕ). IfOk c.has_bytes.result (λ has. IsTrue has ↔ HasBytes s (record { box = b; name = n }) c.deref.result.now)) c.in-Ok.ensures.cases.0 c.in-Ok-from_utf8.ensures.cases.0
+    let there = subst₂ (λ (b n : List ℕ). IfOk c.has_bytes.result (λ has. IsTrue has ↔ HasBytes s (record { box = b; name = n }) (held c.args.self.now.staged))) c.in-Ok.ensures.cases.0 c.in-Ok-from_utf8.ensures.cases.0
     (c.has_bytes.ensures.found s keeps.means sound clean) in
-    let found = subst (λ (l : List ℕ). IfOk c.has_bytes.result (λ has. IsTrue has ↔ HasBytes s place l)) (c.deref.ensures.value ∙ is) there in
+    let found = subst (λ (l : List ℕ). IfOk c.has_bytes.result (λ has. IsTrue has ↔ HasBytes s place l)) is there in
     carried (λ has. IsTrue has ↔ HasBytes s place staged) c.has_bytes.result c.counted.result c.counted.ensures.value found
 
 pub returns-clause-rest : goal.returns-clause-rest
