@@ -23,10 +23,8 @@ use crate::statements::{
 };
 use boxes::{BoxRow, Change, Command, NewFile, Role, Totals};
 use sqlite::{Alter, Error, ErrorCode, Transaction};
+use sqltables::MOST_BYTES;
 use std::str;
-
-/// The most bytes that are cut into pieces: 8 MiB.
-const MOST_BYTES: usize = 8_388_608;
 
 /// For a number that a column has no room for.
 const TOO_BIG: Error = Error::SqliteFailure(ErrorCode::TooBig);

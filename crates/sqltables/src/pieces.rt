@@ -7,8 +7,8 @@ ghost use Rattle.sqltables.specs.Means.{IsRunning};
 ghost use Rattle.sqltables.specs.Pieces.{IsPieceAt, AreFound};
 ghost use Rattle.sqltables.specs.Tables.{placed};
 
-use crate::PIECE;
 use crate::calls::query;
+use crate::{MOST_BYTES, PIECE};
 use sqlite::{Alter, Error, ErrorCode, Transaction, params};
 use std::alloc::Global;
 
@@ -56,7 +56,7 @@ pub fn read_file<S: Alter>(
     ensures rest { GoesOnWhere (IsRunning (seen S.Store tx.old))
         (IsTrue (seen S.Store tx.old).in_transaction) S.Store tx.old tx.new result }
 {
-    let mut bytes = Vec::new(alloc);
+    let mut bytes = Vec::with_capacity(alloc, size.min(MOST_BYTES as u64) as usize)?;
     let mut part: u32 = 0;
     while (bytes.len() as u64) < size {
         let Some(piece) = read_piece(tx, in_box, name, part)? else {
