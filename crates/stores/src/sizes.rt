@@ -1,4 +1,4 @@
-//! Files of many sizes, and their pieces. The digests are by `sha256sum`.
+//! Files of many sizes, and what rows of large ones leave in the tables. The digests are by `sha256sum`.
 use crate::files::{OfficeTrial, try_in_memory};
 use crate::opening::{open, stays};
 use keeper::Keeper;
@@ -10,8 +10,10 @@ use std::alloc::Global;
 use std::test::Fail;
 use trials::boxed::{add_box, office_row};
 use trials::errands::ROOMY;
+use trials::large::LargeRow;
 use trials::published::DATE;
 use trials::rows::{Row, holds, upload};
+use trials::watched::Watched;
 
 // Files of so many bytes `a`: their paths and receipts.
 const FILES: [(usize, &[u8], &[u8]); 5] = [
@@ -111,11 +113,58 @@ fn replaces<S: Alter + Drop>(mut office: Office<SqlKeeper<S>>) -> Result<(), Fai
     has_totals(&mut office.keeper.close(), 3, 1)
 }
 
+// What a row of large files leaves: how many receipts and files there are, how many pieces, and how long the shortest one is.
+const LEFT: [(LargeRow, [i64; 4]); 5] = [
+    (LargeRow::Comparing, [2, 2, 4, 3_392]),
+    (LargeRow::BreakingOff, [0, 0, 0, 0]),
+    (LargeRow::ComingWhole, [2, 2, 4, 3_392]),
+    (LargeRow::Filling, [2, 2, 128, 65_536]),
+    (LargeRow::Refusing, [1, 1, 0, 0]),
+];
+
+// What asks for these numbers.
+const COUNTS: [&str; 4] = [
+    "SELECT COUNT(*) FROM receipts",
+    "SELECT COUNT(*) FROM files",
+    "SELECT COUNT(*) FROM pieces",
+    "SELECT COALESCE(MIN(length(bytes)), 0) FROM pieces",
+];
+
+// The tables have these numbers, and nothing is staged in one.
+fn has_left<S: Alter>(conn: &mut Connection<S>, numbers: [i64; 4]) -> Result<(), Fail> {
+    for (sql, owed) in COUNTS.iter().zip(&numbers) {
+        let found = total(conn, sql)?;
+        if found != *owed {
+            return Err(("another number", *sql, found).into());
+        }
+    }
+    holds(
+        total(conn, "SELECT COUNT(*) FROM staged")? == 0,
+        "a row is staged",
+    )
+}
+
+// A row of large files is answered, leaves these numbers, and stays.
+fn answers<D: Disk + Drop>(
+    office: Office<SqlKeeper<FileStore<D>>>,
+    row: LargeRow,
+    numbers: [i64; 4],
+) -> Result<(), Fail> {
+    let Office { keeper, alloc, .. } = office;
+    let mut office = Office::new(alloc, Watched::new(keeper));
+    row.run(&mut office)?;
+    holds(office.keeper.faults == 0, "a call failed")?;
+    let mut conn = office.keeper.inner.close();
+    has_left(&mut conn, numbers)?;
+    stays(alloc, Office::new(alloc, open(alloc, conn)?))
+}
+
 // What is tried of the sizes of files.
 #[derive(Drop)]
 enum Sizing {
     Cuts,
     Replaces,
+    Leaves(LargeRow, [i64; 4]),
 }
 
 impl OfficeTrial for Sizing {
@@ -123,6 +172,7 @@ impl OfficeTrial for Sizing {
         match self {
             Sizing::Cuts => cuts(office)?,
             Sizing::Replaces => replaces(office)?,
+            Sizing::Leaves(row, numbers) => answers(office, row, numbers)?,
         }
         Ok(true)
     }
@@ -137,5 +187,13 @@ fn files_are_cut_into_pieces(rt: HostRuntime) -> Result<(), Fail> {
 #[test]
 fn what_is_replaced_is_not_counted(rt: HostRuntime) -> Result<(), Fail> {
     try_in_memory(rt.alloc(), office_row(0), Sizing::Replaces)?;
+    Ok(())
+}
+
+#[test]
+fn large_rows_are_answered_from_a_file(rt: HostRuntime) -> Result<(), Fail> {
+    for (row, numbers) in LEFT {
+        try_in_memory(rt.alloc(), office_row(0), Sizing::Leaves(row, numbers))?;
+    }
     Ok(())
 }

@@ -5,6 +5,7 @@ use sigv4::Moment;
 use std::alloc::Global;
 use std::test::Fail;
 use trials::fakes::{Cut, Sink, Source};
+use trials::owed::TOO_LARGE;
 use trials::published::{DATE, REQUEST, broken_off, broken_off_answers, given, joined};
 
 const NO_LENGTH: &[u8] =
@@ -21,9 +22,6 @@ const NO_CODINGS: &[u8] =
 
 pub(crate) const NOT_SIGNED: &[u8] =
     b"HTTP/1.1 403 Forbidden\r\nContent-Type: text/plain\r\nContent-Length: 41\r\n\r\nAccessDenied 9 the request is not signed\n";
-
-pub(crate) const TOO_LARGE: &[u8] =
-    b"HTTP/1.1 400 Bad Request\r\nContent-Type: text/plain\r\nContent-Length: 39\r\nConnection: close\r\n\r\nEntityTooLarge 5 the body is too large\n";
 
 // Whether the stream, so many bytes of it a read, is answered so and ends so.
 fn is_given(

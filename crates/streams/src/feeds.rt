@@ -3,11 +3,12 @@ use sigtext::Refusal;
 use std::alloc::Global;
 use std::test::Fail;
 use trials::fakes::Source;
+use trials::staged::body;
 use wire::{Counted, Feed, Piece, Step, WireFault};
 
 pub(crate) const GET: &[u8] = b"GET /b HTTP/1.1\r\n\r\n";
 
-/// A PUT of a body of so many bytes, and a GET behind it.
+/// A PUT of a body of so many bytes, 0 to 250 over and over, and a GET behind it.
 pub(crate) fn two_messages(alloc: Global, size: usize) -> Result<Vec<u8>, Fail> {
     let mut stream = Vec::new(alloc);
     let head = format!(in alloc; "PUT /a HTTP/1.1\r\nContent-Length: {size}\r\n\r\n")?;
@@ -15,17 +16,6 @@ pub(crate) fn two_messages(alloc: Global, size: usize) -> Result<Vec<u8>, Fail> 
     stream.extend_from_slice(body(alloc, size)?.as_slice())?;
     stream.extend_from_slice(GET)?;
     Ok(stream)
-}
-
-/// The body of that PUT: 0 to 250, over and over.
-pub(crate) fn body(alloc: Global, size: usize) -> Result<Vec<u8>, Fail> {
-    let mut body = Vec::new(alloc);
-    let mut byte = 0;
-    for _ in 0..size {
-        body.push(byte)?;
-        byte = if byte < 250 { byte + 1 } else { 0 };
-    }
-    Ok(body)
 }
 
 /// A head of so many bytes: 31 at least.

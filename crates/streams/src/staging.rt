@@ -1,26 +1,21 @@
 //! Uploads whose bodies are staged piece by piece: over a keeper that refuses each call in turn, over readers that give any
 //! number of bytes at once, and past a quota. Receipts are by Python's `hashlib`.
-use crate::feeds::body;
 use boxes::Mode;
 use keeper::{Keeper, Shelf};
-use office::{Counted, FixedClock, Office, SessionEnd};
-use sigv4::Moment;
+use office::{Office, SessionEnd};
 use std::alloc::Global;
 use std::test::Fail;
-use trials::boxed::{add_box, begun, put, settings};
+use trials::boxed::{add_box, begun, settings};
 use trials::errands::set_file;
-use trials::fakes::{Sink, Source};
 use trials::owed::PAST_QUOTA;
-use trials::published::{DATE, TRY_AGAIN};
+use trials::published::TRY_AGAIN;
 use trials::rows::holds;
+use trials::staged::{SIZE, body, is_unstaged, left_by, source, upload_of};
 use trials::telling::told;
 use trials::watched::Watched;
 
-/// How many bytes an upload has that is staged in some pieces.
-pub(crate) const SIZE: usize = 200_000;
-
-/// The receipt of so many bytes as the second one.
-pub(crate) const SECOND: &[u8] =
+// The receipt of so many bytes as the second one.
+const SECOND: &[u8] =
     b"HTTP/1.1 200 OK\r\nContent-Type: text/plain\r\nContent-Length: 82\r\n\r\nreceipt 2 200000 e24bc62381f1224fbbb74688663f8f9743b9680b193edd666835e97b06e730eb\n";
 
 /// An office in memory that is watched.
@@ -33,55 +28,6 @@ pub(crate) fn make_watched(alloc: Global, quota: u64) -> Result<WatchedOffice, F
     add_box(&mut office.keeper, &settings(Mode::Replace, quota, 9))?;
     set_file(&mut office.keeper, b"a2.txt", b"")?;
     Ok(office)
-}
-
-/// Nothing is staged: what is staged are the bytes of the file that has none.
-pub(crate) fn is_unstaged(office: &mut WatchedOffice) -> Result<bool, Fail> {
-    Ok(office.keeper.staged_equals(b"in", b"a2.txt")?)
-}
-
-/// An upload of these bytes as `a.txt`.
-pub(crate) fn upload_of(alloc: Global, bytes: &[u8]) -> Result<Vec<u8>, Fail> {
-    put(alloc, b"/in/a.txt", bytes)
-}
-
-/// So many bytes of the stream a read, and then its end.
-pub(crate) fn source(rest: &[u8], at_once: usize) -> Source<'_> {
-    Source {
-        rest,
-        at_once,
-        fails: false,
-    }
-}
-
-/// What a session leaves.
-#[derive(Debug, Drop)]
-pub(crate) struct Left {
-    text: Vec<u8>,
-    end: SessionEnd,
-    /// How many bytes of the stream it did not read.
-    pub(crate) unread: usize,
-}
-
-impl Left {
-    /// The session wrote this, and ended so.
-    pub(crate) fn comes_to(&self, text: &[u8], end: SessionEnd) -> Result<(), Fail> {
-        holds(self.text.as_slice() == text, "another answer")?;
-        holds(self.end == end, "another end")
-    }
-}
-
-/// A session over this source.
-pub(crate) fn left_by(office: &mut WatchedOffice, source: Source<'_>) -> Result<Left, Fail> {
-    let moment = Moment::read(DATE).ok_or("no moment")?;
-    let mut reader = Counted::new(source);
-    let mut writer = Counted::new(Sink::new(office.alloc, 4096, 4096));
-    let end = office.session(&mut reader, &mut writer, &mut FixedClock::new(moment));
-    Ok(Left {
-        text: writer.inner.text,
-        end,
-        unread: reader.inner.rest.len(),
-    })
 }
 
 // What became of an upload of which one call of the keeper was to be refused.
@@ -116,7 +62,10 @@ fn refused_at(alloc: Global, stream: &[u8], at_once: usize, call: u64) -> Result
     holds(pieces > 1 || left.unread >= 40_000, "read on")?;
     let stays = told(alloc, &mut office.keeper)? == before;
     holds(stays, "another office behind a refusal")?;
-    holds(drops == 0 || is_unstaged(&mut office)?, "bytes staged")?;
+    holds(
+        drops == 0 || is_unstaged(&mut office.keeper)?,
+        "bytes staged",
+    )?;
     left_by(&mut office, source(stream, at_once))?.comes_to(SECOND, SessionEnd::Ended)?;
     Ok(Outcome::Refused(pieces))
 }
@@ -159,7 +108,7 @@ fn receipts_are_the_same_whatever_is_read_at_once(rt: HostRuntime) -> Result<(),
         left_by(&mut office, source(&stream, at_once))?.comes_to(SECOND, SessionEnd::Ended)?;
         let file = office.keeper.file(b"in", b"a.txt")?.ok_or("no file")?;
         assert!(rt; file.bytes == bytes, "{at_once} at once");
-        assert!(rt; is_unstaged(&mut office)?, "{at_once} at once");
+        assert!(rt; is_unstaged(&mut office.keeper)?, "{at_once} at once");
     }
     Ok(())
 }
@@ -174,7 +123,7 @@ fn a_staged_upload_does_not_pass_the_quota(rt: HostRuntime) -> Result<(), Fail> 
     left_by(&mut office, source(&stream, 4096))?.comes_to(PAST_QUOTA, SessionEnd::Ended)?;
     assert!(rt; office.keeper.pieces >= 4);
     assert_eq!(rt; office.keeper.drops, 1);
-    assert!(rt; is_unstaged(&mut office)?);
+    assert!(rt; is_unstaged(&mut office.keeper)?);
     assert!(rt; told(alloc, &mut office.keeper)? == before);
     let mut office = make_watched(alloc, 200_000)?;
     left_by(&mut office, source(&stream, 4096))?.comes_to(SECOND, SessionEnd::Ended)?;

@@ -28,8 +28,8 @@ pub const ROOMY: BoxRow = BoxRow {
 // The most bytes that are staged at once.
 const MOST_PIECE: usize = 65536;
 
-// Stages these bytes, in pieces.
-fn stage_all<K: Keeper>(keeper: &mut K, bytes: &[u8]) -> Result<(), KeepFault> {
+/// Stages these bytes, in pieces.
+pub(crate) fn stage_all<K: Keeper>(keeper: &mut K, bytes: &[u8]) -> Result<(), KeepFault> {
     keeper.stage_begin()?;
     for piece in bytes.chunks(MOST_PIECE) {
         keeper.stage(piece)?;

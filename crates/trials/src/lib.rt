@@ -6,11 +6,13 @@
 pub mod boxed;
 pub mod errands;
 pub mod fakes;
+pub mod large;
 mod limits;
 pub mod lists;
 pub mod owed;
 pub mod published;
 mod repeats;
 pub mod rows;
+pub mod staged;
 pub mod telling;
 pub mod watched;

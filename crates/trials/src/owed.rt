@@ -1,10 +1,16 @@
 //! What is owed for uploads and fetches: the texts of refusals, and digests by Python's `hashlib`.
 
+pub const TOO_LARGE: &[u8] =
+    b"HTTP/1.1 400 Bad Request\r\nContent-Type: text/plain\r\nContent-Length: 39\r\nConnection: close\r\n\r\nEntityTooLarge 5 the body is too large\n";
+
 pub const MALFORMED_TARGET: &[u8] =
     b"HTTP/1.1 400 Bad Request\r\nContent-Type: text/plain\r\nContent-Length: 37\r\n\r\nInvalidURI 8 the target is malformed\n";
 
 pub const REVOKED: &[u8] =
     b"HTTP/1.1 403 Forbidden\r\nContent-Type: text/plain\r\nContent-Length: 41\r\n\r\nInvalidAccessKeyId 20 the key is revoked\n";
+
+pub const NO_SIGNATURE: &[u8] =
+    b"HTTP/1.1 403 Forbidden\r\nContent-Type: text/plain\r\nContent-Length: 54\r\n\r\nSignatureDoesNotMatch 21 the signature does not match\n";
 
 pub const NO_CLERK: &[u8] =
     b"HTTP/1.1 403 Forbidden\r\nContent-Type: text/plain\r\nContent-Length: 40\r\n\r\nAccessDenied 24 the key may not do this\n";
@@ -72,6 +78,14 @@ pub const FIRST_EMPTY: &[u8] =
 
 pub const SECOND_EMPTY: &[u8] =
     b"HTTP/1.1 200 OK\r\nContent-Type: text/plain\r\nContent-Length: 77\r\n\r\nreceipt 2 0 e3b0c44298fc1c149afbf4c8996fb92427ae41e4649b934ca495991b7852b855\n";
+
+/// The receipt of 200000 bytes 0 to 250, over and over.
+pub const FIRST_OF_SIZE: &[u8] =
+    b"HTTP/1.1 200 OK\r\nContent-Type: text/plain\r\nContent-Length: 82\r\n\r\nreceipt 1 200000 e24bc62381f1224fbbb74688663f8f9743b9680b193edd666835e97b06e730eb\n";
+
+/// The receipt of 8388608 such bytes.
+pub const FIRST_OF_MOST: &[u8] =
+    b"HTTP/1.1 200 OK\r\nContent-Type: text/plain\r\nContent-Length: 83\r\n\r\nreceipt 1 8388608 bdf23837181f5808331800c1ae2b4f7d7a839536b10d58491471c50dde23833a\n";
 
 pub const HEAD_OF_ABC: &[u8] =
     b"HTTP/1.1 200 OK\r\nContent-Type: application/octet-stream\r\nContent-Length: 3\r\nX-Drop-Receipt: 1\r\nX-Drop-Sha256: ba7816bf8f01cfea414140de5dae2223b00361a396177a9cb410ff61f20015ad\r\n\r\n";

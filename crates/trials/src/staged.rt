@@ -1,0 +1,101 @@
+//! Uploads that are staged in some pieces: their bytes, what a session over a source leaves, and uploads that break off,
+//! over any keeper that is watched.
+use crate::boxed::put;
+use crate::fakes::{Sink, Source};
+use crate::owed::NO_WHOLE_BODY;
+use crate::published::DATE;
+use crate::rows::holds;
+use crate::telling::told;
+use crate::watched::Watched;
+use keeper::Keeper;
+use office::{Counted, FixedClock, Office, SessionEnd};
+use sigv4::Moment;
+use std::alloc::Global;
+use std::test::Fail;
+
+/// How many bytes an upload has that is staged in some pieces.
+pub const SIZE: usize = 200_000;
+
+/// The greatest number of bytes of a body.
+pub const MOST: usize = 8_388_608;
+
+/// So many bytes: 0 to 250, over and over.
+pub fn body(alloc: Global, size: usize) -> Result<Vec<u8>, Fail> {
+    let mut body = Vec::new(alloc);
+    let mut byte = 0;
+    for _ in 0..size {
+        body.push(byte)?;
+        byte = if byte < 250 { byte + 1 } else { 0 };
+    }
+    Ok(body)
+}
+
+/// An upload of these bytes as `a.txt`.
+pub fn upload_of(alloc: Global, bytes: &[u8]) -> Result<Vec<u8>, Fail> {
+    put(alloc, b"/in/a.txt", bytes)
+}
+
+/// So many bytes of the stream a read, and then its end.
+pub fn source(rest: &[u8], at_once: usize) -> Source<'_> {
+    Source {
+        rest,
+        at_once,
+        fails: false,
+    }
+}
+
+/// What a session leaves.
+#[derive(Debug, Drop)]
+pub struct Left {
+    text: Vec<u8>,
+    end: SessionEnd,
+    /// How many bytes of the stream it did not read.
+    pub unread: usize,
+}
+
+impl Left {
+    /// The session wrote this, and ended so.
+    pub fn comes_to(&self, text: &[u8], end: SessionEnd) -> Result<(), Fail> {
+        holds(self.text.as_slice() == text, "another answer")?;
+        holds(self.end == end, "another end")
+    }
+}
+
+/// A session over this source.
+pub fn left_by<K: Keeper>(office: &mut Office<K>, source: Source<'_>) -> Result<Left, Fail> {
+    let moment = Moment::read(DATE).ok_or("no moment")?;
+    let mut reader = Counted::new(source);
+    let mut writer = Counted::new(Sink::new(office.alloc, 4096, 4096));
+    let end = office.session(&mut reader, &mut writer, &mut FixedClock::new(moment));
+    Ok(Left {
+        text: writer.inner.text,
+        end,
+        unread: reader.inner.rest.len(),
+    })
+}
+
+/// Nothing is staged: what is staged are the bytes of the file `a2.txt` of the box `in`, which has none.
+pub fn is_unstaged<K: Keeper>(keeper: &mut K) -> Result<bool, Fail> {
+    Ok(keeper.staged_equals(b"in", b"a2.txt")?)
+}
+
+/// The source has an upload that breaks off in its body. It is refused, or unanswered where a read fails; what was staged is
+/// let go of, and the office is as it was.
+pub fn breaks_off<K: Keeper>(
+    office: &mut Office<Watched<K>>,
+    broken: Source<'_>,
+) -> Result<(), Fail> {
+    let alloc = office.alloc;
+    let fails = broken.fails;
+    let before = told(alloc, &mut office.keeper)?;
+    office.keeper.refuse(0);
+    let left = left_by(office, broken)?;
+    if fails {
+        left.comes_to(b"", SessionEnd::ReadFault)?;
+    } else {
+        left.comes_to(NO_WHOLE_BODY, SessionEnd::Refused(6))?;
+    }
+    holds(office.keeper.drops == 1, "not let go of")?;
+    let stays = told(alloc, &mut office.keeper)? == before;
+    holds(stays, "another office")
+}
