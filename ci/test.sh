@@ -155,6 +155,7 @@ count desk desk
 count respelled python3 -B ci/respelled.py
 count lists lists
 count kills kills
+count stops python3 -B ci/stops.py
 count page page
 count memory python3 -B ci/memory.py
 count interop interop

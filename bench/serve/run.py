@@ -6,7 +6,6 @@ run. Prints tables in Markdown. README.md beside this says more.
 import argparse
 import contextlib
 import pathlib
-import re
 import shutil
 import statistics
 import subprocess
@@ -16,29 +15,14 @@ import time
 
 TOP = pathlib.Path(__file__).resolve().parents[2]
 sys.path[1:1] = [str(TOP / "bench"), str(TOP / "ci")]
-from clients import by_client, by_either, serving  # noqa: E402
+from clients import by_either, serving  # noqa: E402
 from costs import cost_row  # noqa: E402
+from memory import fetches_rows, uploads_rows  # noqa: E402
 from servers import HERE, KIB, ROWS, Drop, Nginx, body_of  # noqa: E402
 from shared import connected, disk_of, load, machine, print_table  # noqa: E402
 from swift_peer import Swift  # noqa: E402
 
 SWIFT_ROWS = [row for row in ROWS if not row.bad and not row.new]
-
-
-def memory_of(pid):
-    """The process's memory now, in KiB."""
-    status = pathlib.Path(f"/proc/{pid}/status").read_text()
-    return int(re.search(r"^VmRSS:\s+(\d+) kB", status, re.M)[1])
-
-
-def memory_rows(server, folder, client):
-    """The memory of `drop serve` behind so many GETs of 1 KiB, all in one run."""
-    row, done = ROWS[1], 0
-    with serving(server, row, folder, "") as (pid, port, file):
-        for requests in [1000, 10000, 100000]:
-            by_client(client, row, file, port, requests - done)
-            done = requests
-            yield requests, memory_of(pid)
 
 
 def commits(folder, seconds):
@@ -131,8 +115,9 @@ def run(words, folder):
         rounds.go(turn)
     print_rates(rounds)
     print_wrong(rounds)
-    memory = memory_rows(rounds.servers[0], folder, rounds.client)
-    print_table(["Requests served", "Memory of `drop serve`, KiB"], [list(map(str, it)) for it in memory])
+    for head, rows in [(["Requests served", "Memory of `drop serve`, KiB"], fetches_rows),
+                       (["Uploads", "Memory of `drop serve` before them, KiB", "At its greatest", "Behind them"], uploads_rows)]:
+        print_table(head, [list(map(str, it)) for it in rows(rounds.servers[0], folder, rounds.client)])
     if words.profile:
         print_costs(rounds)
     print(f"{words.rounds} rounds of {words.seconds} s, the best, in brackets the median; {load()} at the end")

@@ -88,15 +88,15 @@ def names_of(row, mark):
 
 
 class Drop:
-    """`drop serve` over a copy of an office with the files that stand at first."""
+    """`drop serve` over a copy of an office with the files that stand at first, or of one without a file."""
 
     name = "drop serve"
 
-    def __init__(self, program, folder):
+    def __init__(self, program, folder, files=None):
         self.drop = office.Drop(program, folder)
-        self.whole = self.drop.office("office")
-        tables.add_box(self.whole, tables.Box(BOX, max_files=10**6))
-        for name, body in first_files():
+        self.whole = self.drop.office("office" if files is None else "empty")
+        tables.add_box(self.whole, tables.Box(BOX, max_files=10**6, mode=1))
+        for name, body in first_files() if files is None else files:
             tables.add_file(self.whole, BOX, name, body, ID)
 
     def targets(self, row, names, port):

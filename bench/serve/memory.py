@@ -1,0 +1,51 @@
+"""The memory of `drop serve`: behind many fetches, and over uploads."""
+
+import dataclasses
+import pathlib
+import re
+
+from clients import by_client, serving
+from servers import KIB, MOST, ROWS, Drop, Row
+
+UPLOADS = 100  # of a kind
+
+
+def memory_of(pid, name="VmRSS"):
+    """The process's memory, in KiB: now, or by `VmHWM` at its greatest."""
+    status = pathlib.Path(f"/proc/{pid}/status").read_text()
+    return int(re.search(rf"^{name}:\s+(\d+) kB", status, re.M)[1])
+
+
+def fetches_rows(server, folder, client):
+    """Behind so many GETs of 1 KiB, all in one run."""
+    row, done = ROWS[1], 0
+    with serving(server, row, folder, "") as (pid, port, file):
+        for requests in [1000, 10000, 100000]:
+            by_client(client, row, file, port, requests - done)
+            done = requests
+            yield requests, memory_of(pid)
+
+
+def upload(client, row, file, port, requests):
+    if by_client(client, row, file, port, requests).wrong:
+        raise SystemExit(f"an upload of {row.size} bytes was refused")
+
+
+def uploads_row(server, folder, client, size, is_new):
+    """Over uploads of that many bytes into an office without a file, of a new name each, or in the place of a file that has a byte more or less."""
+    row = Row("an upload", "PUT", size, upload=True)
+    with serving(server, row, folder, "memory") as (pid, port, file):
+        open_now = memory_of(pid)
+        if is_new:
+            upload(client, row, file, port, UPLOADS)
+        else:
+            for turn in range(UPLOADS):
+                upload(client, dataclasses.replace(row, size=size - turn % 2), file, port, 1)
+        return open_now, memory_of(pid, "VmHWM"), memory_of(pid)
+
+
+def uploads_rows(server, folder, client):
+    server = Drop(server.drop.program, folder, files=[])
+    for size, said in [(KIB, "1 KiB"), (MOST, "8 MiB")]:
+        for is_new, kind in [(True, "of a new name each"), (False, "each in the place of the one before")]:
+            yield f"{UPLOADS} of {said}, {kind}", *uploads_row(server, folder, client, size, is_new)
