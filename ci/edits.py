@@ -406,6 +406,8 @@ def main():
     parser.add_argument("--anew", action="store_true", help="try also what earlier runs on this machine tried")
     parser.add_argument("--beside", type=pathlib.Path, metavar="FILE", help="rt ci still runs, until FILE is there")
     given = parser.parse_args()
+    # what `rt ci` builds while the edits are read is of this run
+    beside = Beside(given.beside)
     begin, count, kept = time.monotonic(), kit.Count(), Kept(given.anew)
     of_crates = edits_of_crates(given.only, count, kept)
     if given.list:
@@ -417,7 +419,7 @@ def main():
     RT.rtlib.guarded()
     with tempfile.TemporaryDirectory(prefix="edits-") as room:
         trials = trials_of(of_crates, given.keep or pathlib.Path(room), given.jobs)
-        for crate, edit, fault in settled(trials, given.jobs, Beside(given.beside)):
+        for crate, edit, fault in settled(trials, given.jobs, beside):
             wrong = edit.fault_of(fault)
             count.add(edit.name, wrong)
             if fault == BY_A_NAME and not wrong:
