@@ -344,9 +344,9 @@ class Trial:
 
 def settled(trials, jobs, beside):
     """Runs the checks side by side, as many as processors and memory allow, and yields each edit with its crate and fault."""
-    memory, running = (0.4 if beside.is_running() else 0.85) * RT.free(), {}
+    running = {}
     with concurrent.futures.ThreadPoolExecutor(jobs) as pool:
-        while begin_checks(trials, running, pool, jobs // 2 if beside.is_running() else jobs, memory, beside) or running:
+        while begin_checks(trials, running, pool, jobs // 2 if beside.is_running() else jobs, beside) or running:
             done = concurrent.futures.wait(running, SETTLES, concurrent.futures.FIRST_COMPLETED).done if running else []
             for ended in done:
                 trial, group = running.pop(ended)
@@ -361,8 +361,14 @@ def settled(trials, jobs, beside):
         yield from ((trial.crate, it, fault) for it in trial.left())
 
 
-def begin_checks(trials, running, pool, jobs, memory, beside):
+def room_of(running, beside):
+    """The memory that the checks may take, those that run among them."""
+    return (0.4 if beside.is_running() else 0.85) * (RT.free() + sum(it.need for it, _ in running.values()))
+
+
+def begin_checks(trials, running, pool, jobs, beside):
     """Begins the checks for which there is room, those of the first crates first. Gives whether any may come later."""
+    memory = room_of(running, beside)
     for trial in trials:
         if trial.lacks(beside):
             continue

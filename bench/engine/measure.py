@@ -24,9 +24,11 @@ TITLES = {
     "upload": "the rows of an upload of 1 KiB",
     "asked-upload": "the same, with what the office asks",
     "large-upload": "the rows of an upload of 1 MiB",
+    "most-upload": "the rows of an upload of 8 MiB",
     "fetch": "1 KiB, read by pieces",
     "asked-fetch": "the same, with what the office asks",
     "large-fetch": "1 MiB, read by pieces",
+    "most-fetch": "8 MiB, read by pieces",
 }
 
 
