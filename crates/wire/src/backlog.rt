@@ -1,5 +1,5 @@
 //! Bytes that were read ahead.
-ghost use Rattle.std.specs.Prelude.{◌≡◌, ◌↔◌, ◌≤◌, ◌<◌, ◌-◌, ◌+◌, ℕ, List, [], ◌++◌, true, false, length, take, drop, vec_len, IfOk, IfErr, IsTrue, OnErr};
+ghost use Rattle.std.specs.Prelude.{◌≡◌, ◌↔◌, ◌≤◌, ◌<◌, ◌-◌, ◌+◌, ℕ, List, [], ◌++◌, true, false, length, take, drop, vec_len, IfOk, IfErr, IsTrue, OnErr, OnOk};
 ghost use Rattle.std.specs.Io.KnownBytes.{Consumes, IsAtEnd, Keeps, prepend_known};
 ghost use Rattle.sigtext.specs.Limits.{most_head};
 ghost use Rattle.sigtext.specs.Counts.{CountsErrors};
@@ -52,6 +52,25 @@ impl Backlog {
             start: 0,
             end: 0,
         })
+    }
+
+    /// Takes memory for the room where there is none.
+    pub fn make_room(&mut self, alloc: Global) -> Result<(), AllocError>
+        requires { waiting self.old ≡ [] }
+        ensures waiting { waiting self.new ≡ [] }
+        ensures room { OnOk result (vec_len self.new.bytes ≡ ROOM) }
+    {
+        if !self.has_room() {
+            *self = Backlog::with_room(alloc)?;
+        }
+        Ok(())
+    }
+
+    /// Whether there is room.
+    pub fn has_room(&self) -> bool
+        ensures { IsTrue result ↔ (vec_len self.now.bytes ≡ ROOM) }
+    {
+        self.bytes.len() == ROOM
     }
 
     /// The bytes that wait.

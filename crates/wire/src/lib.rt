@@ -13,6 +13,7 @@ mod found;
 pub mod head;
 pub mod joining;
 pub mod sending;
+pub mod standing;
 
 pub use answer::{Answer, Reply, put_answer};
 pub use backlog::MOST_HEAD;
@@ -23,3 +24,4 @@ pub use found::hex_digits;
 pub use head::{Head, MOST_FIELDS, Message, head_end, read_head};
 pub use joining::{Came, Ending, read_opening, skip_body};
 pub use sending::send;
+pub use standing::{Room, Standing};
