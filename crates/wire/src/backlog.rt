@@ -108,6 +108,15 @@ impl Backlog {
         self.start += n;
     }
 
+    /// Takes all that wait.
+    pub fn take_all(&mut self)
+        ensures waiting { waiting self.new ≡ [] }
+        ensures room { vec_len self.new.bytes ≡ vec_len self.old.bytes }
+    {
+        let n = self.waiting().len();
+        self.take(n);
+    }
+
     /// The n bytes that were taken last.
     pub fn taken(&self, n: usize) -> &[u8]
         requires { n ≤ self.now.start }

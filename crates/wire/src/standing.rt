@@ -5,7 +5,10 @@ ghost use Rattle.wire.specs.declared.feed.Place.TheVariants as stands;
 
 use crate::backlog::Backlog;
 use crate::feed::Place;
+use crate::gathered::Gathered;
 use std::alloc::{AllocError, Global};
+use std::io::Read;
+use std::mem;
 
 /// A buffer of 73,728 bytes, which one feed after another has while it is served.
 #[derive(Drop)]
@@ -22,6 +25,17 @@ impl Room {
             backlog: Backlog::with_room(alloc)?,
         })
     }
+
+    // A buffer in which no byte waits, where it has room.
+    fn of(backlog: Backlog) -> Option<Room>
+        requires { waiting backlog ≡ [] }
+    {
+        if backlog.has_room() {
+            Some(Room { backlog })
+        } else {
+            None
+        }
+    }
 }
 
 /// A feed that was set aside: where it stands, and the bytes that it read and did not take. Where no byte waits it has no
@@ -36,7 +50,9 @@ pub struct Standing {
 }
 
 impl Standing {
+    ghost use Rattle.std.specs.Prelude.{◌++◌, IsSome};
     ghost use Rattle.wire.specs.Feeds.{ahead_of, stood_at};
+    ghost use Rattle.wire.specs.Gathering.{ahead_in};
 
     /// A feed that has read nothing yet. It takes no memory.
     pub fn new(alloc: Global) -> Standing
@@ -64,6 +80,23 @@ impl Standing {
         self.backlog.waiting()
     }
 
+    /// Puts the bytes that were read and not taken back before those that the reader has ahead, if these are no more than it gave
+    /// since, and hands the buffer back.
+    pub fn give_back<S: Read>(&mut self, reader: &mut Gathered<S>) -> Option<Room>
+        ensures place { stood_at self.new ≡ stood_at self.old }
+        ensures kept { ahead_of self.new ++ ahead_in reader.new ≡ ahead_of self.old ++ ahead_in reader.old }
+        ensures back { IsSome result → ahead_of self.new ≡ [] }
+        ensures inner { reader.new.inner ≡ reader.old.inner }
+        ensures fault { reader.new.fault ≡ reader.old.fault }
+    {
+        if !reader.put_back(self.backlog.waiting()) {
+            return None;
+        }
+        let mut backlog = mem::replace(&mut self.backlog, Backlog::new(self.alloc));
+        backlog.take_all();
+        Room::of(backlog)
+    }
+
     // A feed that stands there, whose buffer this was. The buffer is handed back where no byte waits in it.
     pub(crate) fn parted(alloc: Global, place: Place, backlog: Backlog) -> (Standing, Option<Room>)
         requires fresh { place ≡ stands.Fresh → waiting backlog ≡ [] }
@@ -86,11 +119,7 @@ impl Standing {
             backlog: Backlog::new(alloc),
             place,
         };
-        if backlog.has_room() {
-            (standing, Some(Room { backlog }))
-        } else {
-            (standing, None)
-        }
+        (standing, Room::of(backlog))
     }
 
     // Its parts, with a buffer that has room: its own where bytes wait in it, and else this one.
