@@ -39,3 +39,4 @@ pub mod SeatTurns
 pub mod Sitting
 pub mod Weaving
 pub mod CrowdTurns
+pub mod Changing

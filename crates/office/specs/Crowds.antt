@@ -27,6 +27,10 @@ pub data Changes {R W : Type 0} (remaining : R → Option (List ℕ)) (old : Lis
   -- one goes, whether it has ended or not
   goes : (now : List (Option (Seat R W))) (came p : ℕ) → Changes remaining old now came → p < length now → Changes remaining old (slice_set now p None) came
 
+-- the same, where so many had come before, and so many after
+abbrev pub ChangesBy : {R W : Type 0} → (R → Option (List ℕ)) → ℕ → ℕ → List (Option (Seat R W)) → List (Option (Seat R W)) → Type 0
+ChangesBy remaining before after old new = (n : ℕ) × Changes remaining old new n × (after ≡ before + n)
+
 -- the connection ended by a read or a write that failed
 abbrev pub is_fault_end : Option SessionEnd → Bool
 is_fault_end None = false

@@ -1,6 +1,6 @@
 //! Connections that come and go while others are served.
 ghost use Rattle.std.specs.Prelude.{◌≡◌, ◌+◌, ◌<◌, ℕ, IfSome, length};
-ghost use Rattle.office.specs.Crowds.{Changes, is_fault_end};
+ghost use Rattle.office.specs.Crowds.{ChangesBy, is_fault_end};
 
 use super::seat::Seat;
 use super::session::SessionEnd;
@@ -20,8 +20,8 @@ pub trait Crowd<R: Read, W> {
     /// Waits for what comes next. The index of the slot whose turn it is, any and however often; or none where no turn is to be
     /// taken any more.
     fn next(&mut self, slots: &mut [Option<Seat<R, W>>]) -> Option<usize>
-        ensures changes { (n : ℕ) × Changes R.remaining slots.old slots.new n
-            × (came self.new ≡ came self.old + n) }
+        ensures changes { ChangesBy R.remaining (came self.old) (came self.new)
+            slots.old slots.new }
         ensures within { IfSome result (λ index. index < length slots.new) };
 }
 
