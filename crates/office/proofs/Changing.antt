@@ -1,6 +1,6 @@
 -- What goes on in slots, one thing after another.
-use Rattle.std.proofs.Common.{◌≡◌, ◌<◌, ◌+◌, ℕ, suc, List, Option, None, Some, length, get_or, set, refl, subst, ◌∙◌, sym, arith}
-use Rattle.std.proofs.lemmas.List.{get_or_default}
+use Rattle.std.proofs.Common.{◌≡◌, ◌<◌, ◌+◌, ℕ, suc, List, Option, None, Some, length, get_or, set, refl, subst, ap, ◌∙◌, sym, arith}
+use Rattle.std.proofs.lemmas.List.{get_or_default, set-get_or}
 use Rattle.office.specs.Crowds.{Changes, ChangesBy, slot_at}
 use Rattle.office.specs.Crowds as crowd
 use Rattle.office.specs.Seats.{Gathers, IsNew}
@@ -40,3 +40,7 @@ module _ {R W : Type 0} (remaining : R → Option (List ℕ)) where
   -- the slot is made free
   pub by_goes : (i : ℕ) (a : List (Option (Seat R W))) (p : ℕ) → p < length a → ChangesBy remaining i i a (set a p None)
   by_goes i a p lt = (0, crowd.goes a 0 p crowd.same lt, omega arith)
+
+  -- what stands in the slot stays
+  pub by_kept : (i : ℕ) (a : List (Option (Seat R W))) (p : ℕ) (d now : Option (Seat R W)) → now ≡ get_or a p d → ChangesBy remaining i i a (set a p now)
+  by_kept i a p d now is = subst (ChangesBy remaining i i a) (sym (ap (set a p) is ∙ set-get_or a p d)) (by_none i a)

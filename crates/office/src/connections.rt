@@ -7,5 +7,6 @@ pub mod run;
 pub mod seat;
 pub mod serving;
 pub mod session;
+pub mod slots;
 mod stepping;
 pub mod turning;

@@ -80,9 +80,12 @@ impl<S: Read, W> Seat<Gathered<S>, W> {
     }
 
     /// Puts what its feed read and did not take back to what was read ahead, if it came from there, and hands the buffer back.
+    /// Where nothing is ahead then, it lets go of the memory.
     pub fn give_back(&mut self) -> Option<Room>
         ensures { Gathers ⟦<Gathered<S> as Read>⟧.remaining self.old self.new }
     {
-        self.standing.give_back(&mut self.reader.inner)
+        let room = self.standing.give_back(&mut self.reader.inner);
+        self.reader.inner.let_go();
+        room
     }
 }
