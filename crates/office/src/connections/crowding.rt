@@ -18,8 +18,8 @@ pub trait Crowd<R: Read, W> {
     ghost came: { Self → ℕ };
 
     /// Waits for what comes next. The index of the slot whose turn it is, any and however often; or none where no turn is to be
-    /// taken any more.
-    fn next(&mut self, slots: &mut [Option<Seat<R, W>>]) -> Option<usize>
+    /// taken any more. The spare room is for the next turn: one that a seat hands back may be put there.
+    fn next(&mut self, slots: &mut [Option<Seat<R, W>>], spare: &mut Option<Room>) -> Option<usize>
         ensures changes { ChangesBy R.remaining (came self.old) (came self.new)
             slots.old slots.new }
         ensures within { IfSome result (λ index. index < length slots.new) };
@@ -108,7 +108,7 @@ impl<K: Keeper> Office<K> {
         let mut spare = None;
         let mut faulty = 0;
         'turns: for _ in 0..u64::MAX {
-            let Some(index) = crowd.next(slots) else {
+            let Some(index) = crowd.next(slots, &mut spare) else {
                 return faulty;
             };
             let turned = self.turn_slot(&mut slots[index], spare, clock);
