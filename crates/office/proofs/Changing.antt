@@ -1,5 +1,5 @@
 -- What goes on in slots, one thing after another.
-use Rattle.std.proofs.Common.{◌≡◌, ◌<◌, ◌+◌, ℕ, suc, List, Option, None, Some, length, get_or, set, refl, subst, ap, ◌∙◌, sym, arith}
+use Rattle.std.proofs.Common.{◌≡◌, ◌<◌, ◌+◌, ℕ, suc, List, Option, None, Some, length, get_or, set, subst, ap, ◌∙◌, sym, arith}
 use Rattle.std.proofs.lemmas.List.{get_or_default, set-get_or}
 use Rattle.office.specs.Crowds.{Changes, ChangesBy, slot_at}
 use Rattle.office.specs.Crowds as crowd

@@ -1,7 +1,7 @@
 -- Connections that come, are served in turn, and go: what they are as sittings, and what each change makes of them.
-use Rattle.std.proofs.Common.{⊎_elim, ◌≡◌, ◌≢◌, ◌<◌, ◌≤◌, ◌+◌, ◌⊎◌, ℕ, zero, suc, Bool, true, false, cond, List, [], ◌∷◌, ◌++◌, length, get_or, set, Option, Some, None, refl, sym, ap, subst, ◌∙◌, arith, inl, inr}
+use Rattle.std.proofs.Common.{⊎_elim, ◌≡◌, ◌<◌, ◌+◌, ℕ, zero, suc, Bool, true, false, cond, List, [], ◌∷◌, ◌++◌, length, get_or, set, Option, Some, None, refl, sym, ap, subst, ◌∙◌, arith}
 use Rattle.std.specs.Prelude.{is_some, nat_eq, not}
-use Rattle.std.specs.List.{AllByRecursion, count_by, sum_by}
+use Rattle.std.specs.List.{count_by, sum_by}
 use Rattle.std.proofs.lemmas.Bool.{cases_eq}
 use Rattle.std.proofs.lemmas.List.{set-get_or, get_or_default, get_or-set_other, get_or-set_same, get_or_append_left, length-append, length-set}
 use Rattle.std.proofs.lemmas.List.Sums.{sum_by-append}
@@ -10,7 +10,7 @@ use Rattle.std.specs.Io.KnownBytes.{Keeps}
 use Rattle.keeper.specs.declared.keep.Keeper.{Ghosts}
 use Rattle.wire.specs.declared.counted.Counted.{Counted}
 use Rattle.boxes.specs.State.{State}
-use Rattle.office.specs.Connections.{Serves, is_fault}
+use Rattle.office.specs.Connections.{Serves}
 use Rattle.office.specs.Crowds.{Changes, ServesCrowd, TurnsSlot, fails_now, is_fault_end, slot_at}
 use Rattle.office.specs.Crowds as crowd
 use Rattle.office.specs.Interleaved.{Thread, acts_in}

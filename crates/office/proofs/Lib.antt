@@ -40,3 +40,4 @@ pub mod Sitting
 pub mod Weaving
 pub mod CrowdTurns
 pub mod Changing
+pub mod WithoutInTurn

@@ -1,5 +1,5 @@
 -- Seats in turn: what they are as sittings, and what a turn makes of them.
-use Rattle.std.proofs.Common.{◌≡◌, ◌<◌, ◌≤◌, ◌+◌, ◌⊎◌, ℕ, zero, suc, Bool, true, false, List, [], ◌∷◌, length, get_or, set, Option, Some, None, refl, sym, ap, subst, ◌∙◌, arith, inl, inr}
+use Rattle.std.proofs.Common.{◌≡◌, ◌<◌, ◌≤◌, ◌+◌, ℕ, zero, suc, Bool, true, false, List, [], ◌∷◌, length, get_or, set, Option, Some, None, refl, sym, ap, subst, ◌∙◌, arith, inl, inr}
 use Rattle.std.specs.Prelude.{⊤, is_some}
 use Rattle.std.specs.List.{AllByRecursion}
 use Rattle.std.proofs.lemmas.List.{set-get_or}
@@ -14,9 +14,8 @@ use Rattle.wire.specs.declared.feed.Place.{Place}
 use Rattle.wire.specs.declared.feed.Place.TheVariants as place
 use Rattle.wire.specs.declared.standing.Standing.{Standing}
 use Rattle.office.specs.Begins.{may_begin}
-use Rattle.office.specs.Connections.{TellsFaults}
 use Rattle.office.specs.Interleaved.{Thread, acts_in}
-use Rattle.office.specs.Premise.{HoldsUp, IsLeft}
+use Rattle.office.specs.Premise.{IsLeft}
 use Rattle.office.specs.Seats.{AreThreads, IsNew, IsStreamOf, TakesTurn, TellsTurn, TellsTurnOf, Weaves, had_ended, went_on, ended, left_of}
 use Rattle.office.specs.Sessions.{most_messages}
 use Rattle.office.specs.Stepping.{Steps, TellsStep}

@@ -1,11 +1,10 @@
 -- A connection as it is now, among others, and what a turn makes of it.
-use Rattle.std.proofs.Common.{◌≡◌, ◌≤◌, ◌+◌, ◌-◌, ℕ, suc, Bool, true, false, List, [], ◌∷◌, ◌++◌, Option, Some, None, refl, sym, ap, subst, ◌∙◌, append_assoc, arith}
-use Rattle.std.proofs.lemmas.List.{append-nil}
+use Rattle.std.proofs.Common.{◌≡◌, ◌≤◌, ◌+◌, ℕ, suc, Bool, true, false, List, [], ◌∷◌, ◌++◌, Option, Some, None, sym, ap, subst, ◌∙◌, append_assoc, arith}
 use Rattle.std.proofs.KnownBytes.{Appends-nil, Appends-trans, Consumes-kept, Consumes-nil, Consumes-trans}
 use Rattle.std.specs.Io.KnownBytes.{Appends, Consumes, Keeps}
 use Rattle.keeper.specs.declared.keep.Keeper.{Ghosts}
 use Rattle.boxes.specs.State.{State}
-use Rattle.office.specs.Connections.{IsKnown, IsStream, Serves}
+use Rattle.office.specs.Connections.{IsKnown, IsStream}
 use Rattle.office.specs.Interleaved.{Speaks}
 use Rattle.office.specs.Interleaved as said
 use Rattle.office.specs.Repeats.{Act, text_of}

@@ -21,7 +21,7 @@ use Rattle.office.proofs.Endurance.{still, then_through}
 use Rattle.office.proofs.Repeats.{session_acts}
 use Rattle.office.proofs.RunSoFar.{told_more}
 use Rattle.office.proofs.RunTurns.{acts_joined, less_is_not, same_is, speaks_of}
-use Rattle.office.proofs.Sitting.{Sitting, Heard, Closed, Sits, SitsSo, IsFirst, act_of, answered, answered_sits, closed, closed_sits, first_sits, gathered, gathered_sits, open_sits, sits_by, sits_open}
+use Rattle.office.proofs.Sitting.{Sitting, Sits, SitsSo, IsFirst, act_of, answered, answered_sits, closed, closed_sits, first_sits, gathered, gathered_sits, open_sits, sits_by, sits_open}
 
 -- ---- one turn more at the end
 

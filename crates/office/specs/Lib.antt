@@ -26,3 +26,4 @@ pub mod Serving
 pub mod Sessions
 pub mod Stepping
 pub mod WithoutTryAgain
+pub mod WithoutTurns

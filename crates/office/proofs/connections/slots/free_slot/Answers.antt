@@ -1,4 +1,4 @@
-use Rattle.std.proofs.Common.{◌∙◌, subst, sym}
+use Rattle.std.proofs.Common.{subst, sym}
 use Rattle.std.specs.Prelude.{slice_set}
 use Rattle.office.specs.Crowds.{ChangesBy}
 use Rattle.office.proofs.Changing.{by_goes}

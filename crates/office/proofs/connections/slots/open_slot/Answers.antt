@@ -1,5 +1,4 @@
-use Rattle.std.proofs.Common.{◌≡◌, ◌+◌, ◌∙◌, refl, sym}
-use Rattle.std.proofs.lemmas.List.{get_or_default}
+use Rattle.std.proofs.Common.{◌+◌, refl}
 use Rattle.std.specs.Prelude.{None}
 use Rattle.office.proofs.Changing.{by_comes}
 use Rattle.office.proofs.connections.slots.open_slot.Goals as goal

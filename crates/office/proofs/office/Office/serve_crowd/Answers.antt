@@ -1,4 +1,4 @@
-use Rattle.std.proofs.Common.{[], ◌≡◌, ◌+◌, ◌∙◌, ℕ, Bool, cond, ap, inl, refl, sym, arith}
+use Rattle.std.proofs.Common.{[], ◌≡◌, ◌+◌, ◌∙◌, Bool, cond, ap, inl, sym, arith}
 use Rattle.office.proofs.CrowdTurns.{changes_more, crowd_ends, crowd_starts, turned_more}
 use Rattle.office.proofs.KeeperCalls.{unstaged_then}
 use Rattle.office.proofs.Weaving.{starts}

@@ -1,6 +1,6 @@
-use Rattle.std.proofs.Common.{◌≡◌, ◌∙◌, ap, sym, refl, subst}
+use Rattle.std.proofs.Common.{◌≡◌, ◌∙◌, ap, sym}
 use Rattle.std.specs.Io.KnownBytes.{prepend_known}
-use Rattle.wire.specs.Feeds.{ahead_of, left, place_of, reader_of, stood_at, waits_in}
+use Rattle.wire.specs.Feeds.{ahead_of, left, place_of, reader_of}
 use Rattle.office.proofs.SeatTurns.{steps_by}
 use Rattle.office.proofs.office.Office.step_aside.Goals as goal
 

@@ -1,6 +1,4 @@
-use Rattle.std.proofs.Common.{◌≡◌, ◌∙◌, ◌-◌, None, Some, Option, suc, refl, sym, ap, arith}
-use Rattle.std.specs.Io.KnownBytes.{prepend_known}
-use Rattle.wire.specs.Feeds.{ahead_of, stood_at}
+use Rattle.std.proofs.Common.{◌≡◌, ◌∙◌, ◌-◌, None, Some, suc, refl, sym, arith}
 use Rattle.office.specs.declared.connections.session.SessionEnd.TheVariants.{Limit}
 use Rattle.office.specs.Seats.{had_ended, went_on, ended, left_of}
 use Rattle.office.proofs.SeatTurns.{none_of, some_of, steps_of}

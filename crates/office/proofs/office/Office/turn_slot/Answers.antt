@@ -1,8 +1,7 @@
-use Rattle.std.proofs.Common.{◌≡◌, ◌∙◌, Bool, false, Some, Option, refl, sym, ap, subst}
+use Rattle.std.proofs.Common.{◌≡◌, ◌∙◌, false, Some, Option, refl, sym, ap, subst}
 use Rattle.std.specs.Prelude.{is_some, not}
 use Rattle.office.specs.Crowds.{TurnsSlot, left_out, fails_now, is_fault_end}
 use Rattle.office.specs.declared.connections.seat.Seat.{Seat}
-use Rattle.office.specs.declared.connections.session.SessionEnd.{SessionEnd}
 use Rattle.office.proofs.CrowdTurns.{fails_open, fails_closed, taken_by}
 use Rattle.office.proofs.office.Office.turn_slot.Goals as goal
 use Rattle.office.proofs.office.Office.turn_slot.Goals.{then-was_open, else-was_open}
