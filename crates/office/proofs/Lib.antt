@@ -34,3 +34,10 @@ mod Foreseen
 mod Staged
 mod Unstaged
 pub mod StagedSoFar
+pub mod RunTurns
+pub mod SeatTurns
+pub mod Sitting
+pub mod Weaving
+pub mod CrowdTurns
+pub mod Changing
+pub mod WithoutInTurn

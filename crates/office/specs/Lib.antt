@@ -2,12 +2,15 @@ pub mod Admitted
 pub mod Alike
 pub mod Announcing
 pub mod Answering
+pub mod Begins
 pub mod Clocks
 pub mod Connections
 pub mod Crashes
+pub mod Crowds
 pub mod DeskLines
 pub mod Foreseeing
 pub mod Handling
+pub mod Interleaved
 pub mod Offices
 pub mod Places
 pub mod Premise
@@ -17,8 +20,10 @@ pub mod Repeats
 pub mod Replays
 pub mod Replying
 pub mod Rules
+pub mod Seats
 pub mod Sent
 pub mod Serving
 pub mod Sessions
 pub mod Stepping
 pub mod WithoutTryAgain
+pub mod WithoutTurns

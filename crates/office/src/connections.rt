@@ -1,8 +1,12 @@
 //! Connections: one, a list of them, and a listener's; each message of one is a request.
+pub mod crowding;
 mod handling;
 mod receiving;
 pub mod replay;
 pub mod run;
+pub mod seat;
 pub mod serving;
 pub mod session;
+pub mod slots;
 mod stepping;
+pub mod turning;

@@ -1,5 +1,5 @@
 //! Bytes that were read ahead.
-ghost use Rattle.std.specs.Prelude.{◌≡◌, ◌↔◌, ◌≤◌, ◌<◌, ◌-◌, ◌+◌, ℕ, List, [], ◌++◌, true, false, length, take, drop, vec_len, IfOk, IfErr, IsTrue, OnErr};
+ghost use Rattle.std.specs.Prelude.{◌≡◌, ◌↔◌, ◌≤◌, ◌<◌, ◌-◌, ◌+◌, ℕ, List, [], ◌++◌, true, false, length, take, drop, vec_len, IfOk, IfErr, IsTrue, OnErr, OnOk};
 ghost use Rattle.std.specs.Io.KnownBytes.{Consumes, IsAtEnd, Keeps, prepend_known};
 ghost use Rattle.sigtext.specs.Limits.{most_head};
 ghost use Rattle.sigtext.specs.Counts.{CountsErrors};
@@ -54,6 +54,25 @@ impl Backlog {
         })
     }
 
+    /// Takes memory for the room where there is none.
+    pub fn make_room(&mut self, alloc: Global) -> Result<(), AllocError>
+        requires { waiting self.old ≡ [] }
+        ensures waiting { waiting self.new ≡ [] }
+        ensures room { OnOk result (vec_len self.new.bytes ≡ ROOM) }
+    {
+        if !self.has_room() {
+            *self = Backlog::with_room(alloc)?;
+        }
+        Ok(())
+    }
+
+    /// Whether there is room.
+    pub fn has_room(&self) -> bool
+        ensures { IsTrue result ↔ (vec_len self.now.bytes ≡ ROOM) }
+    {
+        self.bytes.len() == ROOM
+    }
+
     /// The bytes that wait.
     pub fn waiting(&self) -> &[u8]
         ensures { result.now ≡ waiting self.now }
@@ -87,6 +106,15 @@ impl Backlog {
         let end = self.end;
         prove!(self.start <= end);
         self.start += n;
+    }
+
+    /// Takes all that wait.
+    pub fn take_all(&mut self)
+        ensures waiting { waiting self.new ≡ [] }
+        ensures room { vec_len self.new.bytes ≡ vec_len self.old.bytes }
+    {
+        let n = self.waiting().len();
+        self.take(n);
     }
 
     /// The n bytes that were taken last.

@@ -17,9 +17,11 @@ use crate::backlog::Backlog;
 use crate::counted::Counted;
 use crate::cutting::{cut_piece, find};
 use crate::fault::WireFault;
+use crate::standing::{Room, Standing};
 use sigtext::Refusal;
 use std::alloc::Global;
 use std::io::Read;
+use std::mem;
 
 /// The head of a message. Its text is lent from the feed's buffer until the feed's next call: what is
 /// needed longer is copied out, and `read_head` reads its parts.
@@ -83,7 +85,7 @@ pub struct Feed<'r, R> {
 
 impl<'r, R: Read> Feed<'r, R> {
     ghost use Rattle.wire.specs.contracts.feed.Feed.{the_row};
-    ghost use Rattle.wire.specs.Feeds.{SameReader, left, place_of, reader_of, waits_in};
+    ghost use Rattle.wire.specs.Feeds.{SameReader, ahead_of, left, place_of, reader_of, stood_at, waits_in};
 
     /// Reads nothing and takes no memory.
     pub fn new(alloc: Global, reader: &'r mut Counted<R>) -> Feed<'r, R>
@@ -98,6 +100,37 @@ impl<'r, R: Read> Feed<'r, R> {
             backlog: Backlog::new(alloc),
             place: Place::Fresh,
         }
+    }
+
+    /// Goes on where a feed stood, over the reader that this one had. It has the room, or lets go of it where bytes wait in a
+    /// buffer already.
+    pub fn resume(standing: Standing, room: Room, reader: &'r mut Counted<R>) -> Feed<'r, R>
+        ensures same { result.reader.ghost_name ≡ reader.entry.ghost_name }
+        ensures reader { reader_of result ≡ reader.old }
+        ensures place { place_of result ≡ stood_at standing }
+        ensures waiting { waits_in result ≡ ahead_of standing }
+    {
+        let (alloc, place, backlog) = standing.joined(room);
+        Feed {
+            reader,
+            alloc,
+            backlog,
+            place,
+        }
+    }
+
+    /// Where the feed stands and what it read ahead, for a later feed over the same reader; and its room, where no byte waits in
+    /// it. This feed is then over, and its reader is given back by `into_reader`.
+    pub fn set_aside(&mut self) -> (Standing, Option<Room>)
+        ensures same { SameReader self.old self.new }
+        ensures reader { reader_of self.new ≡ reader_of self.old }
+        ensures place { stood_at result.0 ≡ place_of self.old }
+        ensures waiting { ahead_of result.0 ≡ waits_in self.old }
+    {
+        let place = self.place;
+        self.place = Place::Over;
+        let backlog = mem::replace(&mut self.backlog, Backlog::new(self.alloc));
+        Standing::parted(self.alloc, place, backlog)
     }
 
     /// Gives the reader back. Call it at the end: a feed that is only dropped tells nothing of its reader.
@@ -165,13 +198,12 @@ impl<'r, R: Read> Feed<'r, R> {
         ensures count { CountsReads result (reader_of self.old).faults (reader_of self.new).faults }
     {
         match self.place {
-            Place::Fresh => match Backlog::with_room(self.alloc) {
-                Ok(backlog) => self.backlog = backlog,
-                Err(_) => {
+            Place::Fresh => {
+                if self.backlog.make_room(self.alloc).is_err() {
                     self.place = Place::Over;
                     return Err(WireFault::Memory);
                 }
-            },
+            }
             Place::Between => {}
             Place::Body(_) | Place::Over => {
                 self.place = Place::Over;

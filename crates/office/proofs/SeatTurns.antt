@@ -1,0 +1,257 @@
+-- Seats in turn: what they are as sittings, and what a turn makes of them.
+use Rattle.std.proofs.Common.{◌≡◌, ◌<◌, ◌≤◌, ◌+◌, ℕ, zero, suc, Bool, true, false, List, [], ◌∷◌, length, get_or, set, Option, Some, None, refl, sym, ap, subst, ◌∙◌, arith, inl, inr}
+use Rattle.std.specs.Prelude.{⊤, is_some}
+use Rattle.std.specs.List.{AllByRecursion}
+use Rattle.std.proofs.lemmas.List.{set-get_or}
+use Rattle.std.specs.Io.KnownBytes.{Appends, prepend_known}
+use Rattle.sigtext.specs.Counts.{Rose}
+use Rattle.keeper.specs.declared.keep.Keeper.{Ghosts}
+use Rattle.boxes.specs.State.{State}
+use Rattle.wire.specs.Feeds.{ahead_of, stood_at}
+use Rattle.wire.specs.Whole.{MayBegin}
+use Rattle.wire.specs.declared.counted.Counted.{Counted}
+use Rattle.wire.specs.declared.feed.Place.{Place}
+use Rattle.wire.specs.declared.feed.Place.TheVariants as place
+use Rattle.wire.specs.declared.standing.Standing.{Standing}
+use Rattle.office.specs.Begins.{may_begin}
+use Rattle.office.specs.Interleaved.{Thread, acts_in}
+use Rattle.office.specs.Premise.{IsLeft}
+use Rattle.office.specs.Seats.{AreThreads, IsNew, IsStreamOf, TakesTurn, TellsTurn, TellsTurnOf, Weaves, had_ended, went_on, ended, left_of}
+use Rattle.office.specs.Sessions.{most_messages}
+use Rattle.office.specs.Stepping.{Steps, TellsStep}
+use Rattle.office.specs.declared.connections.seat.Seat.{Seat}
+use Rattle.office.specs.declared.connections.session.SessionEnd.{SessionEnd}
+use Rattle.office.proofs.Repeats.{repeats_once}
+use Rattle.office.proofs.RunSoFar.{MeansOne}
+use Rattle.office.proofs.Sitting.{IsFirst, Sitting, answered, closed}
+use Rattle.office.proofs.Weaving.{AreThreadsOf, IsThreadOf, SoFar, all_last, answered_more, closed_more, finishes, none_gave_up}
+
+-- ---- where a message may begin
+
+pub may_begin_there : (p : Place) → may_begin p ≡ true → MayBegin p
+may_begin_there place.Fresh h = inl refl
+may_begin_there place.Between h = inr refl
+may_begin_there (place.Body n) h = absurd cc
+may_begin_there place.Over h = absurd cc
+
+pub none_of : (e : Option SessionEnd) → is_some e ≡ false → e ≡ None
+none_of None h = refl
+none_of (Some x) h = absurd cc
+
+pub some_of : (e : Option SessionEnd) → is_some e ≡ true → (x : SessionEnd) × (e ≡ Some x)
+some_of None h = absurd cc
+some_of (Some x) h = (x, refl)
+
+-- the same step, told of the same places and bytes
+pub steps_by : {C K : Type 0} (gives : C → ℕ → C → Type 0) (p p' : Place) (old old' new new' reader reader' output output' : Option (List ℕ)) (clock clock' : C) (k : Ghosts K) (keeper keeper' : K) (s : State) (e : Option SessionEnd)
+    → p ≡ p' → old ≡ old' → new ≡ new' → reader ≡ reader'
+    → Steps gives p old new reader output output' clock clock' k keeper keeper' s e → Steps gives p' old' new' reader' output output' clock clock' k keeper keeper' s e
+steps_by gives p p' old old' new new' reader reader' output output' clock clock' k keeper keeper' s e ep eo en er h =
+    subst (λ x. Steps gives x old' new' reader' output output' clock clock' k keeper keeper' s e) ep
+    (subst (λ x. Steps gives p x new' reader' output output' clock clock' k keeper keeper' s e) eo
+    (subst (λ x. Steps gives p old x reader' output output' clock clock' k keeper keeper' s e) en
+    (subst (λ x. Steps gives p old new x output output' clock clock' k keeper keeper' s e) er h)))
+
+-- the step of a feed that stood as its seat's
+pub steps_of : {C K R W : Type 0} (gives : C → ℕ → C → Type 0) (remaining : R → Option (List ℕ)) (seat : Seat R W) (standing : Standing) (new reader output output' : Option (List ℕ)) (clock clock' : C) (k : Ghosts K) (keeper keeper' : K)
+    (s : State) (e e' : Option SessionEnd) → standing ≡ seat.standing → e ≡ e'
+    → Steps gives (stood_at standing) (prepend_known (ahead_of standing) (remaining seat.reader.inner)) new reader output output' clock clock' k keeper keeper' s e
+    → Steps gives (stood_at seat.standing) (left_of remaining seat) new reader output output' clock clock' k keeper keeper' s e'
+steps_of gives remaining seat standing new reader output output' clock clock' k keeper keeper' s e e' is ended_so h =
+    subst (λ x. Steps gives (stood_at seat.standing) (left_of remaining seat) new reader output output' clock clock' k keeper keeper' s x) ended_so
+    (subst (λ (x : Standing). Steps gives (stood_at x) (prepend_known (ahead_of x) (remaining seat.reader.inner)) new reader output output' clock clock' k keeper keeper' s e) is h)
+
+-- ---- the faults that were told
+
+tells_then : {R W : Type 0} (e : Option SessionEnd) (a b c : Counted R) (x y z : Counted W) → TellsStep None a b x y → TellsStep e b c y z → TellsStep e a c x z
+tells_then None a b c x y z f g = (g.0 ∙ f.0, g.1 ∙ f.1)
+tells_then (Some e) a b c x y z f g = record {
+  read = λ is. subst (λ (n : ℕ). Rose n c.faults) f.0 (g.read is);
+  not_read = λ other. g.not_read other ∙ f.0;
+  written = λ is. subst (λ (n : ℕ). Rose n z.faults) f.1 (g.written is);
+  not_written = λ other. g.not_written other ∙ f.1;
+}
+
+module _ {R W : Type 0} where
+  -- since it was so at first
+  abbrev pub TellsSince : Seat R W → Seat R W → Type 0
+  TellsSince first now = TellsStep now.end first.reader now.reader first.writer now.writer
+
+  tells_since : (first old new : Seat R W) (e : Option SessionEnd) → old.end ≡ e → TellsSince first old → TellsTurnOf e old new → TellsSince first new
+  tells_since first old new None is f g =
+      tells_then new.end first.reader old.reader new.reader first.writer old.writer new.writer
+      (subst (λ e. TellsStep e first.reader old.reader first.writer old.writer) is f) g
+  tells_since first old new (Some e) is f g = subst (TellsSince first) (sym g) f
+
+  abbrev pub AllTell : List (Seat R W) → List (Seat R W) → Type 0
+  AllTell [] [] = ⊤
+  AllTell (f ∷ fs) (n ∷ ns) = TellsSince f n × AllTell fs ns
+  AllTell fs ns = ⊥
+
+  pub tell_first : (xs : List (Seat R W)) → AllByRecursion IsNew xs → AllTell xs xs
+  tell_first [] new = tt
+  tell_first (x ∷ xs) new = (subst (λ e. TellsStep e x.reader x.reader x.writer x.writer) (sym new.0.open_still) (refl, refl), tell_first xs new.1)
+
+  pub tell_more : (fs ns : List (Seat R W)) (p : ℕ) (d new : Seat R W) → p < length ns → TellsTurn (get_or ns p d) new → AllTell fs ns → AllTell fs (set ns p new)
+  tell_more [] [] p d new lt t h = absurd (omega (arith, lt))
+  tell_more [] (n ∷ ns) p d new lt t h = absurd h
+  tell_more (f ∷ fs) [] p d new lt t h = absurd h
+  tell_more (f ∷ fs) (n ∷ ns) zero d new lt t h = (tells_since f n new n.end refl h.0 t, h.1)
+  tell_more (f ∷ fs) (n ∷ ns) (suc p) d new lt t h = (h.0, tell_more fs ns p d new (omega (arith, lt)) t h.1)
+
+-- ---- seats as sittings
+
+module _ {R W : Type 0} (remaining : R → Option (List ℕ)) (contents : W → Option (List ℕ)) where
+  abbrev pub sitting_of : Seat R W → Seat R W → Bool → Sitting
+  sitting_of first now gave_up = record {
+    input = left_of remaining first;
+    left = left_of remaining now;
+    reader = remaining now.reader.inner;
+    output = contents first.writer.inner;
+    written = contents now.writer.inner;
+    served = now.served;
+    end = now.end;
+    gave_up = gave_up;
+  }
+
+  abbrev pub AreSittings : List (Seat R W) → List (Seat R W) → List Sitting → Type 0
+  AreSittings [] [] [] = ⊤
+  AreSittings (f ∷ fs) (n ∷ ns) (x ∷ xs) = (x ≡ sitting_of f n x.gave_up) × AreSittings fs ns xs
+  AreSittings fs ns xs = ⊥
+
+  -- as they were at first
+  abbrev pub first_sittings : List (Seat R W) → List Sitting
+  first_sittings [] = []
+  first_sittings (f ∷ fs) = sitting_of f f false ∷ first_sittings fs
+
+  pub are_first : (fs : List (Seat R W)) → AreSittings fs fs (first_sittings fs)
+  are_first [] = tt
+  are_first (f ∷ fs) = (refl, are_first fs)
+
+  pub all_first : (fs : List (Seat R W)) → AllByRecursion IsNew fs → AllByRecursion IsFirst (first_sittings fs)
+  all_first [] new = tt
+  all_first (f ∷ fs) new = (record { all = refl; unwritten = refl; none = new.0.none; open_still = new.0.open_still; marked = refl }, all_first fs new.1)
+
+  -- one that stands there: its connection as it was at first, and that another seat of the same connection may stand there
+  record StandsThere (fs ns : List (Seat R W)) (xs : List Sitting) (p : ℕ) (now : Seat R W) (x : Sitting) : Type 0 where
+    pub first : Seat R W
+    pub is : x ≡ sitting_of first now x.gave_up
+    pub within : p < length xs
+    pub more : (new : Seat R W) (y : Sitting) → y ≡ sitting_of first new y.gave_up → AreSittings fs (set ns p new) (set xs p y)
+
+  stands_there : (fs ns : List (Seat R W)) (xs : List Sitting) (p : ℕ) (d : Seat R W) (dx : Sitting) → p < length ns → AreSittings fs ns xs
+      → StandsThere fs ns xs p (get_or ns p d) (get_or xs p dx)
+  stands_there [] [] [] p d dx lt h = absurd (omega (arith, lt))
+  stands_there [] [] (x ∷ xs) p d dx lt h = absurd h
+  stands_there [] (n ∷ ns) xs p d dx lt h = absurd h
+  stands_there (f ∷ fs) [] xs p d dx lt h = absurd h
+  stands_there (f ∷ fs) (n ∷ ns) [] p d dx lt h = absurd h
+  stands_there (f ∷ fs) (n ∷ ns) (x ∷ xs) zero d dx lt h = record { first = f; is = h.0; within = omega arith; more = λ new y is. (is, h.1) }
+  stands_there (f ∷ fs) (n ∷ ns) (x ∷ xs) (suc p) d dx lt h =
+      let rest = stands_there fs ns xs p d dx (omega (arith, lt)) h.1 in
+      record { first = rest.first; is = rest.is; within = omega (arith, rest.within); more = λ new y is. (h.0, rest.more new y is) }
+
+  -- ---- a turn
+
+  pub record TurnsMore {C K : Type 0} (gives : C → ℕ → C → Type 0) (k : Ghosts K) (fs ns : List (Seat R W)) (clock clock' : C) (keeper keeper' : K) (s after : State) : Type 0 where
+    pub sittings : List Sitting
+    pub are : AreSittings fs ns sittings
+    pub so_far : SoFar gives k sittings clock clock' keeper keeper' s after
+
+  -- it is the same, where so many were served, and it ended so
+  same_sitting : (first new : Seat R W) (served : ℕ) (e : Option SessionEnd) (gave_up : Bool) → new.served ≡ served → new.end ≡ e
+      → record (sitting_of first new gave_up) { served = served; end = e } ≡ sitting_of first new gave_up
+  same_sitting first new served e gave_up same is =
+      ap (λ (n : ℕ). record (sitting_of first new gave_up) { served = n; end = e }) (sym same)
+      ∙ ap (λ (o : Option SessionEnd). record (sitting_of first new gave_up) { served = new.served; end = o }) (sym is)
+
+  module _ {C K : Type 0} (gives : C → ℕ → C → Type 0) (k : Ghosts K) (fs ns : List (Seat R W)) (clock clock' clock'' : C) (keeper keeper' keeper'' : K) (s mid after : State)
+      (p : ℕ) (d new : Seat R W) (lt : p < length ns) where
+    pub turns_more : TakesTurn gives remaining contents (get_or ns p d) new clock' clock'' k keeper' keeper'' mid after
+        → TurnsMore gives k fs ns clock clock' keeper keeper' s mid → TurnsMore gives k fs (set ns p new) clock clock'' keeper keeper'' s after
+    turns_more (had_ended e is same_seat same_clock same_keeper same_state) t = record {
+      sittings = t.sittings;
+      are = subst (λ l. AreSittings fs l t.sittings) (sym (ap (set ns p) same_seat ∙ set-get_or ns p d)) t.are;
+      so_far =
+          subst (λ c. SoFar gives k t.sittings clock c keeper keeper'' s after) (sym same_clock)
+          (subst (λ x. SoFar gives k t.sittings clock clock' keeper x s after) (sym same_keeper)
+          (subst (λ x. SoFar gives k t.sittings clock clock' keeper keeper' s x) (sym same_state) t.so_far));
+    }
+    turns_more (went_on was_open is_open served goes) t =
+        let dx = sitting_of d d false in
+        let at = stands_there fs ns t.sittings p d dx lt t.are in
+        let old = get_or ns p d in
+        let x = get_or t.sittings p dx in
+        let z = sitting_of at.first old x.gave_up in
+        let y = answered z (left_of remaining new) (remaining new.reader.inner) (contents new.writer.inner) in
+        record {
+          sittings = set t.sittings p y;
+          are = at.more new y (same_sitting at.first new (old.served + 1) old.end x.gave_up served (is_open ∙ sym was_open));
+          so_far = answered_more gives k t.sittings clock clock' keeper keeper' s mid t.so_far p dx z at.within at.is was_open
+              (left_of remaining new) (remaining new.reader.inner) (contents new.writer.inner) clock'' keeper'' after (subst (λ n. n ≤ most_messages) served new.few) goes;
+        }
+    turns_more (ended n e was_open is served sum serves) t =
+        let dx = sitting_of d d false in
+        let at = stands_there fs ns t.sittings p d dx lt t.are in
+        let old = get_or ns p d in
+        let x = get_or t.sittings p dx in
+        let z = sitting_of at.first old x.gave_up in
+        let y = closed z (left_of remaining new) (remaining new.reader.inner) (contents new.writer.inner) e serves.gave_up in
+        record {
+          sittings = set t.sittings p y;
+          are = at.more new y (same_sitting at.first new old.served (Some e) serves.gave_up served is);
+          so_far = closed_more gives k t.sittings clock clock' keeper keeper' s mid t.so_far p dx z at.within at.is was_open
+              (left_of remaining new) (remaining new.reader.inner) (contents new.writer.inner) clock'' keeper'' after n e sum serves;
+        }
+
+  -- ---- the end
+
+  stream_is : (x : Sitting) (first now : Seat R W) (c : Thread) → x ≡ sitting_of first now x.gave_up → IsThreadOf x c
+      → IsStreamOf c.gave_up c.end (left_of remaining first) (left_of remaining now) (remaining now.reader.inner) c.stream
+  stream_is x first now c is h =
+      let here : IsStreamOf x.gave_up x.end (left_of remaining first) (left_of remaining now) (remaining now.reader.inner) c.stream =
+      subst (λ (y : Sitting). IsStreamOf x.gave_up x.end y.input y.left y.reader c.stream) is h.stream in
+      subst (λ (o : Option SessionEnd). IsStreamOf c.gave_up o (left_of remaining first) (left_of remaining now) (remaining now.reader.inner) c.stream) (sym h.end)
+      (subst (λ b. IsStreamOf b x.end (left_of remaining first) (left_of remaining now) (remaining now.reader.inner) c.stream) (sym h.marked) here)
+
+  are_threads : (fs ns : List (Seat R W)) (xs : List Sitting) (cs : List Thread) → AreSittings fs ns xs → AreThreadsOf xs cs → AllTell fs ns → AreThreads remaining contents fs ns cs
+  are_threads [] [] [] [] a b t = tt
+  are_threads [] [] [] (c ∷ cs) a b t = absurd b
+  are_threads [] [] (x ∷ xs) cs a b t = absurd a
+  are_threads [] (n ∷ ns) xs cs a b t = absurd a
+  are_threads (f ∷ fs) [] xs cs a b t = absurd a
+  are_threads (f ∷ fs) (n ∷ ns) [] cs a b t = absurd a
+  are_threads (f ∷ fs) (n ∷ ns) (x ∷ xs) [] a b t = absurd b
+  are_threads (f ∷ fs) (n ∷ ns) (x ∷ xs) (c ∷ cs) a b t =
+      let end : c.end ≡ n.end = b.0.end ∙ ap (λ (y : Sitting). y.end) a.0 in (
+        end,
+        stream_is x f n c a.0 b.0,
+        subst (λ (y : Sitting). Appends y.output y.written c.answers) a.0 b.0.answers,
+        subst (λ e. TellsStep e f.reader n.reader f.writer n.writer) (sym end) t.0,
+        are_threads fs ns xs cs a.1 b.1 t.1,
+      )
+
+  module _ {C K : Type 0} (gives : C → ℕ → C → Type 0) (k : Ghosts K) (fs ns : List (Seat R W)) (clock clock' : C) (keeper keeper' : K) (s mid : State) where
+    -- nothing was done yet
+    pub weaves_first : AllByRecursion IsNew fs → SoFar gives k (first_sittings fs) clock clock keeper keeper s s → TurnsMore gives k fs fs clock clock keeper keeper s s
+    weaves_first new f = record { sittings = first_sittings fs; are = are_first fs; so_far = f }
+
+    pub weaves_last : TurnsMore gives k fs ns clock clock' keeper keeper' s mid → AllTell fs ns → MeansOne k keeper' → IsLeft (k.means keeper') mid
+        → Weaves gives remaining contents fs ns clock clock' k keeper keeper' s mid
+    weaves_last t tell one left =
+        let w = finishes gives k t.sittings clock clock' keeper keeper' s mid t.so_far in
+        record {
+          threads = w.threads;
+          moments = w.moments;
+          told = w.told;
+          served = are_threads fs ns t.sittings w.threads t.are w.are tell;
+          run = w.run;
+          repeats = repeats_once s (acts_in w.run.turns) mid w.run.order;
+          stays = record {
+            counted = λ none. (t.so_far.held (none_gave_up t.sittings w.threads w.are none)).0;
+            opened = λ none was.
+                let now = (t.so_far.held (none_gave_up t.sittings w.threads w.are none)).1 was in
+                (now, λ u means. one u mid now means left.means);
+          };
+          lasts = λ all. t.so_far.lasts (all_last t.sittings w.threads w.are all);
+        }

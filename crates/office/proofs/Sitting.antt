@@ -1,0 +1,170 @@
+-- A connection as it is now, among others, and what a turn makes of it.
+use Rattle.std.proofs.Common.{◌≡◌, ◌≤◌, ◌+◌, ℕ, suc, Bool, true, false, List, [], ◌∷◌, ◌++◌, Option, Some, None, sym, ap, subst, ◌∙◌, append_assoc, arith}
+use Rattle.std.proofs.KnownBytes.{Appends-nil, Appends-trans, Consumes-kept, Consumes-nil, Consumes-trans}
+use Rattle.std.specs.Io.KnownBytes.{Appends, Consumes, Keeps}
+use Rattle.keeper.specs.declared.keep.Keeper.{Ghosts}
+use Rattle.boxes.specs.State.{State}
+use Rattle.office.specs.Connections.{IsKnown, IsStream}
+use Rattle.office.specs.Interleaved.{Speaks}
+use Rattle.office.specs.Interleaved as said
+use Rattle.office.specs.Repeats.{Act, text_of}
+use Rattle.office.specs.Sessions.{most_messages}
+use Rattle.office.specs.Stepping.{Goes}
+use Rattle.office.specs.declared.connections.session.SessionEnd.{SessionEnd}
+use Rattle.office.specs.declared.connections.session.SessionEnd.TheVariants.{Ended, Truncated, Refused, Limit, ReadFault, WriteFault}
+
+-- Known bytes: of its stream at first, left of it in all, and left in its reader; of its answers at first and now. How many
+-- messages were served, how it ended, and whether it gave up.
+pub record Sitting : Type 0 where
+  pub input : Option (List ℕ)
+  pub left : Option (List ℕ)
+  pub reader : Option (List ℕ)
+  pub output : Option (List ℕ)
+  pub written : Option (List ℕ)
+  pub served : ℕ
+  pub end : Option SessionEnd
+  pub gave_up : Bool
+
+-- What holds of one that is open: so much was taken and written, for these acts at these moments; and whatever follows makes the
+-- whole.
+pub record Heard (x : Sitting) (acts : List Act) (moments : List ℕ) : Type 0 where
+  pub front : List ℕ
+  pub text : List ℕ
+  pub taken : Consumes x.input x.left front
+  pub written_to : Appends x.output x.written text
+  pub few : x.served ≤ most_messages
+  pub marked : x.gave_up ≡ false
+  pub follows : (n m : ℕ) (stream : List ℕ) (more : List Act) (later out : List ℕ) (e : Option SessionEnd) (gave_up : Bool) → n + x.served ≡ m
+      → Speaks n stream more later out e gave_up → Speaks m (front ++ stream) (acts ++ more) (moments ++ later) (text ++ out) e gave_up
+
+-- the same of one that ended
+pub record Closed (x : Sitting) (e : SessionEnd) (acts : List Act) (moments : List ℕ) : Type 0 where
+  pub stream : List ℕ
+  pub answers : List ℕ
+  pub read : IsStream x.gave_up e x.input x.reader stream
+  pub written_to : Appends x.output x.written answers
+  pub speaks : Speaks most_messages stream acts moments answers (Some e) x.gave_up
+
+abbrev pub SitsSo : Option SessionEnd → Sitting → List Act → List ℕ → Type 0
+SitsSo None x acts moments = Heard x acts moments
+SitsSo (Some e) x acts moments = Closed x e acts moments
+
+-- since it was so at first, these acts of it were done at these moments
+abbrev pub Sits : Sitting → List Act → List ℕ → Type 0
+Sits x acts moments = SitsSo x.end x acts moments
+
+-- ---- known bytes, one part after another
+
+known_more : (a b : Option (List ℕ)) (x y : List ℕ) → Consumes a b x → IsKnown b y → IsKnown a (x ++ y)
+known_more None b x y h k = tt
+known_more (Some p) None x y h k = absurd h
+known_more (Some p) (Some q) x y h k = ap (λ (t : List ℕ). x ++ t) k ∙ sym h
+
+stream_more : (gave_up : Bool) (e : SessionEnd) (a b c : Option (List ℕ)) (x y : List ℕ) → Consumes a b x → IsStream gave_up e b c y → IsStream gave_up e a c (x ++ y)
+stream_more true e a b c x y h k = Consumes-trans a b c x y h k
+stream_more false ReadFault a b c x y h k = Consumes-trans a b c x y h k
+stream_more false Ended a b c x y h k = (known_more a b x y h k.0, k.1)
+stream_more false Truncated a b c x y h k = (known_more a b x y h k.0, k.1)
+stream_more false (Refused number) a b c x y h k = known_more a b x y h k
+stream_more false Limit a b c x y h k = known_more a b x y h k
+stream_more false WriteFault a b c x y h k = known_more a b x y h k
+
+-- ---- the same lists, written in another way
+
+speaks_by : (n : ℕ) (s s' : List ℕ) (a a' : List Act) (m m' o o' : List ℕ) (e : Option SessionEnd) (g : Bool) → s ≡ s' → a ≡ a' → m ≡ m' → o ≡ o'
+    → Speaks n s a m o e g → Speaks n s' a' m' o' e g
+speaks_by n s s' a a' m m' o o' e g es ea em eo h =
+    subst (λ x. Speaks n x a' m' o' e g) es (subst (λ x. Speaks n s x m' o' e g) ea (subst (λ x. Speaks n s a x o' e g) em (subst (λ x. Speaks n s a m x e g) eo h)))
+
+pub sits_by : (x : Sitting) (a a' : List Act) (m m' : List ℕ) → a ≡ a' → m ≡ m' → Sits x a m → Sits x a' m'
+sits_by x a a' m m' ea em h = subst (λ t. Sits x t m') ea (subst (Sits x a) em h)
+
+pub open_sits : (x : Sitting) (acts : List Act) (moments : List ℕ) → x.end ≡ None → Sits x acts moments → Heard x acts moments
+open_sits x acts moments is h = subst (λ e. SitsSo e x acts moments) is h
+
+pub sits_open : (x : Sitting) (acts : List Act) (moments : List ℕ) → x.end ≡ None → Heard x acts moments → Sits x acts moments
+sits_open x acts moments is h = subst (λ e. SitsSo e x acts moments) (sym is) h
+
+-- ---- one that is new
+
+-- nothing of it was served
+pub record IsFirst (x : Sitting) : Type 0 where
+  pub all : x.left ≡ x.input
+  pub unwritten : x.written ≡ x.output
+  pub none : x.served ≡ 0
+  pub open_still : x.end ≡ None
+  pub marked : x.gave_up ≡ false
+
+pub first_sits : (x : Sitting) → IsFirst x → Sits x [] []
+first_sits x is = sits_open x [] [] is.open_still (record {
+  front = [];
+  text = [];
+  taken = subst (λ a. Consumes x.input a []) (sym is.all) (Consumes-nil x.input);
+  written_to = subst (λ a. Appends x.output a []) (sym is.unwritten) (Appends-nil x.output);
+  few = omega (arith, is.none);
+  marked = is.marked;
+  follows = λ n m stream more later out e gave_up sum sp. let same : n ≡ m = omega (arith, sum, is.none) in subst (λ k. Speaks k stream more later out e gave_up) same sp;
+})
+
+-- ---- bytes of it are read ahead
+
+abbrev pub gathered : Sitting → Option (List ℕ) → Option (List ℕ) → Sitting
+gathered x left reader = record x { left = left; reader = reader }
+
+pub gathered_sits : (x : Sitting) (left reader : Option (List ℕ)) (acts : List Act) (moments : List ℕ) → Keeps x.left left → Heard x acts moments
+    → Heard (gathered x left reader) acts moments
+gathered_sits x left reader acts moments keeps h = record {
+  front = h.front;
+  text = h.text;
+  taken = Consumes-kept x.input x.left left h.front h.taken keeps;
+  written_to = h.written_to;
+  few = h.few;
+  marked = h.marked;
+  follows = h.follows;
+}
+
+-- ---- its next message is answered
+
+abbrev pub answered : Sitting → Option (List ℕ) → Option (List ℕ) → Option (List ℕ) → Sitting
+answered x left reader written = record x { left = left; reader = reader; written = written; served = x.served + 1 }
+
+module _ {C K : Type 0} {gives : C → ℕ → C → Type 0} {k : Ghosts K} (x : Sitting) (left reader written : Option (List ℕ)) (clock clock' : C) (keeper keeper' : K) (s after : State) where
+  unfoldable pub act_of : Goes gives x.left left x.written written clock clock' k keeper keeper' s after → Act
+  act_of g = record { before = s; request = g.request; now = g.moment; reply = g.answers.reply; after = after }
+
+  pub answered_sits : (g : Goes gives x.left left x.written written clock clock' k keeper keeper' s after) (acts : List Act) (moments : List ℕ) → x.served + 1 ≤ most_messages
+      → Heard x acts moments → Heard (answered x left reader written) (acts ++ act_of g ∷ []) (moments ++ g.moment ∷ [])
+  unfolding act_of
+  answered_sits g acts moments few h = record {
+    front = h.front ++ g.front;
+    text = h.text ++ g.text;
+    taken = Consumes-trans x.input x.left left h.front g.front h.taken g.taken;
+    written_to = Appends-trans x.output x.written written h.text g.text h.written_to g.written;
+    few = few;
+    marked = h.marked;
+    follows = λ n m stream more later out e gave_up is sp.
+        let a = act_of g in
+        let one = said.answered n (g.front ++ stream) stream a more later out e gave_up (g.message stream) sp in
+        let all = h.follows (suc n) m (g.front ++ stream) (a ∷ more) (g.moment ∷ later) (text_of a ++ out) e gave_up (omega (arith, is)) one in
+        let text_is : text_of a ≡ g.text = sym g.answers.is in
+        speaks_by m (h.front ++ (g.front ++ stream)) ((h.front ++ g.front) ++ stream) (acts ++ (a ∷ more)) ((acts ++ a ∷ []) ++ more)
+        (moments ++ (g.moment ∷ later)) ((moments ++ g.moment ∷ []) ++ later) (h.text ++ (text_of a ++ out)) ((h.text ++ g.text) ++ out) e gave_up
+        (sym (append_assoc h.front g.front stream)) (sym (append_assoc acts (a ∷ []) more)) (sym (append_assoc moments (g.moment ∷ []) later))
+        (ap (λ (t : List ℕ). h.text ++ (t ++ out)) text_is ∙ sym (append_assoc h.text g.text out)) all;
+  }
+
+-- ---- it ends
+
+abbrev pub closed : Sitting → Option (List ℕ) → Option (List ℕ) → Option (List ℕ) → SessionEnd → Bool → Sitting
+closed x left reader written e gave_up = record x { left = left; reader = reader; written = written; end = Some e; gave_up = gave_up }
+
+pub closed_sits : (x : Sitting) (left reader written : Option (List ℕ)) (e : SessionEnd) (gave_up : Bool) (n : ℕ) (stream answers : List ℕ) (more : List Act) (later : List ℕ) (acts : List Act) (moments : List ℕ)
+    → n + x.served ≡ most_messages → IsStream gave_up e x.left reader stream → Appends x.written written answers → Speaks n stream more later answers (Some e) gave_up
+    → Heard x acts moments → Closed (closed x left reader written e gave_up) e (acts ++ more) (moments ++ later)
+closed_sits x left reader written e gave_up n stream answers more later acts moments sum read wrote speaks h = record {
+  stream = h.front ++ stream;
+  answers = h.text ++ answers;
+  read = stream_more gave_up e x.input x.left reader h.front stream h.taken read;
+  written_to = Appends-trans x.output x.written written h.text answers h.written_to wrote;
+  speaks = h.follows n most_messages stream more later answers (Some e) gave_up sum speaks;
+}

@@ -1,0 +1,396 @@
+-- The turns of connections so far, and one more; a connection more; and what they are in the end.
+use Rattle.std.proofs.Common.{◌≡◌, ◌<◌, ◌≤◌, ◌+◌, ◌-◌, ◌⊎◌, ℕ, zero, suc, Bool, true, false, cond, List, [], ◌∷◌, ◌++◌, length, get_or, set, Option, Some, None, refl, sym, ap, subst, ◌∙◌, append_assoc, arith, inl, inr}
+use Rattle.std.specs.Prelude.{nat_eq, ⊤}
+use Rattle.std.specs.List.{AllByRecursion}
+use Rattle.std.proofs.lemmas.List.{append-nil}
+use Rattle.std.specs.Io.KnownBytes.{Appends, Keeps}
+use Rattle.keeper.specs.declared.keep.Keeper.{Ghosts}
+use Rattle.boxes.specs.State.{State}
+use Rattle.office.specs.Connections.{Serves, TellsMoments}
+use Rattle.office.specs.Crashes.{LastsThrough, never_changed}
+use Rattle.office.specs.Interleaved.{AreSpoken, Interleaved, Speaks, Thread, Turn, acts_in, moments_in, own_acts, own_moments}
+use Rattle.office.specs.Interleaved as said
+use Rattle.office.specs.Premise.{HoldsUp}
+use Rattle.office.specs.Repeats.{Act, Acts}
+use Rattle.office.specs.Seats.{IsStreamOf}
+use Rattle.office.specs.Sessions.{most_messages}
+use Rattle.office.specs.Stepping.{Goes}
+use Rattle.office.specs.declared.connections.session.SessionEnd.{SessionEnd}
+use Rattle.office.specs.declared.connections.session.SessionEnd.TheVariants.{ReadFault}
+use Rattle.office.proofs.Endurance.{still, then_through}
+use Rattle.office.proofs.Repeats.{session_acts}
+use Rattle.office.proofs.RunSoFar.{told_more}
+use Rattle.office.proofs.RunTurns.{acts_joined, less_is_not, same_is, speaks_of}
+use Rattle.office.proofs.Sitting.{Sitting, Sits, SitsSo, IsFirst, act_of, answered, answered_sits, closed, closed_sits, first_sits, gathered, gathered_sits, open_sits, sits_by, sits_open}
+
+-- ---- one turn more at the end
+
+acts_more : (turns : List Turn) (t : Turn) → acts_in (turns ++ t ∷ []) ≡ acts_in turns ++ t.acts
+acts_more [] t = append-nil t.acts
+acts_more (u ∷ turns) t = ap (λ (x : List Act). u.acts ++ x) (acts_more turns t) ∙ sym (append_assoc u.acts (acts_in turns) t.acts)
+
+moments_more : (turns : List Turn) (t : Turn) → moments_in (turns ++ t ∷ []) ≡ moments_in turns ++ t.moments
+moments_more [] t = append-nil t.moments
+moments_more (u ∷ turns) t = ap (λ (x : List ℕ). u.moments ++ x) (moments_more turns t) ∙ sym (append_assoc u.moments (moments_in turns) t.moments)
+
+own_more : (i : ℕ) (turns : List Turn) (t : Turn) → own_acts i (turns ++ t ∷ []) ≡ own_acts i turns ++ cond (nat_eq t.which i) t.acts []
+own_more i [] t = append-nil (cond (nat_eq t.which i) t.acts [])
+own_more i (u ∷ turns) t =
+    ap (λ (x : List Act). cond (nat_eq u.which i) u.acts [] ++ x) (own_more i turns t) ∙ sym (append_assoc (cond (nat_eq u.which i) u.acts []) (own_acts i turns) (cond (nat_eq t.which i) t.acts []))
+
+own_told_more : (i : ℕ) (turns : List Turn) (t : Turn) → own_moments i (turns ++ t ∷ []) ≡ own_moments i turns ++ cond (nat_eq t.which i) t.moments []
+own_told_more i [] t = append-nil (cond (nat_eq t.which i) t.moments [])
+own_told_more i (u ∷ turns) t =
+    ap (λ (x : List ℕ). cond (nat_eq u.which i) u.moments [] ++ x) (own_told_more i turns t) ∙ sym (append_assoc (cond (nat_eq u.which i) u.moments []) (own_moments i turns) (cond (nat_eq t.which i) t.moments []))
+
+own_same : (turns : List Turn) (t : Turn) (i : ℕ) → t.which ≡ i → (own_acts i turns ++ t.acts ≡ own_acts i (turns ++ t ∷ [])) × (own_moments i turns ++ t.moments ≡ own_moments i (turns ++ t ∷ []))
+own_same turns t i is =
+    let hits : nat_eq t.which i ≡ true = subst (λ k. nat_eq t.which k ≡ true) is (same_is t.which) in (
+      sym (own_more i turns t ∙ ap (λ b. own_acts i turns ++ cond b t.acts []) hits),
+      sym (own_told_more i turns t ∙ ap (λ b. own_moments i turns ++ cond b t.moments []) hits),
+    )
+
+own_other : (turns : List Turn) (t : Turn) (i : ℕ) → nat_eq t.which i ≡ false → (own_acts i turns ≡ own_acts i (turns ++ t ∷ [])) × (own_moments i turns ≡ own_moments i (turns ++ t ∷ []))
+own_other turns t i is = (
+  sym (own_more i turns t ∙ ap (λ b. own_acts i turns ++ cond b t.acts []) is ∙ append-nil (own_acts i turns)),
+  sym (own_told_more i turns t ∙ ap (λ b. own_moments i turns ++ cond b t.moments []) is ∙ append-nil (own_moments i turns)),
+)
+
+within_more : (n : ℕ) (turns : List Turn) (t : Turn) → AllByRecursion (λ u. u.which < n) turns → t.which < n → AllByRecursion (λ u. u.which < n) (turns ++ t ∷ [])
+within_more n [] t h lt = (lt, tt)
+within_more n (u ∷ turns) t h lt = (h.0, within_more n turns t h.1 lt)
+
+-- ---- the connections
+
+-- each connection, from the number i on: its turns made it what it is
+abbrev pub AllSit : List Turn → ℕ → List Sitting → Type 0
+AllSit turns i [] = ⊤
+AllSit turns i (x ∷ xs) = Sits x (own_acts i turns) (own_moments i turns) × AllSit turns (suc i) xs
+
+sits_still : (turns : List Turn) (t : Turn) (i : ℕ) (x : Sitting) → nat_eq t.which i ≡ false → Sits x (own_acts i turns) (own_moments i turns)
+    → Sits x (own_acts i (turns ++ t ∷ [])) (own_moments i (turns ++ t ∷ []))
+sits_still turns t i x other h =
+    let same = own_other turns t i other in
+    sits_by x (own_acts i turns) (own_acts i (turns ++ t ∷ [])) (own_moments i turns) (own_moments i (turns ++ t ∷ [])) same.0 same.1 h
+
+others_sit : (turns : List Turn) (t : Turn) (i : ℕ) (xs : List Sitting) → t.which < i → AllSit turns i xs → AllSit (turns ++ t ∷ []) i xs
+others_sit turns t i [] lt h = tt
+others_sit turns t i (x ∷ xs) lt h = (sits_still turns t i x (less_is_not t.which i lt) h.0, others_sit turns t (suc i) xs (omega arith) h.1)
+
+one_turns : (turns : List Turn) (t : Turn) (i p : ℕ) (d new : Sitting) (xs : List Sitting) → t.which ≡ i + p → p < length xs
+    → ((acts : List Act) (moments : List ℕ) → Sits (get_or xs p d) acts moments → Sits new (acts ++ t.acts) (moments ++ t.moments))
+    → AllSit turns i xs → AllSit (turns ++ t ∷ []) i (set xs p new)
+one_turns turns t i p d new [] is lt moves h = absurd (omega (arith, lt))
+one_turns turns t i zero d new (x ∷ xs) is lt moves h =
+    let here : t.which ≡ i = omega (arith, is) in
+    let same = own_same turns t i here in (
+      sits_by new (own_acts i turns ++ t.acts) (own_acts i (turns ++ t ∷ [])) (own_moments i turns ++ t.moments) (own_moments i (turns ++ t ∷ [])) same.0 same.1
+          (moves (own_acts i turns) (own_moments i turns) h.0),
+      others_sit turns t (suc i) xs (omega (arith, here)) h.1,
+    )
+one_turns turns t i (suc p) d new (x ∷ xs) is lt moves h =
+    let other : nat_eq t.which i ≡ false = grind (arith, is) in
+    (sits_still turns t i x other h.0, one_turns turns t (suc i) p d new xs (omega (arith, is)) (omega (arith, lt)) moves h.1)
+
+all_first : (i : ℕ) (xs : List Sitting) → AllByRecursion IsFirst xs → AllSit [] i xs
+all_first i [] first = tt
+all_first i (x ∷ xs) first = (first_sits x first.0, all_first (suc i) xs first.1)
+
+-- one of them changes, and no turn is taken
+one_changes : (turns : List Turn) (i p : ℕ) (d new : Sitting) (xs : List Sitting) → p < length xs
+    → ((acts : List Act) (moments : List ℕ) → Sits (get_or xs p d) acts moments → Sits new acts moments) → AllSit turns i xs → AllSit turns i (set xs p new)
+one_changes turns i p d new [] lt moves h = absurd (omega (arith, lt))
+one_changes turns i zero d new (x ∷ xs) lt moves h = (moves (own_acts i turns) (own_moments i turns) h.0, h.1)
+one_changes turns i (suc p) d new (x ∷ xs) lt moves h = (h.0, one_changes turns (suc i) p d new xs (omega (arith, lt)) moves h.1)
+
+-- what an open one that stands there is
+pub heard_at : (turns : List Turn) (i p : ℕ) (d : Sitting) (xs : List Sitting) → p < length xs → (get_or xs p d).end ≡ None → AllSit turns i xs → (get_or xs p d).gave_up ≡ false
+heard_at turns i p d [] lt is h = absurd (omega (arith, lt))
+heard_at turns i zero d (x ∷ xs) lt is h = (open_sits x (own_acts i turns) (own_moments i turns) is h.0).marked
+heard_at turns i (suc p) d (x ∷ xs) lt is h = heard_at turns (suc i) p d xs (omega (arith, lt)) is h.1
+
+-- what holds of all of them still held of all where one was set that had held it
+all_unset : (P : Sitting → Type 0) (xs : List Sitting) (p : ℕ) (d new : Sitting) → p < length xs → P (get_or xs p d) → AllByRecursion P (set xs p new) → AllByRecursion P xs × P new
+all_unset P [] p d new lt had h = absurd (omega (arith, lt))
+all_unset P (x ∷ xs) zero d new lt had h = ((had, h.1), h.0)
+all_unset P (x ∷ xs) (suc p) d new lt had h = let rest = all_unset P xs p d new (omega (arith, lt)) had h.1 in ((h.0, rest.0), rest.1)
+
+all_before : (P : Sitting → Type 0) (xs : List Sitting) (x : Sitting) → AllByRecursion P (xs ++ x ∷ []) → AllByRecursion P xs
+all_before P [] x h = tt
+all_before P (y ∷ xs) x h = (h.0, all_before P xs x h.1)
+
+-- ---- the turns so far
+
+abbrev pub NotGivenUp : Sitting → Type 0
+NotGivenUp x = x.gave_up ≡ false
+
+abbrev pub LastsAt : Sitting → Type 0
+LastsAt x = (x.gave_up ≡ false) ⊎ (x.end ≡ Some ReadFault)
+
+pub record SoFar {C K : Type 0} (gives : C → ℕ → C → Type 0) (k : Ghosts K) (sittings : List Sitting) (clock clock' : C) (keeper keeper' : K) (s mid : State) : Type 0 where
+  pub turns : List Turn
+  pub order : Acts s (acts_in turns) mid
+  pub told : TellsMoments gives clock (moments_in turns) clock'
+  pub within : AllByRecursion (λ t. t.which < length sittings) turns
+  pub sit : AllSit turns 0 sittings
+  pub held : AllByRecursion NotGivenUp sittings → HoldsUp k false keeper keeper'
+  pub lasts : AllByRecursion LastsAt sittings → LastsThrough k keeper keeper' s mid
+
+same_length : (n m : ℕ) (turns : List Turn) → n ≡ m → AllByRecursion (λ t. t.which < n) turns → AllByRecursion (λ t. t.which < m) turns
+same_length n m [] e h = tt
+same_length n m (t ∷ ts) e h = (omega (arith, h.0, e), same_length n m ts e h.1)
+
+set_length : (xs : List Sitting) (p : ℕ) (new : Sitting) → length xs ≡ length (set xs p new)
+set_length [] p new = refl
+set_length (x ∷ xs) zero new = refl
+set_length (x ∷ xs) (suc p) new = ap suc (set_length xs p new)
+
+module _ {C K : Type 0} (gives : C → ℕ → C → Type 0) (k : Ghosts K) where
+  -- a turn of one that stands there
+  record Moves (x new : Sitting) (clock clock' : C) (keeper keeper' : K) (mid after : State) : Type 0 where
+    pub acts : List Act
+    pub moments : List ℕ
+    pub told : TellsMoments gives clock moments clock'
+    pub by_rules : Acts mid acts after
+    pub moves : (before : List Act) (earlier : List ℕ) → Sits x before earlier → Sits new (before ++ acts) (earlier ++ moments)
+    pub marked : x.gave_up ≡ false
+    pub held : new.gave_up ≡ false → HoldsUp k false keeper keeper'
+    pub lasts : LastsAt new → LastsThrough k keeper keeper' mid after
+
+  holds_both : (a b c : K) → HoldsUp k false a b → HoldsUp k false b c → HoldsUp k false a c
+  holds_both a b c x y = (y.0 ∙ x.0, λ was. y.1 (x.1 was))
+
+  moves_more : (xs : List Sitting) (p : ℕ) (d new : Sitting) (clock clock' clock'' : C) (keeper keeper' keeper'' : K) (s mid after : State) → p < length xs
+      → SoFar gives k xs clock clock' keeper keeper' s mid → Moves (get_or xs p d) new clock' clock'' keeper' keeper'' mid after
+      → SoFar gives k (set xs p new) clock clock'' keeper keeper'' s after
+  moves_more xs p d new clock clock' clock'' keeper keeper' keeper'' s mid after lt f t =
+      let u : Turn = record { which = p; moments = t.moments; acts = t.acts } in
+      record {
+        turns = f.turns ++ u ∷ [];
+        order = subst (λ x. Acts s x after) (sym (acts_more f.turns u)) (acts_joined s mid after (acts_in f.turns) t.acts f.order t.by_rules);
+        told = subst (λ x. TellsMoments gives clock x clock'') (sym (moments_more f.turns u)) (told_more gives clock clock' clock'' (moments_in f.turns) t.moments f.told t.told);
+        within = same_length (length xs) (length (set xs p new)) (f.turns ++ u ∷ []) (set_length xs p new) (within_more (length xs) f.turns u f.within lt);
+        sit = one_turns f.turns u 0 p d new xs (omega arith) lt t.moves f.sit;
+        held = λ none. let both = all_unset NotGivenUp xs p d new lt t.marked none in holds_both keeper keeper' keeper'' (f.held both.0) (t.held both.1);
+        lasts = λ all. let both = all_unset LastsAt xs p d new lt (inl t.marked) all in then_through (f.lasts both.0) (t.lasts both.1);
+      }
+
+  -- nothing was done yet
+  pub starts : (xs : List Sitting) (clock : C) (keeper : K) (s : State) → AllByRecursion IsFirst xs → SoFar gives k xs clock clock keeper keeper s s
+  starts xs clock keeper s first = record {
+    turns = [];
+    order = refl;
+    told = refl;
+    within = tt;
+    sit = all_first 0 xs first;
+    held = λ _. (refl, λ was. was);
+    lasts = λ _. never_changed refl still;
+  }
+
+  module _ (xs : List Sitting) (clock clock' : C) (keeper keeper' : K) (s mid : State) (f : SoFar gives k xs clock clock' keeper keeper' s mid) where
+    -- ---- one of them has a turn
+
+    module _ (p : ℕ) (d x : Sitting) (lt : p < length xs) (at : get_or xs p d ≡ x) (is_open : x.end ≡ None) where
+      unmarked : x.gave_up ≡ false
+      unmarked = subst (λ (y : Sitting). y.gave_up ≡ false) at (heard_at f.turns 0 p d xs lt (subst (λ (y : Sitting). y.end ≡ None) (sym at) is_open) f.sit)
+
+      -- its next message is answered
+      pub answered_more : (left reader written : Option (List ℕ)) (clock'' : C) (keeper'' : K) (after : State) → x.served + 1 ≤ most_messages
+          → Goes gives x.left left x.written written clock' clock'' k keeper' keeper'' mid after
+          → SoFar gives k (set xs p (answered x left reader written)) clock clock'' keeper keeper'' s after
+      unfolding act_of
+      answered_more left reader written clock'' keeper'' after few g =
+          moves_more xs p d (answered x left reader written) clock clock' clock'' keeper keeper' keeper'' s mid after lt f
+          (subst (λ (y : Sitting). Moves y (answered x left reader written) clock' clock'' keeper' keeper'' mid after) (sym at) (record {
+            acts = act_of x left reader written clock' clock'' keeper' keeper'' mid after g ∷ [];
+            moments = g.moment ∷ [];
+            told = (clock'', g.told, refl);
+            by_rules = (refl, g.answers.replies, refl);
+            moves = λ before earlier h. sits_open (answered x left reader written) _ _ is_open
+                (answered_sits x left reader written clock' clock'' keeper' keeper'' mid after g before earlier few (open_sits x before earlier is_open h));
+            marked = unmarked;
+            held = λ _. g.held;
+            lasts = λ _. g.lasts;
+          }))
+
+      -- it ends
+      pub closed_more : (left reader written : Option (List ℕ)) (clock'' : C) (keeper'' : K) (after : State) (n : ℕ) (e : SessionEnd) → n + x.served ≡ most_messages
+          → (v : Serves n gives x.left reader x.written written clock' clock'' k keeper' keeper'' mid after e)
+          → SoFar gives k (set xs p (closed x left reader written e v.gave_up)) clock clock'' keeper keeper'' s after
+      closed_more left reader written clock'' keeper'' after n e sum v =
+          let y = session_acts n v.stream mid v.moments v.answers e v.gave_up after v.session in
+          let new = closed x left reader written e v.gave_up in
+          moves_more xs p d new clock clock' clock'' keeper keeper' keeper'' s mid after lt f
+          (subst (λ (z : Sitting). Moves z new clock' clock'' keeper' keeper'' mid after) (sym at) (record {
+            acts = y.acts;
+            moments = v.moments;
+            told = v.told;
+            by_rules = y.by_rules;
+            moves = λ before earlier h. closed_sits x left reader written e v.gave_up n v.stream v.answers y.acts v.moments before earlier sum v.read v.written
+                (speaks_of n v.stream mid v.moments v.answers e v.gave_up y.acts after y.are) (open_sits x before earlier is_open h);
+            marked = unmarked;
+            held = λ is. subst (λ b. HoldsUp k b keeper' keeper'') is v.held.0;
+            lasts = λ at_end. v.lasts (ends_so at_end);
+          }))
+        where
+          ends_so : LastsAt (closed x left reader written e v.gave_up) → (v.gave_up ≡ false) ⊎ (e ≡ ReadFault)
+          ends_so (inl is) = inl is
+          ends_so (inr is) = inr (some_is e ReadFault is)
+            where
+              some_is : (a b : SessionEnd) → Some a ≡ Some b → a ≡ b
+              some_is a b h = cc
+
+      -- bytes of it are read ahead
+      pub gathered_more : (left reader : Option (List ℕ)) → Keeps x.left left → SoFar gives k (set xs p (gathered x left reader)) clock clock' keeper keeper' s mid
+      gathered_more left reader keeps = record {
+        turns = f.turns;
+        order = f.order;
+        told = f.told;
+        within = same_length (length xs) (length (set xs p (gathered x left reader))) f.turns (set_length xs p (gathered x left reader)) f.within;
+        sit = one_changes f.turns 0 p d (gathered x left reader) xs lt
+            (λ acts moments h. sits_open (gathered x left reader) acts moments is_open
+            (gathered_sits x left reader acts moments keeps (open_sits x acts moments is_open (subst (λ (y : Sitting). Sits y acts moments) at h)))) f.sit;
+        held = λ none. f.held (all_unset NotGivenUp xs p d (gathered x left reader) lt (subst NotGivenUp (sym at) unmarked) none).0;
+        lasts = λ all. f.lasts (all_unset LastsAt xs p d (gathered x left reader) lt (subst LastsAt (sym at) (inl unmarked)) all).0;
+      }
+
+    -- ---- a connection more
+
+    none_own : (i n : ℕ) (turns : List Turn) → n ≤ i → AllByRecursion (λ t. t.which < n) turns → ([] ≡ own_acts i turns) × ([] ≡ own_moments i turns)
+    none_own i n [] le h = (refl, refl)
+    none_own i n (t ∷ ts) le h =
+        let other : nat_eq t.which i ≡ false = less_is_not t.which i (omega (arith, h.0, le)) in
+        let rest = none_own i n ts le h.1 in (
+          rest.0 ∙ sym (ap (λ b. cond b t.acts [] ++ own_acts i ts) other),
+          rest.1 ∙ sym (ap (λ b. cond b t.moments [] ++ own_moments i ts) other),
+        )
+
+    sit_opens : (turns : List Turn) (i n : ℕ) (x : Sitting) (ys : List Sitting) → n ≤ i + length ys → AllByRecursion (λ t. t.which < n) turns → IsFirst x
+        → AllSit turns i ys → AllSit turns i (ys ++ x ∷ [])
+    sit_opens turns i n x [] le within new h =
+        let none = none_own i n turns (omega (arith, le)) within in
+        (sits_by x [] (own_acts i turns) [] (own_moments i turns) none.0 none.1 (first_sits x new), tt)
+    sit_opens turns i n x (y ∷ ys) le within new h = (h.0, sit_opens turns (suc i) n x ys (omega (arith, le)) within new h.1)
+
+    within_longer : (n m : ℕ) (turns : List Turn) → n ≤ m → AllByRecursion (λ t. t.which < n) turns → AllByRecursion (λ t. t.which < m) turns
+    within_longer n m [] le h = tt
+    within_longer n m (t ∷ ts) le h = (omega (arith, h.0, le), within_longer n m ts le h.1)
+
+    longer : (ys : List Sitting) (x : Sitting) → length ys ≤ length (ys ++ x ∷ [])
+    longer [] x = omega arith
+    longer (y ∷ ys) x = let rest = longer ys x in omega (arith, rest)
+
+    -- A connection that comes between two turns is one more in the list, and all that was said of the others stays.
+    pub opens : (x : Sitting) → IsFirst x → SoFar gives k (xs ++ x ∷ []) clock clock' keeper keeper' s mid
+    opens x new = record {
+      turns = f.turns;
+      order = f.order;
+      told = f.told;
+      within = within_longer (length xs) (length (xs ++ x ∷ [])) f.turns (longer xs x) f.within;
+      sit = sit_opens f.turns 0 (length xs) x xs (omega arith) f.within new f.sit;
+      held = λ none. f.held (all_before NotGivenUp xs x none);
+      lasts = λ all. f.lasts (all_before LastsAt xs x all);
+    }
+
+-- ---- the end
+
+-- the thread of one that stands there
+pub record IsThreadOf (x : Sitting) (c : Thread) : Type 0 where
+  pub end : c.end ≡ x.end
+  pub marked : c.gave_up ≡ x.gave_up
+  pub stream : IsStreamOf x.gave_up x.end x.input x.left x.reader c.stream
+  pub answers : Appends x.output x.written c.answers
+
+abbrev pub AreThreadsOf : List Sitting → List Thread → Type 0
+AreThreadsOf [] [] = ⊤
+AreThreadsOf (x ∷ xs) (c ∷ cs) = IsThreadOf x c × AreThreadsOf xs cs
+AreThreadsOf xs cs = ⊥
+
+record HasThread (x : Sitting) (acts : List Act) (moments : List ℕ) : Type 0 where
+  pub thread : Thread
+  pub is : IsThreadOf x thread
+  pub speaks : Speaks most_messages thread.stream acts moments thread.answers thread.end thread.gave_up
+
+speaks_marked : (n : ℕ) (stream : List ℕ) (acts : List Act) (moments out : List ℕ) (e e' : Option SessionEnd) (g g' : Bool) → e ≡ e' → g ≡ g' → Speaks n stream acts moments out e g → Speaks n stream acts moments out e' g'
+speaks_marked n stream acts moments out e e' g g' ee eg h = subst (λ z. Speaks n stream acts moments out z g') ee (subst (Speaks n stream acts moments out e) eg h)
+
+thread_at : (x : Sitting) (acts : List Act) (moments : List ℕ) (e : Option SessionEnd) → x.end ≡ e → SitsSo e x acts moments → HasThread x acts moments
+thread_at x acts moments None is h =
+    let all = h.follows (most_messages - x.served) most_messages [] [] [] [] None false (omega (arith, h.few)) (said.still_open (most_messages - x.served)) in
+    record {
+      thread = record { stream = h.front; answers = h.text; end = x.end; gave_up = x.gave_up };
+      is = record {
+        end = refl;
+        marked = refl;
+        stream = subst (λ e. IsStreamOf x.gave_up e x.input x.left x.reader h.front) (sym is) h.taken;
+        answers = h.written_to;
+      };
+      speaks = speaks_marked most_messages h.front acts moments h.text None x.end false x.gave_up (sym is) (sym h.marked)
+          (subst (λ z. Speaks most_messages z acts moments h.text None false) (append-nil h.front)
+          (subst (λ z. Speaks most_messages (h.front ++ []) z moments h.text None false) (append-nil acts)
+          (subst (λ z. Speaks most_messages (h.front ++ []) (acts ++ []) z h.text None false) (append-nil moments)
+          (subst (λ z. Speaks most_messages (h.front ++ []) (acts ++ []) (moments ++ []) z None false) (append-nil h.text) all))));
+    }
+thread_at x acts moments (Some e) is h = record {
+  thread = record { stream = h.stream; answers = h.answers; end = x.end; gave_up = x.gave_up };
+  is = record {
+    end = refl;
+    marked = refl;
+    stream = subst (λ o. IsStreamOf x.gave_up o x.input x.left x.reader h.stream) (sym is) h.read;
+    answers = h.written_to;
+  };
+  speaks = speaks_marked most_messages h.stream acts moments h.answers (Some e) x.end x.gave_up x.gave_up (sym is) refl h.speaks;
+}
+
+record HasThreads (turns : List Turn) (i : ℕ) (xs : List Sitting) : Type 0 where
+  pub threads : List Thread
+  pub are : AreThreadsOf xs threads
+  pub spoken : AreSpoken turns i threads
+  pub many : length threads ≡ length xs
+
+all_threads : (turns : List Turn) (i : ℕ) (xs : List Sitting) → AllSit turns i xs → HasThreads turns i xs
+all_threads turns i [] h = record { threads = []; are = tt; spoken = tt; many = refl }
+all_threads turns i (x ∷ xs) h =
+    let c = thread_at x (own_acts i turns) (own_moments i turns) x.end refl h.0 in
+    let cs = all_threads turns (suc i) xs h.1 in
+    record { threads = c.thread ∷ cs.threads; are = (c.is, cs.are); spoken = (c.speaks, cs.spoken); many = ap suc cs.many }
+
+-- The connections were served in turn, by an order of all their messages.
+pub record Woven {C : Type 0} (gives : C → ℕ → C → Type 0) (xs : List Sitting) (clock clock' : C) (s mid : State) : Type 0 where
+  pub threads : List Thread
+  pub moments : List ℕ
+  pub are : AreThreadsOf xs threads
+  pub many : length threads ≡ length xs
+  pub told : TellsMoments gives clock moments clock'
+  pub run : Interleaved s threads moments mid
+
+pub finishes : {C K : Type 0} (gives : C → ℕ → C → Type 0) (k : Ghosts K) (xs : List Sitting) (clock clock' : C) (keeper keeper' : K) (s mid : State)
+    → SoFar gives k xs clock clock' keeper keeper' s mid → Woven gives xs clock clock' s mid
+finishes gives k xs clock clock' keeper keeper' s mid f =
+    let x = all_threads f.turns 0 xs f.sit in
+    record {
+      threads = x.threads;
+      moments = moments_in f.turns;
+      are = x.are;
+      many = x.many;
+      told = f.told;
+      run = record { turns = f.turns; order = f.order; told = refl; within = same_length (length xs) (length x.threads) f.turns (sym x.many) f.within; each = x.spoken };
+    }
+
+-- ---- what holds of all threads held of all connections
+
+pub none_gave_up : (xs : List Sitting) (cs : List Thread) → AreThreadsOf xs cs → AllByRecursion (λ (c : Thread). c.gave_up ≡ false) cs → AllByRecursion NotGivenUp xs
+none_gave_up [] [] are h = tt
+none_gave_up [] (c ∷ cs) are h = absurd are
+none_gave_up (x ∷ xs) [] are h = absurd are
+none_gave_up (x ∷ xs) (c ∷ cs) are h = (sym are.0.marked ∙ h.0, none_gave_up xs cs are.1 h.1)
+
+pub all_last : (xs : List Sitting) (cs : List Thread) → AreThreadsOf xs cs → AllByRecursion (λ (c : Thread). (c.gave_up ≡ false) ⊎ (c.end ≡ Some ReadFault)) cs → AllByRecursion LastsAt xs
+all_last [] [] are h = tt
+all_last [] (c ∷ cs) are h = absurd are
+all_last (x ∷ xs) [] are h = absurd are
+all_last (x ∷ xs) (c ∷ cs) are h = (one x c are.0 h.0, all_last xs cs are.1 h.1)
+  where
+    one : (x : Sitting) (c : Thread) → IsThreadOf x c → (c.gave_up ≡ false) ⊎ (c.end ≡ Some ReadFault) → LastsAt x
+    one x c is (inl none) = inl (sym is.marked ∙ none)
+    one x c is (inr read) = inr (sym is.end ∙ read)

@@ -1,0 +1,41 @@
+use Rattle.std.proofs.Common.{◌≡◌, ◌∙◌, ◌-◌, None, Some, suc, refl, sym, arith}
+use Rattle.office.specs.declared.connections.session.SessionEnd.TheVariants.{Limit}
+use Rattle.office.specs.Seats.{had_ended, went_on, ended, left_of}
+use Rattle.office.proofs.SeatTurns.{none_of, some_of, steps_of}
+use Rattle.office.proofs.SessionSteps.{serves_none}
+use Rattle.office.proofs.office.Office.take_turn.Goals as goal
+
+pub returns-then-is_some-clause-turns : goal.returns-then-is_some-clause-turns
+returns-then-is_some-clause-turns g c s kept =
+    let e = some_of c.args.seat.now.end (sym c.is_some.ensures ∙ c.if-is_some.true) in
+    (s, record { means = kept.means; sound = kept.sound }, had_ended e.0 e.1 refl refl refl refl)
+
+pub returns-then-seat-ge-MOST_MESSAGES-clause-turns : goal.returns-then-seat-ge-MOST_MESSAGES-clause-turns
+returns-then-seat-ge-MOST_MESSAGES-clause-turns g c s kept =
+    let seat = c.args.seat.now in
+    let was_open = none_of seat.end (sym c.is_some.ensures ∙ c.if-is_some.false) in (
+      s,
+      record { means = kept.means; sound = kept.sound },
+      ended 0 Limit was_open refl refl (omega (arith, c.if-seat-ge-MOST_MESSAGES.true, seat.few))
+          (serves_none g.C.Clock.now_gives (left_of g.R.Read.remaining seat) (g.R.Read.remaining seat.reader.inner) (g.W.Write.contents seat.writer.inner) c.args.clock.now g.K.Keeper c.args.self.now.keeper s),
+    )
+
+pub returns-in-None-clause-turns : goal.returns-in-None-clause-turns
+returns-in-None-clause-turns g c s kept =
+    let seat = c.args.seat.now in
+    let was_open = none_of seat.end (sym c.is_some.ensures ∙ c.if-is_some.false) in
+    let h = steps_of g.C.Clock.now_gives g.R.Read.remaining seat c.replace-standing.result _ _ _ _ c.args.clock.now c.step_aside-aside.new.clock g.K.Keeper c.args.self.now.keeper c.step_aside-aside.new.self.keeper s c.step_aside-aside.result.end None
+    c.replace-standing.ensures.value c.in-None.is (c.step_aside-aside.ensures.steps s kept) in
+    (h.0, h.1, went_on was_open was_open refl h.2)
+
+pub returns-in-Some-clause-turns : goal.returns-in-Some-clause-turns
+returns-in-Some-clause-turns g c s kept =
+    let seat = c.args.seat.now in
+    let was_open = none_of seat.end (sym c.is_some.ensures ∙ c.if-is_some.false) in
+    let h = steps_of g.C.Clock.now_gives g.R.Read.remaining seat c.replace-standing.result _ _ _ _ c.args.clock.now c.step_aside-aside.new.clock g.K.Keeper c.args.self.now.keeper c.step_aside-aside.new.self.keeper s c.step_aside-aside.result.end (Some c.in-Some.end)
+    c.replace-standing.ensures.value c.in-Some.is (c.step_aside-aside.ensures.steps s kept) in (
+      h.0,
+      h.1,
+      ended (suc (999 - seat.served)) c.in-Some.end was_open refl refl (omega (arith, c.if-seat-ge-MOST_MESSAGES.false))
+          (h.2 (999 - seat.served) (λ fresh. let none : seat.served ≡ 0 = seat.fresh was_open fresh in omega (arith, none))),
+    )

@@ -1,0 +1,83 @@
+-- Connections that are open at once: each turn serves messages of one of them.
+use Rattle.std.specs.Prelude.{◌≡◌, ◌<◌, ℕ, suc, Bool, true, false, cond, nat_eq, List, [], ◌∷◌, ◌++◌, length, Option, Some, None, ⊤}
+use Rattle.std.specs.List.{AllByRecursion}
+use Rattle.sigtext.specs.Bytes.{IsBeginning}
+use Rattle.sigtext.specs.Request.{Request}
+use Rattle.boxes.specs.State.{State}
+use Rattle.wire.specs.Framing.{Next}
+use Rattle.wire.specs.Framing as frame
+use Rattle.office.specs.Readable.{IsReadable}
+use Rattle.office.specs.Repeats.{Act, Acts, text_of}
+use Rattle.office.specs.Sessions.{Connection, Session, most_messages}
+use Rattle.office.specs.WithoutTryAgain.{IsLastRefusal}
+use Rattle.office.specs.declared.connections.session.SessionEnd.{SessionEnd}
+use Rattle.office.specs.declared.connections.session.SessionEnd.TheVariants.{WriteFault}
+
+-- one turn: whose it is, which moments were told in it, and what was done for its messages
+pub record Turn : Type 0 where
+  pub which : ℕ
+  pub moments : List ℕ
+  pub acts : List Act
+
+-- all acts and all moments, in the order of the turns
+abbrev pub acts_in : List Turn → List Act
+acts_in [] = []
+acts_in (t ∷ ts) = t.acts ++ acts_in ts
+
+abbrev pub moments_in : List Turn → List ℕ
+moments_in [] = []
+moments_in (t ∷ ts) = t.moments ++ moments_in ts
+
+-- those of the turns of one connection
+abbrev pub own_acts : ℕ → List Turn → List Act
+own_acts i [] = []
+own_acts i (t ∷ ts) = cond (nat_eq t.which i) t.acts [] ++ own_acts i ts
+
+abbrev pub own_moments : ℕ → List Turn → List ℕ
+own_moments i [] = []
+own_moments i (t ∷ ts) = cond (nat_eq t.which i) t.moments [] ++ own_moments i ts
+
+-- A connection as it was served: it ended so, or it is open still, or was closed between two messages. Where it did not end,
+-- the stream is what was taken.
+pub record Thread : Type 0 where
+  pub stream : List ℕ
+  pub answers : List ℕ
+  pub end : Option SessionEnd
+  pub gave_up : Bool
+
+abbrev pub thread_of : Connection → Thread
+thread_of c = record { stream = c.stream; answers = c.answers; end = Some c.end; gave_up = c.gave_up }
+
+-- Of up to n further messages of a stream these acts were done, at these moments, in the order of the stream; the answers are
+-- theirs, and the end is the stream's. Of the states between them nothing is said: acts of other connections stand there.
+pub data Speaks : ℕ → List ℕ → List Act → List ℕ → List ℕ → Option SessionEnd → Bool → Type 0 where
+  -- it did not end, and nothing more of it was taken
+  still_open : (n : ℕ) → Speaks n [] [] [] [] None false
+  -- no message takes a moment any more; that is the same from whichever state
+  over : (n : ℕ) (stream : List ℕ) (s : State) (out : List ℕ) (e : SessionEnd) (gave_up : Bool)
+      → Session n stream s [] out e gave_up s → Speaks n stream [] [] out (Some e) gave_up
+  -- the message is given up, and all that is written is refusal 40, or a beginning of it
+  given_up : (n : ℕ) (stream rest : List ℕ) (r : Request) (now : ℕ) (out : List ℕ) (e : SessionEnd)
+      → Next stream (frame.Message r) rest → IsReadable r → IsLastRefusal out e → Speaks (suc n) stream [] (now ∷ []) out (Some e) true
+  -- an act, whose answer is written whole, and what follows it
+  answered : (n : ℕ) (stream rest : List ℕ) (a : Act) (acts : List Act) (moments out : List ℕ) (e : Option SessionEnd) (gave_up : Bool)
+      → Next stream (frame.Message a.request) rest → Speaks n rest acts moments out e gave_up
+      → Speaks (suc n) stream (a ∷ acts) (a.now ∷ moments) (text_of a ++ out) e gave_up
+  -- the last act, whose answer is lost: a beginning of it is written, and then a write fails
+  lost : (n : ℕ) (stream rest : List ℕ) (a : Act) (front : List ℕ) → Next stream (frame.Message a.request) rest
+      → IsBeginning front (text_of a) → Speaks (suc n) stream (a ∷ []) (a.now ∷ []) front (Some WriteFault) false
+
+-- each connection, from the number i on: its own acts, in their order, are those of its stream
+abbrev pub AreSpoken : List Turn → ℕ → List Thread → Type 0
+AreSpoken turns i [] = ⊤
+AreSpoken turns i (c ∷ cs) =
+    Speaks most_messages c.stream (own_acts i turns) (own_moments i turns) c.answers c.end c.gave_up × AreSpoken turns (suc i) cs
+
+-- There is one order of all messages: by the rules of the machine it leads from the state to the state after, and each
+-- connection is what its own messages make of it.
+pub record Interleaved (s : State) (threads : List Thread) (moments : List ℕ) (after : State) : Type 0 where
+  pub turns : List Turn
+  pub order : Acts s (acts_in turns) after
+  pub told : moments ≡ moments_in turns
+  pub within : AllByRecursion (λ t. t.which < length threads) turns
+  pub each : AreSpoken turns 0 threads

@@ -1,0 +1,97 @@
+-- Connections that are served in turn, as they were and as they are.
+use Rattle.std.specs.Prelude.{◌≡◌, ◌+◌, ◌⊎◌, ℕ, Bool, false, List, [], ◌∷◌, Option, Some, None, ⊤}
+use Rattle.std.specs.Io.KnownBytes.{Appends, Consumes, Keeps, prepend_known}
+use Rattle.std.specs.List.{AllByRecursion}
+use Rattle.boxes.specs.State.{State}
+use Rattle.keeper.specs.declared.keep.Keeper.{Ghosts}
+use Rattle.wire.specs.Feeds.{ahead_of, stood_at}
+use Rattle.office.specs.declared.connections.seat.Seat.{Seat}
+use Rattle.office.specs.declared.connections.session.SessionEnd.{SessionEnd}
+use Rattle.office.specs.declared.connections.session.SessionEnd.TheVariants.{ReadFault}
+use Rattle.office.specs.Connections.{IsStream, Serves, TellsMoments}
+use Rattle.office.specs.Crashes.{LastsThrough}
+use Rattle.office.specs.Interleaved.{Interleaved, Thread, acts_in}
+use Rattle.office.specs.Repeats.{RepeatsOnce}
+use Rattle.office.specs.Sessions.{most_messages}
+use Rattle.office.specs.Stepping.{Goes, TellsStep}
+
+-- what is left of its stream: the bytes that its feed read and did not take, and those that its reader has
+abbrev pub left_of : {R W : Type 0} → (R → Option (List ℕ)) → Seat R W → Option (List ℕ)
+left_of remaining seat = prepend_known (ahead_of seat.standing) (remaining seat.reader.inner)
+
+-- no message of it was served
+pub record IsNew {R W : Type 0} (seat : Seat R W) : Type 0 where
+  pub none : seat.served ≡ 0
+  pub open_still : seat.end ≡ None
+
+-- Bytes of it were read ahead, or put back, and nothing else was done.
+pub record Gathers {R W : Type 0} (remaining : R → Option (List ℕ)) (old new : Seat R W) : Type 0 where
+  pub place : stood_at new.standing ≡ stood_at old.standing
+  pub keeps : Keeps (left_of remaining old) (left_of remaining new)
+  pub counts : new.reader.faults ≡ old.reader.faults
+  pub writer : new.writer ≡ old.writer
+  pub served : new.served ≡ old.served
+  pub end : new.end ≡ old.end
+
+-- One turn of a connection.
+pub data TakesTurn {C K R W : Type 0} (gives : C → ℕ → C → Type 0) (remaining : R → Option (List ℕ)) (contents : W → Option (List ℕ)) (old new : Seat R W) (clock clock' : C)
+    (k : Ghosts K) (keeper keeper' : K) (s after : State) : Type 0 where
+  -- it had ended, and nothing was done
+  had_ended : (e : SessionEnd) → old.end ≡ Some e → new ≡ old → clock' ≡ clock → keeper' ≡ keeper → after ≡ s
+      → TakesTurn gives remaining contents old new clock clock' k keeper keeper' s after
+  -- its next message was answered, and it goes on
+  went_on : old.end ≡ None → new.end ≡ None → new.served ≡ old.served + 1
+      → Goes gives (left_of remaining old) (left_of remaining new) (contents old.writer.inner) (contents new.writer.inner) clock clock' k keeper keeper' s after
+      → TakesTurn gives remaining contents old new clock clock' k keeper keeper' s after
+  -- it ended, as a session of the n messages does that were to come at most
+  ended : (n : ℕ) (e : SessionEnd) → old.end ≡ None → new.end ≡ Some e → new.served ≡ old.served → n + old.served ≡ most_messages
+      → Serves n gives (left_of remaining old) (remaining new.reader.inner) (contents old.writer.inner) (contents new.writer.inner) clock clock' k keeper keeper' s after e
+      → TakesTurn gives remaining contents old new clock clock' k keeper keeper' s after
+
+-- the faults that were counted in a turn
+abbrev pub TellsTurnOf : {R W : Type 0} → Option SessionEnd → Seat R W → Seat R W → Type 0
+TellsTurnOf None old new = TellsStep new.end old.reader new.reader old.writer new.writer
+TellsTurnOf (Some e) old new = new ≡ old
+
+abbrev pub TellsTurn : {R W : Type 0} → Seat R W → Seat R W → Type 0
+TellsTurn old new = TellsTurnOf old.end old new
+
+-- the stream of a connection that ended, or of one that did not
+abbrev pub IsStreamOf : Bool → Option SessionEnd → Option (List ℕ) → Option (List ℕ) → Option (List ℕ) → List ℕ → Type 0
+IsStreamOf gave_up None input left reader stream = Consumes input left stream
+IsStreamOf gave_up (Some e) input left reader stream = IsStream gave_up e input reader stream
+
+-- each connection as it was served: what its reader gave, what its writer was given, and what its end tells
+abbrev pub AreThreads : {R W : Type 0} → (R → Option (List ℕ)) → (W → Option (List ℕ)) → List (Seat R W) → List (Seat R W) → List Thread → Type 0
+AreThreads remaining contents [] [] [] = ⊤
+AreThreads remaining contents (old ∷ olds) (new ∷ news) (c ∷ cs) =
+    (c.end ≡ new.end) × IsStreamOf c.gave_up c.end (left_of remaining old) (left_of remaining new) (remaining new.reader.inner) c.stream
+    × Appends (contents old.writer.inner) (contents new.writer.inner) c.answers × TellsStep c.end old.reader new.reader old.writer new.writer
+    × AreThreads remaining contents olds news cs
+AreThreads remaining contents olds news cs = ⊥
+
+abbrev pub NoThreadGaveUp : List Thread → Type 0
+NoThreadGaveUp threads = AllByRecursion (λ c. c.gave_up ≡ false) threads
+
+-- where no connection gave up, the keeper's count stays, and one that was open is open and means this state and no other
+pub record StaysSo {K : Type 0} (k : Ghosts K) (threads : List Thread) (keeper keeper' : K) (after : State) : Type 0 where
+  pub counted : NoThreadGaveUp threads → k.faults keeper' ≡ k.faults keeper
+  pub opened : NoThreadGaveUp threads → k.is_open keeper → k.is_open keeper' × ((t : State) → k.means keeper' t → t ≡ after)
+
+-- where nothing was given up but at a failed read, the state after outlasts a crash
+abbrev pub LastsOver : {K : Type 0} → Ghosts K → List Thread → K → K → State → State → Type 0
+LastsOver k threads keeper keeper' s after =
+    AllByRecursion (λ c. (c.gave_up ≡ false) ⊎ (c.end ≡ Some ReadFault)) threads → LastsThrough k keeper keeper' s after
+
+-- The connections were served in turn: the moments, each connection, the state after, how the keeper held up, and what outlasts a
+-- crash; and an upload acts once over all of them.
+pub record Weaves {C K R W : Type 0} (gives : C → ℕ → C → Type 0) (remaining : R → Option (List ℕ)) (contents : W → Option (List ℕ)) (old new : List (Seat R W)) (clock clock' : C)
+    (k : Ghosts K) (keeper keeper' : K) (s after : State) : Type 0 where
+  pub threads : List Thread
+  pub moments : List ℕ
+  pub told : TellsMoments gives clock moments clock'
+  pub served : AreThreads remaining contents old new threads
+  pub run : Interleaved s threads moments after
+  pub repeats : RepeatsOnce (acts_in run.turns)
+  pub stays : StaysSo k threads keeper keeper' after
+  pub lasts : LastsOver k threads keeper keeper' s after

@@ -1,0 +1,153 @@
+//! Connections that are served in turn, a message at a time.
+ghost use Rattle.std.specs.Prelude.{◌<◌, IfSome, length};
+
+use super::seat::Seat;
+use super::session::SessionEnd;
+use crate::clocks::Clock;
+use crate::office::Office;
+use keeper::Keeper;
+use std::alloc::Global;
+use std::io::{Read, Write};
+use std::mem;
+use wire::{Counted, Feed, Room, Standing};
+
+/// The greatest number of messages that a connection is served.
+const MOST_MESSAGES: u64 = 1000;
+
+/// Says which connection has the next turn: any, however often.
+pub trait Pick<R, W> {
+    /// The index of the next one, or none where no turn is to be taken any more.
+    fn pick(&mut self, seats: &[Seat<R, W>]) -> Option<usize>
+        ensures { IfSome result (λ index. index < length seats.now) };
+}
+
+// What a step left beside the connection's streams.
+#[derive(Drop)]
+struct Aside {
+    standing: Standing,
+    room: Option<Room>,
+    end: Option<SessionEnd>,
+}
+
+// The room that is there, or a new one, if memory is found.
+pub(crate) fn room_of(spare: Option<Room>, alloc: Global) -> Option<Room> {
+    match spare {
+        Some(room) => Some(room),
+        None => Room::new(alloc).ok(),
+    }
+}
+
+impl<K: Keeper> Office<K> {
+    ghost use Rattle.std.specs.Prelude.{◌≡◌, ◌≤◌, IfNone, IsSomeAnd, IsTrue};
+    ghost use Rattle.std.specs.List.{AllByRecursion};
+    ghost use Rattle.std.specs.Io.KnownBytes.{prepend_known};
+    ghost use Rattle.boxes.specs.State.{State};
+    ghost use Rattle.wire.specs.Feeds.{ahead_of, stood_at};
+    ghost use Rattle.wire.specs.Whole.{MayBegin};
+    ghost use Rattle.wire.specs.declared.feed.Place.TheVariants as stands;
+    ghost use Rattle.office.specs.Connections.{MayGiveUp};
+    ghost use Rattle.office.specs.Premise.{HoldsUnless, IsLeft, StaysUnstaged, WasKept};
+    ghost use Rattle.office.specs.Seats.{IsNew, TakesTurn, TellsTurn, Weaves};
+    ghost use Rattle.office.specs.Stepping.{Steps, TellsStep};
+
+    // One step of a feed that stood aside, in this room.
+    fn step_aside<R: Read, W: Write, C: Clock>(
+        &mut self,
+        standing: Standing,
+        room: Room,
+        reader: &mut Counted<R>,
+        writer: &mut Counted<W>,
+        clock: &mut C,
+    ) -> Aside
+        requires { MayBegin (stood_at standing) }
+        ensures goes_on { IfNone result.end (stood_at result.standing ≡ stands.Between) }
+        ensures steps { (s : State) → WasKept K.Keeper self.old.keeper self.new.keeper s
+            → Steps C.now_gives (stood_at standing)
+            (prepend_known (ahead_of standing) (R.remaining reader.old.inner))
+            (prepend_known (ahead_of result.standing) (R.remaining reader.new.inner))
+            (R.remaining reader.new.inner)
+            (W.contents writer.old.inner) (W.contents writer.new.inner) clock.old clock.new
+            K.Keeper self.old.keeper self.new.keeper s result.end }
+        ensures faults { TellsStep result.end reader.old reader.new writer.old writer.new }
+        ensures unstaged { StaysUnstaged K.Keeper self.old.keeper self.new.keeper }
+        ensures rest { HoldsUnless K.Keeper self.old.keeper self.new.keeper
+            (IsSomeAnd result.end (MayGiveUp K.Keeper self.old.keeper self.new.keeper)) }
+    {
+        let mut feed = Feed::resume(standing, room, reader);
+        let end = self.step(&mut feed, writer, clock);
+        let aside = feed.set_aside();
+        feed.into_reader();
+        Aside {
+            standing: aside.0,
+            room: aside.1,
+            end,
+        }
+    }
+
+    /// Gives the connection a turn: reads its next message and answers it, by way of the room, which is handed back where no
+    /// byte waits in it. A connection that has ended is left as it is. What was read, which moment was told, what was
+    /// written, how it ended and the state after are those of the next message of its session, whatever was done for other
+    /// connections since the one before.
+    pub fn take_turn<R: Read, W: Write, C: Clock>(
+        &mut self,
+        seat: &mut Seat<R, W>,
+        room: Room,
+        clock: &mut C,
+    ) -> Option<Room>
+        ensures turns { (s : State) → WasKept K.Keeper self.old.keeper self.new.keeper s
+            → (after : State) × IsLeft (K.means self.new.keeper) after
+            × TakesTurn C.now_gives R.remaining W.contents seat.old seat.new clock.old clock.new
+            K.Keeper self.old.keeper self.new.keeper s after }
+        ensures faults { TellsTurn seat.old seat.new }
+        ensures unstaged { StaysUnstaged K.Keeper self.old.keeper self.new.keeper }
+        ensures rest { HoldsUnless K.Keeper self.old.keeper self.new.keeper
+            (IsSomeAnd seat.new.end (MayGiveUp K.Keeper self.old.keeper self.new.keeper)) }
+    {
+        if seat.end.is_some() {
+            return Some(room);
+        }
+        if seat.served >= MOST_MESSAGES {
+            seat.end = Some(SessionEnd::Limit);
+            return Some(room);
+        }
+        let standing = mem::replace(&mut seat.standing, Standing::new(self.alloc));
+        let aside = self.step_aside(standing, room, &mut seat.reader, &mut seat.writer, clock);
+        seat.standing = aside.standing;
+        match aside.end {
+            None => seat.served += 1,
+            Some(end) => seat.end = Some(end),
+        }
+        aside.room
+    }
+
+    /// Serves connections in turn, a message at a time, whichever is picked, until none is, or so many turns were taken, or
+    /// memory for the room is refused. There is one order of all messages, in which the machine leads from the state before
+    /// to the state after; and each connection's answers, and its end, are those of its own messages.
+    pub fn serve_turns<R: Read, W: Write, P: Pick<R, W>, C: Clock>(
+        &mut self,
+        seats: &mut [Seat<R, W>],
+        picker: &mut P,
+        clock: &mut C,
+        turns: u64,
+    )
+        requires { AllByRecursion IsNew seats.old }
+        ensures weaves { (s : State) → WasKept K.Keeper self.old.keeper self.new.keeper s
+            → (after : State) × IsLeft (K.means self.new.keeper) after
+            × Weaves C.now_gives R.remaining W.contents seats.old seats.new clock.old clock.new
+            K.Keeper self.old.keeper self.new.keeper s after }
+        ensures honest { K.is_honest self.new.keeper → K.is_honest self.old.keeper }
+        ensures unstaged { StaysUnstaged K.Keeper self.old.keeper self.new.keeper }
+        ensures never_less { K.faults self.old.keeper ≤ K.faults self.new.keeper }
+    {
+        let mut spare = None;
+        'turns: for _ in 0..turns {
+            let Some(index) = picker.pick(seats) else {
+                return;
+            };
+            let Some(room) = room_of(spare, self.alloc) else {
+                return;
+            };
+            spare = self.take_turn(&mut seats[index], room, clock);
+        }
+    }
+}

@@ -1,0 +1,23 @@
+-- What a `Gathered` has read ahead, and what gathering leaves.
+use Rattle.std.specs.Prelude.{◌≡◌, ◌≢◌, ℕ, List, [], ◌++◌, drop, Option, IsSome, Result, Ok, Err}
+use Rattle.std.specs.Io.KnownBytes.{Consumes, IsAtEnd, Keeps}
+use Rattle.wire.specs.declared.gathered.Gathered.{Gathered}
+use Rattle.wire.specs.declared.gathered.Gathering.{Gathering}
+use Rattle.wire.specs.declared.gathered.Gathering.TheVariants as gathering
+
+-- the bytes that were read ahead and not given yet
+abbrev pub ahead_in : {S : Type 0} → Gathered S → List ℕ
+ahead_in g = drop g.start g.bytes.items
+
+-- a read failed as it gathered
+abbrev pub HasFailed : {S : Type 0} → Gathered S → Type 0
+HasFailed g = IsSome g.fault
+
+-- What one read ahead told. remaining: what a reader has left.
+abbrev pub Gathers : {S E : Type 0} → (S → Option (List ℕ)) → Gathered S → Gathered S → Result Gathering E → Type 0
+Gathers remaining old new (Ok gathering.Came) =
+    (bytes : List ℕ) × (bytes ≢ []) × (ahead_in new ≡ ahead_in old ++ bytes) × Consumes (remaining old.inner) (remaining new.inner) bytes
+Gathers remaining old new (Ok gathering.Ended) = (ahead_in new ≡ ahead_in old) × Keeps (remaining old.inner) (remaining new.inner) × IsAtEnd (remaining new.inner)
+Gathers remaining old new (Ok gathering.Waits) = (ahead_in new ≡ ahead_in old) × Keeps (remaining old.inner) (remaining new.inner)
+Gathers remaining old new (Ok gathering.Failed) = (ahead_in new ≡ ahead_in old) × Keeps (remaining old.inner) (remaining new.inner) × HasFailed new
+Gathers remaining old new (Err e) = (ahead_in new ≡ ahead_in old) × (new.inner ≡ old.inner)

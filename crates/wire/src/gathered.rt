@@ -1,0 +1,172 @@
+//! Readers whose bytes are read ahead, without waiting for any.
+ghost use Rattle.std.specs.Prelude.{◌≡◌, ◌≢◌, ◌<◌, ◌≤◌, ◌++◌, [], length, take, vec_len, IsErr, IsFalse, IsOk, IsTrue, None};
+ghost use Rattle.std.specs.Io.{ReadsAtMost};
+ghost use Rattle.std.specs.Io.KnownBytes.{Keeps, ReadConsumes, prepend_known};
+
+use std::alloc::{AllocError, Global};
+use std::io;
+use std::io::{ErrorKind, Read};
+
+/// Gives the bytes that were read ahead, and then those of its reader. Where a read ahead failed, each read behind those bytes
+/// fails so.
+#[derive(Drop)]
+pub struct Gathered<S> {
+    /// The reader. What it gives comes behind the bytes that were read ahead.
+    pub inner: S,
+    alloc: Global,
+    bytes: Vec<u8>,
+    // How many of them were given.
+    start: usize,
+    fault: Option<io::Error>,
+    ghost within: { start ≤ vec_len bytes },
+}
+
+/// What a read ahead told.
+#[derive(Clone, Copy, Debug, PartialEq, Eq)]
+pub enum Gathering {
+    /// Bytes came.
+    Came,
+    /// There are none now: a read would wait.
+    Waits,
+    /// The reader is at its end.
+    Ended,
+    /// A read failed.
+    Failed,
+}
+
+impl<S: Read> Gathered<S> {
+    ghost use Rattle.wire.specs.Gathering.{Gathers, HasFailed, ahead_in};
+
+    /// Nothing was read ahead, and no memory is taken.
+    pub fn new(alloc: Global, inner: S) -> Gathered<S>
+        ensures inner { result.inner ≡ inner }
+        ensures ahead { ahead_in result ≡ [] }
+        ensures hale { result.fault ≡ None }
+    {
+        Gathered {
+            inner,
+            alloc,
+            bytes: Vec::new(alloc),
+            start: 0,
+            fault: None,
+        }
+    }
+
+    /// The bytes that were read ahead and not given yet.
+    pub fn ahead(&self) -> &[u8]
+        ensures { result.now ≡ ahead_in self.now }
+    {
+        &self.bytes[self.start..]
+    }
+
+    /// Reads once from a reader that does not wait, by way of the buffer, and keeps what comes. After a failed read it reads no
+    /// more.
+    ///
+    /// # Errors
+    ///
+    /// Memory was refused. Nothing was read then.
+    pub fn gather(&mut self, buf: &mut [u8]) -> Result<Gathering, AllocError>
+        ensures gathers { Gathers S.remaining self.old self.new result }
+        ensures failed { HasFailed self.old → HasFailed self.new }
+    {
+        if self.fault.is_some() {
+            return Ok(Gathering::Failed);
+        }
+        self.move_to_front();
+        self.bytes.reserve(buf.len())?;
+        match self.inner.read(buf) {
+            Ok(0) if !buf.is_empty() => Ok(Gathering::Ended),
+            Ok(0) => Ok(Gathering::Waits),
+            Ok(n) => {
+                self.bytes.extend_from_slice(&buf[..n])?;
+                Ok(Gathering::Came)
+            }
+            Err(error) if error.kind() == ErrorKind::WouldBlock => Ok(Gathering::Waits),
+            Err(error) => {
+                self.fault = Some(error);
+                Ok(Gathering::Failed)
+            }
+        }
+    }
+
+    // Moves the bytes that were not given to the front.
+    fn move_to_front(&mut self)
+        ensures start { self.new.start ≡ 0 }
+        ensures ahead { ahead_in self.new ≡ ahead_in self.old }
+        ensures inner { self.new.inner ≡ self.old.inner }
+        ensures fault { self.new.fault ≡ self.old.fault }
+    {
+        if self.start == 0 {
+            return;
+        }
+        let len = self.bytes.len();
+        self.bytes.copy_within(self.start..len, 0);
+        self.bytes.truncate(len - self.start);
+        self.start = 0;
+    }
+
+    /// Lets go of the memory, where no byte is ahead.
+    pub fn let_go(&mut self)
+        ensures ahead { ahead_in self.new ≡ ahead_in self.old }
+        ensures inner { self.new.inner ≡ self.old.inner }
+        ensures fault { self.new.fault ≡ self.old.fault }
+    {
+        if self.ahead().is_empty() {
+            self.bytes = Vec::new(self.alloc);
+            self.start = 0;
+        }
+    }
+
+    // Puts bytes before those that are ahead, if they are no more than were given since. Whether it did.
+    pub(crate) fn put_back(&mut self, bytes: &[u8]) -> bool
+        ensures put { IsTrue result → ahead_in self.new ≡ bytes.now ++ ahead_in self.old }
+        ensures kept { IsFalse result → ahead_in self.new ≡ ahead_in self.old }
+        ensures inner { self.new.inner ≡ self.old.inner }
+        ensures fault { self.new.fault ≡ self.old.fault }
+    {
+        if bytes.len() > self.start {
+            return false;
+        }
+        let at = self.start - bytes.len();
+        self.bytes[at..self.start].copy_from_slice(bytes);
+        self.start = at;
+        true
+    }
+
+    // Gives the first bytes that are ahead, as many as fit, and says how many.
+    fn give(&mut self, buf: &mut [u8]) -> usize
+        ensures bound { result ≤ length buf.new }
+        ensures given { ahead_in self.old ≡ take result buf.new ++ ahead_in self.new }
+        ensures some { ahead_in self.old ≢ [] → 0 < length buf.new → 0 < result }
+        ensures inner { self.new.inner ≡ self.old.inner }
+        ensures fault { self.new.fault ≡ self.old.fault }
+    {
+        let n = self.ahead().len().min(buf.len());
+        buf[..n].copy_from_slice(&self.ahead()[..n]);
+        self.start += n;
+        n
+    }
+}
+
+impl<S: Read> Read for Gathered<S> {
+    ghost use Rattle.wire.specs.Gathering.{HasFailed, ahead_in};
+
+    ghost remaining = { λ gathered. prepend_known (ahead_in gathered) (S.remaining gathered.inner) };
+
+    fn read(&mut self, buf: &mut [u8]) -> io::Result<usize>
+        ensures bound { ReadsAtMost result buf.new }
+        ensures bytes { ReadConsumes (prepend_known (ahead_in self.old) (S.remaining self.old.inner))
+            (prepend_known (ahead_in self.new) (S.remaining self.new.inner)) result buf.new }
+        ensures first { ahead_in self.old ≢ [] → IsOk result }
+        ensures then { ahead_in self.old ≡ [] → HasFailed self.old → IsErr result }
+        ensures failed { HasFailed self.old → HasFailed self.new }
+    {
+        if !self.ahead().is_empty() {
+            return Ok(self.give(buf));
+        }
+        match self.fault {
+            Some(error) => Err(error),
+            None => self.inner.read(buf),
+        }
+    }
+}
