@@ -1,37 +1,31 @@
-use Rattle.std.specs.List.{flat_map}
+use Rattle.std.proofs.Common.{◌≡◌, ℕ, ◌-◌, ◌*◌, ◌<◌, ◌≤◌, List, length, min, take, drop, Some, None, arith, rules, refl, sym, ap, ◌∙◌}
+use Rattle.std.proofs.lemmas.Bool.{lt-ltb}
+use Rattle.std.proofs.lemmas.List.{length-drop, take_all, take_min}
 use Rattle.sqltables.specs.Tables.{piece_of}
-use Rattle.std.proofs.Common.{◌≡◌, ◌+◌, ◌*◌, ◌<◌, ◌≤◌, ◌++◌, length, Some, arith, sym, ap, ◌∙◌, rules}
-use Rattle.std.specs.Prelude.{slice_get}
-use Rattle.std.proofs.lemmas.Option.{slice_get-get_or}
-use Rattle.sqlstatements.proofs.Held.{last_piece, full_piece, no_more}
-use Rattle.sqlstatements.proofs.pieces.Pieces.piece.Goals.{then-at-len-2-via-then-at-len-2, then-at-len-2-via-else-at-len-2+then-is_empty}
+use Rattle.sqltables.proofs.Gathering.{no_piece}
 use Rattle.sqlstatements.proofs.pieces.Pieces.piece.Goals as goal
 
-pub returns-then-at-len : goal.returns-then-at-len
-returns-then-at-len c =
-    let full = c.args.self.now.full.items in
-    let within : c.args.at < length full = search rules in
-    let there : slice_get full c.args.at ≡ Some c.index.result.now = slice_get-get_or full c.args.at c.index.result.now within ∙ ap Some (sym c.index.ensures) in
-    ap Some c.deref.ensures.value ∙ sym (full_piece (λ piece. piece.items) full c.args.self.now.last.items c.args.at c.index.result.now c.args.self.now.whole there)
+-- the rest of the bytes, and as much of it as a piece has
+take_rest : (bytes : List ℕ) (start n : ℕ) → n ≡ min (length (take (length bytes - start) (drop start bytes))) 65536
+    → take n (take (length bytes - start) (drop start bytes)) ≡ take 65536 (drop start bytes)
+take_rest bytes start n is =
+    let rest = drop start bytes in
+    let whole : take (length bytes - start) rest ≡ rest = let e = length-drop start bytes in take_all (length bytes - start) rest (omega (arith, e)) in
+    let size : n ≡ min 65536 (length rest) = let e = ap length whole in omega (arith, is, e) in
+    ap (take n) whole ∙ ap (λ m. take m rest) size ∙ take_min 65536 rest
 
-pub returns-then-at-len-2 : goal.returns-then-at-len-2
-returns-then-at-len-2 c =
-    let full = c.args.self.now.full.items in
-    let last = c.args.self.now.last.items in
-    let past : length full * 65536 + length last ≤ 65536 * c.args.at = elim c.then-at-len-2.branch [
-      | then-at-len-2-via-then-at-len-2 w ↦
-          let after : length full < c.args.at = search rules in
-          let fewer : length last < 65536 = c.args.self.now.short in omega (arith, after, fewer)
-      | then-at-len-2-via-else-at-len-2+then-is_empty w ↦
-          let upto : length full ≤ c.args.at = search rules in
-          let none : length last ≡ 0 = search rules in omega (arith, upto, none)
-    ] in
-    sym (no_more (λ piece. piece.items) full last c.args.at c.args.self.now.whole c.args.self.now.short past)
+pub returns-then-start-len : goal.returns-then-start-len
+returns-then-start-len c =
+    let bytes = c.args.self.now.bytes.items in
+    let past : length bytes ≤ 65536 * c.args.at = search rules in
+    sym (no_piece bytes c.args.at past)
 
 pub returns : goal.returns
 returns c =
-    let full = c.args.self.now.full.items in
-    let last = c.args.self.now.last.items in
-    let at : c.args.at ≡ length full = search rules in
-    let some : 0 < length last = search rules in
-    ap Some c.deref-2.ensures.value ∙ sym (ap (λ n. piece_of (flat_map (λ piece. piece.items) full ++ last) n) at ∙ last_piece (λ piece. piece.items) full last c.args.self.now.whole some c.args.self.now.short)
+    let bytes = c.args.self.now.bytes.items in
+    let same = c.deref.ensures.value in
+    let within : 65536 * c.args.at < length bytes = search rules in
+    let start : c.args.at * 65536 ≡ 65536 * c.args.at = omega arith in
+    let left = take_rest c.deref.result.now (c.args.at * 65536) c.min.result c.min.ensures in
+    ap Some (left ∙ ap (λ l. take 65536 (drop (c.args.at * 65536) l)) same ∙ ap (λ n. take 65536 (drop n bytes)) start)
+    ∙ sym (rw (lt-ltb (65536 * c.args.at) (length bytes) within) refl)
