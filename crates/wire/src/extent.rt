@@ -1,7 +1,7 @@
 //! How many bytes a message takes.
-ghost use Rattle.std.specs.Prelude.{◌<◌, length, IfNone, IfSome};
+ghost use Rattle.std.specs.Prelude.{◌<◌, ◌≤◌, length, IfNone, IfSome};
 ghost use Rattle.sigtext.specs.Limits.{most_head};
-ghost use Rattle.wire.specs.Extents.{Takes};
+ghost use Rattle.wire.specs.Extents.{HeadTakes, Takes};
 ghost use Rattle.wire.specs.Heads.{HasNoHeadEnd};
 
 use crate::announce::read_announcement;
@@ -19,16 +19,19 @@ pub fn message_len(bytes: &[u8]) -> Option<usize>
     ensures none { IfNone result ((length bytes.now < most_head) × HasNoHeadEnd bytes.now) }
 {
     match head_end(&bytes[..bytes.len().min(MOST_HEAD)]) {
-        Some(size) => Some(size + body_len(&bytes[..size])),
+        Some(size) => Some(len_with_body(&bytes[..size])),
         None if bytes.len() < MOST_HEAD => None,
         None => Some(MOST_HEAD),
     }
 }
 
-// How many bytes the body has that the head announces: 0 where it breaks a rule.
-fn body_len(head: &[u8]) -> usize {
+// How many bytes the head takes, with the body that it announces if it breaks no rule.
+fn len_with_body(head: &[u8]) -> usize
+    requires { length head.now ≤ most_head }
+    ensures { HeadTakes head.now result }
+{
     match read_announcement(head) {
-        Ok(body) => body.length,
-        Err(_) => 0,
+        Ok(body) => head.len() + body.length,
+        Err(_) => head.len(),
     }
 }

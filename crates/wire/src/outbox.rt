@@ -1,5 +1,5 @@
 //! Writers that are never waited for: the bytes that they do not take yet wait in memory.
-ghost use Rattle.std.specs.Prelude.{◌≡◌, ◌↔◌, ◌≤◌, ◌<◌, ◌++◌, ℕ, List, [], length, take, vec_len, IsErr, IfErr, IfNone, IfOk, IfSome, OnErr, OnOk, None};
+ghost use Rattle.std.specs.Prelude.{◌≡◌, ◌≢◌, ◌↔◌, ◌≤◌, ◌++◌, ℕ, List, [], length, take, vec_len, IsErr, IfErr, IfNone, IfOk, IfSome, OnErr, OnOk, None};
 ghost use Rattle.std.specs.Io.{WritesAtMost};
 ghost use Rattle.std.specs.Io.KnownBytes.{Appends, Keeps, WriteAppends, append_known};
 
@@ -69,32 +69,36 @@ impl<S: Write> Outbox<S> {
         if self.fault.is_some() {
             return Sending::Failed;
         }
-        if !self.waiting().is_empty() {
-            match offer(&mut self.inner, &self.bytes[self.start..]) {
-                Ok(Some(n)) => self.start += n,
-                Ok(None) => return Sending::Waits,
-                Err(error) => {
-                    self.fault = Some(error);
-                    return Sending::Failed;
-                }
+        if self.waiting().is_empty() {
+            return self.settle();
+        }
+        match offer(&mut self.inner, &self.bytes[self.start..]) {
+            Ok(Some(n)) => {
+                self.start += n;
+                self.settle()
+            }
+            Ok(None) => Sending::Waits,
+            Err(error) => {
+                self.fault = Some(error);
+                Sending::Failed
             }
         }
-        if !self.waiting().is_empty() {
-            return Sending::Waits;
-        }
-        self.let_go();
-        Sending::Sent
     }
 
-    // Lets go of the memory, where nothing waits.
-    fn let_go(&mut self)
-        requires { waits_out self.old ≡ [] }
-        ensures waiting { waits_out self.new ≡ [] }
+    // How far it is, if no write failed. Where nothing waits, it lets go of the memory.
+    fn settle(&mut self) -> Sending
+        ensures sent { result ≡ Sending.Sent ↔ (waits_out self.old ≡ []) }
+        ensures hale { result ≢ Sending.Failed }
+        ensures waiting { waits_out self.new ≡ waits_out self.old }
         ensures inner { self.new.inner ≡ self.old.inner }
         ensures fault { self.new.fault ≡ self.old.fault }
     {
+        if !self.waiting().is_empty() {
+            return Sending::Waits;
+        }
         self.bytes = Vec::new(self.alloc);
         self.start = 0;
+        Sending::Sent
     }
 
     // Puts the bytes behind those that wait.
