@@ -1,5 +1,5 @@
 //! Readers whose bytes are read ahead, without waiting for any.
-ghost use Rattle.std.specs.Prelude.{◌≡◌, ◌≢◌, ◌<◌, ◌≤◌, ◌++◌, [], length, take, vec_len, IsErr, IsFalse, IsOk, IsTrue, None, OnOk};
+ghost use Rattle.std.specs.Prelude.{◌≡◌, ◌≢◌, ◌<◌, ◌≤◌, ◌++◌, [], length, take, vec_capacity, vec_len, IsErr, IsFalse, IsOk, IsTrue, None, OnOk};
 ghost use Rattle.std.specs.Io.{ReadsAtMost};
 ghost use Rattle.std.specs.Io.KnownBytes.{Keeps, ReadConsumes, prepend_known};
 
@@ -65,9 +65,10 @@ impl<S: Read> Gathered<S> {
     ///
     /// # Errors
     ///
-    /// Memory was refused. Nothing was read then.
+    /// Memory was refused, for as many bytes as the buffer has. Nothing was read then.
     pub fn gather(&mut self, buf: &mut [u8]) -> Result<Gathering, AllocError>
         ensures gathers { Gathers S.remaining self.old self.new result }
+        ensures room { HasRoomFor (length buf.old) self.old → IsOk result }
         ensures failed { HasFailed self.old → HasFailed self.new }
     {
         if self.fault.is_some() {
@@ -120,6 +121,7 @@ impl<S: Read> Gathered<S> {
     // Moves the bytes that were not given to the front.
     fn move_to_front(&mut self)
         ensures start { self.new.start ≡ 0 }
+        ensures capacity { vec_capacity self.new.bytes ≡ vec_capacity self.old.bytes }
         ensures ahead { ahead_in self.new ≡ ahead_in self.old }
         ensures inner { self.new.inner ≡ self.old.inner }
         ensures fault { self.new.fault ≡ self.old.fault }

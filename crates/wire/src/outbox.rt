@@ -64,6 +64,7 @@ impl<S: Write> Outbox<S> {
         ensures failed { result ≡ Sending.Failed ↔ WriteFailed self.new }
         ensures takes { (bytes : List ℕ) × (waits_out self.old ≡ bytes ++ waits_out self.new)
             × Appends (S.contents self.old.inner) (S.contents self.new.inner) bytes }
+        ensures contents { Keeps (handed_over S.contents self.old) (handed_over S.contents self.new) }
         ensures kept { WriteFailed self.old → WriteFailed self.new }
     {
         if self.fault.is_some() {
