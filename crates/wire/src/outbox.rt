@@ -1,6 +1,7 @@
 //! Writers that are never waited for: the bytes that they do not take yet wait in memory.
-ghost use Rattle.std.specs.Prelude.{◌≡◌, ◌≢◌, ◌↔◌, ◌≤◌, ◌++◌, ℕ, List, [], length, take, vec_len, IsErr, IfErr, IfNone, IfOk, IfSome, OnErr, OnOk, None};
+ghost use Rattle.std.specs.Prelude.{◌≡◌, ◌≢◌, ◌↔◌, ◌≤◌, ◌++◌, ◌⊎◌, ℕ, List, [], length, take, vec_len, IsErr, IfErr, IfNone, IfOk, IfSome, OnErr, OnOk, None};
 ghost use Rattle.std.specs.Io.{WritesAtMost};
+ghost use Rattle.std.specs.IoError.{error_kind};
 ghost use Rattle.std.specs.Io.KnownBytes.{Appends, Keeps, WriteAppends, append_known};
 
 use crate::shifting::drop_front;
@@ -125,6 +126,8 @@ impl<S: Write> Write for Outbox<S> {
         ensures bytes { WriteAppends (handed_over S.contents self.old)
             (handed_over S.contents self.new) result buf.now }
         ensures failed { WriteFailed self.old → (IsErr result × WriteFailed self.new) }
+        ensures kept { IfErr result
+            (λ e. WriteFailed self.new ⊎ (error_kind e ≡ ErrorKind.OutOfMemory)) }
         ensures refused { OnErr result (waits_out self.new ≡ waits_out self.old) }
     {
         if let Some(error) = self.fault {
