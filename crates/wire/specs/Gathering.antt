@@ -1,5 +1,5 @@
 -- What a `Gathered` has read ahead, and what gathering leaves.
-use Rattle.std.specs.Prelude.{◌≡◌, ◌≢◌, ℕ, List, [], ◌++◌, drop, Option, IsSome, Result, Ok, Err}
+use Rattle.std.specs.Prelude.{◌≡◌, ◌≢◌, ℕ, ◌+◌, ◌≤◌, List, [], ◌++◌, length, drop, vec_capacity, Option, IsSome, Result, Ok, Err}
 use Rattle.std.specs.Io.KnownBytes.{Consumes, IsAtEnd, Keeps}
 use Rattle.wire.specs.declared.gathered.Gathered.{Gathered}
 use Rattle.wire.specs.declared.gathered.Gathering.{Gathering}
@@ -12,6 +12,10 @@ ahead_in g = drop g.start g.bytes.items
 -- a read failed as it gathered
 abbrev pub HasFailed : {S : Type 0} → Gathered S → Type 0
 HasFailed g = IsSome g.fault
+
+-- n bytes more fit behind those that are ahead with no more memory
+abbrev pub HasRoomFor : {S : Type 0} → ℕ → Gathered S → Type 0
+HasRoomFor n g = length (ahead_in g) + n ≤ vec_capacity g.bytes
 
 -- What one read ahead told. remaining: what a reader has left.
 abbrev pub Gathers : {S E : Type 0} → (S → Option (List ℕ)) → Gathered S → Gathered S → Result Gathering E → Type 0

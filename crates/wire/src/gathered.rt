@@ -1,8 +1,9 @@
 //! Readers whose bytes are read ahead, without waiting for any.
-ghost use Rattle.std.specs.Prelude.{◌≡◌, ◌≢◌, ◌<◌, ◌≤◌, ◌++◌, [], length, take, vec_len, IsErr, IsFalse, IsOk, IsTrue, None};
+ghost use Rattle.std.specs.Prelude.{◌≡◌, ◌≢◌, ◌<◌, ◌≤◌, ◌++◌, [], length, take, vec_capacity, vec_len, IsErr, IsFalse, IsOk, IsTrue, None, OnOk};
 ghost use Rattle.std.specs.Io.{ReadsAtMost};
 ghost use Rattle.std.specs.Io.KnownBytes.{Keeps, ReadConsumes, prepend_known};
 
+use crate::shifting::drop_front;
 use std::alloc::{AllocError, Global};
 use std::io;
 use std::io::{ErrorKind, Read};
@@ -35,7 +36,7 @@ pub enum Gathering {
 }
 
 impl<S: Read> Gathered<S> {
-    ghost use Rattle.wire.specs.Gathering.{Gathers, HasFailed, ahead_in};
+    ghost use Rattle.wire.specs.Gathering.{Gathers, HasFailed, HasRoomFor, ahead_in};
 
     /// Nothing was read ahead, and no memory is taken.
     pub fn new(alloc: Global, inner: S) -> Gathered<S>
@@ -64,9 +65,10 @@ impl<S: Read> Gathered<S> {
     ///
     /// # Errors
     ///
-    /// Memory was refused. Nothing was read then.
+    /// Memory was refused, for as many bytes as the buffer has. Nothing was read then.
     pub fn gather(&mut self, buf: &mut [u8]) -> Result<Gathering, AllocError>
         ensures gathers { Gathers S.remaining self.old self.new result }
+        ensures room { HasRoomFor (length buf.old) self.old → IsOk result }
         ensures failed { HasFailed self.old → HasFailed self.new }
     {
         if self.fault.is_some() {
@@ -89,19 +91,42 @@ impl<S: Read> Gathered<S> {
         }
     }
 
-    // Moves the bytes that were not given to the front.
-    fn move_to_front(&mut self)
-        ensures start { self.new.start ≡ 0 }
+    /// From now on each read behind the bytes that are ahead fails so, if it did not fail before: the first error stays.
+    pub fn fail(&mut self, error: io::Error)
+        ensures failed { HasFailed self.new }
+        ensures first { HasFailed self.old → self.new.fault ≡ self.old.fault }
+        ensures ahead { ahead_in self.new ≡ ahead_in self.old }
+        ensures inner { self.new.inner ≡ self.old.inner }
+    {
+        if self.fault.is_none() {
+            self.fault = Some(error);
+        }
+    }
+
+    /// Takes memory for so many bytes more behind those that are ahead.
+    ///
+    /// # Errors
+    ///
+    /// Memory was refused.
+    pub fn make_room(&mut self, n: usize) -> Result<(), AllocError>
+        ensures room { OnOk result (HasRoomFor n self.new) }
         ensures ahead { ahead_in self.new ≡ ahead_in self.old }
         ensures inner { self.new.inner ≡ self.old.inner }
         ensures fault { self.new.fault ≡ self.old.fault }
     {
-        if self.start == 0 {
-            return;
-        }
-        let len = self.bytes.len();
-        self.bytes.copy_within(self.start..len, 0);
-        self.bytes.truncate(len - self.start);
+        self.move_to_front();
+        self.bytes.reserve(n)
+    }
+
+    // Moves the bytes that were not given to the front.
+    fn move_to_front(&mut self)
+        ensures start { self.new.start ≡ 0 }
+        ensures capacity { vec_capacity self.new.bytes ≡ vec_capacity self.old.bytes }
+        ensures ahead { ahead_in self.new ≡ ahead_in self.old }
+        ensures inner { self.new.inner ≡ self.old.inner }
+        ensures fault { self.new.fault ≡ self.old.fault }
+    {
+        drop_front(&mut self.bytes, self.start);
         self.start = 0;
     }
 

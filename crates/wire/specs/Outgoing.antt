@@ -1,0 +1,17 @@
+-- What an `Outbox` has not sent yet.
+use Rattle.std.specs.Prelude.{ℕ, List, drop, IsSome, Option}
+use Rattle.std.specs.Io.KnownBytes.{append_known}
+use Rattle.wire.specs.declared.outbox.Outbox.{Outbox}
+
+-- the bytes that were handed over and not sent yet
+abbrev pub waits_out : {S : Type 0} → Outbox S → List ℕ
+waits_out o = drop o.start o.bytes.items
+
+-- a write failed, or took none of some bytes
+abbrev pub WriteFailed : {S : Type 0} → Outbox S → Type 0
+WriteFailed o = IsSome o.fault
+
+-- All that was handed over: what its writer holds, where that is known, and then the bytes that wait. contents: what a writer
+-- holds.
+abbrev pub handed_over : {S : Type 0} → (S → Option (List ℕ)) → Outbox S → Option (List ℕ)
+handed_over contents o = append_known (contents o.inner) (waits_out o)

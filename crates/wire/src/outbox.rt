@@ -1,0 +1,183 @@
+//! Writers that are never waited for: the bytes that they do not take yet wait in memory.
+ghost use Rattle.std.specs.Prelude.{◌≡◌, ◌≢◌, ◌↔◌, ◌≤◌, ◌++◌, ◌⊎◌, ℕ, List, [], length, take, vec_len, IsErr, IfErr, IfNone, IfOk, IfSome, OnErr, OnOk, None};
+ghost use Rattle.std.specs.Io.{WritesAtMost};
+ghost use Rattle.std.specs.IoError.{error_kind};
+ghost use Rattle.std.specs.Io.KnownBytes.{Appends, Keeps, WriteAppends, append_known};
+
+use crate::shifting::drop_front;
+use std::alloc::{AllocError, Global};
+use std::io;
+use std::io::{ErrorKind, Write};
+
+/// Takes bytes for a writer that may not take them now: these wait in memory, and `send` sends them. A write that fails, or
+/// takes none of some bytes, is the last: its error is kept, and each later write gives it.
+#[derive(Drop)]
+pub struct Outbox<S> {
+    /// The writer. What waits comes behind the bytes that it holds.
+    pub inner: S,
+    alloc: Global,
+    bytes: Vec<u8>,
+    // How many of them were sent.
+    start: usize,
+    fault: Option<io::Error>,
+    ghost within: { start ≤ vec_len bytes },
+}
+
+/// How far an outbox is.
+#[derive(Clone, Copy, Debug, PartialEq, Eq)]
+pub enum Sending {
+    /// All was sent.
+    Sent,
+    /// Some bytes wait. The writer may take them later.
+    Waits,
+    /// A write failed, or took none of some bytes.
+    Failed,
+}
+
+impl<S: Write> Outbox<S> {
+    ghost use Rattle.wire.specs.Outgoing.{WriteFailed, handed_over, waits_out};
+
+    /// Nothing waits, and no memory is taken.
+    pub fn new(alloc: Global, inner: S) -> Outbox<S>
+        ensures inner { result.inner ≡ inner }
+        ensures waiting { waits_out result ≡ [] }
+        ensures hale { result.fault ≡ None }
+    {
+        Outbox {
+            inner,
+            alloc,
+            bytes: Vec::new(alloc),
+            start: 0,
+            fault: None,
+        }
+    }
+
+    /// The bytes that were handed over and not sent yet.
+    pub fn waiting(&self) -> &[u8]
+        ensures { result.now ≡ waits_out self.now }
+    {
+        &self.bytes[self.start..]
+    }
+
+    /// Hands what waits to the writer once, if anything does. Where nothing waits any more, it lets go of its memory.
+    pub fn send(&mut self) -> Sending
+        ensures sent { result ≡ Sending.Sent ↔ ((waits_out self.new ≡ []) × (self.new.fault ≡ None)) }
+        ensures failed { result ≡ Sending.Failed ↔ WriteFailed self.new }
+        ensures takes { (bytes : List ℕ) × (waits_out self.old ≡ bytes ++ waits_out self.new)
+            × Appends (S.contents self.old.inner) (S.contents self.new.inner) bytes }
+        ensures contents { Keeps (handed_over S.contents self.old) (handed_over S.contents self.new) }
+        ensures kept { WriteFailed self.old → WriteFailed self.new }
+    {
+        if self.fault.is_some() {
+            return Sending::Failed;
+        }
+        if self.waiting().is_empty() {
+            return self.settle();
+        }
+        match offer(&mut self.inner, &self.bytes[self.start..]) {
+            Ok(Some(n)) => {
+                self.start += n;
+                self.settle()
+            }
+            Ok(None) => Sending::Waits,
+            Err(error) => {
+                self.fault = Some(error);
+                Sending::Failed
+            }
+        }
+    }
+
+    // How far it is, if no write failed. Where nothing waits, it lets go of the memory.
+    fn settle(&mut self) -> Sending
+        ensures sent { result ≡ Sending.Sent ↔ (waits_out self.old ≡ []) }
+        ensures hale { result ≢ Sending.Failed }
+        ensures waiting { waits_out self.new ≡ waits_out self.old }
+        ensures inner { self.new.inner ≡ self.old.inner }
+        ensures fault { self.new.fault ≡ self.old.fault }
+    {
+        if !self.waiting().is_empty() {
+            return Sending::Waits;
+        }
+        self.bytes = Vec::new(self.alloc);
+        self.start = 0;
+        Sending::Sent
+    }
+
+    // Puts the bytes behind those that wait.
+    fn keep(&mut self, bytes: &[u8]) -> Result<(), AllocError>
+        ensures kept { OnOk result (waits_out self.new ≡ waits_out self.old ++ bytes.now) }
+        ensures refused { OnErr result (waits_out self.new ≡ waits_out self.old) }
+        ensures inner { self.new.inner ≡ self.old.inner }
+        ensures fault { self.new.fault ≡ self.old.fault }
+    {
+        drop_front(&mut self.bytes, self.start);
+        self.start = 0;
+        self.bytes.extend_from_slice(bytes)
+    }
+}
+
+impl<S: Write> Write for Outbox<S> {
+    ghost use Rattle.wire.specs.Outgoing.{WriteFailed, handed_over, waits_out};
+
+    ghost contents = { λ outbox. append_known (S.contents outbox.inner) (waits_out outbox) };
+
+    fn write(&mut self, buf: &[u8]) -> io::Result<usize>
+        ensures bound { WritesAtMost result buf.now }
+        ensures bytes { WriteAppends (handed_over S.contents self.old)
+            (handed_over S.contents self.new) result buf.now }
+        ensures failed { WriteFailed self.old → (IsErr result × WriteFailed self.new) }
+        ensures kept { IfErr result
+            (λ e. WriteFailed self.new ⊎ (error_kind e ≡ ErrorKind.OutOfMemory)) }
+        ensures refused { OnErr result (waits_out self.new ≡ waits_out self.old) }
+    {
+        if let Some(error) = self.fault {
+            return Err(error);
+        }
+        if self.waiting().is_empty() {
+            match offer(&mut self.inner, buf) {
+                Ok(Some(n)) => return Ok(n),
+                Ok(None) => {}
+                Err(error) => {
+                    self.fault = Some(error);
+                    return Err(error);
+                }
+            }
+        }
+        self.keep(buf)?;
+        Ok(buf.len())
+    }
+
+    /// Sends nothing.
+    fn flush(&mut self) -> io::Result<()>
+        ensures bytes { Keeps (handed_over S.contents self.old) (handed_over S.contents self.new) }
+        ensures failed { WriteFailed self.old ↔ IsErr result }
+        ensures same { self.new ≡ self.old }
+    {
+        match self.fault {
+            Some(error) => Err(error),
+            None => Ok(()),
+        }
+    }
+}
+
+// Hands the bytes to a writer once: how many of them it took, or that it takes none now. Any other error is told, and so is
+// that it took none of some bytes.
+fn offer<S: Write>(writer: &mut S, bytes: &[u8]) -> io::Result<Option<usize>>
+    ensures some { IfOk result (λ taken. IfSome taken (λ n. (n ≤ length bytes.now)
+        × Appends (S.contents writer.old) (S.contents writer.new) (take n bytes.now))) }
+    ensures none { IfOk result (λ taken. IfNone taken
+        (Keeps (S.contents writer.old) (S.contents writer.new))) }
+    ensures err { OnErr result (Keeps (S.contents writer.old) (S.contents writer.new)) }
+{
+    match writer.write(bytes) {
+        Ok(0) if !bytes.is_empty() => Err(io::Error::from(ErrorKind::WriteZero)),
+        Ok(n) => Ok(Some(n)),
+        Err(error) if is_passing(error.kind()) => Ok(None),
+        Err(error) => Err(error),
+    }
+}
+
+// Whether a write that failed so may succeed later.
+fn is_passing(kind: ErrorKind) -> bool {
+    matches!(kind, ErrorKind::WouldBlock | ErrorKind::Interrupted)
+}
