@@ -38,6 +38,7 @@ pub mod RunTurns
 pub mod SeatTurns
 pub mod Sitting
 pub mod Weaving
+pub mod Ties
 pub mod CrowdTurns
 pub mod Changing
 pub mod WithoutInTurn

@@ -1,5 +1,5 @@
 -- Seats in turn: what they are as sittings, and what a turn makes of them.
-use Rattle.std.proofs.Common.{◌≡◌, ◌<◌, ◌≤◌, ◌+◌, ℕ, zero, suc, Bool, true, false, List, [], ◌∷◌, length, get_or, set, Option, Some, None, refl, sym, ap, subst, ◌∙◌, arith, inl, inr}
+use Rattle.std.proofs.Common.{◌≡◌, ◌<◌, ◌≤◌, ◌+◌, ℕ, zero, suc, Bool, true, false, List, [], ◌∷◌, ◌++◌, length, get_or, set, Option, Some, None, refl, sym, ap, subst, ◌∙◌, arith, inl, inr}
 use Rattle.std.specs.Prelude.{⊤, is_some}
 use Rattle.std.specs.List.{AllByRecursion}
 use Rattle.std.proofs.lemmas.List.{set-get_or}
@@ -16,15 +16,15 @@ use Rattle.wire.specs.declared.standing.Standing.{Standing}
 use Rattle.office.specs.Begins.{may_begin}
 use Rattle.office.specs.Interleaved.{Thread, acts_in}
 use Rattle.office.specs.Premise.{IsLeft}
-use Rattle.office.specs.Seats.{AreThreads, IsNew, IsStreamOf, TakesTurn, TellsTurn, TellsTurnOf, Weaves, had_ended, went_on, ended, left_of}
+use Rattle.office.specs.Seats.{AreThreads, Gathers, IsNew, IsStreamOf, TakesTurn, TellsTurn, TellsTurnOf, Weaves, had_ended, went_on, ended, left_of}
 use Rattle.office.specs.Sessions.{most_messages}
 use Rattle.office.specs.Stepping.{Steps, TellsStep}
 use Rattle.office.specs.declared.connections.seat.Seat.{Seat}
 use Rattle.office.specs.declared.connections.session.SessionEnd.{SessionEnd}
 use Rattle.office.proofs.Repeats.{repeats_once}
 use Rattle.office.proofs.RunSoFar.{MeansOne}
-use Rattle.office.proofs.Sitting.{IsFirst, Sitting, answered, closed}
-use Rattle.office.proofs.Weaving.{AreThreadsOf, IsThreadOf, SoFar, all_last, answered_more, closed_more, finishes, none_gave_up}
+use Rattle.office.proofs.Sitting.{IsFirst, Sitting, answered, closed, gathered}
+use Rattle.office.proofs.Weaving.{AreThreadsOf, IsThreadOf, SoFar, all_last, answered_more, closed_more, finishes, gathered_more, none_gave_up, opens}
 
 -- ---- where a message may begin
 
@@ -88,9 +88,12 @@ module _ {R W : Type 0} where
   AllTell (f ∷ fs) (n ∷ ns) = TellsSince f n × AllTell fs ns
   AllTell fs ns = ⊥
 
+  tells_new : (x : Seat R W) → IsNew x → TellsSince x x
+  tells_new x new = subst (λ e. TellsStep e x.reader x.reader x.writer x.writer) (sym new.open_still) (refl, refl)
+
   pub tell_first : (xs : List (Seat R W)) → AllByRecursion IsNew xs → AllTell xs xs
   tell_first [] new = tt
-  tell_first (x ∷ xs) new = (subst (λ e. TellsStep e x.reader x.reader x.writer x.writer) (sym new.0.open_still) (refl, refl), tell_first xs new.1)
+  tell_first (x ∷ xs) new = (tells_new x new.0, tell_first xs new.1)
 
   pub tell_more : (fs ns : List (Seat R W)) (p : ℕ) (d new : Seat R W) → p < length ns → TellsTurn (get_or ns p d) new → AllTell fs ns → AllTell fs (set ns p new)
   tell_more [] [] p d new lt t h = absurd (omega (arith, lt))
@@ -98,6 +101,12 @@ module _ {R W : Type 0} where
   tell_more (f ∷ fs) [] p d new lt t h = absurd h
   tell_more (f ∷ fs) (n ∷ ns) zero d new lt t h = (tells_since f n new n.end refl h.0 t, h.1)
   tell_more (f ∷ fs) (n ∷ ns) (suc p) d new lt t h = (h.0, tell_more fs ns p d new (omega (arith, lt)) t h.1)
+
+  pub tell_comes : (fs ns : List (Seat R W)) (x : Seat R W) → IsNew x → AllTell fs ns → AllTell (fs ++ x ∷ []) (ns ++ x ∷ [])
+  tell_comes [] [] x new h = (tells_new x new, tt)
+  tell_comes [] (n ∷ ns) x new h = absurd h
+  tell_comes (f ∷ fs) [] x new h = absurd h
+  tell_comes (f ∷ fs) (n ∷ ns) x new h = (h.0, tell_comes fs ns x new h.1)
 
 -- ---- seats as sittings
 
@@ -151,6 +160,14 @@ module _ {R W : Type 0} (remaining : R → Option (List ℕ)) (contents : W → 
       let rest = stands_there fs ns xs p d dx (omega (arith, lt)) h.1 in
       record { first = rest.first; is = rest.is; within = omega (arith, rest.within); more = λ new y is. (h.0, rest.more new y is) }
 
+  are_more : (fs ns : List (Seat R W)) (xs : List Sitting) (new : Seat R W) → AreSittings fs ns xs → AreSittings (fs ++ new ∷ []) (ns ++ new ∷ []) (xs ++ sitting_of new new false ∷ [])
+  are_more [] [] [] new h = (refl, tt)
+  are_more [] [] (x ∷ xs) new h = absurd h
+  are_more [] (n ∷ ns) xs new h = absurd h
+  are_more (f ∷ fs) [] xs new h = absurd h
+  are_more (f ∷ fs) (n ∷ ns) [] new h = absurd h
+  are_more (f ∷ fs) (n ∷ ns) (x ∷ xs) new h = (h.0, are_more fs ns xs new h.1)
+
   -- ---- a turn
 
   pub record TurnsMore {C K : Type 0} (gives : C → ℕ → C → Type 0) (k : Ghosts K) (fs ns : List (Seat R W)) (clock clock' : C) (keeper keeper' : K) (s after : State) : Type 0 where
@@ -203,6 +220,41 @@ module _ {R W : Type 0} (remaining : R → Option (List ℕ)) (contents : W → 
           so_far = closed_more gives k t.sittings clock clock' keeper keeper' s mid t.so_far p dx z at.within at.is was_open
               (left_of remaining new) (remaining new.reader.inner) (contents new.writer.inner) clock'' keeper'' after n e sum serves;
         }
+
+  -- ---- between two turns
+
+  module _ {C K : Type 0} (gives : C → ℕ → C → Type 0) (k : Ghosts K) (fs ns : List (Seat R W)) (clock clock' : C) (keeper keeper' : K) (s mid : State) where
+    pub gathered_seat : (p : ℕ) (d new : Seat R W) → p < length ns → (get_or ns p d).end ≡ None → Gathers remaining contents (get_or ns p d) new
+        → TurnsMore gives k fs ns clock clock' keeper keeper' s mid → TurnsMore gives k fs (set ns p new) clock clock' keeper keeper' s mid
+    gathered_seat p d new lt is_open g t =
+        let dx = sitting_of d d false in
+        let at = stands_there fs ns t.sittings p d dx lt t.are in
+        let old = get_or ns p d in
+        let x = get_or t.sittings p dx in
+        let z = sitting_of at.first old x.gave_up in
+        let y = gathered z (left_of remaining new) (remaining new.reader.inner) (contents new.writer.inner) in
+        record {
+          sittings = set t.sittings p y;
+          are = at.more new y (same_sitting at.first new old.served old.end x.gave_up g.served g.end);
+          so_far = gathered_more gives k t.sittings clock clock' keeper keeper' s mid t.so_far p dx z at.within at.is is_open
+              (left_of remaining new) (remaining new.reader.inner) (contents new.writer.inner) g.keeps g.holds;
+        }
+
+    pub seat_comes : (new : Seat R W) → IsNew new → TurnsMore gives k fs ns clock clock' keeper keeper' s mid
+        → TurnsMore gives k (fs ++ new ∷ []) (ns ++ new ∷ []) clock clock' keeper keeper' s mid
+    seat_comes new is t = record {
+      sittings = t.sittings ++ sitting_of new new false ∷ [];
+      are = are_more fs ns t.sittings new t.are;
+      so_far = opens gives k t.sittings clock clock' keeper keeper' s mid t.so_far (sitting_of new new false)
+          (record { all = refl; unwritten = refl; none = is.none; open_still = is.open_still; marked = refl });
+    }
+
+  -- what is gathered is told by no fault
+  pub gathers_tell : (old new : Seat R W) → old.end ≡ None → Gathers remaining contents old new → TellsTurn old new
+  gathers_tell old new is_open g =
+      let both : TellsStep None old.reader new.reader old.writer new.writer = (g.read, g.written) in
+      subst (λ e. TellsTurnOf e old new) (sym is_open)
+      (subst (λ e. TellsStep e old.reader new.reader old.writer new.writer) (sym (g.end ∙ is_open)) both)
 
   -- ---- the end
 

@@ -1,6 +1,6 @@
 -- A connection as it is now, among others, and what a turn makes of it.
 use Rattle.std.proofs.Common.{◌≡◌, ◌≤◌, ◌+◌, ℕ, suc, Bool, true, false, List, [], ◌∷◌, ◌++◌, Option, Some, None, sym, ap, subst, ◌∙◌, append_assoc, arith}
-use Rattle.std.proofs.KnownBytes.{Appends-nil, Appends-trans, Consumes-kept, Consumes-nil, Consumes-trans}
+use Rattle.std.proofs.KnownBytes.{Appends-kept, Appends-nil, Appends-trans, Consumes-kept, Consumes-nil, Consumes-trans}
 use Rattle.std.specs.Io.KnownBytes.{Appends, Consumes, Keeps}
 use Rattle.keeper.specs.declared.keep.Keeper.{Ghosts}
 use Rattle.boxes.specs.State.{State}
@@ -106,18 +106,18 @@ first_sits x is = sits_open x [] [] is.open_still (record {
   follows = λ n m stream more later out e gave_up sum sp. let same : n ≡ m = omega (arith, sum, is.none) in subst (λ k. Speaks k stream more later out e gave_up) same sp;
 })
 
--- ---- bytes of it are read ahead
+-- ---- bytes of it are read ahead, or sent on
 
-abbrev pub gathered : Sitting → Option (List ℕ) → Option (List ℕ) → Sitting
-gathered x left reader = record x { left = left; reader = reader }
+abbrev pub gathered : Sitting → Option (List ℕ) → Option (List ℕ) → Option (List ℕ) → Sitting
+gathered x left reader written = record x { left = left; reader = reader; written = written }
 
-pub gathered_sits : (x : Sitting) (left reader : Option (List ℕ)) (acts : List Act) (moments : List ℕ) → Keeps x.left left → Heard x acts moments
-    → Heard (gathered x left reader) acts moments
-gathered_sits x left reader acts moments keeps h = record {
+pub gathered_sits : (x : Sitting) (left reader written : Option (List ℕ)) (acts : List Act) (moments : List ℕ) → Keeps x.left left → Keeps x.written written → Heard x acts moments
+    → Heard (gathered x left reader written) acts moments
+gathered_sits x left reader written acts moments keeps holds h = record {
   front = h.front;
   text = h.text;
   taken = Consumes-kept x.input x.left left h.front h.taken keeps;
-  written_to = h.written_to;
+  written_to = Appends-kept x.output x.written written h.text h.written_to holds;
   few = h.few;
   marked = h.marked;
   follows = h.follows;

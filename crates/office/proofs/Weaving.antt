@@ -240,18 +240,18 @@ module _ {C K : Type 0} (gives : C → ℕ → C → Type 0) (k : Ghosts K) wher
               some_is : (a b : SessionEnd) → Some a ≡ Some b → a ≡ b
               some_is a b h = cc
 
-      -- bytes of it are read ahead
-      pub gathered_more : (left reader : Option (List ℕ)) → Keeps x.left left → SoFar gives k (set xs p (gathered x left reader)) clock clock' keeper keeper' s mid
-      gathered_more left reader keeps = record {
+      -- bytes of it are read ahead, or sent on
+      pub gathered_more : (left reader written : Option (List ℕ)) → Keeps x.left left → Keeps x.written written → SoFar gives k (set xs p (gathered x left reader written)) clock clock' keeper keeper' s mid
+      gathered_more left reader written keeps holds = record {
         turns = f.turns;
         order = f.order;
         told = f.told;
-        within = same_length (length xs) (length (set xs p (gathered x left reader))) f.turns (set_length xs p (gathered x left reader)) f.within;
-        sit = one_changes f.turns 0 p d (gathered x left reader) xs lt
-            (λ acts moments h. sits_open (gathered x left reader) acts moments is_open
-            (gathered_sits x left reader acts moments keeps (open_sits x acts moments is_open (subst (λ (y : Sitting). Sits y acts moments) at h)))) f.sit;
-        held = λ none. f.held (all_unset NotGivenUp xs p d (gathered x left reader) lt (subst NotGivenUp (sym at) unmarked) none).0;
-        lasts = λ all. f.lasts (all_unset LastsAt xs p d (gathered x left reader) lt (subst LastsAt (sym at) (inl unmarked)) all).0;
+        within = same_length (length xs) (length (set xs p (gathered x left reader written))) f.turns (set_length xs p (gathered x left reader written)) f.within;
+        sit = one_changes f.turns 0 p d (gathered x left reader written) xs lt
+            (λ acts moments h. sits_open (gathered x left reader written) acts moments is_open
+            (gathered_sits x left reader written acts moments keeps holds (open_sits x acts moments is_open (subst (λ (y : Sitting). Sits y acts moments) at h)))) f.sit;
+        held = λ none. f.held (all_unset NotGivenUp xs p d (gathered x left reader written) lt (subst NotGivenUp (sym at) unmarked) none).0;
+        lasts = λ all. f.lasts (all_unset LastsAt xs p d (gathered x left reader written) lt (subst LastsAt (sym at) (inl unmarked)) all).0;
       }
 
     -- ---- a connection more

@@ -1,6 +1,6 @@
 -- Connections that come, are served in turn, and go: each has a slot while it is there.
-use Rattle.std.specs.Prelude.{◌≡◌, ◌+◌, ◌<◌, ℕ, suc, Bool, false, List, length, slice_set, slice_index_or, Option, Some, None}
-use Rattle.std.specs.List.{count_by}
+use Rattle.std.specs.Prelude.{◌≡◌, ◌<◌, ◌⊎◌, ℕ, Bool, false, List, [], ◌∷◌, ◌++◌, length, slice_get, slice_set, slice_index_or, Option, Some, None}
+use Rattle.std.specs.List.{AllByRecursion, count_by}
 use Rattle.boxes.specs.State.{State}
 use Rattle.keeper.specs.declared.keep.Keeper.{Ghosts}
 use Rattle.office.specs.declared.connections.seat.Seat.{Seat}
@@ -8,28 +8,38 @@ use Rattle.office.specs.declared.connections.session.SessionEnd.{SessionEnd}
 use Rattle.office.specs.Connections.{TellsMoments, is_fault}
 use Rattle.office.specs.Interleaved.{Interleaved, Thread, acts_in}
 use Rattle.office.specs.Repeats.{RepeatsOnce}
-use Rattle.office.specs.Seats.{Gathers, IsNew, LastsOver, StaysSo, TakesTurn}
+use Rattle.office.specs.Seats.{AreThreads, Gathers, IsNew, LastsOver, StaysSo, TakesTurn, TellsTurn}
 
 -- what stands in the slot at p
-abbrev pub slot_at : {R W : Type 0} → List (Option (Seat R W)) → ℕ → Option (Seat R W)
+abbrev pub slot_at : {X : Type 0} → List (Option X) → ℕ → Option X
 slot_at slots p = slice_index_or slots p None
 
--- What may go on in the slots between two turns, one thing after another; and how many connections came. remaining: what a
--- reader has left.
-pub data Changes {R W : Type 0} (remaining : R → Option (List ℕ)) (old : List (Option (Seat R W))) : List (Option (Seat R W)) → ℕ → Type 0 where
-  same : Changes remaining old old 0
+-- What may go on in the slots between two turns, one thing after another: which connections came, as they came, and which went,
+-- as they were then. remaining: what a reader has left; contents: what a writer holds.
+pub data Changes {R W : Type 0} (remaining : R → Option (List ℕ)) (contents : W → Option (List ℕ)) (old : List (Option (Seat R W)))
+    : List (Option (Seat R W)) → List (Seat R W) → List (Seat R W) → Type 0 where
+  same : Changes remaining contents old old [] []
   -- a new connection comes into a slot that is free
-  comes : (now : List (Option (Seat R W))) (came p : ℕ) (new : Seat R W) → Changes remaining old now came → p < length now → slot_at now p ≡ None → IsNew new
-      → Changes remaining old (slice_set now p (Some new)) (suc came)
-  -- bytes of an open one are read ahead
-  gathers : (now : List (Option (Seat R W))) (came p : ℕ) (seat new : Seat R W) → Changes remaining old now came → p < length now → slot_at now p ≡ Some seat → seat.end ≡ None
-      → Gathers remaining seat new → Changes remaining old (slice_set now p (Some new)) came
+  comes : (now : List (Option (Seat R W))) (came gone : List (Seat R W)) (p : ℕ) (new : Seat R W) → Changes remaining contents old now came gone
+      → p < length now → slot_at now p ≡ None → IsNew new → Changes remaining contents old (slice_set now p (Some new)) (came ++ new ∷ []) gone
+  -- bytes of an open one are read ahead, or bytes that were written to one are sent on
+  gathers : (now : List (Option (Seat R W))) (came gone : List (Seat R W)) (p : ℕ) (seat new : Seat R W) → Changes remaining contents old now came gone
+      → p < length now → slot_at now p ≡ Some seat → seat.end ≡ None → Gathers remaining contents seat new → Changes remaining contents old (slice_set now p (Some new)) came gone
   -- one goes, whether it has ended or not
-  goes : (now : List (Option (Seat R W))) (came p : ℕ) → Changes remaining old now came → p < length now → Changes remaining old (slice_set now p None) came
+  goes : (now : List (Option (Seat R W))) (came gone : List (Seat R W)) (p : ℕ) (seat : Seat R W) → Changes remaining contents old now came gone
+      → p < length now → slot_at now p ≡ Some seat → Changes remaining contents old (slice_set now p None) came (gone ++ seat ∷ [])
 
--- the same, where so many had come before, and so many after
-abbrev pub ChangesBy : {R W : Type 0} → (R → Option (List ℕ)) → ℕ → ℕ → List (Option (Seat R W)) → List (Option (Seat R W)) → Type 0
-ChangesBy remaining before after old new = (n : ℕ) × Changes remaining old new n × (after ≡ before + n)
+-- the one that is there, if there is one
+abbrev pub those_of : {X : Type 0} → Option X → List X
+those_of None = []
+those_of (Some x) = x ∷ []
+
+-- The same around a crowd of which met tells which connections came so far, and which went.
+abbrev pub ChangesBy : {G R W : Type 0} → (R → Option (List ℕ)) → (W → Option (List ℕ)) → (G → List (Seat R W) → List (Seat R W) → Type 0) → G → G
+    → List (Option (Seat R W)) → List (Option (Seat R W)) → Type 0
+ChangesBy {R = R} {W = W} remaining contents met before after old new =
+    (came gone : List (Seat R W)) → met before came gone
+    → (more went : List (Seat R W)) × met after (came ++ more) (gone ++ went) × Changes remaining contents old new more went
 
 -- the connection ended by a read or a write that failed
 abbrev pub is_fault_end : Option SessionEnd → Bool
@@ -46,16 +56,31 @@ pub data TurnsSlot {C K R W : Type 0} (gives : C → ℕ → C → Type 0) (rema
     (s after : State) : Option (Seat R W) → Option (Seat R W) → Bool → Type 0 where
   -- nothing was done: it is free, or memory was refused for the turn
   left_out : (slot : Option (Seat R W)) → clock' ≡ clock → keeper' ≡ keeper → after ≡ s → TurnsSlot gives remaining contents clock clock' k keeper keeper' s after slot slot false
-  taken : (old new : Seat R W) → TakesTurn gives remaining contents old new clock clock' k keeper keeper' s after
+  taken : (old new : Seat R W) → TakesTurn gives remaining contents old new clock clock' k keeper keeper' s after → TellsTurn old new
       → TurnsSlot gives remaining contents clock clock' k keeper keeper' s after (Some old) (Some new) (fails_now old.end new.end)
 
--- So many connections came, and were served in turn: the moments, each connection, the state after, how the keeper held up, what
--- outlasts a crash, and how many ended by a fault; and an upload acts once over all of them.
-pub record ServesCrowd {C K : Type 0} (gives : C → ℕ → C → Type 0) (clock clock' : C) (k : Ghosts K) (keeper keeper' : K) (came faults : ℕ) (s after : State) : Type 0 where
+-- it is one of them
+abbrev pub IsAmong : {X : Type 0} → X → List X → Type 0
+IsAmong x xs = (i : ℕ) × (slice_get xs i ≡ Some x)
+
+-- it stands in a slot
+abbrev pub StandsIn : {X : Type 0} → X → List (Option X) → Type 0
+StandsIn x slots = (p : ℕ) × (slot_at slots p ≡ Some x)
+
+-- These connections came, as they came, and were served in turn; of them those went, as they were then, and the others stand in
+-- the slots: the moments, each connection, the state after, how the keeper held up, what outlasts a crash, and how many ended by a
+-- fault; and an upload acts once over all of them.
+pub record ServesCrowd {C K R W : Type 0} (gives : C → ℕ → C → Type 0) (remaining : R → Option (List ℕ)) (contents : W → Option (List ℕ)) (came gone : List (Seat R W)) (slots : List (Option (Seat R W)))
+    (clock clock' : C) (k : Ghosts K) (keeper keeper' : K) (faults : ℕ) (s after : State) : Type 0 where
+  -- each of those that came as it was at last
+  pub seats : List (Seat R W)
+  pub went : AllByRecursion (λ seat. IsAmong seat seats) gone
+  pub stand : (p : ℕ) (seat : Seat R W) → slot_at slots p ≡ Some seat → IsAmong seat seats
+  pub no_other : (i : ℕ) (seat : Seat R W) → slice_get seats i ≡ Some seat → IsAmong seat gone ⊎ StandsIn seat slots
   pub threads : List Thread
   pub moments : List ℕ
-  pub many : length threads ≡ came
   pub told : TellsMoments gives clock moments clock'
+  pub served : AreThreads remaining contents came seats threads
   pub run : Interleaved s threads moments after
   pub repeats : RepeatsOnce (acts_in run.turns)
   pub stays : StaysSo k threads keeper keeper' after

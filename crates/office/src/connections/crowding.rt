@@ -1,5 +1,5 @@
 //! Connections that come and go while others are served.
-ghost use Rattle.std.specs.Prelude.{◌≡◌, ◌+◌, ◌<◌, ℕ, IfSome, length};
+ghost use Rattle.std.specs.Prelude.{◌≡◌, ◌<◌, IfNone, IfSome, List, length};
 ghost use Rattle.office.specs.Crowds.{ChangesBy, is_fault_end};
 
 use super::seat::Seat;
@@ -12,17 +12,31 @@ use std::io::{Read, Write};
 use wire::Room;
 
 /// What goes on around an office between two turns. A connection that comes gets a slot that is free; bytes of open ones may be
-/// read ahead; and a slot may be made free, whether its connection has ended or not.
-pub trait Crowd<R: Read, W> {
-    /// How many connections came.
-    ghost came: { Self → ℕ };
+/// read ahead, or sent on; and a slot may be made free, whether its connection has ended or not.
+pub trait Crowd<R: Read, W: Write> {
+    ghost use Rattle.office.specs.declared.connections.seat.Seat.{Seat};
+
+    /// Which connections came so far, as they came; and which went, as they were then.
+    ghost met: { Self → List (Seat R W) → List (Seat R W) → Type 0 };
+
+    /// No turn is to be taken any more.
+    ghost over: { Self → Type 0 };
 
     /// Waits for what comes next. The index of the slot whose turn it is, any and however often; or none where no turn is to be
     /// taken any more. The spare room is for the next turn: one that a seat hands back may be put there.
     fn next(&mut self, slots: &mut [Option<Seat<R, W>>], spare: &mut Option<Room>) -> Option<usize>
-        ensures changes { ChangesBy R.remaining (came self.old) (came self.new)
-            slots.old slots.new }
-        ensures within { IfSome result (λ index. index < length slots.new) };
+        ensures changes { ChangesBy R.remaining W.contents met self.old self.new slots.old slots.new }
+        ensures within { IfSome result (λ index. index < length slots.new) }
+        ensures over { IfNone result (over self.new) };
+}
+
+/// How connections were served.
+#[derive(Clone, Copy, Debug, PartialEq, Eq)]
+pub struct Served {
+    /// How many ended by a read or a write that failed.
+    pub faulty: u64,
+    /// Whether the crowd has no turn any more. Else the greatest number of turns was taken.
+    pub is_over: bool,
 }
 
 // What a turn left beside a slot.
@@ -43,7 +57,7 @@ fn has_failed(end: Option<SessionEnd>) -> bool
 }
 
 impl<K: Keeper> Office<K> {
-    ghost use Rattle.std.specs.Prelude.{◌≤◌, None, Option};
+    ghost use Rattle.std.specs.Prelude.{◌≤◌, ◌++◌, ℕ, List, None, IsTrue};
     ghost use Rattle.boxes.specs.State.{State};
     ghost use Rattle.office.specs.Crowds.{ServesCrowd, TurnsSlot, slot_at};
     ghost use Rattle.office.specs.Premise.{IsLeft, StaysUnstaged, WasKept};
@@ -85,8 +99,8 @@ impl<K: Keeper> Office<K> {
 
     /// Serves connections that come and go, each in the turns that the crowd gives it, until there are no more; and answers how
     /// many ended by a read or a write that failed. There is one order of all messages, in which the machine leads from the
-    /// state before to the state after; and each connection's answers, and its end, are those of its own messages. Over all
-    /// of them an upload acts once. Of a keeper that was open, and where no connection gave up, what is kept is that one state
+    /// state before to the state after; and of each connection that came, what was read, its answers and its end are those of
+    /// its own messages, until it went or as it stands in its slot. Over all of them an upload acts once. Of a keeper that was open, and where no connection gave up, what is kept is that one state
     /// and no other. Where nothing was given up but at a failed read, what was changed outlasts a crash. Where memory is
     /// refused for a turn, the turn is left out.
     pub fn serve_crowd<R: Read, W: Write, G: Crowd<R, W>, C: Clock>(
@@ -94,13 +108,15 @@ impl<K: Keeper> Office<K> {
         crowd: &mut G,
         slots: &mut [Option<Seat<R, W>>],
         clock: &mut C,
-    ) -> u64
+    ) -> Served
         requires { (p : ℕ) → slot_at slots.old p ≡ None }
-        ensures serves { (n : ℕ) × (G.came crowd.new ≡ G.came crowd.old + n)
+        ensures serves { (before gone : List (Seat R W)) → G.met crowd.old before gone
+            → (came went : List (Seat R W)) × G.met crowd.new (before ++ came) (gone ++ went)
             × ((s : State) → WasKept K.Keeper self.old.keeper self.new.keeper s
             → (after : State) × IsLeft (K.means self.new.keeper) after
-            × ServesCrowd C.now_gives clock.old clock.new
-            K.Keeper self.old.keeper self.new.keeper n result s after) }
+            × ServesCrowd C.now_gives R.remaining W.contents came went slots.new clock.old clock.new
+            K.Keeper self.old.keeper self.new.keeper result.faulty s after) }
+        ensures over { IsTrue result.is_over → G.over crowd.new }
         ensures honest { K.is_honest self.new.keeper → K.is_honest self.old.keeper }
         ensures unstaged { StaysUnstaged K.Keeper self.old.keeper self.new.keeper }
         ensures never_less { K.faults self.old.keeper ≤ K.faults self.new.keeper }
@@ -109,7 +125,10 @@ impl<K: Keeper> Office<K> {
         let mut faulty = 0;
         'turns: for _ in 0..u64::MAX {
             let Some(index) = crowd.next(slots, &mut spare) else {
-                return faulty;
+                return Served {
+                    faulty,
+                    is_over: true,
+                };
             };
             let turned = self.turn_slot(&mut slots[index], spare, clock);
             spare = turned.spare;
@@ -117,6 +136,9 @@ impl<K: Keeper> Office<K> {
                 faulty += 1;
             }
         }
-        faulty
+        Served {
+            faulty,
+            is_over: false,
+        }
     }
 }

@@ -1,12 +1,13 @@
 //! The slots of connections that come and go: what may be done in them between two turns.
-ghost use Rattle.std.specs.Prelude.{◌≡◌, ◌+◌, ◌<◌, ℕ, length, IfOk, IfSome, None, OnErr};
-ghost use Rattle.office.specs.Crowds.{ChangesBy, slot_at};
+ghost use Rattle.std.specs.Prelude.{◌≡◌, ◌<◌, ◌∷◌, [], length, IfOk, IfSome, None, OnErr};
+ghost use Rattle.office.specs.Crowds.{Changes, slot_at, those_of};
 ghost use Rattle.office.specs.Seats.{IsNew};
 
 use super::seat::Seat;
 use std::alloc::AllocError;
-use std::io::Read;
-use wire::{Gathered, Gathering, Room};
+use std::io;
+use std::io::{Read, Write};
+use wire::{Gathered, Gathering, Outbox, Room, Sending};
 
 // The index of the first slot that is free.
 fn first_free<R, W>(slots: &[Option<Seat<R, W>>]) -> Option<usize>
@@ -21,13 +22,13 @@ fn first_free<R, W>(slots: &[Option<Seat<R, W>>]) -> Option<usize>
 }
 
 /// Puts a new connection into the first slot that is free, and answers its index; or gives it back where none is.
-pub fn open_slot<R: Read + Drop, W: Drop>(
+pub fn open_slot<R: Read + Drop, W: Write + Drop>(
     slots: &mut [Option<Seat<R, W>>],
     seat: Seat<R, W>,
 ) -> Result<usize, Seat<R, W>>
     requires { IsNew seat }
-    ensures opened { IfOk result (λ index. (i : ℕ)
-        → ChangesBy R.remaining i (i + 1) slots.old slots.new) }
+    ensures opened { IfOk result (λ index. (index < length slots.old)
+        × Changes R.remaining W.contents slots.old slots.new (seat ∷ []) []) }
     ensures full { OnErr result (slots.new ≡ slots.old) }
 {
     match first_free(slots) {
@@ -40,23 +41,25 @@ pub fn open_slot<R: Read + Drop, W: Drop>(
 }
 
 /// Makes the slot free, and hands over its connection, if there was one.
-pub fn free_slot<R: Read, W>(slots: &mut [Option<Seat<R, W>>], index: usize) -> Option<Seat<R, W>>
+pub fn free_slot<R: Read, W: Write>(
+    slots: &mut [Option<Seat<R, W>>],
+    index: usize,
+) -> Option<Seat<R, W>>
     requires { index < length slots.old }
-    ensures { (i : ℕ) → ChangesBy R.remaining i i slots.old slots.new }
+    ensures { Changes R.remaining W.contents slots.old slots.new [] (those_of result) }
 {
     slots[index].take()
 }
 
 /// Reads once ahead of the connection in the slot, by way of the buffer, without waiting. Where there is none, or it has ended,
 /// nothing is read, and it is at its end. The error is that memory was refused; nothing was read then.
-pub fn gather_slot<S: Read, W>(
+pub fn gather_slot<S: Read, W: Write>(
     slots: &mut [Option<Seat<Gathered<S>, W>>],
     index: usize,
     buf: &mut [u8],
 ) -> Result<Gathering, AllocError>
     requires { index < length slots.old }
-    ensures { (i : ℕ)
-        → ChangesBy ⟦<Gathered<S> as Read>⟧.remaining i i slots.old slots.new }
+    ensures { Changes ⟦<Gathered<S> as Read>⟧.remaining W.contents slots.old slots.new [] [] }
 {
     let Some(seat) = &mut slots[index] else {
         return Ok(Gathering::Ended);
@@ -69,13 +72,12 @@ pub fn gather_slot<S: Read, W>(
 
 /// Gives what the feed of the connection in the slot read and did not take back to what was read ahead, and lets go of the
 /// memory where nothing is. Its buffer is handed over where it had one of its own.
-pub fn settle_slot<S: Read, W>(
+pub fn settle_slot<S: Read, W: Write>(
     slots: &mut [Option<Seat<Gathered<S>, W>>],
     index: usize,
 ) -> Option<Room>
     requires { index < length slots.old }
-    ensures { (i : ℕ)
-        → ChangesBy ⟦<Gathered<S> as Read>⟧.remaining i i slots.old slots.new }
+    ensures { Changes ⟦<Gathered<S> as Read>⟧.remaining W.contents slots.old slots.new [] [] }
 {
     let Some(seat) = &mut slots[index] else {
         return None;
@@ -84,4 +86,59 @@ pub fn settle_slot<S: Read, W>(
         return None;
     }
     seat.give_back()
+}
+
+/// Takes memory for so many bytes more that are read ahead of the connection in the slot, if it has not ended. The error is that
+/// it was refused.
+pub fn make_room_in_slot<S: Read, W: Write>(
+    slots: &mut [Option<Seat<Gathered<S>, W>>],
+    index: usize,
+    n: usize,
+) -> Result<(), AllocError>
+    requires { index < length slots.old }
+    ensures { Changes ⟦<Gathered<S> as Read>⟧.remaining W.contents slots.old slots.new [] [] }
+{
+    let Some(seat) = &mut slots[index] else {
+        return Ok(());
+    };
+    if seat.end().is_some() {
+        return Ok(());
+    }
+    seat.make_room(n)
+}
+
+/// From now on each read of the connection in the slot fails so, behind the bytes that are ahead, unless one failed before or it
+/// has ended.
+pub fn fail_slot<S: Read, W: Write>(
+    slots: &mut [Option<Seat<Gathered<S>, W>>],
+    index: usize,
+    error: io::Error,
+)
+    requires { index < length slots.old }
+    ensures { Changes ⟦<Gathered<S> as Read>⟧.remaining W.contents slots.old slots.new [] [] }
+{
+    let Some(seat) = &mut slots[index] else {
+        return;
+    };
+    if seat.end().is_none() {
+        seat.fail(error);
+    }
+}
+
+/// Sends on once what was written to the connection in the slot and waits, without waiting for its peer. Where there is none, or
+/// it has ended, nothing is sent, and it is told that all was.
+pub fn send_slot<R: Read, S: Write>(
+    slots: &mut [Option<Seat<R, Outbox<S>>>],
+    index: usize,
+) -> Sending
+    requires { index < length slots.old }
+    ensures { Changes R.remaining ⟦<Outbox<S> as Write>⟧.contents slots.old slots.new [] [] }
+{
+    let Some(seat) = &mut slots[index] else {
+        return Sending::Sent;
+    };
+    if seat.end().is_some() {
+        return Sending::Sent;
+    }
+    seat.send()
 }

@@ -1,8 +1,7 @@
-use Rattle.std.proofs.Common.{◌+◌, refl}
 use Rattle.std.specs.Prelude.{None}
 use Rattle.office.proofs.Changing.{by_comes}
 use Rattle.office.proofs.connections.slots.open_slot.Goals as goal
 
 pub returns-in-Some-clause-opened : goal.returns-in-Some-clause-opened
-returns-in-Some-clause-opened g c = λ i.
-    by_comes g.R.Read.remaining i (i + 1) c.args.slots.now c.in-Some.index None c.args.seat c.in-Some.ensures.0 c.in-Some.ensures.1 (record { none = c.requires.none; open_still = c.requires.open_still }) refl
+returns-in-Some-clause-opened g c =
+    (c.in-Some.ensures.0, by_comes g.R.Read.remaining g.W.Write.contents c.args.slots.now c.in-Some.index None c.args.seat c.in-Some.ensures.0 c.in-Some.ensures.1 (record { none = c.requires.none; open_still = c.requires.open_still }))

@@ -1,4 +1,5 @@
-use Rattle.std.proofs.Common.{[], ◌≡◌, ◌+◌, ◌∙◌, Bool, cond, ap, inl, sym, arith}
+use Rattle.std.proofs.Common.{[], ◌≡◌, ◌+◌, ◌++◌, ◌∙◌, Bool, cond, ap, inl, sym, subst, append_assoc, arith}
+use Rattle.std.proofs.lemmas.List.{append-nil}
 use Rattle.office.proofs.CrowdTurns.{changes_more, crowd_ends, crowd_starts, turned_more}
 use Rattle.office.proofs.KeeperCalls.{unstaged_then}
 use Rattle.office.proofs.Weaving.{starts}
@@ -7,13 +8,16 @@ use Rattle.office.proofs.office.Office.serve_crowd.Goals.{then-turned, else-turn
 
 pub turns-init : goal.turns-init
 turns-init g c = (
-  0,
-  omega arith,
-  λ s kept. (
-    s,
-    record { means = kept.means; sound = kept.sound },
-    crowd_starts g.R.Read.remaining g.W.Write.contents g.C.Clock.now_gives g.K.Keeper c.args.clock.now c.args.self.now.keeper s c.args.slots.now c.requires
-        (starts g.C.Clock.now_gives g.K.Keeper [] c.args.clock.now c.args.self.now.keeper s tt),
+  λ before gone met. (
+    [],
+    [],
+    subst (λ l. g.G.Crowd.met c.args.crowd.now l (gone ++ [])) (sym (append-nil before)) (subst (g.G.Crowd.met c.args.crowd.now before) (sym (append-nil gone)) met),
+    λ s kept. (
+      s,
+      record { means = kept.means; sound = kept.sound },
+      crowd_starts g.R.Read.remaining g.W.Write.contents g.C.Clock.now_gives g.K.Keeper c.args.clock.now c.args.self.now.keeper s c.args.slots.now c.requires
+          (starts g.C.Clock.now_gives g.K.Keeper [] c.args.clock.now c.args.self.now.keeper s tt),
+    ),
   ),
   λ honest. honest,
   omega arith,
@@ -22,58 +26,64 @@ turns-init g c = (
 )
 
 pub returns-in_default-clause-serves : goal.returns-in_default-clause-serves
-returns-in_default-clause-serves g c =
-    let i = c.turns.invariant in
-    let more = c.next.ensures.changes in (
-      i.0 + more.0,
-      omega (arith, i.1, more.2),
+returns-in_default-clause-serves g c before gone met =
+    let i = c.turns.invariant.0 before gone met in
+    let more = c.next.ensures.changes (before ++ i.0) (gone ++ i.1) i.2 in (
+      i.0 ++ more.0,
+      i.1 ++ more.1,
+      subst (λ l. g.G.Crowd.met c.next.new.self l (gone ++ (i.1 ++ more.1))) (append_assoc before i.0 more.0) (subst (g.G.Crowd.met c.next.new.self ((before ++ i.0) ++ more.0)) (append_assoc gone i.1 more.1) more.2),
       λ s kept.
-          let x = i.2 s kept in
-          let t = changes_more g.R.Read.remaining g.W.Write.contents g.C.Clock.now_gives g.K.Keeper c.args.clock.now c.args.self.now.keeper s c.turns.slots c.next.new.slots c.turns.clock c.turns.self.keeper i.0 more.0 c.turns.faulty x.0 more.1 x.2 in (
+          let x = i.3 s kept in
+          let t = changes_more g.R.Read.remaining g.W.Write.contents g.C.Clock.now_gives g.K.Keeper c.args.clock.now c.args.self.now.keeper s c.turns.slots c.next.new.slots i.0 i.1 more.0 more.1 c.turns.clock c.turns.self.keeper c.turns.faulty x.0 more.3 x.2 in (
             x.0,
             x.1,
-            crowd_ends g.R.Read.remaining g.W.Write.contents g.C.Clock.now_gives g.K.Keeper c.args.clock.now c.args.self.now.keeper s c.next.new.slots c.turns.clock c.turns.self.keeper (i.0 + more.0) c.turns.faulty x.0
+            crowd_ends g.R.Read.remaining g.W.Write.contents g.C.Clock.now_gives g.K.Keeper c.args.clock.now c.args.self.now.keeper s c.next.new.slots (i.0 ++ more.0) (i.1 ++ more.1) c.turns.clock c.turns.self.keeper c.turns.faulty x.0
                 (λ a b. g.met.K.Keeper.one c.turns.self.keeper a b kept.is_honest) x.1 t,
           ),
     )
 
 pub returns-clause-serves : goal.returns-clause-serves
-returns-clause-serves g c =
-    let i = c.turns.invariant in (
+returns-clause-serves g c before gone met =
+    let i = c.turns.invariant.0 before gone met in (
       i.0,
       i.1,
+      i.2,
       λ s kept.
-          let x = i.2 s kept in (
+          let x = i.3 s kept in (
             x.0,
             x.1,
-            crowd_ends g.R.Read.remaining g.W.Write.contents g.C.Clock.now_gives g.K.Keeper c.args.clock.now c.args.self.now.keeper s c.turns.slots c.turns.clock c.turns.self.keeper i.0 c.turns.faulty x.0
+            crowd_ends g.R.Read.remaining g.W.Write.contents g.C.Clock.now_gives g.K.Keeper c.args.clock.now c.args.self.now.keeper s c.turns.slots i.0 i.1 c.turns.clock c.turns.self.keeper c.turns.faulty x.0
                 (λ a b. g.met.K.Keeper.one c.turns.self.keeper a b kept.is_honest) x.1 x.2,
           ),
     )
 
 pub turns-preserved : goal.turns-preserved
 turns-preserved g c =
-    let i = c.turns.invariant in
-    let more = c.in-Some.ensures.changes in
+    let j = c.turns.invariant in
     let turned = c.turn_slot-turned.ensures in
     let counted : c.if-turned.faulty ≡ c.turns.faulty + cond c.turn_slot-turned.result.is_fault 1 0 =
     elim c.if-turned.branch [
       | then-turned w ↦ w.faulty-is ∙ ap (λ (b : Bool). c.turns.faulty + cond b 1 0) (sym w.if-turned.true)
       | else-turned w ↦ w.faulty-is ∙ omega arith ∙ ap (λ (b : Bool). c.turns.faulty + cond b 1 0) (sym w.if-turned.false)
     ] in (
-      i.0 + more.0,
-      omega (arith, i.1, more.2),
-      λ s kept.
-          let x = i.2 s (record { means = kept.means; is_honest = turned.honest kept.is_honest; sound = kept.sound }) in
-          let t = changes_more g.R.Read.remaining g.W.Write.contents g.C.Clock.now_gives g.K.Keeper c.args.clock.now c.args.self.now.keeper s c.turns.slots c.next.new.slots c.turns.clock c.turns.self.keeper i.0 more.0 c.turns.faulty x.0 more.1 x.2 in
-          let h = turned.turns x.0 (record { means = x.1.means; is_honest = kept.is_honest; sound = x.1.sound }) in (
-            h.0,
-            h.1,
-            turned_more g.R.Read.remaining g.W.Write.contents g.C.Clock.now_gives g.K.Keeper c.args.clock.now c.args.self.now.keeper s c.next.new.slots c.turns.clock c.turn_slot-turned.new.clock c.turns.self.keeper c.turn_slot-turned.new.self.keeper (i.0 + more.0) c.turns.faulty c.if-turned.faulty x.0 h.0
-                c.in-Some.index c.index-slots-index.result c.turn_slot-turned.new.slot c.turn_slot-turned.result.is_fault c.in-Some.ensures.within counted h.2 t,
+      λ before gone met.
+          let i = j.0 before gone met in
+          let more = c.in-Some.ensures.changes (before ++ i.0) (gone ++ i.1) i.2 in (
+            i.0 ++ more.0,
+            i.1 ++ more.1,
+            subst (λ l. g.G.Crowd.met c.next.new.self l (gone ++ (i.1 ++ more.1))) (append_assoc before i.0 more.0) (subst (g.G.Crowd.met c.next.new.self ((before ++ i.0) ++ more.0)) (append_assoc gone i.1 more.1) more.2),
+            λ s kept.
+                let x = i.3 s (record { means = kept.means; is_honest = turned.honest kept.is_honest; sound = kept.sound }) in
+                let t = changes_more g.R.Read.remaining g.W.Write.contents g.C.Clock.now_gives g.K.Keeper c.args.clock.now c.args.self.now.keeper s c.turns.slots c.next.new.slots i.0 i.1 more.0 more.1 c.turns.clock c.turns.self.keeper c.turns.faulty x.0 more.3 x.2 in
+                let h = turned.turns x.0 (record { means = x.1.means; is_honest = kept.is_honest; sound = x.1.sound }) in (
+                  h.0,
+                  h.1,
+                  turned_more g.R.Read.remaining g.W.Write.contents g.C.Clock.now_gives g.K.Keeper c.args.clock.now c.args.self.now.keeper s c.next.new.slots (i.0 ++ more.0) (i.1 ++ more.1) c.turns.clock c.turn_slot-turned.new.clock c.turns.self.keeper c.turn_slot-turned.new.self.keeper c.turns.faulty c.if-turned.faulty x.0 h.0
+                      c.in-Some.index c.index-slots-index.result c.turn_slot-turned.new.slot c.turn_slot-turned.result.is_fault c.in-Some.ensures.within counted h.2 t,
+                ),
           ),
-      λ honest. i.3 (turned.honest honest),
-      omega (arith, i.4, turned.never_less),
-      unstaged_then g.K.Keeper c.args.self.now.keeper c.turns.self.keeper c.turn_slot-turned.new.self.keeper i.5 i.4 turned.unstaged turned.never_less,
-      elim c.if-turned.branch [ then-turned w ↦ omega (arith, i.6) | else-turned w ↦ omega (arith, i.6) ],
+      λ honest. j.1 (turned.honest honest),
+      omega (arith, j.2, turned.never_less),
+      unstaged_then g.K.Keeper c.args.self.now.keeper c.turns.self.keeper c.turn_slot-turned.new.self.keeper j.3 j.2 turned.unstaged turned.never_less,
+      elim c.if-turned.branch [ then-turned w ↦ omega (arith, j.4) | else-turned w ↦ omega (arith, j.4) ],
     )

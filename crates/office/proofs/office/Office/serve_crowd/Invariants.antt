@@ -1,15 +1,17 @@
-use Rattle.std.proofs.Common.{◌≡◌, ◌≤◌, ◌+◌, ℕ}
+use Rattle.std.proofs.Common.{◌≤◌, ◌++◌, ℕ, List}
 use Rattle.boxes.specs.State.{State}
 use Rattle.office.specs.Premise.{IsLeft, StaysUnstaged, WasKept}
+use Rattle.office.specs.declared.connections.seat.Seat.{Seat}
 use Rattle.office.proofs.CrowdTurns.{CrowdSoFar}
 use Rattle.office.proofs.office.Office.serve_crowd.Given as goal
 
 abbrev pub invariant-turns : goal.invariant-turns
 invariant-turns g l =
-    (n : ℕ) × (g.G.Crowd.came l.crowd ≡ g.G.Crowd.came l.fn.crowd + n)
+    ((before gone : List (Seat g.row.R.Denot g.row.W.Denot)) → g.G.Crowd.met l.fn.crowd before gone
+    → (came went : List (Seat g.row.R.Denot g.row.W.Denot)) × g.G.Crowd.met l.crowd (before ++ came) (gone ++ went)
     × ((s : State) → WasKept g.K.Keeper l.fn.self.keeper l.self.keeper s
     → (mid : State) × IsLeft (g.K.Keeper.means l.self.keeper) mid
-    × CrowdSoFar g.R.Read.remaining g.W.Write.contents g.C.Clock.now_gives g.K.Keeper l.slots l.fn.clock l.clock l.fn.self.keeper l.self.keeper n l.faulty s mid)
+    × CrowdSoFar g.R.Read.remaining g.W.Write.contents g.C.Clock.now_gives g.K.Keeper l.slots came went l.fn.clock l.clock l.fn.self.keeper l.self.keeper l.faulty s mid))
     × (g.K.Keeper.is_honest l.self.keeper → g.K.Keeper.is_honest l.fn.self.keeper)
     × (g.K.Keeper.faults l.fn.self.keeper ≤ g.K.Keeper.faults l.self.keeper)
     × StaysUnstaged g.K.Keeper l.fn.self.keeper l.self.keeper

@@ -1,0 +1,254 @@
+-- Connections that have a slot among all that came: which of them they are, and which went.
+use Rattle.std.proofs.Common.{⊎_elim, ◌≡◌, ◌<◌, ◌+◌, ◌⊎◌, ℕ, zero, suc, Bool, true, false, cond, List, [], ◌∷◌, ◌++◌, length, get_or, set, Option, Some, None, refl, sym, ap, subst, ◌∙◌, arith, inl, inr}
+use Rattle.std.specs.Prelude.{nat_eq, slice_get}
+use Rattle.std.specs.List.{AllByRecursion}
+use Rattle.std.proofs.lemmas.Bool.{cases_eq}
+use Rattle.std.proofs.lemmas.List.{get_or-set_other, get_or-set_same, length-append}
+use Rattle.office.specs.Crowds.{IsAmong, StandsIn, slot_at}
+
+-- ---- numbers
+
+pub number_of : ℕ → ℕ → (ℕ → ℕ) → ℕ → ℕ
+number_of p n number q = cond (nat_eq q p) n (number q)
+
+pub number_here : (p n : ℕ) (number : ℕ → ℕ) (q : ℕ) → q ≡ p → number_of p n number q ≡ n
+unfolding number_of
+number_here p n number q e = let is : nat_eq q p ≡ true = grind (arith, e) in ap (λ b. cond b n (number q)) is
+
+pub number_there : (p n : ℕ) (number : ℕ → ℕ) (q : ℕ) → (q ≡ p → ⊥) → number_of p n number q ≡ number q
+unfolding number_of
+number_there p n number q ne = let not : nat_eq q p ≡ false = grind (arith, ne) in ap (λ b. cond b n (number q)) not
+
+-- ---- what stands in a list
+
+pub some_is : {X : Type 0} (a b : X) → Some a ≡ Some b → a ≡ b
+some_is a b e = cc
+
+pub none_is : {X : Type 0} (b : X) → None ≡ Some b → ⊥
+none_is b e = cc
+
+module _ {X : Type 0} where
+  got_within : (l : List X) (i : ℕ) (x : X) → slice_get l i ≡ Some x → i < length l
+  got_within [] i x is = absurd (none_is x is)
+  got_within (y ∷ l) zero x is = omega arith
+  got_within (y ∷ l) (suc i) x is = let rest = got_within l i x is in omega (arith, rest)
+
+  got_set : (l : List X) (i j : ℕ) (a : X) → j ≡ i → i < length l → slice_get (set l i a) j ≡ Some a
+  got_set l i j a e lt = ap (slice_get (set l i a)) e ∙ here l i lt
+    where
+      here : (l : List X) (i : ℕ) → i < length l → slice_get (set l i a) i ≡ Some a
+      here [] i lt = absurd (omega (arith, lt))
+      here (x ∷ l) zero lt = refl
+      here (x ∷ l) (suc i) lt = here l i (omega (arith, lt))
+
+  got_other : (l : List X) (i j : ℕ) (a : X) → (j ≡ i → ⊥) → slice_get (set l i a) j ≡ slice_get l j
+  got_other [] i j a ne = refl
+  got_other (x ∷ l) zero zero a ne = absurd (ne refl)
+  got_other (x ∷ l) zero (suc j) a ne = refl
+  got_other (x ∷ l) (suc i) zero a ne = refl
+  got_other (x ∷ l) (suc i) (suc j) a ne = got_other l i j a (λ e. ne (ap suc e))
+
+  got_left : (l l' : List X) (i : ℕ) → i < length l → slice_get (l ++ l') i ≡ slice_get l i
+  got_left [] l' i lt = absurd (omega (arith, lt))
+  got_left (x ∷ l) l' zero lt = refl
+  got_left (x ∷ l) l' (suc i) lt = got_left l l' i (omega (arith, lt))
+
+  got_last : (l : List X) (x : X) (i : ℕ) → i ≡ length l → slice_get (l ++ x ∷ []) i ≡ Some x
+  got_last l x i e = ap (slice_get (l ++ x ∷ [])) e ∙ last l
+    where
+      last : (l : List X) → slice_get (l ++ x ∷ []) (length l) ≡ Some x
+      last [] = refl
+      last (y ∷ l) = last l
+
+  -- one that stands in the list with one more at its end
+  got_more : (l : List X) (x y : X) (i : ℕ) → slice_get (l ++ x ∷ []) i ≡ Some y → (slice_get l i ≡ Some y) ⊎ ((i ≡ length l) × (x ≡ y))
+  got_more [] x y zero is = inr (refl, some_is x y is)
+  got_more [] x y (suc i) is = absurd (none_is y is)
+  got_more (z ∷ l) x y zero is = inl is
+  got_more (z ∷ l) x y (suc i) is = ⊎_elim (λ was. inl was) (λ new. inr (ap suc new.0, new.1)) (got_more l x y i is)
+
+  all_more : (P : X → Type 0) (xs : List X) (x : X) → AllByRecursion P xs → P x → AllByRecursion P (xs ++ x ∷ [])
+  all_more P [] x h new = (new, tt)
+  all_more P (y ∷ xs) x h new = (h.0, all_more P xs x h.1 new)
+
+  pub all_so : (P Q : X → Type 0) → ((x : X) → P x → Q x) → (xs : List X) → AllByRecursion P xs → AllByRecursion Q xs
+  all_so P Q so [] h = tt
+  all_so P Q so (x ∷ xs) h = (so x h.0, all_so P Q so xs h.1)
+
+  -- ---- the ties
+
+  -- it is one of all, and has no slot
+  abbrev pub HasGone : List (Option X) → (ℕ → ℕ) → List X → X → Type 0
+  HasGone slots number all x = (i : ℕ) × (slice_get all i ≡ Some x) × ((p : ℕ) (y : X) → slot_at slots p ≡ Some y → number p ≡ i → ⊥)
+
+  -- Each in a slot is the one of its number; those that went are among all, and have no slot; and there is no other.
+  pub record Ties (slots : List (Option X)) (number : ℕ → ℕ) (all gone : List X) : Type 0 where
+    pub each : (p : ℕ) (x : X) → slot_at slots p ≡ Some x → slice_get all (number p) ≡ Some x
+    pub apart : (p q : ℕ) (a b : X) → slot_at slots p ≡ Some a → slot_at slots q ≡ Some b → number p ≡ number q → p ≡ q
+    pub went : AllByRecursion (HasGone slots number all) gone
+    pub no_other : (i : ℕ) (x : X) → slice_get all i ≡ Some x → IsAmong x gone ⊎ ((p : ℕ) × (number p ≡ i) × (slot_at slots p ≡ Some x))
+
+  module _ (slots : List (Option X)) (number : ℕ → ℕ) (all gone : List X) (t : Ties slots number all gone) (p : ℕ) (lt : p < length slots) where
+    here : (v : Option X) (q : ℕ) → q ≡ p → slot_at (set slots p v) q ≡ v
+    here v q e = ap (slot_at (set slots p v)) e ∙ get_or-set_same slots p v None lt
+
+    there : (v : Option X) (q : ℕ) → (q ≡ p → ⊥) → slot_at (set slots p v) q ≡ slot_at slots q
+    there v q ne = get_or-set_other slots p q v None ne
+
+    -- another takes the place of the one that stands there
+    module _ (old new : X) (at : slot_at slots p ≡ Some old) where
+      had : (q : ℕ) (a : X) → slot_at (set slots p (Some new)) q ≡ Some a → (b : X) × (slot_at slots q ≡ Some b)
+      had q a now = ⊎_elim (λ (e : q ≡ p). (old, ap (slot_at slots) e ∙ at)) (λ (ne : q ≡ p → ⊥). (a, sym (there (Some new) q ne) ∙ now)) (cases_eq q p)
+
+      fits : number p < length all
+      fits = got_within all (number p) old (t.each p old at)
+
+      each_set : (q : ℕ) (a : X) → slot_at (set slots p (Some new)) q ≡ Some a → slice_get (set all (number p) new) (number q) ≡ Some a
+      each_set q a now =
+          ⊎_elim
+          (λ (e : q ≡ p). got_set all (number p) (number q) new (ap number e) fits ∙ sym (here (Some new) q e) ∙ now)
+          (λ (ne : q ≡ p → ⊥).
+          let was = sym (there (Some new) q ne) ∙ now in
+          got_other all (number p) (number q) new (λ e. ne (t.apart q p a old was at e)) ∙ t.each q a was)
+          (cases_eq q p)
+
+      gone_set : (x : X) → HasGone slots number all x → HasGone (set slots p (Some new)) number (set all (number p) new) x
+      gone_set x g = (
+        g.0,
+        got_other all (number p) g.0 new (λ e. g.2 p old at (sym e)) ∙ g.1,
+        λ q y now is. let was = had q y now in g.2 q was.0 was.1 is,
+      )
+
+      no_other_set : (i : ℕ) (x : X) → slice_get (set all (number p) new) i ≡ Some x → IsAmong x gone ⊎ ((q : ℕ) × (number q ≡ i) × (slot_at (set slots p (Some new)) q ≡ Some x))
+      no_other_set i x is =
+          ⊎_elim
+          (λ (e : i ≡ number p). inr (p, sym e, here (Some new) p refl ∙ sym (got_set all (number p) i new e fits) ∙ is))
+          (λ (ne : i ≡ number p → ⊥). ⊎_elim
+          (λ among. inl among)
+          (λ stood. inr (stood.0, stood.1, there (Some new) stood.0 (λ e. ne (sym stood.1 ∙ ap number e)) ∙ stood.2))
+          (t.no_other i x (sym (got_other all (number p) i new ne) ∙ is)))
+          (cases_eq i (number p))
+
+      pub ties_set : Ties (set slots p (Some new)) number (set all (number p) new) gone
+      ties_set = record {
+        each = each_set;
+        apart = λ q r a b at_q at_r same. let x = had q a at_q in let z = had r b at_r in t.apart q r x.0 z.0 x.1 z.1 same;
+        went = all_so (HasGone slots number all) (HasGone (set slots p (Some new)) number (set all (number p) new)) gone_set gone t.went;
+        no_other = no_other_set;
+      }
+
+    -- one more comes there
+    module _ (new : X) (free : slot_at slots p ≡ None) where
+      taken : (q : ℕ) (a : X) → slot_at slots q ≡ Some a → q ≡ p → ⊥
+      taken q a was e = none_is a (sym free ∙ ap (slot_at slots) (sym e) ∙ was)
+
+      each_comes : (q : ℕ) (a : X) → slot_at (set slots p (Some new)) q ≡ Some a → slice_get (all ++ new ∷ []) (number_of p (length all) number q) ≡ Some a
+      each_comes q a now =
+          ⊎_elim
+          (λ (e : q ≡ p). got_last all new (number_of p (length all) number q) (number_here p (length all) number q e) ∙ sym (here (Some new) q e) ∙ now)
+          (λ (ne : q ≡ p → ⊥).
+          let one = t.each q a (sym (there (Some new) q ne) ∙ now) in
+          ap (slice_get (all ++ new ∷ [])) (number_there p (length all) number q ne) ∙ got_left all (new ∷ []) (number q) (got_within all (number q) a one) ∙ one)
+          (cases_eq q p)
+
+      apart_comes : (q r : ℕ) (a b : X) → slot_at (set slots p (Some new)) q ≡ Some a → slot_at (set slots p (Some new)) r ≡ Some b
+          → number_of p (length all) number q ≡ number_of p (length all) number r → q ≡ r
+      apart_comes q r a b at_q at_r same =
+          ⊎_elim
+          (λ (e : q ≡ p). ⊎_elim (λ (f : r ≡ p). e ∙ sym f)
+          (λ (ne : r ≡ p → ⊥).
+          let one = got_within all (number r) b (t.each r b (sym (there (Some new) r ne) ∙ at_r)) in
+          absurd (omega (arith, number_here p (length all) number q e, number_there p (length all) number r ne, same, one)))
+          (cases_eq r p))
+          (λ (ne : q ≡ p → ⊥).
+          let was = sym (there (Some new) q ne) ∙ at_q in
+          let one = got_within all (number q) a (t.each q a was) in
+          ⊎_elim
+          (λ (f : r ≡ p). absurd (omega (arith, number_there p (length all) number q ne, number_here p (length all) number r f, same, one)))
+          (λ (nf : r ≡ p → ⊥).
+          t.apart q r a b was (sym (there (Some new) r nf) ∙ at_r) (sym (number_there p (length all) number q ne) ∙ same ∙ number_there p (length all) number r nf))
+          (cases_eq r p))
+          (cases_eq q p)
+
+      gone_comes : (x : X) → HasGone slots number all x → HasGone (set slots p (Some new)) (number_of p (length all) number) (all ++ new ∷ []) x
+      gone_comes x g =
+          let within = got_within all g.0 x g.1 in (
+            g.0,
+            got_left all (new ∷ []) g.0 within ∙ g.1,
+            λ q y now is. ⊎_elim
+                (λ (e : q ≡ p). omega (arith, number_here p (length all) number q e, is, within))
+                (λ (ne : q ≡ p → ⊥). g.2 q y (sym (there (Some new) q ne) ∙ now) (sym (number_there p (length all) number q ne) ∙ is))
+                (cases_eq q p),
+          )
+
+      no_other_comes : (i : ℕ) (x : X) → slice_get (all ++ new ∷ []) i ≡ Some x
+          → IsAmong x gone ⊎ ((q : ℕ) × (number_of p (length all) number q ≡ i) × (slot_at (set slots p (Some new)) q ≡ Some x))
+      no_other_comes i x is =
+          ⊎_elim
+          (λ was. ⊎_elim
+          (λ among. inl among)
+          (λ stood.
+          let ne = taken stood.0 x stood.2 in
+          inr (stood.0, number_there p (length all) number stood.0 ne ∙ stood.1, there (Some new) stood.0 ne ∙ stood.2))
+          (t.no_other i x was))
+          (λ last. inr (p, number_here p (length all) number p refl ∙ sym last.0, here (Some new) p refl ∙ ap Some last.1))
+          (got_more all new x i is)
+
+      pub ties_comes : Ties (set slots p (Some new)) (number_of p (length all) number) (all ++ new ∷ []) gone
+      ties_comes = record {
+        each = each_comes;
+        apart = apart_comes;
+        went = all_so (HasGone slots number all) (HasGone (set slots p (Some new)) (number_of p (length all) number) (all ++ new ∷ [])) gone_comes gone t.went;
+        no_other = no_other_comes;
+      }
+
+    -- the one there goes
+    module _ (old : X) (at : slot_at slots p ≡ Some old) where
+      apart_from : (q : ℕ) (a : X) → slot_at (set slots p None) q ≡ Some a → q ≡ p → ⊥
+      apart_from q a now e = none_is a (sym (here None q e) ∙ now)
+
+      was_there : (q : ℕ) (a : X) → slot_at (set slots p None) q ≡ Some a → slot_at slots q ≡ Some a
+      was_there q a now = sym (there None q (apart_from q a now)) ∙ now
+
+      among_more : (x : X) → IsAmong x gone → IsAmong x (gone ++ old ∷ [])
+      among_more x among = (among.0, got_left gone (old ∷ []) among.0 (got_within gone among.0 x among.1) ∙ among.1)
+
+      gone_goes : (x : X) → HasGone slots number all x → HasGone (set slots p None) number all x
+      gone_goes x g = (g.0, g.1, λ q y now. g.2 q y (was_there q y now))
+
+      pub ties_goes : Ties (set slots p None) number all (gone ++ old ∷ [])
+      ties_goes = record {
+        each = λ q a now. t.each q a (was_there q a now);
+        apart = λ q r a b at_q at_r same. t.apart q r a b (was_there q a at_q) (was_there r b at_r) same;
+        went = all_more (HasGone (set slots p None) number all) gone old (all_so (HasGone slots number all) (HasGone (set slots p None) number all) gone_goes gone t.went) (
+          number p,
+          t.each p old at,
+          λ q y now same. apart_from q y now (t.apart q p y old (was_there q y now) at same),
+        );
+        no_other = λ i x is. ⊎_elim
+            (λ among. inl (among_more x among))
+            (λ stood. ⊎_elim
+            (λ (e : stood.0 ≡ p).
+            let same : old ≡ x = some_is old x (sym at ∙ ap (slot_at slots) (sym e) ∙ stood.2) in
+            inl (length gone, got_last gone old (length gone) refl ∙ ap Some same))
+            (λ (ne : stood.0 ≡ p → ⊥). inr (stood.0, stood.1, there None stood.0 ne ∙ stood.2))
+            (cases_eq stood.0 p))
+            (t.no_other i x is);
+      }
+
+  -- ---- the ends
+
+  -- none has a slot, and none came
+  pub ties_none : (slots : List (Option X)) → ((p : ℕ) → slot_at slots p ≡ None) → Ties slots (λ p. p) [] []
+  ties_none slots free = record {
+    each = λ p x at. absurd (none_is x (sym (free p) ∙ at));
+    apart = λ p q a b at_p at_q same. same;
+    went = tt;
+    no_other = λ i x is. absurd (none_is x is);
+  }
+
+  pub gone_among : (slots : List (Option X)) (number : ℕ → ℕ) (all gone : List X) → Ties slots number all gone → AllByRecursion (λ x. IsAmong x all) gone
+  gone_among slots number all gone t = all_so (HasGone slots number all) (λ x. IsAmong x all) (λ x g. (g.0, g.1)) gone t.went
+
+  pub no_other_stands : (slots : List (Option X)) (number : ℕ → ℕ) (all gone : List X) → Ties slots number all gone → (i : ℕ) (x : X) → slice_get all i ≡ Some x → IsAmong x gone ⊎ StandsIn x slots
+  no_other_stands slots number all gone t i x is = ⊎_elim (λ among. inl among) (λ stood. inr (stood.0, stood.2)) (t.no_other i x is)
