@@ -1,7 +1,9 @@
 //! Writers that are never waited for: the bytes that they do not take yet wait in memory.
-ghost use Rattle.std.specs.Prelude.{◌≡◌, ◌≢◌, ◌↔◌, ◌≤◌, ◌++◌, ◌⊎◌, ℕ, List, [], length, take, vec_len, IsErr, IfErr, IfNone, IfOk, IfSome, OnErr, OnOk, None};
+ghost use Rattle.std.specs.Prelude.{◌≡◌, ◌≢◌, ◌↔◌, ◌≤◌, ◌++◌, ◌⊎◌, ℕ, List, [], length, take, vec_len, IsErr, IfErr, IfNone, IfOk, IfSome, IsTrue, OnErr, OnOk, None};
 ghost use Rattle.std.specs.Io.{WritesAtMost};
+ghost use Rattle.std.specs.Option.{ForSome};
 ghost use Rattle.std.specs.IoError.{error_kind};
+ghost use Rattle.wire.specs.Passing.{MayPass};
 ghost use Rattle.std.specs.Io.KnownBytes.{Appends, Keeps, WriteAppends, append_known};
 
 use crate::shifting::drop_front;
@@ -21,6 +23,7 @@ pub struct Outbox<S> {
     start: usize,
     fault: Option<io::Error>,
     ghost within: { start ≤ vec_len bytes },
+    ghost lasting: { ForSome fault (λ e. ¬ MayPass (error_kind e)) },
 }
 
 /// How far an outbox is.
@@ -128,6 +131,7 @@ impl<S: Write> Write for Outbox<S> {
         ensures failed { WriteFailed self.old → (IsErr result × WriteFailed self.new) }
         ensures kept { IfErr result
             (λ e. WriteFailed self.new ⊎ (error_kind e ≡ ErrorKind.OutOfMemory)) }
+        ensures lasting { IfErr result (λ e. ¬ MayPass (error_kind e)) }
         ensures refused { OnErr result (waits_out self.new ≡ waits_out self.old) }
     {
         if let Some(error) = self.fault {
@@ -167,6 +171,7 @@ fn offer<S: Write>(writer: &mut S, bytes: &[u8]) -> io::Result<Option<usize>>
         × Appends (S.contents writer.old) (S.contents writer.new) (take n bytes.now))) }
     ensures none { IfOk result (λ taken. IfNone taken
         (Keeps (S.contents writer.old) (S.contents writer.new))) }
+    ensures lasting { IfErr result (λ e. ¬ MayPass (error_kind e)) }
     ensures err { OnErr result (Keeps (S.contents writer.old) (S.contents writer.new)) }
 {
     match writer.write(bytes) {
@@ -178,6 +183,8 @@ fn offer<S: Write>(writer: &mut S, bytes: &[u8]) -> io::Result<Option<usize>>
 }
 
 // Whether a write that failed so may succeed later.
-fn is_passing(kind: ErrorKind) -> bool {
+fn is_passing(kind: ErrorKind) -> bool
+    ensures { IsTrue result ↔ MayPass kind }
+{
     matches!(kind, ErrorKind::WouldBlock | ErrorKind::Interrupted)
 }
