@@ -1,5 +1,5 @@
 //! Writers that are never waited for: the bytes that they do not take yet wait in memory.
-ghost use Rattle.std.specs.Prelude.{◌≡◌, ◌≢◌, ◌↔◌, ◌≤◌, ◌++◌, ◌⊎◌, ℕ, List, [], length, take, vec_len, IsErr, IfErr, IfNone, IfOk, IfSome, IsTrue, OnErr, OnOk, None};
+ghost use Rattle.std.specs.Prelude.{◌≡◌, ◌≢◌, ◌↔◌, ◌≤◌, ◌<◌, ◌++◌, ◌⊎◌, ℕ, List, [], length, take, vec_len, IsErr, IfErr, IfNone, IfOk, IfSome, IsTrue, OnErr, OnOk, None};
 ghost use Rattle.std.specs.Io.{WritesAtMost};
 ghost use Rattle.std.specs.Option.{ForSome};
 ghost use Rattle.std.specs.IoError.{error_kind};
@@ -74,10 +74,11 @@ impl<S: Write> Outbox<S> {
         if self.fault.is_some() {
             return Sending::Failed;
         }
-        if self.waiting().is_empty() {
+        let waiting = &self.bytes[self.start..];
+        if waiting.is_empty() {
             return self.settle();
         }
-        match offer(&mut self.inner, &self.bytes[self.start..]) {
+        match offer(&mut self.inner, waiting) {
             Ok(Some(n)) => {
                 self.start += n;
                 self.settle()
@@ -128,6 +129,7 @@ impl<S: Write> Write for Outbox<S> {
         ensures bound { WritesAtMost result buf.now }
         ensures bytes { WriteAppends (handed_over S.contents self.old)
             (handed_over S.contents self.new) result buf.now }
+        ensures some { IfOk result (λ n. 0 < length buf.now → 0 < n) }
         ensures failed { WriteFailed self.old → (IsErr result × WriteFailed self.new) }
         ensures kept { IfErr result
             (λ e. WriteFailed self.new ⊎ (error_kind e ≡ ErrorKind.OutOfMemory)) }
@@ -167,7 +169,8 @@ impl<S: Write> Write for Outbox<S> {
 // Hands the bytes to a writer once: how many of them it took, or that it takes none now. Any other error is told, and so is
 // that it took none of some bytes.
 fn offer<S: Write>(writer: &mut S, bytes: &[u8]) -> io::Result<Option<usize>>
-    ensures some { IfOk result (λ taken. IfSome taken (λ n. (n ≤ length bytes.now)
+    ensures some { IfOk result (λ taken. IfSome taken (λ n. 0 < length bytes.now → 0 < n)) }
+    ensures taken { IfOk result (λ taken. IfSome taken (λ n. (n ≤ length bytes.now)
         × Appends (S.contents writer.old) (S.contents writer.new) (take n bytes.now))) }
     ensures none { IfOk result (λ taken. IfNone taken
         (Keeps (S.contents writer.old) (S.contents writer.new))) }
