@@ -51,6 +51,7 @@ fn what_a_feed_leaves_is_put_back(rt: HostRuntime) -> Result<(), Fail> {
     let mut feed = Feed::resume(standing, room, &mut reader);
     assert!(rt; matches!(feed.next(), Ok(Step::Head(head)) if head.text == &TEXT[..19]));
     let (mut standing, _) = feed.set_aside();
+    drop(feed);
     assert_eq!(rt; standing.ahead(), &TEXT[19..]);
     assert!(rt; standing.give_back(&mut reader.inner).is_some());
     assert!(rt; standing.ahead().is_empty());
