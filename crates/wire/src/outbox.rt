@@ -1,10 +1,10 @@
 //! Writers that are never waited for: the bytes that they do not take yet wait in memory.
-ghost use Rattle.std.specs.Prelude.{◌≡◌, ◌≢◌, ◌↔◌, ◌≤◌, ◌<◌, ◌++◌, ◌⊎◌, ℕ, List, [], length, take, vec_len, IsErr, IfErr, IfNone, IfOk, IfSome, IsTrue, OnErr, OnOk, None};
+ghost use Rattle.std.specs.Prelude.{◌≡◌, ◌≢◌, ◌↔◌, ◌≤◌, ◌<◌, ◌++◌, ◌⊎◌, ℕ, List, [], length, take, vec_len, IsErr, IfErr, IfNone, IfOk, IfSome, IsTrue, OnErr, OnOk};
 ghost use Rattle.std.specs.Io.{WritesAtMost};
-ghost use Rattle.std.specs.Option.{ForSome};
-ghost use Rattle.std.specs.IoError.{error_kind};
-ghost use Rattle.wire.specs.Passing.{MayPass};
 ghost use Rattle.std.specs.Io.KnownBytes.{Appends, Keeps, WriteAppends, append_known};
+ghost use Rattle.std.specs.IoError.{error_kind};
+ghost use Rattle.std.specs.Option.{ForSome};
+ghost use Rattle.wire.specs.Passing.{MayPass};
 
 use crate::shifting::drop_front;
 use std::alloc::{AllocError, Global};
@@ -38,13 +38,13 @@ pub enum Sending {
 }
 
 impl<S: Write> Outbox<S> {
-    ghost use Rattle.wire.specs.Outgoing.{WriteFailed, handed_over, waits_out};
+    ghost use Rattle.wire.specs.Outgoing.{NoneFailed, WriteFailed, handed_over, waits_out};
 
     /// Nothing waits, and no memory is taken.
     pub fn new(alloc: Global, inner: S) -> Outbox<S>
         ensures inner { result.inner ≡ inner }
         ensures waiting { waits_out result ≡ [] }
-        ensures hale { result.fault ≡ None }
+        ensures hale { NoneFailed result }
     {
         Outbox {
             inner,
@@ -64,7 +64,7 @@ impl<S: Write> Outbox<S> {
 
     /// Hands what waits to the writer once, if anything does. Where nothing waits any more, it lets go of its memory.
     pub fn send(&mut self) -> Sending
-        ensures sent { result ≡ Sending.Sent ↔ ((waits_out self.new ≡ []) × (self.new.fault ≡ None)) }
+        ensures sent { result ≡ Sending.Sent ↔ ((waits_out self.new ≡ []) × NoneFailed self.new) }
         ensures failed { result ≡ Sending.Failed ↔ WriteFailed self.new }
         ensures takes { (bytes : List ℕ) × (waits_out self.old ≡ bytes ++ waits_out self.new)
             × Appends (S.contents self.old.inner) (S.contents self.new.inner) bytes }
