@@ -125,6 +125,13 @@ impl<S: Write> Write for Outbox<S> {
 
     ghost contents = { λ outbox. append_known (S.contents outbox.inner) (waits_out outbox) };
 
+    /// Hands the bytes to the writer once where no others wait. Those that it takes are the answer; if it takes none now, or
+    /// others wait, all of them wait.
+    ///
+    /// # Errors
+    ///
+    /// The error that ended the writing, at each write from then on; `WriteZero` where the writer took none of some bytes. And
+    /// `OutOfMemory` where memory was refused for bytes that would wait: none of them was taken then, and that is no end.
     fn write(&mut self, buf: &[u8]) -> io::Result<usize>
         ensures bound { WritesAtMost result buf.now }
         ensures bytes { WriteAppends (handed_over S.contents self.old)
@@ -153,7 +160,7 @@ impl<S: Write> Write for Outbox<S> {
         Ok(buf.len())
     }
 
-    /// Sends nothing.
+    /// Sends nothing. The error is the one that ended the writing.
     fn flush(&mut self) -> io::Result<()>
         ensures bytes { Keeps (handed_over S.contents self.old) (handed_over S.contents self.new) }
         ensures failed { WriteFailed self.old ↔ IsErr result }
