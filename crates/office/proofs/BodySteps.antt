@@ -17,7 +17,8 @@ use Rattle.wire.specs.Feeding.{Awaits, OfStream, Opens}
 use Rattle.wire.specs.Framing.{Next, request_of}
 use Rattle.wire.specs.Framing as frame
 use Rattle.wire.specs.Judging.{HeadAnnounces}
-use Rattle.wire.specs.Whole.{IsNextMessage, IsOpening, LacksBody, TakesBody}
+use Rattle.wire.proofs.NextMessages.{IsNextMessage}
+use Rattle.wire.specs.Whole.{IsOpening, LacksBody, TakesBody}
 use Rattle.wire.specs.declared.feed.Feed.{Feed}
 use Rattle.keeper.specs.declared.keep.Keeper.{Ghosts}
 use Rattle.wire.proofs.BrokenOff.{awaits_body}

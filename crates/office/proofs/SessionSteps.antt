@@ -14,7 +14,8 @@ use Rattle.wire.specs.declared.fault.WireFault.{WireFault}
 use Rattle.wire.specs.declared.feed.Place.{Place}
 use Rattle.wire.specs.declared.feed.Place.TheVariants as place
 use Rattle.wire.specs.declared.joining.Came.{Came}
-use Rattle.wire.specs.Whole.{BreaksOff, Brings, IsNextMessage}
+use Rattle.wire.proofs.NextMessages.{IsNextMessage}
+use Rattle.wire.specs.Whole.{BreaksOff, Brings}
 use Rattle.wire.proofs.Halves.{message_stands}
 use Rattle.office.specs.declared.connections.session.SessionEnd.{SessionEnd}
 use Rattle.office.specs.declared.connections.session.SessionEnd.TheVariants.{Ended, Truncated, Refused, Limit, ReadFault, WriteFault}

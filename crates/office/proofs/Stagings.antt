@@ -11,7 +11,7 @@ use Rattle.sigv4.specs.declared.hash.Sha.{Sha}
 use Rattle.keeper.specs.declared.keep.Keeper.{Ghosts}
 use Rattle.wire.specs.Feeding.{Bytes, Done, GivesPiece, most_piece, part}
 use Rattle.wire.specs.Feeds.{left, place_of, reader_of, waits_in}
-use Rattle.wire.specs.Skipping.{HasSkipped}
+use Rattle.wire.proofs.Skipping.{HasSkipped}
 use Rattle.wire.specs.Whole.{BreaksOffBody, LacksBody, TakesBody}
 use Rattle.wire.specs.declared.fault.WireFault.{WireFault}
 use Rattle.wire.specs.declared.fault.WireFault.TheVariants as fault

@@ -31,6 +31,8 @@ mod sessions;
 #[cfg(test)]
 mod sinks;
 #[cfg(test)]
+mod slow;
+#[cfg(test)]
 mod sockets;
 #[cfg(test)]
 mod staging;
@@ -40,3 +42,5 @@ mod texts;
 mod thousands;
 #[cfg(test)]
 mod uploads;
+#[cfg(test)]
+mod waiting;

@@ -1,4 +1,5 @@
 pub mod Written
+pub mod Skipping
 pub mod Skips
 pub mod Texts
 pub mod AnswerRows
@@ -9,6 +10,7 @@ pub mod FieldLists
 pub mod Announced
 pub mod Backlogs
 pub mod WaitingFronts
+pub mod NextMessages
 pub mod Halves
 pub mod Beginnings
 pub mod BrokenOff

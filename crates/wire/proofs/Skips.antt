@@ -7,7 +7,7 @@ use Rattle.std.proofs.KnownBytes.{Consumes-trans}
 use Rattle.sigtext.specs.declared.refusal.Refusal.{Refusal}
 use Rattle.wire.specs.Feeding.{Bytes, Lacking, GivesPiece, CountsReads, part}
 use Rattle.wire.specs.Feeds.{left, place_of, reader_of, waits_in}
-use Rattle.wire.specs.Skipping.{HasSkipped}
+use Rattle.wire.proofs.Skipping.{HasSkipped}
 use Rattle.wire.specs.Whole.{LacksBody}
 use Rattle.wire.proofs.Backlogs.{consumes_waiting}
 use Rattle.wire.specs.declared.fault.WireFault.{WireFault}

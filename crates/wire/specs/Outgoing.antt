@@ -1,5 +1,5 @@
 -- What an `Outbox` has not sent yet.
-use Rattle.std.specs.Prelude.{ℕ, List, drop, IsSome, Option}
+use Rattle.std.specs.Prelude.{ℕ, List, drop, IsNone, IsSome, Option}
 use Rattle.std.specs.Io.KnownBytes.{append_known}
 use Rattle.wire.specs.declared.outbox.Outbox.{Outbox}
 
@@ -10,6 +10,10 @@ waits_out o = drop o.start o.bytes.items
 -- a write failed, or took none of some bytes
 abbrev pub WriteFailed : {S : Type 0} → Outbox S → Type 0
 WriteFailed o = IsSome o.fault
+
+-- no write failed, and each took some of the bytes that it was given
+abbrev pub NoneFailed : {S : Type 0} → Outbox S → Type 0
+NoneFailed o = IsNone o.fault
 
 -- All that was handed over: what its writer holds, where that is known, and then the bytes that wait. contents: what a writer
 -- holds.

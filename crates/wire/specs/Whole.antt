@@ -1,5 +1,5 @@
 -- Whole messages, and what was read where none came.
-use Rattle.std.specs.Prelude.{◌≡◌, ℕ, ◌<◌, ◌≤◌, ◌⊎◌, Bool, List, [], ◌++◌, length, take, Option, Some, IfSome}
+use Rattle.std.specs.Prelude.{◌≡◌, ℕ, ◌<◌, ◌≤◌, ◌⊎◌, Bool, List, [], length, take, Option, Some, IfSome}
 use Rattle.std.specs.Io.KnownBytes.{Consumes, IsAtEnd}
 use Rattle.sigtext.specs.Limits.{most_head}
 use Rattle.sigtext.specs.Refusals.{number_of}
@@ -18,13 +18,6 @@ use Rattle.wire.specs.declared.feed.Place.TheVariants as place
 -- a message may begin there
 abbrev pub MayBegin : Place → Type 0
 MayBegin p = (p ≡ place.Fresh) ⊎ (p ≡ place.Between)
-
--- The text is a head that announces this body, and with the body it is the next message of the stream that was left.
--- old and new: what was left of the stream, where that is known, and what is left now.
-pub record IsNextMessage (text : List ℕ) (has_length : Bool) (body : List ℕ) (old new : Option (List ℕ)) : Type 0 where
-  pub opens : Opens text has_length (length body)
-  pub taken : Consumes old new (text ++ body)
-  pub next : IfSome old (λ stream. (rest : List ℕ) × Next stream (Message (request_of opens.head has_length body)) rest × (new ≡ Some rest))
 
 -- The text is a head that announces a body of n bytes, and stands at the front of the stream that was left.
 -- old and new: what was left of the stream, where that is known, and what is left now.

@@ -85,7 +85,7 @@ impl<S: Read> Gathered<S> {
             }
             Err(error) if error.kind() == ErrorKind::WouldBlock => Ok(Gathering::Waits),
             Err(error) => {
-                self.fault = Some(error);
+                self.fail(error);
                 Ok(Gathering::Failed)
             }
         }

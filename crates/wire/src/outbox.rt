@@ -1,8 +1,10 @@
 //! Writers that are never waited for: the bytes that they do not take yet wait in memory.
-ghost use Rattle.std.specs.Prelude.{◌≡◌, ◌≢◌, ◌↔◌, ◌≤◌, ◌++◌, ◌⊎◌, ℕ, List, [], length, take, vec_len, IsErr, IfErr, IfNone, IfOk, IfSome, OnErr, OnOk, None};
+ghost use Rattle.std.specs.Prelude.{◌≡◌, ◌≢◌, ◌↔◌, ◌≤◌, ◌<◌, ◌++◌, ◌⊎◌, ℕ, List, [], length, take, vec_len, IsErr, IfErr, IfNone, IfOk, IfSome, IsTrue, OnErr, OnOk};
 ghost use Rattle.std.specs.Io.{WritesAtMost};
-ghost use Rattle.std.specs.IoError.{error_kind};
 ghost use Rattle.std.specs.Io.KnownBytes.{Appends, Keeps, WriteAppends, append_known};
+ghost use Rattle.std.specs.IoError.{error_kind};
+ghost use Rattle.std.specs.Option.{ForSome};
+ghost use Rattle.wire.specs.Passing.{MayPass};
 
 use crate::shifting::drop_front;
 use std::alloc::{AllocError, Global};
@@ -21,6 +23,7 @@ pub struct Outbox<S> {
     start: usize,
     fault: Option<io::Error>,
     ghost within: { start ≤ vec_len bytes },
+    ghost lasting: { ForSome fault (λ e. ¬ MayPass (error_kind e)) },
 }
 
 /// How far an outbox is.
@@ -35,13 +38,13 @@ pub enum Sending {
 }
 
 impl<S: Write> Outbox<S> {
-    ghost use Rattle.wire.specs.Outgoing.{WriteFailed, handed_over, waits_out};
+    ghost use Rattle.wire.specs.Outgoing.{NoneFailed, WriteFailed, handed_over, waits_out};
 
     /// Nothing waits, and no memory is taken.
     pub fn new(alloc: Global, inner: S) -> Outbox<S>
         ensures inner { result.inner ≡ inner }
         ensures waiting { waits_out result ≡ [] }
-        ensures hale { result.fault ≡ None }
+        ensures hale { NoneFailed result }
     {
         Outbox {
             inner,
@@ -61,7 +64,7 @@ impl<S: Write> Outbox<S> {
 
     /// Hands what waits to the writer once, if anything does. Where nothing waits any more, it lets go of its memory.
     pub fn send(&mut self) -> Sending
-        ensures sent { result ≡ Sending.Sent ↔ ((waits_out self.new ≡ []) × (self.new.fault ≡ None)) }
+        ensures sent { result ≡ Sending.Sent ↔ ((waits_out self.new ≡ []) × NoneFailed self.new) }
         ensures failed { result ≡ Sending.Failed ↔ WriteFailed self.new }
         ensures takes { (bytes : List ℕ) × (waits_out self.old ≡ bytes ++ waits_out self.new)
             × Appends (S.contents self.old.inner) (S.contents self.new.inner) bytes }
@@ -71,10 +74,11 @@ impl<S: Write> Outbox<S> {
         if self.fault.is_some() {
             return Sending::Failed;
         }
-        if self.waiting().is_empty() {
+        let waiting = &self.bytes[self.start..];
+        if waiting.is_empty() {
             return self.settle();
         }
-        match offer(&mut self.inner, &self.bytes[self.start..]) {
+        match offer(&mut self.inner, waiting) {
             Ok(Some(n)) => {
                 self.start += n;
                 self.settle()
@@ -121,13 +125,22 @@ impl<S: Write> Write for Outbox<S> {
 
     ghost contents = { λ outbox. append_known (S.contents outbox.inner) (waits_out outbox) };
 
+    /// Hands the bytes to the writer once where no others wait. Those that it takes are the answer; if it takes none now, or
+    /// others wait, all of them wait.
+    ///
+    /// # Errors
+    ///
+    /// The error that ended the writing, at each write from then on; `WriteZero` where the writer took none of some bytes. And
+    /// `OutOfMemory` where memory was refused for bytes that would wait: none of them was taken then, and that is no end.
     fn write(&mut self, buf: &[u8]) -> io::Result<usize>
         ensures bound { WritesAtMost result buf.now }
         ensures bytes { WriteAppends (handed_over S.contents self.old)
             (handed_over S.contents self.new) result buf.now }
+        ensures some { IfOk result (λ n. 0 < length buf.now → 0 < n) }
         ensures failed { WriteFailed self.old → (IsErr result × WriteFailed self.new) }
         ensures kept { IfErr result
             (λ e. WriteFailed self.new ⊎ (error_kind e ≡ ErrorKind.OutOfMemory)) }
+        ensures lasting { IfErr result (λ e. ¬ MayPass (error_kind e)) }
         ensures refused { OnErr result (waits_out self.new ≡ waits_out self.old) }
     {
         if let Some(error) = self.fault {
@@ -147,7 +160,7 @@ impl<S: Write> Write for Outbox<S> {
         Ok(buf.len())
     }
 
-    /// Sends nothing.
+    /// Sends nothing. The error is the one that ended the writing.
     fn flush(&mut self) -> io::Result<()>
         ensures bytes { Keeps (handed_over S.contents self.old) (handed_over S.contents self.new) }
         ensures failed { WriteFailed self.old ↔ IsErr result }
@@ -163,10 +176,12 @@ impl<S: Write> Write for Outbox<S> {
 // Hands the bytes to a writer once: how many of them it took, or that it takes none now. Any other error is told, and so is
 // that it took none of some bytes.
 fn offer<S: Write>(writer: &mut S, bytes: &[u8]) -> io::Result<Option<usize>>
-    ensures some { IfOk result (λ taken. IfSome taken (λ n. (n ≤ length bytes.now)
+    ensures some { IfOk result (λ taken. IfSome taken (λ n. 0 < length bytes.now → 0 < n)) }
+    ensures taken { IfOk result (λ taken. IfSome taken (λ n. (n ≤ length bytes.now)
         × Appends (S.contents writer.old) (S.contents writer.new) (take n bytes.now))) }
     ensures none { IfOk result (λ taken. IfNone taken
         (Keeps (S.contents writer.old) (S.contents writer.new))) }
+    ensures lasting { IfErr result (λ e. ¬ MayPass (error_kind e)) }
     ensures err { OnErr result (Keeps (S.contents writer.old) (S.contents writer.new)) }
 {
     match writer.write(bytes) {
@@ -178,6 +193,8 @@ fn offer<S: Write>(writer: &mut S, bytes: &[u8]) -> io::Result<Option<usize>>
 }
 
 // Whether a write that failed so may succeed later.
-fn is_passing(kind: ErrorKind) -> bool {
+fn is_passing(kind: ErrorKind) -> bool
+    ensures { IsTrue result ↔ MayPass kind }
+{
     matches!(kind, ErrorKind::WouldBlock | ErrorKind::Interrupted)
 }

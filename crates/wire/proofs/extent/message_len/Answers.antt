@@ -1,4 +1,4 @@
-use Rattle.std.proofs.Common.{◌≡◌, ap, subst, take, ◌∙◌, ℕ, List, refl}
+use Rattle.std.proofs.Common.{arith, ◌≡◌, ap, subst, take, ◌∙◌, ℕ, List, refl}
 use Rattle.wire.specs.Extents.{headed, long}
 use Rattle.wire.specs.Heads.{HasNoHeadEnd, IsHeadEnd}
 use Rattle.wire.proofs.Backlogs.{take_least}
@@ -14,4 +14,4 @@ pub returns-in-None-2-clause-some : goal.returns-in-None-2-clause-some
 returns-in-None-2-clause-some c =
     let xs = c.args.bytes.now in
     let window : take c.min.result xs ≡ take 8192 xs = ap (λ (k : ℕ). take k xs) c.min.ensures ∙ take_least 8192 xs in
-    long (subst HasNoHeadEnd window c.in-None.ensures.none) c.if-bytes-lt-MOST_HEAD.false refl
+    long (subst HasNoHeadEnd window c.in-None.ensures.none) (omega arith) refl

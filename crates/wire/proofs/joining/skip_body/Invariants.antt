@@ -1,5 +1,5 @@
 use Rattle.std.proofs.Common.{◌≡◌}
-use Rattle.wire.specs.Skipping.{HasSkipped, to_come}
+use Rattle.wire.proofs.Skipping.{HasSkipped, to_come}
 use Rattle.wire.proofs.joining.skip_body.Given as goal
 
 abbrev pub invariant-pieces : goal.invariant-pieces

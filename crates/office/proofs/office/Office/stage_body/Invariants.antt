@@ -1,6 +1,6 @@
 use Rattle.std.proofs.Common.{◌≡◌}
 use Rattle.office.proofs.StagedSoFar.{HasStaged}
-use Rattle.wire.specs.Skipping.{to_come}
+use Rattle.wire.proofs.Skipping.{to_come}
 use Rattle.office.proofs.KeeperCalls.{Quiet}
 use Rattle.office.proofs.office.Office.stage_body.Given as goal
 

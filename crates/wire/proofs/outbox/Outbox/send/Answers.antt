@@ -27,7 +27,7 @@ returns-in-Ok-Some-clause-takes g c =
     let seen = take (length c.deref.result.now - self.start) (drop self.start c.deref.result.now) in
     let first : drop self.start self.bytes.items ≡ take n seen ++ drop (self.start + n) self.bytes.items =
     first_taken self.bytes.items seen self.start n (all_behind c.deref.result.now self.bytes.items self.start c.deref.ensures.value) in
-    let took = rw c.in-Ok-Some.field-0-is at c.in-Ok-Some.ensures.some in (
+    let took = rw c.in-Ok-Some.field-0-is at c.in-Ok-Some.ensures.taken in (
       take n seen,
       first ∙ ap (λ (t : List ℕ). take n seen ++ t) (sym c.settle-in-Ok-Some.ensures.waiting),
       subst (λ (s : g.row.S.Denot). Appends (g.S.Write.contents self.inner) (g.S.Write.contents s) (take n seen)) (sym c.settle-in-Ok-Some.ensures.inner) took.1,

@@ -1,0 +1,146 @@
+//! Readers that are read ahead, and writers whose bytes wait: none is waited for.
+use crate::slow::{Slow, Turn, fails};
+use std::io;
+use std::io::{ErrorKind, Read, Write};
+use std::test::Fail;
+use wire::{
+    Counted, Feed, Gathered, Gathering, Outbox, Room, Sending, Standing, Step, message_len,
+};
+
+const TEXT: &[u8] = b"GET /a HTTP/1.1\r\n\r\nGET /b HTTP/1.1\r\n\r\n";
+
+#[test]
+fn what_was_gathered_comes_first(rt: HostRuntime) -> Result<(), Fail> {
+    for most in 1..TEXT.len() {
+        let turns = [Turn::Moves(most), Turn::Fails(ErrorKind::WouldBlock)];
+        let mut reader = Gathered::new(rt.alloc(), Slow::new(rt.alloc(), &turns, TEXT));
+        let mut buffer = [0; 64];
+        assert_eq!(rt; reader.gather(&mut buffer)?, Gathering::Came);
+        assert_eq!(rt; reader.gather(&mut buffer)?, Gathering::Waits);
+        reader.make_room(64)?;
+        assert_eq!(rt; reader.ahead(), &TEXT[..most]);
+        let mut text = Vec::new(rt.alloc());
+        assert_eq!(rt; reader.read_to_end(&mut text)?, TEXT.len());
+        assert_eq!(rt; text.as_slice(), TEXT);
+        assert_eq!(rt; reader.gather(&mut buffer)?, Gathering::Ended);
+    }
+    Ok(())
+}
+
+#[test]
+fn the_first_fault_stays(rt: HostRuntime) -> Result<(), Fail> {
+    let turns = [Turn::Moves(3), Turn::Fails(ErrorKind::ConnectionReset)];
+    let mut reader = Gathered::new(rt.alloc(), Slow::new(rt.alloc(), &turns, TEXT));
+    let mut buffer = [0; 64];
+    assert_eq!(rt; reader.gather(&mut buffer)?, Gathering::Came);
+    assert_eq!(rt; reader.gather(&mut buffer)?, Gathering::Failed);
+    reader.fail(io::Error::from(ErrorKind::TimedOut));
+    assert_eq!(rt; reader.gather(&mut buffer)?, Gathering::Failed);
+    assert_eq!(rt; reader.inner.calls, 2);
+    assert_eq!(rt; reader.read(&mut buffer)?, 3);
+    assert!(rt; fails(reader.read(&mut buffer), ErrorKind::ConnectionReset));
+    Ok(())
+}
+
+#[test]
+fn what_a_feed_leaves_is_put_back(rt: HostRuntime) -> Result<(), Fail> {
+    let mut reader = Counted::new(Gathered::new(rt.alloc(), Slow::new(rt.alloc(), &[], TEXT)));
+    assert_eq!(rt; reader.inner.gather(&mut [0; 64])?, Gathering::Came);
+    reader.inner.fail(io::Error::from(ErrorKind::TimedOut));
+    let (standing, room) = (Standing::new(rt.alloc()), Room::new(rt.alloc())?);
+    let mut feed = Feed::resume(standing, room, &mut reader);
+    assert!(rt; matches!(feed.next(), Ok(Step::Head(head)) if head.text == &TEXT[..19]));
+    let (mut standing, _) = feed.set_aside();
+    drop(feed);
+    assert_eq!(rt; standing.ahead(), &TEXT[19..]);
+    assert!(rt; standing.give_back(&mut reader.inner).is_some());
+    assert!(rt; standing.ahead().is_empty());
+    assert_eq!(rt; reader.inner.ahead(), &TEXT[19..]);
+    assert_eq!(rt; reader.read(&mut [0; 64])?, 19);
+    assert!(rt; fails(reader.read(&mut [0; 64]), ErrorKind::TimedOut));
+    Ok(())
+}
+
+#[test]
+fn bytes_wait_for_their_writer(rt: HostRuntime) -> Result<(), Fail> {
+    let again = Turn::Fails(ErrorKind::Interrupted);
+    let turns = [
+        Turn::Moves(2),
+        Turn::Fails(ErrorKind::WouldBlock),
+        again,
+        Turn::Moves(3),
+    ];
+    let mut outbox = Outbox::new(rt.alloc(), Slow::new(rt.alloc(), &turns, TEXT));
+    assert_eq!(rt; outbox.write(b"abcdef")?, 2);
+    assert_eq!(rt; outbox.write(b"cdef")?, 4);
+    assert_eq!(rt; outbox.write(b"gh")?, 2);
+    assert_eq!(rt;
+        (outbox.waiting(), outbox.inner.calls),
+        (b"cdefgh".as_slice(), 2)
+    );
+    assert_eq!(rt; outbox.send(), Sending::Waits);
+    assert_eq!(rt; outbox.send(), Sending::Waits);
+    assert_eq!(rt; outbox.waiting(), b"fgh".as_slice());
+    assert_eq!(rt; outbox.write(b"i")?, 1);
+    assert_eq!(rt;
+        (outbox.send(), outbox.send()),
+        (Sending::Sent, Sending::Sent)
+    );
+    assert!(rt; outbox.waiting().is_empty() && outbox.flush().is_ok());
+    assert_eq!(rt;
+        (outbox.inner.taken.as_slice(), outbox.inner.calls),
+        (b"abcdefghi".as_slice(), 5)
+    );
+    Ok(())
+}
+
+#[test]
+fn a_fault_of_a_writer_stays(rt: HostRuntime) -> Result<(), Fail> {
+    let broken = Turn::Fails(ErrorKind::BrokenPipe);
+    for (turn, kind) in [
+        (broken, ErrorKind::BrokenPipe),
+        (Turn::Moves(0), ErrorKind::WriteZero),
+    ] {
+        let turns = [turn];
+        let mut outbox = Outbox::new(rt.alloc(), Slow::new(rt.alloc(), &turns, TEXT));
+        assert!(rt; fails(outbox.write(b"ab"), kind) && fails(outbox.write(b"ab"), kind));
+        assert!(rt; outbox.flush().is_err() && outbox.waiting().is_empty());
+        let turns = [Turn::Fails(ErrorKind::WouldBlock), turn];
+        let mut outbox = Outbox::new(rt.alloc(), Slow::new(rt.alloc(), &turns, TEXT));
+        assert_eq!(rt; outbox.write(b"ab")?, 2);
+        assert_eq!(rt;
+            (outbox.send(), outbox.send()),
+            (Sending::Failed, Sending::Failed)
+        );
+        assert!(rt; fails(outbox.write(b"cd"), kind) && outbox.flush().is_err());
+        assert_eq!(rt;
+            (outbox.waiting(), outbox.inner.calls),
+            (b"ab".as_slice(), 2)
+        );
+    }
+    Ok(())
+}
+
+#[test]
+fn a_head_tells_how_long_its_message_is(rt: HostRuntime) {
+    let rows = [
+        (&TEXT[..18], None),
+        (TEXT, Some(19)),
+        (b"PUT / HTTP/1.1\r\nContent-Length: 5\r\n\r\nab", Some(42)),
+        (
+            b"PUT / HTTP/1.1\r\nContent-Length: 8388609\r\n\r\nab",
+            Some(43),
+        ),
+        (b"PUT / HTTP/1.1\r\nContent-Length: x\r\n\r\nab", Some(37)),
+        (
+            b"PUT / HTTP/1.1\r\nTransfer-Encoding: chunked\r\n\r\nab",
+            Some(46),
+        ),
+        (b"no head\r\n\r\nab", Some(11)),
+        (&[b'a'; 8191], None),
+        (&[b'a'; 8193], Some(8192)),
+    ];
+    for (bytes, len) in rows {
+        assert_eq!(rt; message_len(bytes), len);
+    }
+}
