@@ -1,5 +1,5 @@
 //! Connections that come and go while others are served.
-ghost use Rattle.std.specs.Prelude.{◌≡◌, ◌<◌, IfNone, IfSome, List, length};
+ghost use Rattle.std.specs.Prelude.{◌≡◌, ◌<◌, ◌≤◌, ℕ, IfNone, IfSome, List, length};
 ghost use Rattle.office.specs.Crowds.{ChangesBy, is_fault_end};
 
 use super::seat::Seat;
@@ -22,21 +22,20 @@ pub trait Crowd<R: Read, W: Write> {
     /// No turn is to be taken any more.
     ghost over: { Self → Type 0 };
 
+    /// How many turns it gives at most.
+    ghost turns: { Self → ℕ };
+
+    /// They are less than 2^64.
+    ghost few: { (crowd : Self) → turns crowd < 18446744073709551616 };
+
     /// Waits for what comes next. The index of the slot whose turn it is, any and however often; or none where no turn is to be
     /// taken any more. The spare room is for the next turn: one that a seat hands back may be put there.
     fn next(&mut self, slots: &mut [Option<Seat<R, W>>], spare: &mut Option<Room>) -> Option<usize>
         ensures changes { ChangesBy R.remaining W.contents met self.old self.new slots.old slots.new }
         ensures within { IfSome result (λ index. index < length slots.new) }
-        ensures over { IfNone result (over self.new) };
-}
-
-/// How connections were served.
-#[derive(Clone, Copy, Debug, PartialEq, Eq)]
-pub struct Served {
-    /// How many ended by a read or a write that failed.
-    pub faulty: u64,
-    /// Whether the crowd has no turn any more. Else the greatest number of turns was taken.
-    pub is_over: bool,
+        ensures over { IfNone result (over self.new) }
+        ensures fewer { IfSome result (λ index. turns self.new < turns self.old) }
+        ensures no_more { turns self.new ≤ turns self.old };
 }
 
 // What a turn left beside a slot.
@@ -57,7 +56,7 @@ fn has_failed(end: Option<SessionEnd>) -> bool
 }
 
 impl<K: Keeper> Office<K> {
-    ghost use Rattle.std.specs.Prelude.{◌≤◌, ◌++◌, ℕ, List, None, IsTrue};
+    ghost use Rattle.std.specs.Prelude.{◌≤◌, ◌++◌, ℕ, List, None};
     ghost use Rattle.boxes.specs.State.{State};
     ghost use Rattle.office.specs.Crowds.{ServesCrowd, TurnsSlot, slot_at};
     ghost use Rattle.office.specs.Premise.{IsLeft, StaysUnstaged, WasKept};
@@ -100,45 +99,34 @@ impl<K: Keeper> Office<K> {
     /// Serves connections that come and go, each in the turns that the crowd gives it, until there are no more; and answers how
     /// many ended by a read or a write that failed. There is one order of all messages, in which the machine leads from the
     /// state before to the state after; and of each connection that came, what was read, its answers and its end are those of
-    /// its own messages, until it went or as it stands in its slot. Over all of them an upload acts once. Of a keeper that was open, and where no connection gave up, what is kept is that one state
-    /// and no other. Where nothing was given up but at a failed read, what was changed outlasts a crash. Where memory is
-    /// refused for a turn, the turn is left out.
+    /// its own messages, until it went or as it stands in its slot. Over all of them an upload acts once. Of a keeper that was
+    /// open, and where no connection gave up, what is kept is that one state and no other. Where nothing was given up but at a
+    /// failed read, what was changed outlasts a crash. Where memory is refused for a turn, the turn is left out.
     pub fn serve_crowd<R: Read, W: Write, G: Crowd<R, W>, C: Clock>(
         &mut self,
         crowd: &mut G,
         slots: &mut [Option<Seat<R, W>>],
         clock: &mut C,
-    ) -> Served
+    ) -> u64
         requires { (p : ℕ) → slot_at slots.old p ≡ None }
         ensures serves { (before gone : List (Seat R W)) → G.met crowd.old before gone
             → (came went : List (Seat R W)) × G.met crowd.new (before ++ came) (gone ++ went)
             × ((s : State) → WasKept K.Keeper self.old.keeper self.new.keeper s
             → (after : State) × IsLeft (K.means self.new.keeper) after
             × ServesCrowd C.now_gives R.remaining W.contents came went slots.new clock.old clock.new
-            K.Keeper self.old.keeper self.new.keeper result.faulty s after) }
-        ensures over { IsTrue result.is_over → G.over crowd.new }
+            K.Keeper self.old.keeper self.new.keeper result s after) }
+        ensures over { G.over crowd.new }
         ensures honest { K.is_honest self.new.keeper → K.is_honest self.old.keeper }
         ensures unstaged { StaysUnstaged K.Keeper self.old.keeper self.new.keeper }
         ensures never_less { K.faults self.old.keeper ≤ K.faults self.new.keeper }
     {
         let mut spare = None;
         let mut faulty = 0;
-        'turns: for _ in 0..u64::MAX {
-            let Some(index) = crowd.next(slots, &mut spare) else {
-                return Served {
-                    faulty,
-                    is_over: true,
-                };
-            };
+        'turns: while let Some(index) = crowd.next(slots, &mut spare) {
             let turned = self.turn_slot(&mut slots[index], spare, clock);
+            faulty += if turned.is_fault { 1 } else { 0 };
             spare = turned.spare;
-            if turned.is_fault {
-                faulty += 1;
-            }
         }
-        Served {
-            faulty,
-            is_over: false,
-        }
+        faulty
     }
 }

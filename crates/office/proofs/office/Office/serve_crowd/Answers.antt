@@ -25,8 +25,8 @@ turns-init g c = (
   omega arith,
 )
 
-pub returns-in_default-clause-serves : goal.returns-in_default-clause-serves
-returns-in_default-clause-serves g c before gone met =
+pub returns-clause-serves : goal.returns-clause-serves
+returns-clause-serves g c before gone met =
     let i = c.turns.invariant.0 before gone met in
     let more = c.next.ensures.changes (before ++ i.0) (gone ++ i.1) i.2 in (
       i.0 ++ more.0,
@@ -42,29 +42,14 @@ returns-in_default-clause-serves g c before gone met =
           ),
     )
 
-pub returns-clause-serves : goal.returns-clause-serves
-returns-clause-serves g c before gone met =
-    let i = c.turns.invariant.0 before gone met in (
-      i.0,
-      i.1,
-      i.2,
-      λ s kept.
-          let x = i.3 s kept in (
-            x.0,
-            x.1,
-            crowd_ends g.R.Read.remaining g.W.Write.contents g.C.Clock.now_gives g.K.Keeper c.args.clock.now c.args.self.now.keeper s c.turns.slots i.0 i.1 c.turns.clock c.turns.self.keeper c.turns.faulty x.0
-                (λ a b. g.met.K.Keeper.one c.turns.self.keeper a b kept.is_honest) x.1 x.2,
-          ),
-    )
-
 pub turns-preserved : goal.turns-preserved
 turns-preserved g c =
     let j = c.turns.invariant in
     let turned = c.turn_slot-turned.ensures in
-    let counted : c.if-turned.faulty ≡ c.turns.faulty + cond c.turn_slot-turned.result.is_fault 1 0 =
+    let one : c.if-turned.faulty ≡ cond c.turn_slot-turned.result.is_fault 1 0 =
     elim c.if-turned.branch [
-      | then-turned w ↦ w.faulty-is ∙ ap (λ (b : Bool). c.turns.faulty + cond b 1 0) (sym w.if-turned.true)
-      | else-turned w ↦ w.faulty-is ∙ omega arith ∙ ap (λ (b : Bool). c.turns.faulty + cond b 1 0) (sym w.if-turned.false)
+      | then-turned w ↦ w.faulty-is ∙ ap (λ (b : Bool). cond b 1 0) (sym w.if-turned.true)
+      | else-turned w ↦ w.faulty-is ∙ ap (λ (b : Bool). cond b 1 0) (sym w.if-turned.false)
     ] in (
       λ before gone met.
           let i = j.0 before gone met in
@@ -78,12 +63,15 @@ turns-preserved g c =
                 let h = turned.turns x.0 (record { means = x.1.means; is_honest = kept.is_honest; sound = x.1.sound }) in (
                   h.0,
                   h.1,
-                  turned_more g.R.Read.remaining g.W.Write.contents g.C.Clock.now_gives g.K.Keeper c.args.clock.now c.args.self.now.keeper s c.next.new.slots (i.0 ++ more.0) (i.1 ++ more.1) c.turns.clock c.turn_slot-turned.new.clock c.turns.self.keeper c.turn_slot-turned.new.self.keeper c.turns.faulty c.if-turned.faulty x.0 h.0
-                      c.in-Some.index c.index-slots-index.result c.turn_slot-turned.new.slot c.turn_slot-turned.result.is_fault c.in-Some.ensures.within counted h.2 t,
+                  turned_more g.R.Read.remaining g.W.Write.contents g.C.Clock.now_gives g.K.Keeper c.args.clock.now c.args.self.now.keeper s c.next.new.slots (i.0 ++ more.0) (i.1 ++ more.1) c.turns.clock c.turn_slot-turned.new.clock c.turns.self.keeper c.turn_slot-turned.new.self.keeper c.turns.faulty (c.turns.faulty + c.if-turned.faulty) x.0 h.0
+                      c.in-Some.index c.index-slots-index.result c.turn_slot-turned.new.slot c.turn_slot-turned.result.is_fault c.in-Some.ensures.within (ap (λ n. c.turns.faulty + n) one) h.2 t,
                 ),
           ),
       λ honest. j.1 (turned.honest honest),
       omega (arith, j.2, turned.never_less),
       unstaged_then g.K.Keeper c.args.self.now.keeper c.turns.self.keeper c.turn_slot-turned.new.self.keeper j.3 j.2 turned.unstaged turned.never_less,
-      elim c.if-turned.branch [ then-turned w ↦ omega (arith, j.4) | else-turned w ↦ omega (arith, j.4) ],
+      elim c.if-turned.branch [
+        | then-turned w ↦ omega (arith, j.4, w.faulty-is, c.in-Some.ensures.fewer)
+        | else-turned w ↦ omega (arith, j.4, w.faulty-is, c.in-Some.ensures.fewer)
+      ],
     )

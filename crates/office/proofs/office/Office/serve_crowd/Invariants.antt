@@ -1,4 +1,4 @@
-use Rattle.std.proofs.Common.{◌≤◌, ◌++◌, ℕ, List}
+use Rattle.std.proofs.Common.{◌≤◌, ◌+◌, ◌++◌, ℕ, List}
 use Rattle.boxes.specs.State.{State}
 use Rattle.office.specs.Premise.{IsLeft, StaysUnstaged, WasKept}
 use Rattle.office.specs.declared.connections.seat.Seat.{Seat}
@@ -15,4 +15,7 @@ invariant-turns g l =
     × (g.K.Keeper.is_honest l.self.keeper → g.K.Keeper.is_honest l.fn.self.keeper)
     × (g.K.Keeper.faults l.fn.self.keeper ≤ g.K.Keeper.faults l.self.keeper)
     × StaysUnstaged g.K.Keeper l.fn.self.keeper l.self.keeper
-    × (l.faulty ≤ l.counter)
+    × (l.faulty + g.G.Crowd.turns l.crowd ≤ g.G.Crowd.turns l.fn.crowd)
+
+abbrev pub decreases-turns : goal.decreases-turns
+decreases-turns g l = g.G.Crowd.turns l.crowd
