@@ -25,7 +25,7 @@ use Rattle.wire.proofs.BrokenOff.{awaits_body}
 use Rattle.wire.proofs.Halves.{head_taken, lacking_joined, message_joined}
 use Rattle.office.specs.declared.requests.foreseeing.Prospect.{Prospect}
 use Rattle.office.specs.declared.requests.foreseeing.Body.{Body}
-use Rattle.office.specs.Foreseeing.{AreStaged, Foresees, IsForeseen, IsUpload}
+use Rattle.office.specs.Foreseeing.{AreStaged, Foresees, IsUpload}
 use Rattle.office.specs.Receiving.{StagesBody}
 use Rattle.office.specs.Readable.{IsReadable}
 use Rattle.office.specs.Sessions.{HasBegunMessage}

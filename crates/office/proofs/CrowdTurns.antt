@@ -11,7 +11,7 @@ use Rattle.office.specs.Crowds.{Changes, IsAmong, ServesCrowd, StandsIn, TurnsSl
 use Rattle.office.specs.Crowds as crowd
 use Rattle.office.specs.Interleaved.{Thread}
 use Rattle.office.specs.Premise.{IsLeft}
-use Rattle.office.specs.Seats.{AreThreads, Gathers, IsNew, TakesTurn, TellsTurn, Weaves, had_ended, went_on, ended}
+use Rattle.office.specs.Seats.{AreThreads, Gathers, IsNew, TakesTurn, TellsTurn, had_ended, went_on, ended}
 use Rattle.office.specs.declared.connections.seat.Seat.{Seat}
 use Rattle.office.specs.declared.connections.session.SessionEnd.{SessionEnd}
 use Rattle.office.proofs.RunSoFar.{MeansOne}

@@ -19,7 +19,6 @@ use Rattle.wire.specs.Whole.{BreaksOff, Brings}
 use Rattle.wire.proofs.Halves.{message_stands}
 use Rattle.office.specs.declared.connections.session.SessionEnd.{SessionEnd}
 use Rattle.office.specs.declared.connections.session.SessionEnd.TheVariants.{Ended, Truncated, Refused, Limit, ReadFault, WriteFault}
-use Rattle.office.specs.declared.connections.handling.Handled.{Handled}
 use Rattle.office.specs.declared.connections.handling.Handled.TheVariants.{Answered, GaveUp, Broken}
 use Rattle.sigtext.specs.Counts.{Rose}
 use Rattle.office.specs.Connections.{HoldsUpTo, IsKnown, IsStream, Serves}

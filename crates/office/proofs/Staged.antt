@@ -1,5 +1,5 @@
 -- Whether staged bytes stand already, by the receipt of what stands.
-use Rattle.std.proofs.Common.{◌≡◌, ◌∙◌, ℕ, List, true, Option, Some, None, length, refl, sym, ap, subst}
+use Rattle.std.proofs.Common.{◌≡◌, ◌∙◌, ℕ, List, true, Option, Some, None, length, refl, ap, subst}
 use Rattle.std.specs.Cmp.Lexicographic.{pointwise}
 use Rattle.std.specs.Prelude.{option_map, nat_eq, IsSomeAnd}
 use Rattle.std.proofs.lemmas.Cmp.{nat_list_eq_equiv}

@@ -1,18 +1,17 @@
 -- A body that is staged piece after piece, and how its reading ends.
-use Rattle.std.proofs.Common.{◌≡◌, ◌<◌, ◌≤◌, ◌+◌, ◌-◌, ℕ, List, [], ◌∷◌, ◌++◌, length, Option, Result, Ok, Err, arith, ap, refl, subst, ◌∙◌, length-append}
+use Rattle.std.proofs.Common.{◌≡◌, ◌<◌, ◌≤◌, ◌+◌, ◌-◌, ℕ, List, [], ◌∷◌, ◌++◌, length, Option, Result, Ok, Err, arith, ap, subst, ◌∙◌, length-append}
 use Rattle.std.proofs.KnownBytes.{Consumes-kept, Consumes-nil, Consumes-trans, Keeps-refl}
 use Rattle.std.specs.Borrow.{Bor}
 use Rattle.std.specs.Io.KnownBytes.{Consumes, prepend_known}
-use Rattle.std.specs.List.{AllByRecursion}
 use Rattle.sigtext.specs.Bytes.{AreBytes}
 use Rattle.sigv4.specs.Hashers.{ShaHolds}
 use Rattle.sigv4.specs.Hmac.{sha256}
 use Rattle.sigv4.specs.declared.hash.Sha.{Sha}
 use Rattle.keeper.specs.declared.keep.Keeper.{Ghosts}
-use Rattle.wire.specs.Feeding.{Bytes, Done, GivesPiece, most_piece, part}
+use Rattle.wire.specs.Feeding.{Done, GivesPiece, most_piece, part}
 use Rattle.wire.specs.Feeds.{left, place_of, reader_of, waits_in}
 use Rattle.wire.proofs.Skipping.{HasSkipped}
-use Rattle.wire.specs.Whole.{BreaksOffBody, LacksBody, TakesBody}
+use Rattle.wire.specs.Whole.{LacksBody}
 use Rattle.wire.specs.declared.fault.WireFault.{WireFault}
 use Rattle.wire.specs.declared.fault.WireFault.TheVariants as fault
 use Rattle.wire.specs.declared.feed.Feed.{Feed}

@@ -1,5 +1,5 @@
 -- How the keeper holds up over several calls, and that nothing stays staged.
-use Rattle.std.proofs.Common.{◌≡◌, ℕ, ◌≤◌, ◌⊎◌, [], Option, None, Some, Result, Ok, Err, inl, inr, arith, refl, sym, List, ◌∙◌}
+use Rattle.std.proofs.Common.{◌≡◌, ℕ, ◌≤◌, Option, None, Some, Result, Ok, Err, inl, inr, arith, refl, sym, List, ◌∙◌}
 use Rattle.std.specs.Prelude.{IsSomeAnd, OnErr}
 use Rattle.std.proofs.lemmas.Bool.{cases_lt}
 use Rattle.sigtext.specs.Counts.{Rose}

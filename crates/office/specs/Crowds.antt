@@ -1,5 +1,5 @@
 -- Connections that come, are served in turn, and go: each has a slot while it is there.
-use Rattle.std.specs.Prelude.{◌≡◌, ◌<◌, ◌⊎◌, ℕ, Bool, false, List, [], ◌∷◌, ◌++◌, length, slice_get, slice_set, slice_index_or, Option, Some, None}
+use Rattle.std.specs.Prelude.{◌≡◌, ◌≢◌, ◌<◌, ◌⊎◌, ℕ, Bool, false, List, [], ◌∷◌, ◌++◌, length, slice_get, slice_set, slice_index_or, Option, Some, None}
 use Rattle.std.specs.List.{AllByRecursion, count_by}
 use Rattle.boxes.specs.State.{State}
 use Rattle.keeper.specs.declared.keep.Keeper.{Ghosts}
@@ -13,6 +13,10 @@ use Rattle.office.specs.Seats.{AreThreads, Gathers, IsNew, LastsOver, StaysSo, T
 -- what stands in the slot at p
 abbrev pub slot_at : {X : Type 0} → List (Option X) → ℕ → Option X
 slot_at slots p = slice_index_or slots p None
+
+-- none of the first n slots is free
+abbrev pub NoneIsFree : {X : Type 0} → List (Option X) → ℕ → Type 0
+NoneIsFree slots n = (p : ℕ) → p < n → slot_at slots p ≢ None
 
 -- What may go on in the slots between two turns, one thing after another: which connections came, as they came, and which went,
 -- as they were then. remaining: what a reader has left; contents: what a writer holds.

@@ -1,5 +1,5 @@
 -- What is known of a request before its moment: all but the window of its link, and what its body decides.
-use Rattle.std.specs.Prelude.{◌≡◌, ◌≢◌, ◌≤◌, ℕ, List, length, IsFalse, Option, Some, option_map, Result, Ok, Err, ⊤}
+use Rattle.std.specs.Prelude.{◌≡◌, ◌≢◌, ◌≤◌, ℕ, List, length, IsFalse, Some, option_map, Result, Ok, Err, ⊤}
 use Rattle.std.specs.FinMap.{get}
 use Rattle.sigtext.specs.Bytes.{AreBytes}
 use Rattle.sigtext.specs.Limits.{most_body}

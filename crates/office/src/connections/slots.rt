@@ -1,6 +1,6 @@
 //! The slots of connections that come and go: what may be done in them between two turns.
-ghost use Rattle.std.specs.Prelude.{◌≡◌, ◌<◌, ◌∷◌, [], length, IfOk, IfSome, None, OnErr};
-ghost use Rattle.office.specs.Crowds.{Changes, slot_at, those_of};
+ghost use Rattle.std.specs.Prelude.{◌≡◌, ◌<◌, ◌∷◌, [], length, slice_set, IfErr, IfNone, IfOk, IfSome, None, Some};
+ghost use Rattle.office.specs.Crowds.{Changes, NoneIsFree, slot_at, those_of};
 ghost use Rattle.office.specs.Seats.{IsNew};
 
 use super::seat::Seat;
@@ -11,7 +11,9 @@ use wire::{Gathered, Gathering, Outbox, Room, Sending};
 
 // The index of the first slot that is free.
 fn first_free<R, W>(slots: &[Option<Seat<R, W>>]) -> Option<usize>
-    ensures { IfSome result (λ index. (index < length slots.now) × (slot_at slots.now index ≡ None)) }
+    ensures some { IfSome result (λ index. (index < length slots.now)
+        × (slot_at slots.now index ≡ None)) }
+    ensures none { IfNone result (NoneIsFree slots.now (length slots.now)) }
 {
     'slots: for index in 0..slots.len() {
         if slots[index].is_none() {
@@ -28,8 +30,10 @@ pub fn open_slot<R: Read + Drop, W: Write + Drop>(
 ) -> Result<usize, Seat<R, W>>
     requires { IsNew seat }
     ensures opened { IfOk result (λ index. (index < length slots.old)
+        × (slot_at slots.old index ≡ None) × (slots.new ≡ slice_set slots.old index (Some seat))
         × Changes R.remaining W.contents slots.old slots.new (seat ∷ []) []) }
-    ensures full { OnErr result (slots.new ≡ slots.old) }
+    ensures full { IfErr result (λ back. (back ≡ seat) × (slots.new ≡ slots.old)
+        × NoneIsFree slots.old (length slots.old)) }
 {
     match first_free(slots) {
         Some(index) => {
@@ -46,7 +50,9 @@ pub fn free_slot<R: Read, W: Write>(
     index: usize,
 ) -> Option<Seat<R, W>>
     requires { index < length slots.old }
-    ensures { Changes R.remaining W.contents slots.old slots.new [] (those_of result) }
+    ensures given { result ≡ slot_at slots.old index }
+    ensures free { slots.new ≡ slice_set slots.old index None }
+    ensures changes { Changes R.remaining W.contents slots.old slots.new [] (those_of result) }
 {
     slots[index].take()
 }

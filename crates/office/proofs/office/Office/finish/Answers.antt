@@ -1,8 +1,7 @@
-use Rattle.office.specs.Premise.{WasKept}
 use Rattle.office.specs.Crashes.{Endures}
 use Rattle.office.proofs.Endurance.{refused_adds, refused_same, then_adds, then_refused, then_replied}
-use Rattle.office.proofs.Foreseen.{denied, no_reply}
-use Rattle.office.proofs.Unstaged.{ends_later, staged_later}
+use Rattle.office.proofs.Foreseen.{denied}
+use Rattle.office.proofs.Unstaged.{staged_later}
 use Rattle.office.proofs.office.Office.finish.Goals as goal
 
 pub returns-in-Ok-clause-replies : goal.returns-in-Ok-clause-replies

@@ -1,4 +1,3 @@
-use Rattle.std.proofs.Common.{refl}
 use Rattle.sigtext.specs.declared.refusal.Refusal.TheVariants as rule
 use Rattle.links.proofs.LinkRules.{method_first}
 use Rattle.links.proofs.Texts.{clash}

@@ -1,7 +1,7 @@
-use Rattle.std.proofs.Common.{refl, sym, subst, List, ℕ}
+use Rattle.std.proofs.Common.{refl, subst, List, ℕ}
 use Rattle.boxes.specs.Rows.{key_of}
 use Rattle.links.specs.Admits.{IsSignedBy}
-use Rattle.office.proofs.Deciding.{HasKey, key_unknown, key_revoked, signature_mismatch}
+use Rattle.office.proofs.Deciding.{HasKey, key_unknown, key_revoked}
 use Rattle.office.proofs.Judged.{asked_none, asked_some, mismatched}
 use Rattle.office.proofs.office.Office.identify.Goals as goal
 

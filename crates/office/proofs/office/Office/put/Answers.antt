@@ -1,4 +1,4 @@
-use Rattle.std.proofs.Common.{◌∙◌, Ok, arith, ℕ, List, ap, sym, subst, refl}
+use Rattle.std.proofs.Common.{◌∙◌, Ok, arith, ap, sym, subst, refl}
 use Rattle.std.specs.FinMap.{get}
 use Rattle.sigtext.specs.declared.refusal.Refusal.TheVariants as rule
 use Rattle.boxes.specs.State.{Place}
@@ -6,12 +6,11 @@ use Rattle.boxes.specs.Steps.{after_upload}
 use Rattle.boxes.specs.Views.{IsUploadViewOf}
 use Rattle.wire.specs.declared.answer.Reply.{Reply}
 use Rattle.office.specs.Crashes.{Endures, unchanged}
-use Rattle.office.specs.Places.{place_at}
 use Rattle.office.specs.Premise.{WasKept}
 use Rattle.office.specs.Replying.{IsReplied}
 use Rattle.office.specs.Rules.{place_of, upload_of}
 use Rattle.office.proofs.Endurance.{asked_standing, refused_adds, then_adds, then_replied, unset}
-use Rattle.office.proofs.Foreseen.{denied, if_told, no_reply, told}
+use Rattle.office.proofs.Foreseen.{denied, no_reply, told}
 use Rattle.office.proofs.Replies.{asks, brought, again, not_put, sets, set_replied}
 use Rattle.office.proofs.Unstaged.{ends_later, rose_least}
 use Rattle.office.proofs.office.Office.put.Goals as goal

@@ -1,6 +1,4 @@
-use Rattle.std.proofs.Common.{◌≡◌, ◌∙◌, Ok, Err, Result, inl, inr, rules, subst, sym}
-use Rattle.sigtext.specs.declared.refusal.Refusal.{Refusal}
-use Rattle.office.specs.declared.requests.foreseeing.Errand.{Errand}
+use Rattle.std.proofs.Common.{◌≡◌, ◌∙◌, Ok, Err, inl, inr, rules, subst, sym}
 use Rattle.office.specs.declared.requests.foreseeing.Errand.TheVariants as errand
 use Rattle.office.specs.Foreseeing.{IsPutting}
 use Rattle.office.proofs.Endurance.{refused_adds, refused_same, still}

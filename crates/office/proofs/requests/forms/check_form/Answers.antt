@@ -1,8 +1,8 @@
-use Rattle.std.proofs.Common.{◌≡◌, ◌∙◌, arith, length, ap, sym, [], List, ℕ}
+use Rattle.std.proofs.Common.{◌≡◌, ◌∙◌, arith, length, ap, sym}
 use Rattle.links.specs.Methods.{method_text}
 use Rattle.links.proofs.Texts.{clash}
 use Rattle.office.specs.Announcing.{request_with}
-use Rattle.office.proofs.Deciding.{length_missing, body_not_taken, form_holds}
+use Rattle.office.proofs.Deciding.{length_missing, body_not_taken}
 use Rattle.office.proofs.Forming.{is_put}
 use Rattle.office.proofs.requests.forms.check_form.Goals as goal
 

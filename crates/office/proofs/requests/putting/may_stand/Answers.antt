@@ -1,7 +1,7 @@
-use Rattle.std.proofs.Common.{◌≡◌, ◌∙◌, Option, sym, subst}
+use Rattle.std.proofs.Common.{◌∙◌, Option, sym, subst}
 use Rattle.boxes.specs.declared.rows.ReceiptRow.{ReceiptRow}
 use Rattle.boxes.specs.Views.{IsReceiptAt}
-use Rattle.office.proofs.Staged.{its_receipt, none_stands, digests_same}
+use Rattle.office.proofs.Staged.{its_receipt, digests_same}
 use Rattle.office.proofs.requests.putting.may_stand.Goals as goal
 
 pub returns-then-receipt-body : goal.returns-then-receipt-body
