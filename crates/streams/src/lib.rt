@@ -41,6 +41,8 @@ mod texts;
 #[cfg(test)]
 mod thousands;
 #[cfg(test)]
+mod turns;
+#[cfg(test)]
 mod uploads;
 #[cfg(test)]
 mod waiting;
