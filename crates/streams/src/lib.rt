@@ -41,8 +41,6 @@ mod texts;
 #[cfg(test)]
 mod thousands;
 #[cfg(test)]
-mod turns;
-#[cfg(test)]
 mod uploads;
 #[cfg(test)]
 mod waiting;
