@@ -3,7 +3,7 @@ use Rattle.std.proofs.Common.{◌≡◌, ◌<◌, ℕ, List, [], ◌∷◌, ◌+
 use Rattle.std.proofs.lemmas.List.{append-nil, get_or_default, set-get_or}
 use Rattle.office.specs.Crowds.{Changes, ChangesBy, slot_at, those_of}
 use Rattle.office.specs.Crowds as crowd
-use Rattle.office.specs.Seats.{Gathers, IsNew}
+use Rattle.office.specs.Seats.{Gathers, IsNew, Sends}
 use Rattle.office.specs.declared.connections.seat.Seat.{Seat}
 
 module _ {R W : Type 0} (remaining : R → Option (List ℕ)) (contents : W → Option (List ℕ)) where
@@ -17,6 +17,8 @@ module _ {R W : Type 0} (remaining : R → Option (List ℕ)) (contents : W → 
       (crowd.comes now (came ++ more) (gone ++ went) p new (changes_then a b now came gone more went first before) lt free is)
   changes_then a b _ came gone _ _ first (crowd.gathers now more went p seat new before lt at is_open g) =
       crowd.gathers now (came ++ more) (gone ++ went) p seat new (changes_then a b now came gone more went first before) lt at is_open g
+  changes_then a b _ came gone _ _ first (crowd.sends now more went p seat new before lt at g) =
+      crowd.sends now (came ++ more) (gone ++ went) p seat new (changes_then a b now came gone more went first before) lt at g
   changes_then a b _ came gone _ _ first (crowd.goes now more went p seat before lt at) =
       subst (λ l. Changes remaining contents a (set now p None) (came ++ more) l) (append_assoc gone went (seat ∷ []))
       (crowd.goes now (came ++ more) (gone ++ went) p seat (changes_then a b now came gone more went first before) lt at)
@@ -45,8 +47,13 @@ module _ {R W : Type 0} (remaining : R → Option (List ℕ)) (contents : W → 
   pub by_comes : (a : List (Option (Seat R W))) (p : ℕ) (d : Option (Seat R W)) (new : Seat R W) → p < length a → get_or a p d ≡ None → IsNew new → Changes remaining contents a (set a p (Some new)) (new ∷ []) []
   by_comes a p d new lt free is = crowd.comes a [] [] p new crowd.same lt (get_or_default a p None d lt ∙ free) is
 
-  -- bytes are read ahead of the one there, or sent on
-  pub by_gathers : (a : List (Option (Seat R W))) (p : ℕ) (d : Option (Seat R W)) (seat new : Seat R W) → p < length a → get_or a p d ≡ Some seat → seat.end ≡ None → Gathers remaining contents seat new
+  -- bytes that were written to the one there are sent on
+  pub by_sends : (a : List (Option (Seat R W))) (p : ℕ) (d : Option (Seat R W)) (seat new : Seat R W) → p < length a → get_or a p d ≡ Some seat → Sends contents seat new
+      → Changes remaining contents a (set a p (Some new)) [] []
+  by_sends a p d seat new lt at g = crowd.sends a [] [] p seat new crowd.same lt (get_or_default a p None d lt ∙ at) g
+
+  -- bytes are read ahead of the one there
+  pub by_gathers : (a : List (Option (Seat R W))) (p : ℕ) (d : Option (Seat R W)) (seat new : Seat R W) → p < length a → get_or a p d ≡ Some seat → seat.end ≡ None → Gathers remaining seat new
       → Changes remaining contents a (set a p (Some new)) [] []
   by_gathers a p d seat new lt at is_open g = crowd.gathers a [] [] p seat new crowd.same lt (get_or_default a p None d lt ∙ at) is_open g
 

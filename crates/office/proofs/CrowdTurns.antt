@@ -11,11 +11,11 @@ use Rattle.office.specs.Crowds.{Changes, IsAmong, ServesCrowd, StandsIn, TurnsSl
 use Rattle.office.specs.Crowds as crowd
 use Rattle.office.specs.Interleaved.{Thread}
 use Rattle.office.specs.Premise.{IsLeft}
-use Rattle.office.specs.Seats.{AreThreads, Gathers, IsNew, TakesTurn, TellsTurn, had_ended, went_on, ended}
+use Rattle.office.specs.Seats.{AreThreads, Gathers, IsNew, Sends, TakesTurn, TellsTurn, had_ended, went_on, ended}
 use Rattle.office.specs.declared.connections.seat.Seat.{Seat}
 use Rattle.office.specs.declared.connections.session.SessionEnd.{SessionEnd}
 use Rattle.office.proofs.RunSoFar.{MeansOne}
-use Rattle.office.proofs.SeatTurns.{AllTell, TurnsMore, gathered_seat, gathers_tell, seat_comes, tell_comes, tell_more, turns_more, weaves_last}
+use Rattle.office.proofs.SeatTurns.{AllTell, TurnsMore, gathered_seat, gathers_tell, seat_comes, sent_seat, tell_comes, tell_more, tell_sent, turns_more, weaves_last}
 use Rattle.office.proofs.Ties.{Ties, gone_among, no_other_stands, number_of, ties_comes, ties_goes, ties_none, ties_set}
 use Rattle.office.proofs.Weaving.{SoFar}
 
@@ -46,6 +46,16 @@ module _ {R W : Type 0} where
   faults_set (x ∷ xs) (suc n) d y lt is =
       let rest = faults_set xs n d y (omega (arith, lt)) is in
       let all : faults_in (x ∷ set xs n y) ≡ faults_in (x ∷ xs) + one_if y.end = omega (arith, rest, faults_first x xs, faults_first x (set xs n y)) in
+      all
+
+  faults_same : (xs : List (Seat R W)) (n : ℕ) (d y : Seat R W) → n < length xs → y.end ≡ (get_or xs n d).end → faults_in (set xs n y) ≡ faults_in xs
+  faults_same [] n d y lt is = refl
+  faults_same (x ∷ xs) zero d y lt is =
+      let same : one_if y.end ≡ one_if x.end = ap one_if is in
+      omega (arith, same, faults_first x xs, faults_first y xs)
+  faults_same (x ∷ xs) (suc n) d y lt is =
+      let rest = faults_same xs n d y (omega (arith, lt)) is in
+      let all : faults_in (x ∷ set xs n y) ≡ faults_in (x ∷ xs) = omega (arith, rest, faults_first x xs, faults_first x (set xs n y)) in
       all
 
   faults_more : (xs : List (Seat R W)) (x : Seat R W) → x.end ≡ None → faults_in (xs ++ x ∷ []) ≡ faults_in xs
@@ -102,7 +112,7 @@ module _ {R W : Type 0} (remaining : R → Option (List ℕ)) (contents : W → 
     }
 
     gathers_more : (slots : List (Option (Seat R W))) (came gone : List (Seat R W)) (clock' : C) (keeper' : K) (faults p : ℕ) (mid : State) (old new : Seat R W) → p < length slots → slot_at slots p ≡ Some old → old.end ≡ None
-        → Gathers remaining contents old new → Now slots came gone clock' keeper' faults mid → Now (set slots p (Some new)) came gone clock' keeper' faults mid
+        → Gathers remaining old new → Now slots came gone clock' keeper' faults mid → Now (set slots p (Some new)) came gone clock' keeper' faults mid
     gathers_more slots came gone clock' keeper' faults p mid old new lt at is_open g t =
         let n = t.number p in
         let one = t.ties.each p old at in
@@ -114,9 +124,26 @@ module _ {R W : Type 0} (remaining : R → Option (List ℕ)) (contents : W → 
           seats = set t.seats n new;
           number = t.number;
           ties = ties_set slots t.number t.seats gone t.ties p lt old new at;
-          turned = gathered_seat remaining contents gives k came t.seats clock clock' keeper keeper' s mid n old new fits open_there (subst (λ (x : Seat R W). Gathers remaining contents x new) is g) t.turned;
+          turned = gathered_seat remaining contents gives k came t.seats clock clock' keeper keeper' s mid n old new fits open_there (subst (λ (x : Seat R W). Gathers remaining x new) is g) t.turned;
           tell = tell_more came t.seats n old new fits (subst (λ (x : Seat R W). TellsTurn x new) is (gathers_tell remaining contents old new is_open g)) t.tell;
           faulty = let set_one = faults_set t.seats n old new fits open_there in omega (arith, t.faulty, set_one, none);
+        }
+
+    sends_more : (slots : List (Option (Seat R W))) (came gone : List (Seat R W)) (clock' : C) (keeper' : K) (faults p : ℕ) (mid : State) (old new : Seat R W) → p < length slots → slot_at slots p ≡ Some old
+        → Sends contents old new → Now slots came gone clock' keeper' faults mid → Now (set slots p (Some new)) came gone clock' keeper' faults mid
+    sends_more slots came gone clock' keeper' faults p mid old new lt at g t =
+        let n = t.number p in
+        let one = t.ties.each p old at in
+        let fits = slice_get_within t.seats n old one in
+        let is : old ≡ get_or t.seats n old = sym (stands t.seats n old one) in
+        let there : Sends contents (get_or t.seats n old) new = subst (λ (x : Seat R W). Sends contents x new) is g in
+        record {
+          seats = set t.seats n new;
+          number = t.number;
+          ties = ties_set slots t.number t.seats gone t.ties p lt old new at;
+          turned = sent_seat remaining contents gives k came t.seats clock clock' keeper keeper' s mid n old new fits there t.turned;
+          tell = tell_sent contents came t.seats n old new fits there t.tell;
+          faulty = t.faulty ∙ sym (faults_same t.seats n old new fits there.end);
         }
 
     goes_more : (slots : List (Option (Seat R W))) (came gone : List (Seat R W)) (clock' : C) (keeper' : K) (faults p : ℕ) (mid : State) (seat : Seat R W) → p < length slots → slot_at slots p ≡ Some seat
@@ -141,6 +168,8 @@ module _ {R W : Type 0} (remaining : R → Option (List ℕ)) (contents : W → 
         (comes_more now (came ++ more) (gone ++ went) clock' keeper' faults p mid new lt free is (changes_more old now came gone more went clock' keeper' faults mid before t))
     changes_more old _ came gone _ _ clock' keeper' faults mid (crowd.gathers now more went p seat new before lt at is_open g) t =
         gathers_more now (came ++ more) (gone ++ went) clock' keeper' faults p mid seat new lt at is_open g (changes_more old now came gone more went clock' keeper' faults mid before t)
+    changes_more old _ came gone _ _ clock' keeper' faults mid (crowd.sends now more went p seat new before lt at g) t =
+        sends_more now (came ++ more) (gone ++ went) clock' keeper' faults p mid seat new lt at g (changes_more old now came gone more went clock' keeper' faults mid before t)
     changes_more old _ came gone _ _ clock' keeper' faults mid (crowd.goes now more went p seat before lt at) t =
         subst (λ l. Now (set now p None) (came ++ more) l clock' keeper' faults mid) (append_assoc gone went (seat ∷ []))
         (goes_more now (came ++ more) (gone ++ went) clock' keeper' faults p mid seat lt at (changes_more old now came gone more went clock' keeper' faults mid before t))

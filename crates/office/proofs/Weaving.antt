@@ -21,7 +21,7 @@ use Rattle.office.proofs.Endurance.{still, then_through}
 use Rattle.office.proofs.Repeats.{session_acts}
 use Rattle.office.proofs.RunSoFar.{told_more}
 use Rattle.office.proofs.RunTurns.{acts_joined, less_is_not, same_is, speaks_of}
-use Rattle.office.proofs.Sitting.{Sitting, Sits, SitsSo, IsFirst, act_of, answered, answered_sits, closed, closed_sits, first_sits, gathered, gathered_sits, open_sits, sits_by, sits_open}
+use Rattle.office.proofs.Sitting.{Sitting, Sits, SitsSo, IsFirst, act_of, answered, answered_sits, closed, closed_sits, first_sits, gathered, gathered_sits, open_sits, sent_on, sent_sits, sits_by, sits_open}
 
 -- ---- one turn more at the end
 
@@ -114,6 +114,12 @@ all_unset : (P : Sitting → Type 0) (xs : List Sitting) (p : ℕ) (d new : Sitt
 all_unset P [] p d new lt had h = absurd (omega (arith, lt))
 all_unset P (x ∷ xs) zero d new lt had h = ((had, h.1), h.0)
 all_unset P (x ∷ xs) (suc p) d new lt had h = let rest = all_unset P xs p d new (omega (arith, lt)) had h.1 in ((h.0, rest.0), rest.1)
+
+-- the same, where it holds of what was set as of what stood there
+all_as : (P : Sitting → Type 0) (xs : List Sitting) (p : ℕ) (d new : Sitting) → p < length xs → (P new → P (get_or xs p d)) → AllByRecursion P (set xs p new) → AllByRecursion P xs
+all_as P [] p d new lt so h = tt
+all_as P (x ∷ xs) zero d new lt so h = (so h.0, h.1)
+all_as P (x ∷ xs) (suc p) d new lt so h = (h.0, all_as P xs p d new (omega (arith, lt)) so h.1)
 
 all_before : (P : Sitting → Type 0) (xs : List Sitting) (x : Sitting) → AllByRecursion P (xs ++ x ∷ []) → AllByRecursion P xs
 all_before P [] x h = tt
@@ -240,19 +246,34 @@ module _ {C K : Type 0} (gives : C → ℕ → C → Type 0) (k : Ghosts K) wher
               some_is : (a b : SessionEnd) → Some a ≡ Some b → a ≡ b
               some_is a b h = cc
 
-      -- bytes of it are read ahead, or sent on
-      pub gathered_more : (left reader written : Option (List ℕ)) → Keeps x.left left → Keeps x.written written → SoFar gives k (set xs p (gathered x left reader written)) clock clock' keeper keeper' s mid
-      gathered_more left reader written keeps holds = record {
+      -- bytes of it are read ahead
+      pub gathered_more : (left reader : Option (List ℕ)) → Keeps x.left left → SoFar gives k (set xs p (gathered x left reader)) clock clock' keeper keeper' s mid
+      gathered_more left reader keeps = record {
         turns = f.turns;
         order = f.order;
         told = f.told;
-        within = same_length (length xs) (length (set xs p (gathered x left reader written))) f.turns (set_length xs p (gathered x left reader written)) f.within;
-        sit = one_changes f.turns 0 p d (gathered x left reader written) xs lt
-            (λ acts moments h. sits_open (gathered x left reader written) acts moments is_open
-            (gathered_sits x left reader written acts moments keeps holds (open_sits x acts moments is_open (subst (λ (y : Sitting). Sits y acts moments) at h)))) f.sit;
-        held = λ none. f.held (all_unset NotGivenUp xs p d (gathered x left reader written) lt (subst NotGivenUp (sym at) unmarked) none).0;
-        lasts = λ all. f.lasts (all_unset LastsAt xs p d (gathered x left reader written) lt (subst LastsAt (sym at) (inl unmarked)) all).0;
+        within = same_length (length xs) (length (set xs p (gathered x left reader))) f.turns (set_length xs p (gathered x left reader)) f.within;
+        sit = one_changes f.turns 0 p d (gathered x left reader) xs lt
+            (λ acts moments h. sits_open (gathered x left reader) acts moments is_open
+            (gathered_sits x left reader acts moments keeps (open_sits x acts moments is_open (subst (λ (y : Sitting). Sits y acts moments) at h)))) f.sit;
+        held = λ none. f.held (all_unset NotGivenUp xs p d (gathered x left reader) lt (subst NotGivenUp (sym at) unmarked) none).0;
+        lasts = λ all. f.lasts (all_unset LastsAt xs p d (gathered x left reader) lt (subst LastsAt (sym at) (inl unmarked)) all).0;
       }
+
+    -- bytes that were written to one that stands there are sent on
+    pub sent_more : (p : ℕ) (d : Sitting) (written : Option (List ℕ)) → p < length xs → Keeps (get_or xs p d).written written → SoFar gives k (set xs p (sent_on (get_or xs p d) written)) clock clock' keeper keeper' s mid
+    sent_more p d written lt holds =
+        let x = get_or xs p d in
+        let y = sent_on x written in
+        record {
+          turns = f.turns;
+          order = f.order;
+          told = f.told;
+          within = same_length (length xs) (length (set xs p y)) f.turns (set_length xs p y) f.within;
+          sit = one_changes f.turns 0 p d y xs lt (λ acts moments h. sent_sits x written acts moments holds h) f.sit;
+          held = λ none. f.held (all_as NotGivenUp xs p d y lt (λ h. h) none);
+          lasts = λ all. f.lasts (all_as LastsAt xs p d y lt (λ h. h) all);
+        }
 
     -- ---- a connection more
 

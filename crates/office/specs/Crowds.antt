@@ -8,7 +8,7 @@ use Rattle.office.specs.declared.connections.session.SessionEnd.{SessionEnd}
 use Rattle.office.specs.Connections.{TellsMoments, is_fault}
 use Rattle.office.specs.Interleaved.{Interleaved, Thread, acts_in}
 use Rattle.office.specs.Repeats.{RepeatsOnce}
-use Rattle.office.specs.Seats.{AreThreads, Gathers, IsNew, LastsOver, StaysSo, TakesTurn, TellsTurn}
+use Rattle.office.specs.Seats.{AreThreads, Gathers, IsNew, LastsOver, Sends, StaysSo, TakesTurn, TellsTurn}
 
 -- what stands in the slot at p
 abbrev pub slot_at : {X : Type 0} → List (Option X) → ℕ → Option X
@@ -26,9 +26,12 @@ pub data Changes {R W : Type 0} (remaining : R → Option (List ℕ)) (contents 
   -- a new connection comes into a slot that is free
   comes : (now : List (Option (Seat R W))) (came gone : List (Seat R W)) (p : ℕ) (new : Seat R W) → Changes remaining contents old now came gone
       → p < length now → slot_at now p ≡ None → IsNew new → Changes remaining contents old (slice_set now p (Some new)) (came ++ new ∷ []) gone
-  -- bytes of an open one are read ahead, or bytes that were written to one are sent on
+  -- bytes of an open one are read ahead
   gathers : (now : List (Option (Seat R W))) (came gone : List (Seat R W)) (p : ℕ) (seat new : Seat R W) → Changes remaining contents old now came gone
-      → p < length now → slot_at now p ≡ Some seat → seat.end ≡ None → Gathers remaining contents seat new → Changes remaining contents old (slice_set now p (Some new)) came gone
+      → p < length now → slot_at now p ≡ Some seat → seat.end ≡ None → Gathers remaining seat new → Changes remaining contents old (slice_set now p (Some new)) came gone
+  -- bytes that were written to one are sent on, whether it has ended or not
+  sends : (now : List (Option (Seat R W))) (came gone : List (Seat R W)) (p : ℕ) (seat new : Seat R W) → Changes remaining contents old now came gone
+      → p < length now → slot_at now p ≡ Some seat → Sends contents seat new → Changes remaining contents old (slice_set now p (Some new)) came gone
   -- one goes, whether it has ended or not
   goes : (now : List (Option (Seat R W))) (came gone : List (Seat R W)) (p : ℕ) (seat : Seat R W) → Changes remaining contents old now came gone
       → p < length now → slot_at now p ≡ Some seat → Changes remaining contents old (slice_set now p None) came (gone ++ seat ∷ [])

@@ -24,11 +24,19 @@ pub record IsNew {R W : Type 0} (seat : Seat R W) : Type 0 where
   pub none : seat.served ≡ 0
   pub open_still : seat.end ≡ None
 
--- Bytes of it were read ahead, or put back, or bytes that were written to it were sent on, and nothing else was done.
-pub record Gathers {R W : Type 0} (remaining : R → Option (List ℕ)) (contents : W → Option (List ℕ)) (old new : Seat R W) : Type 0 where
+-- Bytes of it were read ahead, or put back, and nothing else was done.
+pub record Gathers {R W : Type 0} (remaining : R → Option (List ℕ)) (old new : Seat R W) : Type 0 where
   pub place : stood_at new.standing ≡ stood_at old.standing
   pub keeps : Keeps (left_of remaining old) (left_of remaining new)
   pub read : new.reader.faults ≡ old.reader.faults
+  pub writer : new.writer ≡ old.writer
+  pub served : new.served ≡ old.served
+  pub end : new.end ≡ old.end
+
+-- Bytes that were written to it were sent on, whether it has ended or not, and nothing else was done.
+pub record Sends {R W : Type 0} (contents : W → Option (List ℕ)) (old new : Seat R W) : Type 0 where
+  pub standing : new.standing ≡ old.standing
+  pub reader : new.reader ≡ old.reader
   pub holds : Keeps (contents old.writer.inner) (contents new.writer.inner)
   pub written : new.writer.faults ≡ old.writer.faults
   pub served : new.served ≡ old.served

@@ -69,26 +69,26 @@ impl<R, W> Seat<R, W> {
     }
 }
 
-impl<S: Read, W: Write> Seat<Gathered<S>, W> {
+impl<S: Read, W> Seat<Gathered<S>, W> {
     ghost use Rattle.office.specs.Seats.{Gathers};
 
     /// Reads once ahead, by way of the buffer, without waiting. The error is that memory was refused; nothing was read then.
     pub fn gather(&mut self, buf: &mut [u8]) -> Result<Gathering, AllocError>
-        ensures { Gathers ⟦<Gathered<S> as Read>⟧.remaining W.contents self.old self.new }
+        ensures { Gathers ⟦<Gathered<S> as Read>⟧.remaining self.old self.new }
     {
         self.reader.inner.gather(buf)
     }
 
     /// Takes memory for so many bytes more that are read ahead. The error is that it was refused.
     pub fn make_room(&mut self, n: usize) -> Result<(), AllocError>
-        ensures { Gathers ⟦<Gathered<S> as Read>⟧.remaining W.contents self.old self.new }
+        ensures { Gathers ⟦<Gathered<S> as Read>⟧.remaining self.old self.new }
     {
         self.reader.inner.make_room(n)
     }
 
     /// From now on each read behind the bytes that are ahead fails so, unless one failed before.
     pub fn fail(&mut self, error: io::Error)
-        ensures { Gathers ⟦<Gathered<S> as Read>⟧.remaining W.contents self.old self.new }
+        ensures { Gathers ⟦<Gathered<S> as Read>⟧.remaining self.old self.new }
     {
         self.reader.inner.fail(error);
     }
@@ -96,7 +96,7 @@ impl<S: Read, W: Write> Seat<Gathered<S>, W> {
     /// Puts what its feed read and did not take back to what was read ahead, if it came from there, and hands the buffer back.
     /// Where nothing is ahead then, it lets go of the memory.
     pub fn give_back(&mut self) -> Option<Room>
-        ensures { Gathers ⟦<Gathered<S> as Read>⟧.remaining W.contents self.old self.new }
+        ensures { Gathers ⟦<Gathered<S> as Read>⟧.remaining self.old self.new }
     {
         let room = self.standing.give_back(&mut self.reader.inner);
         self.reader.inner.let_go();
@@ -104,12 +104,12 @@ impl<S: Read, W: Write> Seat<Gathered<S>, W> {
     }
 }
 
-impl<R: Read, S: Write> Seat<R, Outbox<S>> {
-    ghost use Rattle.office.specs.Seats.{Gathers};
+impl<R, S: Write> Seat<R, Outbox<S>> {
+    ghost use Rattle.office.specs.Seats.{Sends};
 
     /// Sends on once what was written and waits, without waiting for its peer.
     pub fn send(&mut self) -> Sending
-        ensures { Gathers R.remaining ⟦<Outbox<S> as Write>⟧.contents self.old self.new }
+        ensures { Sends ⟦<Outbox<S> as Write>⟧.contents self.old self.new }
     {
         self.writer.inner.send()
     }

@@ -131,8 +131,8 @@ pub fn fail_slot<S: Read, W: Write>(
     }
 }
 
-/// Sends on once what was written to the connection in the slot and waits, without waiting for its peer. Where there is none, or
-/// it has ended, nothing is sent, and it is told that all was.
+/// Sends on once what was written to the connection in the slot and waits, without waiting for its peer, whether it has ended or
+/// not. Where there is none it is told that all was sent.
 pub fn send_slot<R: Read, S: Write>(
     slots: &mut [Option<Seat<R, Outbox<S>>>],
     index: usize,
@@ -143,8 +143,5 @@ pub fn send_slot<R: Read, S: Write>(
     let Some(seat) = &mut slots[index] else {
         return Sending::Sent;
     };
-    if seat.end().is_some() {
-        return Sending::Sent;
-    }
     seat.send()
 }
