@@ -1,6 +1,6 @@
 -- Connections that come, are served in turn, and go: each has a slot while it is there.
-use Rattle.std.specs.Prelude.{◌≡◌, ◌≢◌, ◌<◌, ◌⊎◌, ℕ, Bool, false, List, [], ◌∷◌, ◌++◌, length, slice_get, slice_set, slice_index_or, Option, Some, None}
-use Rattle.std.specs.List.{AllByRecursion, count_by}
+use Rattle.std.specs.Prelude.{◌≡◌, ◌≢◌, ◌<◌, ◌⊎◌, ℕ, Bool, false, List, [], ◌∷◌, ◌++◌, ◌+◌, cond, is_some, length, slice_get, slice_set, slice_index_or, Option, Some, None}
+use Rattle.std.specs.List.{AllByRecursion, count_by, sum_by}
 use Rattle.boxes.specs.State.{State}
 use Rattle.keeper.specs.declared.keep.Keeper.{Ghosts}
 use Rattle.office.specs.declared.connections.seat.Seat.{Seat}
@@ -58,11 +58,19 @@ abbrev pub fails_now : Option SessionEnd → Option SessionEnd → Bool
 fails_now None new = is_fault_end new
 fails_now (Some e) new = false
 
+-- the slot at p has a connection that is open
+abbrev pub IsOpenAt : {R W : Type 0} → List (Option (Seat R W)) → ℕ → Type 0
+IsOpenAt {R} {W} slots p = (p < length slots) × (seat : Seat R W) × (slot_at slots p ≡ Some seat) × (seat.end ≡ None)
+
+-- how many turns a connection took: one for each message after which it went on, and the one in which it ended
+abbrev pub turns_of : {R W : Type 0} → Seat R W → ℕ
+turns_of seat = seat.served + cond (is_some seat.end) 1 0
+
 -- What becomes of a slot in a turn, and whether its connection ended by a fault in it.
 pub data TurnsSlot {C K R W : Type 0} (gives : C → ℕ → C → Type 0) (remaining : R → Option (List ℕ)) (contents : W → Option (List ℕ)) (clock clock' : C) (k : Ghosts K) (keeper keeper' : K)
     (s after : State) : Option (Seat R W) → Option (Seat R W) → Bool → Type 0 where
-  -- nothing was done: it is free, or memory was refused for the turn
-  left_out : (slot : Option (Seat R W)) → clock' ≡ clock → keeper' ≡ keeper → after ≡ s → TurnsSlot gives remaining contents clock clock' k keeper keeper' s after slot slot false
+  -- it is free, and nothing was done
+  nobody : clock' ≡ clock → keeper' ≡ keeper → after ≡ s → TurnsSlot gives remaining contents clock clock' k keeper keeper' s after None None false
   taken : (old new : Seat R W) → TakesTurn gives remaining contents old new clock clock' k keeper keeper' s after → TellsTurn old new
       → TurnsSlot gives remaining contents clock clock' k keeper keeper' s after (Some old) (Some new) (fails_now old.end new.end)
 
@@ -75,15 +83,17 @@ abbrev pub StandsIn : {X : Type 0} → X → List (Option X) → Type 0
 StandsIn x slots = (p : ℕ) × (slot_at slots p ≡ Some x)
 
 -- These connections came, as they came, and were served in turn; of them those went, as they were then, and the others stand in
--- the slots: the moments, each connection, the state after, how the keeper held up, what outlasts a crash, and how many ended by a
+-- the slots: how many turns were taken, the moments, each connection, the state after, how the keeper held up, what outlasts a crash, and how many ended by a
 -- fault; and an upload acts once over all of them.
 pub record ServesCrowd {C K R W : Type 0} (gives : C → ℕ → C → Type 0) (remaining : R → Option (List ℕ)) (contents : W → Option (List ℕ)) (came gone : List (Seat R W)) (slots : List (Option (Seat R W)))
-    (clock clock' : C) (k : Ghosts K) (keeper keeper' : K) (faults : ℕ) (s after : State) : Type 0 where
+    (clock clock' : C) (k : Ghosts K) (keeper keeper' : K) (turns faults : ℕ) (s after : State) : Type 0 where
   -- each of those that came as it was at last
   pub seats : List (Seat R W)
   pub went : AllByRecursion (λ seat. IsAmong seat seats) gone
   pub stand : (p : ℕ) (seat : Seat R W) → slot_at slots p ≡ Some seat → IsAmong seat seats
   pub no_other : (i : ℕ) (seat : Seat R W) → slice_get seats i ≡ Some seat → IsAmong seat gone ⊎ StandsIn seat slots
+  -- each turn was taken
+  pub taken : turns ≡ sum_by turns_of seats
   pub threads : List Thread
   pub moments : List ℕ
   pub told : TellsMoments gives clock moments clock'
