@@ -8,7 +8,7 @@ use Rattle.keeper.specs.declared.keep.Keeper.{Ghosts}
 use Rattle.boxes.specs.State.{State}
 use Rattle.office.specs.Connections.{Serves, TellsMoments}
 use Rattle.office.specs.Crashes.{LastsThrough, never_changed}
-use Rattle.office.specs.Interleaved.{AreSpoken, Interleaved, Speaks, Thread, Turn, acts_in, moments_in, own_acts, own_moments}
+use Rattle.office.specs.Interleaved.{AreSpoken, AreTied, Interleaved, Speaks, Thread, Turn, acts_in, moments_in, own_acts, own_moments}
 use Rattle.office.specs.Interleaved as said
 use Rattle.office.specs.Premise.{HoldsUp}
 use Rattle.office.specs.Repeats.{Act, Acts}
@@ -20,7 +20,7 @@ use Rattle.office.specs.declared.connections.session.SessionEnd.TheVariants.{Rea
 use Rattle.office.proofs.Endurance.{still, then_through}
 use Rattle.office.proofs.Repeats.{session_acts}
 use Rattle.office.proofs.RunSoFar.{told_more}
-use Rattle.office.proofs.RunTurns.{acts_joined, less_is_not, same_is, speaks_of}
+use Rattle.office.proofs.RunTurns.{acts_joined, less_is_not, same_is, speaks_of, tied_of}
 use Rattle.office.proofs.Sitting.{Sitting, Sits, SitsSo, IsFirst, act_of, answered, answered_sits, closed, closed_sits, first_sits, gathered, gathered_sits, open_sits, sent_on, sent_sits, sits_by, sits_open}
 
 -- ---- one turn more at the end
@@ -59,6 +59,10 @@ own_other turns t i is = (
 within_more : (n : ℕ) (turns : List Turn) (t : Turn) → AllByRecursion (λ u. u.which < n) turns → t.which < n → AllByRecursion (λ u. u.which < n) (turns ++ t ∷ [])
 within_more n [] t h lt = (lt, tt)
 within_more n (u ∷ turns) t h lt = (h.0, within_more n turns t h.1 lt)
+
+tied_more : (turns : List Turn) (t : Turn) → AllByRecursion (λ u. AreTied u.moments u.acts) turns → AreTied t.moments t.acts → AllByRecursion (λ u. AreTied u.moments u.acts) (turns ++ t ∷ [])
+tied_more [] t h one = (one, tt)
+tied_more (u ∷ turns) t h one = (h.0, tied_more turns t h.1 one)
 
 -- ---- the connections
 
@@ -137,6 +141,7 @@ pub record SoFar {C K : Type 0} (gives : C → ℕ → C → Type 0) (k : Ghosts
   pub turns : List Turn
   pub order : Acts s (acts_in turns) mid
   pub told : TellsMoments gives clock (moments_in turns) clock'
+  pub tied : AllByRecursion (λ t. AreTied t.moments t.acts) turns
   pub within : AllByRecursion (λ t. t.which < length sittings) turns
   pub sit : AllSit turns 0 sittings
   pub held : AllByRecursion NotGivenUp sittings → HoldsUp k false keeper keeper'
@@ -159,6 +164,7 @@ module _ {C K : Type 0} (gives : C → ℕ → C → Type 0) (k : Ghosts K) wher
     pub told : TellsMoments gives clock moments clock'
     pub by_rules : Acts mid acts after
     pub moves : (before : List Act) (earlier : List ℕ) → Sits x before earlier → Sits new (before ++ acts) (earlier ++ moments)
+    pub tied : AreTied moments acts
     pub marked : x.gave_up ≡ false
     pub held : new.gave_up ≡ false → HoldsUp k false keeper keeper'
     pub lasts : LastsAt new → LastsThrough k keeper keeper' mid after
@@ -175,6 +181,7 @@ module _ {C K : Type 0} (gives : C → ℕ → C → Type 0) (k : Ghosts K) wher
         turns = f.turns ++ u ∷ [];
         order = subst (λ x. Acts s x after) (sym (acts_more f.turns u)) (acts_joined s mid after (acts_in f.turns) t.acts f.order t.by_rules);
         told = subst (λ x. TellsMoments gives clock x clock'') (sym (moments_more f.turns u)) (told_more gives clock clock' clock'' (moments_in f.turns) t.moments f.told t.told);
+        tied = tied_more f.turns u f.tied t.tied;
         within = same_length (length xs) (length (set xs p new)) (f.turns ++ u ∷ []) (set_length xs p new) (within_more (length xs) f.turns u f.within lt);
         sit = one_turns f.turns u 0 p d new xs (omega arith) lt t.moves f.sit;
         held = λ none. let both = all_unset NotGivenUp xs p d new lt t.marked none in holds_both keeper keeper' keeper'' (f.held both.0) (t.held both.1);
@@ -187,6 +194,7 @@ module _ {C K : Type 0} (gives : C → ℕ → C → Type 0) (k : Ghosts K) wher
     turns = [];
     order = refl;
     told = refl;
+    tied = tt;
     within = tt;
     sit = all_first 0 xs first;
     held = λ _. (refl, λ was. was);
@@ -211,6 +219,7 @@ module _ {C K : Type 0} (gives : C → ℕ → C → Type 0) (k : Ghosts K) wher
             acts = act_of x left reader written clock' clock'' keeper' keeper'' mid after g ∷ [];
             moments = g.moment ∷ [];
             told = (clock'', g.told, refl);
+            tied = inl refl;
             by_rules = (refl, g.answers.replies, refl);
             moves = λ before earlier h. sits_open (answered x left reader written) _ _ is_open
                 (answered_sits x left reader written clock' clock'' keeper' keeper'' mid after g before earlier few (open_sits x before earlier is_open h));
@@ -231,6 +240,7 @@ module _ {C K : Type 0} (gives : C → ℕ → C → Type 0) (k : Ghosts K) wher
             acts = y.acts;
             moments = v.moments;
             told = v.told;
+            tied = tied_of n v.stream y.acts v.moments v.answers (Some e) v.gave_up (speaks_of n v.stream mid v.moments v.answers e v.gave_up y.acts after y.are);
             by_rules = y.by_rules;
             moves = λ before earlier h. closed_sits x left reader written e v.gave_up n v.stream v.answers y.acts v.moments before earlier sum v.read v.written
                 (speaks_of n v.stream mid v.moments v.answers e v.gave_up y.acts after y.are) (open_sits x before earlier is_open h);
@@ -252,6 +262,7 @@ module _ {C K : Type 0} (gives : C → ℕ → C → Type 0) (k : Ghosts K) wher
         turns = f.turns;
         order = f.order;
         told = f.told;
+        tied = f.tied;
         within = same_length (length xs) (length (set xs p (gathered x left reader))) f.turns (set_length xs p (gathered x left reader)) f.within;
         sit = one_changes f.turns 0 p d (gathered x left reader) xs lt
             (λ acts moments h. sits_open (gathered x left reader) acts moments is_open
@@ -269,6 +280,7 @@ module _ {C K : Type 0} (gives : C → ℕ → C → Type 0) (k : Ghosts K) wher
           turns = f.turns;
           order = f.order;
           told = f.told;
+          tied = f.tied;
           within = same_length (length xs) (length (set xs p y)) f.turns (set_length xs p y) f.within;
           sit = one_changes f.turns 0 p d y xs lt (λ acts moments h. sent_sits x written acts moments holds h) f.sit;
           held = λ none. f.held (all_as NotGivenUp xs p d y lt (λ h. h) none);
@@ -307,6 +319,7 @@ module _ {C K : Type 0} (gives : C → ℕ → C → Type 0) (k : Ghosts K) wher
       turns = f.turns;
       order = f.order;
       told = f.told;
+      tied = f.tied;
       within = within_longer (length xs) (length (xs ++ x ∷ [])) f.turns (longer xs x) f.within;
       sit = sit_opens f.turns 0 (length xs) x xs (omega arith) f.within new f.sit;
       held = λ none. f.held (all_before NotGivenUp xs x none);
@@ -395,7 +408,7 @@ finishes gives k xs clock clock' keeper keeper' s mid f =
       are = x.are;
       many = x.many;
       told = f.told;
-      run = record { turns = f.turns; order = f.order; told = refl; within = same_length (length xs) (length x.threads) f.turns (sym x.many) f.within; each = x.spoken };
+      run = record { turns = f.turns; order = f.order; told = refl; tied = f.tied; within = same_length (length xs) (length x.threads) f.turns (sym x.many) f.within; each = x.spoken };
     }
 
 -- ---- what holds of all threads held of all connections
