@@ -24,7 +24,7 @@ use Rattle.office.specs.declared.connections.session.SessionEnd.{SessionEnd}
 use Rattle.office.proofs.Repeats.{repeats_once}
 use Rattle.office.proofs.RunSoFar.{MeansOne}
 use Rattle.office.proofs.Sitting.{IsFirst, Sitting, answered, closed, gathered, sent_on}
-use Rattle.office.proofs.Weaving.{AreThreadsOf, IsThreadOf, SoFar, all_last, answered_more, closed_more, finishes, gathered_more, none_gave_up, opens, sent_more}
+use Rattle.office.proofs.Weaving.{AreThreadsOf, IsThreadOf, SoFar, all_last, answered_more, closed_more, finishes, gathered_more, none_gave_up, opens, sent_more, threads_rose}
 
 -- ---- where a message may begin
 
@@ -345,6 +345,7 @@ module _ {R W : Type 0} (remaining : R → Option (List ℕ)) (contents : W → 
           repeats = repeats_once s (acts_in w.run.turns) mid w.run.order;
           stays = record {
             counted = λ none. (t.so_far.held (none_gave_up t.sittings w.threads w.are none)).0;
+            rose = threads_rose (k.faults keeper) (k.faults keeper') t.sittings w.threads w.are t.so_far.rose;
             opened = λ none was.
                 let now = (t.so_far.held (none_gave_up t.sittings w.threads w.are none)).1 was in
                 (now, λ u means. one u mid now means left.means);

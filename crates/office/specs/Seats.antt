@@ -1,7 +1,8 @@
 -- Connections that are served in turn, as they were and as they are.
-use Rattle.std.specs.Prelude.{◌≡◌, ◌+◌, ◌⊎◌, ℕ, Bool, false, List, [], ◌∷◌, Option, Some, None, ⊤}
+use Rattle.std.specs.Prelude.{◌≡◌, ◌+◌, ◌⊎◌, ℕ, Bool, true, false, List, [], ◌∷◌, Option, Some, None, ⊤}
 use Rattle.std.specs.Io.KnownBytes.{Appends, Consumes, Keeps, prepend_known}
 use Rattle.std.specs.List.{AllByRecursion}
+use Rattle.sigtext.specs.Counts.{Rose}
 use Rattle.boxes.specs.State.{State}
 use Rattle.keeper.specs.declared.keep.Keeper.{Ghosts}
 use Rattle.wire.specs.Feeds.{ahead_of, stood_at}
@@ -82,9 +83,11 @@ AreThreads remaining contents olds news cs = ⊥
 abbrev pub NoThreadGaveUp : List Thread → Type 0
 NoThreadGaveUp threads = AllByRecursion (λ c. c.gave_up ≡ false) threads
 
--- where no connection gave up, the keeper's count stays, and one that was open is open and means this state and no other
+-- Where no connection gave up, the keeper's count stays, and one that was open is open and means this state and no other. Where one
+-- gave up at a failed read, the count rose.
 pub record StaysSo {K : Type 0} (k : Ghosts K) (threads : List Thread) (keeper keeper' : K) (after : State) : Type 0 where
   pub counted : NoThreadGaveUp threads → k.faults keeper' ≡ k.faults keeper
+  pub rose : AllByRecursion (λ c. c.gave_up ≡ true → c.end ≡ Some ReadFault → Rose (k.faults keeper) (k.faults keeper')) threads
   pub opened : NoThreadGaveUp threads → k.is_open keeper → k.is_open keeper' × ((t : State) → k.means keeper' t → t ≡ after)
 
 -- where nothing was given up but at a failed read, the state after outlasts a crash
