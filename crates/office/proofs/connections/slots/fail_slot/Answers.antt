@@ -14,7 +14,7 @@ pub returns-then-is_none : goal.returns-then-is_none
 returns-then-is_none g c =
     let is_open : is_some c.in-Some.seat.end ≡ false = sym (ap is_some c.end.ensures) ∙ unsome (is_some c.end.result) c.is_none.result c.is_none.ensures c.if-is_none.true in
     by_gathers _ _ c.args.slots.now c.args.index c.index-slots-index.result c.in-Some.seat c.fail.new.self c.requires c.in-Some.is
-    (none_of c.in-Some.seat.end is_open) c.fail.ensures
+    (none_of c.in-Some.seat.end is_open) c.fail.ensures.gathers
 
 pub returns-else-is_none : goal.returns-else-is_none
 returns-else-is_none g c = by_kept _ _ c.args.slots.now c.args.index c.index-slots-index.result _ (sym c.in-Some.is)

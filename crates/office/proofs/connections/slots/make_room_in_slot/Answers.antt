@@ -12,4 +12,4 @@ returns-then-is_some g c = by_kept _ _ c.args.slots.now c.args.index c.index-slo
 
 pub returns : goal.returns
 returns g c = by_gathers _ _ c.args.slots.now c.args.index c.index-slots-index.result c.in-Some.seat c.make_room.new.self c.requires c.in-Some.is
-    (none_of c.in-Some.seat.end (sym (c.is_some.ensures ∙ ap is_some c.end.ensures) ∙ c.if-is_some.false)) c.make_room.ensures
+    (none_of c.in-Some.seat.end (sym (c.is_some.ensures ∙ ap is_some c.end.ensures) ∙ c.if-is_some.false)) c.make_room.ensures.gathers

@@ -6,4 +6,4 @@ pub returns-in_default : goal.returns-in_default
 returns-in_default g c = by_kept _ _ c.args.slots.now c.args.index c.index-slots-index.result _ refl
 
 pub returns : goal.returns
-returns g c = by_sends _ _ c.args.slots.now c.args.index c.index-slots-index.result c.in-Some.seat c.send.new.self c.requires c.in-Some.is c.send.ensures
+returns g c = by_sends _ _ c.args.slots.now c.args.index c.index-slots-index.result c.in-Some.seat c.send.new.self c.requires c.in-Some.is c.send.ensures.sends
