@@ -230,7 +230,7 @@ module _ {R W : Type 0} (remaining : R → Option (List ℕ)) (contents : W → 
           so_far = answered_more gives k t.sittings clock clock' keeper keeper' s mid t.so_far p dx z at.within at.is was_open
               (left_of remaining new) (remaining new.reader.inner) (contents new.writer.inner) clock'' keeper'' after (subst (λ n. n ≤ most_messages) served new.few) goes;
         }
-    turns_more (ended n e was_open is served sum serves) t =
+    turns_more (ended n e was_open is served sum serves few) t =
         let dx = sitting_of d d false in
         let at = stands_there fs ns t.sittings p d dx lt t.are in
         let old = get_or ns p d in
