@@ -9,12 +9,14 @@ pub mod office;
 pub mod requests;
 
 pub use clocks::{Clock, FixedClock, ListedClock};
-pub use connections::crowding::Crowd;
+pub use connections::crowding::{Crowd, Served};
 pub use connections::replay::{Replayed, replay_bytes, replay_in_memory, replay_over};
 pub use connections::seat::Seat;
 pub use connections::serving::serve;
 pub use connections::session::SessionEnd;
-pub use connections::slots::{free_slot, gather_slot, open_slot, settle_slot};
+pub use connections::slots::{
+    fail_slot, free_slot, gather_slot, open_slot, reserve_slot, send_slot, settle_slot,
+};
 pub use connections::turning::Pick;
 pub use laws::{law_of_acts, law_of_alike, law_of_replies, law_of_turns};
 pub use machine_clock::MachineClock;

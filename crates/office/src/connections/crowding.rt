@@ -25,6 +25,15 @@ pub trait Crowd<R: Read, W> {
         ensures within { IfSome result (λ index. index < length slots.new) };
 }
 
+/// What came of a crowd.
+#[derive(Clone, Copy, Debug, PartialEq, Eq)]
+pub struct Served {
+    /// How many connections ended by a read or a write that failed.
+    pub faulty: u64,
+    /// Whether no turn was to be taken any more. It is false only after `u64::MAX` turns.
+    pub is_over: bool,
+}
+
 // What a turn left beside a slot.
 #[derive(Drop)]
 struct Turned {
@@ -94,7 +103,7 @@ impl<K: Keeper> Office<K> {
         crowd: &mut G,
         slots: &mut [Option<Seat<R, W>>],
         clock: &mut C,
-    ) -> u64
+    ) -> Served
         requires { (p : ℕ) → slot_at slots.old p ≡ None }
         ensures serves { (n : ℕ) × (G.came crowd.new ≡ G.came crowd.old + n)
             × ((s : State) → WasKept K.Keeper self.old.keeper self.new.keeper s
@@ -109,7 +118,10 @@ impl<K: Keeper> Office<K> {
         let mut faulty = 0;
         'turns: for _ in 0..u64::MAX {
             let Some(index) = crowd.next(slots, &mut spare) else {
-                return faulty;
+                return Served {
+                    faulty,
+                    is_over: true,
+                };
             };
             let turned = self.turn_slot(&mut slots[index], spare, clock);
             spare = turned.spare;
@@ -117,6 +129,9 @@ impl<K: Keeper> Office<K> {
                 faulty += 1;
             }
         }
-        faulty
+        Served {
+            faulty,
+            is_over: false,
+        }
     }
 }

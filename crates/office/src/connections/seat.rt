@@ -16,6 +16,8 @@ pub struct Seat<R, W> {
     pub reader: Counted<R>,
     /// Its writer.
     pub writer: Counted<W>,
+    // How many connections came before it.
+    pub(crate) number: u64,
     pub(crate) standing: Standing,
     pub(crate) served: u64,
     pub(crate) end: Option<SessionEnd>,
@@ -29,8 +31,8 @@ impl<R, W> Seat<R, W> {
     ghost use Rattle.wire.specs.Feeds.{ahead_of};
     ghost use Rattle.office.specs.Seats.{IsNew};
 
-    /// A connection of which nothing was read. It takes no memory.
-    pub fn new(alloc: Global, reader: R, writer: W) -> Seat<R, W>
+    /// A connection of which nothing was read, and how many came before it. It takes no memory.
+    pub fn new(alloc: Global, number: u64, reader: R, writer: W) -> Seat<R, W>
         ensures new { IsNew result }
         ensures place { stood_at result.standing ≡ stands.Fresh }
         ensures ahead { ahead_of result.standing ≡ [] }
@@ -40,6 +42,7 @@ impl<R, W> Seat<R, W> {
         Seat {
             reader: Counted::new(reader),
             writer: Counted::new(writer),
+            number,
             standing: Standing::new(alloc),
             served: 0,
             end: None,

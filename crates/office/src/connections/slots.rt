@@ -5,8 +5,9 @@ ghost use Rattle.office.specs.Seats.{IsNew};
 
 use super::seat::Seat;
 use std::alloc::AllocError;
-use std::io::Read;
-use wire::{Gathered, Gathering, Room};
+use std::io;
+use std::io::{Read, Write};
+use wire::{Gathered, Gathering, Outbox, Room, Sending};
 
 // The index of the first slot that is free.
 fn first_free<R, W>(slots: &[Option<Seat<R, W>>]) -> Option<usize>
@@ -84,4 +85,51 @@ pub fn settle_slot<S: Read, W>(
         return None;
     }
     seat.give_back()
+}
+
+/// Takes memory for so many bytes more to be read ahead of the connection in the slot, if there is one. The error is that it was
+/// refused.
+pub fn reserve_slot<S: Read, W>(
+    slots: &mut [Option<Seat<Gathered<S>, W>>],
+    index: usize,
+    n: usize,
+) -> Result<(), AllocError>
+    requires { index < length slots.old }
+    ensures { (i : ℕ)
+        → ChangesBy ⟦<Gathered<S> as Read>⟧.remaining i i slots.old slots.new }
+{
+    match &mut slots[index] {
+        Some(seat) => seat.reader.inner.make_room(n),
+        None => Ok(()),
+    }
+}
+
+/// From now on the reader of the connection in the slot, if there is one, fails so behind the bytes that are ahead.
+pub fn fail_slot<S: Read, W>(
+    slots: &mut [Option<Seat<Gathered<S>, W>>],
+    index: usize,
+    error: io::Error,
+)
+    requires { index < length slots.old }
+    ensures { (i : ℕ)
+        → ChangesBy ⟦<Gathered<S> as Read>⟧.remaining i i slots.old slots.new }
+{
+    if let Some(seat) = &mut slots[index] {
+        seat.reader.inner.fail(error);
+    }
+}
+
+/// Sends once what waits in the outbox of the connection in the slot. Where there is none, all was sent.
+pub fn send_slot<S: Read, W: Write>(
+    slots: &mut [Option<Seat<Gathered<S>, Outbox<W>>>],
+    index: usize,
+) -> Sending
+    requires { index < length slots.old }
+    ensures { (i : ℕ)
+        → ChangesBy ⟦<Gathered<S> as Read>⟧.remaining i i slots.old slots.new }
+{
+    match &mut slots[index] {
+        Some(seat) => seat.writer.inner.send(),
+        None => Sending::Sent,
+    }
 }

@@ -1,0 +1,80 @@
+//! Connections that come.
+use crate::door::Call;
+use crate::peer::{Peer, Phase};
+use crate::sockets::{Held, Sockets};
+use mio::unix::SourceFd;
+use mio::{Interest, Token};
+use office::{Seat, open_slot};
+use std::io;
+use std::io::ErrorKind;
+use std::net::TcpStream;
+use std::os::fd::{AsRawFd, RawFd};
+use std::time;
+use wire::{Gathered, Outbox};
+
+/// How many connections are accepted in a round.
+const MOST_ACCEPTS: usize = 64;
+
+impl<R: time::Clock> Sockets<'_, R> {
+    /// Accepts what comes, as long as there are slots.
+    pub(crate) fn accept_all(&mut self, slots: &mut [Option<Held>]) {
+        'accepts: for _ in 0..MOST_ACCEPTS {
+            match self.door.call(self.now) {
+                Call::Came(stream) => {
+                    if !self.make_slot(slots) {
+                        self.door.keep(stream);
+                        return;
+                    }
+                    self.let_in(slots, stream);
+                }
+                Call::Refused => {}
+                Call::None => return,
+            }
+        }
+    }
+
+    // Has a slot free, and lets go of a silent connection where there is none. Whether one is free.
+    fn make_slot(&mut self, slots: &mut [Option<Held>]) -> bool {
+        if self.taken >= self.peers.len() {
+            if let Some(index) = self.most_silent() {
+                self.release(slots, index);
+            }
+        }
+        self.taken < self.peers.len()
+    }
+
+    // Puts a connection into a free slot.
+    fn let_in(&mut self, slots: &mut [Option<Held>], stream: TcpStream) {
+        let Ok((fd, seat)) = self.set_up(stream) else {
+            self.door.turn_away();
+            return;
+        };
+        let Ok(index) = open_slot(slots, seat) else {
+            self.door.turn_away();
+            return;
+        };
+        self.came = self.came.saturating_add(1);
+        self.taken = self.taken.saturating_add(1);
+        if let Some(peer) = self.peers.get_mut(index) {
+            *peer = Peer::free(self.now);
+            peer.phase = Phase::Silent;
+        }
+        let registered =
+            self.poll
+                .registry()
+                .register(&mut SourceFd(&fd), Token(index), Interest::READABLE);
+        if registered.is_err() {
+            self.give_up(slots, index, ErrorKind::Other);
+        }
+    }
+
+    // A connection whose reads and writes do not wait, and whose answers go out at once.
+    fn set_up(&self, stream: TcpStream) -> io::Result<(RawFd, Held)> {
+        stream.set_nonblocking(true)?;
+        stream.set_nodelay(true)?;
+        let writer = Outbox::new(self.alloc, stream.try_clone()?);
+        let fd = stream.as_raw_fd();
+        let reader = Gathered::new(self.alloc, stream);
+        Ok((fd, Seat::new(self.alloc, self.came, reader, writer)))
+    }
+}

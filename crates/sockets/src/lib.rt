@@ -1,0 +1,16 @@
+//! The sockets of a listener's peers around an office: one loop over all of them, in which no peer holds the others.
+#![tactic(auto)]
+
+mod accepting;
+mod bounds;
+mod door;
+mod leaving;
+mod peer;
+mod reading;
+mod rooms;
+mod rounds;
+mod sending;
+mod serving;
+mod sockets;
+
+pub use serving::{Limits, Outcome, serve};

@@ -1,0 +1,91 @@
+//! Answers that wait until their peers take them.
+use crate::peer::Phase;
+use crate::sockets::{Held, Sockets, seat_at, waiting_len};
+use mio::unix::SourceFd;
+use mio::{Interest, Token};
+use office::send_slot;
+use std::io;
+use std::io::ErrorKind;
+use std::net::Shutdown;
+use std::os::fd::AsRawFd;
+use std::time;
+use wire::Sending;
+
+impl<R: time::Clock> Sockets<'_, R> {
+    /// Sends what waits. Once all was sent, the connection goes on.
+    pub(crate) fn send(&mut self, slots: &mut [Option<Held>], index: usize) {
+        if index >= slots.len() {
+            return;
+        }
+        match send_slot(slots, index) {
+            Sending::Sent => self.go_on(slots, index),
+            Sending::Waits => self.hold(slots, index),
+            Sending::Failed => self.give_up(slots, index, ErrorKind::BrokenPipe),
+        }
+    }
+
+    // An answer waits: it is sent on when the peer has taken some of it.
+    fn hold(&mut self, slots: &mut [Option<Held>], index: usize) {
+        let waiting = waiting_len(slots, index);
+        match self.phase(index) {
+            Phase::Answer { mark } if waiting >= mark => {}
+            Phase::Answer { .. } => self.enter(index, Phase::Answer { mark: waiting }),
+            _ => {
+                self.enter(index, Phase::Answer { mark: waiting });
+                if self.watch(slots, index, true).is_err() {
+                    self.cut(slots, index);
+                }
+            }
+        }
+    }
+
+    // No answer waits any more: the next message is read, or the connection is left.
+    fn go_on(&mut self, slots: &mut [Option<Held>], index: usize) {
+        if matches!(self.phase(index), Phase::Answer { .. }) {
+            if self.watch(slots, index, false).is_err() {
+                self.give_up(slots, index, ErrorKind::Other);
+                return;
+            }
+            self.enter(index, Phase::Silent);
+        }
+        let end = match seat_at(slots, index) {
+            Some(seat) => seat.end(),
+            None => return,
+        };
+        match end {
+            None => {
+                self.judge(slots, index);
+                self.read(slots, index);
+            }
+            Some(end) if end.is_fault() => self.release(slots, index),
+            Some(_) => self.leave(slots, index),
+        }
+    }
+
+    // Has the socket tell what can be read, and, if answers wait, whether it takes more.
+    fn watch(&self, slots: &[Option<Held>], index: usize, is_waiting: bool) -> io::Result<()> {
+        let Some(seat) = seat_at(slots, index) else {
+            return Ok(());
+        };
+        let fd = seat.reader.inner.inner.as_raw_fd();
+        let interests = if is_waiting {
+            Interest::READABLE | Interest::WRITABLE
+        } else {
+            Interest::READABLE
+        };
+        self.poll
+            .registry()
+            .reregister(&mut SourceFd(&fd), Token(index), interests)
+    }
+
+    /// Cuts a connection whose peer takes no answer: from now on its writes fail, and its reads behind what is ahead.
+    pub(crate) fn cut(&mut self, slots: &mut [Option<Held>], index: usize) {
+        if let Some(seat) = seat_at(slots, index) {
+            let _ = seat.reader.inner.inner.shutdown(Shutdown::Both);
+        }
+        if index < slots.len() {
+            let _ = send_slot(slots, index);
+        }
+        self.give_up(slots, index, ErrorKind::TimedOut);
+    }
+}
