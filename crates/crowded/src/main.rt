@@ -1,4 +1,5 @@
-//! An office in memory, served to many sockets in turn: `crowded PORT CONNECTIONS PATIENCE OPEN`.
+//! An office in memory, served to many sockets in turn: `crowded PORT CONNECTIONS PATIENCE OPEN`; where OPEN is 0, to one
+//! after another.
 #![tactic(auto)]
 
 use boxes::OfficeRow;
@@ -47,6 +48,17 @@ fn main(rt: HostRuntime) -> io::Result<()> {
     let mut clock = MachineClock::new(&rt);
     let listener = TcpListener::bind(&rt, SocketAddr::from((Ipv4Addr::LOCALHOST, port)))?;
     println!(rt; "listening on 127.0.0.1:{port}")?;
+    if limits.open == 0 {
+        let failed = office::serve(
+            &mut office,
+            &listener,
+            limits.connections,
+            patience,
+            &mut clock,
+        );
+        println!(rt; "faulty {failed}")?;
+        return Ok(());
+    }
     let outcome = serve(&rt, &mut office, &listener, limits, &mut clock)?;
     println!(rt; "came {} refused {} faulty {}", outcome.came, outcome.refused, outcome.faulty)?;
     Ok(())

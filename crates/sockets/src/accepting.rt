@@ -45,14 +45,26 @@ impl<R: time::Clock> Sockets<'_, R> {
 
     // Puts a connection into a free slot.
     fn let_in(&mut self, slots: &mut [Option<Held>], stream: TcpStream) {
-        let Ok((fd, seat)) = self.set_up(stream) else {
-            self.door.turn_away();
-            return;
+        let writer = match second_end(&stream) {
+            Ok(writer) => writer,
+            Err(error) => {
+                self.door.put_off(stream, error, self.now);
+                return;
+            }
         };
+        let fd = stream.as_raw_fd();
+        let reader = Gathered::new(self.alloc, stream);
+        let writer = Outbox::new(self.alloc, writer);
+        let seat = Seat::new(self.alloc, self.came, reader, writer);
         let Ok(index) = open_slot(slots, seat) else {
             self.door.turn_away();
             return;
         };
+        self.welcome(slots, index, fd);
+    }
+
+    // A connection has come into the slot.
+    fn welcome(&mut self, slots: &mut [Option<Held>], index: usize, fd: RawFd) {
         self.came = self.came.saturating_add(1);
         self.taken = self.taken.saturating_add(1);
         if let Some(peer) = self.peers.get_mut(index) {
@@ -67,14 +79,11 @@ impl<R: time::Clock> Sockets<'_, R> {
             self.give_up(slots, index, ErrorKind::Other);
         }
     }
+}
 
-    // A connection whose reads and writes do not wait, and whose answers go out at once.
-    fn set_up(&self, stream: TcpStream) -> io::Result<(RawFd, Held)> {
-        stream.set_nonblocking(true)?;
-        stream.set_nodelay(true)?;
-        let writer = Outbox::new(self.alloc, stream.try_clone()?);
-        let fd = stream.as_raw_fd();
-        let reader = Gathered::new(self.alloc, stream);
-        Ok((fd, Seat::new(self.alloc, self.came, reader, writer)))
-    }
+// The stream once more, for its answers. From now on its reads and writes do not wait, and its answers go out at once.
+fn second_end(stream: &TcpStream) -> io::Result<TcpStream> {
+    stream.set_nonblocking(true)?;
+    stream.set_nodelay(true)?;
+    stream.try_clone()
 }

@@ -1,12 +1,12 @@
 //! What lasts too long, and which connection is let go for a new one.
-use crate::peer::Phase;
-use crate::sockets::{Held, Sockets};
+use crate::peer::{Peer, Phase};
+use crate::sockets::{Held, LOOK_MILLIS, Sockets, waiting_len};
 use std::io::ErrorKind;
 use std::time;
 use std::time::{Duration, Instant};
 
-/// How many milliseconds pass between two looks.
-const LOOK_MILLIS: u64 = 100;
+/// How many bytes of answers may wait together before one is cut off.
+const MOST_WAITING: usize = 268_435_456;
 
 impl<R: time::Clock> Sockets<'_, R> {
     /// Looks for connections that are over their bound, if the last look is some time ago.
@@ -38,9 +38,14 @@ impl<R: time::Clock> Sockets<'_, R> {
 
     /// The connection that is silent longest between two messages, if one is.
     pub(crate) fn most_silent(&self) -> Option<usize> {
+        self.oldest(|peer| peer.phase == Phase::Silent && !peer.is_ready)
+    }
+
+    // The one whose phase lasts longest, of those that are meant.
+    fn oldest<F: Fn(&Peer) -> bool>(&self, is_meant: F) -> Option<usize> {
         let mut found: Option<(usize, Instant)> = None;
         'slots: for (index, peer) in self.peers.iter().enumerate() {
-            if peer.phase != Phase::Silent || peer.is_ready {
+            if !is_meant(peer) {
                 continue;
             }
             match found {
@@ -50,5 +55,19 @@ impl<R: time::Clock> Sockets<'_, R> {
         }
         let (index, _) = found?;
         Some(index)
+    }
+
+    /// Where more answers wait than there is memory for, the one of which nothing was taken for longest is cut off.
+    pub(crate) fn shed(&mut self, slots: &mut [Option<Held>]) {
+        let mut waiting: usize = 0;
+        'slots: for index in 0..slots.len() {
+            waiting = waiting.saturating_add(waiting_len(slots, index));
+        }
+        if waiting <= MOST_WAITING {
+            return;
+        }
+        if let Some(index) = self.oldest(|peer| matches!(peer.phase, Phase::Answer { .. })) {
+            self.cut(slots, index);
+        }
     }
 }

@@ -86,6 +86,9 @@ impl<'a> Door<'a> {
 
     /// The next one, which may be the one that was kept.
     pub(crate) fn call(&mut self, now: Instant) -> Call {
+        if self.paused.is_some() {
+            return Call::None;
+        }
         if let Some(stream) = self.kept.take() {
             return Call::Came(stream);
         }
@@ -106,6 +109,17 @@ impl<'a> Door<'a> {
         self.kept = Some(stream);
     }
 
+    /// One that was accepted could not be set up for this error: it is kept for later where the error is a want that may end,
+    /// and else counted as refused.
+    pub(crate) fn put_off(&mut self, stream: TcpStream, error: io::Error, now: Instant) {
+        if is_want(error) {
+            self.kept = Some(stream);
+            self.paused = Some(now);
+        } else {
+            self.turn_away();
+        }
+    }
+
     /// One that was accepted could not be set up.
     pub(crate) fn turn_away(&mut self) {
         self.refused = self.refused.saturating_add(1);
@@ -117,18 +131,18 @@ impl<'a> Door<'a> {
             self.is_ready = false;
             return Call::None;
         }
-        if is_want(&error) {
+        if is_want(error) {
             self.paused = Some(now);
             return Call::None;
         }
         self.to_come = self.to_come.saturating_sub(1);
-        self.refused = self.refused.saturating_add(1);
+        self.turn_away();
         Call::Refused
     }
 }
 
 // Whether it tells a want that may end.
-fn is_want(error: &io::Error) -> bool {
+fn is_want(error: io::Error) -> bool {
     match error.raw_os_error() {
         Some(number) => WANTS.contains(&number),
         None => false,

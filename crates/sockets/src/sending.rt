@@ -35,6 +35,7 @@ impl<R: time::Clock> Sockets<'_, R> {
                 if self.watch(slots, index, true).is_err() {
                     self.cut(slots, index);
                 }
+                self.shed(slots);
             }
         }
     }

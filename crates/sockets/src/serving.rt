@@ -14,7 +14,7 @@ pub struct Limits {
     pub connections: u64,
     /// How long a peer may keep one waiting; without it there is no bound.
     pub patience: Option<Duration>,
-    /// How many may be open at a time. Each takes two descriptors.
+    /// How many may be open at a time, 1 at the least. Each takes two descriptors.
     pub open: usize,
 }
 
@@ -42,9 +42,10 @@ pub fn serve<K: Keeper, C: Clock, R: Net + time::Clock>(
     limits: Limits,
     clock: &mut C,
 ) -> io::Result<Outcome> {
-    let mut sockets = Sockets::new(rt, office.alloc, listener, limits)?;
-    let mut slots: Vec<Option<Held>> = Vec::with_capacity(office.alloc, limits.open)?;
-    'slots: for _ in 0..limits.open {
+    let open = limits.open.max(1);
+    let mut sockets = Sockets::new(rt, office.alloc, listener, Limits { open, ..limits })?;
+    let mut slots: Vec<Option<Held>> = Vec::with_capacity(office.alloc, open)?;
+    'slots: for _ in 0..open {
         slots.push(None)?;
     }
     let served = office.serve_crowd(&mut sockets, &mut slots, clock);

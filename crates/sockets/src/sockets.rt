@@ -29,7 +29,7 @@ const MOST_EVENTS: usize = 256;
 pub(crate) const MOST_READ: usize = 65_536;
 
 /// How many milliseconds pass between two looks for what lasts too long.
-const LOOK_MILLIS: u64 = 100;
+pub(crate) const LOOK_MILLIS: u64 = 100;
 
 /// A connection in its slot.
 pub(crate) type Held = Seat<Gathered<TcpStream>, Outbox<TcpStream>>;
@@ -58,6 +58,14 @@ pub(crate) fn waiting_len(slots: &[Option<Held>], index: usize) -> usize {
     }
 }
 
+// A turn that was given.
+#[derive(Clone, Copy)]
+struct Turn {
+    index: usize,
+    // How many messages of the connection were served before it.
+    served: u64,
+}
+
 /// The sockets of a listener's peers.
 #[derive(Drop)]
 pub(crate) struct Sockets<'a, R> {
@@ -77,8 +85,7 @@ pub(crate) struct Sockets<'a, R> {
     pub(crate) rounds: Rounds,
     pub(crate) rooms: Rooms,
     pub(crate) door: Door<'a>,
-    // The slot that has its turn.
-    turn: Option<usize>,
+    turn: Option<Turn>,
     pub(crate) now: Instant,
     pub(crate) looked: Instant,
     // Whether a connection was left that can be read on at once.
@@ -195,8 +202,29 @@ impl<R: time::Clock> Sockets<'_, R> {
         }
     }
 
-    // What becomes of a connection behind its turn.
-    fn settle(&mut self, slots: &mut [Option<Held>], spare: &mut Option<Room>, index: usize) {
+    // Gives the connection a turn, if there is one and it is due.
+    fn begin_turn(&mut self, slots: &[Option<Held>], index: usize) -> Option<usize> {
+        let seat = seat_at(slots, index)?;
+        if self.phase(index) != Phase::Due {
+            return None;
+        }
+        self.turn = Some(Turn {
+            index,
+            served: seat.served(),
+        });
+        Some(index)
+    }
+
+    // What becomes of a connection behind its turn. It goes where memory was refused for the turn.
+    fn settle(&mut self, slots: &mut [Option<Held>], spare: &mut Option<Room>, turn: Turn) {
+        let index = turn.index;
+        let Some(seat) = seat_at(slots, index) else {
+            return;
+        };
+        if seat.end().is_none() && seat.served() == turn.served {
+            self.release(slots, index);
+            return;
+        }
         if index >= slots.len() {
             return;
         }
@@ -249,7 +277,8 @@ impl<R: time::Clock> Sockets<'_, R> {
         match self.phase(token.0) {
             Phase::Free | Phase::Waits { .. } | Phase::Due => {}
             Phase::Silent | Phase::Head | Phase::Body { .. } => self.read(slots, token.0),
-            Phase::Answer { .. } => self.send(slots, token.0),
+            Phase::Answer { .. } if is_closing || event.is_writable() => self.send(slots, token.0),
+            Phase::Answer { .. } => {}
             Phase::Leaving { .. } => self.throw_away(slots, token.0),
         }
     }
@@ -274,13 +303,12 @@ impl<R: time::Clock> Crowd<Gathered<TcpStream>, Outbox<TcpStream>> for Sockets<'
     ghost came = { λ sockets. sockets.came };
 
     fn next(&mut self, slots: &mut [Option<Held>], spare: &mut Option<Room>) -> Option<usize> {
-        if let Some(index) = self.turn.take() {
-            self.settle(slots, spare, index);
+        if let Some(turn) = self.turn.take() {
+            self.settle(slots, spare, turn);
         }
         'rounds: for _ in 0..u64::MAX {
             if let Some(index) = self.rounds.pop() {
-                if index < slots.len() && self.phase(index) == Phase::Due {
-                    self.turn = Some(index);
+                if let Some(index) = self.begin_turn(slots, index) {
                     return Some(index);
                 }
             } else if self.taken == 0 && self.door.is_shut() {
