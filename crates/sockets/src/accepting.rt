@@ -33,6 +33,14 @@ impl<R: time::Clock> Sockets<'_, R> {
         }
     }
 
+    /// Whether a connection may be accepted, or let in, at once.
+    pub(crate) fn may_accept(&self) -> bool {
+        if self.door.has_guest() {
+            return self.taken < self.peers.len() || self.most_silent().is_some();
+        }
+        self.door.is_open()
+    }
+
     // Has a slot free, and lets go of a silent connection where there is none. Whether one is free.
     fn make_slot(&mut self, slots: &mut [Option<Held>]) -> bool {
         if self.taken >= self.peers.len() {

@@ -65,9 +65,14 @@ impl<'a> Door<'a> {
         self.paused.is_some()
     }
 
-    /// Whether one can be asked for at once.
+    /// Whether the listener can be asked for one at once.
     pub(crate) fn is_open(&self) -> bool {
         self.to_come > 0 && self.is_ready && self.kept.is_none() && self.paused.is_none()
+    }
+
+    /// Whether one waits that was accepted, and may be let in.
+    pub(crate) fn has_guest(&self) -> bool {
+        self.kept.is_some() && self.paused.is_none()
     }
 
     /// Ends a pause: a descriptor was closed.

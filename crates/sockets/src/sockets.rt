@@ -240,7 +240,7 @@ impl<R: time::Clock> Sockets<'_, R> {
 
     // How long a wait may last.
     fn patience_of_wait(&self) -> Option<Duration> {
-        if !self.rounds.is_idle() || self.is_behind || self.door.is_open() {
+        if !self.rounds.is_idle() || self.is_behind || self.may_accept() {
             return Some(Duration::ZERO);
         }
         if self.taken > 0 || self.door.is_paused() {
