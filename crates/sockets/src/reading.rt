@@ -107,11 +107,13 @@ impl<R: time::Clock> Sockets<'_, R> {
             return;
         };
         let ahead = seat.reader.inner.ahead();
-        let size = ahead.len();
+        if ahead.is_empty() {
+            self.enter(index, Phase::Silent);
+            return;
+        }
         match message_len(ahead) {
-            Some(len) if len <= size => self.make_due(slots, index),
+            Some(len) if len <= ahead.len() => self.make_due(slots, index),
             Some(len) => self.ask_room(slots, index, len),
-            None if size == 0 => self.enter(index, Phase::Silent),
             None if self.phase(index) == Phase::Head => {}
             None => self.enter(index, Phase::Head),
         }
