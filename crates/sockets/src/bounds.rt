@@ -1,5 +1,5 @@
 //! What lasts too long, and which connection is let go for a new one.
-use crate::peer::{Peer, Phase};
+use crate::peer::Phase;
 use crate::sockets::{Held, LOOK_MILLIS, Sockets, waiting_len};
 use std::io::ErrorKind;
 use std::time;
@@ -38,23 +38,24 @@ impl<R: time::Clock> Sockets<'_, R> {
 
     /// The connection that is silent longest between two messages, if one is.
     pub(crate) fn most_silent(&self) -> Option<usize> {
-        self.oldest(|peer| peer.phase == Phase::Silent && !peer.is_ready)
-    }
-
-    // The one whose phase lasts longest, of those that are meant.
-    fn oldest<F: Fn(&Peer) -> bool>(&self, is_meant: F) -> Option<usize> {
-        let mut found: Option<(usize, Instant)> = None;
+        let mut oldest: Option<Lasting> = None;
         'slots: for (index, peer) in self.peers.iter().enumerate() {
-            if !is_meant(peer) {
-                continue;
-            }
-            match found {
-                Some((_, since)) if since <= peer.since => {}
-                _ => found = Some((index, peer.since)),
+            if peer.phase == Phase::Silent && !peer.is_ready {
+                oldest = Some(older(oldest, index, peer.since));
             }
         }
-        let (index, _) = found?;
-        Some(index)
+        Some(oldest?.index)
+    }
+
+    // The answer of which nothing was taken for longest, if one waits.
+    fn slowest_answer(&self) -> Option<usize> {
+        let mut oldest: Option<Lasting> = None;
+        'slots: for (index, peer) in self.peers.iter().enumerate() {
+            if let Phase::Answer { .. } = peer.phase {
+                oldest = Some(older(oldest, index, peer.since));
+            }
+        }
+        Some(oldest?.index)
     }
 
     /// Where more answers wait than there is memory for, the one of which nothing was taken for longest is cut off.
@@ -66,8 +67,23 @@ impl<R: time::Clock> Sockets<'_, R> {
         if waiting <= MOST_WAITING {
             return;
         }
-        if let Some(index) = self.oldest(|peer| matches!(peer.phase, Phase::Answer { .. })) {
+        if let Some(index) = self.slowest_answer() {
             self.cut(slots, index);
         }
+    }
+}
+
+// A slot, and from when on what its peer is at counts.
+#[derive(Clone, Copy)]
+struct Lasting {
+    index: usize,
+    since: Instant,
+}
+
+// The one that lasts longer: what was found, or this slot.
+fn older(found: Option<Lasting>, index: usize, since: Instant) -> Lasting {
+    match found {
+        Some(other) if other.since <= since => other,
+        _ => Lasting { index, since },
     }
 }

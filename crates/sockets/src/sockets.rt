@@ -1,5 +1,5 @@
 //! The loop: it waits for what the sockets tell, and gives the turns that are due.
-ghost use Rattle.std.specs.Prelude.{◌≡◌, ◌<◌, ◌+◌, ℕ, length, IfSome};
+ghost use Rattle.std.specs.Prelude.{◌≡◌, ◌<◌, length, IfSome, IsSome};
 
 use crate::door::Door;
 use crate::peer::{Peer, Phase};
@@ -35,7 +35,9 @@ pub(crate) const LOOK_MILLIS: u64 = 100;
 pub(crate) type Held = Seat<Gathered<TcpStream>, Outbox<TcpStream>>;
 
 /// The connection in the slot, if there is one.
-pub(crate) fn seat_at(slots: &[Option<Held>], index: usize) -> Option<&Held> {
+pub(crate) fn seat_at(slots: &[Option<Held>], index: usize) -> Option<&Held>
+    ensures within { IsSome result → index < length slots.now }
+{
     match slots.get(index) {
         Some(Some(seat)) => Some(seat),
         _ => None,
@@ -203,7 +205,9 @@ impl<R: time::Clock> Sockets<'_, R> {
     }
 
     // Gives the connection a turn, if there is one and it is due.
-    fn begin_turn(&mut self, slots: &[Option<Held>], index: usize) -> Option<usize> {
+    fn begin_turn(&mut self, slots: &[Option<Held>], index: usize) -> Option<usize>
+        ensures within { IfSome result (λ index. index < length slots.now) }
+    {
         let seat = seat_at(slots, index)?;
         if self.phase(index) != Phase::Due {
             return None;
@@ -262,6 +266,11 @@ impl<R: time::Clock> Sockets<'_, R> {
         }
     }
 
+    // One of the events that the last wait told.
+    fn told(&self, at: usize) -> Option<Event> {
+        Some(*self.ready.get(at)?)
+    }
+
     // Takes up what a socket told.
     fn take_up(&mut self, slots: &mut [Option<Held>], event: Event) {
         let token = event.token();
@@ -287,8 +296,8 @@ impl<R: time::Clock> Sockets<'_, R> {
     fn begin_round(&mut self, slots: &mut [Option<Held>]) {
         self.wait();
         'events: for at in 0..self.ready.len() {
-            if let Some(event) = self.ready.get(at) {
-                self.take_up(slots, *event);
+            if let Some(event) = self.told(at) {
+                self.take_up(slots, event);
             }
         }
         self.read_on(slots);
