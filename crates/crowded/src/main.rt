@@ -60,6 +60,9 @@ fn main(rt: HostRuntime) -> io::Result<()> {
         return Ok(());
     }
     let outcome = serve(&rt, &mut office, &listener, limits, &mut clock)?;
-    println!(rt; "came {} refused {} faulty {}", outcome.came, outcome.refused, outcome.faulty)?;
+    println!(rt;
+        "came {} refused {} faulty {}",
+        outcome.came, outcome.refused, outcome.faulty
+    )?;
     Ok(())
 }

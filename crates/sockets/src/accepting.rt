@@ -5,19 +5,24 @@ use crate::sockets::{Held, Sockets};
 use mio::unix::SourceFd;
 use mio::{Interest, Token};
 use office::{Seat, open_slot};
-use std::io;
-use std::io::ErrorKind;
+use std::io::{ErrorKind, Read};
 use std::net::TcpStream;
 use std::os::fd::{AsRawFd, RawFd};
-use std::time;
+use std::{io, time};
 use wire::{Gathered, Outbox};
 
 /// How many connections are accepted in a round.
 const MOST_ACCEPTS: usize = 64;
 
 impl<R: time::Clock> Sockets<'_, R> {
+    ghost use Rattle.std.specs.Prelude.{◌≡◌};
+    ghost use Rattle.office.specs.Crowds.{ChangesBy};
+
     /// Accepts what comes, as long as there are slots.
-    pub(crate) fn accept_all(&mut self, slots: &mut [Option<Held>]) {
+    pub(crate) fn accept_all(&mut self, slots: &mut [Option<Held>])
+        ensures changes { ChangesBy ⟦<Gathered<TcpStream> as Read>⟧.remaining self.old.came self.new.came
+            slots.old slots.new }
+    {
         'accepts: for _ in 0..MOST_ACCEPTS {
             match self.door.call(self.now) {
                 Call::Came(stream) => {
@@ -42,7 +47,10 @@ impl<R: time::Clock> Sockets<'_, R> {
     }
 
     // Has a slot free, and lets go of a silent connection where there is none. Whether one is free.
-    fn make_slot(&mut self, slots: &mut [Option<Held>]) -> bool {
+    fn make_slot(&mut self, slots: &mut [Option<Held>]) -> bool
+        ensures changes { ChangesBy ⟦<Gathered<TcpStream> as Read>⟧.remaining self.old.came self.new.came
+            slots.old slots.new }
+    {
         if self.taken >= self.peers.len() {
             if let Some(index) = self.most_silent() {
                 self.release(slots, index);
@@ -52,7 +60,14 @@ impl<R: time::Clock> Sockets<'_, R> {
     }
 
     // Puts a connection into a free slot.
-    fn let_in(&mut self, slots: &mut [Option<Held>], stream: TcpStream) {
+    fn let_in(&mut self, slots: &mut [Option<Held>], stream: TcpStream)
+        ensures changes { ChangesBy ⟦<Gathered<TcpStream> as Read>⟧.remaining self.old.came self.new.came
+            slots.old slots.new }
+    {
+        let Some(came) = self.came.checked_add(1) else {
+            self.door.turn_away();
+            return;
+        };
         let writer = match second_end(&stream) {
             Ok(writer) => writer,
             Err(error) => {
@@ -68,21 +83,24 @@ impl<R: time::Clock> Sockets<'_, R> {
             self.door.turn_away();
             return;
         };
+        self.came = came;
         self.welcome(slots, index, fd);
     }
 
     // A connection has come into the slot.
-    fn welcome(&mut self, slots: &mut [Option<Held>], index: usize, fd: RawFd) {
-        self.came = self.came.saturating_add(1);
+    fn welcome(&mut self, slots: &mut [Option<Held>], index: usize, fd: RawFd)
+        ensures changes { ChangesBy ⟦<Gathered<TcpStream> as Read>⟧.remaining self.old.came self.new.came
+            slots.old slots.new }
+    {
         self.taken = self.taken.saturating_add(1);
         if let Some(peer) = self.peers.get_mut(index) {
             *peer = Peer::free(self.now);
             peer.phase = Phase::Silent;
         }
-        let registered =
-            self.poll
-                .registry()
-                .register(&mut SourceFd(&fd), Token(index), Interest::READABLE);
+        let registered = self
+            .poll
+            .registry()
+            .register(&mut SourceFd(&fd), Token(index), Interest::READABLE);
         if registered.is_err() {
             self.give_up(slots, index, ErrorKind::Other);
         }

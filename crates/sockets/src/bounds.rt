@@ -1,16 +1,24 @@
 //! What lasts too long, and which connection is let go for a new one.
 use crate::peer::Phase;
 use crate::sockets::{Held, LOOK_MILLIS, Sockets, waiting_len};
-use std::io::ErrorKind;
+use std::io::{ErrorKind, Read};
+use std::net::TcpStream;
 use std::time;
 use std::time::{Duration, Instant};
+use wire::Gathered;
 
 /// How many bytes of answers may wait together before one is cut off.
 const MOST_WAITING: usize = 268_435_456;
 
 impl<R: time::Clock> Sockets<'_, R> {
+    ghost use Rattle.std.specs.Prelude.{◌≡◌};
+    ghost use Rattle.office.specs.Crowds.{ChangesBy};
+
     /// Looks for connections that are over their bound, if the last look is some time ago.
-    pub(crate) fn look(&mut self, slots: &mut [Option<Held>]) {
+    pub(crate) fn look(&mut self, slots: &mut [Option<Held>])
+        ensures changes { ChangesBy ⟦<Gathered<TcpStream> as Read>⟧.remaining self.old.came self.new.came
+            slots.old slots.new }
+    {
         self.door.look(self.now);
         if self.now.duration_since(self.looked) < Duration::from_millis(LOOK_MILLIS) {
             return;
@@ -28,7 +36,10 @@ impl<R: time::Clock> Sockets<'_, R> {
     }
 
     // What becomes of a connection that is over its bound.
-    fn end_of_patience(&mut self, slots: &mut [Option<Held>], index: usize) {
+    fn end_of_patience(&mut self, slots: &mut [Option<Held>], index: usize)
+        ensures changes { ChangesBy ⟦<Gathered<TcpStream> as Read>⟧.remaining self.old.came self.new.came
+            slots.old slots.new }
+    {
         match self.phase(index) {
             Phase::Answer { .. } => self.cut(slots, index),
             Phase::Leaving { .. } => self.release(slots, index),
@@ -59,7 +70,10 @@ impl<R: time::Clock> Sockets<'_, R> {
     }
 
     /// Where more answers wait than there is memory for, the one of which nothing was taken for longest is cut off.
-    pub(crate) fn shed(&mut self, slots: &mut [Option<Held>]) {
+    pub(crate) fn shed(&mut self, slots: &mut [Option<Held>])
+        ensures changes { ChangesBy ⟦<Gathered<TcpStream> as Read>⟧.remaining self.old.came self.new.came
+            slots.old slots.new }
+    {
         let mut waiting: usize = 0;
         'slots: for index in 0..slots.len() {
             waiting = waiting.saturating_add(waiting_len(slots, index));

@@ -2,10 +2,10 @@
 //! told that no more comes, and what it still sends is taken for a while.
 use crate::peer::Phase;
 use crate::sockets::{Held, Sockets, seat_at};
-use std::io;
 use std::io::{ErrorKind, Read};
-use std::net::Shutdown;
-use std::time;
+use std::net::{Shutdown, TcpStream};
+use std::{io, time};
+use wire::Gathered;
 
 /// How many bytes are thrown away at the most.
 const LAST_BYTES: usize = 262_144;
@@ -14,8 +14,14 @@ const LAST_BYTES: usize = 262_144;
 const LAST_READS: usize = 64;
 
 impl<R: time::Clock> Sockets<'_, R> {
+    ghost use Rattle.std.specs.Prelude.{◌≡◌};
+    ghost use Rattle.office.specs.Crowds.{ChangesBy};
+
     /// Begins to leave a connection whose session has ended, and for which nothing waits.
-    pub(crate) fn leave(&mut self, slots: &mut [Option<Held>], index: usize) {
+    pub(crate) fn leave(&mut self, slots: &mut [Option<Held>], index: usize)
+        ensures changes { ChangesBy ⟦<Gathered<TcpStream> as Read>⟧.remaining self.old.came self.new.came
+            slots.old slots.new }
+    {
         let is_told = match seat_at(slots, index) {
             Some(seat) => seat.reader.inner.inner.shutdown(Shutdown::Write).is_ok(),
             None => false,
@@ -29,7 +35,10 @@ impl<R: time::Clock> Sockets<'_, R> {
     }
 
     /// Takes what the peer of a connection that is left still sends. At its end the connection goes.
-    pub(crate) fn throw_away(&mut self, slots: &mut [Option<Held>], index: usize) {
+    pub(crate) fn throw_away(&mut self, slots: &mut [Option<Held>], index: usize)
+        ensures changes { ChangesBy ⟦<Gathered<TcpStream> as Read>⟧.remaining self.old.came self.new.came
+            slots.old slots.new }
+    {
         'reads: for _ in 0..LAST_READS {
             match self.read_last(slots, index) {
                 Ok(n) if n > 0 && self.count_last(index, n) => {}
@@ -44,7 +53,9 @@ impl<R: time::Clock> Sockets<'_, R> {
     }
 
     // Reads once, and keeps nothing of it.
-    fn read_last(&mut self, slots: &[Option<Held>], index: usize) -> io::Result<usize> {
+    fn read_last(&mut self, slots: &[Option<Held>], index: usize) -> io::Result<usize>
+        ensures kept { self.new.came ≡ self.old.came }
+    {
         match seat_at(slots, index) {
             Some(seat) => {
                 let mut stream = &seat.reader.inner.inner;
@@ -55,7 +66,9 @@ impl<R: time::Clock> Sockets<'_, R> {
     }
 
     // Counts bytes that were thrown away. Whether more may be.
-    fn count_last(&mut self, index: usize, n: usize) -> bool {
+    fn count_last(&mut self, index: usize, n: usize) -> bool
+        ensures kept { self.new.came ≡ self.old.came }
+    {
         let Some(peer) = self.peers.get_mut(index) else {
             return false;
         };

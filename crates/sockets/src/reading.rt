@@ -3,9 +3,10 @@ use crate::peer::{BODY_STEP, Phase};
 use crate::rooms::OWN_ROOM;
 use crate::sockets::{Held, MOST_READ, Sockets, ahead_len, seat_at};
 use office::{gather_slot, reserve_slot, settle_slot};
-use std::io::ErrorKind;
+use std::io::{ErrorKind, Read};
+use std::net::TcpStream;
 use std::time;
-use wire::{Gathering, message_len};
+use wire::{Gathered, Gathering, message_len};
 
 /// How many bytes one read takes of a head. What is read behind the head is ahead for the messages that follow.
 const HEAD_READ: usize = 4096;
@@ -14,8 +15,14 @@ const HEAD_READ: usize = 4096;
 const MOST_READS: usize = 64;
 
 impl<R: time::Clock> Sockets<'_, R> {
+    ghost use Rattle.std.specs.Prelude.{◌≡◌};
+    ghost use Rattle.office.specs.Crowds.{ChangesBy};
+
     /// Reads ahead of the connection as long as bytes are there and a message of it can be read on.
-    pub(crate) fn read(&mut self, slots: &mut [Option<Held>], index: usize) {
+    pub(crate) fn read(&mut self, slots: &mut [Option<Held>], index: usize)
+        ensures changes { ChangesBy ⟦<Gathered<TcpStream> as Read>⟧.remaining self.old.came self.new.came
+            slots.old slots.new }
+    {
         'reads: for _ in 0..MOST_READS {
             let Some(size) = self.read_size(slots, index) else {
                 return;
@@ -26,7 +33,10 @@ impl<R: time::Clock> Sockets<'_, R> {
     }
 
     /// Reads on where others were read before.
-    pub(crate) fn read_on(&mut self, slots: &mut [Option<Held>]) {
+    pub(crate) fn read_on(&mut self, slots: &mut [Option<Held>])
+        ensures changes { ChangesBy ⟦<Gathered<TcpStream> as Read>⟧.remaining self.old.came self.new.came
+            slots.old slots.new }
+    {
         if !self.is_behind {
             return;
         }
@@ -52,7 +62,10 @@ impl<R: time::Clock> Sockets<'_, R> {
     }
 
     // Reads once ahead, at most so many bytes.
-    fn read_once(&mut self, slots: &mut [Option<Held>], index: usize, size: usize) {
+    fn read_once(&mut self, slots: &mut [Option<Held>], index: usize, size: usize)
+        ensures changes { ChangesBy ⟦<Gathered<TcpStream> as Read>⟧.remaining self.old.came self.new.came
+            slots.old slots.new }
+    {
         let before = ahead_len(slots, index);
         let size = size.min(self.buf.len());
         if index >= slots.len() {
@@ -72,14 +85,19 @@ impl<R: time::Clock> Sockets<'_, R> {
     }
 
     // A read took less than it might: no more is there, but for an end that was told already.
-    fn note_short(&mut self, index: usize) {
+    fn note_short(&mut self, index: usize)
+        ensures kept { self.new.came ≡ self.old.came }
+    {
         if let Some(peer) = self.peers.get_mut(index) {
             peer.is_ready = peer.is_closing;
         }
     }
 
     // Nothing is there. Where nothing is ahead, no memory is kept.
-    fn note_wait(&mut self, slots: &mut [Option<Held>], index: usize) {
+    fn note_wait(&mut self, slots: &mut [Option<Held>], index: usize)
+        ensures changes { ChangesBy ⟦<Gathered<TcpStream> as Read>⟧.remaining self.old.came self.new.came
+            slots.old slots.new }
+    {
         if let Some(peer) = self.peers.get_mut(index) {
             peer.is_ready = false;
         }
@@ -89,7 +107,10 @@ impl<R: time::Clock> Sockets<'_, R> {
     }
 
     // Bytes came.
-    fn advance(&mut self, slots: &mut [Option<Held>], index: usize) {
+    fn advance(&mut self, slots: &mut [Option<Held>], index: usize)
+        ensures changes { ChangesBy ⟦<Gathered<TcpStream> as Read>⟧.remaining self.old.came self.new.came
+            slots.old slots.new }
+    {
         let ahead = ahead_len(slots, index);
         match self.phase(index) {
             Phase::Body { len, .. } if ahead >= len => self.make_due(slots, index),
@@ -102,7 +123,10 @@ impl<R: time::Clock> Sockets<'_, R> {
     }
 
     /// Judges what is ahead between two turns: nothing, a part of a message, or a whole one.
-    pub(crate) fn judge(&mut self, slots: &mut [Option<Held>], index: usize) {
+    pub(crate) fn judge(&mut self, slots: &mut [Option<Held>], index: usize)
+        ensures changes { ChangesBy ⟦<Gathered<TcpStream> as Read>⟧.remaining self.old.came self.new.came
+            slots.old slots.new }
+    {
         let Some(seat) = seat_at(slots, index) else {
             return;
         };
@@ -120,7 +144,10 @@ impl<R: time::Clock> Sockets<'_, R> {
     }
 
     // Room for a message is asked for.
-    fn ask_room(&mut self, slots: &mut [Option<Held>], index: usize, len: usize) {
+    fn ask_room(&mut self, slots: &mut [Option<Held>], index: usize, len: usize)
+        ensures changes { ChangesBy ⟦<Gathered<TcpStream> as Read>⟧.remaining self.old.came self.new.came
+            slots.old slots.new }
+    {
         if len <= OWN_ROOM {
             self.begin_body(slots, index, len);
         } else if self.rooms.take(len) {
@@ -133,7 +160,10 @@ impl<R: time::Clock> Sockets<'_, R> {
     }
 
     // The body comes of a message that was given room.
-    fn begin_large(&mut self, slots: &mut [Option<Held>], index: usize, len: usize) {
+    fn begin_large(&mut self, slots: &mut [Option<Held>], index: usize, len: usize)
+        ensures changes { ChangesBy ⟦<Gathered<TcpStream> as Read>⟧.remaining self.old.came self.new.came
+            slots.old slots.new }
+    {
         if let Some(peer) = self.peers.get_mut(index) {
             peer.room = len;
         }
@@ -141,7 +171,10 @@ impl<R: time::Clock> Sockets<'_, R> {
     }
 
     // The body comes.
-    fn begin_body(&mut self, slots: &mut [Option<Held>], index: usize, len: usize) {
+    fn begin_body(&mut self, slots: &mut [Option<Held>], index: usize, len: usize)
+        ensures changes { ChangesBy ⟦<Gathered<TcpStream> as Read>⟧.remaining self.old.came self.new.came
+            slots.old slots.new }
+    {
         let mark = ahead_len(slots, index);
         if index >= slots.len() {
             return;
@@ -153,7 +186,10 @@ impl<R: time::Clock> Sockets<'_, R> {
     }
 
     /// Gives room to those that wait for it, as far as it is there, and reads them on.
-    pub(crate) fn give_rooms(&mut self, slots: &mut [Option<Held>]) {
+    pub(crate) fn give_rooms(&mut self, slots: &mut [Option<Held>])
+        ensures changes { ChangesBy ⟦<Gathered<TcpStream> as Read>⟧.remaining self.old.came self.new.came
+            slots.old slots.new }
+    {
         'slots: for _ in 0..self.peers.len() {
             let Some((index, len)) = self.rooms.serve() else {
                 return;

@@ -4,16 +4,21 @@ use crate::sockets::{Held, Sockets, seat_at, waiting_len};
 use mio::unix::SourceFd;
 use mio::{Interest, Token};
 use office::send_slot;
-use std::io;
-use std::io::ErrorKind;
-use std::net::Shutdown;
+use std::io::{ErrorKind, Read};
+use std::net::{Shutdown, TcpStream};
 use std::os::fd::AsRawFd;
-use std::time;
-use wire::Sending;
+use std::{io, time};
+use wire::{Gathered, Sending};
 
 impl<R: time::Clock> Sockets<'_, R> {
+    ghost use Rattle.std.specs.Prelude.{◌≡◌};
+    ghost use Rattle.office.specs.Crowds.{ChangesBy};
+
     /// Sends what waits. Once all was sent, the connection goes on.
-    pub(crate) fn send(&mut self, slots: &mut [Option<Held>], index: usize) {
+    pub(crate) fn send(&mut self, slots: &mut [Option<Held>], index: usize)
+        ensures changes { ChangesBy ⟦<Gathered<TcpStream> as Read>⟧.remaining self.old.came self.new.came
+            slots.old slots.new }
+    {
         if index >= slots.len() {
             return;
         }
@@ -25,7 +30,10 @@ impl<R: time::Clock> Sockets<'_, R> {
     }
 
     // An answer waits: it is sent on when the peer has taken some of it.
-    fn hold(&mut self, slots: &mut [Option<Held>], index: usize) {
+    fn hold(&mut self, slots: &mut [Option<Held>], index: usize)
+        ensures changes { ChangesBy ⟦<Gathered<TcpStream> as Read>⟧.remaining self.old.came self.new.came
+            slots.old slots.new }
+    {
         let waiting = waiting_len(slots, index);
         match self.phase(index) {
             Phase::Answer { mark } if waiting >= mark => {}
@@ -41,7 +49,10 @@ impl<R: time::Clock> Sockets<'_, R> {
     }
 
     // No answer waits any more: the next message is read, or the connection is left.
-    fn go_on(&mut self, slots: &mut [Option<Held>], index: usize) {
+    fn go_on(&mut self, slots: &mut [Option<Held>], index: usize)
+        ensures changes { ChangesBy ⟦<Gathered<TcpStream> as Read>⟧.remaining self.old.came self.new.came
+            slots.old slots.new }
+    {
         if matches!(self.phase(index), Phase::Answer { .. }) {
             if self.watch(slots, index, false).is_err() {
                 self.give_up(slots, index, ErrorKind::Other);
@@ -80,7 +91,10 @@ impl<R: time::Clock> Sockets<'_, R> {
     }
 
     /// Cuts a connection whose peer takes no answer: from now on its writes fail, and its reads behind what is ahead.
-    pub(crate) fn cut(&mut self, slots: &mut [Option<Held>], index: usize) {
+    pub(crate) fn cut(&mut self, slots: &mut [Option<Held>], index: usize)
+        ensures changes { ChangesBy ⟦<Gathered<TcpStream> as Read>⟧.remaining self.old.came self.new.came
+            slots.old slots.new }
+    {
         if let Some(seat) = seat_at(slots, index) {
             let _ = seat.reader.inner.inner.shutdown(Shutdown::Both);
         }

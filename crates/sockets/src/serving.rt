@@ -2,10 +2,9 @@
 use crate::sockets::{Held, Sockets};
 use keeper::Keeper;
 use office::{Clock, Office};
-use std::io;
 use std::net::{Net, TcpListener};
-use std::time;
 use std::time::Duration;
+use std::{io, time};
 
 /// What is allowed to connections.
 #[derive(Clone, Copy, Debug, PartialEq, Eq)]

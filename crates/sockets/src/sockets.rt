@@ -11,12 +11,11 @@ use mio::unix::SourceFd;
 use mio::{Events, Interest, Poll, Token};
 use office::{Crowd, Seat, fail_slot, free_slot, settle_slot};
 use std::alloc::Global;
-use std::io;
-use std::io::ErrorKind;
+use std::io::{ErrorKind, Read};
 use std::net::{Net, TcpListener, TcpStream};
 use std::os::fd::AsRawFd;
-use std::time;
 use std::time::{Duration, Instant};
+use std::{io, time};
 use wire::{Gathered, Outbox, Room};
 
 /// The token of the listener. Every other one is the index of a slot.
@@ -147,7 +146,9 @@ impl<R: time::Clock> Sockets<'_, R> {
     }
 
     /// A phase of the peer begins.
-    pub(crate) fn enter(&mut self, index: usize, phase: Phase) {
+    pub(crate) fn enter(&mut self, index: usize, phase: Phase)
+        ensures kept { self.new.came ≡ self.old.came }
+    {
         if let Some(peer) = self.peers.get_mut(index) {
             peer.phase = phase;
             peer.since = self.now;
@@ -155,7 +156,10 @@ impl<R: time::Clock> Sockets<'_, R> {
     }
 
     /// A turn is due.
-    pub(crate) fn make_due(&mut self, slots: &mut [Option<Held>], index: usize) {
+    pub(crate) fn make_due(&mut self, slots: &mut [Option<Held>], index: usize)
+        ensures changes { ChangesBy ⟦<Gathered<TcpStream> as Read>⟧.remaining self.old.came self.new.came
+            slots.old slots.new }
+    {
         if self.phase(index) == Phase::Due {
             return;
         }
@@ -166,12 +170,10 @@ impl<R: time::Clock> Sockets<'_, R> {
     }
 
     /// The connection fails so from now on: its turn tells it; or it goes, if its session has ended.
-    pub(crate) fn give_up(
-        &mut self,
-        slots: &mut [Option<Held>],
-        index: usize,
-        kind: ErrorKind,
-    ) {
+    pub(crate) fn give_up(&mut self, slots: &mut [Option<Held>], index: usize, kind: ErrorKind)
+        ensures changes { ChangesBy ⟦<Gathered<TcpStream> as Read>⟧.remaining self.old.came self.new.came
+            slots.old slots.new }
+    {
         let has_ended = match seat_at(slots, index) {
             Some(seat) => seat.end().is_some(),
             None => true,
@@ -185,7 +187,10 @@ impl<R: time::Clock> Sockets<'_, R> {
     }
 
     /// The connection goes, and its slot is free.
-    pub(crate) fn release(&mut self, slots: &mut [Option<Held>], index: usize) {
+    pub(crate) fn release(&mut self, slots: &mut [Option<Held>], index: usize)
+        ensures changes { ChangesBy ⟦<Gathered<TcpStream> as Read>⟧.remaining self.old.came self.new.came
+            slots.old slots.new }
+    {
         if index >= slots.len() || self.phase(index) == Phase::Free {
             return;
         }
@@ -197,7 +202,9 @@ impl<R: time::Clock> Sockets<'_, R> {
     }
 
     /// Gives back what the peer has of the common room.
-    pub(crate) fn give_room_back(&mut self, index: usize) {
+    pub(crate) fn give_room_back(&mut self, index: usize)
+        ensures kept { self.new.came ≡ self.old.came }
+    {
         if let Some(peer) = self.peers.get_mut(index) {
             self.rooms.give_back(peer.room);
             peer.room = 0;
@@ -220,7 +227,10 @@ impl<R: time::Clock> Sockets<'_, R> {
     }
 
     // What becomes of a connection behind its turn. It goes where memory was refused for the turn.
-    fn settle(&mut self, slots: &mut [Option<Held>], spare: &mut Option<Room>, turn: Turn) {
+    fn settle(&mut self, slots: &mut [Option<Held>], spare: &mut Option<Room>, turn: Turn)
+        ensures changes { ChangesBy ⟦<Gathered<TcpStream> as Read>⟧.remaining self.old.came self.new.came
+            slots.old slots.new }
+    {
         let index = turn.index;
         let Some(seat) = seat_at(slots, index) else {
             return;
@@ -254,7 +264,9 @@ impl<R: time::Clock> Sockets<'_, R> {
     }
 
     // Waits until a socket tells something, and takes down what.
-    fn wait(&mut self) {
+    fn wait(&mut self)
+        ensures kept { self.new.came ≡ self.old.came }
+    {
         let timeout = self.patience_of_wait();
         let _ = self.poll.poll(&mut self.events, timeout);
         self.ready.clear();
@@ -272,7 +284,10 @@ impl<R: time::Clock> Sockets<'_, R> {
     }
 
     // Takes up what a socket told.
-    fn take_up(&mut self, slots: &mut [Option<Held>], event: Event) {
+    fn take_up(&mut self, slots: &mut [Option<Held>], event: Event)
+        ensures changes { ChangesBy ⟦<Gathered<TcpStream> as Read>⟧.remaining self.old.came self.new.came
+            slots.old slots.new }
+    {
         let token = event.token();
         if token == LISTENER {
             self.door.knock();
@@ -293,7 +308,10 @@ impl<R: time::Clock> Sockets<'_, R> {
     }
 
     // Waits, takes up what comes, and begins the next round.
-    fn begin_round(&mut self, slots: &mut [Option<Held>]) {
+    fn begin_round(&mut self, slots: &mut [Option<Held>])
+        ensures changes { ChangesBy ⟦<Gathered<TcpStream> as Read>⟧.remaining self.old.came self.new.came
+            slots.old slots.new }
+    {
         self.wait();
         'events: for at in 0..self.ready.len() {
             if let Some(event) = self.told(at) {
