@@ -21,9 +21,6 @@ use wire::{Gathered, Outbox, Room};
 /// The token of the listener. Every other one is the index of a slot.
 const LISTENER: Token = Token(usize::MAX);
 
-/// How many events one wait takes up.
-const MOST_EVENTS: usize = 256;
-
 /// How many bytes one read takes at the most.
 pub(crate) const MOST_READ: usize = 65_536;
 
@@ -107,13 +104,14 @@ impl<'a, R: Net + time::Clock> Sockets<'a, R> {
         poll.registry()
             .register(&mut SourceFd(&fd), LISTENER, Interest::READABLE)?;
         let now = Instant::now(rt)?;
+        let sources = limits.open.saturating_add(1);
         Ok(Sockets {
             rt,
             alloc,
             patience: limits.patience,
             poll,
-            events: Events::with_capacity(alloc, MOST_EVENTS)?,
-            ready: Vec::with_capacity(alloc, MOST_EVENTS)?,
+            events: Events::with_capacity(alloc, sources)?,
+            ready: Vec::with_capacity(alloc, sources)?,
             buf: vec![in alloc; 0; MOST_READ]?,
             peers: vec![in alloc; Peer::free(now); limits.open]?,
             taken: 0,
