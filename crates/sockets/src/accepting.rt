@@ -1,7 +1,8 @@
 //! Connections that come.
 use crate::door::Call;
+use crate::held::Held;
 use crate::peer::{Peer, Phase};
-use crate::sockets::{Held, Sockets};
+use crate::sockets::Sockets;
 use mio::unix::SourceFd;
 use mio::{Interest, Token};
 use office::{Seat, open_slot};
@@ -16,11 +17,11 @@ const MOST_ACCEPTS: usize = 64;
 
 impl<R: time::Clock> Sockets<'_, R> {
     ghost use Rattle.std.specs.Prelude.{◌≡◌};
-    ghost use Rattle.office.specs.Crowds.{ChangesBy};
+    ghost use Rattle.sockets.specs.Going.{GoesOn};
 
     /// Accepts what comes, as long as there are slots.
     pub(crate) fn accept_all(&mut self, slots: &mut [Option<Held>])
-        ensures changes { ChangesBy ⟦<Gathered<TcpStream> as Read>⟧.remaining self.old.came self.new.came
+        ensures changes { GoesOn ⟦<Gathered<TcpStream> as Read>⟧.remaining self.old.came self.new.came
             slots.old slots.new }
     {
         'accepts: for _ in 0..MOST_ACCEPTS {
@@ -48,7 +49,7 @@ impl<R: time::Clock> Sockets<'_, R> {
 
     // Has a slot free, and lets go of a silent connection where there is none. Whether one is free.
     fn make_slot(&mut self, slots: &mut [Option<Held>]) -> bool
-        ensures changes { ChangesBy ⟦<Gathered<TcpStream> as Read>⟧.remaining self.old.came self.new.came
+        ensures changes { GoesOn ⟦<Gathered<TcpStream> as Read>⟧.remaining self.old.came self.new.came
             slots.old slots.new }
     {
         if self.taken >= self.peers.len() {
@@ -61,7 +62,7 @@ impl<R: time::Clock> Sockets<'_, R> {
 
     // Puts a connection into a free slot.
     fn let_in(&mut self, slots: &mut [Option<Held>], stream: TcpStream)
-        ensures changes { ChangesBy ⟦<Gathered<TcpStream> as Read>⟧.remaining self.old.came self.new.came
+        ensures changes { GoesOn ⟦<Gathered<TcpStream> as Read>⟧.remaining self.old.came self.new.came
             slots.old slots.new }
     {
         let Some(came) = self.came.checked_add(1) else {
@@ -89,7 +90,7 @@ impl<R: time::Clock> Sockets<'_, R> {
 
     // A connection has come into the slot.
     fn welcome(&mut self, slots: &mut [Option<Held>], index: usize, fd: RawFd)
-        ensures changes { ChangesBy ⟦<Gathered<TcpStream> as Read>⟧.remaining self.old.came self.new.came
+        ensures changes { GoesOn ⟦<Gathered<TcpStream> as Read>⟧.remaining self.old.came self.new.came
             slots.old slots.new }
     {
         self.taken = self.taken.saturating_add(1);

@@ -1,6 +1,7 @@
 //! What lasts too long, and which connection is let go for a new one.
+use crate::held::{Held, waiting_len};
 use crate::peer::Phase;
-use crate::sockets::{Held, LOOK_MILLIS, Sockets, waiting_len};
+use crate::sockets::{LOOK_MILLIS, Sockets};
 use std::io::{ErrorKind, Read};
 use std::net::TcpStream;
 use std::time;
@@ -12,11 +13,11 @@ const MOST_WAITING: usize = 268_435_456;
 
 impl<R: time::Clock> Sockets<'_, R> {
     ghost use Rattle.std.specs.Prelude.{◌≡◌};
-    ghost use Rattle.office.specs.Crowds.{ChangesBy};
+    ghost use Rattle.sockets.specs.Going.{GoesOn};
 
     /// Looks for connections that are over their bound, if the last look is some time ago.
     pub(crate) fn look(&mut self, slots: &mut [Option<Held>])
-        ensures changes { ChangesBy ⟦<Gathered<TcpStream> as Read>⟧.remaining self.old.came self.new.came
+        ensures changes { GoesOn ⟦<Gathered<TcpStream> as Read>⟧.remaining self.old.came self.new.came
             slots.old slots.new }
     {
         self.door.look(self.now);
@@ -37,7 +38,7 @@ impl<R: time::Clock> Sockets<'_, R> {
 
     // What becomes of a connection that is over its bound.
     fn end_of_patience(&mut self, slots: &mut [Option<Held>], index: usize)
-        ensures changes { ChangesBy ⟦<Gathered<TcpStream> as Read>⟧.remaining self.old.came self.new.came
+        ensures changes { GoesOn ⟦<Gathered<TcpStream> as Read>⟧.remaining self.old.came self.new.came
             slots.old slots.new }
     {
         match self.phase(index) {
@@ -71,7 +72,7 @@ impl<R: time::Clock> Sockets<'_, R> {
 
     /// Where more answers wait than there is memory for, the one of which nothing was taken for longest is cut off.
     pub(crate) fn shed(&mut self, slots: &mut [Option<Held>])
-        ensures changes { ChangesBy ⟦<Gathered<TcpStream> as Read>⟧.remaining self.old.came self.new.came
+        ensures changes { GoesOn ⟦<Gathered<TcpStream> as Read>⟧.remaining self.old.came self.new.came
             slots.old slots.new }
     {
         let mut waiting: usize = 0;

@@ -1,7 +1,8 @@
 //! Leaving: a socket that is closed over bytes that nobody read is reset, and its peer may lose the last answer. So the peer is
 //! told that no more comes, and what it still sends is taken for a while.
+use crate::held::{Held, seat_at};
 use crate::peer::Phase;
-use crate::sockets::{Held, Sockets, seat_at};
+use crate::sockets::Sockets;
 use std::io::{ErrorKind, Read};
 use std::net::{Shutdown, TcpStream};
 use std::{io, time};
@@ -15,11 +16,11 @@ const LAST_READS: usize = 64;
 
 impl<R: time::Clock> Sockets<'_, R> {
     ghost use Rattle.std.specs.Prelude.{◌≡◌};
-    ghost use Rattle.office.specs.Crowds.{ChangesBy};
+    ghost use Rattle.sockets.specs.Going.{GoesOn};
 
     /// Begins to leave a connection whose session has ended, and for which nothing waits.
     pub(crate) fn leave(&mut self, slots: &mut [Option<Held>], index: usize)
-        ensures changes { ChangesBy ⟦<Gathered<TcpStream> as Read>⟧.remaining self.old.came self.new.came
+        ensures changes { GoesOn ⟦<Gathered<TcpStream> as Read>⟧.remaining self.old.came self.new.came
             slots.old slots.new }
     {
         let is_told = match seat_at(slots, index) {
@@ -36,7 +37,7 @@ impl<R: time::Clock> Sockets<'_, R> {
 
     /// Takes what the peer of a connection that is left still sends. At its end the connection goes.
     pub(crate) fn throw_away(&mut self, slots: &mut [Option<Held>], index: usize)
-        ensures changes { ChangesBy ⟦<Gathered<TcpStream> as Read>⟧.remaining self.old.came self.new.came
+        ensures changes { GoesOn ⟦<Gathered<TcpStream> as Read>⟧.remaining self.old.came self.new.came
             slots.old slots.new }
     {
         'reads: for _ in 0..LAST_READS {

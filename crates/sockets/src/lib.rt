@@ -4,6 +4,7 @@
 mod accepting;
 mod bounds;
 mod door;
+mod held;
 mod leaving;
 mod peer;
 mod reading;

@@ -1,8 +1,8 @@
 //! Reading ahead: a turn is due once a message is whole.
+use crate::held::{Held, ahead_len, gather_at, reserve_at, seat_at, settle_at};
 use crate::peer::{BODY_STEP, Phase};
 use crate::rooms::OWN_ROOM;
-use crate::sockets::{Held, MOST_READ, Sockets, ahead_len, seat_at};
-use office::{gather_slot, reserve_slot, settle_slot};
+use crate::sockets::{MOST_READ, Sockets};
 use std::io::{ErrorKind, Read};
 use std::net::TcpStream;
 use std::time;
@@ -16,11 +16,11 @@ const MOST_READS: usize = 64;
 
 impl<R: time::Clock> Sockets<'_, R> {
     ghost use Rattle.std.specs.Prelude.{◌≡◌};
-    ghost use Rattle.office.specs.Crowds.{ChangesBy};
+    ghost use Rattle.sockets.specs.Going.{GoesOn};
 
     /// Reads ahead of the connection as long as bytes are there and a message of it can be read on.
     pub(crate) fn read(&mut self, slots: &mut [Option<Held>], index: usize)
-        ensures changes { ChangesBy ⟦<Gathered<TcpStream> as Read>⟧.remaining self.old.came self.new.came
+        ensures changes { GoesOn ⟦<Gathered<TcpStream> as Read>⟧.remaining self.old.came self.new.came
             slots.old slots.new }
     {
         'reads: for _ in 0..MOST_READS {
@@ -34,7 +34,7 @@ impl<R: time::Clock> Sockets<'_, R> {
 
     /// Reads on where others were read before.
     pub(crate) fn read_on(&mut self, slots: &mut [Option<Held>])
-        ensures changes { ChangesBy ⟦<Gathered<TcpStream> as Read>⟧.remaining self.old.came self.new.came
+        ensures changes { GoesOn ⟦<Gathered<TcpStream> as Read>⟧.remaining self.old.came self.new.came
             slots.old slots.new }
     {
         if !self.is_behind {
@@ -63,15 +63,12 @@ impl<R: time::Clock> Sockets<'_, R> {
 
     // Reads once ahead, at most so many bytes.
     fn read_once(&mut self, slots: &mut [Option<Held>], index: usize, size: usize)
-        ensures changes { ChangesBy ⟦<Gathered<TcpStream> as Read>⟧.remaining self.old.came self.new.came
+        ensures changes { GoesOn ⟦<Gathered<TcpStream> as Read>⟧.remaining self.old.came self.new.came
             slots.old slots.new }
     {
         let before = ahead_len(slots, index);
         let size = size.min(self.buf.len());
-        if index >= slots.len() {
-            return;
-        }
-        match gather_slot(slots, index, &mut self.buf[..size]) {
+        match gather_at(slots, index, &mut self.buf[..size]) {
             Ok(Gathering::Came) => {
                 if ahead_len(slots, index).saturating_sub(before) < size {
                     self.note_short(index);
@@ -95,20 +92,18 @@ impl<R: time::Clock> Sockets<'_, R> {
 
     // Nothing is there. Where nothing is ahead, no memory is kept.
     fn note_wait(&mut self, slots: &mut [Option<Held>], index: usize)
-        ensures changes { ChangesBy ⟦<Gathered<TcpStream> as Read>⟧.remaining self.old.came self.new.came
+        ensures changes { GoesOn ⟦<Gathered<TcpStream> as Read>⟧.remaining self.old.came self.new.came
             slots.old slots.new }
     {
         if let Some(peer) = self.peers.get_mut(index) {
             peer.is_ready = false;
         }
-        if index < slots.len() {
-            let _ = settle_slot(slots, index);
-        }
+        let _ = settle_at(slots, index);
     }
 
     // Bytes came.
     fn advance(&mut self, slots: &mut [Option<Held>], index: usize)
-        ensures changes { ChangesBy ⟦<Gathered<TcpStream> as Read>⟧.remaining self.old.came self.new.came
+        ensures changes { GoesOn ⟦<Gathered<TcpStream> as Read>⟧.remaining self.old.came self.new.came
             slots.old slots.new }
     {
         let ahead = ahead_len(slots, index);
@@ -124,7 +119,7 @@ impl<R: time::Clock> Sockets<'_, R> {
 
     /// Judges what is ahead between two turns: nothing, a part of a message, or a whole one.
     pub(crate) fn judge(&mut self, slots: &mut [Option<Held>], index: usize)
-        ensures changes { ChangesBy ⟦<Gathered<TcpStream> as Read>⟧.remaining self.old.came self.new.came
+        ensures changes { GoesOn ⟦<Gathered<TcpStream> as Read>⟧.remaining self.old.came self.new.came
             slots.old slots.new }
     {
         let Some(seat) = seat_at(slots, index) else {
@@ -145,7 +140,7 @@ impl<R: time::Clock> Sockets<'_, R> {
 
     // Room for a message is asked for.
     fn ask_room(&mut self, slots: &mut [Option<Held>], index: usize, len: usize)
-        ensures changes { ChangesBy ⟦<Gathered<TcpStream> as Read>⟧.remaining self.old.came self.new.came
+        ensures changes { GoesOn ⟦<Gathered<TcpStream> as Read>⟧.remaining self.old.came self.new.came
             slots.old slots.new }
     {
         if len <= OWN_ROOM {
@@ -161,7 +156,7 @@ impl<R: time::Clock> Sockets<'_, R> {
 
     // The body comes of a message that was given room.
     fn begin_large(&mut self, slots: &mut [Option<Held>], index: usize, len: usize)
-        ensures changes { ChangesBy ⟦<Gathered<TcpStream> as Read>⟧.remaining self.old.came self.new.came
+        ensures changes { GoesOn ⟦<Gathered<TcpStream> as Read>⟧.remaining self.old.came self.new.came
             slots.old slots.new }
     {
         if let Some(peer) = self.peers.get_mut(index) {
@@ -172,14 +167,11 @@ impl<R: time::Clock> Sockets<'_, R> {
 
     // The body comes.
     fn begin_body(&mut self, slots: &mut [Option<Held>], index: usize, len: usize)
-        ensures changes { ChangesBy ⟦<Gathered<TcpStream> as Read>⟧.remaining self.old.came self.new.came
+        ensures changes { GoesOn ⟦<Gathered<TcpStream> as Read>⟧.remaining self.old.came self.new.came
             slots.old slots.new }
     {
         let mark = ahead_len(slots, index);
-        if index >= slots.len() {
-            return;
-        }
-        match reserve_slot(slots, index, len.saturating_sub(mark)) {
+        match reserve_at(slots, index, len.saturating_sub(mark)) {
             Ok(()) => self.enter(index, Phase::Body { len, mark }),
             Err(_) => self.give_up(slots, index, ErrorKind::OutOfMemory),
         }
@@ -187,7 +179,7 @@ impl<R: time::Clock> Sockets<'_, R> {
 
     /// Gives room to those that wait for it, as far as it is there, and reads them on.
     pub(crate) fn give_rooms(&mut self, slots: &mut [Option<Held>])
-        ensures changes { ChangesBy ⟦<Gathered<TcpStream> as Read>⟧.remaining self.old.came self.new.came
+        ensures changes { GoesOn ⟦<Gathered<TcpStream> as Read>⟧.remaining self.old.came self.new.came
             slots.old slots.new }
     {
         'slots: for _ in 0..self.peers.len() {

@@ -1,9 +1,9 @@
 //! Answers that wait until their peers take them.
+use crate::held::{Held, seat_at, send_at, waiting_len};
 use crate::peer::Phase;
-use crate::sockets::{Held, Sockets, seat_at, waiting_len};
+use crate::sockets::Sockets;
 use mio::unix::SourceFd;
 use mio::{Interest, Token};
-use office::send_slot;
 use std::io::{ErrorKind, Read};
 use std::net::{Shutdown, TcpStream};
 use std::os::fd::AsRawFd;
@@ -12,17 +12,14 @@ use wire::{Gathered, Sending};
 
 impl<R: time::Clock> Sockets<'_, R> {
     ghost use Rattle.std.specs.Prelude.{◌≡◌};
-    ghost use Rattle.office.specs.Crowds.{ChangesBy};
+    ghost use Rattle.sockets.specs.Going.{GoesOn};
 
     /// Sends what waits. Once all was sent, the connection goes on.
     pub(crate) fn send(&mut self, slots: &mut [Option<Held>], index: usize)
-        ensures changes { ChangesBy ⟦<Gathered<TcpStream> as Read>⟧.remaining self.old.came self.new.came
+        ensures changes { GoesOn ⟦<Gathered<TcpStream> as Read>⟧.remaining self.old.came self.new.came
             slots.old slots.new }
     {
-        if index >= slots.len() {
-            return;
-        }
-        match send_slot(slots, index) {
+        match send_at(slots, index) {
             Sending::Sent => self.go_on(slots, index),
             Sending::Waits => self.hold(slots, index),
             Sending::Failed => self.give_up(slots, index, ErrorKind::BrokenPipe),
@@ -31,7 +28,7 @@ impl<R: time::Clock> Sockets<'_, R> {
 
     // An answer waits: it is sent on when the peer has taken some of it.
     fn hold(&mut self, slots: &mut [Option<Held>], index: usize)
-        ensures changes { ChangesBy ⟦<Gathered<TcpStream> as Read>⟧.remaining self.old.came self.new.came
+        ensures changes { GoesOn ⟦<Gathered<TcpStream> as Read>⟧.remaining self.old.came self.new.came
             slots.old slots.new }
     {
         let waiting = waiting_len(slots, index);
@@ -50,7 +47,7 @@ impl<R: time::Clock> Sockets<'_, R> {
 
     // No answer waits any more: the next message is read, or the connection is left.
     fn go_on(&mut self, slots: &mut [Option<Held>], index: usize)
-        ensures changes { ChangesBy ⟦<Gathered<TcpStream> as Read>⟧.remaining self.old.came self.new.came
+        ensures changes { GoesOn ⟦<Gathered<TcpStream> as Read>⟧.remaining self.old.came self.new.came
             slots.old slots.new }
     {
         if matches!(self.phase(index), Phase::Answer { .. }) {
@@ -92,15 +89,13 @@ impl<R: time::Clock> Sockets<'_, R> {
 
     /// Cuts a connection whose peer takes no answer: from now on its writes fail, and its reads behind what is ahead.
     pub(crate) fn cut(&mut self, slots: &mut [Option<Held>], index: usize)
-        ensures changes { ChangesBy ⟦<Gathered<TcpStream> as Read>⟧.remaining self.old.came self.new.came
+        ensures changes { GoesOn ⟦<Gathered<TcpStream> as Read>⟧.remaining self.old.came self.new.came
             slots.old slots.new }
     {
         if let Some(seat) = seat_at(slots, index) {
             let _ = seat.reader.inner.inner.shutdown(Shutdown::Both);
         }
-        if index < slots.len() {
-            let _ = send_slot(slots, index);
-        }
+        let _ = send_at(slots, index);
         self.give_up(slots, index, ErrorKind::TimedOut);
     }
 }

@@ -1,5 +1,6 @@
 //! A listener's connections, served by an office in turn.
-use crate::sockets::{Held, Sockets};
+use crate::held::Held;
+use crate::sockets::Sockets;
 use keeper::Keeper;
 use office::{Clock, Office};
 use std::net::{Net, TcpListener};

@@ -1,7 +1,8 @@
 //! The loop: it waits for what the sockets tell, and gives the turns that are due.
-ghost use Rattle.std.specs.Prelude.{◌≡◌, ◌<◌, length, IfSome, IsSome};
+ghost use Rattle.std.specs.Prelude.{◌≡◌, ◌<◌, length, IfSome};
 
 use crate::door::Door;
+use crate::held::{Held, ahead_len, fail_at, free_at, seat_at, settle_at};
 use crate::peer::{Peer, Phase};
 use crate::rooms::Rooms;
 use crate::rounds::Rounds;
@@ -9,7 +10,7 @@ use crate::serving::Limits;
 use mio::event::Event;
 use mio::unix::SourceFd;
 use mio::{Events, Interest, Poll, Token};
-use office::{Crowd, Seat, fail_slot, free_slot, settle_slot};
+use office::Crowd;
 use std::alloc::Global;
 use std::io::{ErrorKind, Read};
 use std::net::{Net, TcpListener, TcpStream};
@@ -26,35 +27,6 @@ pub(crate) const MOST_READ: usize = 65_536;
 
 /// How many milliseconds pass between two looks for what lasts too long.
 pub(crate) const LOOK_MILLIS: u64 = 100;
-
-/// A connection in its slot.
-pub(crate) type Held = Seat<Gathered<TcpStream>, Outbox<TcpStream>>;
-
-/// The connection in the slot, if there is one.
-pub(crate) fn seat_at(slots: &[Option<Held>], index: usize) -> Option<&Held>
-    ensures within { IsSome result → index < length slots.now }
-{
-    match slots.get(index) {
-        Some(Some(seat)) => Some(seat),
-        _ => None,
-    }
-}
-
-/// How many bytes are ahead of the connection in the slot.
-pub(crate) fn ahead_len(slots: &[Option<Held>], index: usize) -> usize {
-    match seat_at(slots, index) {
-        Some(seat) => seat.reader.inner.ahead().len(),
-        None => 0,
-    }
-}
-
-/// How many bytes wait for its peer.
-pub(crate) fn waiting_len(slots: &[Option<Held>], index: usize) -> usize {
-    match seat_at(slots, index) {
-        Some(seat) => seat.writer.inner.waiting().len(),
-        None => 0,
-    }
-}
 
 // A turn that was given.
 #[derive(Clone, Copy)]
@@ -128,7 +100,7 @@ impl<'a, R: Net + time::Clock> Sockets<'a, R> {
 }
 
 impl<R: time::Clock> Sockets<'_, R> {
-    ghost use Rattle.office.specs.Crowds.{ChangesBy};
+    ghost use Rattle.sockets.specs.Going.{GoesOn};
 
     /// How many connections came, and how many could not be accepted.
     pub(crate) fn counts(&self) -> (u64, u64) {
@@ -155,7 +127,7 @@ impl<R: time::Clock> Sockets<'_, R> {
 
     /// A turn is due.
     pub(crate) fn make_due(&mut self, slots: &mut [Option<Held>], index: usize)
-        ensures changes { ChangesBy ⟦<Gathered<TcpStream> as Read>⟧.remaining self.old.came self.new.came
+        ensures changes { GoesOn ⟦<Gathered<TcpStream> as Read>⟧.remaining self.old.came self.new.came
             slots.old slots.new }
     {
         if self.phase(index) == Phase::Due {
@@ -169,31 +141,31 @@ impl<R: time::Clock> Sockets<'_, R> {
 
     /// The connection fails so from now on: its turn tells it; or it goes, if its session has ended.
     pub(crate) fn give_up(&mut self, slots: &mut [Option<Held>], index: usize, kind: ErrorKind)
-        ensures changes { ChangesBy ⟦<Gathered<TcpStream> as Read>⟧.remaining self.old.came self.new.came
+        ensures changes { GoesOn ⟦<Gathered<TcpStream> as Read>⟧.remaining self.old.came self.new.came
             slots.old slots.new }
     {
         let has_ended = match seat_at(slots, index) {
             Some(seat) => seat.end().is_some(),
             None => true,
         };
-        if has_ended || index >= slots.len() {
+        if has_ended {
             self.release(slots, index);
             return;
         }
-        fail_slot(slots, index, io::Error::from(kind));
+        fail_at(slots, index, kind);
         self.make_due(slots, index);
     }
 
     /// The connection goes, and its slot is free.
     pub(crate) fn release(&mut self, slots: &mut [Option<Held>], index: usize)
-        ensures changes { ChangesBy ⟦<Gathered<TcpStream> as Read>⟧.remaining self.old.came self.new.came
+        ensures changes { GoesOn ⟦<Gathered<TcpStream> as Read>⟧.remaining self.old.came self.new.came
             slots.old slots.new }
     {
-        if index >= slots.len() || self.phase(index) == Phase::Free {
+        if self.phase(index) == Phase::Free {
             return;
         }
         self.give_room_back(index);
-        let _ = free_slot(slots, index);
+        free_at(slots, index);
         self.enter(index, Phase::Free);
         self.taken = self.taken.saturating_sub(1);
         self.door.end_pause();
@@ -226,7 +198,7 @@ impl<R: time::Clock> Sockets<'_, R> {
 
     // What becomes of a connection behind its turn. It goes where memory was refused for the turn.
     fn settle(&mut self, slots: &mut [Option<Held>], spare: &mut Option<Room>, turn: Turn)
-        ensures changes { ChangesBy ⟦<Gathered<TcpStream> as Read>⟧.remaining self.old.came self.new.came
+        ensures changes { GoesOn ⟦<Gathered<TcpStream> as Read>⟧.remaining self.old.came self.new.came
             slots.old slots.new }
     {
         let index = turn.index;
@@ -237,10 +209,7 @@ impl<R: time::Clock> Sockets<'_, R> {
             self.release(slots, index);
             return;
         }
-        if index >= slots.len() {
-            return;
-        }
-        if let Some(room) = settle_slot(slots, index) {
+        if let Some(room) = settle_at(slots, index) {
             *spare = Some(room);
         }
         if ahead_len(slots, index) == 0 {
@@ -283,7 +252,7 @@ impl<R: time::Clock> Sockets<'_, R> {
 
     // Takes up what a socket told.
     fn take_up(&mut self, slots: &mut [Option<Held>], event: Event)
-        ensures changes { ChangesBy ⟦<Gathered<TcpStream> as Read>⟧.remaining self.old.came self.new.came
+        ensures changes { GoesOn ⟦<Gathered<TcpStream> as Read>⟧.remaining self.old.came self.new.came
             slots.old slots.new }
     {
         let token = event.token();
@@ -307,7 +276,7 @@ impl<R: time::Clock> Sockets<'_, R> {
 
     // Waits, takes up what comes, and begins the next round.
     fn begin_round(&mut self, slots: &mut [Option<Held>])
-        ensures changes { ChangesBy ⟦<Gathered<TcpStream> as Read>⟧.remaining self.old.came self.new.came
+        ensures changes { GoesOn ⟦<Gathered<TcpStream> as Read>⟧.remaining self.old.came self.new.came
             slots.old slots.new }
     {
         self.wait();
