@@ -7,16 +7,16 @@ use Rattle.std.proofs.lemmas.List.Sums.{sum_by-append}
 use Rattle.std.proofs.lemmas.Option.{slice_get_within}
 use Rattle.keeper.specs.declared.keep.Keeper.{Ghosts}
 use Rattle.boxes.specs.State.{State}
-use Rattle.office.specs.Crowds.{Changes, IsAmong, ServesCrowd, StandsIn, TurnsSlot, fails_now, is_fault_end, slot_at}
+use Rattle.office.specs.Crowds.{Changes, IsOpenAt, ServesCrowd, TurnsSlot, fails_now, is_fault_end, slot_at, turns_of}
 use Rattle.office.specs.Crowds as crowd
 use Rattle.office.specs.Interleaved.{Thread}
 use Rattle.office.specs.Premise.{IsLeft}
-use Rattle.office.specs.Seats.{AreThreads, Gathers, IsNew, TakesTurn, TellsTurn, had_ended, went_on, ended}
+use Rattle.office.specs.Seats.{AreThreads, Gathers, IsNew, Sends, TakesTurn, TellsTurn, had_ended, went_on, ended}
 use Rattle.office.specs.declared.connections.seat.Seat.{Seat}
 use Rattle.office.specs.declared.connections.session.SessionEnd.{SessionEnd}
 use Rattle.office.proofs.RunSoFar.{MeansOne}
-use Rattle.office.proofs.SeatTurns.{AllTell, TurnsMore, gathered_seat, gathers_tell, seat_comes, tell_comes, tell_more, turns_more, weaves_last}
-use Rattle.office.proofs.Ties.{Ties, gone_among, no_other_stands, number_of, ties_comes, ties_goes, ties_none, ties_set}
+use Rattle.office.proofs.SeatTurns.{AllTell, TurnsMore, gathered_seat, gathers_tell, seat_comes, sent_seat, tell_comes, tell_more, tell_sent, turns_more, weaves_last}
+use Rattle.office.proofs.Ties.{Ties, gone_among, no_other_stands, none_is, number_of, some_is, ties_comes, ties_goes, ties_none, ties_set}
 use Rattle.office.proofs.Weaving.{SoFar}
 
 -- ---- how many ended by a fault
@@ -29,30 +29,66 @@ threads_first c cs =
     let one : sum_by (λ (d : Thread). cond (is_fault_end d.end) 1 0) (c ∷ []) ≡ one_if c.end = omega arith in
     sum_by-append (λ (d : Thread). cond (is_fault_end d.end) 1 0) (c ∷ []) cs ∙ ap (λ n. n + count_by (λ (d : Thread). is_fault_end d.end) cs) one
 
+abbrev over_if : Option SessionEnd → ℕ
+over_if e = cond (is_some e) 1 0
+
+-- ---- sums
+
+sum_first : {X : Type 0} (f : X → ℕ) (x : X) (xs : List X) → sum_by f (x ∷ xs) ≡ f x + sum_by f xs
+sum_first f x xs = let one : sum_by f (x ∷ []) ≡ f x = omega arith in sum_by-append f (x ∷ []) xs ∙ ap (λ n. n + sum_by f xs) one
+
+sum_set : {X : Type 0} (f : X → ℕ) (xs : List X) (n : ℕ) (d y : X) → n < length xs → sum_by f (set xs n y) + f (get_or xs n d) ≡ sum_by f xs + f y
+sum_set f [] n d y lt = absurd (omega (arith, lt))
+sum_set f (x ∷ xs) zero d y lt = omega (arith, sum_first f x xs, sum_first f y xs)
+sum_set f (x ∷ xs) (suc n) d y lt =
+    let rest = sum_set f xs n d y (omega (arith, lt)) in
+    let all : sum_by f (x ∷ set xs n y) + f (get_or xs n d) ≡ sum_by f (x ∷ xs) + f y = omega (arith, rest, sum_first f x xs, sum_first f x (set xs n y)) in
+    all
+
+sum_more : {X : Type 0} (f : X → ℕ) (xs : List X) (x : X) → sum_by f (xs ++ x ∷ []) ≡ sum_by f xs + f x
+sum_more f xs x = let one : sum_by f (x ∷ []) ≡ f x = omega arith in sum_by-append f xs (x ∷ []) ∙ ap (λ n. sum_by f xs + n) one
+
 module _ {R W : Type 0} where
   abbrev faults_in : List (Seat R W) → ℕ
   faults_in xs = count_by (λ x. is_fault_end x.end) xs
 
+  abbrev turns_in : List (Seat R W) → ℕ
+  turns_in xs = sum_by turns_of xs
+
   faults_first : (x : Seat R W) (xs : List (Seat R W)) → faults_in (x ∷ xs) ≡ one_if x.end + faults_in xs
-  faults_first x xs =
-      let one : sum_by (λ (y : Seat R W). cond (is_fault_end y.end) 1 0) (x ∷ []) ≡ one_if x.end = omega arith in
-      sum_by-append (λ (y : Seat R W). cond (is_fault_end y.end) 1 0) (x ∷ []) xs ∙ ap (λ n. n + faults_in xs) one
+  faults_first x xs = sum_first (λ (y : Seat R W). cond (is_fault_end y.end) 1 0) x xs
 
   faults_set : (xs : List (Seat R W)) (n : ℕ) (d y : Seat R W) → n < length xs → (get_or xs n d).end ≡ None → faults_in (set xs n y) ≡ faults_in xs + one_if y.end
-  faults_set [] n d y lt is = absurd (omega (arith, lt))
-  faults_set (x ∷ xs) zero d y lt is =
-      let none : one_if x.end ≡ zero = ap one_if is in
-      omega (arith, none, faults_first x xs, faults_first y xs)
-  faults_set (x ∷ xs) (suc n) d y lt is =
-      let rest = faults_set xs n d y (omega (arith, lt)) is in
-      let all : faults_in (x ∷ set xs n y) ≡ faults_in (x ∷ xs) + one_if y.end = omega (arith, rest, faults_first x xs, faults_first x (set xs n y)) in
-      all
+  faults_set xs n d y lt is =
+      let none : one_if (get_or xs n d).end ≡ zero = ap one_if is in
+      let all = sum_set (λ (z : Seat R W). cond (is_fault_end z.end) 1 0) xs n d y lt in
+      omega (arith, none, all)
+
+  faults_same : (xs : List (Seat R W)) (n : ℕ) (d y : Seat R W) → n < length xs → y.end ≡ (get_or xs n d).end → faults_in (set xs n y) ≡ faults_in xs
+  faults_same xs n d y lt is =
+      let same : one_if y.end ≡ one_if (get_or xs n d).end = ap one_if is in
+      let all = sum_set (λ (z : Seat R W). cond (is_fault_end z.end) 1 0) xs n d y lt in
+      omega (arith, same, all)
 
   faults_more : (xs : List (Seat R W)) (x : Seat R W) → x.end ≡ None → faults_in (xs ++ x ∷ []) ≡ faults_in xs
   faults_more xs x is =
       let none : one_if x.end ≡ zero = ap one_if is in
-      let one : sum_by (λ (y : Seat R W). cond (is_fault_end y.end) 1 0) (x ∷ []) ≡ zero = omega (arith, none) in
-      sum_by-append (λ (y : Seat R W). cond (is_fault_end y.end) 1 0) xs (x ∷ []) ∙ ap (λ n. faults_in xs + n) one ∙ omega arith
+      let all = sum_more (λ (z : Seat R W). cond (is_fault_end z.end) 1 0) xs x in
+      omega (arith, none, all)
+
+  -- one with as many turns, or one more, takes the place of the one there
+  turns_set : (xs : List (Seat R W)) (n more : ℕ) (d y : Seat R W) → n < length xs → turns_of y ≡ turns_of (get_or xs n d) + more → turns_in (set xs n y) ≡ turns_in xs + more
+  turns_set xs n more d y lt is = let all = sum_set turns_of xs n d y lt in omega (arith, is, all)
+
+  turns_alike : (x y : Seat R W) → y.served ≡ x.served → y.end ≡ x.end → turns_of y ≡ turns_of x + 0
+  turns_alike x y served end =
+      let same : over_if y.end ≡ over_if x.end = ap over_if end in
+      omega (arith, served, same)
+
+  turns_new : (x : Seat R W) → IsNew x → turns_of x ≡ 0
+  turns_new x new =
+      let open_still : over_if x.end ≡ zero = ap over_if new.open_still in
+      omega (arith, new.none, open_still)
 
   faults_of : (remaining : R → Option (List ℕ)) (contents : W → Option (List ℕ)) (fs ns : List (Seat R W)) (cs : List Thread) → AreThreads remaining contents fs ns cs
       → faults_in ns ≡ count_by (λ (c : Thread). is_fault_end c.end) cs
@@ -76,34 +112,36 @@ stands (y ∷ l) (suc n) x is = stands l n x is
 module _ {R W : Type 0} (remaining : R → Option (List ℕ)) (contents : W → Option (List ℕ)) where
   -- ---- so far
 
-  pub record CrowdSoFar {C K : Type 0} (gives : C → ℕ → C → Type 0) (k : Ghosts K) (slots : List (Option (Seat R W))) (came gone : List (Seat R W)) (clock clock' : C) (keeper keeper' : K) (faults : ℕ) (s mid : State) : Type 0 where
+  pub record CrowdSoFar {C K : Type 0} (gives : C → ℕ → C → Type 0) (k : Ghosts K) (slots : List (Option (Seat R W))) (came gone : List (Seat R W)) (clock clock' : C) (keeper keeper' : K) (turns faults : ℕ) (s mid : State) : Type 0 where
     pub seats : List (Seat R W)
     pub number : ℕ → ℕ
     pub ties : Ties slots number seats gone
     pub turned : TurnsMore remaining contents gives k came seats clock clock' keeper keeper' s mid
     pub tell : AllTell came seats
+    pub taken : turns ≡ turns_in seats
     pub faulty : faults ≡ faults_in seats
 
   module _ {C K : Type 0} (gives : C → ℕ → C → Type 0) (k : Ghosts K) (clock : C) (keeper : K) (s : State) where
-    abbrev Now : List (Option (Seat R W)) → List (Seat R W) → List (Seat R W) → C → K → ℕ → State → Type 0
-    Now slots came gone clock' keeper' faults mid = CrowdSoFar gives k slots came gone clock clock' keeper keeper' faults s mid
+    abbrev Now : List (Option (Seat R W)) → List (Seat R W) → List (Seat R W) → C → K → ℕ → ℕ → State → Type 0
+    Now slots came gone clock' keeper' turns faults mid = CrowdSoFar gives k slots came gone clock clock' keeper keeper' turns faults s mid
 
     -- ---- between two turns
 
-    comes_more : (slots : List (Option (Seat R W))) (came gone : List (Seat R W)) (clock' : C) (keeper' : K) (faults p : ℕ) (mid : State) (new : Seat R W) → p < length slots → slot_at slots p ≡ None → IsNew new
-        → Now slots came gone clock' keeper' faults mid → Now (set slots p (Some new)) (came ++ new ∷ []) gone clock' keeper' faults mid
-    comes_more slots came gone clock' keeper' faults p mid new lt free is t = record {
+    comes_more : (slots : List (Option (Seat R W))) (came gone : List (Seat R W)) (clock' : C) (keeper' : K) (turns faults p : ℕ) (mid : State) (new : Seat R W) → p < length slots → slot_at slots p ≡ None → IsNew new
+        → Now slots came gone clock' keeper' turns faults mid → Now (set slots p (Some new)) (came ++ new ∷ []) gone clock' keeper' turns faults mid
+    comes_more slots came gone clock' keeper' turns faults p mid new lt free is t = record {
       seats = t.seats ++ new ∷ [];
       number = number_of p (length t.seats) t.number;
       ties = ties_comes slots t.number t.seats gone t.ties p lt new free;
       turned = seat_comes remaining contents gives k came t.seats clock clock' keeper keeper' s mid new is t.turned;
       tell = tell_comes came t.seats new is t.tell;
+      taken = let all = sum_more turns_of t.seats new in omega (arith, t.taken, all, turns_new new is);
       faulty = t.faulty ∙ sym (faults_more t.seats new is.open_still);
     }
 
-    gathers_more : (slots : List (Option (Seat R W))) (came gone : List (Seat R W)) (clock' : C) (keeper' : K) (faults p : ℕ) (mid : State) (old new : Seat R W) → p < length slots → slot_at slots p ≡ Some old → old.end ≡ None
-        → Gathers remaining contents old new → Now slots came gone clock' keeper' faults mid → Now (set slots p (Some new)) came gone clock' keeper' faults mid
-    gathers_more slots came gone clock' keeper' faults p mid old new lt at is_open g t =
+    gathers_more : (slots : List (Option (Seat R W))) (came gone : List (Seat R W)) (clock' : C) (keeper' : K) (turns faults p : ℕ) (mid : State) (old new : Seat R W) → p < length slots → slot_at slots p ≡ Some old → old.end ≡ None
+        → Gathers remaining old new → Now slots came gone clock' keeper' turns faults mid → Now (set slots p (Some new)) came gone clock' keeper' turns faults mid
+    gathers_more slots came gone clock' keeper' turns faults p mid old new lt at is_open g t =
         let n = t.number p in
         let one = t.ties.each p old at in
         let fits = slice_get_within t.seats n old one in
@@ -114,109 +152,125 @@ module _ {R W : Type 0} (remaining : R → Option (List ℕ)) (contents : W → 
           seats = set t.seats n new;
           number = t.number;
           ties = ties_set slots t.number t.seats gone t.ties p lt old new at;
-          turned = gathered_seat remaining contents gives k came t.seats clock clock' keeper keeper' s mid n old new fits open_there (subst (λ (x : Seat R W). Gathers remaining contents x new) is g) t.turned;
+          turned = gathered_seat remaining contents gives k came t.seats clock clock' keeper keeper' s mid n old new fits open_there (subst (λ (x : Seat R W). Gathers remaining x new) is g) t.turned;
           tell = tell_more came t.seats n old new fits (subst (λ (x : Seat R W). TellsTurn x new) is (gathers_tell remaining contents old new is_open g)) t.tell;
+          taken = let alike = turns_set t.seats n 0 old new fits (subst (λ (x : Seat R W). turns_of new ≡ turns_of x + 0) is (turns_alike old new g.served g.end)) in omega (arith, t.taken, alike);
           faulty = let set_one = faults_set t.seats n old new fits open_there in omega (arith, t.faulty, set_one, none);
         }
 
-    goes_more : (slots : List (Option (Seat R W))) (came gone : List (Seat R W)) (clock' : C) (keeper' : K) (faults p : ℕ) (mid : State) (seat : Seat R W) → p < length slots → slot_at slots p ≡ Some seat
-        → Now slots came gone clock' keeper' faults mid → Now (set slots p None) came (gone ++ seat ∷ []) clock' keeper' faults mid
-    goes_more slots came gone clock' keeper' faults p mid seat lt at t = record {
+    sends_more : (slots : List (Option (Seat R W))) (came gone : List (Seat R W)) (clock' : C) (keeper' : K) (turns faults p : ℕ) (mid : State) (old new : Seat R W) → p < length slots → slot_at slots p ≡ Some old
+        → Sends contents old new → Now slots came gone clock' keeper' turns faults mid → Now (set slots p (Some new)) came gone clock' keeper' turns faults mid
+    sends_more slots came gone clock' keeper' turns faults p mid old new lt at g t =
+        let n = t.number p in
+        let one = t.ties.each p old at in
+        let fits = slice_get_within t.seats n old one in
+        let is : old ≡ get_or t.seats n old = sym (stands t.seats n old one) in
+        let there : Sends contents (get_or t.seats n old) new = subst (λ (x : Seat R W). Sends contents x new) is g in
+        record {
+          seats = set t.seats n new;
+          number = t.number;
+          ties = ties_set slots t.number t.seats gone t.ties p lt old new at;
+          turned = sent_seat remaining contents gives k came t.seats clock clock' keeper keeper' s mid n old new fits there t.turned;
+          tell = tell_sent contents came t.seats n old new fits there t.tell;
+          taken = let alike = turns_set t.seats n 0 old new fits (turns_alike (get_or t.seats n old) new there.served there.end) in omega (arith, t.taken, alike);
+          faulty = t.faulty ∙ sym (faults_same t.seats n old new fits there.end);
+        }
+
+    goes_more : (slots : List (Option (Seat R W))) (came gone : List (Seat R W)) (clock' : C) (keeper' : K) (turns faults p : ℕ) (mid : State) (seat : Seat R W) → p < length slots → slot_at slots p ≡ Some seat
+        → Now slots came gone clock' keeper' turns faults mid → Now (set slots p None) came (gone ++ seat ∷ []) clock' keeper' turns faults mid
+    goes_more slots came gone clock' keeper' turns faults p mid seat lt at t = record {
       seats = t.seats;
       number = t.number;
       ties = ties_goes slots t.number t.seats gone t.ties p lt seat at;
       turned = t.turned;
       tell = t.tell;
+      taken = t.taken;
       faulty = t.faulty;
     }
 
     -- what went on between two turns
-    pub changes_more : (old new : List (Option (Seat R W))) (came gone more went : List (Seat R W)) (clock' : C) (keeper' : K) (faults : ℕ) (mid : State) → Changes remaining contents old new more went
-        → Now old came gone clock' keeper' faults mid → Now new (came ++ more) (gone ++ went) clock' keeper' faults mid
-    changes_more old _ came gone _ _ clock' keeper' faults mid crowd.same t =
-        subst (λ l. Now old l (gone ++ []) clock' keeper' faults mid) (sym (append-nil came))
-        (subst (λ l. Now old came l clock' keeper' faults mid) (sym (append-nil gone)) t)
-    changes_more old _ came gone _ _ clock' keeper' faults mid (crowd.comes now more went p new before lt free is) t =
-        subst (λ l. Now (set now p (Some new)) l (gone ++ went) clock' keeper' faults mid) (append_assoc came more (new ∷ []))
-        (comes_more now (came ++ more) (gone ++ went) clock' keeper' faults p mid new lt free is (changes_more old now came gone more went clock' keeper' faults mid before t))
-    changes_more old _ came gone _ _ clock' keeper' faults mid (crowd.gathers now more went p seat new before lt at is_open g) t =
-        gathers_more now (came ++ more) (gone ++ went) clock' keeper' faults p mid seat new lt at is_open g (changes_more old now came gone more went clock' keeper' faults mid before t)
-    changes_more old _ came gone _ _ clock' keeper' faults mid (crowd.goes now more went p seat before lt at) t =
-        subst (λ l. Now (set now p None) (came ++ more) l clock' keeper' faults mid) (append_assoc gone went (seat ∷ []))
-        (goes_more now (came ++ more) (gone ++ went) clock' keeper' faults p mid seat lt at (changes_more old now came gone more went clock' keeper' faults mid before t))
+    pub changes_more : (old new : List (Option (Seat R W))) (came gone more went : List (Seat R W)) (clock' : C) (keeper' : K) (turns faults : ℕ) (mid : State) → Changes remaining contents old new more went
+        → Now old came gone clock' keeper' turns faults mid → Now new (came ++ more) (gone ++ went) clock' keeper' turns faults mid
+    changes_more old _ came gone _ _ clock' keeper' turns faults mid crowd.same t =
+        subst (λ l. Now old l (gone ++ []) clock' keeper' turns faults mid) (sym (append-nil came))
+        (subst (λ l. Now old came l clock' keeper' turns faults mid) (sym (append-nil gone)) t)
+    changes_more old _ came gone _ _ clock' keeper' turns faults mid (crowd.comes now more went p new before lt free is) t =
+        subst (λ l. Now (set now p (Some new)) l (gone ++ went) clock' keeper' turns faults mid) (append_assoc came more (new ∷ []))
+        (comes_more now (came ++ more) (gone ++ went) clock' keeper' turns faults p mid new lt free is (changes_more old now came gone more went clock' keeper' turns faults mid before t))
+    changes_more old _ came gone _ _ clock' keeper' turns faults mid (crowd.gathers now more went p seat new before lt at is_open g) t =
+        gathers_more now (came ++ more) (gone ++ went) clock' keeper' turns faults p mid seat new lt at is_open g (changes_more old now came gone more went clock' keeper' turns faults mid before t)
+    changes_more old _ came gone _ _ clock' keeper' turns faults mid (crowd.sends now more went p seat new before lt at g) t =
+        sends_more now (came ++ more) (gone ++ went) clock' keeper' turns faults p mid seat new lt at g (changes_more old now came gone more went clock' keeper' turns faults mid before t)
+    changes_more old _ came gone _ _ clock' keeper' turns faults mid (crowd.goes now more went p seat before lt at) t =
+        subst (λ l. Now (set now p None) (came ++ more) l clock' keeper' turns faults mid) (append_assoc gone went (seat ∷ []))
+        (goes_more now (came ++ more) (gone ++ went) clock' keeper' turns faults p mid seat lt at (changes_more old now came gone more went clock' keeper' turns faults mid before t))
 
     -- ---- a turn
 
-    module _ (slots : List (Option (Seat R W))) (came gone : List (Seat R W)) (clock' clock'' : C) (keeper' keeper'' : K) (faults : ℕ) (mid after : State) where
-      -- nothing was done
-      nothing_more : clock'' ≡ clock' → keeper'' ≡ keeper' → after ≡ mid → Now slots came gone clock' keeper' faults mid → Now slots came gone clock'' keeper'' (faults + cond false 1 0) after
-      nothing_more same_clock same_keeper same_state t =
-          let none : faults ≡ faults + cond false 1 0 = omega arith in
-          subst (λ m. Now slots came gone clock'' keeper'' m after) none
-          (subst (λ c. Now slots came gone c keeper'' faults after) (sym same_clock)
-          (subst (λ x. Now slots came gone clock' x faults after) (sym same_keeper)
-          (subst (λ x. Now slots came gone clock' keeper' faults x) (sym same_state) t)))
+    -- the turns that a connection took are one more behind a turn
+    one_turn : (clock' clock'' : C) (keeper' keeper'' : K) (mid after : State) (old new : Seat R W) → old.end ≡ None → TakesTurn gives remaining contents old new clock' clock'' k keeper' keeper'' mid after
+        → turns_of new ≡ turns_of old + 1
+    one_turn clock' clock'' keeper' keeper'' mid after old new is_open (had_ended e is same_seat same_clock same_keeper same_state) =
+        let both : ◌≡◌ None (Some e) = sym is_open ∙ is in absurd cc
+    one_turn clock' clock'' keeper' keeper'' mid after old new is_open (went_on was_open is_now served goes) =
+        let before : over_if old.end ≡ zero = ap over_if is_open in
+        let behind : over_if new.end ≡ zero = ap over_if is_now in
+        omega (arith, before, behind, served)
+    one_turn clock' clock'' keeper' keeper'' mid after old new is_open (ended n e was_open is served sum serves few) =
+        let before : over_if old.end ≡ zero = ap over_if is_open in
+        let behind : over_if new.end ≡ suc zero = ap over_if is in
+        omega (arith, before, behind, served)
 
-      module _ (p : ℕ) (lt : p < length slots) (old new : Seat R W) (at : slot_at slots p ≡ Some old) (t : Now slots came gone clock' keeper' faults mid) where
-        -- it was open
-        open_turn : old.end ≡ None → TakesTurn gives remaining contents old new clock' clock'' k keeper' keeper'' mid after → TellsTurn old new
-            → Now (set slots p (Some new)) came gone clock'' keeper'' (faults + cond (fails_now old.end new.end) 1 0) after
-        open_turn is_open turn tells =
-            let n = t.number p in
-            let one = t.ties.each p old at in
-            let fits = slice_get_within t.seats n old one in
-            let is : old ≡ get_or t.seats n old = sym (stands t.seats n old one) in
-            let open_there : (get_or t.seats n old).end ≡ None = subst (λ (x : Seat R W). x.end ≡ None) is is_open in
-            let told : cond (fails_now old.end new.end) 1 0 ≡ one_if new.end = ap (λ (e : Option SessionEnd). cond (fails_now e new.end) 1 0) is_open in
-            record {
-              seats = set t.seats n new;
-              number = t.number;
-              ties = ties_set slots t.number t.seats gone t.ties p lt old new at;
-              turned = turns_more remaining contents gives k came t.seats clock clock' clock'' keeper keeper' keeper'' s mid after n old new fits
-                  (subst (λ (x : Seat R W). TakesTurn gives remaining contents x new clock' clock'' k keeper' keeper'' mid after) is turn) t.turned;
-              tell = tell_more came t.seats n old new fits (subst (λ (x : Seat R W). TellsTurn x new) is tells) t.tell;
-              faulty = let set_one = faults_set t.seats n old new fits open_there in omega (arith, t.faulty, set_one, told);
-            }
+    module _ (slots : List (Option (Seat R W))) (came gone : List (Seat R W)) (clock' clock'' : C) (keeper' keeper'' : K) (turns faults : ℕ) (mid after : State) where
+      takes_more : (p : ℕ) (old new : Seat R W) → p < length slots → slot_at slots p ≡ Some old → old.end ≡ None
+          → TakesTurn gives remaining contents old new clock' clock'' k keeper' keeper'' mid after → TellsTurn old new
+          → Now slots came gone clock' keeper' turns faults mid → Now (set slots p (Some new)) came gone clock'' keeper'' (turns + 1) (faults + cond (fails_now old.end new.end) 1 0) after
+      takes_more p old new lt at is_open turn tells t =
+          let n = t.number p in
+          let one = t.ties.each p old at in
+          let fits = slice_get_within t.seats n old one in
+          let is : old ≡ get_or t.seats n old = sym (stands t.seats n old one) in
+          let open_there : (get_or t.seats n old).end ≡ None = subst (λ (x : Seat R W). x.end ≡ None) is is_open in
+          let told : cond (fails_now old.end new.end) 1 0 ≡ one_if new.end = ap (λ (e : Option SessionEnd). cond (fails_now e new.end) 1 0) is_open in
+          let count = one_turn clock' clock'' keeper' keeper'' mid after old new is_open turn in
+          record {
+            seats = set t.seats n new;
+            number = t.number;
+            ties = ties_set slots t.number t.seats gone t.ties p lt old new at;
+            turned = turns_more remaining contents gives k came t.seats clock clock' clock'' keeper keeper' keeper'' s mid after n old new fits
+                (subst (λ (x : Seat R W). TakesTurn gives remaining contents x new clock' clock'' k keeper' keeper'' mid after) is turn) t.turned;
+            tell = tell_more came t.seats n old new fits (subst (λ (x : Seat R W). TellsTurn x new) is tells) t.tell;
+            taken = let more = turns_set t.seats n 1 old new fits (subst (λ (x : Seat R W). turns_of new ≡ turns_of x + 1) is count) in omega (arith, t.taken, more);
+            faulty = let set_one = faults_set t.seats n old new fits open_there in omega (arith, t.faulty, set_one, told);
+          }
 
-        takes_more : TakesTurn gives remaining contents old new clock' clock'' k keeper' keeper'' mid after → TellsTurn old new
-            → Now (set slots p (Some new)) came gone clock'' keeper'' (faults + cond (fails_now old.end new.end) 1 0) after
-        takes_more (had_ended e is same_seat same_clock same_keeper same_state) tells =
-            let not : fails_now old.end new.end ≡ false = ap (λ (o : Option SessionEnd). fails_now o new.end) is in
-            let slots_are : set slots p (Some new) ≡ slots = ap (λ (x : Seat R W). set slots p (Some x)) same_seat ∙ ap (set slots p) (sym at) ∙ set-get_or slots p None in
-            subst (λ b. Now (set slots p (Some new)) came gone clock'' keeper'' (faults + cond b 1 0) after) (sym not)
-            (subst (λ l. Now l came gone clock'' keeper'' (faults + cond false 1 0) after) (sym slots_are) (nothing_more same_clock same_keeper same_state t))
-        takes_more (went_on was_open is_open served goes) tells = open_turn was_open (went_on was_open is_open served goes) tells
-        takes_more (ended n e was_open is served sum serves) tells = open_turn was_open (ended n e was_open is served sum serves) tells
+      slot_turns : (p : ℕ) (was now : Option (Seat R W)) (failed : Bool) (seat : Seat R W) → p < length slots → slot_at slots p ≡ was → was ≡ Some seat → seat.end ≡ None
+          → TurnsSlot gives remaining contents clock' clock'' k keeper' keeper'' mid after was now failed
+          → Now slots came gone clock' keeper' turns faults mid → Now (set slots p now) came gone clock'' keeper'' (turns + 1) (faults + cond failed 1 0) after
+      slot_turns p _ _ _ seat lt at there is_open (crowd.nobody same_clock same_keeper same_state) t = absurd (none_is seat there)
+      slot_turns p _ _ _ seat lt at there is_open (crowd.taken old new turn tells) t =
+          takes_more p old new lt at (subst (λ (x : Seat R W). x.end ≡ None) (sym (some_is old seat there)) is_open) turn tells t
 
-    pub slot_turns : (slots : List (Option (Seat R W))) (came gone : List (Seat R W)) (clock' clock'' : C) (keeper' keeper'' : K) (faults : ℕ) (mid after : State) (p : ℕ) (was now : Option (Seat R W)) (failed : Bool) → p < length slots
-        → slot_at slots p ≡ was → TurnsSlot gives remaining contents clock' clock'' k keeper' keeper'' mid after was now failed
-        → Now slots came gone clock' keeper' faults mid → Now (set slots p now) came gone clock'' keeper'' (faults + cond failed 1 0) after
-    slot_turns slots came gone clock' clock'' keeper' keeper'' faults mid after p was _ _ lt at (crowd.left_out _ same_clock same_keeper same_state) t =
-        let slots_are : set slots p was ≡ slots = ap (set slots p) (sym at) ∙ set-get_or slots p None in
-        subst (λ l. Now l came gone clock'' keeper'' (faults + cond false 1 0) after) (sym slots_are)
-        (nothing_more slots came gone clock' clock'' keeper' keeper'' faults mid after same_clock same_keeper same_state t)
-    slot_turns slots came gone clock' clock'' keeper' keeper'' faults mid after p _ _ _ lt at (crowd.taken old new turn tells) t =
-        takes_more slots came gone clock' clock'' keeper' keeper'' faults mid after p lt old new at t turn tells
-
-    -- the same of the slot that is read at an index
-    pub turned_more : (slots : List (Option (Seat R W))) (came gone : List (Seat R W)) (clock' clock'' : C) (keeper' keeper'' : K) (faults faults' : ℕ) (mid after : State) (p : ℕ) (d now : Option (Seat R W)) (failed : Bool) → p < length slots
-        → faults' ≡ faults + cond failed 1 0 → TurnsSlot gives remaining contents clock' clock'' k keeper' keeper'' mid after (get_or slots p d) now failed
-        → Now slots came gone clock' keeper' faults mid → Now (set slots p now) came gone clock'' keeper'' faults' after
-    turned_more slots came gone clock' clock'' keeper' keeper'' faults faults' mid after p d now failed lt counted turn t =
-        subst (λ m. Now (set slots p now) came gone clock'' keeper'' m after) (sym counted)
-        (slot_turns slots came gone clock' clock'' keeper' keeper'' faults mid after p (get_or slots p d) now failed lt (get_or_default slots p None d lt) turn t)
+      -- the same of a slot whose turn is due
+      pub turned_more : (faults' p : ℕ) (now : Option (Seat R W)) (failed : Bool) → IsOpenAt slots p → faults' ≡ faults + cond failed 1 0
+          → TurnsSlot gives remaining contents clock' clock'' k keeper' keeper'' mid after (slot_at slots p) now failed
+          → Now slots came gone clock' keeper' turns faults mid → Now (set slots p now) came gone clock'' keeper'' (turns + 1) faults' after
+      turned_more faults' p now failed due counted turn t =
+          subst (λ m. Now (set slots p now) came gone clock'' keeper'' (turns + 1) m after) (sym counted)
+          (slot_turns p (slot_at slots p) now failed due.1 due.0 refl due.2 due.3 turn t)
 
     -- ---- the end
 
-    pub crowd_ends : (slots : List (Option (Seat R W))) (came gone : List (Seat R W)) (clock' : C) (keeper' : K) (faults : ℕ) (mid : State) → MeansOne k keeper' → IsLeft (k.means keeper') mid
-        → Now slots came gone clock' keeper' faults mid → ServesCrowd gives remaining contents came gone slots clock clock' k keeper keeper' faults s mid
-    crowd_ends slots came gone clock' keeper' faults mid one left t =
+    pub crowd_ends : (slots : List (Option (Seat R W))) (came gone : List (Seat R W)) (clock' : C) (keeper' : K) (turns faults : ℕ) (mid : State) → MeansOne k keeper' → IsLeft (k.means keeper') mid
+        → Now slots came gone clock' keeper' turns faults mid → ServesCrowd gives remaining contents came gone slots clock clock' k keeper keeper' turns faults s mid
+    crowd_ends slots came gone clock' keeper' turns faults mid one left t =
         let w = weaves_last remaining contents gives k came t.seats clock clock' keeper keeper' s mid t.turned t.tell one left in
         record {
           seats = t.seats;
           went = gone_among slots t.number t.seats gone t.ties;
           stand = λ p seat at. (t.number p, t.ties.each p seat at);
           no_other = no_other_stands slots t.number t.seats gone t.ties;
+          taken = t.taken;
           threads = w.threads;
           moments = w.moments;
           told = w.told;
@@ -229,13 +283,14 @@ module _ {R W : Type 0} (remaining : R → Option (List ℕ)) (contents : W → 
         }
 
     -- nothing came yet
-    pub crowd_starts : (slots : List (Option (Seat R W))) → ((p : ℕ) → slot_at slots p ≡ None) → SoFar gives k [] clock clock keeper keeper s s → Now slots [] [] clock keeper 0 s
+    pub crowd_starts : (slots : List (Option (Seat R W))) → ((p : ℕ) → slot_at slots p ≡ None) → SoFar gives k [] clock clock keeper keeper s s → Now slots [] [] clock keeper 0 0 s
     crowd_starts slots free f = record {
       seats = [];
       number = λ p. p;
       ties = ties_none slots free;
       turned = record { sittings = []; are = tt; so_far = f };
       tell = tt;
+      taken = refl;
       faulty = refl;
     }
 

@@ -1,5 +1,5 @@
 -- Connections that are served one after another are served in turn, too.
-use Rattle.std.proofs.Common.{◌≡◌, ◌<◌, ◌≤◌, ◌+◌, ℕ, suc, Bool, true, false, cond, List, [], ◌∷◌, ◌++◌, length, map, Some, refl, sym, ap, subst, ◌∙◌, arith}
+use Rattle.std.proofs.Common.{◌≡◌, ◌<◌, ◌≤◌, ◌+◌, ℕ, suc, Bool, true, false, cond, List, [], ◌∷◌, ◌++◌, length, map, Option, Some, ⊎_elim, inl, inr, refl, sym, ap, subst, ◌∙◌, arith}
 use Rattle.std.specs.Prelude.{nat_eq}
 use Rattle.std.specs.List.{AllByRecursion}
 use Rattle.std.proofs.lemmas.List.{append-nil}
@@ -9,7 +9,7 @@ use Rattle.office.specs.Repeats as act
 use Rattle.office.specs.Sessions.{Connection, Run, most_messages}
 use Rattle.office.specs.declared.connections.session.SessionEnd.{SessionEnd}
 use Rattle.office.proofs.Repeats.{session_acts}
-use Rattle.office.specs.Interleaved.{Turn, acts_in, moments_in, own_acts, own_moments, Thread, thread_of, Speaks, AreSpoken, Interleaved}
+use Rattle.office.specs.Interleaved.{Turn, acts_in, moments_in, own_acts, own_moments, Thread, thread_of, Speaks, AreSpoken, AreTied, Interleaved}
 use Rattle.office.specs.Interleaved as said
 
 -- the acts of a session are spoken
@@ -20,6 +20,18 @@ speaks_of _ _ _ _ _ _ _ _ _ (act.given_up n stream rest s r now out e next reada
 speaks_of _ _ _ _ _ _ _ _ _ (act.answered n stream rest s after a acts moments out e gave_up next is more) =
     said.answered n stream rest a acts moments out (Some e) gave_up next (speaks_of n rest a.after moments out e gave_up acts after more)
 speaks_of _ _ _ _ _ _ _ _ _ (act.lost n stream rest s a front next is begins) = said.lost n stream rest a front next begins
+
+-- what was done was done at the moments that were told
+pub tied_of : (n : ℕ) (stream : List ℕ) (acts : List Act) (moments out : List ℕ) (e : Option SessionEnd) (gave_up : Bool) → Speaks n stream acts moments out e gave_up → AreTied moments acts
+tied_of _ _ _ _ _ _ _ (said.still_open n) = inl refl
+tied_of _ _ _ _ _ _ _ (said.over n stream s out e gave_up h) = inl refl
+tied_of _ _ _ _ _ _ _ (said.given_up n stream rest r now out e next readable last) = inr (now, refl)
+tied_of _ _ _ _ _ _ _ (said.answered n stream rest a acts moments out e gave_up next more) =
+    ⊎_elim
+    (λ (h : moments ≡ map (λ (b : Act). b.now) acts). inl (ap (λ (l : List ℕ). a.now ∷ l) h))
+    (λ (h : (moment : ℕ) × (moments ≡ map (λ (b : Act). b.now) acts ++ moment ∷ [])). inr (h.0, ap (λ (l : List ℕ). a.now ∷ l) h.1))
+    (tied_of n rest acts moments out e gave_up more)
+tied_of _ _ _ _ _ _ _ (said.lost n stream rest a front next begins) = inl refl
 
 pub acts_joined : (s mid after : State) (first more : List Act) → Acts s first mid → Acts mid more after → Acts s (first ++ more) after
 acts_joined s mid after [] more h k = subst (λ x. Acts x more after) h k
@@ -62,6 +74,7 @@ record HasTurns (s : State) (cs : List Connection) (moments : List ℕ) (after :
   pub turns : List Turn
   pub order : Acts s (acts_in turns) after
   pub told : moments ≡ moments_in turns
+  pub tied : AllByRecursion (λ t. AreTied t.moments t.acts) turns
   pub later : Later i (i + length cs) turns
   pub each : AreSpoken turns i (map thread_of cs)
 
@@ -70,7 +83,7 @@ later_more i high high' [] e h = tt
 later_more i high high' (t ∷ ts) e h = ((omega (arith, h.0.0), omega (arith, h.0.1, e)), later_more i high high' ts e h.1)
 
 run_turns : (s after : State) (cs : List Connection) (moments : List ℕ) (i : ℕ) → Run s cs moments after → HasTurns s cs moments after i
-run_turns s after [] moments i h = record { turns = []; order = h.1; told = h.0; later = tt; each = tt }
+run_turns s after [] moments i h = record { turns = []; order = h.1; told = h.0; tied = tt; later = tt; each = tt }
 run_turns s after (c ∷ cs) moments i (first, others, mid, joined, here, more) =
     let x = session_acts most_messages c.stream s first c.answers c.end c.gave_up mid here in
     let y = run_turns mid after cs others (suc i) more in
@@ -83,6 +96,7 @@ run_turns s after (c ∷ cs) moments i (first, others, mid, joined, here, more) 
       turns = t ∷ y.turns;
       order = acts_joined s mid after x.acts (acts_in y.turns) x.by_rules y.order;
       told = joined ∙ ap (λ (r : List ℕ). first ++ r) y.told;
+      tied = (tied_of most_messages c.stream x.acts first c.answers (Some c.end) c.gave_up spoken, y.tied);
       later = ((omega arith, omega arith), later_more i (suc i + length cs) (i + suc (length cs)) y.turns (omega arith) y.later);
       each = (
         subst (λ xs. Speaks most_messages c.stream xs (own_moments i (t ∷ y.turns)) c.answers (Some c.end) c.gave_up) (sym acts)
@@ -106,6 +120,7 @@ run_interleaved s after cs moments h =
       turns = x.turns;
       order = x.order;
       told = x.told;
+      tied = x.tied;
       within = within_all (0 + length cs) (length (map thread_of cs)) x.turns (omega (arith, many cs)) x.later;
       each = x.each;
     }

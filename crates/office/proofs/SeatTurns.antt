@@ -3,7 +3,7 @@ use Rattle.std.proofs.Common.{◌≡◌, ◌<◌, ◌≤◌, ◌+◌, ℕ, zero,
 use Rattle.std.specs.Prelude.{⊤, is_some}
 use Rattle.std.specs.List.{AllByRecursion}
 use Rattle.std.proofs.lemmas.List.{set-get_or}
-use Rattle.std.specs.Io.KnownBytes.{Appends, prepend_known}
+use Rattle.std.specs.Io.KnownBytes.{Appends, Keeps, prepend_known}
 use Rattle.sigtext.specs.Counts.{Rose}
 use Rattle.keeper.specs.declared.keep.Keeper.{Ghosts}
 use Rattle.boxes.specs.State.{State}
@@ -16,15 +16,15 @@ use Rattle.wire.specs.declared.standing.Standing.{Standing}
 use Rattle.office.specs.Begins.{may_begin}
 use Rattle.office.specs.Interleaved.{Thread, acts_in}
 use Rattle.office.specs.Premise.{IsLeft}
-use Rattle.office.specs.Seats.{AreThreads, Gathers, IsNew, IsStreamOf, TakesTurn, TellsTurn, TellsTurnOf, Weaves, had_ended, went_on, ended, left_of}
+use Rattle.office.specs.Seats.{AreThreads, Gathers, Sends, IsNew, IsStreamOf, TakesTurn, TellsTurn, TellsTurnOf, Weaves, had_ended, went_on, ended, left_of}
 use Rattle.office.specs.Sessions.{most_messages}
 use Rattle.office.specs.Stepping.{Steps, TellsStep}
 use Rattle.office.specs.declared.connections.seat.Seat.{Seat}
 use Rattle.office.specs.declared.connections.session.SessionEnd.{SessionEnd}
 use Rattle.office.proofs.Repeats.{repeats_once}
 use Rattle.office.proofs.RunSoFar.{MeansOne}
-use Rattle.office.proofs.Sitting.{IsFirst, Sitting, answered, closed, gathered}
-use Rattle.office.proofs.Weaving.{AreThreadsOf, IsThreadOf, SoFar, all_last, answered_more, closed_more, finishes, gathered_more, none_gave_up, opens}
+use Rattle.office.proofs.Sitting.{IsFirst, Sitting, answered, closed, gathered, sent_on}
+use Rattle.office.proofs.Weaving.{AreThreadsOf, IsThreadOf, SoFar, all_last, answered_more, closed_more, finishes, gathered_more, none_gave_up, opens, sent_more, threads_rose}
 
 -- ---- where a message may begin
 
@@ -101,6 +101,29 @@ module _ {R W : Type 0} where
   tell_more (f ∷ fs) [] p d new lt t h = absurd h
   tell_more (f ∷ fs) (n ∷ ns) zero d new lt t h = (tells_since f n new n.end refl h.0 t, h.1)
   tell_more (f ∷ fs) (n ∷ ns) (suc p) d new lt t h = (h.0, tell_more fs ns p d new (omega (arith, lt)) t h.1)
+
+  -- what was sent on is told by no fault
+  sent_tells : (contents : W → Option (List ℕ)) (first old new : Seat R W) (e : Option SessionEnd) → old.end ≡ e → Sends contents old new → TellsSince first old → TellsSince first new
+  sent_tells contents first old new None is g f =
+      let h : TellsStep None first.reader old.reader first.writer old.writer = subst (λ e. TellsStep e first.reader old.reader first.writer old.writer) is f in
+      subst (λ e. TellsStep e first.reader new.reader first.writer new.writer) (sym (g.end ∙ is)) (ap (λ (r : Counted R). r.faults) g.reader ∙ h.0, g.written ∙ h.1)
+  sent_tells contents first old new (Some e) is g f =
+      let h : TellsStep (Some e) first.reader old.reader first.writer old.writer = subst (λ e. TellsStep e first.reader old.reader first.writer old.writer) is f in
+      let read : new.reader.faults ≡ old.reader.faults = ap (λ (r : Counted R). r.faults) g.reader in
+      let all : TellsStep (Some e) first.reader new.reader first.writer new.writer = record {
+        read = λ at. subst (λ (n : ℕ). Rose first.reader.faults n) (sym read) (h.read at);
+        not_read = λ other. read ∙ h.not_read other;
+        written = λ at. subst (λ (n : ℕ). Rose first.writer.faults n) (sym g.written) (h.written at);
+        not_written = λ other. g.written ∙ h.not_written other;
+      } in
+      subst (λ e. TellsStep e first.reader new.reader first.writer new.writer) (sym (g.end ∙ is)) all
+
+  pub tell_sent : (contents : W → Option (List ℕ)) (fs ns : List (Seat R W)) (p : ℕ) (d new : Seat R W) → p < length ns → Sends contents (get_or ns p d) new → AllTell fs ns → AllTell fs (set ns p new)
+  tell_sent contents [] [] p d new lt g h = absurd (omega (arith, lt))
+  tell_sent contents [] (n ∷ ns) p d new lt g h = absurd h
+  tell_sent contents (f ∷ fs) [] p d new lt g h = absurd h
+  tell_sent contents (f ∷ fs) (n ∷ ns) zero d new lt g h = (sent_tells contents f n new n.end refl g h.0, h.1)
+  tell_sent contents (f ∷ fs) (n ∷ ns) (suc p) d new lt g h = (h.0, tell_sent contents fs ns p d new (omega (arith, lt)) g h.1)
 
   pub tell_comes : (fs ns : List (Seat R W)) (x : Seat R W) → IsNew x → AllTell fs ns → AllTell (fs ++ x ∷ []) (ns ++ x ∷ [])
   tell_comes [] [] x new h = (tells_new x new, tt)
@@ -207,7 +230,7 @@ module _ {R W : Type 0} (remaining : R → Option (List ℕ)) (contents : W → 
           so_far = answered_more gives k t.sittings clock clock' keeper keeper' s mid t.so_far p dx z at.within at.is was_open
               (left_of remaining new) (remaining new.reader.inner) (contents new.writer.inner) clock'' keeper'' after (subst (λ n. n ≤ most_messages) served new.few) goes;
         }
-    turns_more (ended n e was_open is served sum serves) t =
+    turns_more (ended n e was_open is served sum serves few) t =
         let dx = sitting_of d d false in
         let at = stands_there fs ns t.sittings p d dx lt t.are in
         let old = get_or ns p d in
@@ -223,8 +246,15 @@ module _ {R W : Type 0} (remaining : R → Option (List ℕ)) (contents : W → 
 
   -- ---- between two turns
 
+  -- it is the same, but for what was sent on
+  sent_is : (first old new : Seat R W) (gave_up : Bool) → Sends contents old new → sent_on (sitting_of first old gave_up) (contents new.writer.inner) ≡ sitting_of first new gave_up
+  sent_is first old new gave_up g =
+      ap (λ (l : Standing). record (sitting_of first new gave_up) { left = prepend_known (ahead_of l) (remaining old.reader.inner); reader = remaining old.reader.inner; served = old.served; end = old.end }) (sym g.standing)
+      ∙ ap (λ (r : Counted R). record (sitting_of first new gave_up) { left = prepend_known (ahead_of new.standing) (remaining r.inner); reader = remaining r.inner; served = old.served; end = old.end }) (sym g.reader)
+      ∙ same_sitting first new old.served old.end gave_up g.served g.end
+
   module _ {C K : Type 0} (gives : C → ℕ → C → Type 0) (k : Ghosts K) (fs ns : List (Seat R W)) (clock clock' : C) (keeper keeper' : K) (s mid : State) where
-    pub gathered_seat : (p : ℕ) (d new : Seat R W) → p < length ns → (get_or ns p d).end ≡ None → Gathers remaining contents (get_or ns p d) new
+    pub gathered_seat : (p : ℕ) (d new : Seat R W) → p < length ns → (get_or ns p d).end ≡ None → Gathers remaining (get_or ns p d) new
         → TurnsMore gives k fs ns clock clock' keeper keeper' s mid → TurnsMore gives k fs (set ns p new) clock clock' keeper keeper' s mid
     gathered_seat p d new lt is_open g t =
         let dx = sitting_of d d false in
@@ -232,12 +262,26 @@ module _ {R W : Type 0} (remaining : R → Option (List ℕ)) (contents : W → 
         let old = get_or ns p d in
         let x = get_or t.sittings p dx in
         let z = sitting_of at.first old x.gave_up in
-        let y = gathered z (left_of remaining new) (remaining new.reader.inner) (contents new.writer.inner) in
+        let y = gathered z (left_of remaining new) (remaining new.reader.inner) in
         record {
           sittings = set t.sittings p y;
-          are = at.more new y (same_sitting at.first new old.served old.end x.gave_up g.served g.end);
-          so_far = gathered_more gives k t.sittings clock clock' keeper keeper' s mid t.so_far p dx z at.within at.is is_open
-              (left_of remaining new) (remaining new.reader.inner) (contents new.writer.inner) g.keeps g.holds;
+          are = at.more new y (ap (λ (w : Counted W). record y { written = contents w.inner }) (sym g.writer) ∙ same_sitting at.first new old.served old.end x.gave_up g.served g.end);
+          so_far = gathered_more gives k t.sittings clock clock' keeper keeper' s mid t.so_far p dx z at.within at.is is_open (left_of remaining new) (remaining new.reader.inner) g.keeps;
+        }
+
+    pub sent_seat : (p : ℕ) (d new : Seat R W) → p < length ns → Sends contents (get_or ns p d) new
+        → TurnsMore gives k fs ns clock clock' keeper keeper' s mid → TurnsMore gives k fs (set ns p new) clock clock' keeper keeper' s mid
+    sent_seat p d new lt g t =
+        let dx = sitting_of d d false in
+        let at = stands_there fs ns t.sittings p d dx lt t.are in
+        let old = get_or ns p d in
+        let x = get_or t.sittings p dx in
+        let y = sent_on x (contents new.writer.inner) in
+        let was : x.written ≡ contents old.writer.inner = ap (λ (z : Sitting). z.written) at.is in
+        record {
+          sittings = set t.sittings p y;
+          are = at.more new y (ap (λ (z : Sitting). sent_on z (contents new.writer.inner)) at.is ∙ sent_is at.first old new x.gave_up g);
+          so_far = sent_more gives k t.sittings clock clock' keeper keeper' s mid t.so_far p dx (contents new.writer.inner) at.within (subst (λ a. Keeps a (contents new.writer.inner)) (sym was) g.holds);
         }
 
     pub seat_comes : (new : Seat R W) → IsNew new → TurnsMore gives k fs ns clock clock' keeper keeper' s mid
@@ -250,9 +294,9 @@ module _ {R W : Type 0} (remaining : R → Option (List ℕ)) (contents : W → 
     }
 
   -- what is gathered is told by no fault
-  pub gathers_tell : (old new : Seat R W) → old.end ≡ None → Gathers remaining contents old new → TellsTurn old new
+  pub gathers_tell : (old new : Seat R W) → old.end ≡ None → Gathers remaining old new → TellsTurn old new
   gathers_tell old new is_open g =
-      let both : TellsStep None old.reader new.reader old.writer new.writer = (g.read, g.written) in
+      let both : TellsStep None old.reader new.reader old.writer new.writer = (g.read, ap (λ (w : Counted W). w.faults) g.writer) in
       subst (λ e. TellsTurnOf e old new) (sym is_open)
       (subst (λ e. TellsStep e old.reader new.reader old.writer new.writer) (sym (g.end ∙ is_open)) both)
 
@@ -301,6 +345,7 @@ module _ {R W : Type 0} (remaining : R → Option (List ℕ)) (contents : W → 
           repeats = repeats_once s (acts_in w.run.turns) mid w.run.order;
           stays = record {
             counted = λ none. (t.so_far.held (none_gave_up t.sittings w.threads w.are none)).0;
+            rose = threads_rose (k.faults keeper) (k.faults keeper') t.sittings w.threads w.are t.so_far.rose;
             opened = λ none was.
                 let now = (t.so_far.held (none_gave_up t.sittings w.threads w.are none)).1 was in
                 (now, λ u means. one u mid now means left.means);

@@ -1,5 +1,5 @@
 -- What one step of a session gives, and a step before the steps that follow.
-use Rattle.std.proofs.Common.{◌≡◌, ◌<◌, ◌+◌, ◌-◌, ℕ, suc, Bool, true, false, List, [], ◌∷◌, ◌++◌, Option, Some, None, ◌⊎◌, inl, inr, refl, sym, ap, subst, ◌∙◌, append_assoc, arith}
+use Rattle.std.proofs.Common.{◌≡◌, ◌<◌, ◌≤◌, ◌+◌, ◌-◌, ℕ, suc, Bool, true, false, List, [], ◌∷◌, ◌++◌, length, Option, Some, None, ◌⊎◌, inl, inr, refl, sym, ap, subst, ◌∙◌, append_assoc, arith}
 use Rattle.std.proofs.lemmas.List.{append-nil}
 use Rattle.std.specs.Io.KnownBytes.{Appends, Consumes, IsAtEnd, prepend_known}
 use Rattle.sigtext.specs.declared.refusal.Refusal.{Refusal}
@@ -167,6 +167,10 @@ serves_none gives left reader output clock k keeper s = record {
   session = session.limit (rest_of left) s;
 }
 
+pub none_few : {C K : Type 0} (gives : C → ℕ → C → Type 0) (left reader output : Option (List ℕ)) (clock : C) (k : Ghosts K) (keeper : K) (s : State) → length (serves_none gives left reader output clock k keeper s).moments ≤ 1
+unfolding serves_none
+none_few gives left reader output clock k keeper s = omega arith
+
 -- ---- steps with a message
 
 module _ {C K : Type 0} (gives : C → ℕ → C → Type 0) (p : Place) (left reader output output' : Option (List ℕ)) (clock clock' : C) (k : Ghosts K) (keeper keeper' : K) (s : State)
@@ -188,7 +192,7 @@ module _ {C K : Type 0} (gives : C → ℕ → C → Type 0) (p : Place) (left r
   gave_up_step (gave_up_at now told appends less readable keeps) = (
     s,
     keeps,
-    λ n _. record {
+    λ n _. (record {
       stream = (text ++ body) ++ waits;
       moments = now ∷ [];
       answers = session.closing rule.TryAgain;
@@ -199,7 +203,7 @@ module _ {C K : Type 0} (gives : C → ℕ → C → Type 0) (p : Place) (left r
       held = held_to k keeper keeper' true (Refused 40) less (refused_no_read 40);
       lasts = given_no_more (Refused 40) (refused_no_read 40);
       session = session.gave_up_at n ((text ++ body) ++ waits) waits s r now (stands waits) readable;
-    },
+    }, omega arith),
   )
 
   pub broken_step : Handles gives clock clock' output output' k keeper keeper' s r Broken → Steps gives p left (prepend_known waits reader) reader output output' clock clock' k keeper keeper' s (Some WriteFault)
@@ -207,7 +211,7 @@ module _ {C K : Type 0} (gives : C → ℕ → C → Type 0) (p : Place) (left r
       let rest = rest_of (prepend_known waits reader) in (
         after,
         keeps,
-        λ n _. record {
+        λ n _. (record {
           stream = (text ++ body) ++ rest;
           moments = now ∷ [];
           answers = front;
@@ -218,12 +222,12 @@ module _ {C K : Type 0} (gives : C → ℕ → C → Type 0) (p : Place) (left r
           held = held_to k keeper keeper' false WriteFault same write_no_read;
           lasts = λ none. lasts;
           session = session.write_failed n ((text ++ body) ++ rest) rest s after r now written front (stands rest) answers begins;
-        },
+        }, omega arith),
       )
   broken_step (broke_giving_up_at now front told appends begins less readable keeps) = (
     s,
     keeps,
-    λ n _. record {
+    λ n _. (record {
       stream = (text ++ body) ++ waits;
       moments = now ∷ [];
       answers = front;
@@ -234,7 +238,7 @@ module _ {C K : Type 0} (gives : C → ℕ → C → Type 0) (p : Place) (left r
       held = held_to k keeper keeper' true WriteFault less write_no_read;
       lasts = given_no_more WriteFault write_no_read;
       session = session.write_failed_giving_up_at n ((text ++ body) ++ waits) waits s r now front (stands waits) readable begins;
-    },
+    }, omega arith),
   )
 
 -- ---- steps without a message
@@ -271,7 +275,7 @@ module _ {C K : Type 0} (gives : C → ℕ → C → Type 0) (p : Place) (left l
   ends e gave_up stream text leaves rose read written whole = (
     s,
     leaves.keeps,
-    λ n all. record {
+    λ n all. (record {
       stream = stream;
       moments = [];
       answers = text;
@@ -282,7 +286,7 @@ module _ {C K : Type 0} (gives : C → ℕ → C → Type 0) (p : Place) (left l
       held = (leaves.held, rose);
       lasts = λ none. never_changed refl leaves.adds;
       session = whole n all;
-    },
+    }, omega arith),
   )
 
   pub closed_step : (q : Refusal) (e : SessionEnd) → Leaves k keeper keeper' s false → OfStream left (λ stream. Next stream (frame.Refused q) []) → IsClosed output output' q e
@@ -377,8 +381,9 @@ steps_after gives p left left' reader output output' clock clock' k a b c s (Som
   after,
   keeps,
   λ n all.
-      let r = serves n all in
-      record {
+      let both = serves n all in
+      let r = both.0 in
+      (record {
         stream = r.stream;
         moments = r.moments;
         answers = r.answers;
@@ -389,7 +394,7 @@ steps_after gives p left left' reader output output' clock clock' k a b c s (Som
         held = held_more_to k a b c r.gave_up e (x.faults, x.open_still) r.held;
         lasts = λ none. through_after x.adds (r.lasts none);
         session = r.session;
-      },
+      }, both.1),
 )
 
 -- ---- the messages so far
@@ -417,9 +422,9 @@ module _ {C K : Type 0} (gives : C → ℕ → C → Type 0) (counter : ℕ) (le
   }
 
   pub follows_end : (p : Place) (reader last : Option (List ℕ)) (end : C) (sum : K) (after : State) (e : SessionEnd) → counter < session.most_messages → (p ≡ place.Fresh → counter ≡ 0)
-      → ((n : ℕ) → ToCome p (suc n) → Serves (suc n) gives left' reader output' last clock' end k keeper' sum mid after e) → Serves session.most_messages gives left reader output last clock end k keeper sum s after e
+      → ((n : ℕ) → ToCome p (suc n) → (serves : Serves (suc n) gives left' reader output' last clock' end k keeper' sum mid after e) × (length serves.moments ≤ 1)) → Serves session.most_messages gives left reader output last clock end k keeper sum s after e
   follows_end p reader last end sum after e lt first serves =
-      f.whole (suc (999 - counter)) reader last end sum after e (omega (arith, lt)) (serves (999 - counter) (λ fresh. omega (arith, first fresh)))
+      f.whole (suc (999 - counter)) reader last end sum after e (omega (arith, lt)) (serves (999 - counter) (λ fresh. omega (arith, first fresh))).0
 
   pub follows_limit : (reader : Option (List ℕ)) → counter ≡ session.most_messages → Serves session.most_messages gives left reader output output' clock clock' k keeper keeper' s mid Limit
   follows_limit reader all = f.whole 0 reader output' clock' keeper' mid Limit (omega (arith, all)) (serves_none gives left' reader output' clock' k keeper' mid)

@@ -106,18 +106,45 @@ first_sits x is = sits_open x [] [] is.open_still (record {
   follows = λ n m stream more later out e gave_up sum sp. let same : n ≡ m = omega (arith, sum, is.none) in subst (λ k. Speaks k stream more later out e gave_up) same sp;
 })
 
--- ---- bytes of it are read ahead, or sent on
+-- ---- bytes of it are sent on
 
-abbrev pub gathered : Sitting → Option (List ℕ) → Option (List ℕ) → Option (List ℕ) → Sitting
-gathered x left reader written = record x { left = left; reader = reader; written = written }
+abbrev pub sent_on : Sitting → Option (List ℕ) → Sitting
+sent_on x written = record x { written = written }
 
-pub gathered_sits : (x : Sitting) (left reader written : Option (List ℕ)) (acts : List Act) (moments : List ℕ) → Keeps x.left left → Keeps x.written written → Heard x acts moments
-    → Heard (gathered x left reader written) acts moments
-gathered_sits x left reader written acts moments keeps holds h = record {
+sent_so : (x : Sitting) (written : Option (List ℕ)) (acts : List Act) (moments : List ℕ) (e : Option SessionEnd) → Keeps x.written written → SitsSo e x acts moments
+    → SitsSo e (sent_on x written) acts moments
+sent_so x written acts moments None holds h = record {
+  front = h.front;
+  text = h.text;
+  taken = h.taken;
+  written_to = Appends-kept x.output x.written written h.text h.written_to holds;
+  few = h.few;
+  marked = h.marked;
+  follows = h.follows;
+}
+sent_so x written acts moments (Some e) holds h = record {
+  stream = h.stream;
+  answers = h.answers;
+  read = h.read;
+  written_to = Appends-kept x.output x.written written h.answers h.written_to holds;
+  speaks = h.speaks;
+}
+
+pub sent_sits : (x : Sitting) (written : Option (List ℕ)) (acts : List Act) (moments : List ℕ) → Keeps x.written written → Sits x acts moments → Sits (sent_on x written) acts moments
+sent_sits x written acts moments holds h = sent_so x written acts moments x.end holds h
+
+-- ---- bytes of it are read ahead
+
+abbrev pub gathered : Sitting → Option (List ℕ) → Option (List ℕ) → Sitting
+gathered x left reader = record x { left = left; reader = reader }
+
+pub gathered_sits : (x : Sitting) (left reader : Option (List ℕ)) (acts : List Act) (moments : List ℕ) → Keeps x.left left → Heard x acts moments
+    → Heard (gathered x left reader) acts moments
+gathered_sits x left reader acts moments keeps h = record {
   front = h.front;
   text = h.text;
   taken = Consumes-kept x.input x.left left h.front h.taken keeps;
-  written_to = Appends-kept x.output x.written written h.text h.written_to holds;
+  written_to = h.written_to;
   few = h.few;
   marked = h.marked;
   follows = h.follows;

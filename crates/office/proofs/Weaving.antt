@@ -5,10 +5,11 @@ use Rattle.std.specs.List.{AllByRecursion}
 use Rattle.std.proofs.lemmas.List.{append-nil}
 use Rattle.std.specs.Io.KnownBytes.{Appends, Keeps}
 use Rattle.keeper.specs.declared.keep.Keeper.{Ghosts}
+use Rattle.sigtext.specs.Counts.{Rose}
 use Rattle.boxes.specs.State.{State}
 use Rattle.office.specs.Connections.{Serves, TellsMoments}
 use Rattle.office.specs.Crashes.{LastsThrough, never_changed}
-use Rattle.office.specs.Interleaved.{AreSpoken, Interleaved, Speaks, Thread, Turn, acts_in, moments_in, own_acts, own_moments}
+use Rattle.office.specs.Interleaved.{AreSpoken, AreTied, Interleaved, Speaks, Thread, Turn, acts_in, moments_in, own_acts, own_moments}
 use Rattle.office.specs.Interleaved as said
 use Rattle.office.specs.Premise.{HoldsUp}
 use Rattle.office.specs.Repeats.{Act, Acts}
@@ -20,8 +21,9 @@ use Rattle.office.specs.declared.connections.session.SessionEnd.TheVariants.{Rea
 use Rattle.office.proofs.Endurance.{still, then_through}
 use Rattle.office.proofs.Repeats.{session_acts}
 use Rattle.office.proofs.RunSoFar.{told_more}
-use Rattle.office.proofs.RunTurns.{acts_joined, less_is_not, same_is, speaks_of}
-use Rattle.office.proofs.Sitting.{Sitting, Sits, SitsSo, IsFirst, act_of, answered, answered_sits, closed, closed_sits, first_sits, gathered, gathered_sits, open_sits, sits_by, sits_open}
+use Rattle.office.proofs.Unstaged.{rose_before, rose_later}
+use Rattle.office.proofs.RunTurns.{acts_joined, less_is_not, same_is, speaks_of, tied_of}
+use Rattle.office.proofs.Sitting.{Sitting, Sits, SitsSo, IsFirst, act_of, answered, answered_sits, closed, closed_sits, first_sits, gathered, gathered_sits, open_sits, sent_on, sent_sits, sits_by, sits_open}
 
 -- ---- one turn more at the end
 
@@ -59,6 +61,10 @@ own_other turns t i is = (
 within_more : (n : ℕ) (turns : List Turn) (t : Turn) → AllByRecursion (λ u. u.which < n) turns → t.which < n → AllByRecursion (λ u. u.which < n) (turns ++ t ∷ [])
 within_more n [] t h lt = (lt, tt)
 within_more n (u ∷ turns) t h lt = (h.0, within_more n turns t h.1 lt)
+
+tied_more : (turns : List Turn) (t : Turn) → AllByRecursion (λ u. AreTied u.moments u.acts) turns → AreTied t.moments t.acts → AllByRecursion (λ u. AreTied u.moments u.acts) (turns ++ t ∷ [])
+tied_more [] t h one = (one, tt)
+tied_more (u ∷ turns) t h one = (h.0, tied_more turns t h.1 one)
 
 -- ---- the connections
 
@@ -115,11 +121,20 @@ all_unset P [] p d new lt had h = absurd (omega (arith, lt))
 all_unset P (x ∷ xs) zero d new lt had h = ((had, h.1), h.0)
 all_unset P (x ∷ xs) (suc p) d new lt had h = let rest = all_unset P xs p d new (omega (arith, lt)) had h.1 in ((h.0, rest.0), rest.1)
 
+-- the same, where it holds of what was set as of what stood there
+all_as : (P : Sitting → Type 0) (xs : List Sitting) (p : ℕ) (d new : Sitting) → p < length xs → (P new → P (get_or xs p d)) → AllByRecursion P (set xs p new) → AllByRecursion P xs
+all_as P [] p d new lt so h = tt
+all_as P (x ∷ xs) zero d new lt so h = (so h.0, h.1)
+all_as P (x ∷ xs) (suc p) d new lt so h = (h.0, all_as P xs p d new (omega (arith, lt)) so h.1)
+
 all_before : (P : Sitting → Type 0) (xs : List Sitting) (x : Sitting) → AllByRecursion P (xs ++ x ∷ []) → AllByRecursion P xs
 all_before P [] x h = tt
 all_before P (y ∷ xs) x h = (h.0, all_before P xs x h.1)
 
 -- ---- the turns so far
+
+some_end : (a b : SessionEnd) → Some a ≡ Some b → a ≡ b
+some_end a b h = cc
 
 abbrev pub NotGivenUp : Sitting → Type 0
 NotGivenUp x = x.gave_up ≡ false
@@ -127,12 +142,48 @@ NotGivenUp x = x.gave_up ≡ false
 abbrev pub LastsAt : Sitting → Type 0
 LastsAt x = (x.gave_up ≡ false) ⊎ (x.end ≡ Some ReadFault)
 
+-- where it gave up at a failed read, the keeper's count rose
+abbrev pub RoseAt : ℕ → ℕ → Sitting → Type 0
+RoseAt before behind x = x.gave_up ≡ true → x.end ≡ Some ReadFault → Rose before behind
+
+unmarked_rose : (before behind : ℕ) (x : Sitting) → x.gave_up ≡ false → RoseAt before behind x
+unmarked_rose before behind x not is at_end = absurd cc
+
+all_set : (P Q : Sitting → Type 0) → ((x : Sitting) → P x → Q x) → (xs : List Sitting) (p : ℕ) (new : Sitting) → AllByRecursion P xs → Q new → AllByRecursion Q (set xs p new)
+all_set P Q so [] p new h one = tt
+all_set P Q so (x ∷ xs) zero new h one = (one, all_so P Q so xs h.1)
+  where
+    all_so : (P Q : Sitting → Type 0) → ((x : Sitting) → P x → Q x) → (xs : List Sitting) → AllByRecursion P xs → AllByRecursion Q xs
+    all_so P Q so [] h = tt
+    all_so P Q so (x ∷ xs) h = (so x h.0, all_so P Q so xs h.1)
+all_set P Q so (x ∷ xs) (suc p) new h one = (so x h.0, all_set P Q so xs p new h.1 one)
+
+all_get : (P : Sitting → Type 0) (xs : List Sitting) (p : ℕ) (d : Sitting) → p < length xs → AllByRecursion P xs → P (get_or xs p d)
+all_get P [] p d lt h = absurd (omega (arith, lt))
+all_get P (x ∷ xs) zero d lt h = h.0
+all_get P (x ∷ xs) (suc p) d lt h = all_get P xs p d (omega (arith, lt)) h.1
+
+all_last_one : (P : Sitting → Type 0) (xs : List Sitting) (x : Sitting) → AllByRecursion P xs → P x → AllByRecursion P (xs ++ x ∷ [])
+all_last_one P [] x h one = (one, tt)
+all_last_one P (y ∷ xs) x h one = (h.0, all_last_one P xs x h.1 one)
+
+first_rose : (before behind : ℕ) (xs : List Sitting) → AllByRecursion IsFirst xs → AllByRecursion (RoseAt before behind) xs
+first_rose before behind [] first = tt
+first_rose before behind (x ∷ xs) first = (unmarked_rose before behind x first.0.marked, first_rose before behind xs first.1)
+
+held_least : {K : Type 0} (k : Ghosts K) (gave_up : Bool) (a b : K) → HoldsUp k gave_up a b → k.faults a ≤ k.faults b
+held_least k true a b h = h
+held_least k false a b h = omega (arith, h.0)
+
 pub record SoFar {C K : Type 0} (gives : C → ℕ → C → Type 0) (k : Ghosts K) (sittings : List Sitting) (clock clock' : C) (keeper keeper' : K) (s mid : State) : Type 0 where
   pub turns : List Turn
   pub order : Acts s (acts_in turns) mid
   pub told : TellsMoments gives clock (moments_in turns) clock'
+  pub tied : AllByRecursion (λ t. AreTied t.moments t.acts) turns
   pub within : AllByRecursion (λ t. t.which < length sittings) turns
   pub sit : AllSit turns 0 sittings
+  pub never_less : k.faults keeper ≤ k.faults keeper'
+  pub rose : AllByRecursion (RoseAt (k.faults keeper) (k.faults keeper')) sittings
   pub held : AllByRecursion NotGivenUp sittings → HoldsUp k false keeper keeper'
   pub lasts : AllByRecursion LastsAt sittings → LastsThrough k keeper keeper' s mid
 
@@ -153,7 +204,10 @@ module _ {C K : Type 0} (gives : C → ℕ → C → Type 0) (k : Ghosts K) wher
     pub told : TellsMoments gives clock moments clock'
     pub by_rules : Acts mid acts after
     pub moves : (before : List Act) (earlier : List ℕ) → Sits x before earlier → Sits new (before ++ acts) (earlier ++ moments)
+    pub tied : AreTied moments acts
     pub marked : x.gave_up ≡ false
+    pub never_less : k.faults keeper ≤ k.faults keeper'
+    pub rose : RoseAt (k.faults keeper) (k.faults keeper') new
     pub held : new.gave_up ≡ false → HoldsUp k false keeper keeper'
     pub lasts : LastsAt new → LastsThrough k keeper keeper' mid after
 
@@ -169,8 +223,12 @@ module _ {C K : Type 0} (gives : C → ℕ → C → Type 0) (k : Ghosts K) wher
         turns = f.turns ++ u ∷ [];
         order = subst (λ x. Acts s x after) (sym (acts_more f.turns u)) (acts_joined s mid after (acts_in f.turns) t.acts f.order t.by_rules);
         told = subst (λ x. TellsMoments gives clock x clock'') (sym (moments_more f.turns u)) (told_more gives clock clock' clock'' (moments_in f.turns) t.moments f.told t.told);
+        tied = tied_more f.turns u f.tied t.tied;
         within = same_length (length xs) (length (set xs p new)) (f.turns ++ u ∷ []) (set_length xs p new) (within_more (length xs) f.turns u f.within lt);
         sit = one_turns f.turns u 0 p d new xs (omega arith) lt t.moves f.sit;
+        never_less = omega (arith, f.never_less, t.never_less);
+        rose = all_set (RoseAt (k.faults keeper) (k.faults keeper')) (RoseAt (k.faults keeper) (k.faults keeper'')) (λ x r is at_end. rose_before (k.faults keeper) (k.faults keeper') (k.faults keeper'') (r is at_end) t.never_less)
+            xs p new f.rose (λ is at_end. rose_later (k.faults keeper) (k.faults keeper') (k.faults keeper'') f.never_less (t.rose is at_end));
         held = λ none. let both = all_unset NotGivenUp xs p d new lt t.marked none in holds_both keeper keeper' keeper'' (f.held both.0) (t.held both.1);
         lasts = λ all. let both = all_unset LastsAt xs p d new lt (inl t.marked) all in then_through (f.lasts both.0) (t.lasts both.1);
       }
@@ -181,8 +239,11 @@ module _ {C K : Type 0} (gives : C → ℕ → C → Type 0) (k : Ghosts K) wher
     turns = [];
     order = refl;
     told = refl;
+    tied = tt;
     within = tt;
     sit = all_first 0 xs first;
+    never_less = omega arith;
+    rose = first_rose (k.faults keeper) (k.faults keeper) xs first;
     held = λ _. (refl, λ was. was);
     lasts = λ _. never_changed refl still;
   }
@@ -205,10 +266,13 @@ module _ {C K : Type 0} (gives : C → ℕ → C → Type 0) (k : Ghosts K) wher
             acts = act_of x left reader written clock' clock'' keeper' keeper'' mid after g ∷ [];
             moments = g.moment ∷ [];
             told = (clock'', g.told, refl);
+            tied = inl refl;
             by_rules = (refl, g.answers.replies, refl);
             moves = λ before earlier h. sits_open (answered x left reader written) _ _ is_open
                 (answered_sits x left reader written clock' clock'' keeper' keeper'' mid after g before earlier few (open_sits x before earlier is_open h));
             marked = unmarked;
+            never_less = held_least k false keeper' keeper'' g.held;
+            rose = unmarked_rose (k.faults keeper') (k.faults keeper'') (answered x left reader written) unmarked;
             held = λ _. g.held;
             lasts = λ _. g.lasts;
           }))
@@ -225,34 +289,55 @@ module _ {C K : Type 0} (gives : C → ℕ → C → Type 0) (k : Ghosts K) wher
             acts = y.acts;
             moments = v.moments;
             told = v.told;
+            tied = tied_of n v.stream y.acts v.moments v.answers (Some e) v.gave_up (speaks_of n v.stream mid v.moments v.answers e v.gave_up y.acts after y.are);
             by_rules = y.by_rules;
             moves = λ before earlier h. closed_sits x left reader written e v.gave_up n v.stream v.answers y.acts v.moments before earlier sum v.read v.written
                 (speaks_of n v.stream mid v.moments v.answers e v.gave_up y.acts after y.are) (open_sits x before earlier is_open h);
             marked = unmarked;
+            never_less = held_least k v.gave_up keeper' keeper'' v.held.0;
+            rose = λ is at_end. v.held.1 is (some_end e ReadFault at_end);
             held = λ is. subst (λ b. HoldsUp k b keeper' keeper'') is v.held.0;
             lasts = λ at_end. v.lasts (ends_so at_end);
           }))
         where
           ends_so : LastsAt (closed x left reader written e v.gave_up) → (v.gave_up ≡ false) ⊎ (e ≡ ReadFault)
           ends_so (inl is) = inl is
-          ends_so (inr is) = inr (some_is e ReadFault is)
-            where
-              some_is : (a b : SessionEnd) → Some a ≡ Some b → a ≡ b
-              some_is a b h = cc
+          ends_so (inr is) = inr (some_end e ReadFault is)
 
-      -- bytes of it are read ahead, or sent on
-      pub gathered_more : (left reader written : Option (List ℕ)) → Keeps x.left left → Keeps x.written written → SoFar gives k (set xs p (gathered x left reader written)) clock clock' keeper keeper' s mid
-      gathered_more left reader written keeps holds = record {
+      -- bytes of it are read ahead
+      pub gathered_more : (left reader : Option (List ℕ)) → Keeps x.left left → SoFar gives k (set xs p (gathered x left reader)) clock clock' keeper keeper' s mid
+      gathered_more left reader keeps = record {
         turns = f.turns;
         order = f.order;
         told = f.told;
-        within = same_length (length xs) (length (set xs p (gathered x left reader written))) f.turns (set_length xs p (gathered x left reader written)) f.within;
-        sit = one_changes f.turns 0 p d (gathered x left reader written) xs lt
-            (λ acts moments h. sits_open (gathered x left reader written) acts moments is_open
-            (gathered_sits x left reader written acts moments keeps holds (open_sits x acts moments is_open (subst (λ (y : Sitting). Sits y acts moments) at h)))) f.sit;
-        held = λ none. f.held (all_unset NotGivenUp xs p d (gathered x left reader written) lt (subst NotGivenUp (sym at) unmarked) none).0;
-        lasts = λ all. f.lasts (all_unset LastsAt xs p d (gathered x left reader written) lt (subst LastsAt (sym at) (inl unmarked)) all).0;
+        tied = f.tied;
+        within = same_length (length xs) (length (set xs p (gathered x left reader))) f.turns (set_length xs p (gathered x left reader)) f.within;
+        sit = one_changes f.turns 0 p d (gathered x left reader) xs lt
+            (λ acts moments h. sits_open (gathered x left reader) acts moments is_open
+            (gathered_sits x left reader acts moments keeps (open_sits x acts moments is_open (subst (λ (y : Sitting). Sits y acts moments) at h)))) f.sit;
+        never_less = f.never_less;
+        rose = all_set (RoseAt (k.faults keeper) (k.faults keeper')) (RoseAt (k.faults keeper) (k.faults keeper')) (λ y r. r) xs p (gathered x left reader) f.rose (unmarked_rose (k.faults keeper) (k.faults keeper') (gathered x left reader) unmarked);
+        held = λ none. f.held (all_unset NotGivenUp xs p d (gathered x left reader) lt (subst NotGivenUp (sym at) unmarked) none).0;
+        lasts = λ all. f.lasts (all_unset LastsAt xs p d (gathered x left reader) lt (subst LastsAt (sym at) (inl unmarked)) all).0;
       }
+
+    -- bytes that were written to one that stands there are sent on
+    pub sent_more : (p : ℕ) (d : Sitting) (written : Option (List ℕ)) → p < length xs → Keeps (get_or xs p d).written written → SoFar gives k (set xs p (sent_on (get_or xs p d) written)) clock clock' keeper keeper' s mid
+    sent_more p d written lt holds =
+        let x = get_or xs p d in
+        let y = sent_on x written in
+        record {
+          turns = f.turns;
+          order = f.order;
+          told = f.told;
+          tied = f.tied;
+          within = same_length (length xs) (length (set xs p y)) f.turns (set_length xs p y) f.within;
+          sit = one_changes f.turns 0 p d y xs lt (λ acts moments h. sent_sits x written acts moments holds h) f.sit;
+          never_less = f.never_less;
+          rose = all_set (RoseAt (k.faults keeper) (k.faults keeper')) (RoseAt (k.faults keeper) (k.faults keeper')) (λ z r. r) xs p y f.rose (all_get (RoseAt (k.faults keeper) (k.faults keeper')) xs p d lt f.rose);
+          held = λ none. f.held (all_as NotGivenUp xs p d y lt (λ h. h) none);
+          lasts = λ all. f.lasts (all_as LastsAt xs p d y lt (λ h. h) all);
+        }
 
     -- ---- a connection more
 
@@ -286,8 +371,11 @@ module _ {C K : Type 0} (gives : C → ℕ → C → Type 0) (k : Ghosts K) wher
       turns = f.turns;
       order = f.order;
       told = f.told;
+      tied = f.tied;
       within = within_longer (length xs) (length (xs ++ x ∷ [])) f.turns (longer xs x) f.within;
       sit = sit_opens f.turns 0 (length xs) x xs (omega arith) f.within new f.sit;
+      never_less = f.never_less;
+      rose = all_last_one (RoseAt (k.faults keeper) (k.faults keeper')) xs x f.rose (unmarked_rose (k.faults keeper) (k.faults keeper') x new.marked);
       held = λ none. f.held (all_before NotGivenUp xs x none);
       lasts = λ all. f.lasts (all_before LastsAt xs x all);
     }
@@ -374,7 +462,7 @@ finishes gives k xs clock clock' keeper keeper' s mid f =
       are = x.are;
       many = x.many;
       told = f.told;
-      run = record { turns = f.turns; order = f.order; told = refl; within = same_length (length xs) (length x.threads) f.turns (sym x.many) f.within; each = x.spoken };
+      run = record { turns = f.turns; order = f.order; told = refl; tied = f.tied; within = same_length (length xs) (length x.threads) f.turns (sym x.many) f.within; each = x.spoken };
     }
 
 -- ---- what holds of all threads held of all connections
@@ -384,6 +472,13 @@ none_gave_up [] [] are h = tt
 none_gave_up [] (c ∷ cs) are h = absurd are
 none_gave_up (x ∷ xs) [] are h = absurd are
 none_gave_up (x ∷ xs) (c ∷ cs) are h = (sym are.0.marked ∙ h.0, none_gave_up xs cs are.1 h.1)
+
+pub threads_rose : (before behind : ℕ) (xs : List Sitting) (cs : List Thread) → AreThreadsOf xs cs → AllByRecursion (RoseAt before behind) xs
+    → AllByRecursion (λ (c : Thread). c.gave_up ≡ true → c.end ≡ Some ReadFault → Rose before behind) cs
+threads_rose before behind [] [] are h = tt
+threads_rose before behind [] (c ∷ cs) are h = absurd are
+threads_rose before behind (x ∷ xs) [] are h = absurd are
+threads_rose before behind (x ∷ xs) (c ∷ cs) are h = (λ is at_end. h.0 (sym are.0.marked ∙ is) (sym are.0.end ∙ at_end), threads_rose before behind xs cs are.1 h.1)
 
 pub all_last : (xs : List Sitting) (cs : List Thread) → AreThreadsOf xs cs → AllByRecursion (λ (c : Thread). (c.gave_up ≡ false) ⊎ (c.end ≡ Some ReadFault)) cs → AllByRecursion LastsAt xs
 all_last [] [] are h = tt

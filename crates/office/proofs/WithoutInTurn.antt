@@ -5,7 +5,7 @@ use Rattle.std.specs.List.{AllByRecursion}
 use Rattle.boxes.specs.State.{State}
 use Rattle.wire.specs.Framing.{Next}
 use Rattle.wire.specs.Framing as frame
-use Rattle.office.specs.Interleaved.{Turn, acts_in, moments_in, own_acts, own_moments, Thread, Speaks, AreSpoken, Interleaved}
+use Rattle.office.specs.Interleaved.{Turn, acts_in, moments_in, own_acts, own_moments, Thread, Speaks, AreSpoken, AreTied, Interleaved}
 use Rattle.office.specs.Interleaved as said
 use Rattle.office.specs.Repeats.{Act, Acts, text_of}
 use Rattle.office.specs.Sessions.{Session, most_messages}
@@ -40,6 +40,10 @@ nows_joined (x ∷ a) b = ap (λ (t : List ℕ). x.now ∷ t) (nows_joined a b)
 nows_if : (b : Bool) (acts : List Act) → cond b (nows acts) [] ≡ nows (cond b acts [])
 nows_if true acts = refl
 nows_if false acts = refl
+
+tied_acts : (turns : List Turn) → AllByRecursion (λ t. AreTied t.moments t.acts) (only_acts turns)
+tied_acts [] = tt
+tied_acts (t ∷ ts) = (inl refl, tied_acts ts)
 
 same_acts : (turns : List Turn) → acts_in (only_acts turns) ≡ acts_in turns
 same_acts [] = refl
@@ -212,6 +216,7 @@ without_in_turn s after threads moments run =
         turns = only_acts run.turns;
         order = subst (λ (a : List Act). Acts s a after) (sym (same_acts run.turns)) run.order;
         told = refl;
+        tied = tied_acts run.turns;
         within = within_acts (length threads) (length x.others) run.turns x.many run.within;
         each = x.spoken;
       };

@@ -1,6 +1,6 @@
 -- Connections that come, are served in turn, and go: each has a slot while it is there.
-use Rattle.std.specs.Prelude.{◌≡◌, ◌≢◌, ◌<◌, ◌⊎◌, ℕ, Bool, false, List, [], ◌∷◌, ◌++◌, length, slice_get, slice_set, slice_index_or, Option, Some, None}
-use Rattle.std.specs.List.{AllByRecursion, count_by}
+use Rattle.std.specs.Prelude.{◌≡◌, ◌≢◌, ◌<◌, ◌⊎◌, ℕ, Bool, false, List, [], ◌∷◌, ◌++◌, ◌+◌, cond, is_some, length, slice_get, slice_set, slice_index_or, Option, Some, None}
+use Rattle.std.specs.List.{AllByRecursion, count_by, sum_by}
 use Rattle.boxes.specs.State.{State}
 use Rattle.keeper.specs.declared.keep.Keeper.{Ghosts}
 use Rattle.office.specs.declared.connections.seat.Seat.{Seat}
@@ -8,7 +8,7 @@ use Rattle.office.specs.declared.connections.session.SessionEnd.{SessionEnd}
 use Rattle.office.specs.Connections.{TellsMoments, is_fault}
 use Rattle.office.specs.Interleaved.{Interleaved, Thread, acts_in}
 use Rattle.office.specs.Repeats.{RepeatsOnce}
-use Rattle.office.specs.Seats.{AreThreads, Gathers, IsNew, LastsOver, StaysSo, TakesTurn, TellsTurn}
+use Rattle.office.specs.Seats.{AreThreads, Gathers, IsNew, LastsOver, Sends, StaysSo, TakesTurn, TellsTurn}
 
 -- what stands in the slot at p
 abbrev pub slot_at : {X : Type 0} → List (Option X) → ℕ → Option X
@@ -26,9 +26,12 @@ pub data Changes {R W : Type 0} (remaining : R → Option (List ℕ)) (contents 
   -- a new connection comes into a slot that is free
   comes : (now : List (Option (Seat R W))) (came gone : List (Seat R W)) (p : ℕ) (new : Seat R W) → Changes remaining contents old now came gone
       → p < length now → slot_at now p ≡ None → IsNew new → Changes remaining contents old (slice_set now p (Some new)) (came ++ new ∷ []) gone
-  -- bytes of an open one are read ahead, or bytes that were written to one are sent on
+  -- bytes of an open one are read ahead
   gathers : (now : List (Option (Seat R W))) (came gone : List (Seat R W)) (p : ℕ) (seat new : Seat R W) → Changes remaining contents old now came gone
-      → p < length now → slot_at now p ≡ Some seat → seat.end ≡ None → Gathers remaining contents seat new → Changes remaining contents old (slice_set now p (Some new)) came gone
+      → p < length now → slot_at now p ≡ Some seat → seat.end ≡ None → Gathers remaining seat new → Changes remaining contents old (slice_set now p (Some new)) came gone
+  -- bytes that were written to one are sent on, whether it has ended or not
+  sends : (now : List (Option (Seat R W))) (came gone : List (Seat R W)) (p : ℕ) (seat new : Seat R W) → Changes remaining contents old now came gone
+      → p < length now → slot_at now p ≡ Some seat → Sends contents seat new → Changes remaining contents old (slice_set now p (Some new)) came gone
   -- one goes, whether it has ended or not
   goes : (now : List (Option (Seat R W))) (came gone : List (Seat R W)) (p : ℕ) (seat : Seat R W) → Changes remaining contents old now came gone
       → p < length now → slot_at now p ≡ Some seat → Changes remaining contents old (slice_set now p None) came (gone ++ seat ∷ [])
@@ -45,6 +48,18 @@ ChangesBy {R = R} {W = W} remaining contents met before after old new =
     (came gone : List (Seat R W)) → met before came gone
     → (more went : List (Seat R W)) × met after (came ++ more) (gone ++ went) × Changes remaining contents old new more went
 
+-- The open connection in the slot at p became another one, so, and the other slots stay; or none there is open, and all stay.
+abbrev pub DoneAt : {R W : Type 0} → (Seat R W → Seat R W → Type 0) → List (Option (Seat R W)) → List (Option (Seat R W)) → ℕ → Type 0
+DoneAt {R} {W} done old new p =
+    ((seat : Seat R W) × (slot_at old p ≡ Some seat) × (seat.end ≡ None) × (after : Seat R W) × done seat after × (new ≡ slice_set old p (Some after)))
+    ⊎ (((seat : Seat R W) → slot_at old p ≡ Some seat → seat.end ≡ None → ⊥) × (new ≡ old))
+
+-- the same of a connection that has ended or not
+abbrev pub SentAt : {R W : Type 0} → (Seat R W → Seat R W → Type 0) → List (Option (Seat R W)) → List (Option (Seat R W)) → ℕ → Type 0
+SentAt {R} {W} done old new p =
+    ((seat : Seat R W) × (slot_at old p ≡ Some seat) × (after : Seat R W) × done seat after × (new ≡ slice_set old p (Some after)))
+    ⊎ ((slot_at old p ≡ None) × (new ≡ old))
+
 -- the connection ended by a read or a write that failed
 abbrev pub is_fault_end : Option SessionEnd → Bool
 is_fault_end None = false
@@ -55,11 +70,19 @@ abbrev pub fails_now : Option SessionEnd → Option SessionEnd → Bool
 fails_now None new = is_fault_end new
 fails_now (Some e) new = false
 
+-- the slot at p has a connection that is open
+abbrev pub IsOpenAt : {R W : Type 0} → List (Option (Seat R W)) → ℕ → Type 0
+IsOpenAt {R} {W} slots p = (p < length slots) × (seat : Seat R W) × (slot_at slots p ≡ Some seat) × (seat.end ≡ None)
+
+-- how many turns a connection took: one for each message after which it went on, and the one in which it ended
+abbrev pub turns_of : {R W : Type 0} → Seat R W → ℕ
+turns_of seat = seat.served + cond (is_some seat.end) 1 0
+
 -- What becomes of a slot in a turn, and whether its connection ended by a fault in it.
 pub data TurnsSlot {C K R W : Type 0} (gives : C → ℕ → C → Type 0) (remaining : R → Option (List ℕ)) (contents : W → Option (List ℕ)) (clock clock' : C) (k : Ghosts K) (keeper keeper' : K)
     (s after : State) : Option (Seat R W) → Option (Seat R W) → Bool → Type 0 where
-  -- nothing was done: it is free, or memory was refused for the turn
-  left_out : (slot : Option (Seat R W)) → clock' ≡ clock → keeper' ≡ keeper → after ≡ s → TurnsSlot gives remaining contents clock clock' k keeper keeper' s after slot slot false
+  -- it is free, and nothing was done
+  nobody : clock' ≡ clock → keeper' ≡ keeper → after ≡ s → TurnsSlot gives remaining contents clock clock' k keeper keeper' s after None None false
   taken : (old new : Seat R W) → TakesTurn gives remaining contents old new clock clock' k keeper keeper' s after → TellsTurn old new
       → TurnsSlot gives remaining contents clock clock' k keeper keeper' s after (Some old) (Some new) (fails_now old.end new.end)
 
@@ -72,15 +95,17 @@ abbrev pub StandsIn : {X : Type 0} → X → List (Option X) → Type 0
 StandsIn x slots = (p : ℕ) × (slot_at slots p ≡ Some x)
 
 -- These connections came, as they came, and were served in turn; of them those went, as they were then, and the others stand in
--- the slots: the moments, each connection, the state after, how the keeper held up, what outlasts a crash, and how many ended by a
+-- the slots: how many turns were taken, the moments, each connection, the state after, how the keeper held up, what outlasts a crash, and how many ended by a
 -- fault; and an upload acts once over all of them.
 pub record ServesCrowd {C K R W : Type 0} (gives : C → ℕ → C → Type 0) (remaining : R → Option (List ℕ)) (contents : W → Option (List ℕ)) (came gone : List (Seat R W)) (slots : List (Option (Seat R W)))
-    (clock clock' : C) (k : Ghosts K) (keeper keeper' : K) (faults : ℕ) (s after : State) : Type 0 where
+    (clock clock' : C) (k : Ghosts K) (keeper keeper' : K) (turns faults : ℕ) (s after : State) : Type 0 where
   -- each of those that came as it was at last
   pub seats : List (Seat R W)
   pub went : AllByRecursion (λ seat. IsAmong seat seats) gone
   pub stand : (p : ℕ) (seat : Seat R W) → slot_at slots p ≡ Some seat → IsAmong seat seats
   pub no_other : (i : ℕ) (seat : Seat R W) → slice_get seats i ≡ Some seat → IsAmong seat gone ⊎ StandsIn seat slots
+  -- each turn was taken
+  pub taken : turns ≡ sum_by turns_of seats
   pub threads : List Thread
   pub moments : List ℕ
   pub told : TellsMoments gives clock moments clock'

@@ -1,5 +1,5 @@
 -- Connections that are open at once: each turn serves messages of one of them.
-use Rattle.std.specs.Prelude.{◌≡◌, ◌<◌, ℕ, suc, Bool, true, false, cond, nat_eq, List, [], ◌∷◌, ◌++◌, length, Option, Some, None, ⊤}
+use Rattle.std.specs.Prelude.{◌≡◌, ◌<◌, ◌⊎◌, ℕ, suc, Bool, true, false, cond, nat_eq, List, [], ◌∷◌, ◌++◌, length, map, Option, Some, None, ⊤}
 use Rattle.std.specs.List.{AllByRecursion}
 use Rattle.sigtext.specs.Bytes.{IsBeginning}
 use Rattle.sigtext.specs.Request.{Request}
@@ -36,6 +36,10 @@ own_acts i (t ∷ ts) = cond (nat_eq t.which i) t.acts [] ++ own_acts i ts
 abbrev pub own_moments : ℕ → List Turn → List ℕ
 own_moments i [] = []
 own_moments i (t ∷ ts) = cond (nat_eq t.which i) t.moments [] ++ own_moments i ts
+
+-- the moments are those of the acts, and one more at most, at which a message was given up
+abbrev pub AreTied : List ℕ → List Act → Type 0
+AreTied moments acts = (moments ≡ map (λ a. a.now) acts) ⊎ ((moment : ℕ) × (moments ≡ map (λ a. a.now) acts ++ moment ∷ []))
 
 -- A connection as it was served: it ended so, or it is open still, or was closed between two messages. Where it did not end,
 -- the stream is what was taken.
@@ -79,5 +83,7 @@ pub record Interleaved (s : State) (threads : List Thread) (moments : List ℕ) 
   pub turns : List Turn
   pub order : Acts s (acts_in turns) after
   pub told : moments ≡ moments_in turns
+  -- in each turn what was done was done at the moments that were told in it
+  pub tied : AllByRecursion (λ t. AreTied t.moments t.acts) turns
   pub within : AllByRecursion (λ t. t.which < length threads) turns
   pub each : AreSpoken turns 0 threads

@@ -27,3 +27,4 @@ pub mod Sessions
 pub mod Stepping
 pub mod WithoutTryAgain
 pub mod WithoutTurns
+pub mod Slots

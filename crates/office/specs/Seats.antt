@@ -1,7 +1,8 @@
 -- Connections that are served in turn, as they were and as they are.
-use Rattle.std.specs.Prelude.{◌≡◌, ◌+◌, ◌⊎◌, ℕ, Bool, false, List, [], ◌∷◌, Option, Some, None, ⊤}
+use Rattle.std.specs.Prelude.{◌≡◌, ◌≤◌, ◌+◌, ◌⊎◌, ℕ, Bool, true, false, List, [], ◌∷◌, length, Option, Some, None, ⊤}
 use Rattle.std.specs.Io.KnownBytes.{Appends, Consumes, Keeps, prepend_known}
 use Rattle.std.specs.List.{AllByRecursion}
+use Rattle.sigtext.specs.Counts.{Rose}
 use Rattle.boxes.specs.State.{State}
 use Rattle.keeper.specs.declared.keep.Keeper.{Ghosts}
 use Rattle.wire.specs.Feeds.{ahead_of, stood_at}
@@ -24,11 +25,19 @@ pub record IsNew {R W : Type 0} (seat : Seat R W) : Type 0 where
   pub none : seat.served ≡ 0
   pub open_still : seat.end ≡ None
 
--- Bytes of it were read ahead, or put back, or bytes that were written to it were sent on, and nothing else was done.
-pub record Gathers {R W : Type 0} (remaining : R → Option (List ℕ)) (contents : W → Option (List ℕ)) (old new : Seat R W) : Type 0 where
+-- Bytes of it were read ahead, or put back, and nothing else was done.
+pub record Gathers {R W : Type 0} (remaining : R → Option (List ℕ)) (old new : Seat R W) : Type 0 where
   pub place : stood_at new.standing ≡ stood_at old.standing
   pub keeps : Keeps (left_of remaining old) (left_of remaining new)
   pub read : new.reader.faults ≡ old.reader.faults
+  pub writer : new.writer ≡ old.writer
+  pub served : new.served ≡ old.served
+  pub end : new.end ≡ old.end
+
+-- Bytes that were written to it were sent on, whether it has ended or not, and nothing else was done.
+pub record Sends {R W : Type 0} (contents : W → Option (List ℕ)) (old new : Seat R W) : Type 0 where
+  pub standing : new.standing ≡ old.standing
+  pub reader : new.reader ≡ old.reader
   pub holds : Keeps (contents old.writer.inner) (contents new.writer.inner)
   pub written : new.writer.faults ≡ old.writer.faults
   pub served : new.served ≡ old.served
@@ -44,10 +53,10 @@ pub data TakesTurn {C K R W : Type 0} (gives : C → ℕ → C → Type 0) (rema
   went_on : old.end ≡ None → new.end ≡ None → new.served ≡ old.served + 1
       → Goes gives (left_of remaining old) (left_of remaining new) (contents old.writer.inner) (contents new.writer.inner) clock clock' k keeper keeper' s after
       → TakesTurn gives remaining contents old new clock clock' k keeper keeper' s after
-  -- it ended, as a session of the n messages does that were to come at most
+  -- it ended, as a session of the n messages does that were to come at most, and one moment was told, or none
   ended : (n : ℕ) (e : SessionEnd) → old.end ≡ None → new.end ≡ Some e → new.served ≡ old.served → n + old.served ≡ most_messages
-      → Serves n gives (left_of remaining old) (remaining new.reader.inner) (contents old.writer.inner) (contents new.writer.inner) clock clock' k keeper keeper' s after e
-      → TakesTurn gives remaining contents old new clock clock' k keeper keeper' s after
+      → (serves : Serves n gives (left_of remaining old) (remaining new.reader.inner) (contents old.writer.inner) (contents new.writer.inner) clock clock' k keeper keeper' s after e)
+      → length serves.moments ≤ 1 → TakesTurn gives remaining contents old new clock clock' k keeper keeper' s after
 
 -- the faults that were counted in a turn
 abbrev pub TellsTurnOf : {R W : Type 0} → Option SessionEnd → Seat R W → Seat R W → Type 0
@@ -74,9 +83,11 @@ AreThreads remaining contents olds news cs = ⊥
 abbrev pub NoThreadGaveUp : List Thread → Type 0
 NoThreadGaveUp threads = AllByRecursion (λ c. c.gave_up ≡ false) threads
 
--- where no connection gave up, the keeper's count stays, and one that was open is open and means this state and no other
+-- Where no connection gave up, the keeper's count stays, and one that was open is open and means this state and no other. Where one
+-- gave up at a failed read, the count rose.
 pub record StaysSo {K : Type 0} (k : Ghosts K) (threads : List Thread) (keeper keeper' : K) (after : State) : Type 0 where
   pub counted : NoThreadGaveUp threads → k.faults keeper' ≡ k.faults keeper
+  pub rose : AllByRecursion (λ c. c.gave_up ≡ true → c.end ≡ Some ReadFault → Rose (k.faults keeper) (k.faults keeper')) threads
   pub opened : NoThreadGaveUp threads → k.is_open keeper → k.is_open keeper' × ((t : State) → k.means keeper' t → t ≡ after)
 
 -- where nothing was given up but at a failed read, the state after outlasts a crash

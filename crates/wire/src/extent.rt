@@ -12,8 +12,8 @@ use crate::head::head_end;
 /// bytes are needed for its head. Of a head that breaks a rule it is the head alone, and `MOST_HEAD` where no head ends in so
 /// many.
 ///
-/// It helps to choose when a message is served: a feed judges the message anew. So a wrong number costs time, and never an
-/// answer.
+/// It helps to choose when a message is served: a feed judges the message anew. Over a reader that does not wait a turn that is
+/// given too early fails to read, and ends its connection.
 pub fn message_len(bytes: &[u8]) -> Option<usize>
     ensures some { IfSome result (Takes bytes.now) }
     ensures none { IfNone result ((length bytes.now < most_head) × HasNoHeadEnd bytes.now) }

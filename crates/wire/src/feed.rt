@@ -126,6 +126,8 @@ impl<'r, R: Read> Feed<'r, R> {
         ensures reader { reader_of self.new ≡ reader_of self.old }
         ensures place { stood_at result.0 ≡ place_of self.old }
         ensures waiting { ahead_of result.0 ≡ waits_in self.old }
+        ensures over { place_of self.new ≡ Place.Over }
+        ensures left_none { waits_in self.new ≡ [] }
     {
         let place = self.place;
         self.place = Place::Over;

@@ -1,15 +1,23 @@
 //! Connections that come and go while others are served.
-ghost use Rattle.std.specs.Prelude.{◌≡◌, ◌<◌, ◌≤◌, ℕ, IfNone, IfSome, List, length};
-ghost use Rattle.office.specs.Crowds.{ChangesBy, is_fault_end};
+ghost use Rattle.std.specs.Prelude.{◌≡◌, ◌<◌, ◌+◌, ℕ, cond, is_some, IfNone, IfSome, List, length};
+ghost use Rattle.office.specs.Crowds.{ChangesBy, IsOpenAt, is_fault_end};
 
 use super::seat::Seat;
 use super::session::SessionEnd;
-use super::turning::room_of;
 use crate::clocks::Clock;
 use crate::office::Office;
 use keeper::Keeper;
 use std::io::{Read, Write};
 use wire::Room;
+
+/// A turn that is due: of the connection in the slot of this index, in this room.
+#[derive(Drop)]
+pub struct Due {
+    /// The index of the slot.
+    pub index: usize,
+    /// The room for the turn.
+    pub room: Room,
+}
 
 /// What goes on around an office between two turns. A connection that comes gets a slot that is free; bytes of open ones may be
 /// read ahead, or sent on; and a slot may be made free, whether its connection has ended or not.
@@ -19,23 +27,26 @@ pub trait Crowd<R: Read, W: Write> {
     /// Which connections came so far, as they came; and which went, as they were then.
     ghost met: { Self → List (Seat R W) → List (Seat R W) → Type 0 };
 
+    /// There are such lists of each.
+    ghost meets: { (crowd : Self) → (came gone : List (Seat R W)) × met crowd came gone };
+
     /// No turn is to be taken any more.
     ghost over: { Self → Type 0 };
 
-    /// How many turns it gives at most.
+    /// How many turns it may give still.
     ghost turns: { Self → ℕ };
 
     /// They are less than 2^64.
     ghost few: { (crowd : Self) → turns crowd < 18446744073709551616 };
 
-    /// Waits for what comes next. The index of the slot whose turn it is, any and however often; or none where no turn is to be
-    /// taken any more. The spare room is for the next turn: one that a seat hands back may be put there.
-    fn next(&mut self, slots: &mut [Option<Seat<R, W>>], spare: &mut Option<Room>) -> Option<usize>
+    /// Waits for what comes next. The turn that is due, of a connection that is open; or none where no turn is to be taken any
+    /// more. The spare room is the one that the turn before left.
+    fn next(&mut self, slots: &mut [Option<Seat<R, W>>], spare: Option<Room>) -> Option<Due>
         ensures changes { ChangesBy R.remaining W.contents met self.old self.new slots.old slots.new }
-        ensures within { IfSome result (λ index. index < length slots.new) }
+        ensures within { IfSome result (λ turn. turn.index < length slots.new) }
+        ensures due { IfSome result (λ turn. IsOpenAt slots.new turn.index) }
         ensures over { IfNone result (over self.new) }
-        ensures fewer { IfSome result (λ index. turns self.new < turns self.old) }
-        ensures no_more { turns self.new ≤ turns self.old };
+        ensures counts { turns self.old ≡ turns self.new + cond (is_some result) 1 0 };
 }
 
 // What a turn left beside a slot.
@@ -56,16 +67,16 @@ fn has_failed(end: Option<SessionEnd>) -> bool
 }
 
 impl<K: Keeper> Office<K> {
-    ghost use Rattle.std.specs.Prelude.{◌≤◌, ◌++◌, ℕ, List, None};
+    ghost use Rattle.std.specs.Prelude.{◌≤◌, ◌+◌, ◌++◌, ◌<◌, ℕ, List, length, slice_set, Option, None};
     ghost use Rattle.boxes.specs.State.{State};
     ghost use Rattle.office.specs.Crowds.{ServesCrowd, TurnsSlot, slot_at};
     ghost use Rattle.office.specs.Premise.{IsLeft, StaysUnstaged, WasKept};
 
-    // Gives the connection of a slot a turn, if there is one, and memory for the room is found.
+    // Gives the connection of a slot a turn, if there is one.
     fn turn_slot<R: Read, W: Write, C: Clock>(
         &mut self,
         slot: &mut Option<Seat<R, W>>,
-        spare: Option<Room>,
+        room: Room,
         clock: &mut C,
     ) -> Turned
         ensures turns { (s : State) → WasKept K.Keeper self.old.keeper self.new.keeper s
@@ -78,13 +89,7 @@ impl<K: Keeper> Office<K> {
     {
         let Some(seat) = slot else {
             return Turned {
-                spare,
-                is_fault: false,
-            };
-        };
-        let Some(room) = room_of(spare, self.alloc) else {
-            return Turned {
-                spare: None,
+                spare: Some(room),
                 is_fault: false,
             };
         };
@@ -96,12 +101,33 @@ impl<K: Keeper> Office<K> {
         }
     }
 
+    // Gives the connection of the slot of this index a turn, if there is one.
+    fn turn_at<R: Read, W: Write, C: Clock>(
+        &mut self,
+        slots: &mut [Option<Seat<R, W>>],
+        index: usize,
+        room: Room,
+        clock: &mut C,
+    ) -> Turned
+        requires { index < length slots.old }
+        ensures turns { (s : State) → WasKept K.Keeper self.old.keeper self.new.keeper s
+            → (after : State) × IsLeft (K.means self.new.keeper) after
+            × (now : Option (Seat R W)) × (slots.new ≡ slice_set slots.old index now)
+            × TurnsSlot C.now_gives R.remaining W.contents clock.old clock.new
+            K.Keeper self.old.keeper self.new.keeper s after (slot_at slots.old index) now result.is_fault }
+        ensures honest { K.is_honest self.new.keeper → K.is_honest self.old.keeper }
+        ensures unstaged { StaysUnstaged K.Keeper self.old.keeper self.new.keeper }
+        ensures never_less { K.faults self.old.keeper ≤ K.faults self.new.keeper }
+    {
+        self.turn_slot(&mut slots[index], room, clock)
+    }
+
     /// Serves connections that come and go, each in the turns that the crowd gives it, until there are no more; and answers how
     /// many ended by a read or a write that failed. There is one order of all messages, in which the machine leads from the
     /// state before to the state after; and of each connection that came, what was read, its answers and its end are those of
     /// its own messages, until it went or as it stands in its slot. Over all of them an upload acts once. Of a keeper that was
     /// open, and where no connection gave up, what is kept is that one state and no other. Where nothing was given up but at a
-    /// failed read, what was changed outlasts a crash. Where memory is refused for a turn, the turn is left out.
+    /// failed read, what was changed outlasts a crash. Each turn that the crowd gives is taken.
     pub fn serve_crowd<R: Read, W: Write, G: Crowd<R, W>, C: Clock>(
         &mut self,
         crowd: &mut G,
@@ -111,10 +137,11 @@ impl<K: Keeper> Office<K> {
         requires { (p : ℕ) → slot_at slots.old p ≡ None }
         ensures serves { (before gone : List (Seat R W)) → G.met crowd.old before gone
             → (came went : List (Seat R W)) × G.met crowd.new (before ++ came) (gone ++ went)
+            × (turns : ℕ) × (G.turns crowd.old ≡ G.turns crowd.new + turns)
             × ((s : State) → WasKept K.Keeper self.old.keeper self.new.keeper s
             → (after : State) × IsLeft (K.means self.new.keeper) after
             × ServesCrowd C.now_gives R.remaining W.contents came went slots.new clock.old clock.new
-            K.Keeper self.old.keeper self.new.keeper result s after) }
+            K.Keeper self.old.keeper self.new.keeper turns result s after) }
         ensures over { G.over crowd.new }
         ensures honest { K.is_honest self.new.keeper → K.is_honest self.old.keeper }
         ensures unstaged { StaysUnstaged K.Keeper self.old.keeper self.new.keeper }
@@ -122,8 +149,8 @@ impl<K: Keeper> Office<K> {
     {
         let mut spare = None;
         let mut faulty = 0;
-        'turns: while let Some(index) = crowd.next(slots, &mut spare) {
-            let turned = self.turn_slot(&mut slots[index], spare, clock);
+        'turns: while let Some(due) = crowd.next(slots, spare) {
+            let turned = self.turn_at(slots, due.index, due.room, clock);
             faulty += if turned.is_fault { 1 } else { 0 };
             spare = turned.spare;
         }

@@ -1,5 +1,5 @@
 //! A connection among others: between its turns its feed stands aside.
-ghost use Rattle.std.specs.Prelude.{◌≡◌, ◌≤◌, IsTrue, None};
+ghost use Rattle.std.specs.Prelude.{◌≡◌, ◌≤◌, [], IsTrue, None};
 ghost use Rattle.wire.specs.Feeds.{stood_at};
 ghost use Rattle.wire.specs.declared.feed.Place.TheVariants as stands;
 ghost use Rattle.office.specs.Begins.{may_begin};
@@ -26,7 +26,6 @@ pub struct Seat<R, W> {
 }
 
 impl<R, W> Seat<R, W> {
-    ghost use Rattle.std.specs.Prelude.{[]};
     ghost use Rattle.wire.specs.Feeds.{ahead_of};
     ghost use Rattle.office.specs.Seats.{IsNew};
 
@@ -69,26 +68,37 @@ impl<R, W> Seat<R, W> {
     }
 }
 
-impl<S: Read, W: Write> Seat<Gathered<S>, W> {
+impl<S: Read, W> Seat<Gathered<S>, W> {
+    ghost use Rattle.std.specs.Prelude.{◌++◌, IsSome, OnOk};
+    ghost use Rattle.wire.specs.Gathering.{Gathers as ReadsAhead, HasFailed, HasRoomFor, ahead_in};
+    ghost use Rattle.wire.specs.Feeds.{ahead_of};
     ghost use Rattle.office.specs.Seats.{Gathers};
 
     /// Reads once ahead, by way of the buffer, without waiting. The error is that memory was refused; nothing was read then.
     pub fn gather(&mut self, buf: &mut [u8]) -> Result<Gathering, AllocError>
-        ensures { Gathers ⟦<Gathered<S> as Read>⟧.remaining W.contents self.old self.new }
+        ensures gathers { Gathers ⟦<Gathered<S> as Read>⟧.remaining self.old self.new }
+        ensures standing { self.new.standing ≡ self.old.standing }
+        ensures told { ReadsAhead S.remaining self.old.reader.inner self.new.reader.inner result }
     {
         self.reader.inner.gather(buf)
     }
 
     /// Takes memory for so many bytes more that are read ahead. The error is that it was refused.
     pub fn make_room(&mut self, n: usize) -> Result<(), AllocError>
-        ensures { Gathers ⟦<Gathered<S> as Read>⟧.remaining W.contents self.old self.new }
+        ensures gathers { Gathers ⟦<Gathered<S> as Read>⟧.remaining self.old self.new }
+        ensures standing { self.new.standing ≡ self.old.standing }
+        ensures ahead { ahead_in self.new.reader.inner ≡ ahead_in self.old.reader.inner }
+        ensures room { OnOk result (HasRoomFor n self.new.reader.inner) }
     {
         self.reader.inner.make_room(n)
     }
 
     /// From now on each read behind the bytes that are ahead fails so, unless one failed before.
     pub fn fail(&mut self, error: io::Error)
-        ensures { Gathers ⟦<Gathered<S> as Read>⟧.remaining W.contents self.old self.new }
+        ensures gathers { Gathers ⟦<Gathered<S> as Read>⟧.remaining self.old self.new }
+        ensures standing { self.new.standing ≡ self.old.standing }
+        ensures ahead { ahead_in self.new.reader.inner ≡ ahead_in self.old.reader.inner }
+        ensures failed { HasFailed self.new.reader.inner }
     {
         self.reader.inner.fail(error);
     }
@@ -96,7 +106,10 @@ impl<S: Read, W: Write> Seat<Gathered<S>, W> {
     /// Puts what its feed read and did not take back to what was read ahead, if it came from there, and hands the buffer back.
     /// Where nothing is ahead then, it lets go of the memory.
     pub fn give_back(&mut self) -> Option<Room>
-        ensures { Gathers ⟦<Gathered<S> as Read>⟧.remaining W.contents self.old self.new }
+        ensures gathers { Gathers ⟦<Gathered<S> as Read>⟧.remaining self.old self.new }
+        ensures kept { ahead_of self.new.standing ++ ahead_in self.new.reader.inner
+            ≡ ahead_of self.old.standing ++ ahead_in self.old.reader.inner }
+        ensures back { IsSome result → ahead_of self.new.standing ≡ [] }
     {
         let room = self.standing.give_back(&mut self.reader.inner);
         self.reader.inner.let_go();
@@ -104,12 +117,21 @@ impl<S: Read, W: Write> Seat<Gathered<S>, W> {
     }
 }
 
-impl<R: Read, S: Write> Seat<R, Outbox<S>> {
-    ghost use Rattle.office.specs.Seats.{Gathers};
+impl<R, S: Write> Seat<R, Outbox<S>> {
+    ghost use Rattle.std.specs.Prelude.{◌↔◌, ◌++◌, ℕ, List};
+    ghost use Rattle.std.specs.Io.KnownBytes.{Appends};
+    ghost use Rattle.wire.specs.Outgoing.{NoneFailed, WriteFailed, waits_out};
+    ghost use Rattle.office.specs.Seats.{Sends};
 
     /// Sends on once what was written and waits, without waiting for its peer.
     pub fn send(&mut self) -> Sending
-        ensures { Gathers R.remaining ⟦<Outbox<S> as Write>⟧.contents self.old self.new }
+        ensures sends { Sends ⟦<Outbox<S> as Write>⟧.contents self.old self.new }
+        ensures sent { result ≡ Sending.Sent
+            ↔ ((waits_out self.new.writer.inner ≡ []) × NoneFailed self.new.writer.inner) }
+        ensures failed { result ≡ Sending.Failed ↔ WriteFailed self.new.writer.inner }
+        ensures takes { (bytes : List ℕ)
+            × (waits_out self.old.writer.inner ≡ bytes ++ waits_out self.new.writer.inner)
+            × Appends (S.contents self.old.writer.inner.inner) (S.contents self.new.writer.inner.inner) bytes }
     {
         self.writer.inner.send()
     }

@@ -1,6 +1,8 @@
 //! The slots of connections that come and go: what may be done in them between two turns.
 ghost use Rattle.std.specs.Prelude.{◌≡◌, ◌<◌, ◌∷◌, [], length, slice_set, IfErr, IfNone, IfOk, IfSome, None, Some};
-ghost use Rattle.office.specs.Crowds.{Changes, NoneIsFree, slot_at, those_of};
+ghost use Rattle.wire.specs.Gathering.{Gathers as ReadsAhead};
+ghost use Rattle.office.specs.Crowds.{Changes, DoneAt, NoneIsFree, SentAt, slot_at, those_of};
+ghost use Rattle.office.specs.Slots.{Fails, MakesRoom, PutsBack, SendsOn};
 ghost use Rattle.office.specs.Seats.{IsNew};
 
 use super::seat::Seat;
@@ -65,7 +67,8 @@ pub fn gather_slot<S: Read, W: Write>(
     buf: &mut [u8],
 ) -> Result<Gathering, AllocError>
     requires { index < length slots.old }
-    ensures { Changes ⟦<Gathered<S> as Read>⟧.remaining W.contents slots.old slots.new [] [] }
+    ensures changes { Changes ⟦<Gathered<S> as Read>⟧.remaining W.contents slots.old slots.new [] [] }
+    ensures done { DoneAt (λ a b. ReadsAhead S.remaining a.reader.inner b.reader.inner result) slots.old slots.new index }
 {
     let Some(seat) = &mut slots[index] else {
         return Ok(Gathering::Ended);
@@ -83,7 +86,8 @@ pub fn settle_slot<S: Read, W: Write>(
     index: usize,
 ) -> Option<Room>
     requires { index < length slots.old }
-    ensures { Changes ⟦<Gathered<S> as Read>⟧.remaining W.contents slots.old slots.new [] [] }
+    ensures changes { Changes ⟦<Gathered<S> as Read>⟧.remaining W.contents slots.old slots.new [] [] }
+    ensures done { DoneAt (λ a b. PutsBack a b result) slots.old slots.new index }
 {
     let Some(seat) = &mut slots[index] else {
         return None;
@@ -102,7 +106,8 @@ pub fn make_room_in_slot<S: Read, W: Write>(
     n: usize,
 ) -> Result<(), AllocError>
     requires { index < length slots.old }
-    ensures { Changes ⟦<Gathered<S> as Read>⟧.remaining W.contents slots.old slots.new [] [] }
+    ensures changes { Changes ⟦<Gathered<S> as Read>⟧.remaining W.contents slots.old slots.new [] [] }
+    ensures done { DoneAt (λ a b. MakesRoom n a b result) slots.old slots.new index }
 {
     let Some(seat) = &mut slots[index] else {
         return Ok(());
@@ -121,7 +126,8 @@ pub fn fail_slot<S: Read, W: Write>(
     error: io::Error,
 )
     requires { index < length slots.old }
-    ensures { Changes ⟦<Gathered<S> as Read>⟧.remaining W.contents slots.old slots.new [] [] }
+    ensures changes { Changes ⟦<Gathered<S> as Read>⟧.remaining W.contents slots.old slots.new [] [] }
+    ensures done { DoneAt (λ a b. Fails a b) slots.old slots.new index }
 {
     let Some(seat) = &mut slots[index] else {
         return;
@@ -131,20 +137,18 @@ pub fn fail_slot<S: Read, W: Write>(
     }
 }
 
-/// Sends on once what was written to the connection in the slot and waits, without waiting for its peer. Where there is none, or
-/// it has ended, nothing is sent, and it is told that all was.
+/// Sends on once what was written to the connection in the slot and waits, without waiting for its peer, whether it has ended or
+/// not. Where there is none it is told that all was sent.
 pub fn send_slot<R: Read, S: Write>(
     slots: &mut [Option<Seat<R, Outbox<S>>>],
     index: usize,
 ) -> Sending
     requires { index < length slots.old }
-    ensures { Changes R.remaining ⟦<Outbox<S> as Write>⟧.contents slots.old slots.new [] [] }
+    ensures changes { Changes R.remaining ⟦<Outbox<S> as Write>⟧.contents slots.old slots.new [] [] }
+    ensures done { SentAt (λ a b. SendsOn S.contents a b result) slots.old slots.new index }
 {
     let Some(seat) = &mut slots[index] else {
         return Sending::Sent;
     };
-    if seat.end().is_some() {
-        return Sending::Sent;
-    }
     seat.send()
 }

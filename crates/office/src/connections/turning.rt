@@ -30,7 +30,7 @@ struct Aside {
 }
 
 // The room that is there, or a new one, if memory is found.
-pub(crate) fn room_of(spare: Option<Room>, alloc: Global) -> Option<Room> {
+fn room_of(spare: Option<Room>, alloc: Global) -> Option<Room> {
     match spare {
         Some(room) => Some(room),
         None => Room::new(alloc).ok(),

@@ -2,7 +2,7 @@ use Rattle.std.proofs.Common.{◌≡◌, ◌∙◌, ◌-◌, None, Some, suc, re
 use Rattle.office.specs.declared.connections.session.SessionEnd.TheVariants.{Limit}
 use Rattle.office.specs.Seats.{had_ended, went_on, ended, left_of}
 use Rattle.office.proofs.SeatTurns.{none_of, some_of, steps_of}
-use Rattle.office.proofs.SessionSteps.{serves_none}
+use Rattle.office.proofs.SessionSteps.{none_few, serves_none}
 use Rattle.office.proofs.office.Office.take_turn.Goals as goal
 
 pub returns-then-is_some-clause-turns : goal.returns-then-is_some-clause-turns
@@ -17,7 +17,8 @@ returns-then-seat-ge-MOST_MESSAGES-clause-turns g c s kept =
       s,
       record { means = kept.means; sound = kept.sound },
       ended 0 Limit was_open refl refl (omega (arith, c.if-seat-ge-MOST_MESSAGES.true, seat.few))
-          (serves_none g.C.Clock.now_gives (left_of g.R.Read.remaining seat) (g.R.Read.remaining seat.reader.inner) (g.W.Write.contents seat.writer.inner) c.args.clock.now g.K.Keeper c.args.self.now.keeper s),
+          (serves_none g.C.Clock.now_gives (left_of g.R.Read.remaining seat) (g.R.Read.remaining seat.reader.inner) (g.W.Write.contents seat.writer.inner) c.args.clock.now g.K.Keeper c.args.self.now.keeper s)
+          (none_few g.C.Clock.now_gives (left_of g.R.Read.remaining seat) (g.R.Read.remaining seat.reader.inner) (g.W.Write.contents seat.writer.inner) c.args.clock.now g.K.Keeper c.args.self.now.keeper s),
     )
 
 pub returns-in-None-clause-turns : goal.returns-in-None-clause-turns
@@ -33,9 +34,10 @@ returns-in-Some-clause-turns g c s kept =
     let seat = c.args.seat.now in
     let was_open = none_of seat.end (sym c.is_some.ensures ∙ c.if-is_some.false) in
     let h = steps_of g.C.Clock.now_gives g.R.Read.remaining seat c.replace-standing.result _ _ _ _ c.args.clock.now c.step_aside-aside.new.clock g.K.Keeper c.args.self.now.keeper c.step_aside-aside.new.self.keeper s c.step_aside-aside.result.end (Some c.in-Some.end)
-    c.replace-standing.ensures.value c.in-Some.is (c.step_aside-aside.ensures.steps s kept) in (
+    c.replace-standing.ensures.value c.in-Some.is (c.step_aside-aside.ensures.steps s kept) in
+    let last = h.2 (999 - seat.served) (λ fresh. let none : seat.served ≡ 0 = seat.fresh was_open fresh in omega (arith, none)) in (
       h.0,
       h.1,
       ended (suc (999 - seat.served)) c.in-Some.end was_open refl refl (omega (arith, c.if-seat-ge-MOST_MESSAGES.false))
-          (h.2 (999 - seat.served) (λ fresh. let none : seat.served ≡ 0 = seat.fresh was_open fresh in omega (arith, none))),
+          last.0 last.1,
     )

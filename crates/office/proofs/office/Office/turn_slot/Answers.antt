@@ -1,21 +1,19 @@
-use Rattle.std.proofs.Common.{◌≡◌, ◌∙◌, false, Some, Option, refl, sym, ap, subst}
+use Rattle.std.proofs.Common.{◌≡◌, ◌∙◌, None, rules, false, Some, Option, refl, sym, ap, subst}
 use Rattle.std.specs.Prelude.{is_some, not}
-use Rattle.office.specs.Crowds.{TurnsSlot, left_out, fails_now, is_fault_end}
+use Rattle.office.specs.Crowds.{TurnsSlot, nobody, fails_now, is_fault_end}
 use Rattle.office.specs.declared.connections.seat.Seat.{Seat}
 use Rattle.office.proofs.CrowdTurns.{fails_open, fails_closed, taken_by}
 use Rattle.office.proofs.office.Office.turn_slot.Goals as goal
 use Rattle.office.proofs.office.Office.turn_slot.Goals.{then-was_open, else-was_open}
 
 pub returns-in_default-clause-turns : goal.returns-in_default-clause-turns
-returns-in_default-clause-turns g c s kept = (s, record { means = kept.means; sound = kept.sound }, left_out c.args.slot.now refl refl refl)
-
-pub returns-in_default-room_of-clause-turns : goal.returns-in_default-room_of-clause-turns
-returns-in_default-room_of-clause-turns g c s kept = (
-  s,
-  record { means = kept.means; sound = kept.sound },
-  subst (λ (o : Option (Seat g.row.R.Denot g.row.W.Denot)). TurnsSlot g.C.Clock.now_gives g.R.Read.remaining g.W.Write.contents c.args.clock.now c.args.clock.now g.K.Keeper c.args.self.now.keeper c.args.self.now.keeper s s c.args.slot.now o false) c.in-Some.is
-      (left_out c.args.slot.now refl refl refl),
-)
+returns-in_default-clause-turns g c s kept =
+    let none : c.args.slot.now ≡ None = search rules in (
+      s,
+      record { means = kept.means; sound = kept.sound },
+      subst (λ (o : Option (Seat g.row.R.Denot g.row.W.Denot)). TurnsSlot g.C.Clock.now_gives g.R.Read.remaining g.W.Write.contents c.args.clock.now c.args.clock.now g.K.Keeper c.args.self.now.keeper c.args.self.now.keeper s s o o false)
+          (sym none) (nobody refl refl refl),
+    )
 
 pub returns-clause-turns : goal.returns-clause-turns
 returns-clause-turns g c s kept =

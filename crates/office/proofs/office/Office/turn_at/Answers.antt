@@ -1,0 +1,15 @@
+use Rattle.std.proofs.Common.{◌≡◌, None, get_or, refl, sym, subst}
+use Rattle.std.proofs.lemmas.List.{get_or_default}
+use Rattle.office.specs.Crowds.{TurnsSlot, slot_at}
+use Rattle.office.proofs.office.Office.turn_at.Goals as goal
+
+pub returns-clause-turns : goal.returns-clause-turns
+returns-clause-turns g c s kept =
+    let h = c.turn_slot.ensures.turns s kept in (
+      h.0,
+      h.1,
+      c.turn_slot.new.slot,
+      refl,
+      subst (λ o. TurnsSlot g.C.Clock.now_gives g.R.Read.remaining g.W.Write.contents c.args.clock.now c.turn_slot.new.clock g.K.Keeper c.args.self.now.keeper c.turn_slot.new.self.keeper s h.0 o c.turn_slot.new.slot c.turn_slot.result.is_fault)
+          (sym (get_or_default c.args.slots.now c.args.index None c.index-slots-index.result c.requires)) h.2,
+    )

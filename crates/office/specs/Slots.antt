@@ -1,0 +1,30 @@
+-- What the calls on a slot do to the connection there, beside what they leave of its stream and its answers.
+use Rattle.std.specs.Prelude.{◌≡◌, ◌↔◌, ℕ, List, [], ◌++◌, IsSome, OnOk, Option, Result}
+use Rattle.std.specs.Io.KnownBytes.{Appends}
+use Rattle.wire.specs.Feeds.{ahead_of}
+use Rattle.wire.specs.Gathering.{HasFailed, HasRoomFor, ahead_in}
+use Rattle.wire.specs.Outgoing.{NoneFailed, WriteFailed, waits_out}
+use Rattle.wire.specs.declared.gathered.Gathered.{Gathered}
+use Rattle.wire.specs.declared.outbox.Outbox.{Outbox}
+use Rattle.wire.specs.declared.outbox.Sending.{Sending}
+use Rattle.wire.specs.declared.outbox.Sending.TheVariants as sending
+use Rattle.office.specs.declared.connections.seat.Seat.{Seat}
+
+-- what its feed read and did not take was put back, if a buffer is handed over, and no byte of it is lost
+abbrev pub PutsBack : {S W T : Type 0} → Seat (Gathered S) W → Seat (Gathered S) W → Option T → Type 0
+PutsBack a b result =
+    (ahead_of b.standing ++ ahead_in b.reader.inner ≡ ahead_of a.standing ++ ahead_in a.reader.inner) × (IsSome result → ahead_of b.standing ≡ [])
+
+-- there is room for n bytes more
+abbrev pub MakesRoom : {S W T E : Type 0} → ℕ → Seat (Gathered S) W → Seat (Gathered S) W → Result T E → Type 0
+MakesRoom n a b result = (ahead_in b.reader.inner ≡ ahead_in a.reader.inner) × OnOk result (HasRoomFor n b.reader.inner)
+
+-- its reads fail behind the bytes that are ahead
+abbrev pub Fails : {S W : Type 0} → Seat (Gathered S) W → Seat (Gathered S) W → Type 0
+Fails a b = (ahead_in b.reader.inner ≡ ahead_in a.reader.inner) × HasFailed b.reader.inner
+
+-- the first of the bytes that wait were sent, and it is told whether some wait still, or a write failed
+pub record SendsOn {R S : Type 0} (contents : S → Option (List ℕ)) (a b : Seat R (Outbox S)) (result : Sending) : Type 0 where
+  pub sent : result ≡ sending.Sent ↔ ((waits_out b.writer.inner ≡ []) × NoneFailed b.writer.inner)
+  pub failed : result ≡ sending.Failed ↔ WriteFailed b.writer.inner
+  pub takes : (bytes : List ℕ) × (waits_out a.writer.inner ≡ bytes ++ waits_out b.writer.inner) × Appends (contents a.writer.inner.inner) (contents b.writer.inner.inner) bytes
