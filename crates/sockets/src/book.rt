@@ -116,6 +116,7 @@ impl<R: time::Clock> Book<'_, R> {
         if let Some(peer) = self.peers.get_mut(index) {
             peer.phase = phase;
             peer.since = self.now;
+            peer.heard = self.now;
         }
     }
 

@@ -51,15 +51,10 @@ impl Phase {
         match self {
             Phase::Free | Phase::Waits { .. } | Phase::Due => None,
             Phase::Silent | Phase::Head | Phase::Answer { .. } => patience,
-            Phase::Body { .. } => Some(shorter(patience?, Duration::from_secs(BODY_SECONDS))),
+            Phase::Body { .. } => patience.map(|_| Duration::from_secs(BODY_SECONDS)),
             Phase::Leaving { .. } => Some(Duration::from_secs(LAST_SECONDS)),
         }
     }
-}
-
-// The shorter of the two.
-fn shorter(one: Duration, other: Duration) -> Duration {
-    if one < other { one } else { other }
 }
 
 /// A connection beside its slot.
@@ -69,6 +64,8 @@ pub(crate) struct Peer {
     pub(crate) phase: Phase,
     /// From when on the time of the phase counts.
     pub(crate) since: Instant,
+    /// When bytes came last in the phase, or when it began.
+    pub(crate) heard: Instant,
     /// Whether bytes, an end or a fault may be there to be read.
     pub(crate) is_ready: bool,
     /// Whether the peer sends no more, or has failed. Behind what it sent is an end, which no event tells once more.
@@ -83,17 +80,25 @@ impl Peer {
         Peer {
             phase: Phase::Free,
             since: now,
+            heard: now,
             is_ready: false,
             is_closing: false,
             room: 0,
         }
     }
 
-    /// Whether the phase has lasted too long.
+    /// Whether the phase has lasted too long, or no byte of a body came for the patience.
     pub(crate) fn is_over(&self, patience: Option<Duration>, now: Instant) -> bool {
-        match self.phase.bound(patience) {
-            Some(bound) => now.duration_since(self.since) >= bound,
-            None => false,
-        }
+        let is_body = matches!(self.phase, Phase::Body { .. });
+        has_passed(self.phase.bound(patience), self.since, now)
+            || is_body && has_passed(patience, self.heard, now)
+    }
+}
+
+// Whether so much time has passed, if there is a bound.
+fn has_passed(bound: Option<Duration>, since: Instant, now: Instant) -> bool {
+    match bound {
+        Some(bound) => now.duration_since(since) >= bound,
+        None => false,
     }
 }

@@ -49,9 +49,7 @@ impl<R: time::Clock> Book<'_, R> {
     ) -> Option<Deed> {
         match outcome {
             Ok(Gathering::Came) => {
-                if !is_full {
-                    self.note_short(index);
-                }
+                self.note_bytes(index, is_full);
                 self.advance(slots, index)
             }
             Ok(Gathering::Waits) => self.note_wait(index),
@@ -60,10 +58,11 @@ impl<R: time::Clock> Book<'_, R> {
         }
     }
 
-    // A read took less than it might: no more is there, but for an end that was told already.
-    fn note_short(&mut self, index: usize) {
+    // Bytes came. Where a read took less than it might no more are there, but for an end that was told already.
+    fn note_bytes(&mut self, index: usize, is_full: bool) {
         if let Some(peer) = self.peers.get_mut(index) {
-            peer.is_ready = peer.is_closing;
+            peer.heard = self.now;
+            peer.is_ready = is_full || peer.is_closing;
         }
     }
 
@@ -75,7 +74,7 @@ impl<R: time::Clock> Book<'_, R> {
         Some(Deed::Settle)
     }
 
-    // Bytes came.
+    // What the bytes that came make due.
     fn advance(&mut self, slots: &[Option<Held>], index: usize) -> Option<Deed> {
         let ahead = ahead_len(slots, index);
         match self.phase(index) {
