@@ -1,5 +1,6 @@
 -- What went on in the slots, one thing after another.
-use Rattle.std.proofs.Common.{◌≡◌, ◌∙◌, ◌+◌, ◌++◌, ℕ, List, [], ◌∷◌, Option, None, Some, length, ap, sym, arith}
+use Rattle.std.proofs.Common.{◌≡◌, ◌++◌, ℕ, true, false, List, [], Option, None, Some, length, sym, subst, arith}
+use Rattle.std.specs.Prelude.{is_some}
 use Rattle.std.proofs.lemmas.List.{length-append}
 use Rattle.office.specs.Crowds.{Changes, same, those_of}
 use Rattle.office.specs.declared.connections.seat.Seat.{Seat}
@@ -20,6 +21,10 @@ module _ {R W : Type 0} (remaining : R → Option (List ℕ)) (contents : W → 
     changes_then remaining contents a b c x.0 x.1 y.0 y.1 x.4 y.4,
   )
 
+  -- nothing was done
+  pub moves_kept : (t u : Tally) (a b : List (Option (Seat R W))) → u.came ≡ t.came → u.gone ≡ t.gone → b ≡ a → Moves remaining contents t u a b
+  moves_kept t u a b came gone is = ([], [], omega (arith, came), omega (arith, gone), subst (λ l. Changes remaining contents a l [] []) (sym is) same)
+
   -- nobody comes or goes
   pub moves_still : (t : Tally) (a b : List (Option (Seat R W))) → Changes remaining contents a b [] [] → Moves remaining contents t t a b
   moves_still t a b changes = ([], [], omega arith, omega arith, changes)
@@ -33,3 +38,12 @@ module _ {R W : Type 0} (remaining : R → Option (List ℕ)) (contents : W → 
     (omega (arith, x.2, met.0, length-append came x.0), omega (arith, x.3, met.1, length-append gone x.1)),
     x.4,
   )
+
+module _ {X : Type 0} where
+  pub those_some : (x : Option X) → is_some x ≡ true → length (those_of x) ≡ 1
+  those_some None is = absurd cc
+  those_some (Some x) is = omega arith
+
+  pub those_none : (x : Option X) → is_some x ≡ false → length (those_of x) ≡ 0
+  those_none None is = omega arith
+  those_none (Some x) is = absurd cc

@@ -1,5 +1,5 @@
 //! A listener's connections, served by an office in turn.
-ghost use Rattle.std.specs.Prelude.{◌≡◌, ◌≤◌, ℕ, IfErr, IfOk, IsTrue, None};
+ghost use Rattle.std.specs.Prelude.{◌≡◌, ◌≤◌, ◌+◌, ℕ, IfErr, IfOk, None, true};
 ghost use Rattle.office.specs.Crowds.{slot_at};
 ghost use Rattle.office.specs.Premise.{StaysUnstaged};
 ghost use Rattle.sockets.specs.Accepting.{ServesMany};
@@ -68,18 +68,36 @@ pub fn serve<K: Keeper, C: Clock, R: Net + time::Clock>(
     let alloc = office.alloc;
     let mut sockets = Sockets::new(rt, alloc, listener, Limits { open, ..limits })?;
     let mut slots = free_slots(alloc, open)?;
-    let faulty = office.serve_crowd(&mut sockets, &mut slots, clock);
+    let slots = slots.as_mut_slice();
+    let faulty = office.serve_crowd(&mut sockets, slots, clock);
+    let came = sockets.tally.came;
+    let refused = sockets.refused();
+    let have_all_come = have_come(came, refused, limits.connections);
     Ok(Outcome {
-        came: sockets.tally.came,
-        refused: sockets.refused(),
+        came,
+        refused,
         faulty,
-        is_whole: sockets.is_whole && are_free(&slots),
+        is_whole: are_all(sockets.is_whole, have_all_come, are_free(slots)),
     })
+}
+
+// Whether all three hold.
+fn are_all(one: bool, two: bool, three: bool) -> bool
+    ensures { result ≡ true → (one ≡ true) × (two ≡ true) × (three ≡ true) }
+{
+    one && two && three
+}
+
+// Whether so many connections came, or could not be accepted.
+fn have_come(came: u64, refused: u64, connections: u64) -> bool
+    ensures { result ≡ true → came + refused ≡ connections }
+{
+    came.checked_add(refused) == Some(connections)
 }
 
 // So many slots, all of them free.
 fn free_slots(alloc: Global, n: usize) -> Result<Vec<Option<Held>>, AllocError>
-    ensures { IfOk result (λ slots. (p : ℕ) → slot_at slots p ≡ None) }
+    ensures { IfOk result (λ slots. (p : ℕ) → slot_at slots.items p ≡ None) }
 {
     let mut slots = Vec::with_capacity(alloc, n)?;
     'slots: for _ in 0..n {
@@ -90,7 +108,7 @@ fn free_slots(alloc: Global, n: usize) -> Result<Vec<Option<Held>>, AllocError>
 
 // Whether all slots are free.
 fn are_free(slots: &[Option<Held>]) -> bool
-    ensures { IsTrue result → (p : ℕ) → slot_at slots.now p ≡ None }
+    ensures { result ≡ true → (p : ℕ) → slot_at slots.now p ≡ None }
 {
     slots.iter().all(|slot| slot.is_none())
 }

@@ -1,6 +1,5 @@
 //! The sockets of a listener's peers, as the crowd around an office.
-ghost use Rattle.sockets.specs.Gone.{HasAllGone, IsOver};
-ghost use Rattle.std.specs.Prelude.{◌≡◌, ◌+◌, ◌<◌, ℕ, length, true, IfOk, IsTrue};
+ghost use Rattle.std.specs.Prelude.{◌≡◌, ◌<◌, true, IfOk};
 ghost use Rattle.office.specs.Crowds.{IsOpenAt};
 ghost use Rattle.sockets.specs.Moving.{Moves};
 
@@ -21,11 +20,9 @@ use wire::{Gathered, Outbox, Room};
 pub(crate) struct Sockets<'a, R> {
     book: Book<'a, R>,
     pub(crate) tally: Tally,
-    // How many connections are to come in all.
-    connections: u64,
     // How many turns it may give still.
     turns: u64,
-    /// Whether all that were to come have come, or could not be accepted, and have gone.
+    /// Whether all that came have gone, and none is to come any more.
     pub(crate) is_whole: bool,
     ghost few: { turns < 18446744073709551616 },
 }
@@ -53,13 +50,11 @@ impl<'a, R: Net + time::Clock> Sockets<'a, R> {
         listener: &'a TcpListener,
         limits: Limits,
     ) -> io::Result<Sockets<'a, R>>
-        ensures { IfOk result (λ sockets. (sockets.tally.came ≡ 0) × (sockets.tally.gone ≡ 0)
-            × (sockets.connections ≡ limits.connections)) }
+        ensures { IfOk result (λ sockets. (sockets.tally.came ≡ 0) × (sockets.tally.gone ≡ 0)) }
     {
         Ok(Sockets {
             book: Book::new(rt, alloc, listener, limits)?,
             tally: Tally::new(),
-            connections: limits.connections,
             turns: u64::MAX,
             is_whole: false,
         })
@@ -67,10 +62,10 @@ impl<'a, R: Net + time::Clock> Sockets<'a, R> {
 }
 
 impl<R: time::Clock> Sockets<'_, R> {
+    ghost use Rattle.sockets.specs.Gone.{IsOver};
+
     /// How many connections could not be accepted.
-    pub(crate) fn refused(&self) -> u64
-        ensures { result ≡ self.now.book.door.refused }
-    {
+    pub(crate) fn refused(&self) -> u64 {
         self.book.door.refused
     }
 
@@ -79,7 +74,6 @@ impl<R: time::Clock> Sockets<'_, R> {
         ensures moves { Moves ⟦<Gathered<TcpStream> as Read>⟧.remaining
             ⟦<Outbox<TcpStream> as Write>⟧.contents self.old.tally self.new.tally slots.old slots.new }
         ensures turns { self.new.turns ≡ self.old.turns }
-        ensures connections { self.new.connections ≡ self.old.connections }
     {
         let index = task.index;
         let report = self
@@ -94,7 +88,6 @@ impl<R: time::Clock> Sockets<'_, R> {
         ensures moves { Moves ⟦<Gathered<TcpStream> as Read>⟧.remaining
             ⟦<Outbox<TcpStream> as Write>⟧.contents self.old.tally self.new.tally slots.old slots.new }
         ensures turns { self.new.turns ≡ self.old.turns }
-        ensures connections { self.new.connections ≡ self.old.connections }
     {
         let slot = self.tally.open(slots, self.book.alloc, ends);
         self.book.opened(slots, slot)
@@ -105,7 +98,6 @@ impl<R: time::Clock> Sockets<'_, R> {
         ensures moves { Moves ⟦<Gathered<TcpStream> as Read>⟧.remaining
             ⟦<Outbox<TcpStream> as Write>⟧.contents self.old.tally self.new.tally slots.old slots.new }
         ensures turns { self.new.turns ≡ self.old.turns }
-        ensures connections { self.new.connections ≡ self.old.connections }
         ensures over { result ≡ Next.Over → IsOver self.new }
     {
         if let Some(task) = task {
@@ -116,32 +108,30 @@ impl<R: time::Clock> Sockets<'_, R> {
             Step::Open(ends) => Next::Go(self.open(slots, ends)),
             Step::Turn(due) => Next::Turn(due),
             Step::Over => {
-                self.is_whole = self.has_all_gone();
+                self.is_whole = self.tally.came == self.tally.gone;
                 Next::Over
             }
         }
-    }
-
-    // Whether all that were to come came, or could not be accepted, and have gone.
-    fn has_all_gone(&self) -> bool
-        ensures { result ≡ true → HasAllGone self.now }
-    {
-        self.tally.came == self.tally.gone
-            && self.tally.came.checked_add(self.refused()) == Some(self.connections)
     }
 }
 
 // Whether an open connection is in the slot.
 fn is_open_at(slots: &[Option<Held>], index: usize) -> bool
-    ensures { IsTrue result → IsOpenAt slots.now index }
+    ensures { result ≡ true → IsOpenAt slots.now index }
 {
-    match slots.get(index) {
-        Some(Some(seat)) => seat.end().is_none(),
-        _ => false,
+    if index >= slots.len() {
+        return false;
+    }
+    match &slots[index] {
+        Some(seat) => seat.end().is_none(),
+        None => false,
     }
 }
 
 impl<R: time::Clock> Crowd<Gathered<TcpStream>, Outbox<TcpStream>> for Sockets<'_, R> {
+    ghost use Rattle.std.specs.Prelude.{◌≡◌, length};
+    ghost use Rattle.sockets.specs.Gone.{IsOver};
+
     ghost met = { λ s came gone. (s.tally.came ≡ length came) × (s.tally.gone ≡ length gone) };
 
     ghost over = { IsOver };

@@ -90,9 +90,13 @@ impl Tally {
         let came = self.came.checked_add(1)?;
         let reader = Gathered::new(alloc, ends.reader);
         let writer = Outbox::new(alloc, ends.writer);
-        let index = open_slot(slots, Seat::new(alloc, reader, writer)).ok()?;
-        self.came = came;
-        Some(index)
+        match open_slot(slots, Seat::new(alloc, reader, writer)) {
+            Ok(index) => {
+                self.came = came;
+                Some(index)
+            }
+            Err(_) => None,
+        }
     }
 
     /// Makes the slot free.
