@@ -27,9 +27,6 @@ pub trait Crowd<R: Read, W: Write> {
     /// Which connections came so far, as they came; and which went, as they were then.
     ghost met: { Self → List (Seat R W) → List (Seat R W) → Type 0 };
 
-    /// There are such lists of each.
-    ghost meets: { (crowd : Self) → (came gone : List (Seat R W)) × met crowd came gone };
-
     /// No turn is to be taken any more.
     ghost over: { Self → Type 0 };
 
