@@ -23,8 +23,8 @@ returns-in_default-clause-weaves g c s kept =
     let x = c.turns.invariant.0 s kept in (
       x.0,
       x.1,
-      weaves_last g.R.Read.remaining g.W.Write.contents g.C.Clock.now_gives g.K.Keeper c.args.seats.now c.turns.seats c.args.clock.now c.turns.clock c.args.self.now.keeper c.turns.self.keeper s x.0
-          x.2 c.turns.invariant.1 (λ a b. g.met.K.Keeper.one c.turns.self.keeper a b kept.is_honest) x.1,
+      (weaves_last g.R.Read.remaining g.W.Write.contents g.C.Clock.now_gives g.K.Keeper c.args.seats.now c.turns.seats c.args.clock.now c.turns.clock c.args.self.now.keeper c.turns.self.keeper s x.0
+          x.2 c.turns.invariant.1 (λ a b. g.met.K.Keeper.one c.turns.self.keeper a b kept.is_honest) x.1).0,
     )
 
 pub returns-in_default-room_of-clause-weaves : goal.returns-in_default-room_of-clause-weaves
@@ -32,8 +32,8 @@ returns-in_default-room_of-clause-weaves g c s kept =
     let x = c.turns.invariant.0 s kept in (
       x.0,
       x.1,
-      weaves_last g.R.Read.remaining g.W.Write.contents g.C.Clock.now_gives g.K.Keeper c.args.seats.now c.turns.seats c.args.clock.now c.turns.clock c.args.self.now.keeper c.turns.self.keeper s x.0
-          x.2 c.turns.invariant.1 (λ a b. g.met.K.Keeper.one c.turns.self.keeper a b kept.is_honest) x.1,
+      (weaves_last g.R.Read.remaining g.W.Write.contents g.C.Clock.now_gives g.K.Keeper c.args.seats.now c.turns.seats c.args.clock.now c.turns.clock c.args.self.now.keeper c.turns.self.keeper s x.0
+          x.2 c.turns.invariant.1 (λ a b. g.met.K.Keeper.one c.turns.self.keeper a b kept.is_honest) x.1).0,
     )
 
 pub returns-clause-weaves : goal.returns-clause-weaves
@@ -41,8 +41,8 @@ returns-clause-weaves g c s kept =
     let x = c.turns.invariant.0 s kept in (
       x.0,
       x.1,
-      weaves_last g.R.Read.remaining g.W.Write.contents g.C.Clock.now_gives g.K.Keeper c.args.seats.now c.turns.seats c.args.clock.now c.turns.clock c.args.self.now.keeper c.turns.self.keeper s x.0
-          x.2 c.turns.invariant.1 (λ a b. g.met.K.Keeper.one c.turns.self.keeper a b kept.is_honest) x.1,
+      (weaves_last g.R.Read.remaining g.W.Write.contents g.C.Clock.now_gives g.K.Keeper c.args.seats.now c.turns.seats c.args.clock.now c.turns.clock c.args.self.now.keeper c.turns.self.keeper s x.0
+          x.2 c.turns.invariant.1 (λ a b. g.met.K.Keeper.one c.turns.self.keeper a b kept.is_honest) x.1).0,
     )
 
 pub turns-preserved : goal.turns-preserved
