@@ -16,7 +16,7 @@ use Rattle.office.specs.declared.connections.seat.Seat.{Seat}
 use Rattle.office.specs.declared.connections.session.SessionEnd.{SessionEnd}
 use Rattle.office.proofs.Counting.{over_if}
 use Rattle.office.proofs.RunSoFar.{MeansOne}
-use Rattle.office.proofs.SeatTurns.{AllTell, TurnsMore, gathered_seat, gathers_tell, seat_comes, sent_seat, tell_comes, tell_more, tell_sent, turns_more, weaves_last}
+use Rattle.office.proofs.SeatTurns.{AllTell, TurnsMore, gathered_seat, gathers_tell, seat_comes, sent_seat, tell_comes, tell_more, tell_sent, turns_more, turns_new, weaves_last}
 use Rattle.office.proofs.Ties.{Ties, gone_among, no_other_stands, none_is, number_of, some_is, ties_comes, ties_goes, ties_none, ties_set}
 use Rattle.office.proofs.Weaving.{SoFar}
 
@@ -65,11 +65,6 @@ module _ {R W : Type 0} where
       let same : over_if y.end ≡ over_if x.end = ap over_if end in
       omega (arith, served, same)
 
-  turns_new : (x : Seat R W) → IsNew x → turns_of x ≡ 0
-  turns_new x new =
-      let open_still : over_if x.end ≡ zero = ap over_if new.open_still in
-      omega (arith, new.none, open_still)
-
   faults_of : (remaining : R → Option (List ℕ)) (contents : W → Option (List ℕ)) (fs ns : List (Seat R W)) (cs : List Thread) → AreThreads remaining contents fs ns cs
       → faults_in ns ≡ count_by (λ (c : Thread). is_fault_end c.end) cs
   faults_of remaining contents [] [] [] are = refl
@@ -115,7 +110,7 @@ module _ {R W : Type 0} (remaining : R → Option (List ℕ)) (contents : W → 
       ties = ties_comes slots t.number t.seats gone t.ties p lt new free;
       turned = seat_comes remaining contents gives k came t.seats clock clock' keeper keeper' s mid new is t.turned;
       tell = tell_comes came t.seats new is t.tell;
-      taken = let all = sum_by_push turns_of t.seats new in omega (arith, t.taken, all, turns_new new is);
+      taken = let all = sum_by_push turns_of t.seats new in omega (arith, t.taken, all, turns_new remaining contents new is);
       faulty = t.faulty ∙ sym (faults_more t.seats new is.open_still);
     }
 
@@ -244,7 +239,7 @@ module _ {R W : Type 0} (remaining : R → Option (List ℕ)) (contents : W → 
     pub crowd_ends : (slots : List (Option (Seat R W))) (came gone : List (Seat R W)) (clock' : C) (keeper' : K) (turns faults : ℕ) (mid : State) → MeansOne k keeper' → IsLeft (k.means keeper') mid
         → Now slots came gone clock' keeper' turns faults mid → ServesCrowd gives remaining contents came gone slots clock clock' k keeper keeper' turns faults s mid
     crowd_ends slots came gone clock' keeper' turns faults mid one left t =
-        let last = weaves_last remaining contents gives k came t.seats clock clock' keeper keeper' s mid t.turned t.tell one left in
+        let last = weaves_last remaining contents gives k came t.seats clock clock' keeper keeper' s mid turns t.turned t.tell (omega (arith, t.taken)) one left in
         let w = last.0 in
         record {
           seats = t.seats;

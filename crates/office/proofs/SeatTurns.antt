@@ -3,7 +3,7 @@ use Rattle.std.proofs.Common.{◌≡◌, ◌<◌, ◌≤◌, ◌+◌, ℕ, zero,
 use Rattle.std.specs.Prelude.{⊤, is_some}
 use Rattle.std.specs.List.{AllByRecursion, sum_by}
 use Rattle.std.proofs.lemmas.List.{set-get_or}
-use Rattle.std.proofs.lemmas.List.Sums.{sum_by-cons}
+use Rattle.std.proofs.lemmas.List.Sums.{sum_by-cons, sum_by-set}
 use Rattle.std.specs.Io.KnownBytes.{Appends, Keeps, prepend_known}
 use Rattle.sigtext.specs.Counts.{Rose}
 use Rattle.keeper.specs.declared.keep.Keeper.{Ghosts}
@@ -22,7 +22,7 @@ use Rattle.office.specs.Sessions.{most_messages}
 use Rattle.office.specs.Stepping.{Steps, TellsStep}
 use Rattle.office.specs.declared.connections.seat.Seat.{Seat}
 use Rattle.office.specs.declared.connections.session.SessionEnd.{SessionEnd}
-use Rattle.office.proofs.Counting.{AllTook, took_of}
+use Rattle.office.proofs.Counting.{AllTook, over_if, took_of}
 use Rattle.office.proofs.Repeats.{repeats_once}
 use Rattle.office.proofs.RunSoFar.{MeansOne}
 use Rattle.office.proofs.Sitting.{IsFirst, Sitting, answered, closed, gathered, sent_on}
@@ -351,24 +351,49 @@ module _ {R W : Type 0} (remaining : R → Option (List ℕ)) (contents : W → 
   sums_alike (f ∷ fs) (n ∷ ns) (x ∷ xs) a =
       omega (arith, sum_by-cons took_of x xs, sum_by-cons turns_of n ns, same_took f n x a.0, sums_alike fs ns xs a.1)
 
+  pub turns_new : (x : Seat R W) → IsNew x → turns_of x ≡ 0
+  turns_new x new =
+      let open_still : over_if x.end ≡ 0 = ap over_if new.open_still in
+      omega (arith, new.none, open_still)
+
+  pub sums_new : (fs : List (Seat R W)) → AllByRecursion IsNew fs → sum_by turns_of fs ≡ 0
+  sums_new [] new = refl
+  sums_new (f ∷ fs) new = omega (arith, sum_by-cons turns_of f fs, turns_new f new.0, sums_new fs new.1)
+
+  -- a turn is one of its connection, or none
+  pub one_at_most : {C K : Type 0} (gives : C → ℕ → C → Type 0) (k : Ghosts K) (clock clock' : C) (keeper keeper' : K) (s after : State) (old new : Seat R W)
+      → TakesTurn gives remaining contents old new clock clock' k keeper keeper' s after → turns_of new ≤ turns_of old + 1
+  one_at_most gives k clock clock' keeper keeper' s after old new (had_ended e is same_seat same_clock same_keeper same_state) =
+      let same : turns_of new ≡ turns_of old = ap turns_of same_seat in omega (arith, same)
+  one_at_most gives k clock clock' keeper keeper' s after old new (went_on was_open is_open served goes) =
+      let behind : over_if new.end ≡ 0 = ap over_if is_open in omega (arith, behind, served)
+  one_at_most gives k clock clock' keeper keeper' s after old new (ended n e was_open is served sum serves few) =
+      let behind : over_if new.end ≡ 1 = ap over_if is in omega (arith, behind, served)
+
+  pub sums_more : (ns : List (Seat R W)) (p m : ℕ) (d new : Seat R W) → p < length ns → turns_of new ≤ turns_of (get_or ns p d) + 1 → sum_by turns_of ns ≤ m
+      → sum_by turns_of (set ns p new) ≤ m + 1
+  sums_more ns p m d new lt one few = let all = sum_by-set turns_of ns p new d lt in omega (arith, all, one, few)
+
   module _ {C K : Type 0} (gives : C → ℕ → C → Type 0) (k : Ghosts K) (fs ns : List (Seat R W)) (clock clock' : C) (keeper keeper' : K) (s mid : State) where
     -- nothing was done yet
     pub weaves_first : AllByRecursion IsNew fs → SoFar gives k (first_sittings fs) clock clock keeper keeper s s → TurnsMore gives k fs fs clock clock keeper keeper s s
     weaves_first new f = record { sittings = first_sittings fs; are = are_first fs; so_far = f }
 
     -- in the end; and all turns are those that they took
-    pub weaves_last : TurnsMore gives k fs ns clock clock' keeper keeper' s mid → AllTell fs ns → MeansOne k keeper' → IsLeft (k.means keeper') mid
-        → (w : Weaves gives remaining contents fs ns clock clock' k keeper keeper' s mid) × (length w.run.turns ≡ sum_by turns_of ns)
-    weaves_last t tell one left =
-        let w = finishes gives k t.sittings clock clock' keeper keeper' s mid t.so_far in (
+    pub weaves_last : (turns : ℕ) → TurnsMore gives k fs ns clock clock' keeper keeper' s mid → AllTell fs ns → sum_by turns_of ns ≤ turns → MeansOne k keeper' → IsLeft (k.means keeper') mid
+        → (w : Weaves gives remaining contents fs ns clock clock' k keeper keeper' turns s mid) × (length w.run.turns ≡ sum_by turns_of ns)
+    weaves_last turns t tell few one left =
+        let w = finishes gives k t.sittings clock clock' keeper keeper' s mid t.so_far in
+        let all = w.counts.all ∙ sums_alike fs ns t.sittings t.are in (
           record {
             threads = w.threads;
             moments = w.moments;
             told = w.told;
             served = are_threads fs ns t.sittings w.threads t.are w.are tell;
             run = w.run;
-            one_moment = w.counts.one_moment;
+            no_more = omega (arith, all, few);
             each_counted = have_turns w.run.turns 0 fs ns t.sittings t.are w.counts.each;
+            one_moment = w.counts.one_moment;
             repeats = repeats_once s (acts_in w.run.turns) mid w.run.order;
             stays = record {
               counted = λ none. (t.so_far.held (none_gave_up t.sittings w.threads w.are none)).0;
@@ -379,5 +404,5 @@ module _ {R W : Type 0} (remaining : R → Option (List ℕ)) (contents : W → 
             };
             lasts = λ all. t.so_far.lasts (all_last t.sittings w.threads w.are all);
           },
-          w.counts.all ∙ sums_alike fs ns t.sittings t.are,
+          all,
         )

@@ -109,16 +109,18 @@ abbrev pub TellsOneMoment : Turn → Type 0
 TellsOneMoment turn = length turn.moments ≤ 1
 
 -- The connections were served in turn: the moments, each connection, the state after, how the keeper held up, and what outlasts a
--- crash; and an upload acts once over all of them. A turn tells one moment at most, and each connection has as many turns as it took.
+-- crash; and an upload acts once over all of them. There are no more turns than so many, a turn tells one moment at most, and each
+-- connection has as many turns as it took.
 pub record Weaves {C K R W : Type 0} (gives : C → ℕ → C → Type 0) (remaining : R → Option (List ℕ)) (contents : W → Option (List ℕ)) (old new : List (Seat R W)) (clock clock' : C)
-    (k : Ghosts K) (keeper keeper' : K) (s after : State) : Type 0 where
+    (k : Ghosts K) (keeper keeper' : K) (turns : ℕ) (s after : State) : Type 0 where
   pub threads : List Thread
   pub moments : List ℕ
   pub told : TellsMoments gives clock moments clock'
   pub served : AreThreads remaining contents old new threads
   pub run : Interleaved s threads moments after
-  pub one_moment : AllByRecursion TellsOneMoment run.turns
+  pub no_more : length run.turns ≤ turns
   pub each_counted : HaveTurns run.turns 0 new
+  pub one_moment : AllByRecursion TellsOneMoment run.turns
   pub repeats : RepeatsOnce (acts_in run.turns)
   pub stays : StaysSo k threads keeper keeper' after
   pub lasts : LastsOver k threads keeper keeper' s after
