@@ -114,6 +114,8 @@ def test_words(drop, count):
         (["--connections", "1000001"], "error: invalid value '1000001' for '--connections <N>': 1000001 is not in 1..=1000000"),
         (["--connections", "1", "--patience", "3601"],
          "error: invalid value '3601' for '--patience <SECONDS>': 3601 is not in 0..=3600"),
+        (["--connections", "1", "--open", "0"], "error: invalid value '0' for '--open <N>': 0 is not in 1..=4096"),
+        (["--connections", "1", "--open", "4097"], "error: invalid value '4097' for '--open <N>': 4097 is not in 1..=4096"),
         ([], "error: the following required arguments were not provided:"),
     ]:
         found = drop.run("serve", "no-file", "--listen", "none", *words)
