@@ -15,6 +15,7 @@ struct Service<'a> {
     address: SocketAddrV4,
     connections: u64,
     patience: Option<Duration>,
+    open: usize,
 }
 
 // A service, and where it is told that it listens.
@@ -54,11 +55,15 @@ fn read_service<'a>(words: &Serve<'a>) -> Result<Service<'a>, Fault<'static>> {
         0 => None,
         _ => Some(Duration::from_secs(seconds)),
     };
+    let Ok(open) = words.open.parse::<usize>() else {
+        return Err(Fault::MalformedValue("open"));
+    };
     Ok(Service {
         listen: words.listen,
         address,
         connections,
         patience,
+        open,
     })
 }
 
