@@ -1,0 +1,455 @@
+"""Runs the proved program `drop serve` with many peers at once: clients that behave, beside idle and slow ones, beside peers that
+do what no client should, and where connections or descriptors run out; directly, by programs of others, and through nginx, as
+deploy/nginx.conf sets it up.
+
+What is owed comes from Python's `hashlib` and `hmac` (ci/expected.py) and the table of refusals in docs/RULES.md. A time is told
+wrong where it is over 5 seconds, and the patience of the server then is 30. The last line is `N passed, M failed`.
+"""
+
+import contextlib
+import os
+import pathlib
+import re
+import resource
+import socket
+import sys
+import threading
+import time
+
+import kit
+import tables
+from browser import Browser
+from expected import answer
+from front import BREAK
+from kit import side_by_side
+from listed import read
+from nginx import HOST, Front, Office, certificate, paths_of
+from office import difference, fetched, get, put, receipt, run_all
+from peers import SOON, UNSIGNED, Client, Crowd, Peer, a_minute_ago, add_clients, facts
+from serve import Server, asked, boto_client, curl, open_office
+
+DEPLOY = kit.ROOT / "deploy"
+PATIENCE = 30
+IDLE, SLOW, CLIENTS, VISITS, ROUNDS = 300, 20, 8, 5, 4
+AHEAD = 64  # MiB of all connections that may be read ahead
+ANSWERS = CLIENTS  # MiB of the answers to clients, of 1 MiB at the most, that may be on their way
+BODIES = 20
+MANY = 2000
+LARGE = b"l" * (8 << 20)
+FILES = ["a.txt", "a b/é.txt", "x+y=z&#%.bin"]  # by links of boto3
+
+
+def clients(connect, visits=VISITS, **how):
+    return [Client(connect, number, visits, ROUNDS, **how) for number in range(CLIENTS)]
+
+
+def most_memory(process):
+    """The most that the process had in memory, in MiB."""
+    text = pathlib.Path(f"/proc/{process.pid}/status").read_text()
+    return int(re.search(r"VmHWM:\s*(\d+) kB", text)[1]) / 1024
+
+
+def add_memory(count, name, server, alone):
+    """The memory of a server is what one had that clients came to one after another, and what may be ahead and on its way."""
+    most = most_memory(server.process)
+    print(f"{name}: {most:.0f} MiB, and {alone:.0f} for one client after another")
+    count.add(f"{name}: the memory", f"{most:.0f} MiB" if most > alone + AHEAD + ANSWERS else None)
+
+
+def add_office(drop, file, count, name, told):
+    """What the office has behind it all: each receipt that was told, from the first on, and no other."""
+    numbers = list(range(1, len(told) + 1))
+    count.add(f"{name}: the receipts", difference(told, numbers))
+    rows = read(drop.run("manifest", file).out)[1:]
+    count.add(f"{name}: the manifest", difference([int(row[0]) for row in rows], numbers))
+    count.add(f"{name}: integrity", difference(tables.rows(file, "PRAGMA integrity_check"), [("ok",)]))
+
+
+def is_let_go(it):
+    """Whether this connection has ended."""
+    it.setblocking(False)
+    try:
+        return it.recv(1, socket.MSG_PEEK) == b""
+    except BlockingIOError:
+        return False
+    except ConnectionError:
+        return True
+
+
+def rest(it):
+    """What still comes on a connection, up to its end."""
+    found = b""
+    with contextlib.suppress(ConnectionError):
+        while data := it.recv(1 << 20):
+            found += data
+    return found
+
+
+# ---- a crowd
+
+
+def memory_alone(drop, count):
+    """What a server takes to which the clients come one after another."""
+    file, told = open_office(drop, "alone"), []
+    with Server(drop, file, CLIENTS * VISITS, PATIENCE) as server:
+        for it in clients(server.connect):
+            told += add_clients(count, f"client {it.number} alone", [it])
+        most = most_memory(server.process)
+        count.add("alone: the end", difference(server.end(), server.owed_end(False)))
+    add_office(drop, file, count, "alone", told)
+    return most
+
+
+def many_at_once(server, number, date):
+    """A file, and then a hundred requests in one piece, which are answered one after another."""
+    data = b"many at once"
+    message = put(b"/in/many", data, date=date) + (get(b"/in/many", date=date) + UNSIGNED) * 50
+    owed = receipt(number, data) + (fetched(number, data) + answer(9)) * 50
+    return difference(server.ask(message), owed)
+
+
+def test_crowd(drop, count):
+    """Clients that behave are served soon beside idle and slow peers; and the program ends with its last connection."""
+    alone, file = memory_alone(drop, count), open_office(drop, "crowd")
+    with Server(drop, file, IDLE + SLOW + CLIENTS * VISITS + 1, PATIENCE) as server:
+        with Crowd(server.connect, IDLE, SLOW):
+            told = add_clients(count, "a crowd", clients(server.connect))
+            count.add("many at once", many_at_once(server, len(told) + 1, a_minute_ago()))
+            add_memory(count, "a crowd", server, alone)
+        # where that took longer than the patience, the idle ones were let go as such that failed
+        count.add("a crowd: the end", difference(server.end(), server.owed_end(False), server.owed_end(True)))
+    add_office(drop, file, count, "a crowd", [*told, len(told) + 1])
+    bodies_ahead(drop, count, alone)
+
+
+@contextlib.contextmanager
+def pushed(connect, message):
+    """A connection on which these bytes are sent, as far as the other end takes them."""
+    with connect() as it:
+        def push():
+            with contextlib.suppress(OSError):
+                it.sendall(message)
+
+        thread = threading.Thread(target=push, daemon=True)
+        thread.start()
+        yield it
+        with contextlib.suppress(OSError):
+            it.shutdown(socket.SHUT_RDWR)
+        thread.join()
+
+
+def bodies_ahead(drop, count, alone):
+    """Peers that send the greatest body but for its last byte: they hold nobody, and together they have a bound."""
+    file, message = open_office(drop, "bodies"), put(b"/in/large", LARGE, date=a_minute_ago())[:-1]
+    with Server(drop, file, BODIES + CLIENTS, PATIENCE) as server, contextlib.ExitStack() as stack:
+        for _ in range(BODIES):
+            stack.enter_context(pushed(server.connect, message))
+        time.sleep(1)
+        told = add_clients(count, "beside bodies", clients(server.connect, 1))
+        add_memory(count, "beside bodies", server, alone)
+        stack.close()
+        count.add("beside bodies: the end", difference(server.end(), server.owed_end(False), server.owed_end(True)))
+    add_office(drop, file, count, "beside bodies", told)
+
+
+# ---- bounds
+
+
+def test_open(drop, count):
+    """Where as many are open as may be, the one goes that is silent longest with nothing pending."""
+    file, date = open_office(drop, "open"), a_minute_ago()
+    ask, owed = get(b"/in/none", date=date), answer(34)
+    with Server(drop, file, 8 + 3, PATIENCE, most_open=8) as server, contextlib.ExitStack() as stack:
+        peers = [stack.enter_context(Peer(server.connect)) for _ in range(8)]
+        for it in peers:
+            count.add("open: each is answered", difference(it.ask(ask), owed))
+            time.sleep(0.1)
+        peers[0].socket.sendall(ask[:20])
+        count.add("open: the second again", difference(peers[1].ask(ask), owed))
+        time.sleep(0.5)
+        count.add("open: one more", difference(server.ask(ask), owed))
+        ended = [is_let_go(it.socket) for it in peers]
+        count.add("open: who goes", difference(ended, [number == 2 for number in range(8)]))
+        peers = [it for it in peers if it is not peers[2]]
+        for it in peers:
+            it.socket.setblocking(True)
+        pending_at_bound(count, server, stack, peers, ask)
+        stack.close()
+        count.add("open: the end", difference(server.end(), server.owed_end(False)))
+
+
+def pending_at_bound(count, server, stack, peers, ask):
+    """Where something is pending of each, nobody goes, and who comes waits until one has ended."""
+    for it in peers[1:]:
+        it.socket.sendall(ask[:20])
+    eighth = stack.enter_context(Peer(server.connect))
+    eighth.socket.sendall(ask[:20])
+    last = stack.enter_context(Peer(server.connect))
+    last.socket.sendall(ask)
+    time.sleep(1)
+    count.add("pending: nobody goes", difference([is_let_go(it.socket) for it in [*peers, eighth, last]], [False] * 9))
+    peers[0].socket.setblocking(True)
+    count.add("pending: the first ends", difference(peers[0].ask(ask[20:]), answer(34)))
+    peers[0].socket.close()
+    last.socket.setblocking(True)
+    count.add("pending: the one that waited", difference(last.take(), answer(34)))
+
+
+def seconds_of(process):
+    """The seconds of a processor that the process has taken."""
+    fields = pathlib.Path(f"/proc/{process.pid}/stat").read_text().rpartition(")")[2].split()
+    return (int(fields[11]) + int(fields[12])) / os.sysconf("SC_CLK_TCK")
+
+
+def test_descriptors(drop, count):
+    """Where descriptors run out, those go that are silent longest, and who comes is served soon; and the server rests."""
+    file = open_office(drop, "descriptors")
+    server = Server(drop, file, 100 + CLIENTS, PATIENCE)
+    server.own = {"preexec_fn": lambda: resource.setrlimit(resource.RLIMIT_NOFILE, (64, 64))}
+    with server, Crowd(server.connect, 100, 0) as crowd:
+        told = add_clients(count, "few descriptors", clients(server.connect, 1))
+        begun = seconds_of(server.process)
+        time.sleep(4)
+        taken = seconds_of(server.process) - begun
+        count.add("few descriptors: it rests", f"{taken:.1f} of 4 seconds" if taken > 2 else None)
+        gone = sum(is_let_go(it) for it in crowd.idle)
+        count.add("few descriptors: some went", None if 36 < gone < 100 else f"{gone} of 100")
+        for it in crowd.idle:
+            it.close()
+        count.add("few descriptors: the end", difference(server.end(), server.owed_end(False)))
+    add_office(drop, file, count, "few descriptors", told)
+
+
+def test_leaving(drop, count):
+    """Two thousand connections that come and leave: who asks meanwhile is answered."""
+    file, date = open_office(drop, "leaving"), a_minute_ago()
+    ask, owed = get(b"/in/none", date=date), answer(34)
+    soft, hard = resource.getrlimit(resource.RLIMIT_NOFILE)
+    resource.setrlimit(resource.RLIMIT_NOFILE, (max(soft, min(hard, 2 * MANY)), hard))
+    with Server(drop, file, 10**6, PATIENCE) as server:
+        idle, slowest = [], 0.0
+        for number in range(MANY):
+            idle.append(server.connect())
+            if number % 100 == 0:
+                slowest = max(slowest, add_ask(count, server, ask, owed))
+        for it in idle:
+            it.close()
+        slowest = max(slowest, add_ask(count, server, ask, owed))
+        count.add("leaving: the slowest answer", f"after {slowest:.1f} seconds" if slowest > SOON else None)
+
+
+def add_ask(count, server, ask, owed):
+    """An answer on a connection of its own, and its seconds. A connection that was let go before it asked asks once more."""
+    begun, found = time.monotonic(), b""
+    for _ in range(3):
+        with contextlib.suppress(ConnectionError):
+            found = found or server.ask(ask)
+    count.add("leaving: an answer", difference(found, owed))
+    return time.monotonic() - begun
+
+
+# ---- peers that do what no client should
+
+ODD_PATIENCE = 3
+
+
+def a_byte_a_second(it, data):
+    """Sends the data so, until the connection has ended."""
+    for byte in data:
+        it.sendall(bytes([byte]))
+        it.settimeout(1.0)
+        with contextlib.suppress(TimeoutError):
+            return it.recv(1)
+    return b"all was taken"
+
+
+def takes_nothing(it, message):
+    """Asks, and reads only what is left once the patience is over."""
+    it.sendall(message)
+    time.sleep(ODD_PATIENCE + SOON)
+    return rest(it)
+
+
+def sends(*parts):
+    """A peer that sends this and nothing more."""
+    def act(it):
+        for part in parts:
+            it.sendall(part)
+        return rest(it)
+
+    return act
+
+
+def odd_peers(date):
+    """Each with its name, what it does, what it is answered, and whether it is let go only for its patience."""
+    large, ask = get(b"/in/large", date=date), get(b"/in/none", date=date)
+    message = put(b"/in/new", b"n" * 100_000, date=date)
+    head = UNSIGNED[:-2] + b"A: " + b"a" * (8193 - len(UNSIGNED) - 5) + b"\r\n\r\n"
+    return [
+        ("nothing", sends(), b"", True),
+        ("half a head", sends(ask[:-2]), b"", True),
+        ("a byte of a head", sends(b"G"), b"", True),
+        ("an answer, and half a head", sends(ask, ask[:-2]), answer(34) + b"", True),
+        ("half a body", sends(message[:-1]), b"", True),
+        ("a head of 8193 bytes", sends(head), answer(2), False),
+        ("8192 bytes without an end", sends(b"a" * 8192), answer(2), False),
+        ("a thousand requests, and one more", sends(UNSIGNED * 1001), answer(9) * 1000, False),
+        ("a thousand requests, and a part", sends(UNSIGNED * 999, UNSIGNED[:-2]), answer(9) * 999, True),
+        ("a byte a second", lambda it: a_byte_a_second(it, ask), b"", True),
+        ("takes no answer", lambda it: takes_nothing(it, large), None, True),
+        ("takes no answer, and asks on", lambda it: takes_nothing(it, large * 20), None, True),
+    ]
+
+
+def odd_result(connect, row):
+    """What came of such a peer: the fault, if there is one."""
+    name, act, owed, is_patient = row
+    begun = time.monotonic()
+    with connect(4096 if owed is None else None) as it:
+        found = act(it)
+    seconds = time.monotonic() - begun
+    if owed is None:
+        return name, None if len(found) < len(LARGE) else f"{len(found)} bytes were taken"
+    if found != owed:
+        return name, f"{found[:300]!r} and not {owed[:300]!r}"
+    if is_patient and seconds < ODD_PATIENCE - 0.1:
+        return name, f"it was let go after {seconds:.1f} seconds"
+    return name, f"it was let go after {seconds:.1f} seconds" if seconds > ODD_PATIENCE + 2 * SOON else None
+
+
+def test_odd(drop, count):
+    """Peers that do what no client should, all at once and beside clients that behave: each ends as it is owed, and holds nobody."""
+    file, date = open_office(drop, "odd"), a_minute_ago()
+    rows = odd_peers(date)
+    with Server(drop, file, 10**6, ODD_PATIENCE) as server:
+        count.add("odd: the large file", difference(server.ask(put(b"/in/large", LARGE, date=date)), receipt(1, LARGE)))
+        results = []
+        odd = [threading.Thread(target=lambda row=row: results.append(odd_result(server.connect, row))) for row in rows]
+        for it in odd:
+            it.start()
+        told = add_clients(count, "odd", clients(server.connect))
+        told += reset_at_each_moment(server, count, date, len(told))
+        for it in odd:
+            it.join()
+        for name, fault in sorted(results):
+            count.add(f"odd: {name}", fault)
+        count.add("odd: all came to an end", difference(len(results), len(rows)))
+        count.add("odd: it goes on", difference(server.ask(get(b"/in/large", date=date)), fetched(1, LARGE)))
+    add_office(drop, file, count, "odd", sorted([1, *told]))
+
+
+def reset_at_each_moment(server, count, date, told):
+    """Connections that are reset behind a part of an upload, or while an answer comes, beside clients that behave."""
+    message, large = put(b"/in/reset", b"r" * 3000, date=date), get(b"/in/large", date=date)
+    is_over = threading.Event()
+
+    def reset():
+        at = 0
+        while not is_over.is_set():
+            at += 7
+            with contextlib.suppress(OSError), server.connect() as it:
+                it.sendall(message[: at % len(message)] if at % 2 else large * (at % 3 + 1))
+                it.setsockopt(socket.SOL_SOCKET, socket.SO_LINGER, BREAK)
+
+    thread = threading.Thread(target=reset, daemon=True)
+    thread.start()
+    # other names than those of the clients before
+    found = add_clients(count, "resets", [Client(server.connect, CLIENTS + number, 1, ROUNDS) for number in range(CLIENTS)])
+    is_over.set()
+    thread.join()
+    return found
+
+
+# ---- programs of others
+
+
+FETCH = """
+const [method, url, body] = arguments, begun = performance.now();
+return fetch(url, {method, body: method == "PUT" ? body : undefined})
+  .then(async (it) => [it.status, await it.text(), performance.now() - begun]);
+"""
+
+
+class Link:
+    """A name's links by boto3, and what is owed for them."""
+
+    def __init__(self, client, name):
+        self.name, self.data = name, name.encode() * 20
+        where = {"Bucket": "in", "Key": name}
+        self.put, self.get = (client.generate_presigned_url(call, Params=where, ExpiresIn=600) for call in ["put_object", "get_object"])
+
+    def fault(self, found):
+        """What is wrong with the status and the text of the answers to the upload, to the same again, and to the fetch."""
+        number = int(told[1]) if (told := re.match(r"receipt (\d+) ", found[0][1])) else 0
+        said = receipt(number, self.data).partition(b"\r\n\r\n")[2].decode()
+        return difference(found, [(200, said), (200, said), (200, self.data.decode())])
+
+
+def by_boto3(link, _):
+    """By Python's own client."""
+    answers = [asked(link.put, "PUT", link.data), asked(link.put, "PUT", link.data), asked(link.get, "GET")]
+    return link.fault([(status, body.decode()) for status, _, body in answers])
+
+
+def by_curl(link, _):
+    """By curl, which fetches on the connection on which it put."""
+    wanted = ["--write-out", "\n%{http_code}\n", "-X", "PUT", "-H", "Expect:", "--data-binary", link.data, link.put]
+    ran = curl("--path-as-is", *wanted, "--next", *wanted, "--next", "--write-out", "\n%{http_code}\n", link.get)
+    parts = re.findall(r"(.*?)\n(\d{3})\n", ran.out.decode(), re.DOTALL)
+    return link.fault([(int(status), text) for text, status in parts])
+
+
+def by_chromium(link, browser):
+    """By a page of the office itself, which is a refusal, in a browser."""
+    answers = [browser.js(FETCH, *words) for words in
+               [("PUT", link.put, link.data.decode()), ("PUT", link.put, link.data.decode()), ("GET", link.get, "")]]
+    slowest = max(it[2] for it in answers) / 1000
+    late = f"an answer after {slowest:.1f} seconds" if slowest > SOON else None
+    return link.fault([(status, text) for status, text, _ in answers]) or late
+
+
+def test_programs(drop, count):
+    """boto3, curl and chromium at once, at the office itself, beside idle peers."""
+    file, folder = open_office(drop, "programs"), drop.path("browser")
+    folder.mkdir()
+    with Server(drop, file, 10**6, PATIENCE) as server, Browser(folder) as browser:
+        browser.ask("POST", "/url", {"url": f"http://{server.address}/"})
+        client = boto_client(server)
+        ways = [by_boto3, by_curl, by_chromium]
+        links = {way: [Link(client, f"{way.__name__}-{number}-{name}") for number in range(5) for name in FILES] for way in ways}
+        with Crowd(server.connect, 50, 0):
+            found = side_by_side(lambda way: [way(link, browser) for link in links[way]], ways)
+        for way, faults in zip(ways, found, strict=True):
+            for link, fault in zip(links[way], faults, strict=True):
+                count.add(f"{way.__name__}: {link.name}", fault)
+    add_office(drop, file, count, "programs", list(range(1, sum(map(len, links.values())) + 1)))
+
+
+# ---- through nginx
+
+
+def test_front(drop, count):
+    """The same crowd through nginx, which keeps connections to the office open: so it needs few of them."""
+    file = open_office(drop, "office")
+    certificate(drop.folder)
+    paths = [*paths_of(drop, file), ("--connections 1000000", "--connections 100")]
+    with Office(DEPLOY / "drop.service", drop.folder, paths) as office, Front(drop.folder, office.port) as front:
+        folders = ["/etc/letsencrypt/live/HOST", "/var/log/nginx", "/var/www"]
+        places = [*((it, drop.folder) for it in folders), ("HOST", HOST)]
+        ran = kit.run([*front.configure(DEPLOY / "nginx.conf", places, drop.folder / "fullchain.pem"), "-t"])
+        count.add("nginx takes the file", None if ran.status == 0 else f"{ran}")
+        count.add("the office starts", office.start())
+        front.start()
+        with Crowd(front.connect, IDLE, SLOW):
+            alike = {"is_alike": lambda found, owed: facts(found) == facts(owed)}
+            told = add_clients(count, "through nginx", clients(front.connect, **alike))
+        count.add("through nginx: the office goes on", None if office.process.poll() is None else "it has ended")
+        office.stop()
+    add_office(drop, file, count, "through nginx", told)
+
+
+TESTS = [test_crowd, test_open, test_descriptors, test_leaving, test_odd, test_programs, test_front]
+
+
+if __name__ == "__main__":
+    run_all([it for it in TESTS if not sys.argv[1:] or it.__name__ in sys.argv[1:]])
