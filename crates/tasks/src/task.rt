@@ -133,7 +133,7 @@ pub struct Serve<'a> {
     pub listen: &'a str,
     /// How many connections are served.
     pub connections: &'a str,
-    /// For how many seconds one read or write may wait.
+    /// For how many seconds a peer may keep the office waiting.
     pub patience: &'a str,
     /// How many connections may be open at a time.
     pub open: &'a str,

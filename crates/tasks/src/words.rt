@@ -311,7 +311,7 @@ fn serve_command<'a>(alloc: Global) -> Result<Command<'a>, AllocError>
     ensures local { IfOk result (λ c. (out-Command c).has_globals ≡ false) }
 {
     Command::new(alloc, "serve")
-        .about("Serves an office over HTTP, one connection after another, and ends")
+        .about("Serves an office over HTTP, many connections at a time, and ends")
         .arg(word(alloc, "file", "FILE", "The office file"))?
         .arg(option(
             alloc,
@@ -454,7 +454,7 @@ fn patience_option<'a>(alloc: Global) -> Arg<'a>
         .value_name("SECONDS")
         .value_parser(ValueParser::unsigned(0, 3600))
         .default_value("30")
-        .help("How long one read or write of a connection may wait, 0 to 3600; 0 is without end")
+        .help("How many seconds a peer may keep the office waiting, 0 to 3600; 0 is without end")
 }
 
 // `--open N`, 512 where it is left out.
