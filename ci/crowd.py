@@ -6,6 +6,7 @@ What is owed comes from Python's `hashlib` and `hmac` (ci/expected.py) and the t
 wrong where it is over 5 seconds, and the patience of the server then is 30. The last line is `N passed, M failed`.
 """
 
+import concurrent.futures
 import contextlib
 import os
 import pathlib
@@ -195,6 +196,25 @@ def pending_at_bound(count, server, stack, peers, ask):
     count.add("pending: the one that waited", difference(last.take(), answer(34)))
 
 
+def test_last(drop, count):
+    """Where all have come, and one has not ended, the program goes on with that one, and takes no other."""
+    file, ask = open_office(drop, "last"), get(b"/in/none", date=a_minute_ago())
+    with Server(drop, file, 2, PATIENCE) as server, contextlib.ExitStack() as stack:
+        first = stack.enter_context(Peer(server.connect))
+        first.socket.sendall(ask[:20])
+        count.add("last: the second", difference(server.ask(ask), answer(34)))
+        other = stack.enter_context(Peer(server.connect))
+        other.socket.sendall(ask)
+        time.sleep(1)
+        count.add("last: no other", None if not other.socket.recv(0) and server.process.poll() is None else "it has ended")
+        other.socket.setblocking(False)
+        with contextlib.suppress(BlockingIOError):
+            count.add("last: what another is told", difference(other.socket.recv(1 << 16), None))
+        count.add("last: the first", difference(first.ask(ask[20:]), answer(34)))
+        first.socket.close()
+        count.add("last: the end", difference(server.end(), server.owed_end(False)))
+
+
 def seconds_of(process):
     """The seconds of a processor that the process has taken."""
     fields = pathlib.Path(f"/proc/{process.pid}/stat").read_text().rpartition(")")[2].split()
@@ -248,13 +268,59 @@ def add_ask(count, server, ask, owed):
     return time.monotonic() - begun
 
 
+# ---- what may last how long
+
+
+def pausing(pause, *parts):
+    """A peer that sends these parts, so many seconds from one to the next, and then waits for the end."""
+    def act(it):
+        for part in parts[:-1]:
+            it.sendall(part)
+            time.sleep(pause)
+        it.sendall(parts[-1])
+        it.shutdown(socket.SHUT_WR)
+        return rest(it)
+
+    return act
+
+
+def test_bounds(drop, count):
+    """With a patience of 30 seconds silence and heads may last for 12; of a body 65536 bytes are to come in 10."""
+    file, date = open_office(drop, "bounds"), a_minute_ago()
+    ask, data = get(b"/in/none", date=date), b"b" * (3 << 16)
+    message = put(b"/in/a", data, date=date)
+    pieces = [message[at : at + (1 << 16)] for at in range(0, len(message), 1 << 16)]
+    head = message.index(b"\r\n\r\n") + 4
+    rows = [
+        ("silence before", pausing(12, b"", ask), answer(34), 12), ("silence between", pausing(12, ask, ask), answer(34) * 2, 12),
+        ("a head", pausing(12, ask[:1], ask[1:]), answer(34), 12), ("a body in pieces", pausing(5, *pieces), receipt(1, data), 15),
+        ("a byte a second of a body", lambda it: a_byte_a_second(it, message[head:], message[:head]), b"", 10),
+    ]
+    with Server(drop, file, len(rows), PATIENCE) as server:
+        for name, fault in all_at_once(server.connect, rows):
+            count.add(f"bounds: {name}", fault)
+        count.add("bounds: the end", difference(server.end(), server.owed_end(True)))
+
+
+def all_at_once(connect, rows):
+    """What came of these peers, each on a connection of its own."""
+    results = []
+    threads = [threading.Thread(target=lambda row=row: results.append(odd_result(connect, row)), daemon=True) for row in rows]
+    for it in threads:
+        it.start()
+    for it in threads:
+        it.join()
+    return sorted(results) if len(results) == len(rows) else [("all of them", f"{len(results)} came to an end")]
+
+
 # ---- peers that do what no client should
 
 ODD_PATIENCE = 3
 
 
-def a_byte_a_second(it, data):
-    """Sends the data so, until the connection has ended."""
+def a_byte_a_second(it, data, before=b""):
+    """Sends the data so, behind what comes before, until the connection has ended."""
+    it.sendall(before)
     for byte in data:
         it.sendall(bytes([byte]))
         it.settimeout(1.0)
@@ -264,10 +330,22 @@ def a_byte_a_second(it, data):
 
 
 def takes_nothing(it, message):
-    """Asks, and reads only what is left once the patience is over."""
+    """Asks, and reads only what is left once the patience is over: whether that is less than a file."""
     it.sendall(message)
     time.sleep(ODD_PATIENCE + SOON)
-    return rest(it)
+    return len(rest(it)) < len(LARGE)
+
+
+def takes_slowly(it, message):
+    """Asks for a file, and reads a megabyte of it a second, for longer than the patience."""
+    it.sendall(message)
+    it.shutdown(socket.SHUT_WR)
+    found = b""
+    for number in range(2 * ODD_PATIENCE):
+        time.sleep(1)
+        while len(found) < (number + 1) << 20:
+            found += it.recv(1 << 16)
+    return found + rest(it)
 
 
 def sends(*parts):
@@ -281,40 +359,41 @@ def sends(*parts):
 
 
 def odd_peers(date):
-    """Each with its name, what it does, what it is answered, and whether it is let go only for its patience."""
+    """Each with its name, what it does, what comes of it, and how many seconds it has for that at the least."""
     large, ask = get(b"/in/large", date=date), get(b"/in/none", date=date)
     message = put(b"/in/new", b"n" * 100_000, date=date)
     head = UNSIGNED[:-2] + b"A: " + b"a" * (8193 - len(UNSIGNED) - 5) + b"\r\n\r\n"
     return [
-        ("nothing", sends(), b"", True),
-        ("half a head", sends(ask[:-2]), b"", True),
-        ("a byte of a head", sends(b"G"), b"", True),
-        ("an answer, and half a head", sends(ask, ask[:-2]), answer(34) + b"", True),
-        ("half a body", sends(message[:-1]), b"", True),
-        ("a head of 8193 bytes", sends(head), answer(2), False),
-        ("8192 bytes without an end", sends(b"a" * 8192), answer(2), False),
-        ("a thousand requests, and one more", sends(UNSIGNED * 1001), answer(9) * 1000, False),
-        ("a thousand requests, and a part", sends(UNSIGNED * 999, UNSIGNED[:-2]), answer(9) * 999, True),
-        ("a byte a second", lambda it: a_byte_a_second(it, ask), b"", True),
-        ("takes no answer", lambda it: takes_nothing(it, large), None, True),
-        ("takes no answer, and asks on", lambda it: takes_nothing(it, large * 20), None, True),
+        ("nothing", sends(), b"", ODD_PATIENCE),
+        ("half a head", sends(ask[:-2]), b"", ODD_PATIENCE),
+        ("a byte of a head", sends(b"G"), b"", ODD_PATIENCE),
+        ("an answer, and half a head", sends(ask, ask[:-2]), answer(34), ODD_PATIENCE),
+        ("half a body", sends(message[:-1]), b"", ODD_PATIENCE),
+        ("a head of 8193 bytes", sends(head), answer(2), 0),
+        ("8192 bytes without an end", sends(b"a" * 8192), answer(2), 0),
+        ("a thousand requests, and one more", sends(UNSIGNED * 1001), answer(9) * 1000, 0),
+        ("999 requests, and a part of one", sends(UNSIGNED * 999, UNSIGNED[:-2]), answer(9) * 999, ODD_PATIENCE),
+        ("a byte a second", lambda it: a_byte_a_second(it, ask), b"", ODD_PATIENCE),
+        ("takes no answer", lambda it: takes_nothing(it, large), True, ODD_PATIENCE),
+        ("takes no answer, and asks on", lambda it: takes_nothing(it, large * 20), True, ODD_PATIENCE),
+        ("takes its answer slowly", lambda it: takes_slowly(it, large), fetched(1, LARGE), 2 * ODD_PATIENCE),
     ]
 
 
 def odd_result(connect, row):
-    """What came of such a peer: the fault, if there is one."""
-    name, act, owed, is_patient = row
+    """The name of such a peer, and what is wrong with what came of it, or with the time at which it came."""
+    name, act, owed, least = row
     begun = time.monotonic()
-    with connect(4096 if owed is None else None) as it:
-        found = act(it)
+    with connect(4096 if owed is True else None) as it:  # who takes nothing has little room for it
+        try:
+            found = act(it)
+        except OSError as error:
+            found = error
     seconds = time.monotonic() - begun
-    if owed is None:
-        return name, None if len(found) < len(LARGE) else f"{len(found)} bytes were taken"
     if found != owed:
-        return name, f"{found[:300]!r} and not {owed[:300]!r}"
-    if is_patient and seconds < ODD_PATIENCE - 0.1:
-        return name, f"it was let go after {seconds:.1f} seconds"
-    return name, f"it was let go after {seconds:.1f} seconds" if seconds > ODD_PATIENCE + 2 * SOON else None
+        return name, f"{str(found)[:300]} and not {str(owed)[:300]}"
+    is_wrong = seconds < least - 0.1 or seconds > least + 2 * SOON
+    return name, f"it came to its end after {seconds:.1f} seconds" if is_wrong else None
 
 
 def test_odd(drop, count):
@@ -323,22 +402,17 @@ def test_odd(drop, count):
     rows = odd_peers(date)
     with Server(drop, file, 10**6, ODD_PATIENCE) as server:
         count.add("odd: the large file", difference(server.ask(put(b"/in/large", LARGE, date=date)), receipt(1, LARGE)))
-        results = []
-        odd = [threading.Thread(target=lambda row=row: results.append(odd_result(server.connect, row))) for row in rows]
-        for it in odd:
-            it.start()
-        told = add_clients(count, "odd", clients(server.connect))
-        told += reset_at_each_moment(server, count, date, len(told))
-        for it in odd:
-            it.join()
-        for name, fault in sorted(results):
+        with concurrent.futures.ThreadPoolExecutor() as pool:
+            results = pool.submit(all_at_once, server.connect, rows)
+            told = add_clients(count, "odd", clients(server.connect))
+            told += beside_resets(server, count, date)
+        for name, fault in results.result():
             count.add(f"odd: {name}", fault)
-        count.add("odd: all came to an end", difference(len(results), len(rows)))
         count.add("odd: it goes on", difference(server.ask(get(b"/in/large", date=date)), fetched(1, LARGE)))
     add_office(drop, file, count, "odd", sorted([1, *told]))
 
 
-def reset_at_each_moment(server, count, date, told):
+def beside_resets(server, count, date):
     """Connections that are reset behind a part of an upload, or while an answer comes, beside clients that behave."""
     message, large = put(b"/in/reset", b"r" * 3000, date=date), get(b"/in/large", date=date)
     is_over = threading.Event()
@@ -448,7 +522,7 @@ def test_front(drop, count):
     add_office(drop, file, count, "through nginx", told)
 
 
-TESTS = [test_crowd, test_open, test_descriptors, test_leaving, test_odd, test_programs, test_front]
+TESTS = [test_crowd, test_open, test_last, test_descriptors, test_leaving, test_bounds, test_odd, test_programs, test_front]
 
 
 if __name__ == "__main__":
