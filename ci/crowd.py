@@ -1,364 +1,529 @@
-"""Drives a server with many peers at once: silent ones, slow ones, one that takes no answer, one that sends many requests in
-one piece, and clients that behave; and looks whether each answer is right and comes soon.
+"""Runs the proved program `drop serve` with many peers at once: clients that behave, beside idle and slow ones, beside peers that
+do what no client should, and where connections or descriptors run out; directly, by programs of others, and through nginx, as
+deploy/nginx.conf sets it up.
 
-The server is `drop serve` on a new office file, or the program and the words that are given, in which {port},
-{connections} and {patience} are replaced; such a program begins with an office of the key `ID` without boxes. The answers
-that are owed come from Python's `hashlib` and `hmac` (ci/expected.py) and the table of refusals in docs/RULES.md. The last
-line is `N passed, M failed`.
+What is owed comes from Python's `hashlib` and `hmac` (ci/expected.py) and the table of refusals in docs/RULES.md. A time is told
+wrong where it is over 5 seconds, and the patience of the server then is 30. The last line is `N passed, M failed`.
 """
 
-import argparse
+import concurrent.futures
 import contextlib
-import functools
-import hashlib
 import os
 import pathlib
 import re
-import signal
+import resource
 import socket
-import subprocess
-import tempfile
+import sys
 import threading
 import time
 
 import kit
-from expected import answer, quoted
-from front import free_port
-from office import FAILED, OBEYED, Drop, difference, fetched, receipt
-from replays import signed
+import tables
+from browser import Browser
+from expected import answer
+from front import BREAK
+from kit import side_by_side
+from listed import read
+from nginx import HOST, Front, Office, certificate, paths_of
+from office import difference, fetched, get, put, receipt, run_all
+from peers import SOON, UNSIGNED, Client, Crowd, Peer, a_minute_ago, add_clients, facts
+from serve import Server, asked, boto_client, curl, open_office
 
-BUILD_SECONDS = 180  # a program that is built first takes long to listen
-SECONDS = 30
-SOON = 5.0
-IDLE, SLOW, HONEST, VISITS, ROUNDS = 300, 20, 8, 5, 4
-MANY = 600
-SIZES = [0, 1, 100, 5000, 70_000, 1 << 20]
+DEPLOY = kit.ROOT / "deploy"
+PATIENCE = 30
+IDLE, SLOW, CLIENTS, VISITS, ROUNDS = 300, 20, 8, 5, 4
+AHEAD = 64  # MiB of all connections that may be read ahead
+ANSWERS = CLIENTS  # MiB of the answers to clients, of 1 MiB at the most, that may be on their way
+BODIES = 20
+MANY = 2000
 LARGE = b"l" * (8 << 20)
-UNSIGNED = b"GET / HTTP/1.1\r\nHost: a\r\n\r\n"
-TOO_LARGE = b"PUT /in/a HTTP/1.1\r\nContent-Length: 8388609\r\n\r\n" + b"a" * 50_000
-RECEIPT = re.compile(rb"\r\n\r\nreceipt (\d+) \d+ [0-9a-f]{64}\n\Z")
+FILES = ["a.txt", "a b/é.txt", "x+y=z&#%.bin"]  # by links of boto3
 
 
-def listening_process(port):
-    """The process that listens at the port, by the tables of /proc."""
-    rows = [line.split() for line in pathlib.Path("/proc/net/tcp").read_text().splitlines()[1:]]
-    nodes = {f"socket:[{row[9]}]" for row in rows if row[3] == "0A" and int(row[1].split(":")[1], 16) == port}
-    for process in pathlib.Path("/proc").glob("[0-9]*"):
+def clients(connect, visits=VISITS, **how):
+    return [Client(connect, number, visits, ROUNDS, **how) for number in range(CLIENTS)]
+
+
+def most_memory(process):
+    """The most that the process had in memory, in MiB."""
+    text = pathlib.Path(f"/proc/{process.pid}/status").read_text()
+    return int(re.search(r"VmHWM:\s*(\d+) kB", text)[1]) / 1024
+
+
+def add_memory(count, name, server, alone):
+    """The memory of a server is what one had that clients came to one after another, and what may be ahead and on its way."""
+    most = most_memory(server.process)
+    print(f"{name}: {most:.0f} MiB, and {alone:.0f} for one client after another")
+    count.add(f"{name}: the memory", f"{most:.0f} MiB" if most > alone + AHEAD + ANSWERS else None)
+
+
+def add_office(drop, file, count, name, told):
+    """What the office has behind it all: each receipt that was told, from the first on, and no other."""
+    numbers = list(range(1, len(told) + 1))
+    count.add(f"{name}: the receipts", difference(told, numbers))
+    rows = read(drop.run("manifest", file).out)[1:]
+    count.add(f"{name}: the manifest", difference([int(row[0]) for row in rows], numbers))
+    count.add(f"{name}: integrity", difference(tables.rows(file, "PRAGMA integrity_check"), [("ok",)]))
+
+
+def is_let_go(it):
+    """Whether this connection has ended."""
+    it.setblocking(False)
+    try:
+        return it.recv(1, socket.MSG_PEEK) == b""
+    except BlockingIOError:
+        return False
+    except ConnectionError:
+        return True
+
+
+def rest(it):
+    """What still comes on a connection, up to its end."""
+    found = b""
+    with contextlib.suppress(ConnectionError):
+        while data := it.recv(1 << 20):
+            found += data
+    return found
+
+
+# ---- a crowd
+
+
+def memory_alone(drop, count):
+    """What a server takes to which the clients come one after another."""
+    file, told = open_office(drop, "alone"), []
+    with Server(drop, file, CLIENTS * VISITS, PATIENCE) as server:
+        for it in clients(server.connect):
+            told += add_clients(count, f"client {it.number} alone", [it])
+        most = most_memory(server.process)
+        count.add("alone: the end", difference(server.end(), server.owed_end(False)))
+    add_office(drop, file, count, "alone", told)
+    return most
+
+
+def many_at_once(server, number, date):
+    """A file, and then a hundred requests in one piece, which are answered one after another."""
+    data = b"many at once"
+    message = put(b"/in/many", data, date=date) + (get(b"/in/many", date=date) + UNSIGNED) * 50
+    owed = receipt(number, data) + (fetched(number, data) + answer(9)) * 50
+    return difference(server.ask(message), owed)
+
+
+def test_crowd(drop, count):
+    """Clients that behave are served soon beside idle and slow peers; and the program ends with its last connection."""
+    alone, file = memory_alone(drop, count), open_office(drop, "crowd")
+    with Server(drop, file, IDLE + SLOW + CLIENTS * VISITS + 1, PATIENCE) as server:
+        with Crowd(server.connect, IDLE, SLOW):
+            told = add_clients(count, "a crowd", clients(server.connect))
+            count.add("many at once", many_at_once(server, len(told) + 1, a_minute_ago()))
+            add_memory(count, "a crowd", server, alone)
+        # where that took longer than the patience, the idle ones were let go as such that failed
+        count.add("a crowd: the end", difference(server.end(), server.owed_end(False), server.owed_end(True)))
+    add_office(drop, file, count, "a crowd", [*told, len(told) + 1])
+    bodies_ahead(drop, count, alone)
+
+
+@contextlib.contextmanager
+def pushed(connect, message):
+    """A connection on which these bytes are sent, as far as the other end takes them."""
+    with connect() as it:
+        def push():
+            with contextlib.suppress(OSError):
+                it.sendall(message)
+
+        thread = threading.Thread(target=push, daemon=True)
+        thread.start()
+        yield it
         with contextlib.suppress(OSError):
-            if any(os.readlink(link) in nodes for link in (process / "fd").iterdir()):
-                return int(process.name)
-    return None
+            it.shutdown(socket.SHUT_RDWR)
+        thread.join()
 
 
-class Server:
-    """A server that runs from `with` on, and listens before it is used."""
-
-    def __init__(self, words, given, folder, connections, patience):
-        self.port, self.largest = free_port(), given.largest
-        values = {"port": self.port, "connections": connections, "patience": patience}
-        self.words = [str(word).format(**values) for word in words]
-        self.folder = given.folder or folder
-
-    def __enter__(self):
-        pipes = {"stdin": subprocess.DEVNULL, "stdout": subprocess.PIPE, "stderr": subprocess.PIPE}
-        self.process = subprocess.Popen(self.words, cwd=self.folder, start_new_session=True, **pipes)
-        end = time.monotonic() + BUILD_SECONDS
-        while not (pid := listening_process(self.port)):
-            assert self.process.poll() is None and time.monotonic() < end, self.process.communicate()
-            time.sleep(0.05)
-        self.pid = pid
-        return self
-
-    def __exit__(self, *_):
-        if self.process.poll() is None:
-            os.killpg(self.process.pid, signal.SIGKILL)
-        self.process.communicate()
-
-    def connect(self, size=None):
-        it = socket.socket()
-        it.settimeout(SECONDS)
-        it.setsockopt(socket.IPPROTO_TCP, socket.TCP_NODELAY, 1)
-        if size:
-            it.setsockopt(socket.SOL_SOCKET, socket.SO_RCVBUF, size)
-        it.connect(("127.0.0.1", self.port))
-        return it
-
-    def message(self, method, path, data=None, more=b""):
-        """A request for a link that Python signs, good from a minute ago on."""
-        start = time.strftime("%Y%m%dT%H%M%SZ", time.gmtime(time.time() - 60))
-        unsigned = [] if data is None else [(b"Content-Length", b"%d" % len(data))]
-        host = ((b"host", b"127.0.0.1:%d" % self.port),)
-        return signed(method, path, more, fields=host, unsigned=unsigned, date=start, expires=3600) + (data or b"")
-
-    def most_memory(self):
-        """The most that the process had in memory, in MiB."""
-        found = re.search(r"VmHWM:\s*(\d+) kB", pathlib.Path(f"/proc/{self.pid}/status").read_text())
-        return int(found[1]) / 1024
-
-    def add_box(self):
-        """Adds the box `in` by a command of the desk."""
-        line = f"box add in 19700101T000000Z 99991231T235959Z 1111111 0000 2400 {10**12} 100000 keep any"
-        with Peer(self) as peer:
-            return difference(peer.ask(self.message("POST", b"/", more=b"&desk=" + quoted(line))), OBEYED)
-
-    def end(self):
-        """The status and the standard error, once the program has ended; or None if it does not."""
-        try:
-            _, err = self.process.communicate(timeout=SECONDS)
-        except subprocess.TimeoutExpired:
-            return None
-        return self.process.returncode, err
+def bodies_ahead(drop, count, alone):
+    """Peers that send the greatest body but for its last byte: they hold nobody, and together they have a bound."""
+    file, message = open_office(drop, "bodies"), put(b"/in/large", LARGE, date=a_minute_ago())[:-1]
+    with Server(drop, file, BODIES + CLIENTS, PATIENCE) as server, contextlib.ExitStack() as stack:
+        for _ in range(BODIES):
+            stack.enter_context(pushed(server.connect, message))
+        time.sleep(1)
+        told = add_clients(count, "beside bodies", clients(server.connect, 1))
+        add_memory(count, "beside bodies", server, alone)
+        stack.close()
+        count.add("beside bodies: the end", difference(server.end(), server.owed_end(False), server.owed_end(True)))
+    add_office(drop, file, count, "beside bodies", told)
 
 
-class Peer:
-    """A connection on which each answer is awaited, and the time of the slowest one."""
+# ---- bounds
 
-    def __init__(self, server):
-        self.socket, self.slowest, self.waiting = server.connect(), 0.0, b""
 
-    def __enter__(self):
-        return self
+def test_open(drop, count):
+    """Where as many are open as may be, the one goes that is silent longest with nothing pending."""
+    file, date = open_office(drop, "open"), a_minute_ago()
+    ask, owed = get(b"/in/none", date=date), answer(34)
+    with Server(drop, file, 8 + 3, PATIENCE, most_open=8) as server, contextlib.ExitStack() as stack:
+        peers = [stack.enter_context(Peer(server.connect)) for _ in range(8)]
+        for it in peers:
+            count.add("open: each is answered", difference(it.ask(ask), owed))
+            time.sleep(0.1)
+        peers[0].socket.sendall(ask[:20])
+        count.add("open: the second again", difference(peers[1].ask(ask), owed))
+        time.sleep(0.5)
+        count.add("open: one more", difference(server.ask(ask), owed))
+        ended = [is_let_go(it.socket) for it in peers]
+        count.add("open: who goes", difference(ended, [number == 2 for number in range(8)]))
+        peers = [it for it in peers if it is not peers[2]]
+        for it in peers:
+            it.socket.setblocking(True)
+        pending_at_bound(count, server, stack, peers, ask)
+        stack.close()
+        count.add("open: the end", difference(server.end(), server.owed_end(False)))
 
-    def __exit__(self, *_):
-        self.socket.close()
 
-    def take(self):
-        """One answer, as its Content-Length tells."""
-        while not (cut := self.waiting.find(b"\r\n\r\n") + 4) > 3:
-            self.more()
-        size = cut + int(re.search(rb"\r\nContent-Length: (\d+)\r\n", self.waiting[:cut])[1])
-        while len(self.waiting) < size:
-            self.more()
-        found, self.waiting = self.waiting[:size], self.waiting[size:]
-        return found
+def pending_at_bound(count, server, stack, peers, ask):
+    """Where something is pending of each, nobody goes, and who comes waits until one has ended."""
+    for it in peers[1:]:
+        it.socket.sendall(ask[:20])
+    eighth = stack.enter_context(Peer(server.connect))
+    eighth.socket.sendall(ask[:20])
+    last = stack.enter_context(Peer(server.connect))
+    last.socket.sendall(ask)
+    time.sleep(1)
+    count.add("pending: nobody goes", difference([is_let_go(it.socket) for it in [*peers, eighth, last]], [False] * 9))
+    peers[0].socket.setblocking(True)
+    count.add("pending: the first ends", difference(peers[0].ask(ask[20:]), answer(34)))
+    peers[0].socket.close()
+    last.socket.setblocking(True)
+    count.add("pending: the one that waited", difference(last.take(), answer(34)))
 
-    def more(self):
-        data = self.socket.recv(1 << 16)
-        if not data:
-            raise ConnectionError(f"the end after {self.waiting[-200:]!r}")
-        self.waiting += data
 
-    def ask(self, *parts, pause=0.0):
-        """What these bytes are answered. The time counts from the last part on."""
+def test_last(drop, count):
+    """Where all have come, and one has not ended, the program goes on with that one, and takes no other."""
+    file, ask = open_office(drop, "last"), get(b"/in/none", date=a_minute_ago())
+    with Server(drop, file, 2, PATIENCE) as server, contextlib.ExitStack() as stack:
+        first = stack.enter_context(Peer(server.connect))
+        first.socket.sendall(ask[:20])
+        count.add("last: the second", difference(server.ask(ask), answer(34)))
+        other = stack.enter_context(Peer(server.connect))
+        other.socket.sendall(ask)
+        time.sleep(1)
+        count.add("last: no other", None if not other.socket.recv(0) and server.process.poll() is None else "it has ended")
+        other.socket.setblocking(False)
+        with contextlib.suppress(BlockingIOError):
+            count.add("last: what another is told", difference(other.socket.recv(1 << 16), None))
+        count.add("last: the first", difference(first.ask(ask[20:]), answer(34)))
+        first.socket.close()
+        count.add("last: the end", difference(server.end(), server.owed_end(False)))
+
+
+def seconds_of(process):
+    """The seconds of a processor that the process has taken."""
+    fields = pathlib.Path(f"/proc/{process.pid}/stat").read_text().rpartition(")")[2].split()
+    return (int(fields[11]) + int(fields[12])) / os.sysconf("SC_CLK_TCK")
+
+
+def test_descriptors(drop, count):
+    """Where descriptors run out, those go that are silent longest, and who comes is served soon; and the server rests."""
+    file = open_office(drop, "descriptors")
+    server = Server(drop, file, 100 + CLIENTS, PATIENCE)
+    server.own = {"preexec_fn": lambda: resource.setrlimit(resource.RLIMIT_NOFILE, (64, 64))}
+    with server, Crowd(server.connect, 100, 0) as crowd:
+        told = add_clients(count, "few descriptors", clients(server.connect, 1))
+        begun = seconds_of(server.process)
+        time.sleep(4)
+        taken = seconds_of(server.process) - begun
+        count.add("few descriptors: it rests", f"{taken:.1f} of 4 seconds" if taken > 2 else None)
+        gone = sum(is_let_go(it) for it in crowd.idle)
+        count.add("few descriptors: some went", None if 36 < gone < 100 else f"{gone} of 100")
+        for it in crowd.idle:
+            it.close()
+        count.add("few descriptors: the end", difference(server.end(), server.owed_end(False)))
+    add_office(drop, file, count, "few descriptors", told)
+
+
+def test_leaving(drop, count):
+    """Two thousand connections that come and leave: who asks meanwhile is answered."""
+    file, date = open_office(drop, "leaving"), a_minute_ago()
+    ask, owed = get(b"/in/none", date=date), answer(34)
+    soft, hard = resource.getrlimit(resource.RLIMIT_NOFILE)
+    resource.setrlimit(resource.RLIMIT_NOFILE, (max(soft, min(hard, 2 * MANY)), hard))
+    with Server(drop, file, 10**6, PATIENCE) as server:
+        idle, slowest = [], 0.0
+        for number in range(MANY):
+            idle.append(server.connect())
+            if number % 100 == 0:
+                slowest = max(slowest, add_ask(count, server, ask, owed))
+        for it in idle:
+            it.close()
+        slowest = max(slowest, add_ask(count, server, ask, owed))
+        count.add("leaving: the slowest answer", f"after {slowest:.1f} seconds" if slowest > SOON else None)
+
+
+def add_ask(count, server, ask, owed):
+    """An answer on a connection of its own, and its seconds. A connection that was let go before it asked asks once more."""
+    begun, found = time.monotonic(), b""
+    for _ in range(3):
+        with contextlib.suppress(ConnectionError):
+            found = found or server.ask(ask)
+    count.add("leaving: an answer", difference(found, owed))
+    return time.monotonic() - begun
+
+
+# ---- what may last how long
+
+
+def pausing(pause, *parts):
+    """A peer that sends these parts, so many seconds from one to the next, and then waits for the end."""
+    def act(it):
         for part in parts[:-1]:
-            self.socket.sendall(part)
+            it.sendall(part)
             time.sleep(pause)
-        begun = time.monotonic()
-        self.socket.sendall(parts[-1])
-        found = self.take()
-        self.slowest = max(self.slowest, time.monotonic() - begun)
-        return found
+        it.sendall(parts[-1])
+        it.shutdown(socket.SHUT_WR)
+        return rest(it)
+
+    return act
 
 
-# ---- peers
+def test_bounds(drop, count):
+    """With a patience of 30 seconds silence and heads may last for 12; of a body 65536 bytes are to come in 10."""
+    file, date = open_office(drop, "bounds"), a_minute_ago()
+    ask, data = get(b"/in/none", date=date), b"b" * (3 << 16)
+    message = put(b"/in/a", data, date=date)
+    pieces = [message[at : at + (1 << 16)] for at in range(0, len(message), 1 << 16)]
+    head = message.index(b"\r\n\r\n") + 4
+    rows = [
+        ("silence before", pausing(12, b"", ask), answer(34), 12), ("silence between", pausing(12, ask, ask), answer(34) * 2, 12),
+        ("a head", pausing(12, ask[:1], ask[1:]), answer(34), 12), ("a body in pieces", pausing(5, *pieces), receipt(1, data), 15),
+        ("a byte a second of a body", lambda it: a_byte_a_second(it, message[head:], message[:head]), b"", 10),
+    ]
+    with Server(drop, file, len(rows), PATIENCE) as server:
+        for name, fault in all_at_once(server.connect, rows):
+            count.add(f"bounds: {name}", fault)
+        count.add("bounds: the end", difference(server.end(), server.owed_end(True)))
 
 
-class Slow(threading.Thread):
-    """Peers that send a byte a second of a head, or of a body behind one, until they are told to stop."""
-
-    def __init__(self, server, number, begun=0):
-        super().__init__(daemon=True)
-        self.peers = [server.connect() for _ in range(number)]
-        self.text, self.begun = server.message("PUT", b"/in/slow", b"s" * 1000), begun
-        self.stop = threading.Event()
-
-    def run(self):
-        for peer in self.peers:
-            peer.sendall(self.text[: self.begun])
-        for byte in self.text[self.begun :]:
-            if self.stop.wait(1.0):
-                return
-            for peer in self.peers:
-                with contextlib.suppress(OSError):
-                    peer.sendall(bytes([byte]))
-
-    def close(self):
-        self.stop.set()
-        self.join()
-        for peer in self.peers:
-            peer.close()
-
-
-class Honest(threading.Thread):
-    """A client that puts and fetches files and is refused others, on some connections, one after another."""
-
-    def __init__(self, server, number, visits=VISITS):
-        super().__init__(daemon=True)
-        self.server, self.number, self.visits = server, number, visits
-        self.sizes = [size for size in SIZES if size <= server.largest]
-        self.faults, self.receipts, self.slowest = [], [], 0.0
-
-    def run(self):
-        for visit in range(self.visits):
-            try:
-                with Peer(self.server) as peer:
-                    self.visit(peer, visit)
-                    self.slowest = max(self.slowest, peer.slowest)
-            except (OSError, AttributeError) as error:
-                self.faults.append(f"client {self.number}, connection {visit}: {error!r}")
-
-    def expect(self, what, found, owed):
-        if found != owed:
-            self.faults.append(f"client {self.number}, {what}: {found[:300]!r} and not {owed[:300]!r}")
-
-    def visit(self, peer, visit):
-        for step in range(ROUNDS):
-            size = self.sizes[(self.number + visit + step) % len(self.sizes)]
-            data = hashlib.sha256(b"%d %d %d" % (self.number, visit, step)).digest() * (size // 32 + 1)
-            self.exchange(peer, b"/in/%d-%d-%d" % (self.number, visit, step), data[:size])
-        self.expect("too large a body", peer.ask(TOO_LARGE), answer(5))
-
-    def exchange(self, peer, path, data):
-        put = self.server.message("PUT", path, data)
-        cut = len(put) - len(data) // 2
-        found = peer.ask(*([put] if len(data) < 10 else [put[:cut], put[cut:]]), pause=0.01)
-        number = int(told[1]) if (told := RECEIPT.search(found)) else 0
-        self.receipts.append(number)
-        self.expect("PUT", found, receipt(number, data))
-        self.expect("GET", peer.ask(self.server.message("GET", path)), fetched(number, data))
-        self.expect("no signature", peer.ask(UNSIGNED), answer(9))
-        self.expect("other bytes", peer.ask(self.server.message("PUT", path, data + b"x")), answer(31))
-
-
-def served(clients):
-    """Runs the clients side by side, and waits for them."""
-    for it in clients:
+def all_at_once(connect, rows):
+    """What came of these peers, each on a connection of its own."""
+    results = []
+    threads = [threading.Thread(target=lambda row=row: results.append(odd_result(connect, row)), daemon=True) for row in rows]
+    for it in threads:
         it.start()
-    for it in clients:
+    for it in threads:
         it.join()
-    return clients
+    return sorted(results) if len(results) == len(rows) else [("all of them", f"{len(results)} came to an end")]
 
 
-def add_clients(count, name, clients):
-    faults = [fault for it in clients for fault in it.faults]
-    count.add(f"{name}: the answers", f"{len(faults)}, the first: {faults[0]}" if faults else None)
-    slowest = max(it.slowest for it in clients)
-    count.add(f"{name}: the slowest answer", f"after {slowest:.1f} seconds" if slowest > SOON else None)
-    print(f"{name}: the slowest answer took {slowest:.3f} s")
+# ---- peers that do what no client should
+
+ODD_PATIENCE = 3
 
 
-# ---- tests
+def a_byte_a_second(it, data, before=b""):
+    """Sends the data so, behind what comes before, until the connection has ended."""
+    it.sendall(before)
+    for byte in data:
+        it.sendall(bytes([byte]))
+        it.settimeout(1.0)
+        with contextlib.suppress(TimeoutError):
+            return it.recv(1)
+    return b"all was taken"
 
 
-def test_crowd(start, count, memory):
-    """Clients that behave are served soon beside idle and slow ones; and the server ends with its last connection."""
-    with start(1 + IDLE + SLOW + HONEST * VISITS + 1, 60) as server:
-        count.add("a box", server.add_box())
-        idle = [server.connect() for _ in range(IDLE)]
-        slow = Slow(server, SLOW)
-        slow.start()
-        clients = served([Honest(server, number) for number in range(HONEST)])
-        add_clients(count, "a crowd", clients)
-        found = sorted(number for it in clients for number in it.receipts)
-        count.add("the receipts", difference(found, list(range(1, HONEST * VISITS * ROUNDS + 1))))
-        count.add("many at once", many_at_once(server, len(found)))
-        most = server.most_memory()
-        print(f"a crowd: {most:.0f} MiB at the most")
-        count.add("the memory", f"{most:.0f} MiB" if most > memory else None)
-        slow.close()
-        for it in idle:
-            it.close()
-        yield server, False
+def takes_nothing(it, message):
+    """Asks, and reads only what is left once the patience is over: whether that is less than a file."""
+    it.sendall(message)
+    time.sleep(ODD_PATIENCE + SOON)
+    return len(rest(it)) < len(LARGE)
 
 
-def many_at_once(server, receipts):
-    """Twenty requests in one piece are answered one after another."""
-    owed, asked = [], []
-    for number in range(receipts + 1, receipts + 6):
-        path, data = b"/in/many-%d" % number, b"%d" % number
-        asked += [server.message("PUT", path, data), server.message("GET", path), UNSIGNED, server.message("GET", path)]
-        owed += [receipt(number, data), fetched(number, data), answer(9), fetched(number, data)]
-    with Peer(server) as peer:
-        peer.socket.sendall(b"".join(asked))
-        return difference([peer.take() for _ in owed], owed)
+def takes_slowly(it, message):
+    """Asks for a file, and reads a megabyte of it a second, for longer than the patience."""
+    it.sendall(message)
+    it.shutdown(socket.SHUT_WR)
+    found = b""
+    for number in range(2 * ODD_PATIENCE):
+        time.sleep(1)
+        while len(found) < (number + 1) << 20:
+            found += it.recv(1 << 16)
+    return found + rest(it)
 
 
-def test_many(start, count, _memory):
-    """Where more are idle than may be open, those that come are served."""
-    with start(1 + MANY + HONEST, 60) as server:
-        count.add("a box", server.add_box())
-        idle = [server.connect() for _ in range(MANY)]
-        add_clients(count, "beside many idle ones", served([Honest(server, number, 1) for number in range(HONEST)]))
-        for it in idle:
-            it.close()
-        yield server, False
+def sends(*parts):
+    """A peer that sends this and nothing more."""
+    def act(it):
+        for part in parts:
+            it.sendall(part)
+        return rest(it)
+
+    return act
 
 
-def test_no_taker(start, count, memory):
-    """A peer that takes no answer of a large GET, and one that stops in a body, hold nobody, and are cut off in time."""
-    with start(2 + 3 + HONEST * VISITS + 1, 2) as server:
-        count.add("a box", server.add_box())
-        with Peer(server) as peer:
-            count.add("a large PUT", difference(peer.ask(server.message("PUT", b"/in/large", LARGE)), receipt(1, LARGE)))
-        taker, bodies, get = server.connect(4096), server.connect(), server.message("GET", b"/in/large")
-        taker.sendall(get)
-        bodies.sendall(server.message("PUT", b"/in/other", LARGE[: server.largest])[:-1])
-        silent = server.connect()
-        begun = time.monotonic()
-        add_clients(count, "beside no taker", served([Honest(server, number) for number in range(HONEST)]))
-        for name, it in [("silence", silent), ("half a body", bodies)]:
-            with contextlib.suppress(ConnectionError):
-                count.add(name, difference(it.recv(1), b""))
-        print(f"cut off after {time.monotonic() - begun:.1f} s")
-        time.sleep(max(0.0, begun + 4 - time.monotonic()))
-        size = taken(taker)
-        count.add("what was taken", f"{size} bytes" if size >= len(fetched(1, LARGE)) else None)
-        with Peer(server) as peer:
-            count.add("a large GET", difference(peer.ask(get), fetched(1, LARGE)))
-        most = server.most_memory()
-        print(f"beside no taker: {most:.0f} MiB at the most")
-        count.add("the memory", f"{most:.0f} MiB" if most > memory else None)
-        yield server, True
+def odd_peers(date):
+    """Each with its name, what it does, what comes of it, and how many seconds it has for that at the least."""
+    large, ask = get(b"/in/large", date=date), get(b"/in/none", date=date)
+    message = put(b"/in/new", b"n" * 100_000, date=date)
+    head = UNSIGNED[:-2] + b"A: " + b"a" * (8193 - len(UNSIGNED) - 5) + b"\r\n\r\n"
+    return [
+        ("nothing", sends(), b"", ODD_PATIENCE),
+        ("half a head", sends(ask[:-2]), b"", ODD_PATIENCE),
+        ("a byte of a head", sends(b"G"), b"", ODD_PATIENCE),
+        ("an answer, and half a head", sends(ask, ask[:-2]), answer(34), ODD_PATIENCE),
+        ("half a body", sends(message[:-1]), b"", ODD_PATIENCE),
+        ("a head of 8193 bytes", sends(head), answer(2), 0),
+        ("8192 bytes without an end", sends(b"a" * 8192), answer(2), 0),
+        ("a thousand requests, and one more", sends(UNSIGNED * 1001), answer(9) * 1000, 0),
+        ("999 requests, and a part of one", sends(UNSIGNED * 999, UNSIGNED[:-2]), answer(9) * 999, ODD_PATIENCE),
+        ("a byte a second", lambda it: a_byte_a_second(it, ask), b"", ODD_PATIENCE),
+        ("takes no answer", lambda it: takes_nothing(it, large), True, ODD_PATIENCE),
+        ("takes no answer, and asks on", lambda it: takes_nothing(it, large * 20), True, ODD_PATIENCE),
+        ("takes its answer slowly", lambda it: takes_slowly(it, large), fetched(1, LARGE), 2 * ODD_PATIENCE),
+    ]
 
 
-def taken(peer):
-    """How many bytes still come."""
-    size = 0
-    with contextlib.suppress(OSError):
-        while data := peer.recv(1 << 20):
-            size += len(data)
-    peer.close()
-    return size
+def odd_result(connect, row):
+    """The name of such a peer, and what is wrong with what came of it, or with the time at which it came."""
+    name, act, owed, least = row
+    begun = time.monotonic()
+    with connect(4096 if owed is True else None) as it:  # who takes nothing has little room for it
+        try:
+            found = act(it)
+        except OSError as error:
+            found = error
+    seconds = time.monotonic() - begun
+    if found != owed:
+        return name, f"{str(found)[:300]} and not {str(owed)[:300]}"
+    is_wrong = seconds < least - 0.1 or seconds > least + 2 * SOON
+    return name, f"it came to its end after {seconds:.1f} seconds" if is_wrong else None
 
 
-TESTS = [test_crowd, test_many, test_no_taker]
+def test_odd(drop, count):
+    """Peers that do what no client should, all at once and beside clients that behave: each ends as it is owed, and holds nobody."""
+    file, date = open_office(drop, "odd"), a_minute_ago()
+    rows = odd_peers(date)
+    with Server(drop, file, 10**6, ODD_PATIENCE) as server:
+        count.add("odd: the large file", difference(server.ask(put(b"/in/large", LARGE, date=date)), receipt(1, LARGE)))
+        with concurrent.futures.ThreadPoolExecutor() as pool:
+            results = pool.submit(all_at_once, server.connect, rows)
+            told = add_clients(count, "odd", clients(server.connect))
+            told += beside_resets(server, count, date)
+        for name, fault in results.result():
+            count.add(f"odd: {name}", fault)
+        count.add("odd: it goes on", difference(server.ask(get(b"/in/large", date=date)), fetched(1, LARGE)))
+    add_office(drop, file, count, "odd", sorted([1, *told]))
 
 
-def read_words():
-    words = argparse.ArgumentParser(description=__doc__.splitlines()[0])
-    words.add_argument("--memory", type=int, default=160, help="how many MiB the server may take")
-    words.add_argument("--largest", type=int, default=1 << 20, help="how many bytes the files of clients that behave have at the most")
-    words.add_argument("--folder", type=pathlib.Path, help="where the program is run")
-    words.add_argument("--test", action="append", default=[], help="the name of a test; without one, all")
-    words.add_argument("program", nargs=argparse.REMAINDER, help="the program and its words, in place of drop serve")
-    return words.parse_args()
+def beside_resets(server, count, date):
+    """Connections that are reset behind a part of an upload, or while an answer comes, beside clients that behave."""
+    message, large = put(b"/in/reset", b"r" * 3000, date=date), get(b"/in/large", date=date)
+    is_over = threading.Event()
+
+    def reset():
+        at = 0
+        while not is_over.is_set():
+            at += 7
+            with contextlib.suppress(OSError), server.connect() as it:
+                it.sendall(message[: at % len(message)] if at % 2 else large * (at % 3 + 1))
+                it.setsockopt(socket.SOL_SOCKET, socket.SO_LINGER, BREAK)
+
+    thread = threading.Thread(target=reset, daemon=True)
+    thread.start()
+    # other names than those of the clients before
+    found = add_clients(count, "resets", [Client(server.connect, CLIENTS + number, 1, ROUNDS) for number in range(CLIENTS)])
+    is_over.set()
+    thread.join()
+    return found
 
 
-def add_end(count, name, server, has_failed, is_drop):
-    """The program ends with its last connection; `drop` tells whether one failed."""
-    found = server.end()
-    if is_drop and found:
-        count.add(f"{name}: the end", difference(found, (1, FAILED.err) if has_failed else (0, b"")))
-    else:
-        count.add(f"{name}: the end", None if found else "it goes on")
+# ---- programs of others
 
 
-def main():
-    words, count = read_words(), kit.Count()
-    for test in TESTS:
-        if words.test and test.__name__ not in words.test:
-            continue
-        with tempfile.TemporaryDirectory(prefix="drop-crowd-") as folder:
-            command = words.program
-            if not command:
-                drop = Drop(kit.built("drop"), pathlib.Path(folder))
-                command = [drop.program, "serve", drop.office("crowd"), "--listen", "127.0.0.1:{port}"]
-                command += ["--connections", "{connections}", "--patience", "{patience}"]
-            start = functools.partial(Server, command, words, folder)
-            for server, has_failed in test(start, count, words.memory):
-                add_end(count, test.__name__, server, has_failed, not words.program)
-    count.end()
+FETCH = """
+const [method, url, body] = arguments, begun = performance.now();
+return fetch(url, {method, body: method == "PUT" ? body : undefined})
+  .then(async (it) => [it.status, await it.text(), performance.now() - begun]);
+"""
+
+
+class Link:
+    """A name's links by boto3, and what is owed for them."""
+
+    def __init__(self, client, name):
+        self.name, self.data = name, name.encode() * 20
+        where = {"Bucket": "in", "Key": name}
+        self.put, self.get = (client.generate_presigned_url(call, Params=where, ExpiresIn=600) for call in ["put_object", "get_object"])
+
+    def fault(self, found):
+        """What is wrong with the status and the text of the answers to the upload, to the same again, and to the fetch."""
+        number = int(told[1]) if (told := re.match(r"receipt (\d+) ", found[0][1])) else 0
+        said = receipt(number, self.data).partition(b"\r\n\r\n")[2].decode()
+        return difference(found, [(200, said), (200, said), (200, self.data.decode())])
+
+
+def by_boto3(link, _):
+    """By Python's own client."""
+    answers = [asked(link.put, "PUT", link.data), asked(link.put, "PUT", link.data), asked(link.get, "GET")]
+    return link.fault([(status, body.decode()) for status, _, body in answers])
+
+
+def by_curl(link, _):
+    """By curl, which fetches on the connection on which it put."""
+    wanted = ["--write-out", "\n%{http_code}\n", "-X", "PUT", "-H", "Expect:", "--data-binary", link.data, link.put]
+    ran = curl("--path-as-is", *wanted, "--next", *wanted, "--next", "--write-out", "\n%{http_code}\n", link.get)
+    parts = re.findall(r"(.*?)\n(\d{3})\n", ran.out.decode(), re.DOTALL)
+    return link.fault([(int(status), text) for text, status in parts])
+
+
+def by_chromium(link, browser):
+    """By a page of the office itself, which is a refusal, in a browser."""
+    answers = [browser.js(FETCH, *words) for words in
+               [("PUT", link.put, link.data.decode()), ("PUT", link.put, link.data.decode()), ("GET", link.get, "")]]
+    slowest = max(it[2] for it in answers) / 1000
+    late = f"an answer after {slowest:.1f} seconds" if slowest > SOON else None
+    return link.fault([(status, text) for status, text, _ in answers]) or late
+
+
+def test_programs(drop, count):
+    """boto3, curl and chromium at once, at the office itself, beside idle peers."""
+    file, folder = open_office(drop, "programs"), drop.path("browser")
+    folder.mkdir()
+    with Server(drop, file, 10**6, PATIENCE) as server, Browser(folder) as browser:
+        browser.ask("POST", "/url", {"url": f"http://{server.address}/"})
+        client = boto_client(server)
+        ways = [by_boto3, by_curl, by_chromium]
+        links = {way: [Link(client, f"{way.__name__}-{number}-{name}") for number in range(5) for name in FILES] for way in ways}
+        with Crowd(server.connect, 50, 0):
+            found = side_by_side(lambda way: [way(link, browser) for link in links[way]], ways)
+        for way, faults in zip(ways, found, strict=True):
+            for link, fault in zip(links[way], faults, strict=True):
+                count.add(f"{way.__name__}: {link.name}", fault)
+    add_office(drop, file, count, "programs", list(range(1, sum(map(len, links.values())) + 1)))
+
+
+# ---- through nginx
+
+
+def test_front(drop, count):
+    """The same crowd through nginx, which keeps connections to the office open: so it needs few of them."""
+    file = open_office(drop, "office")
+    certificate(drop.folder)
+    paths = [*paths_of(drop, file), ("--connections 1000000", "--connections 100")]
+    with Office(DEPLOY / "drop.service", drop.folder, paths) as office, Front(drop.folder, office.port) as front:
+        folders = ["/etc/letsencrypt/live/HOST", "/var/log/nginx", "/var/www"]
+        places = [*((it, drop.folder) for it in folders), ("HOST", HOST)]
+        ran = kit.run([*front.configure(DEPLOY / "nginx.conf", places, drop.folder / "fullchain.pem"), "-t"])
+        count.add("nginx takes the file", None if ran.status == 0 else f"{ran}")
+        count.add("the office starts", office.start())
+        front.start()
+        with Crowd(front.connect, IDLE, SLOW):
+            alike = {"is_alike": lambda found, owed: facts(found) == facts(owed)}
+            told = add_clients(count, "through nginx", clients(front.connect, **alike))
+        count.add("through nginx: the office goes on", None if office.process.poll() is None else "it has ended")
+        office.stop()
+    add_office(drop, file, count, "through nginx", told)
+
+
+TESTS = [test_crowd, test_open, test_last, test_descriptors, test_leaving, test_bounds, test_odd, test_programs, test_front]
 
 
 if __name__ == "__main__":
-    main()
+    run_all([it for it in TESTS if not sys.argv[1:] or it.__name__ in sys.argv[1:]])

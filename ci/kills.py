@@ -1,9 +1,9 @@
 """Kills the proved program `drop serve` in the midst of its work, fifty times over one office file.
 
-Clients ask side by side, until the program is killed behind a random number of answers and a random part of a request. Then
-`drop manifest` and Python's `sqlite3`, on a copy, must tell the same of the file as the kill left it; what a client was told
-stands; and what stands beyond that was sent whole by a client that waited for its answer. Then the program goes on, and each
-client asks again what it got no answer to.
+Clients ask side by side, beside peers that are idle or slow, until the program is killed behind a random number of answers and a
+random part of a request. Then `drop manifest` and Python's `sqlite3`, on a copy, must tell the same of the file as the kill left
+it; what a client was told stands; and what stands beyond that was sent whole by a client that waited for its answer. Then the
+program goes on, and each client asks again what it got no answer to.
 
 What is owed comes from what the clients sent and were told, and from Python's `hashlib` and `hmac` (ci/expected.py,
 ci/listed.py). The seed is told, and `--seed` gives it. The last line is `N passed, M failed`.
@@ -27,11 +27,13 @@ from expected import SECRET, answer, quoted
 from listed import read, receipts
 from lists import unlike
 from office import OBEYED, difference, fetched, get, post, put, receipt, run_all, stock
+from peers import Crowd
 from replays import ID
 from serve import SECONDS, Server
 
 KILLS = 50
 CLIENTS = 6
+IDLE, SLOW = 100, 20
 MOST_ANSWERS = 160  # from the start of the program on
 LONGEST_PAUSE = 0.004  # seconds from an answer to the kill
 MOST_ON_A_CONNECTION = 8
@@ -311,7 +313,8 @@ def again(wish, files, keys):
 def kill_once(drop, file, ledger, clients, source):
     """Serves the clients up to a random moment. What is wrong then."""
     killed, total = threading.Event(), ledger.answers.total() + source.randrange(MOST_ANSWERS)
-    with Server(drop, file, 10**6) as server, concurrent.futures.ThreadPoolExecutor(len(clients)) as pool:
+    pool = concurrent.futures.ThreadPoolExecutor(len(clients))
+    with Server(drop, file, 10**6) as server, Crowd(server.connect, IDLE, SLOW), pool:
         works = [pool.submit(client.work, server, killed) for client in clients]
         came = ledger.wait_for(total)
         time.sleep(source.uniform(0, LONGEST_PAUSE))

@@ -143,7 +143,7 @@ class Front:
         here = "127.0.0.1"
         return [("listen 443 ssl;", f"listen {here}:{self.port} ssl;"), ("listen 80;", f"listen {here}:{self.clear_port};"),
                 ("    listen [::]:443 ssl;\n", ""), ("    listen [::]:80;\n", ""),
-                (f"http://{here}:8333;", f"http://{here}:{self.office_port};")]
+                (f"{here}:8333;", f"{here}:{self.office_port};")]
 
     def configure(self, site, paths, chain):
         """The words that run it with this site, in which these paths are replaced."""

@@ -48,11 +48,12 @@ class Server:
     The office file is its own while it runs, so links are made before.
     """
 
-    def __init__(self, drop, file, connections, patience=None):
+    def __init__(self, drop, file, connections, patience=None, most_open=None):
         self.drop, self.file = drop, file
         self.address = f"127.0.0.1:{free_port()}"
         self.words = [drop.program, "serve", file, "--listen", self.address, "--connections", str(connections)]
         self.words += ["--patience", str(patience)] if patience is not None else []
+        self.words += ["--open", str(most_open)] if most_open is not None else []
         self.own = {}  # what else the program is started with
 
     def __enter__(self):
@@ -80,14 +81,20 @@ class Server:
             self.process.kill()
         self.process.communicate()
 
-    def connect(self):
+    def connect(self, buffer=None):
+        """A connection, which has room for so many bytes that it has not read, if that is told."""
+        it = socket.socket()
+        it.settimeout(SECONDS)
+        it.setsockopt(socket.IPPROTO_TCP, socket.TCP_NODELAY, 1)
+        if buffer:
+            it.setsockopt(socket.SOL_SOCKET, socket.SO_RCVBUF, buffer)
         host, _, port = self.address.partition(":")
-        return socket.create_connection((host, int(port)), timeout=SECONDS)
+        it.connect((host, int(port)))
+        return it
 
     def ask(self, *parts, shut=True, pause=0.0):
         """What a connection is answered that sends these bytes, and then closes its sending side."""
         with self.connect() as it:
-            it.setsockopt(socket.IPPROTO_TCP, socket.TCP_NODELAY, 1)
             for part in parts:
                 it.sendall(part)
                 time.sleep(pause)
@@ -114,6 +121,8 @@ def test_words(drop, count):
         (["--connections", "1000001"], "error: invalid value '1000001' for '--connections <N>': 1000001 is not in 1..=1000000"),
         (["--connections", "1", "--patience", "3601"],
          "error: invalid value '3601' for '--patience <SECONDS>': 3601 is not in 0..=3600"),
+        (["--connections", "1", "--open", "0"], "error: invalid value '0' for '--open <N>': 0 is not in 1..=4096"),
+        (["--connections", "1", "--open", "4097"], "error: invalid value '4097' for '--open <N>': 4097 is not in 1..=4096"),
         ([], "error: the following required arguments were not provided:"),
     ]:
         found = drop.run("serve", "no-file", "--listen", "none", *words)
@@ -305,8 +314,7 @@ def test_broken(drop, count):
         broken_off(server, put[:-1])
         broken_off(server, get[:-1])
         broken_off(server, get * 100)
-        with server.connect() as it:  # takes no answer, and stays
-            it.setsockopt(socket.SOL_SOCKET, socket.SO_RCVBUF, 4096)
+        with server.connect(4096) as it:  # takes no answer, and stays
             it.settimeout(3)
             with contextlib.suppress(OSError):
                 it.sendall(get * 1000)

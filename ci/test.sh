@@ -114,6 +114,13 @@ with_browser() {
     with_command chromium && with_command chromedriver chromium-driver
 }
 
+crowd() {
+    local python
+    with_command nginx nginx-light && with_command openssl && with_command curl && with_browser || return 1
+    python=$(with_boto3) || return 1
+    "$python" -B ci/crowd.py
+}
+
 page() {
     with_command curl && with_browser || return 1
     python3 -B ci/page.py --shots "$work/shots"
@@ -155,6 +162,7 @@ count desk desk
 count respelled python3 -B ci/respelled.py
 count lists lists
 count kills kills
+count crowd crowd
 count stops python3 -B ci/stops.py
 count page page
 count memory python3 -B ci/memory.py

@@ -15,7 +15,8 @@ mod replaying;
 pub use office::{
     Answer, Clock, Counted, DeskFault, FixedClock, ListedClock, MachineClock, Message, Office,
     Replayed, SessionEnd, law_of_acts, law_of_alike, law_of_replies, replay_bytes,
-    replay_in_memory, replay_over, serve,
+    replay_in_memory, replay_over,
 };
 pub use program::perform;
+pub use sockets::{Limits, Outcome, serve};
 pub use tasks::{Desk, Init, Link, Links, OfficeFile, Replay, Secret, Serve, Task};

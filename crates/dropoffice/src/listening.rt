@@ -2,7 +2,8 @@
 use crate::faults::Fault;
 use crate::opening::{OfficeWork, Purpose, work_over};
 use keeper::Keeper;
-use office::{MachineClock, Office, serve};
+use office::{MachineClock, Office};
+use sockets::{Limits, serve};
 use std::io::Write;
 use std::net::{SocketAddr, SocketAddrV4, TcpListener};
 use std::time::Duration;
@@ -13,8 +14,7 @@ use tasks::Serve;
 struct Service<'a> {
     listen: &'a str,
     address: SocketAddrV4,
-    connections: u64,
-    patience: Option<Duration>,
+    limits: Limits,
 }
 
 // A service, and where it is told that it listens.
@@ -54,11 +54,17 @@ fn read_service<'a>(words: &Serve<'a>) -> Result<Service<'a>, Fault<'static>> {
         0 => None,
         _ => Some(Duration::from_secs(seconds)),
     };
+    let Ok(open) = words.open.parse::<usize>() else {
+        return Err(Fault::MalformedValue("open"));
+    };
     Ok(Service {
         listen: words.listen,
         address,
-        connections,
-        patience,
+        limits: Limits {
+            connections,
+            patience,
+            open,
+        },
     })
 }
 
@@ -85,14 +91,10 @@ fn serve_at<'a, K: Keeper>(
         return Err(Fault::CannotWrite);
     }
     let mut clock = MachineClock::new(rt);
-    let failed = serve(
-        office,
-        &listener,
-        service.connections,
-        service.patience,
-        &mut clock,
-    );
-    if failed == 0 {
+    let Ok(outcome) = serve(rt, office, &listener, service.limits, &mut clock) else {
+        return Err(Fault::CannotListen);
+    };
+    if outcome.is_whole && outcome.refused == 0 && outcome.faulty == 0 {
         Ok(())
     } else {
         Err(Fault::ConnectionFailed)

@@ -65,12 +65,14 @@ impl<R: time::Clock> Book<'_, R> {
         if let Some(peer) = self.peers.get_mut(index) {
             *peer = Peer::free(self.now);
             peer.phase = Phase::Silent;
+            peer.is_ready = true;
         }
         let deed = self.attend(slots, index)?;
         Some(Task { index, deed })
     }
 
-    // Has the socket of a new connection tell what can be read.
+    // Has the socket of a new connection tell what can be read, and reads what is there: only one of which nothing is may go for
+    // others.
     fn attend(&mut self, slots: &[Option<Held>], index: usize) -> Option<Deed> {
         let fd = seat_at(slots, index)?.reader.inner.inner.as_raw_fd();
         let registered = self
@@ -80,7 +82,7 @@ impl<R: time::Clock> Book<'_, R> {
         if registered.is_err() {
             return self.give_up(slots, index, ErrorKind::Other);
         }
-        None
+        self.read(slots, index)
     }
 }
 

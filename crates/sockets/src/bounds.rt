@@ -5,7 +5,10 @@ use crate::peer::Phase;
 use crate::tally::Deed;
 use std::io::ErrorKind;
 use std::time;
-use std::time::Instant;
+use std::time::{Duration, Instant};
+
+/// How many milliseconds a large body may bring less than `BODY_STEP` bytes where another waits for room.
+const SHORT_MILLIS: u64 = 1000;
 
 /// How many bytes of answers may wait together before one is cut off.
 const MOST_WAITING: usize = 268_435_456;
@@ -32,6 +35,21 @@ impl<R: time::Clock> Book<'_, R> {
             }
         }
         Some(oldest?.index)
+    }
+
+    /// The large body that has brought less than `BODY_STEP` bytes for longest, if that is too long where another waits for room.
+    pub(crate) fn slowest_body(&self) -> Option<usize> {
+        let mut oldest: Option<Lasting> = None;
+        'slots: for (index, peer) in self.peers.iter().enumerate() {
+            if matches!(peer.phase, Phase::Body { .. }) && peer.room > 0 {
+                oldest = Some(older(oldest, index, peer.since));
+            }
+        }
+        let slowest = oldest?;
+        if self.now.duration_since(slowest.since) < Duration::from_millis(SHORT_MILLIS) {
+            return None;
+        }
+        Some(slowest.index)
     }
 
     /// Where more answers wait than there is memory for: the one of which nothing was taken for longest.

@@ -59,6 +59,11 @@ impl Rooms {
         Some((index, len))
     }
 
+    /// Whether a slot waits for room.
+    pub(crate) fn is_short(&self) -> bool {
+        !self.waiting.is_empty()
+    }
+
     /// So much is given back.
     pub(crate) fn give_back(&mut self, len: usize) {
         self.given = self.given.saturating_sub(len);

@@ -6,6 +6,7 @@ use crate::peer::Phase;
 use crate::tally::{Deed, Ends, Report};
 use mio::event::Event;
 use office::Due;
+use std::io::ErrorKind;
 use std::time;
 use std::time::{Duration, Instant};
 use wire::Room;
@@ -221,9 +222,21 @@ impl<R: time::Clock> Book<'_, R> {
         let Some((index, len)) = self.rooms.serve() else {
             self.rounds.begin();
             self.stage = Stage::Turns;
-            return Step::Go(None);
+            return self.make_room(slots);
         };
         let deed = self.begin_large(slots, index, len);
+        self.go(index, deed)
+    }
+
+    // Where one waits for room, a body that comes too slowly gives up its own.
+    fn make_room(&mut self, slots: &[Option<Held>]) -> Step {
+        if !self.rooms.is_short() {
+            return Step::Go(None);
+        }
+        let Some(index) = self.slowest_body() else {
+            return Step::Go(None);
+        };
+        let deed = self.give_up(slots, index, ErrorKind::TimedOut);
         self.go(index, deed)
     }
 

@@ -94,6 +94,10 @@ connections_rule = record (option_rule (codes "connections")) { parser = Some (U
 unfoldable pub patience_rule : Rule
 patience_rule = record (new_rule (codes "patience")) { long = Some (codes "patience"); value_names = 1; defaults = codes "30" ∷ []; parser = Some (Unsigned 0 3600) }
 
+-- --open N, a whole number from 1 to 4096, and 512 where it is left out
+unfoldable pub open_rule : Rule
+open_rule = record (new_rule (codes "open")) { long = Some (codes "open"); value_names = 1; defaults = codes "512" ∷ []; parser = Some (Unsigned 1 4096) }
+
 -- --east M and --west M, whole numbers from 0 to 840, and 0 where they are left out
 abbrev pub minutes_rule : Text → Rule
 minutes_rule id = record (new_rule id) { long = Some id; value_names = 1; defaults = codes "0" ∷ []; parser = Some (Unsigned 0 840) }
@@ -144,9 +148,9 @@ compare_app = with_rule (new_app (codes "compare")) file_rule
 unfoldable pub replay_app : App
 replay_app = with_rule (with_rule (with_rule (new_app (codes "replay")) file_rule) streams_rule) at_rule
 
--- serve FILE --listen ADDR --connections N --patience SECONDS
+-- serve FILE --listen ADDR --connections N --patience SECONDS --open N
 unfoldable pub serve_app : App
-serve_app = with_rule (with_rule (with_rule (with_rule (new_app (codes "serve")) file_rule) listen_rule) connections_rule) patience_rule
+serve_app = with_rule (with_rule (with_rule (with_rule (with_rule (new_app (codes "serve")) file_rule) listen_rule) connections_rule) patience_rule) open_rule
 
 -- migrate FILE
 unfoldable pub migrate_app : App
@@ -215,6 +219,7 @@ IsServeIn rows s =
     × (first_of (codes "listen") rows ≡ Some s.listen.now)
     × (first_of (codes "connections") rows ≡ Some s.connections.now)
     × (first_of (codes "patience") rows ≡ Some s.patience.now)
+    × (first_of (codes "open") rows ≡ Some s.open.now)
 
 -- the matches give this argument a value
 abbrev pub HasValue : Text → List Row → Type 0
@@ -250,6 +255,7 @@ HasReplay rows =
 abbrev pub HasServe : List Row → Type 0
 HasServe rows =
     HasValue (codes "file") rows × HasValue (codes "listen") rows × HasValue (codes "connections") rows × HasValue (codes "patience") rows
+    × HasValue (codes "open") rows
 
 -- ---- the task
 

@@ -122,8 +122,9 @@ pub struct Replay<'a> {
     pub streams: Vec<&'a str>,
 }
 
-/// The words of `drop serve FILE --listen ADDR --connections N --patience SECONDS`, each as it was given, and the seconds `30`
-/// where they were left out. N is from 1 to 1000000 and SECONDS from 0 to 3600; of the others no form is asked here.
+/// The words of `drop serve FILE --listen ADDR --connections N --patience SECONDS --open N`, each as it was given, and the
+/// seconds `30` and the open connections `512` where they were left out. The connections are from 1 to 1000000, SECONDS from 0
+/// to 3600, and the open ones from 1 to 4096; of the others no form is asked here.
 #[derive(Debug, Clone, Copy)]
 pub struct Serve<'a> {
     /// The office file.
@@ -132,8 +133,10 @@ pub struct Serve<'a> {
     pub listen: &'a str,
     /// How many connections are served.
     pub connections: &'a str,
-    /// For how many seconds one read or write may wait.
+    /// For how many seconds a peer may keep the office waiting.
     pub patience: &'a str,
+    /// How many connections may be open at a time.
+    pub open: &'a str,
 }
 
 impl<'a> Task<'a> {
@@ -385,6 +388,7 @@ impl<'a> Serve<'a> {
             listen: value_of(values, "listen")?,
             connections: value_of(values, "connections")?,
             patience: value_of(values, "patience")?,
+            open: value_of(values, "open")?,
         })
     }
 }

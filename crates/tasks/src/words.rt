@@ -2,7 +2,7 @@
 ghost use Rattle.std.specs.Prelude.{◌≡◌, IfOk, false};
 ghost use Rattle.clap.specs.Words.{app_of, rule_of};
 ghost use Rattle.clap.specs.declared.builder.command.Command.TheViews.{out-Command};
-ghost use Rattle.tasks.specs.Tasks.{compare_app, desk_app, drop_app, init_app, link_app, links_app, manifest_app, migrate_app, replay_app, serve_app, target_app, allowance_rule, connections_rule, expires_rule, host_rule, key_rule, minutes_rule, option_rule, optional_rule, patience_rule, region_rule, streams_rule, word_rule};
+ghost use Rattle.tasks.specs.Tasks.{compare_app, desk_app, drop_app, init_app, link_app, links_app, manifest_app, migrate_app, replay_app, serve_app, target_app, allowance_rule, connections_rule, expires_rule, host_rule, key_rule, minutes_rule, open_rule, option_rule, optional_rule, patience_rule, region_rule, streams_rule, word_rule};
 
 use clap::builder::ValueParser;
 use clap::{Arg, Command};
@@ -305,13 +305,13 @@ fn replay_command<'a>(alloc: Global) -> Result<Command<'a>, AllocError>
         ))
 }
 
-// `serve FILE --listen ADDR --connections N --patience SECONDS`.
+// `serve FILE --listen ADDR --connections N --patience SECONDS --open N`.
 fn serve_command<'a>(alloc: Global) -> Result<Command<'a>, AllocError>
     ensures app { IfOk result (λ c. app_of c ≡ serve_app) }
     ensures local { IfOk result (λ c. (out-Command c).has_globals ≡ false) }
 {
     Command::new(alloc, "serve")
-        .about("Serves an office over HTTP, one connection after another, and ends")
+        .about("Serves an office over HTTP, many connections at a time, and ends")
         .arg(word(alloc, "file", "FILE", "The office file"))?
         .arg(option(
             alloc,
@@ -320,7 +320,8 @@ fn serve_command<'a>(alloc: Global) -> Result<Command<'a>, AllocError>
             "The address to listen at: 127.0.0.1:8080, or 0.0.0.0:8080 for all of this machine's",
         ))?
         .arg(connections_option(alloc))?
-        .arg(patience_option(alloc))
+        .arg(patience_option(alloc))?
+        .arg(open_option(alloc))
 }
 
 // `migrate FILE`.
@@ -453,7 +454,20 @@ fn patience_option<'a>(alloc: Global) -> Arg<'a>
         .value_name("SECONDS")
         .value_parser(ValueParser::unsigned(0, 3600))
         .default_value("30")
-        .help("How long one read or write of a connection may wait, 0 to 3600; 0 is without end")
+        .help("How many seconds a peer may keep the office waiting, 0 to 3600; 0 is without end")
+}
+
+// `--open N`, 512 where it is left out.
+fn open_option<'a>(alloc: Global) -> Arg<'a>
+    ensures rule { rule_of result ≡ open_rule }
+    ensures local { result.global ≡ false }
+{
+    Arg::new(alloc, "open")
+        .long("open")
+        .value_name("N")
+        .value_parser(ValueParser::unsigned(1, 4096))
+        .default_value("512")
+        .help("How many connections may be open at a time: 1 to 4096")
 }
 
 // `--allowance N`, 0 where it is left out.

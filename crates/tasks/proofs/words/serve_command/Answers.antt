@@ -12,7 +12,8 @@ returns-clause-app c =
     let with_file = c.in_ok-arg.ensures.shape c.word.ensures.local ∙ ap₂ with_rule start c.word.ensures.rule in
     let with_listen = c.in_ok-arg-2.ensures.shape c.option.ensures.local ∙ ap₂ with_rule with_file c.option.ensures.rule in
     let with_connections = c.in_ok-arg-3.ensures.shape c.connections_option.ensures.local ∙ ap₂ with_rule with_listen c.connections_option.ensures.rule in
-    IfOk-weaker c.arg-4.result _ _ (λ r added. added.shape c.patience_option.ensures.local ∙ ap₂ with_rule with_connections c.patience_option.ensures.rule) c.arg-4.ensures
+    let with_patience = c.in_ok-arg-4.ensures.shape c.patience_option.ensures.local ∙ ap₂ with_rule with_connections c.patience_option.ensures.rule in
+    IfOk-weaker c.arg-5.result _ _ (λ r added. added.shape c.open_option.ensures.local ∙ ap₂ with_rule with_patience c.open_option.ensures.rule) c.arg-5.ensures
 
 pub returns-clause-local : goal.returns-clause-local
 returns-clause-local c =
@@ -20,4 +21,5 @@ returns-clause-local c =
     let one = c.in_ok-arg.ensures.globals ∙ ap₂ (λ x y. x || y) none c.word.ensures.local in
     let two = c.in_ok-arg-2.ensures.globals ∙ ap₂ (λ x y. x || y) one c.option.ensures.local in
     let three = c.in_ok-arg-3.ensures.globals ∙ ap₂ (λ x y. x || y) two c.connections_option.ensures.local in
-    IfOk-weaker c.arg-4.result _ _ (λ r added. added.globals ∙ ap₂ (λ x y. x || y) three c.patience_option.ensures.local) c.arg-4.ensures
+    let four = c.in_ok-arg-4.ensures.globals ∙ ap₂ (λ x y. x || y) three c.patience_option.ensures.local in
+    IfOk-weaker c.arg-5.result _ _ (λ r added. added.globals ∙ ap₂ (λ x y. x || y) four c.open_option.ensures.local) c.arg-5.ensures
