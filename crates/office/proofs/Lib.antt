@@ -1,6 +1,5 @@
 mod Admission
 mod RuleEdges
-pub mod Acceptances
 pub mod Alikeness
 pub mod Answered
 pub mod Deciding

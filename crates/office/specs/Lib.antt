@@ -22,7 +22,6 @@ pub mod Replying
 pub mod Rules
 pub mod Seats
 pub mod Sent
-pub mod Serving
 pub mod Sessions
 pub mod Stepping
 pub mod WithoutTryAgain

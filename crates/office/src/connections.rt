@@ -5,7 +5,6 @@ mod receiving;
 pub mod replay;
 pub mod run;
 pub mod seat;
-pub mod serving;
 pub mod session;
 pub mod slots;
 mod stepping;

@@ -12,7 +12,6 @@ pub use clocks::{Clock, FixedClock, ListedClock};
 pub use connections::crowding::{Crowd, Due};
 pub use connections::replay::{Replayed, replay_bytes, replay_in_memory, replay_over};
 pub use connections::seat::Seat;
-pub use connections::serving::serve;
 pub use connections::session::SessionEnd;
 pub use connections::slots::{
     fail_slot, free_slot, gather_slot, make_room_in_slot, open_slot, send_slot, settle_slot,

@@ -33,8 +33,6 @@ mod sinks;
 #[cfg(test)]
 mod slow;
 #[cfg(test)]
-mod sockets;
-#[cfg(test)]
 mod staging;
 #[cfg(test)]
 mod texts;

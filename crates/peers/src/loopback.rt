@@ -1,0 +1,119 @@
+//! Peers over loopback. They send all that they send before they are served.
+use office::FixedClock;
+use sigv4::Moment;
+use sockets::{Limits, Outcome, serve};
+use std::io::{Read, Write};
+use std::net::{Shutdown, TcpListener, TcpStream};
+use std::test::Fail;
+use std::time::Duration;
+use trials::published::{DATE, NO_BOX, REQUEST, make_office};
+
+// So many connections at a listener, of which so many may be open at a time, within a second of patience.
+fn served(
+    rt: &HostRuntime,
+    listener: &TcpListener,
+    connections: u64,
+    open: usize,
+) -> Result<Outcome, Fail> {
+    let moment = Moment::read(DATE).ok_or("no moment")?;
+    let mut office = make_office(rt.alloc())?;
+    let limits = Limits {
+        connections,
+        patience: Some(Duration::from_secs(1)),
+        open,
+    };
+    let mut clock = FixedClock::new(moment);
+    Ok(serve(rt, &mut office, listener, limits, &mut clock)?)
+}
+
+// All that a peer is sent.
+fn taken(rt: &HostRuntime, peer: &mut TcpStream) -> Result<Vec<u8>, Fail> {
+    let mut answers = Vec::new(rt.alloc());
+    peer.read_to_end(&mut answers)?;
+    Ok(answers)
+}
+
+#[test]
+fn two_requests_in_one_piece(rt: HostRuntime) -> Result<(), Fail> {
+    let listener = TcpListener::bind(&rt, "127.0.0.1:0")?;
+    let mut peer = TcpStream::connect(&rt, listener.local_addr()?)?;
+    for _ in 0..2 {
+        peer.write_all(REQUEST)?;
+    }
+    peer.shutdown(Shutdown::Write)?;
+    let outcome = served(&rt, &listener, 1, 8)?;
+    assert_eq!(rt;
+        outcome,
+        Outcome {
+            came: 1,
+            refused: 0,
+            faulty: 0,
+            is_whole: true
+        }
+    );
+    let answers = taken(&rt, &mut peer)?;
+    assert_eq!(rt; answers.len(), NO_BOX.len().saturating_mul(2));
+    assert!(rt; answers.starts_with(NO_BOX));
+    assert!(rt; answers.ends_with(NO_BOX));
+    Ok(())
+}
+
+#[test]
+fn one_that_says_nothing_holds_nobody(rt: HostRuntime) -> Result<(), Fail> {
+    let listener = TcpListener::bind(&rt, "127.0.0.1:0")?;
+    let mut silent = TcpStream::connect(&rt, listener.local_addr()?)?;
+    let mut peer = TcpStream::connect(&rt, listener.local_addr()?)?;
+    peer.write_all(REQUEST)?;
+    peer.shutdown(Shutdown::Write)?;
+    let outcome = served(&rt, &listener, 2, 8)?;
+    assert_eq!(rt;
+        outcome,
+        Outcome {
+            came: 2,
+            refused: 0,
+            faulty: 1,
+            is_whole: true
+        }
+    );
+    assert_eq!(rt; taken(&rt, &mut peer)?.as_slice(), NO_BOX);
+    assert_eq!(rt; taken(&rt, &mut silent)?.len(), 0);
+    Ok(())
+}
+
+#[test]
+fn at_the_bound_the_silent_one_goes(rt: HostRuntime) -> Result<(), Fail> {
+    let listener = TcpListener::bind(&rt, "127.0.0.1:0")?;
+    let mut silent = TcpStream::connect(&rt, listener.local_addr()?)?;
+    let mut peer = TcpStream::connect(&rt, listener.local_addr()?)?;
+    peer.write_all(REQUEST)?;
+    peer.shutdown(Shutdown::Write)?;
+    let outcome = served(&rt, &listener, 2, 1)?;
+    assert_eq!(rt;
+        outcome,
+        Outcome {
+            came: 2,
+            refused: 0,
+            faulty: 0,
+            is_whole: true
+        }
+    );
+    assert_eq!(rt; taken(&rt, &mut peer)?.as_slice(), NO_BOX);
+    assert_eq!(rt; taken(&rt, &mut silent)?.len(), 0);
+    Ok(())
+}
+
+#[test]
+fn nobody_comes(rt: HostRuntime) -> Result<(), Fail> {
+    let listener = TcpListener::bind(&rt, "127.0.0.1:0")?;
+    let outcome = served(&rt, &listener, 0, 8)?;
+    assert_eq!(rt;
+        outcome,
+        Outcome {
+            came: 0,
+            refused: 0,
+            faulty: 0,
+            is_whole: true
+        }
+    );
+    Ok(())
+}
