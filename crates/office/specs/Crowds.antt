@@ -91,8 +91,8 @@ abbrev pub StandsIn : {X : Type 0} → X → List (Option X) → Type 0
 StandsIn x slots = (p : ℕ) × (slot_at slots p ≡ Some x)
 
 -- These connections came, as they came, and were served in turn; of them those went, as they were then, and the others stand in
--- the slots: how many turns were taken, the moments, each connection, the state after, how the keeper held up, what outlasts a crash, and how many ended by a
--- fault; and an upload acts once over all of them.
+-- the slots: how many turns were taken, the moments, each connection, the state after, how the keeper held up, what outlasts a
+-- crash, and how many ended by a fault; and an upload acts once over all of them.
 pub record ServesCrowd {C K R W : Type 0} (gives : C → ℕ → C → Type 0) (remaining : R → Option (List ℕ)) (contents : W → Option (List ℕ)) (came gone : List (Seat R W)) (slots : List (Option (Seat R W)))
     (clock clock' : C) (k : Ghosts K) (keeper keeper' : K) (turns faults : ℕ) (s after : State) : Type 0 where
   -- each of those that came as it was at last

@@ -42,8 +42,8 @@ pub record Goes {C K : Type 0} (gives : C → ℕ → C → Type 0) (left left' 
 abbrev pub ToCome : Place → ℕ → Type 0
 ToCome p n = p ≡ place.Fresh → n ≡ most_messages
 
--- A step goes on, or it ends the session, however many messages were to come, and takes one moment at most. p: where the feed stood before; reader: what the
--- reader has now.
+-- A step goes on, or it ends the session, however many messages were to come, and takes one moment at most. p: where the feed
+-- stood before; reader: what the reader has now.
 abbrev pub Steps : {C K : Type 0} → (C → ℕ → C → Type 0) → Place → Option (List ℕ) → Option (List ℕ) → Option (List ℕ) → Option (List ℕ) → Option (List ℕ) → C → C → Ghosts K → K → K → State → Option SessionEnd → Type 0
 Steps gives p left left' reader output output' clock clock' k keeper keeper' s None =
     (after : State) × IsLeft (k.means keeper') after × Goes gives left left' output output' clock clock' k keeper keeper' s after
