@@ -319,14 +319,16 @@ ODD_PATIENCE = 3
 
 
 def a_byte_a_second(it, data, before=b""):
-    """Sends the data so, behind what comes before, until the connection has ended."""
+    """Sends the data so, behind what comes before, until the connection has ended, or was reset: what came on it."""
     it.sendall(before)
-    for byte in data:
-        it.sendall(bytes([byte]))
-        it.settimeout(1.0)
-        with contextlib.suppress(TimeoutError):
-            return it.recv(1)
-    return b"all was taken"
+    it.settimeout(1.0)
+    with contextlib.suppress(ConnectionError):
+        for byte in data:
+            it.sendall(bytes([byte]))
+            with contextlib.suppress(TimeoutError):
+                return it.recv(1)
+        return b"all was taken"
+    return b""
 
 
 def takes_nothing(it, message):
