@@ -2,20 +2,21 @@
 use Rattle.std.proofs.Common.{◌≡◌, ◌<◌, ◌+◌, ℕ, zero, suc, Bool, true, false, cond, List, [], ◌∷◌, ◌++◌, length, get_or, set, Option, Some, None, refl, sym, ap, subst, ◌∙◌, append_assoc, arith}
 use Rattle.std.specs.Prelude.{is_some, not, slice_get}
 use Rattle.std.specs.List.{count_by, sum_by}
-use Rattle.std.proofs.lemmas.List.{append-nil, get_or_default, set-get_or}
-use Rattle.std.proofs.lemmas.List.Sums.{sum_by-append}
+use Rattle.std.proofs.lemmas.List.{append-nil}
+use Rattle.std.proofs.lemmas.List.Sums.{sum_by-cons, sum_by-set, sum_by_push}
 use Rattle.std.proofs.lemmas.Option.{slice_get_within}
 use Rattle.keeper.specs.declared.keep.Keeper.{Ghosts}
 use Rattle.boxes.specs.State.{State}
-use Rattle.office.specs.Crowds.{Changes, IsOpenAt, ServesCrowd, TurnsSlot, fails_now, is_fault_end, slot_at, turns_of}
+use Rattle.office.specs.Crowds.{Changes, IsOpenAt, ServesCrowd, TurnsSlot, fails_now, is_fault_end, slot_at}
 use Rattle.office.specs.Crowds as crowd
 use Rattle.office.specs.Interleaved.{Thread}
 use Rattle.office.specs.Premise.{IsLeft}
-use Rattle.office.specs.Seats.{AreThreads, Gathers, IsNew, Sends, TakesTurn, TellsTurn, had_ended, went_on, ended}
+use Rattle.office.specs.Seats.{AreThreads, Gathers, IsNew, Sends, TakesTurn, TellsTurn, had_ended, went_on, ended, turns_of}
 use Rattle.office.specs.declared.connections.seat.Seat.{Seat}
 use Rattle.office.specs.declared.connections.session.SessionEnd.{SessionEnd}
+use Rattle.office.proofs.Counting.{over_if}
 use Rattle.office.proofs.RunSoFar.{MeansOne}
-use Rattle.office.proofs.SeatTurns.{AllTell, TurnsMore, gathered_seat, gathers_tell, seat_comes, sent_seat, tell_comes, tell_more, tell_sent, turns_more, weaves_last}
+use Rattle.office.proofs.SeatTurns.{AllTell, TurnsMore, gathered_seat, gathers_tell, seat_comes, sent_seat, tell_comes, tell_more, tell_sent, turns_more, turns_new, weaves_last}
 use Rattle.office.proofs.Ties.{Ties, gone_among, no_other_stands, none_is, number_of, some_is, ties_comes, ties_goes, ties_none, ties_set}
 use Rattle.office.proofs.Weaving.{SoFar}
 
@@ -25,28 +26,7 @@ abbrev one_if : Option SessionEnd → ℕ
 one_if e = cond (is_fault_end e) 1 0
 
 threads_first : (c : Thread) (cs : List Thread) → count_by (λ (d : Thread). is_fault_end d.end) (c ∷ cs) ≡ one_if c.end + count_by (λ (d : Thread). is_fault_end d.end) cs
-threads_first c cs =
-    let one : sum_by (λ (d : Thread). cond (is_fault_end d.end) 1 0) (c ∷ []) ≡ one_if c.end = omega arith in
-    sum_by-append (λ (d : Thread). cond (is_fault_end d.end) 1 0) (c ∷ []) cs ∙ ap (λ n. n + count_by (λ (d : Thread). is_fault_end d.end) cs) one
-
-abbrev over_if : Option SessionEnd → ℕ
-over_if e = cond (is_some e) 1 0
-
--- ---- sums
-
-sum_first : {X : Type 0} (f : X → ℕ) (x : X) (xs : List X) → sum_by f (x ∷ xs) ≡ f x + sum_by f xs
-sum_first f x xs = let one : sum_by f (x ∷ []) ≡ f x = omega arith in sum_by-append f (x ∷ []) xs ∙ ap (λ n. n + sum_by f xs) one
-
-sum_set : {X : Type 0} (f : X → ℕ) (xs : List X) (n : ℕ) (d y : X) → n < length xs → sum_by f (set xs n y) + f (get_or xs n d) ≡ sum_by f xs + f y
-sum_set f [] n d y lt = absurd (omega (arith, lt))
-sum_set f (x ∷ xs) zero d y lt = omega (arith, sum_first f x xs, sum_first f y xs)
-sum_set f (x ∷ xs) (suc n) d y lt =
-    let rest = sum_set f xs n d y (omega (arith, lt)) in
-    let all : sum_by f (x ∷ set xs n y) + f (get_or xs n d) ≡ sum_by f (x ∷ xs) + f y = omega (arith, rest, sum_first f x xs, sum_first f x (set xs n y)) in
-    all
-
-sum_more : {X : Type 0} (f : X → ℕ) (xs : List X) (x : X) → sum_by f (xs ++ x ∷ []) ≡ sum_by f xs + f x
-sum_more f xs x = let one : sum_by f (x ∷ []) ≡ f x = omega arith in sum_by-append f xs (x ∷ []) ∙ ap (λ n. sum_by f xs + n) one
+threads_first c cs = sum_by-cons (λ (d : Thread). cond (is_fault_end d.end) 1 0) c cs
 
 module _ {R W : Type 0} where
   abbrev faults_in : List (Seat R W) → ℕ
@@ -56,39 +36,34 @@ module _ {R W : Type 0} where
   turns_in xs = sum_by turns_of xs
 
   faults_first : (x : Seat R W) (xs : List (Seat R W)) → faults_in (x ∷ xs) ≡ one_if x.end + faults_in xs
-  faults_first x xs = sum_first (λ (y : Seat R W). cond (is_fault_end y.end) 1 0) x xs
+  faults_first x xs = sum_by-cons (λ (y : Seat R W). cond (is_fault_end y.end) 1 0) x xs
 
   faults_set : (xs : List (Seat R W)) (n : ℕ) (d y : Seat R W) → n < length xs → (get_or xs n d).end ≡ None → faults_in (set xs n y) ≡ faults_in xs + one_if y.end
   faults_set xs n d y lt is =
       let none : one_if (get_or xs n d).end ≡ zero = ap one_if is in
-      let all = sum_set (λ (z : Seat R W). cond (is_fault_end z.end) 1 0) xs n d y lt in
+      let all = sum_by-set (λ (z : Seat R W). cond (is_fault_end z.end) 1 0) xs n y d lt in
       omega (arith, none, all)
 
   faults_same : (xs : List (Seat R W)) (n : ℕ) (d y : Seat R W) → n < length xs → y.end ≡ (get_or xs n d).end → faults_in (set xs n y) ≡ faults_in xs
   faults_same xs n d y lt is =
       let same : one_if y.end ≡ one_if (get_or xs n d).end = ap one_if is in
-      let all = sum_set (λ (z : Seat R W). cond (is_fault_end z.end) 1 0) xs n d y lt in
+      let all = sum_by-set (λ (z : Seat R W). cond (is_fault_end z.end) 1 0) xs n y d lt in
       omega (arith, same, all)
 
   faults_more : (xs : List (Seat R W)) (x : Seat R W) → x.end ≡ None → faults_in (xs ++ x ∷ []) ≡ faults_in xs
   faults_more xs x is =
       let none : one_if x.end ≡ zero = ap one_if is in
-      let all = sum_more (λ (z : Seat R W). cond (is_fault_end z.end) 1 0) xs x in
+      let all = sum_by_push (λ (z : Seat R W). cond (is_fault_end z.end) 1 0) xs x in
       omega (arith, none, all)
 
   -- one with as many turns, or one more, takes the place of the one there
   turns_set : (xs : List (Seat R W)) (n more : ℕ) (d y : Seat R W) → n < length xs → turns_of y ≡ turns_of (get_or xs n d) + more → turns_in (set xs n y) ≡ turns_in xs + more
-  turns_set xs n more d y lt is = let all = sum_set turns_of xs n d y lt in omega (arith, is, all)
+  turns_set xs n more d y lt is = let all = sum_by-set turns_of xs n y d lt in omega (arith, is, all)
 
   turns_alike : (x y : Seat R W) → y.served ≡ x.served → y.end ≡ x.end → turns_of y ≡ turns_of x + 0
   turns_alike x y served end =
       let same : over_if y.end ≡ over_if x.end = ap over_if end in
       omega (arith, served, same)
-
-  turns_new : (x : Seat R W) → IsNew x → turns_of x ≡ 0
-  turns_new x new =
-      let open_still : over_if x.end ≡ zero = ap over_if new.open_still in
-      omega (arith, new.none, open_still)
 
   faults_of : (remaining : R → Option (List ℕ)) (contents : W → Option (List ℕ)) (fs ns : List (Seat R W)) (cs : List Thread) → AreThreads remaining contents fs ns cs
       → faults_in ns ≡ count_by (λ (c : Thread). is_fault_end c.end) cs
@@ -135,7 +110,7 @@ module _ {R W : Type 0} (remaining : R → Option (List ℕ)) (contents : W → 
       ties = ties_comes slots t.number t.seats gone t.ties p lt new free;
       turned = seat_comes remaining contents gives k came t.seats clock clock' keeper keeper' s mid new is t.turned;
       tell = tell_comes came t.seats new is t.tell;
-      taken = let all = sum_more turns_of t.seats new in omega (arith, t.taken, all, turns_new new is);
+      taken = let all = sum_by_push turns_of t.seats new in omega (arith, t.taken, all, turns_new remaining contents new is);
       faulty = t.faulty ∙ sym (faults_more t.seats new is.open_still);
     }
 
@@ -264,7 +239,8 @@ module _ {R W : Type 0} (remaining : R → Option (List ℕ)) (contents : W → 
     pub crowd_ends : (slots : List (Option (Seat R W))) (came gone : List (Seat R W)) (clock' : C) (keeper' : K) (turns faults : ℕ) (mid : State) → MeansOne k keeper' → IsLeft (k.means keeper') mid
         → Now slots came gone clock' keeper' turns faults mid → ServesCrowd gives remaining contents came gone slots clock clock' k keeper keeper' turns faults s mid
     crowd_ends slots came gone clock' keeper' turns faults mid one left t =
-        let w = weaves_last remaining contents gives k came t.seats clock clock' keeper keeper' s mid t.turned t.tell one left in
+        let last = weaves_last remaining contents gives k came t.seats clock clock' keeper keeper' s mid turns t.turned t.tell (omega (arith, t.taken)) one left in
+        let w = last.0 in
         record {
           seats = t.seats;
           went = gone_among slots t.number t.seats gone t.ties;
@@ -276,6 +252,9 @@ module _ {R W : Type 0} (remaining : R → Option (List ℕ)) (contents : W → 
           told = w.told;
           served = w.served;
           run = w.run;
+          counted = t.taken ∙ sym last.1;
+          each_counted = w.each_counted;
+          one_moment = w.one_moment;
           repeats = w.repeats;
           stays = w.stays;
           lasts = w.lasts;

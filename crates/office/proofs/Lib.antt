@@ -39,6 +39,7 @@ pub mod SeatTurns
 pub mod Sitting
 pub mod Weaving
 pub mod Ties
+pub mod Counting
 pub mod CrowdTurns
 pub mod Changing
 pub mod WithoutInTurn

@@ -1,8 +1,9 @@
 -- Seats in turn: what they are as sittings, and what a turn makes of them.
 use Rattle.std.proofs.Common.{◌≡◌, ◌<◌, ◌≤◌, ◌+◌, ℕ, zero, suc, Bool, true, false, List, [], ◌∷◌, ◌++◌, length, get_or, set, Option, Some, None, refl, sym, ap, subst, ◌∙◌, arith, inl, inr}
 use Rattle.std.specs.Prelude.{⊤, is_some}
-use Rattle.std.specs.List.{AllByRecursion}
+use Rattle.std.specs.List.{AllByRecursion, sum_by}
 use Rattle.std.proofs.lemmas.List.{set-get_or}
+use Rattle.std.proofs.lemmas.List.Sums.{sum_by-cons, sum_by-set}
 use Rattle.std.specs.Io.KnownBytes.{Appends, Keeps, prepend_known}
 use Rattle.sigtext.specs.Counts.{Rose}
 use Rattle.keeper.specs.declared.keep.Keeper.{Ghosts}
@@ -14,13 +15,14 @@ use Rattle.wire.specs.declared.feed.Place.{Place}
 use Rattle.wire.specs.declared.feed.Place.TheVariants as place
 use Rattle.wire.specs.declared.standing.Standing.{Standing}
 use Rattle.office.specs.Begins.{may_begin}
-use Rattle.office.specs.Interleaved.{Thread, acts_in}
+use Rattle.office.specs.Interleaved.{Thread, Turn, acts_in}
 use Rattle.office.specs.Premise.{IsLeft}
-use Rattle.office.specs.Seats.{AreThreads, Gathers, Sends, IsNew, IsStreamOf, TakesTurn, TellsTurn, TellsTurnOf, Weaves, had_ended, went_on, ended, left_of}
+use Rattle.office.specs.Seats.{AreThreads, Gathers, HaveTurns, Sends, IsNew, IsStreamOf, TakesTurn, TellsTurn, TellsTurnOf, Weaves, had_ended, went_on, ended, left_of, turns_of}
 use Rattle.office.specs.Sessions.{most_messages}
 use Rattle.office.specs.Stepping.{Steps, TellsStep}
 use Rattle.office.specs.declared.connections.seat.Seat.{Seat}
 use Rattle.office.specs.declared.connections.session.SessionEnd.{SessionEnd}
+use Rattle.office.proofs.Counting.{AllTook, over_if, took_of}
 use Rattle.office.proofs.Repeats.{repeats_once}
 use Rattle.office.proofs.RunSoFar.{MeansOne}
 use Rattle.office.proofs.Sitting.{IsFirst, Sitting, answered, closed, gathered, sent_on}
@@ -241,7 +243,7 @@ module _ {R W : Type 0} (remaining : R → Option (List ℕ)) (contents : W → 
           sittings = set t.sittings p y;
           are = at.more new y (same_sitting at.first new old.served (Some e) serves.gave_up served is);
           so_far = closed_more gives k t.sittings clock clock' keeper keeper' s mid t.so_far p dx z at.within at.is was_open
-              (left_of remaining new) (remaining new.reader.inner) (contents new.writer.inner) clock'' keeper'' after n e sum serves;
+              (left_of remaining new) (remaining new.reader.inner) (contents new.writer.inner) clock'' keeper'' after n e sum serves few;
         }
 
   -- ---- between two turns
@@ -327,28 +329,80 @@ module _ {R W : Type 0} (remaining : R → Option (List ℕ)) (contents : W → 
         are_threads fs ns xs cs a.1 b.1 t.1,
       )
 
+  -- ---- how many turns they took
+
+  same_took : (first now : Seat R W) (x : Sitting) → x ≡ sitting_of first now x.gave_up → took_of x ≡ turns_of now
+  same_took first now x is = ap took_of is
+
+  have_turns : (turns : List Turn) (i : ℕ) (fs ns : List (Seat R W)) (xs : List Sitting) → AreSittings fs ns xs → AllTook turns i xs → HaveTurns turns i ns
+  have_turns turns i [] [] [] a h = tt
+  have_turns turns i [] [] (x ∷ xs) a h = absurd a
+  have_turns turns i [] (n ∷ ns) xs a h = absurd a
+  have_turns turns i (f ∷ fs) [] xs a h = absurd a
+  have_turns turns i (f ∷ fs) (n ∷ ns) [] a h = absurd a
+  have_turns turns i (f ∷ fs) (n ∷ ns) (x ∷ xs) a h = (h.0 ∙ same_took f n x a.0, have_turns turns (suc i) fs ns xs a.1 h.1)
+
+  sums_alike : (fs ns : List (Seat R W)) (xs : List Sitting) → AreSittings fs ns xs → sum_by took_of xs ≡ sum_by turns_of ns
+  sums_alike [] [] [] a = refl
+  sums_alike [] [] (x ∷ xs) a = absurd a
+  sums_alike [] (n ∷ ns) xs a = absurd a
+  sums_alike (f ∷ fs) [] xs a = absurd a
+  sums_alike (f ∷ fs) (n ∷ ns) [] a = absurd a
+  sums_alike (f ∷ fs) (n ∷ ns) (x ∷ xs) a =
+      omega (arith, sum_by-cons took_of x xs, sum_by-cons turns_of n ns, same_took f n x a.0, sums_alike fs ns xs a.1)
+
+  pub turns_new : (x : Seat R W) → IsNew x → turns_of x ≡ 0
+  turns_new x new =
+      let open_still : over_if x.end ≡ 0 = ap over_if new.open_still in
+      omega (arith, new.none, open_still)
+
+  pub sums_new : (fs : List (Seat R W)) → AllByRecursion IsNew fs → sum_by turns_of fs ≡ 0
+  sums_new [] new = refl
+  sums_new (f ∷ fs) new = omega (arith, sum_by-cons turns_of f fs, turns_new f new.0, sums_new fs new.1)
+
+  -- a turn is one of its connection, or none
+  pub one_at_most : {C K : Type 0} (gives : C → ℕ → C → Type 0) (k : Ghosts K) (clock clock' : C) (keeper keeper' : K) (s after : State) (old new : Seat R W)
+      → TakesTurn gives remaining contents old new clock clock' k keeper keeper' s after → turns_of new ≤ turns_of old + 1
+  one_at_most gives k clock clock' keeper keeper' s after old new (had_ended e is same_seat same_clock same_keeper same_state) =
+      let same : turns_of new ≡ turns_of old = ap turns_of same_seat in omega (arith, same)
+  one_at_most gives k clock clock' keeper keeper' s after old new (went_on was_open is_open served goes) =
+      let behind : over_if new.end ≡ 0 = ap over_if is_open in omega (arith, behind, served)
+  one_at_most gives k clock clock' keeper keeper' s after old new (ended n e was_open is served sum serves few) =
+      let behind : over_if new.end ≡ 1 = ap over_if is in omega (arith, behind, served)
+
+  pub sums_more : (ns : List (Seat R W)) (p m : ℕ) (d new : Seat R W) → p < length ns → turns_of new ≤ turns_of (get_or ns p d) + 1 → sum_by turns_of ns ≤ m
+      → sum_by turns_of (set ns p new) ≤ m + 1
+  sums_more ns p m d new lt one few = let all = sum_by-set turns_of ns p new d lt in omega (arith, all, one, few)
+
   module _ {C K : Type 0} (gives : C → ℕ → C → Type 0) (k : Ghosts K) (fs ns : List (Seat R W)) (clock clock' : C) (keeper keeper' : K) (s mid : State) where
     -- nothing was done yet
     pub weaves_first : AllByRecursion IsNew fs → SoFar gives k (first_sittings fs) clock clock keeper keeper s s → TurnsMore gives k fs fs clock clock keeper keeper s s
     weaves_first new f = record { sittings = first_sittings fs; are = are_first fs; so_far = f }
 
-    pub weaves_last : TurnsMore gives k fs ns clock clock' keeper keeper' s mid → AllTell fs ns → MeansOne k keeper' → IsLeft (k.means keeper') mid
-        → Weaves gives remaining contents fs ns clock clock' k keeper keeper' s mid
-    weaves_last t tell one left =
+    -- in the end; and all turns are those that they took
+    pub weaves_last : (turns : ℕ) → TurnsMore gives k fs ns clock clock' keeper keeper' s mid → AllTell fs ns → sum_by turns_of ns ≤ turns → MeansOne k keeper' → IsLeft (k.means keeper') mid
+        → (w : Weaves gives remaining contents fs ns clock clock' k keeper keeper' turns s mid) × (length w.run.turns ≡ sum_by turns_of ns)
+    weaves_last turns t tell few one left =
         let w = finishes gives k t.sittings clock clock' keeper keeper' s mid t.so_far in
-        record {
-          threads = w.threads;
-          moments = w.moments;
-          told = w.told;
-          served = are_threads fs ns t.sittings w.threads t.are w.are tell;
-          run = w.run;
-          repeats = repeats_once s (acts_in w.run.turns) mid w.run.order;
-          stays = record {
-            counted = λ none. (t.so_far.held (none_gave_up t.sittings w.threads w.are none)).0;
-            rose = threads_rose (k.faults keeper) (k.faults keeper') t.sittings w.threads w.are t.so_far.rose;
-            opened = λ none was.
-                let now = (t.so_far.held (none_gave_up t.sittings w.threads w.are none)).1 was in
-                (now, λ u means. one u mid now means left.means);
-          };
-          lasts = λ all. t.so_far.lasts (all_last t.sittings w.threads w.are all);
-        }
+        let all = w.counts.all ∙ sums_alike fs ns t.sittings t.are in (
+          record {
+            threads = w.threads;
+            moments = w.moments;
+            told = w.told;
+            served = are_threads fs ns t.sittings w.threads t.are w.are tell;
+            run = w.run;
+            no_more = omega (arith, all, few);
+            each_counted = have_turns w.run.turns 0 fs ns t.sittings t.are w.counts.each;
+            one_moment = w.counts.one_moment;
+            repeats = repeats_once s (acts_in w.run.turns) mid w.run.order;
+            stays = record {
+              counted = λ none. (t.so_far.held (none_gave_up t.sittings w.threads w.are none)).0;
+              rose = threads_rose (k.faults keeper) (k.faults keeper') t.sittings w.threads w.are t.so_far.rose;
+              opened = λ none was.
+                  let now = (t.so_far.held (none_gave_up t.sittings w.threads w.are none)).1 was in
+                  (now, λ u means. one u mid now means left.means);
+            };
+            lasts = λ all. t.so_far.lasts (all_last t.sittings w.threads w.are all);
+          },
+          all,
+        )

@@ -192,18 +192,21 @@ module _ {C K : Type 0} (gives : C → ℕ → C → Type 0) (p : Place) (left r
   gave_up_step (gave_up_at now told appends less readable keeps) = (
     s,
     keeps,
-    λ n _. (record {
-      stream = (text ++ body) ++ waits;
-      moments = now ∷ [];
-      answers = session.closing rule.TryAgain;
-      gave_up = true;
-      read = all_read;
-      told = (clock', told, refl);
-      written = appends;
-      held = held_to k keeper keeper' true (Refused 40) less (refused_no_read 40);
-      lasts = given_no_more (Refused 40) (refused_no_read 40);
-      session = session.gave_up_at n ((text ++ body) ++ waits) waits s r now (stands waits) readable;
-    }, omega arith),
+    λ n _. (
+      record {
+        stream = (text ++ body) ++ waits;
+        moments = now ∷ [];
+        answers = session.closing rule.TryAgain;
+        gave_up = true;
+        read = all_read;
+        told = (clock', told, refl);
+        written = appends;
+        held = held_to k keeper keeper' true (Refused 40) less (refused_no_read 40);
+        lasts = given_no_more (Refused 40) (refused_no_read 40);
+        session = session.gave_up_at n ((text ++ body) ++ waits) waits s r now (stands waits) readable;
+      },
+      omega arith,
+    ),
   )
 
   pub broken_step : Handles gives clock clock' output output' k keeper keeper' s r Broken → Steps gives p left (prepend_known waits reader) reader output output' clock clock' k keeper keeper' s (Some WriteFault)
@@ -211,34 +214,40 @@ module _ {C K : Type 0} (gives : C → ℕ → C → Type 0) (p : Place) (left r
       let rest = rest_of (prepend_known waits reader) in (
         after,
         keeps,
-        λ n _. (record {
-          stream = (text ++ body) ++ rest;
-          moments = now ∷ [];
-          answers = front;
-          gave_up = false;
-          read = known_rest left (prepend_known waits reader) (text ++ body) m.taken;
-          told = (clock', told, refl);
-          written = appends;
-          held = held_to k keeper keeper' false WriteFault same write_no_read;
-          lasts = λ none. lasts;
-          session = session.write_failed n ((text ++ body) ++ rest) rest s after r now written front (stands rest) answers begins;
-        }, omega arith),
+        λ n _. (
+          record {
+            stream = (text ++ body) ++ rest;
+            moments = now ∷ [];
+            answers = front;
+            gave_up = false;
+            read = known_rest left (prepend_known waits reader) (text ++ body) m.taken;
+            told = (clock', told, refl);
+            written = appends;
+            held = held_to k keeper keeper' false WriteFault same write_no_read;
+            lasts = λ none. lasts;
+            session = session.write_failed n ((text ++ body) ++ rest) rest s after r now written front (stands rest) answers begins;
+          },
+          omega arith,
+        ),
       )
   broken_step (broke_giving_up_at now front told appends begins less readable keeps) = (
     s,
     keeps,
-    λ n _. (record {
-      stream = (text ++ body) ++ waits;
-      moments = now ∷ [];
-      answers = front;
-      gave_up = true;
-      read = all_read;
-      told = (clock', told, refl);
-      written = appends;
-      held = held_to k keeper keeper' true WriteFault less write_no_read;
-      lasts = given_no_more WriteFault write_no_read;
-      session = session.write_failed_giving_up_at n ((text ++ body) ++ waits) waits s r now front (stands waits) readable begins;
-    }, omega arith),
+    λ n _. (
+      record {
+        stream = (text ++ body) ++ waits;
+        moments = now ∷ [];
+        answers = front;
+        gave_up = true;
+        read = all_read;
+        told = (clock', told, refl);
+        written = appends;
+        held = held_to k keeper keeper' true WriteFault less write_no_read;
+        lasts = given_no_more WriteFault write_no_read;
+        session = session.write_failed_giving_up_at n ((text ++ body) ++ waits) waits s r now front (stands waits) readable begins;
+      },
+      omega arith,
+    ),
   )
 
 -- ---- steps without a message
@@ -275,18 +284,21 @@ module _ {C K : Type 0} (gives : C → ℕ → C → Type 0) (p : Place) (left l
   ends e gave_up stream text leaves rose read written whole = (
     s,
     leaves.keeps,
-    λ n all. (record {
-      stream = stream;
-      moments = [];
-      answers = text;
-      gave_up = gave_up;
-      read = read;
-      told = refl;
-      written = written;
-      held = (leaves.held, rose);
-      lasts = λ none. never_changed refl leaves.adds;
-      session = whole n all;
-    }, omega arith),
+    λ n all. (
+      record {
+        stream = stream;
+        moments = [];
+        answers = text;
+        gave_up = gave_up;
+        read = read;
+        told = refl;
+        written = written;
+        held = (leaves.held, rose);
+        lasts = λ none. never_changed refl leaves.adds;
+        session = whole n all;
+      },
+      omega arith,
+    ),
   )
 
   pub closed_step : (q : Refusal) (e : SessionEnd) → Leaves k keeper keeper' s false → OfStream left (λ stream. Next stream (frame.Refused q) []) → IsClosed output output' q e
@@ -382,19 +394,21 @@ steps_after gives p left left' reader output output' clock clock' k a b c s (Som
   keeps,
   λ n all.
       let both = serves n all in
-      let r = both.0 in
-      (record {
-        stream = r.stream;
-        moments = r.moments;
-        answers = r.answers;
-        gave_up = r.gave_up;
-        read = r.read;
-        told = r.told;
-        written = r.written;
-        held = held_more_to k a b c r.gave_up e (x.faults, x.open_still) r.held;
-        lasts = λ none. through_after x.adds (r.lasts none);
-        session = r.session;
-      }, both.1),
+      let r = both.0 in (
+        record {
+          stream = r.stream;
+          moments = r.moments;
+          answers = r.answers;
+          gave_up = r.gave_up;
+          read = r.read;
+          told = r.told;
+          written = r.written;
+          held = held_more_to k a b c r.gave_up e (x.faults, x.open_still) r.held;
+          lasts = λ none. through_after x.adds (r.lasts none);
+          session = r.session;
+        },
+        both.1,
+      ),
 )
 
 -- ---- the messages so far

@@ -67,7 +67,7 @@ module _ {X : Type 0} where
   got_more (z ∷ l) x y zero is = inl is
   got_more (z ∷ l) x y (suc i) is = ⊎_elim (λ was. inl was) (λ new. inr (ap suc new.0, new.1)) (got_more l x y i is)
 
-  all_more : (P : X → Type 0) (xs : List X) (x : X) → AllByRecursion P xs → P x → AllByRecursion P (xs ++ x ∷ [])
+  pub all_more : (P : X → Type 0) (xs : List X) (x : X) → AllByRecursion P xs → P x → AllByRecursion P (xs ++ x ∷ [])
   all_more P [] x h new = (new, tt)
   all_more P (y ∷ xs) x h new = (h.0, all_more P xs x h.1 new)
 

@@ -18,6 +18,7 @@ use Rattle.office.specs.Sessions.{most_messages}
 use Rattle.office.specs.Stepping.{Goes}
 use Rattle.office.specs.declared.connections.session.SessionEnd.{SessionEnd}
 use Rattle.office.specs.declared.connections.session.SessionEnd.TheVariants.{ReadFault}
+use Rattle.office.proofs.Counting.{Counts, counts_first, counts_more, counts_still, counts_turn, over_if, took_of}
 use Rattle.office.proofs.Endurance.{still, then_through}
 use Rattle.office.proofs.Repeats.{session_acts}
 use Rattle.office.proofs.RunSoFar.{told_more}
@@ -182,6 +183,7 @@ pub record SoFar {C K : Type 0} (gives : C → ℕ → C → Type 0) (k : Ghosts
   pub tied : AllByRecursion (λ t. AreTied t.moments t.acts) turns
   pub within : AllByRecursion (λ t. t.which < length sittings) turns
   pub sit : AllSit turns 0 sittings
+  pub counts : Counts turns sittings
   pub never_less : k.faults keeper ≤ k.faults keeper'
   pub rose : AllByRecursion (RoseAt (k.faults keeper) (k.faults keeper')) sittings
   pub held : AllByRecursion NotGivenUp sittings → HoldsUp k false keeper keeper'
@@ -205,6 +207,8 @@ module _ {C K : Type 0} (gives : C → ℕ → C → Type 0) (k : Ghosts K) wher
     pub by_rules : Acts mid acts after
     pub moves : (before : List Act) (earlier : List ℕ) → Sits x before earlier → Sits new (before ++ acts) (earlier ++ moments)
     pub tied : AreTied moments acts
+    pub one_moment : length moments ≤ 1
+    pub took : took_of new ≡ took_of x + 1
     pub marked : x.gave_up ≡ false
     pub never_less : k.faults keeper ≤ k.faults keeper'
     pub rose : RoseAt (k.faults keeper) (k.faults keeper') new
@@ -226,6 +230,7 @@ module _ {C K : Type 0} (gives : C → ℕ → C → Type 0) (k : Ghosts K) wher
         tied = tied_more f.turns u f.tied t.tied;
         within = same_length (length xs) (length (set xs p new)) (f.turns ++ u ∷ []) (set_length xs p new) (within_more (length xs) f.turns u f.within lt);
         sit = one_turns f.turns u 0 p d new xs (omega arith) lt t.moves f.sit;
+        counts = counts_turn f.turns xs u d new lt t.one_moment t.took f.counts;
         never_less = omega (arith, f.never_less, t.never_less);
         rose = all_set (RoseAt (k.faults keeper) (k.faults keeper')) (RoseAt (k.faults keeper) (k.faults keeper'')) (λ x r is at_end. rose_before (k.faults keeper) (k.faults keeper') (k.faults keeper'') (r is at_end) t.never_less)
             xs p new f.rose (λ is at_end. rose_later (k.faults keeper) (k.faults keeper') (k.faults keeper'') f.never_less (t.rose is at_end));
@@ -242,6 +247,7 @@ module _ {C K : Type 0} (gives : C → ℕ → C → Type 0) (k : Ghosts K) wher
     tied = tt;
     within = tt;
     sit = all_first 0 xs first;
+    counts = counts_first xs first;
     never_less = omega arith;
     rose = first_rose (k.faults keeper) (k.faults keeper) xs first;
     held = λ _. (refl, λ was. was);
@@ -267,6 +273,8 @@ module _ {C K : Type 0} (gives : C → ℕ → C → Type 0) (k : Ghosts K) wher
             moments = g.moment ∷ [];
             told = (clock'', g.told, refl);
             tied = inl refl;
+            one_moment = omega arith;
+            took = omega arith;
             by_rules = (refl, g.answers.replies, refl);
             moves = λ before earlier h. sits_open (answered x left reader written) _ _ is_open
                 (answered_sits x left reader written clock' clock'' keeper' keeper'' mid after g before earlier few (open_sits x before earlier is_open h));
@@ -279,9 +287,9 @@ module _ {C K : Type 0} (gives : C → ℕ → C → Type 0) (k : Ghosts K) wher
 
       -- it ends
       pub closed_more : (left reader written : Option (List ℕ)) (clock'' : C) (keeper'' : K) (after : State) (n : ℕ) (e : SessionEnd) → n + x.served ≡ most_messages
-          → (v : Serves n gives x.left reader x.written written clock' clock'' k keeper' keeper'' mid after e)
+          → (v : Serves n gives x.left reader x.written written clock' clock'' k keeper' keeper'' mid after e) → length v.moments ≤ 1
           → SoFar gives k (set xs p (closed x left reader written e v.gave_up)) clock clock'' keeper keeper'' s after
-      closed_more left reader written clock'' keeper'' after n e sum v =
+      closed_more left reader written clock'' keeper'' after n e sum v few =
           let y = session_acts n v.stream mid v.moments v.answers e v.gave_up after v.session in
           let new = closed x left reader written e v.gave_up in
           moves_more xs p d new clock clock' clock'' keeper keeper' keeper'' s mid after lt f
@@ -290,6 +298,8 @@ module _ {C K : Type 0} (gives : C → ℕ → C → Type 0) (k : Ghosts K) wher
             moments = v.moments;
             told = v.told;
             tied = tied_of n v.stream y.acts v.moments v.answers (Some e) v.gave_up (speaks_of n v.stream mid v.moments v.answers e v.gave_up y.acts after y.are);
+            one_moment = few;
+            took = let before : over_if x.end ≡ 0 = ap over_if is_open in omega (arith, before);
             by_rules = y.by_rules;
             moves = λ before earlier h. closed_sits x left reader written e v.gave_up n v.stream v.answers y.acts v.moments before earlier sum v.read v.written
                 (speaks_of n v.stream mid v.moments v.answers e v.gave_up y.acts after y.are) (open_sits x before earlier is_open h);
@@ -315,6 +325,7 @@ module _ {C K : Type 0} (gives : C → ℕ → C → Type 0) (k : Ghosts K) wher
         sit = one_changes f.turns 0 p d (gathered x left reader) xs lt
             (λ acts moments h. sits_open (gathered x left reader) acts moments is_open
             (gathered_sits x left reader acts moments keeps (open_sits x acts moments is_open (subst (λ (y : Sitting). Sits y acts moments) at h)))) f.sit;
+        counts = counts_still f.turns xs p d (gathered x left reader) lt (sym (ap took_of at)) f.counts;
         never_less = f.never_less;
         rose = all_set (RoseAt (k.faults keeper) (k.faults keeper')) (RoseAt (k.faults keeper) (k.faults keeper')) (λ y r. r) xs p (gathered x left reader) f.rose (unmarked_rose (k.faults keeper) (k.faults keeper') (gathered x left reader) unmarked);
         held = λ none. f.held (all_unset NotGivenUp xs p d (gathered x left reader) lt (subst NotGivenUp (sym at) unmarked) none).0;
@@ -333,6 +344,7 @@ module _ {C K : Type 0} (gives : C → ℕ → C → Type 0) (k : Ghosts K) wher
           tied = f.tied;
           within = same_length (length xs) (length (set xs p y)) f.turns (set_length xs p y) f.within;
           sit = one_changes f.turns 0 p d y xs lt (λ acts moments h. sent_sits x written acts moments holds h) f.sit;
+          counts = counts_still f.turns xs p d y lt refl f.counts;
           never_less = f.never_less;
           rose = all_set (RoseAt (k.faults keeper) (k.faults keeper')) (RoseAt (k.faults keeper) (k.faults keeper')) (λ z r. r) xs p y f.rose (all_get (RoseAt (k.faults keeper) (k.faults keeper')) xs p d lt f.rose);
           held = λ none. f.held (all_as NotGivenUp xs p d y lt (λ h. h) none);
@@ -374,6 +386,7 @@ module _ {C K : Type 0} (gives : C → ℕ → C → Type 0) (k : Ghosts K) wher
       tied = f.tied;
       within = within_longer (length xs) (length (xs ++ x ∷ [])) f.turns (longer xs x) f.within;
       sit = sit_opens f.turns 0 (length xs) x xs (omega arith) f.within new f.sit;
+      counts = counts_more f.turns xs x f.within new f.counts;
       never_less = f.never_less;
       rose = all_last_one (RoseAt (k.faults keeper) (k.faults keeper')) xs x f.rose (unmarked_rose (k.faults keeper) (k.faults keeper') x new.marked);
       held = λ none. f.held (all_before NotGivenUp xs x none);
@@ -451,6 +464,7 @@ pub record Woven {C : Type 0} (gives : C → ℕ → C → Type 0) (xs : List Si
   pub many : length threads ≡ length xs
   pub told : TellsMoments gives clock moments clock'
   pub run : Interleaved s threads moments mid
+  pub counts : Counts run.turns xs
 
 pub finishes : {C K : Type 0} (gives : C → ℕ → C → Type 0) (k : Ghosts K) (xs : List Sitting) (clock clock' : C) (keeper keeper' : K) (s mid : State)
     → SoFar gives k xs clock clock' keeper keeper' s mid → Woven gives xs clock clock' s mid
@@ -463,6 +477,7 @@ finishes gives k xs clock clock' keeper keeper' s mid f =
       many = x.many;
       told = f.told;
       run = record { turns = f.turns; order = f.order; told = refl; tied = f.tied; within = same_length (length xs) (length x.threads) f.turns (sym x.many) f.within; each = x.spoken };
+      counts = f.counts;
     }
 
 -- ---- what holds of all threads held of all connections

@@ -1,5 +1,5 @@
 -- Connections that come, are served in turn, and go: each has a slot while it is there.
-use Rattle.std.specs.Prelude.{◌≡◌, ◌≢◌, ◌<◌, ◌⊎◌, ℕ, Bool, false, List, [], ◌∷◌, ◌++◌, ◌+◌, cond, is_some, length, slice_get, slice_set, slice_index_or, Option, Some, None}
+use Rattle.std.specs.Prelude.{◌≡◌, ◌≢◌, ◌<◌, ◌⊎◌, ℕ, Bool, false, List, [], ◌∷◌, ◌++◌, length, slice_get, slice_set, slice_index_or, Option, Some, None}
 use Rattle.std.specs.List.{AllByRecursion, count_by, sum_by}
 use Rattle.boxes.specs.State.{State}
 use Rattle.keeper.specs.declared.keep.Keeper.{Ghosts}
@@ -8,7 +8,7 @@ use Rattle.office.specs.declared.connections.session.SessionEnd.{SessionEnd}
 use Rattle.office.specs.Connections.{TellsMoments, is_fault}
 use Rattle.office.specs.Interleaved.{Interleaved, Thread, acts_in}
 use Rattle.office.specs.Repeats.{RepeatsOnce}
-use Rattle.office.specs.Seats.{AreThreads, Gathers, IsNew, LastsOver, Sends, StaysSo, TakesTurn, TellsTurn}
+use Rattle.office.specs.Seats.{AreThreads, Gathers, HaveTurns, IsNew, LastsOver, Sends, StaysSo, TakesTurn, TellsOneMoment, TellsTurn, turns_of}
 
 -- what stands in the slot at p
 abbrev pub slot_at : {X : Type 0} → List (Option X) → ℕ → Option X
@@ -74,10 +74,6 @@ fails_now (Some e) new = false
 abbrev pub IsOpenAt : {R W : Type 0} → List (Option (Seat R W)) → ℕ → Type 0
 IsOpenAt {R} {W} slots p = (p < length slots) × (seat : Seat R W) × (slot_at slots p ≡ Some seat) × (seat.end ≡ None)
 
--- how many turns a connection took: one for each message after which it went on, and the one in which it ended
-abbrev pub turns_of : {R W : Type 0} → Seat R W → ℕ
-turns_of seat = seat.served + cond (is_some seat.end) 1 0
-
 -- What becomes of a slot in a turn, and whether its connection ended by a fault in it.
 pub data TurnsSlot {C K R W : Type 0} (gives : C → ℕ → C → Type 0) (remaining : R → Option (List ℕ)) (contents : W → Option (List ℕ)) (clock clock' : C) (k : Ghosts K) (keeper keeper' : K)
     (s after : State) : Option (Seat R W) → Option (Seat R W) → Bool → Type 0 where
@@ -111,6 +107,10 @@ pub record ServesCrowd {C K R W : Type 0} (gives : C → ℕ → C → Type 0) (
   pub told : TellsMoments gives clock moments clock'
   pub served : AreThreads remaining contents came seats threads
   pub run : Interleaved s threads moments after
+  -- each turn of the crowd is one of the order; each connection has as many of them as it took, and one tells one moment at most
+  pub counted : turns ≡ length run.turns
+  pub each_counted : HaveTurns run.turns 0 seats
+  pub one_moment : AllByRecursion TellsOneMoment run.turns
   pub repeats : RepeatsOnce (acts_in run.turns)
   pub stays : StaysSo k threads keeper keeper' after
   pub lasts : LastsOver k threads keeper keeper' s after

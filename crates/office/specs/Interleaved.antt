@@ -1,6 +1,6 @@
 -- Connections that are open at once: each turn serves messages of one of them.
 use Rattle.std.specs.Prelude.{◌≡◌, ◌<◌, ◌⊎◌, ℕ, suc, Bool, true, false, cond, nat_eq, List, [], ◌∷◌, ◌++◌, length, map, Option, Some, None, ⊤}
-use Rattle.std.specs.List.{AllByRecursion}
+use Rattle.std.specs.List.{AllByRecursion, count_by}
 use Rattle.sigtext.specs.Bytes.{IsBeginning}
 use Rattle.sigtext.specs.Request.{Request}
 use Rattle.boxes.specs.State.{State}
@@ -36,6 +36,10 @@ own_acts i (t ∷ ts) = cond (nat_eq t.which i) t.acts [] ++ own_acts i ts
 abbrev pub own_moments : ℕ → List Turn → List ℕ
 own_moments i [] = []
 own_moments i (t ∷ ts) = cond (nat_eq t.which i) t.moments [] ++ own_moments i ts
+
+-- how many of the turns are those of one connection
+abbrev pub turns_by : ℕ → List Turn → ℕ
+turns_by i turns = count_by (λ t. nat_eq t.which i) turns
 
 -- the moments are those of the acts, and one more at most, at which a message was given up
 abbrev pub AreTied : List ℕ → List Act → Type 0

@@ -1,5 +1,5 @@
 -- Connections that are served in turn, as they were and as they are.
-use Rattle.std.specs.Prelude.{◌≡◌, ◌≤◌, ◌+◌, ◌⊎◌, ℕ, Bool, true, false, List, [], ◌∷◌, length, Option, Some, None, ⊤}
+use Rattle.std.specs.Prelude.{◌≡◌, ◌≤◌, ◌+◌, ◌⊎◌, ℕ, suc, Bool, true, false, cond, is_some, List, [], ◌∷◌, length, Option, Some, None, ⊤}
 use Rattle.std.specs.Io.KnownBytes.{Appends, Consumes, Keeps, prepend_known}
 use Rattle.std.specs.List.{AllByRecursion}
 use Rattle.sigtext.specs.Counts.{Rose}
@@ -11,7 +11,7 @@ use Rattle.office.specs.declared.connections.session.SessionEnd.{SessionEnd}
 use Rattle.office.specs.declared.connections.session.SessionEnd.TheVariants.{ReadFault}
 use Rattle.office.specs.Connections.{IsStream, Serves, TellsMoments}
 use Rattle.office.specs.Crashes.{LastsThrough}
-use Rattle.office.specs.Interleaved.{Interleaved, Thread, acts_in}
+use Rattle.office.specs.Interleaved.{Interleaved, Thread, Turn, acts_in, turns_by}
 use Rattle.office.specs.Repeats.{RepeatsOnce}
 use Rattle.office.specs.Sessions.{most_messages}
 use Rattle.office.specs.Stepping.{Goes, TellsStep}
@@ -95,15 +95,32 @@ abbrev pub LastsOver : {K : Type 0} → Ghosts K → List Thread → K → K →
 LastsOver k threads keeper keeper' s after =
     AllByRecursion (λ c. (c.gave_up ≡ false) ⊎ (c.end ≡ Some ReadFault)) threads → LastsThrough k keeper keeper' s after
 
+-- how many turns a connection took: one for each message after which it went on, and the one in which it ended
+abbrev pub turns_of : {R W : Type 0} → Seat R W → ℕ
+turns_of seat = seat.served + cond (is_some seat.end) 1 0
+
+-- each connection, from the number i on, has as many of the turns as it took
+abbrev pub HaveTurns : {R W : Type 0} → List Turn → ℕ → List (Seat R W) → Type 0
+HaveTurns turns i [] = ⊤
+HaveTurns turns i (seat ∷ seats) = (turns_by i turns ≡ turns_of seat) × HaveTurns turns (suc i) seats
+
+-- a turn tells one moment at most
+abbrev pub TellsOneMoment : Turn → Type 0
+TellsOneMoment turn = length turn.moments ≤ 1
+
 -- The connections were served in turn: the moments, each connection, the state after, how the keeper held up, and what outlasts a
--- crash; and an upload acts once over all of them.
+-- crash; and an upload acts once over all of them. There are no more turns than so many, a turn tells one moment at most, and each
+-- connection has as many turns as it took.
 pub record Weaves {C K R W : Type 0} (gives : C → ℕ → C → Type 0) (remaining : R → Option (List ℕ)) (contents : W → Option (List ℕ)) (old new : List (Seat R W)) (clock clock' : C)
-    (k : Ghosts K) (keeper keeper' : K) (s after : State) : Type 0 where
+    (k : Ghosts K) (keeper keeper' : K) (turns : ℕ) (s after : State) : Type 0 where
   pub threads : List Thread
   pub moments : List ℕ
   pub told : TellsMoments gives clock moments clock'
   pub served : AreThreads remaining contents old new threads
   pub run : Interleaved s threads moments after
+  pub no_more : length run.turns ≤ turns
+  pub each_counted : HaveTurns run.turns 0 new
+  pub one_moment : AllByRecursion TellsOneMoment run.turns
   pub repeats : RepeatsOnce (acts_in run.turns)
   pub stays : StaysSo k threads keeper keeper' after
   pub lasts : LastsOver k threads keeper keeper' s after

@@ -27,9 +27,6 @@ pub trait Crowd<R: Read, W: Write> {
     /// Which connections came so far, as they came; and which went, as they were then.
     ghost met: { Self → List (Seat R W) → List (Seat R W) → Type 0 };
 
-    /// There are such lists of each.
-    ghost meets: { (crowd : Self) → (came gone : List (Seat R W)) × met crowd came gone };
-
     /// No turn is to be taken any more.
     ghost over: { Self → Type 0 };
 
@@ -127,7 +124,7 @@ impl<K: Keeper> Office<K> {
     /// state before to the state after; and of each connection that came, what was read, its answers and its end are those of
     /// its own messages, until it went or as it stands in its slot. Over all of them an upload acts once. Of a keeper that was
     /// open, and where no connection gave up, what is kept is that one state and no other. Where nothing was given up but at a
-    /// failed read, what was changed outlasts a crash. Each turn that the crowd gives is taken.
+    /// failed read, what was changed outlasts a crash. Each turn that the crowd gives is taken, and tells one moment at most.
     pub fn serve_crowd<R: Read, W: Write, G: Crowd<R, W>, C: Clock>(
         &mut self,
         crowd: &mut G,

@@ -122,7 +122,8 @@ impl<K: Keeper> Office<K> {
 
     /// Serves connections in turn, a message at a time, whichever is picked, until none is, or so many turns were taken, or
     /// memory for the room is refused. There is one order of all messages, in which the machine leads from the state before
-    /// to the state after; and each connection's answers, and its end, are those of its own messages.
+    /// to the state after; and each connection's answers, and its end, are those of its own messages. A turn tells one moment
+    /// at most.
     pub fn serve_turns<R: Read, W: Write, P: Pick<R, W>, C: Clock>(
         &mut self,
         seats: &mut [Seat<R, W>],
@@ -134,7 +135,7 @@ impl<K: Keeper> Office<K> {
         ensures weaves { (s : State) → WasKept K.Keeper self.old.keeper self.new.keeper s
             → (after : State) × IsLeft (K.means self.new.keeper) after
             × Weaves C.now_gives R.remaining W.contents seats.old seats.new clock.old clock.new
-            K.Keeper self.old.keeper self.new.keeper s after }
+            K.Keeper self.old.keeper self.new.keeper turns s after }
         ensures honest { K.is_honest self.new.keeper → K.is_honest self.old.keeper }
         ensures unstaged { StaysUnstaged K.Keeper self.old.keeper self.new.keeper }
         ensures never_less { K.faults self.old.keeper ≤ K.faults self.new.keeper }

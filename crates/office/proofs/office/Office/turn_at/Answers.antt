@@ -1,6 +1,6 @@
-use Rattle.std.proofs.Common.{◌≡◌, None, get_or, refl, sym, subst}
+use Rattle.std.proofs.Common.{None, refl, sym, subst}
 use Rattle.std.proofs.lemmas.List.{get_or_default}
-use Rattle.office.specs.Crowds.{TurnsSlot, slot_at}
+use Rattle.office.specs.Crowds.{TurnsSlot}
 use Rattle.office.proofs.office.Office.turn_at.Goals as goal
 
 pub returns-clause-turns : goal.returns-clause-turns

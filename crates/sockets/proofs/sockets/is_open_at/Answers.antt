@@ -1,0 +1,14 @@
+use Rattle.std.proofs.Common.{◌<◌, None, length, ◌∙◌, sym, ap, arith}
+use Rattle.std.specs.Prelude.{not}
+use Rattle.std.proofs.lemmas.List.{get_or_default}
+use Rattle.office.proofs.SeatTurns.{none_of}
+use Rattle.sockets.proofs.sockets.is_open_at.Goals as goal
+
+pub returns-in-Some : goal.returns-in-Some
+returns-in-Some c is =
+    let within : c.args.index < length c.args.slots.now = omega (arith, c.if-index-slots.false) in (
+      within,
+      c.in-Some.seat,
+      get_or_default c.args.slots.now c.args.index None c.index-slots-index.result within ∙ (sym c.index-slots-index.is ∙ c.in-Some.is),
+      sym c.end.ensures ∙ none_of c.end.result (c.is_none.ensures ∙ ap not is),
+    )

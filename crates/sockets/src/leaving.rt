@@ -1,0 +1,63 @@
+//! Leaving: a socket that is closed over bytes that nobody read is reset, and its peer may lose the last answer. So the peer is
+//! told that no more comes, and what it still sends is taken for a while.
+use crate::book::Book;
+use crate::held::{Held, seat_at};
+use crate::peer::Phase;
+use crate::tally::Deed;
+use std::io::{ErrorKind, Read};
+use std::net::Shutdown;
+use std::{io, time};
+
+/// How many bytes are thrown away at the most.
+const LAST_BYTES: usize = 262_144;
+
+/// How many reads take them at the most, one after another.
+const LAST_READS: usize = 64;
+
+impl<R: time::Clock> Book<'_, R> {
+    /// Begins to leave a connection whose session has ended, and for which nothing waits.
+    pub(crate) fn leave(&mut self, slots: &[Option<Held>], index: usize) -> Option<Deed> {
+        let stream = &seat_at(slots, index)?.reader.inner.inner;
+        if stream.shutdown(Shutdown::Write).is_err() {
+            return self.release(index);
+        }
+        self.enter(index, Phase::Leaving { taken: 0 });
+        self.throw_away(slots, index)
+    }
+
+    /// Takes what the peer of a connection that is left still sends. At its end the connection goes.
+    pub(crate) fn throw_away(&mut self, slots: &[Option<Held>], index: usize) -> Option<Deed> {
+        'reads: for _ in 0..LAST_READS {
+            match self.read_last(slots, index) {
+                Ok(n) if n > 0 && self.count_last(index, n) => {}
+                Err(error) if error.kind() == ErrorKind::WouldBlock => return None,
+                Ok(_) | Err(_) => return self.release(index),
+            }
+        }
+        self.release(index)
+    }
+
+    // Reads once, and keeps nothing of it.
+    fn read_last(&mut self, slots: &[Option<Held>], index: usize) -> io::Result<usize> {
+        match seat_at(slots, index) {
+            Some(seat) => {
+                let mut stream = &seat.reader.inner.inner;
+                stream.read(&mut self.buf)
+            }
+            None => Ok(0),
+        }
+    }
+
+    // Counts bytes that were thrown away. Whether more may be.
+    fn count_last(&mut self, index: usize, n: usize) -> bool {
+        let Some(peer) = self.peers.get_mut(index) else {
+            return false;
+        };
+        let Phase::Leaving { taken } = peer.phase else {
+            return false;
+        };
+        let taken = taken.saturating_add(n);
+        peer.phase = Phase::Leaving { taken };
+        taken < LAST_BYTES
+    }
+}

@@ -1,0 +1,20 @@
+//! The sockets of a listener's peers around an office: one loop over all of them, in which no peer holds the others.
+#![tactic(auto)]
+
+mod accepting;
+mod book;
+mod bounds;
+mod door;
+mod held;
+mod leaving;
+mod peer;
+mod reading;
+mod rooms;
+mod rounds;
+mod sending;
+mod serving;
+mod sockets;
+mod stages;
+mod tally;
+
+pub use serving::{Limits, Outcome, serve};

@@ -1,0 +1,151 @@
+//! Reading ahead: a turn is due once a message is whole.
+use crate::book::{Book, MOST_READ};
+use crate::held::{Held, ahead_len, seat_at};
+use crate::peer::{BODY_STEP, Phase};
+use crate::rooms::OWN_ROOM;
+use crate::tally::Deed;
+use std::alloc::AllocError;
+use std::io::ErrorKind;
+use std::time;
+use wire::{Gathering, message_len};
+
+/// How many bytes one read takes of a head. What is read behind the head is ahead for the messages that follow.
+const HEAD_READ: usize = 4096;
+
+impl<R: time::Clock> Book<'_, R> {
+    /// Reads ahead of the connection, if bytes may be there and a message of it can be read on.
+    pub(crate) fn read(&mut self, slots: &[Option<Held>], index: usize) -> Option<Deed> {
+        let size = self.read_size(slots, index)?;
+        if self.reads == 0 {
+            self.is_behind = true;
+            return None;
+        }
+        self.reads -= 1;
+        Some(Deed::Gather(size))
+    }
+
+    // How many bytes the next read takes at the most, if there may be one.
+    fn read_size(&self, slots: &[Option<Held>], index: usize) -> Option<usize> {
+        let peer = self.peers.get(index)?;
+        if !peer.is_ready {
+            return None;
+        }
+        match peer.phase {
+            Phase::Silent | Phase::Head => Some(HEAD_READ),
+            Phase::Body { len, .. } => {
+                Some(len.saturating_sub(ahead_len(slots, index)).min(MOST_READ))
+            }
+            _ => None,
+        }
+    }
+
+    /// A read ahead told this, and took as much as it might, or not.
+    pub(crate) fn gathered(
+        &mut self,
+        slots: &[Option<Held>],
+        index: usize,
+        outcome: Result<Gathering, AllocError>,
+        is_full: bool,
+    ) -> Option<Deed> {
+        match outcome {
+            Ok(Gathering::Came) => {
+                self.note_bytes(index, is_full);
+                self.advance(slots, index)
+            }
+            Ok(Gathering::Waits) => self.note_wait(index),
+            Ok(Gathering::Ended) | Ok(Gathering::Failed) => self.make_due(index),
+            Err(_) => self.give_up(slots, index, ErrorKind::OutOfMemory),
+        }
+    }
+
+    // Bytes came. Where a read took less than it might no more are there, but for an end that was told already.
+    fn note_bytes(&mut self, index: usize, is_full: bool) {
+        if let Some(peer) = self.peers.get_mut(index) {
+            peer.heard = self.now;
+            peer.is_ready = is_full || peer.is_closing;
+        }
+    }
+
+    // Nothing is there. Where nothing is ahead, no memory is kept.
+    fn note_wait(&mut self, index: usize) -> Option<Deed> {
+        if let Some(peer) = self.peers.get_mut(index) {
+            peer.is_ready = false;
+        }
+        Some(Deed::Settle)
+    }
+
+    // What the bytes that came make due.
+    fn advance(&mut self, slots: &[Option<Held>], index: usize) -> Option<Deed> {
+        let ahead = ahead_len(slots, index);
+        match self.phase(index) {
+            Phase::Body { len, .. } if ahead >= len => return self.make_due(index),
+            Phase::Body { len, mark } if ahead.saturating_sub(mark) >= BODY_STEP => {
+                self.enter(index, Phase::Body { len, mark: ahead })
+            }
+            Phase::Silent | Phase::Head => return self.judge(slots, index),
+            _ => {}
+        }
+        self.read(slots, index)
+    }
+
+    /// Judges what is ahead between two turns, nothing, a part of a message, or a whole one; and reads on where more is to come.
+    pub(crate) fn judge(&mut self, slots: &[Option<Held>], index: usize) -> Option<Deed> {
+        let ahead = seat_at(slots, index)?.reader.inner.ahead();
+        match message_len(ahead) {
+            _ if ahead.is_empty() => self.enter(index, Phase::Silent),
+            Some(len) if len <= ahead.len() => return self.make_due(index),
+            Some(len) => return self.ask_room(slots, index, len),
+            None if self.phase(index) == Phase::Head => {}
+            None => self.enter(index, Phase::Head),
+        }
+        self.read(slots, index)
+    }
+
+    // Room for a message is asked for.
+    fn ask_room(&mut self, slots: &[Option<Held>], index: usize, len: usize) -> Option<Deed> {
+        if len <= OWN_ROOM {
+            return self.begin_body(slots, index, len);
+        }
+        if self.rooms.take(len) {
+            return self.begin_large(slots, index, len);
+        }
+        if self.rooms.wait(index, len).is_err() {
+            return self.give_up(slots, index, ErrorKind::OutOfMemory);
+        }
+        self.enter(index, Phase::Waits { len });
+        None
+    }
+
+    /// The body comes of a message that was given room.
+    pub(crate) fn begin_large(
+        &mut self,
+        slots: &[Option<Held>],
+        index: usize,
+        len: usize,
+    ) -> Option<Deed> {
+        if let Some(peer) = self.peers.get_mut(index) {
+            peer.room = len;
+        }
+        self.begin_body(slots, index, len)
+    }
+
+    // The body comes: memory is taken for what is not ahead.
+    fn begin_body(&mut self, slots: &[Option<Held>], index: usize, len: usize) -> Option<Deed> {
+        let mark = ahead_len(slots, index);
+        self.enter(index, Phase::Body { len, mark });
+        Some(Deed::Reserve(len.saturating_sub(mark)))
+    }
+
+    /// Memory for a body was taken, or refused.
+    pub(crate) fn reserved(
+        &mut self,
+        slots: &[Option<Held>],
+        index: usize,
+        outcome: Result<(), AllocError>,
+    ) -> Option<Deed> {
+        match outcome {
+            Ok(()) => self.read(slots, index),
+            Err(_) => self.give_up(slots, index, ErrorKind::OutOfMemory),
+        }
+    }
+}

@@ -1,0 +1,105 @@
+//! Answers that wait until their peers take them.
+use crate::book::Book;
+use crate::held::{Held, ahead_len, seat_at, waiting_len};
+use crate::peer::Phase;
+use crate::tally::Deed;
+use mio::unix::SourceFd;
+use mio::{Interest, Token};
+use std::io::ErrorKind;
+use std::net::Shutdown;
+use std::os::fd::AsRawFd;
+use std::{io, time};
+use wire::{Room, Sending};
+
+impl<R: time::Clock> Book<'_, R> {
+    /// Its feed let go of this room. Behind a turn what was written is sent.
+    pub(crate) fn settled(
+        &mut self,
+        slots: &[Option<Held>],
+        index: usize,
+        room: Option<Room>,
+    ) -> Option<Deed> {
+        if let Some(room) = room {
+            self.room = Some(room);
+        }
+        if self.phase(index) != Phase::Due {
+            return None;
+        }
+        if ahead_len(slots, index) == 0 {
+            self.give_room_back(index);
+        }
+        self.enter(index, Phase::Silent);
+        Some(Deed::Send)
+    }
+
+    /// So far it was sent. Once all was, the connection goes on.
+    pub(crate) fn sent(
+        &mut self,
+        slots: &[Option<Held>],
+        index: usize,
+        sending: Sending,
+    ) -> Option<Deed> {
+        match sending {
+            Sending::Sent => self.go_on(slots, index),
+            Sending::Waits => self.hold(slots, index),
+            Sending::Failed => self.give_up(slots, index, ErrorKind::BrokenPipe),
+        }
+    }
+
+    // An answer waits: it is sent on when the peer has taken some of it.
+    fn hold(&mut self, slots: &[Option<Held>], index: usize) -> Option<Deed> {
+        let waiting = waiting_len(slots, index);
+        match self.phase(index) {
+            Phase::Answer { mark } if waiting >= mark => return None,
+            Phase::Answer { .. } => {
+                self.enter(index, Phase::Answer { mark: waiting });
+                return None;
+            }
+            _ => {}
+        }
+        self.enter(index, Phase::Answer { mark: waiting });
+        self.is_laden = true;
+        if self.watch(slots, index, true).is_err() {
+            return self.cut(slots, index);
+        }
+        None
+    }
+
+    // No answer waits any more: the next message is read, or the connection is left.
+    fn go_on(&mut self, slots: &[Option<Held>], index: usize) -> Option<Deed> {
+        if matches!(self.phase(index), Phase::Answer { .. }) {
+            if self.watch(slots, index, false).is_err() {
+                return self.give_up(slots, index, ErrorKind::Other);
+            }
+            self.enter(index, Phase::Silent);
+        }
+        match seat_at(slots, index)?.end() {
+            None => self.judge(slots, index),
+            Some(end) if end.is_fault() => self.release(index),
+            Some(_) => self.leave(slots, index),
+        }
+    }
+
+    // Has the socket tell what can be read, and, if answers wait, whether it takes more.
+    fn watch(&self, slots: &[Option<Held>], index: usize, is_waiting: bool) -> io::Result<()> {
+        let Some(seat) = seat_at(slots, index) else {
+            return Ok(());
+        };
+        let fd = seat.reader.inner.inner.as_raw_fd();
+        let interests = if is_waiting {
+            Interest::READABLE | Interest::WRITABLE
+        } else {
+            Interest::READABLE
+        };
+        self.poll
+            .registry()
+            .reregister(&mut SourceFd(&fd), Token(index), interests)
+    }
+
+    /// Cuts a connection whose peer takes no answer: its writes fail from now on.
+    pub(crate) fn cut(&mut self, slots: &[Option<Held>], index: usize) -> Option<Deed> {
+        let stream = &seat_at(slots, index)?.reader.inner.inner;
+        let _ = stream.shutdown(Shutdown::Both);
+        Some(Deed::Send)
+    }
+}
