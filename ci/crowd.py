@@ -153,6 +153,25 @@ def bodies_ahead(drop, count, alone):
     add_office(drop, file, count, "beside bodies", told)
 
 
+def test_large(drop, count):
+    """More files of the greatest size at once than there is room for: each is taken, and nobody is let go."""
+    file, date = open_office(drop, "large"), a_minute_ago()
+    files = [bytes([number]) * len(LARGE) for number in range(12)]
+
+    def uploaded(number):
+        with Peer(server.connect) as peer:
+            found = peer.ask(put(b"/in/%d" % number, files[number], date=date))
+        told = re.search(rb"receipt (\d+) ", found)
+        number_told = int(told[1]) if told else 0
+        count.add(f"large: file {number}", None if found == receipt(number_told, files[number]) else f"{found[:300]}")
+        return number_told
+
+    with Server(drop, file, len(files), PATIENCE) as server, concurrent.futures.ThreadPoolExecutor(len(files)) as pool:
+        told = [*pool.map(uploaded, range(len(files)))]
+        count.add("large: the end", difference(server.end(), server.owed_end(False)))
+    add_office(drop, file, count, "large", sorted(told))
+
+
 # ---- bounds
 
 
@@ -524,7 +543,7 @@ def test_front(drop, count):
     add_office(drop, file, count, "through nginx", told)
 
 
-TESTS = [test_crowd, test_open, test_last, test_descriptors, test_leaving, test_bounds, test_odd, test_programs, test_front]
+TESTS = [test_crowd, test_large, test_open, test_last, test_descriptors, test_leaving, test_bounds, test_odd, test_programs, test_front]
 
 
 if __name__ == "__main__":
