@@ -153,6 +153,25 @@ def bodies_ahead(drop, count, alone):
     add_office(drop, file, count, "beside bodies", told)
 
 
+def test_large(drop, count):
+    """More files of the greatest size at once than there is room for: each is taken, and nobody is let go."""
+    file, date = open_office(drop, "large"), a_minute_ago()
+    files = [bytes([number]) * len(LARGE) for number in range(12)]
+
+    def uploaded(number):
+        with Peer(server.connect) as peer:
+            found = peer.ask(put(b"/in/%d" % number, files[number], date=date))
+        told = re.search(rb"receipt (\d+) ", found)
+        number_told = int(told[1]) if told else 0
+        count.add(f"large: file {number}", None if found == receipt(number_told, files[number]) else f"{found[:300]}")
+        return number_told
+
+    with Server(drop, file, len(files), PATIENCE) as server, concurrent.futures.ThreadPoolExecutor(len(files)) as pool:
+        told = [*pool.map(uploaded, range(len(files)))]
+        count.add("large: the end", difference(server.end(), server.owed_end(False)))
+    add_office(drop, file, count, "large", sorted(told))
+
+
 # ---- bounds
 
 
@@ -245,7 +264,8 @@ def test_leaving(drop, count):
     file, date = open_office(drop, "leaving"), a_minute_ago()
     ask, owed = get(b"/in/none", date=date), answer(34)
     soft, hard = resource.getrlimit(resource.RLIMIT_NOFILE)
-    resource.setrlimit(resource.RLIMIT_NOFILE, (max(soft, min(hard, 2 * MANY)), hard))
+    wanted = max(soft, 2 * MANY)
+    resource.setrlimit(resource.RLIMIT_NOFILE, (wanted if hard == resource.RLIM_INFINITY else min(wanted, hard), hard))
     with Server(drop, file, 10**6, PATIENCE) as server:
         idle, slowest = [], 0.0
         for number in range(MANY):
@@ -319,14 +339,16 @@ ODD_PATIENCE = 3
 
 
 def a_byte_a_second(it, data, before=b""):
-    """Sends the data so, behind what comes before, until the connection has ended."""
+    """Sends the data so, behind what comes before, until the connection has ended, or was reset: what came on it."""
     it.sendall(before)
-    for byte in data:
-        it.sendall(bytes([byte]))
-        it.settimeout(1.0)
-        with contextlib.suppress(TimeoutError):
-            return it.recv(1)
-    return b"all was taken"
+    it.settimeout(1.0)
+    with contextlib.suppress(ConnectionError):
+        for byte in data:
+            it.sendall(bytes([byte]))
+            with contextlib.suppress(TimeoutError):
+                return it.recv(1)
+        return b"all was taken"
+    return b""
 
 
 def takes_nothing(it, message):
@@ -522,7 +544,7 @@ def test_front(drop, count):
     add_office(drop, file, count, "through nginx", told)
 
 
-TESTS = [test_crowd, test_open, test_last, test_descriptors, test_leaving, test_bounds, test_odd, test_programs, test_front]
+TESTS = [test_crowd, test_large, test_open, test_last, test_descriptors, test_leaving, test_bounds, test_odd, test_programs, test_front]
 
 
 if __name__ == "__main__":

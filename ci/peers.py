@@ -50,8 +50,10 @@ class Peer:
         """One answer, as its Content-Length tells."""
         while not (cut := self.waiting.find(b"\r\n\r\n") + 4) > 3:
             self.more()
-        length = int(re.search(rb"\r\nContent-Length: (\d+)\r\n", self.waiting[:cut])[1])
-        size = cut + (0 if method == "HEAD" else length)
+        length = re.search(rb"\r\nContent-Length: (\d+)\r\n", self.waiting[:cut])
+        if not length:
+            raise ConnectionError(f"no length in {self.waiting[:cut]!r}")
+        size = cut + (0 if method == "HEAD" else int(length[1]))
         while len(self.waiting) < size:
             self.more()
         found, self.waiting = self.waiting[:size], self.waiting[size:]
