@@ -19,5 +19,5 @@ end
 
 function done(summary, latency, requests)
     io.write(string.format("told %d %d %d %d %d\n", summary.requests, summary.duration, summary.errors.status,
-        summary.errors.connect + summary.errors.write + summary.errors.timeout, latency:percentile(50)))
+        summary.errors.connect + summary.errors.write + summary.errors.timeout, latency:percentile(99)))
 end

@@ -3,7 +3,7 @@
  * Usage: client PORT TARGETS METHOD BYTES REQUESTS NEW
  *   TARGETS  a file with a request target on each line, taken in turn
  *   BYTES    the length of each body, 0 for none
- *   NEW      1: a new connection for each request
+ *   NEW      a new connection for each so many requests; 0: one for all
  * Prints the requests, how many were answered with 200, and the seconds. */
 #include <arpa/inet.h>
 #include <netinet/in.h>
@@ -87,7 +87,7 @@ static double now(void) {
 
 int main(int argc, char **argv) {
     if (argc != 7) return 2;
-    int port = atoi(argv[1]), many = lines_of(argv[2]), is_head = !strcmp(argv[3], "HEAD"), is_new = atoi(argv[6]);
+    int port = atoi(argv[1]), many = lines_of(argv[2]), is_head = !strcmp(argv[3], "HEAD"), each = atoi(argv[6]);
     long bytes = atol(argv[4]), requests = atol(argv[5]), well = 0;
     memset(body, 'b', sizeof body);
     int it = reached(port);
@@ -97,7 +97,7 @@ int main(int argc, char **argv) {
         int length = snprintf(asked, sizeof asked, "%s %s HTTP/1.1\r\nHost: 127.0.0.1:%d\r\n", argv[3], lines[i % many], port);
         if (bytes) length += snprintf(asked + length, sizeof asked - length, "Content-Length: %ld\r\n", bytes);
         length += snprintf(asked + length, sizeof asked - length, "\r\n");
-        if (is_new && i > 0) {
+        if (each && i > 0 && i % each == 0) {
             close(it);
             it = reached(port);
         }

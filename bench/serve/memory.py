@@ -8,6 +8,7 @@ from clients import by_client, serving
 from servers import KIB, MOST, ROWS, Drop, Row
 
 UPLOADS = 100  # of a kind
+ON_EACH = 10  # fetches on a connection
 
 
 def memory_of(pid, name="VmRSS"):
@@ -17,13 +18,13 @@ def memory_of(pid, name="VmRSS"):
 
 
 def fetches_rows(server, folder, client):
-    """Behind so many GETs of 1 KiB, all in one run."""
-    row, done = ROWS[1], 0
+    """Behind so many GETs of 1 KiB, ten on each connection, all in one run."""
+    row, done = dataclasses.replace(ROWS[1], new=ON_EACH), 0
     with serving(server, row, folder, "") as (pid, port, file):
-        for requests in [1000, 10000, 100000]:
+        for requests in [10**4, 10**5, 10**6]:
             by_client(client, row, file, port, requests - done)
             done = requests
-            yield requests, memory_of(pid)
+            yield requests, requests // ON_EACH, memory_of(pid)
 
 
 def upload(client, row, file, port, requests):

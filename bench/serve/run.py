@@ -1,5 +1,5 @@
 #!/usr/bin/env python3
-"""What `drop serve` answers on loopback, one connection at a time, and beside it nginx and Swift, by the same clients in the same
+"""What `drop serve` answers on loopback, on one connection and on many, and beside it nginx and Swift, by the same clients in the same
 run. Prints tables in Markdown. README.md beside this says more.
 """
 
@@ -17,6 +17,7 @@ TOP = pathlib.Path(__file__).resolve().parents[2]
 sys.path[1:1] = [str(TOP / "bench"), str(TOP / "ci")]
 from clients import by_either, serving  # noqa: E402
 from costs import cost_row  # noqa: E402
+from crowds import crowd_rows  # noqa: E402
 from memory import fetches_rows, uploads_rows  # noqa: E402
 from servers import HERE, KIB, ROWS, Drop, Nginx, body_of  # noqa: E402
 from shared import connected, disk_of, load, machine, print_table  # noqa: E402
@@ -96,6 +97,16 @@ def print_rates(rounds):
         print("Swift is not there: its columns are left out.\n")
 
 
+def print_within(rounds):
+    """How soon 99 in 100 answers come where many connections are served at once: the best round, in brackets the median."""
+    for row in [row for row in ROWS if row.many > 1]:
+        for server in rounds.servers:
+            found = [it.within for it in rounds.figures.get((row, server.name), [])]
+            if found:
+                print(f"{row.name}, {server.name}: 99 in 100 answers within {min(found):.1f} ms ({statistics.median(found):.1f}).")
+    print()
+
+
 def print_wrong(rounds):
     """Which answers had another status than owed."""
     counts = {key: sum(figure.wrong for figure in figures) for key, figures in rounds.figures.items()}
@@ -114,9 +125,11 @@ def run(words, folder):
     for turn in range(words.rounds):
         rounds.go(turn)
     print_rates(rounds)
+    print_within(rounds)
     print_wrong(rounds)
-    for head, rows in [(["Requests served", "Memory of `drop serve`, KiB"], fetches_rows),
-                       (["Uploads", "Memory of `drop serve` before them, KiB", "At its greatest", "Behind them"], uploads_rows)]:
+    for head, rows in [(["Requests served", "Connections", "Memory of `drop serve`, KiB"], fetches_rows),
+                       (["Uploads", "Memory of `drop serve` before them, KiB", "At its greatest", "Behind them"], uploads_rows),
+                       (["Beside it", "Answers", "The slowest, ms", "The median, ms"], crowd_rows)]:
         print_table(head, [list(map(str, it)) for it in rows(rounds.servers[0], folder, rounds.client)])
     if words.profile:
         print_costs(rounds)

@@ -56,13 +56,15 @@ class Row:
     size: int = 0
     upload: bool = False
     bad: bool = False
-    new: bool = False  # a new connection for each request
+    new: int = 0  # a new connection for each so many requests
+    many: int = 1  # so many connections at once
 
 
 ROWS = [
     Row("a wrong signature", "GET", KIB, bad=True),
     Row("GET of 1 KiB", "GET", KIB),
-    Row("GET of 1 KiB, a new connection each", "GET", KIB, new=True),
+    Row("GET of 1 KiB, 64 connections", "GET", KIB, many=64),
+    Row("GET of 1 KiB, a new connection each", "GET", KIB, new=1),
     Row("PUT of 1 KiB, new", "PUT", KIB, upload=True),
     Row("PUT of 1 MiB, new", "PUT", MIB, upload=True),
     Row("GET of 1 MiB", "GET", MIB),
