@@ -109,7 +109,7 @@ impl<R: time::Clock> Book<'_, R> {
         if self.rooms.take(len) {
             return self.begin_large(slots, index, len);
         }
-        if self.rooms.wait(index, len).is_err() {
+        if self.rooms.wait(index, len, self.now).is_err() {
             return self.give_up(slots, index, ErrorKind::OutOfMemory);
         }
         self.enter(index, Phase::Waits { len });

@@ -1,5 +1,6 @@
 //! The memory that large messages have in common while they come.
 use std::alloc::{AllocError, Global};
+use std::time::{Duration, Instant};
 
 /// How many bytes all that is ahead of all connections may take together.
 const MOST_AHEAD: usize = 67_108_864;
@@ -7,15 +8,28 @@ const MOST_AHEAD: usize = 67_108_864;
 /// How many bytes each connection may have ahead for itself. A message that takes no more waits for nobody.
 pub(crate) const OWN_ROOM: usize = 16_384;
 
+/// How many seconds shorter messages may be given room before the one that waits longest.
+const TURN_SECONDS: u64 = 5;
+
+/// A slot that waits for room.
+#[derive(Clone, Copy, Debug)]
+struct Waiting {
+    index: usize,
+    /// How many bytes its message takes.
+    len: usize,
+    since: Instant,
+}
+
 /// Room for whole messages. A connection is given it before it reads the body, and keeps it until the message was served: so
-/// it never waits for more, and each that waits holds none. Those that wait are served in their order. Where nobody has room,
+/// it never waits for more, and each that waits holds none. The shortest message is given room first, so that those who announce
+/// much and bring little hold nobody up; but one that has waited for five seconds comes before all others. Where nobody has room,
 /// the first one gets it, however much it asks for.
 #[derive(Drop)]
 pub(crate) struct Rooms {
     most: usize,
     given: usize,
-    // The slots that wait, and how much each asks for.
-    waiting: Vec<(usize, usize)>,
+    // The slots that wait, in the order in which they came.
+    waiting: Vec<Waiting>,
 }
 
 impl Rooms {
@@ -43,20 +57,43 @@ impl Rooms {
     }
 
     /// The slot waits for so much. The error is that memory was refused.
-    pub(crate) fn wait(&mut self, index: usize, len: usize) -> Result<(), AllocError> {
-        self.waiting.push((index, len))?;
+    pub(crate) fn wait(
+        &mut self,
+        index: usize,
+        len: usize,
+        since: Instant,
+    ) -> Result<(), AllocError> {
+        self.waiting.push(Waiting { index, len, since })?;
         Ok(())
     }
 
-    /// Gives room to the first slot that waits, if what it asks for is there: the slot, and how much it was given.
-    pub(crate) fn serve(&mut self) -> Option<(usize, usize)> {
-        let (index, len) = *self.waiting.first()?;
+    /// Gives room to the next slot that waits, if what it asks for is there: the slot, and how much it was given.
+    pub(crate) fn serve(&mut self, now: Instant) -> Option<(usize, usize)> {
+        let at = self.next(now)?;
+        let Waiting { index, len, .. } = *self.waiting.get(at)?;
         if !self.has(len) {
             return None;
         }
-        self.waiting.remove(0);
+        self.waiting.remove(at);
         self.given = self.given.saturating_add(len);
         Some((index, len))
+    }
+
+    // Which is next: the one that has waited too long, or the shortest.
+    fn next(&self, now: Instant) -> Option<usize> {
+        let first = self.waiting.first()?;
+        if now.duration_since(first.since) >= Duration::from_secs(TURN_SECONDS) {
+            return Some(0);
+        }
+        let mut least = first.len;
+        let mut found = 0;
+        'waiting: for (at, one) in self.waiting.iter().enumerate() {
+            if one.len < least {
+                least = one.len;
+                found = at;
+            }
+        }
+        Some(found)
     }
 
     /// Whether a slot waits for room.

@@ -76,9 +76,7 @@ impl<R: time::Clock> Sockets<'_, R> {
         ensures turns { self.new.turns ≡ self.old.turns }
     {
         let index = task.index;
-        let report = self
-            .tally
-            .work(slots, index, task.deed, &mut self.book.buf);
+        let report = self.tally.work(slots, index, task.deed, &mut self.book.buf);
         let deed = self.book.told_of(slots, index, report)?;
         Some(Task { index, deed })
     }

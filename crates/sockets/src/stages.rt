@@ -219,7 +219,7 @@ impl<R: time::Clock> Book<'_, R> {
                 return self.go(index, deed);
             }
         }
-        let Some((index, len)) = self.rooms.serve() else {
+        let Some((index, len)) = self.rooms.serve(self.now) else {
             self.rounds.begin();
             self.stage = Stage::Turns;
             return self.make_room(slots);

@@ -11,7 +11,7 @@ pub returns : goal.returns
 returns c =
     elim c.match-open_slot.branch [
       | in-Ok w ↦
-        record { moves = (c.new.result ∷ [], [], omega (arith, ap (λ (t : Tally). t.came) w.self-is, c.in_ok-came.ensures), omega (arith, ap (λ (t : Tally). t.gone) w.self-is), w.in-Ok.ensures.opened.3) }
+          record { moves = (c.new.result ∷ [], [], omega (arith, ap (λ (t : Tally). t.came) w.self-is, c.in_ok-came.ensures), omega (arith, ap (λ (t : Tally). t.gone) w.self-is), w.in-Ok.ensures.opened.3) }
       | in-Err w ↦
-        record { moves = moves_kept _ _ c.args.self.now c.match-open_slot.self c.args.slots.now c.open_slot.new.slots (ap (λ (t : Tally). t.came) w.self-is) (ap (λ (t : Tally). t.gone) w.self-is) w.in-Err.ensures.full.1 }
+          record { moves = moves_kept _ _ c.args.self.now c.match-open_slot.self c.args.slots.now c.open_slot.new.slots (ap (λ (t : Tally). t.came) w.self-is) (ap (λ (t : Tally). t.gone) w.self-is) w.in-Err.ensures.full.1 }
     ]
