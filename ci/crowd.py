@@ -34,7 +34,7 @@ PATIENCE = 30
 IDLE, SLOW, CLIENTS, VISITS, ROUNDS = 300, 20, 8, 5, 4
 AHEAD = 64  # MiB of all connections that may be read ahead
 ANSWERS = CLIENTS  # MiB of the answers to clients, of 1 MiB at the most, that may be on their way
-BODIES = 20
+BODIES = 60
 MANY = 2000
 LARGE = b"l" * (8 << 20)
 FILES = ["a.txt", "a b/é.txt", "x+y=z&#%.bin"]  # by links of boto3
