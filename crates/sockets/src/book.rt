@@ -148,16 +148,16 @@ impl<R: time::Clock> Book<'_, R> {
     }
 
     /// The connection goes, if there is one.
-    pub(crate) fn release(&mut self, index: usize) -> Option<Deed> {
+    pub(crate) fn release(&self, index: usize) -> Option<Deed> {
         if self.phase(index) == Phase::Free {
             return None;
         }
-        self.give_room_back(index);
         Some(Deed::Free)
     }
 
-    /// Its slot is free.
+    /// Its slot is free, and nothing of the common room is its own.
     pub(crate) fn freed(&mut self, index: usize) {
+        self.give_room_back(index);
         self.enter(index, Phase::Free);
         self.taken = self.taken.saturating_sub(1);
         self.door.end_pause();

@@ -73,26 +73,40 @@ pub fn serve<K: Keeper, C: Clock, R: Net + time::Clock>(
     let came = sockets.tally.came;
     let refused = sockets.refused();
     let have_all_come = have_come(came, refused, limits.connections);
+    let have_all_gone = are_as_many(came, sockets.tally.gone);
     Ok(Outcome {
         came,
         refused,
         faulty,
-        is_whole: are_all(sockets.is_whole, have_all_come, are_free(slots)),
+        is_whole: are_all(have_all_come, have_all_gone, are_free(slots)),
     })
 }
 
 // Whether all three hold.
 fn are_all(one: bool, two: bool, three: bool) -> bool
-    ensures { result ≡ true → (one ≡ true) × (two ≡ true) × (three ≡ true) }
+    ensures each { result ≡ true → (one ≡ true) × (two ≡ true) × (three ≡ true) }
+    ensures all { one ≡ true → two ≡ true → three ≡ true → result ≡ true }
 {
     one && two && three
 }
 
 // Whether so many connections came, or could not be accepted.
 fn have_come(came: u64, refused: u64, connections: u64) -> bool
-    ensures { result ≡ true → came + refused ≡ connections }
+    ensures told { result ≡ true → came + refused ≡ connections }
+    ensures all { came + refused ≡ connections → result ≡ true }
 {
-    came.checked_add(refused) == Some(connections)
+    match came.checked_add(refused) {
+        Some(all) => all == connections,
+        None => false,
+    }
+}
+
+// Whether as many went as came.
+fn are_as_many(came: u64, gone: u64) -> bool
+    ensures told { result ≡ true → came ≡ gone }
+    ensures all { came ≡ gone → result ≡ true }
+{
+    came == gone
 }
 
 // So many slots, all of them free.
@@ -108,7 +122,8 @@ fn free_slots(alloc: Global, n: usize) -> Result<Vec<Option<Held>>, AllocError>
 
 // Whether all slots are free.
 fn are_free(slots: &[Option<Held>]) -> bool
-    ensures { result ≡ true → (p : ℕ) → slot_at slots.now p ≡ None }
+    ensures told { result ≡ true → (p : ℕ) → slot_at slots.now p ≡ None }
+    ensures all { ((p : ℕ) → slot_at slots.now p ≡ None) → result ≡ true }
 {
     slots.iter().all(|slot| slot.is_none())
 }

@@ -15,10 +15,11 @@ returns-clause-serves g c s kept =
         turns = all.3;
         serves = one.2;
         counted = all.2.0;
-        all = λ whole. c.have_come-have_all_come.ensures ((c.are_all.ensures whole).1);
+        all = λ whole. c.have_come-have_all_come.ensures.told ((c.are_all.ensures.each whole).0);
         left = λ whole. (
-          sym all.2.1 ∙ sym (c.serve_crowd-faulty.ensures.over ((c.are_all.ensures whole).0)) ∙ all.2.0,
-          c.are_free.ensures ((c.are_all.ensures whole).2),
+          sym all.2.1 ∙ sym (c.are_as_many-have_all_gone.ensures.told ((c.are_all.ensures.each whole).1)) ∙ all.2.0,
+          c.are_free.ensures.told ((c.are_all.ensures.each whole).2),
         );
+        whole = λ come went free. c.are_all.ensures.all (c.have_come-have_all_come.ensures.all come) (c.are_as_many-have_all_gone.ensures.all (all.2.0 ∙ sym went ∙ sym all.2.1)) (c.are_free.ensures.all free);
       },
     )
