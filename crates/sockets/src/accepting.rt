@@ -3,7 +3,7 @@ use crate::book::Book;
 use crate::door::Call;
 use crate::held::{Held, seat_at};
 use crate::peer::{Peer, Phase};
-use crate::stages::{Stage, Step, Task};
+use crate::stages::{Step, Task};
 use crate::tally::{Deed, Ends};
 use mio::unix::SourceFd;
 use mio::{Interest, Token};
@@ -28,12 +28,10 @@ impl<R: time::Clock> Book<'_, R> {
         }
     }
 
-    // The connection that is silent longest goes, if one is. It is the last thing of the round: what came meanwhile of others is
-    // taken up before one more goes.
+    // The connection that is silent longest goes, if one is.
     fn make_way(&mut self) -> Option<Step> {
         let index = self.most_silent()?;
         let deed = self.release(index)?;
-        self.stage = Stage::Rooms;
         Some(Step::Go(Some(Task { index, deed })))
     }
 

@@ -26,11 +26,12 @@ impl<R: time::Clock> Book<'_, R> {
         }
     }
 
-    /// The connection that is silent longest between two messages, if one is.
+    /// The connection that is silent longest between two messages, if one is. One that came since the last wait is none yet: what
+    /// it sent may be there, and was not told.
     pub(crate) fn most_silent(&self) -> Option<usize> {
         let mut oldest: Option<Lasting> = None;
         'slots: for (index, peer) in self.peers.iter().enumerate() {
-            if peer.phase == Phase::Silent && !peer.is_ready {
+            if peer.phase == Phase::Silent && !peer.is_ready && peer.since < self.now {
                 oldest = Some(older(oldest, index, peer.since));
             }
         }
