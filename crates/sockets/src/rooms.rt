@@ -8,8 +8,8 @@ const MOST_AHEAD: usize = 67_108_864;
 /// How many bytes each connection may have ahead for itself. A message that takes no more waits for nobody.
 pub(crate) const OWN_ROOM: usize = 16_384;
 
-/// How many seconds shorter messages may be given room before the one that waits longest.
-const TURN_SECONDS: u64 = 5;
+/// How many seconds a message waits at the most while only shorter ones are given room.
+const SHORTER_SECONDS: u64 = 5;
 
 /// A slot that waits for room.
 #[derive(Clone, Copy, Debug)]
@@ -22,14 +22,16 @@ struct Waiting {
 
 /// Room for whole messages. A connection is given it before it reads the body, and keeps it until the message was served: so
 /// it never waits for more, and each that waits holds none. The shortest message is given room first, so that those who announce
-/// much and bring little hold nobody up; but one that has waited for five seconds comes before all others. Where nobody has room,
-/// the first one gets it, however much it asks for.
+/// much and bring little hold nobody up; but of two one is the first that waits, if it has waited for five seconds. Where nobody has
+/// room, the next one gets it, however much it asks for.
 #[derive(Drop)]
 pub(crate) struct Rooms {
     most: usize,
     given: usize,
     // The slots that wait, in the order in which they came.
     waiting: Vec<Waiting>,
+    // Whether the last one that was given room had it for its age.
+    was_old: bool,
 }
 
 impl Rooms {
@@ -39,6 +41,7 @@ impl Rooms {
             most: MOST_AHEAD.saturating_sub(connections.saturating_mul(OWN_ROOM)),
             given: 0,
             waiting: Vec::with_capacity(alloc, connections)?,
+            was_old: false,
         })
     }
 
@@ -69,23 +72,31 @@ impl Rooms {
 
     /// Gives room to the next slot that waits, if what it asks for is there: the slot, and how much it was given.
     pub(crate) fn serve(&mut self, now: Instant) -> Option<(usize, usize)> {
-        let at = self.next(now)?;
+        let is_old = self.is_old(now);
+        let at = if is_old { 0 } else { self.shortest()? };
         let Waiting { index, len, .. } = *self.waiting.get(at)?;
         if !self.has(len) {
             return None;
         }
         self.waiting.remove(at);
+        self.was_old = is_old;
         self.given = self.given.saturating_add(len);
         Some((index, len))
     }
 
-    // Which is next: the one that has waited too long, or the shortest.
-    fn next(&self, now: Instant) -> Option<usize> {
-        let first = self.waiting.first()?;
-        if now.duration_since(first.since) >= Duration::from_secs(TURN_SECONDS) {
-            return Some(0);
+    // Whether the next one is the first that waits, for its age.
+    fn is_old(&self, now: Instant) -> bool {
+        match self.waiting.first() {
+            Some(first) if !self.was_old => {
+                now.duration_since(first.since) >= Duration::from_secs(SHORTER_SECONDS)
+            }
+            _ => false,
         }
-        let mut least = first.len;
+    }
+
+    // The place of the shortest that waits, of equal ones the first.
+    fn shortest(&self) -> Option<usize> {
+        let mut least = self.waiting.first()?.len;
         let mut found = 0;
         'waiting: for (at, one) in self.waiting.iter().enumerate() {
             if one.len < least {
