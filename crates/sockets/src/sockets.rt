@@ -22,8 +22,6 @@ pub(crate) struct Sockets<'a, R> {
     pub(crate) tally: Tally,
     // How many turns it may give still.
     turns: u64,
-    /// Whether all that came have gone, and none is to come any more.
-    pub(crate) is_whole: bool,
     ghost few: { turns < 18446744073709551616 },
 }
 
@@ -56,14 +54,11 @@ impl<'a, R: Net + time::Clock> Sockets<'a, R> {
             book: Book::new(rt, alloc, listener, limits)?,
             tally: Tally::new(),
             turns: u64::MAX,
-            is_whole: false,
         })
     }
 }
 
 impl<R: time::Clock> Sockets<'_, R> {
-    ghost use Rattle.sockets.specs.Gone.{IsOver};
-
     /// How many connections could not be accepted.
     pub(crate) fn refused(&self) -> u64 {
         self.book.door.refused
@@ -98,7 +93,6 @@ impl<R: time::Clock> Sockets<'_, R> {
         ensures moves { Moves ⟦<Gathered<TcpStream> as Read>⟧.remaining
             ⟦<Outbox<TcpStream> as Write>⟧.contents self.old.tally self.new.tally slots.old slots.new }
         ensures turns { self.new.turns ≡ self.old.turns }
-        ensures over { result ≡ Next.Over → IsOver self.new }
     {
         if let Some(task) = task {
             return Next::Go(self.work(slots, task));
@@ -107,10 +101,7 @@ impl<R: time::Clock> Sockets<'_, R> {
             Step::Go(task) => Next::Go(task),
             Step::Open(ends) => Next::Go(self.open(slots, ends)),
             Step::Turn(due) => Next::Turn(due),
-            Step::Over => {
-                self.is_whole = self.tally.came == self.tally.gone;
-                Next::Over
-            }
+            Step::Over => Next::Over,
         }
     }
 }
@@ -129,12 +120,11 @@ fn is_open_at(slots: &[Option<Held>], index: usize) -> bool
 }
 
 impl<R: time::Clock> Crowd<Gathered<TcpStream>, Outbox<TcpStream>> for Sockets<'_, R> {
-    ghost use Rattle.std.specs.Prelude.{◌≡◌, length};
-    ghost use Rattle.sockets.specs.Gone.{IsOver};
+    ghost use Rattle.std.specs.Prelude.{◌≡◌, length, ⊤};
 
     ghost met = { λ s came gone. (s.tally.came ≡ length came) × (s.tally.gone ≡ length gone) };
 
-    ghost over = { IsOver };
+    ghost over = { λ s. ⊤ };
 
     ghost turns = { λ s. s.turns };
 
@@ -153,7 +143,6 @@ impl<R: time::Clock> Crowd<Gathered<TcpStream>, Outbox<TcpStream>> for Sockets<'
                 Next::Over => return None,
             }
         }
-        self.is_whole = false;
         None
     }
 }
