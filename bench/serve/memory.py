@@ -9,6 +9,7 @@ from servers import KIB, MOST, ROWS, Drop, Row
 
 UPLOADS = 100  # of a kind
 ON_EACH = 10  # fetches on a connection
+MOST_AT_ONCE = 10**5  # fetches of one run of the client: more may take longer than a run may
 
 
 def memory_of(pid, name="VmRSS"):
@@ -22,8 +23,9 @@ def fetches_rows(server, folder, client):
     row, done = dataclasses.replace(ROWS[1], new=ON_EACH), 0
     with serving(server, row, folder, "") as (pid, port, file):
         for requests in [10**4, 10**5, 10**6]:
-            by_client(client, row, file, port, requests - done)
-            done = requests
+            while done < requests:
+                by_client(client, row, file, port, many := min(MOST_AT_ONCE, requests - done))
+                done += many
             yield requests, requests // ON_EACH, memory_of(pid)
 
 
