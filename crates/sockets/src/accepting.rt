@@ -1,21 +1,21 @@
 //! Connections that come.
 use crate::book::Book;
 use crate::door::Call;
-use crate::held::{Held, seat_at};
+use crate::held::Held;
 use crate::peer::{Peer, Phase};
+use crate::socket::Socket;
 use crate::stages::{Step, Task};
-use crate::tally::{Deed, Ends};
-use mio::unix::SourceFd;
-use mio::{Interest, Token};
-use std::io::ErrorKind;
-use std::net::TcpStream;
-use std::os::fd::AsRawFd;
+use crate::tally::Ends;
+use std::net::{Net, OpenStream};
 use std::{io, time};
 
-impl<R: time::Clock> Book<'_, R> {
+impl<R: Net + time::Clock> Book<'_, R>
+where
+    R::Stream: Socket,
+{
     /// Accepts what comes, if something may: it goes on to a slot that is free, or the connection that is silent longest goes.
     /// None where nobody comes now.
-    pub(crate) fn accept(&mut self) -> Option<Step> {
+    pub(crate) fn accept(&mut self) -> Option<Step<R::Stream>> {
         match self.door.call(self.now) {
             Call::Came(stream) if self.taken < self.peers.len() => self.let_in(stream),
             Call::Came(stream) => {
@@ -29,7 +29,7 @@ impl<R: time::Clock> Book<'_, R> {
     }
 
     // The connection that is silent longest goes, if one is.
-    fn make_way(&mut self) -> Option<Step> {
+    fn make_way(&mut self) -> Option<Step<R::Stream>> {
         let index = self.most_silent()?;
         let deed = self.release(index)?;
         Some(Step::Go(Some(Task { index, deed })))
@@ -44,7 +44,7 @@ impl<R: time::Clock> Book<'_, R> {
     }
 
     // A connection is let in, if its socket can be set up.
-    fn let_in(&mut self, stream: TcpStream) -> Option<Step> {
+    fn let_in(&mut self, stream: R::Stream) -> Option<Step<R::Stream>> {
         match second_end(&stream) {
             Ok(writer) => Some(Step::Open(Ends {
                 reader: stream,
@@ -55,8 +55,13 @@ impl<R: time::Clock> Book<'_, R> {
         }
     }
 
-    /// A connection has come into this slot, or none was free for it.
-    pub(crate) fn opened(&mut self, slots: &[Option<Held>], slot: Option<usize>) -> Option<Task> {
+    /// A connection has come into this slot, or none was free for it. What is there is read at once: only one of which nothing is
+    /// may go for others.
+    pub(crate) fn opened(
+        &mut self,
+        slots: &[Option<Held<R::Stream>>],
+        slot: Option<usize>,
+    ) -> Option<Task> {
         let Some(index) = slot else {
             self.door.turn_away();
             return None;
@@ -67,27 +72,13 @@ impl<R: time::Clock> Book<'_, R> {
             peer.phase = Phase::Silent;
             peer.is_ready = true;
         }
-        let deed = self.attend(slots, index)?;
+        let deed = self.read(slots, index)?;
         Some(Task { index, deed })
-    }
-
-    // Has the socket of a new connection tell what can be read, and reads what is there: only one of which nothing is may go for
-    // others.
-    fn attend(&mut self, slots: &[Option<Held>], index: usize) -> Option<Deed> {
-        let fd = seat_at(slots, index)?.reader.inner.inner.as_raw_fd();
-        let registered = self
-            .poll
-            .registry()
-            .register(&mut SourceFd(&fd), Token(index), Interest::READABLE);
-        if registered.is_err() {
-            return self.give_up(slots, index, ErrorKind::Other);
-        }
-        self.read(slots, index)
     }
 }
 
 // The stream once more, for its answers. From now on its reads and writes do not wait, and its answers go out at once.
-fn second_end(stream: &TcpStream) -> io::Result<TcpStream> {
+fn second_end<S: OpenStream>(stream: &S) -> io::Result<S> {
     stream.set_nonblocking(true)?;
     stream.set_nodelay(true)?;
     stream.try_clone()

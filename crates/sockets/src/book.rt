@@ -5,17 +5,18 @@ use crate::peer::{Peer, Phase};
 use crate::rooms::Rooms;
 use crate::rounds::Rounds;
 use crate::serving::Limits;
+use crate::socket::Socket;
 use crate::stages::Stage;
 use crate::tally::Deed;
 use mio::event::Event;
 use mio::unix::SourceFd;
 use mio::{Events, Interest, Poll, Token};
-use std::alloc::Global;
+use std::alloc::{AllocError, Global};
 use std::io::ErrorKind;
-use std::net::{Net, TcpListener};
+use std::net::{Net, OpenListener};
 use std::os::fd::AsRawFd;
 use std::time::{Duration, Instant};
-use std::{io, time};
+use std::{io, mem, time};
 use wire::Room;
 
 /// The token of the listener. Every other one is the index of a slot.
@@ -26,7 +27,7 @@ pub(crate) const MOST_READ: usize = 65_536;
 
 /// What is kept beside the slots.
 #[derive(Drop)]
-pub(crate) struct Book<'a, R> {
+pub(crate) struct Book<'a, R: Net> {
     pub(crate) rt: &'a R,
     pub(crate) alloc: Global,
     pub(crate) patience: Option<Duration>,
@@ -41,7 +42,7 @@ pub(crate) struct Book<'a, R> {
     pub(crate) taken: usize,
     pub(crate) rounds: Rounds,
     pub(crate) rooms: Rooms,
-    pub(crate) door: Door<'a>,
+    pub(crate) door: Door<'a, R::Listener>,
     pub(crate) stage: Stage,
     /// The room for the next turn, if there is one.
     pub(crate) room: Option<Room>,
@@ -67,7 +68,7 @@ impl<'a, R: Net + time::Clock> Book<'a, R> {
     pub(crate) fn new(
         rt: &'a R,
         alloc: Global,
-        listener: &'a TcpListener,
+        listener: &'a R::Listener,
         limits: Limits,
     ) -> io::Result<Book<'a, R>> {
         let poll = Poll::new(rt)?;
@@ -102,7 +103,10 @@ impl<'a, R: Net + time::Clock> Book<'a, R> {
     }
 }
 
-impl<R: time::Clock> Book<'_, R> {
+impl<R: Net + time::Clock> Book<'_, R>
+where
+    R::Stream: Socket,
+{
     /// What the peer of the slot is at.
     pub(crate) fn phase(&self, index: usize) -> Phase {
         match self.peers.get(index) {
@@ -125,7 +129,7 @@ impl<R: time::Clock> Book<'_, R> {
         if self.phase(index) == Phase::Due {
             return None;
         }
-        match self.rounds.push(index) {
+        match self.push(index) {
             Ok(()) => {
                 self.enter(index, Phase::Due);
                 None
@@ -134,10 +138,22 @@ impl<R: time::Clock> Book<'_, R> {
         }
     }
 
+    // The slot has its turn in the next round. One that was just accepted has its first in this one.
+    fn push(&mut self, index: usize) -> Result<(), AllocError> {
+        let is_first = match self.peers.get_mut(index) {
+            Some(peer) => mem::take(&mut peer.is_new),
+            None => false,
+        };
+        if is_first && matches!(self.stage, Stage::Accept(_)) {
+            return self.rounds.push_now(index);
+        }
+        self.rounds.push(index)
+    }
+
     /// The connection fails so from now on: its turn tells it; or it goes, if its session has ended.
     pub(crate) fn give_up(
         &mut self,
-        slots: &[Option<Held>],
+        slots: &[Option<Held<R::Stream>>],
         index: usize,
         kind: ErrorKind,
     ) -> Option<Deed> {

@@ -2,8 +2,10 @@
 use crate::book::Book;
 use crate::held::{Held, waiting_len};
 use crate::peer::Phase;
+use crate::socket::Socket;
 use crate::tally::Deed;
 use std::io::ErrorKind;
+use std::net::Net;
 use std::time;
 use std::time::{Duration, Instant};
 
@@ -13,9 +15,16 @@ const SHORT_MILLIS: u64 = 1000;
 /// How many bytes of answers may wait together before one is cut off.
 const MOST_WAITING: usize = 268_435_456;
 
-impl<R: time::Clock> Book<'_, R> {
+impl<R: Net + time::Clock> Book<'_, R>
+where
+    R::Stream: Socket,
+{
     /// What becomes of the connection in the slot, if it is over its bound.
-    pub(crate) fn end_of_patience(&mut self, slots: &[Option<Held>], index: usize) -> Option<Deed> {
+    pub(crate) fn end_of_patience(
+        &mut self,
+        slots: &[Option<Held<R::Stream>>],
+        index: usize,
+    ) -> Option<Deed> {
         if !self.peers.get(index)?.is_over(self.patience, self.now) {
             return None;
         }
@@ -54,7 +63,7 @@ impl<R: time::Clock> Book<'_, R> {
     }
 
     /// Where more answers wait than there is memory for: the one of which nothing was taken for longest.
-    pub(crate) fn too_slow(&self, slots: &[Option<Held>]) -> Option<usize> {
+    pub(crate) fn too_slow(&self, slots: &[Option<Held<R::Stream>>]) -> Option<usize> {
         let mut waiting: usize = 0;
         let mut oldest: Option<Lasting> = None;
         'slots: for (index, peer) in self.peers.iter().enumerate() {

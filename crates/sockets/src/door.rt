@@ -1,7 +1,7 @@
 //! The listener, and how many of its connections are to come.
 use std::io;
 use std::io::ErrorKind;
-use std::net::{TcpListener, TcpStream};
+use std::net::OpenListener;
 use std::time::{Duration, Instant};
 
 /// How many milliseconds no connection is accepted once the system had no descriptor, if none is closed before.
@@ -12,9 +12,9 @@ const WANTS: [i32; 4] = [12, 23, 24, 105];
 
 /// What comes of asking for a connection.
 #[derive(Drop)]
-pub(crate) enum Call {
+pub(crate) enum Call<S> {
     /// It is there.
-    Came(TcpStream),
+    Came(S),
     /// It could not be accepted.
     Refused,
     /// It can't be accepted now: memory or descriptors are wanting.
@@ -25,8 +25,8 @@ pub(crate) enum Call {
 
 /// A listener whose connections are counted.
 #[derive(Drop)]
-pub(crate) struct Door<'a> {
-    listener: &'a TcpListener,
+pub(crate) struct Door<'a, L: OpenListener> {
+    listener: &'a L,
     /// How many are to be accepted still.
     to_come: u64,
     /// How many could not be accepted.
@@ -34,14 +34,14 @@ pub(crate) struct Door<'a> {
     // Whether connections may be there: an event comes once, and holds until an `accept` would wait.
     is_ready: bool,
     // One that was accepted, and for which there was no slot.
-    kept: Option<TcpStream>,
+    kept: Option<L::Stream>,
     // From when on none is accepted for want of descriptors.
     paused: Option<Instant>,
 }
 
-impl<'a> Door<'a> {
+impl<'a, L: OpenListener> Door<'a, L> {
     /// So many are to come.
-    pub(crate) fn new(listener: &'a TcpListener, connections: u64) -> Door<'a> {
+    pub(crate) fn new(listener: &'a L, connections: u64) -> Door<'a, L> {
         Door {
             listener,
             to_come: connections,
@@ -92,7 +92,7 @@ impl<'a> Door<'a> {
     }
 
     /// The next one, which may be the one that was kept.
-    pub(crate) fn call(&mut self, now: Instant) -> Call {
+    pub(crate) fn call(&mut self, now: Instant) -> Call<L::Stream> {
         if self.paused.is_some() {
             return Call::None;
         }
@@ -112,13 +112,13 @@ impl<'a> Door<'a> {
     }
 
     /// Keeps one for which there is no slot, until one is free.
-    pub(crate) fn keep(&mut self, stream: TcpStream) {
+    pub(crate) fn keep(&mut self, stream: L::Stream) {
         self.kept = Some(stream);
     }
 
     /// One that was accepted could not be set up for this error: it is kept for later where the error is a want that may end,
     /// and else counted as refused. Whether it is kept.
-    pub(crate) fn put_off(&mut self, stream: TcpStream, error: io::Error, now: Instant) -> bool {
+    pub(crate) fn put_off(&mut self, stream: L::Stream, error: io::Error, now: Instant) -> bool {
         let is_kept = is_want(error);
         if is_kept {
             self.kept = Some(stream);
@@ -135,7 +135,7 @@ impl<'a> Door<'a> {
     }
 
     // What an `accept` that failed so means.
-    fn miss(&mut self, error: io::Error, now: Instant) -> Call {
+    fn miss(&mut self, error: io::Error, now: Instant) -> Call<L::Stream> {
         if error.kind() == ErrorKind::WouldBlock {
             self.is_ready = false;
             return Call::None;

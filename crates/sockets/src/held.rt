@@ -1,13 +1,13 @@
 //! The connections in their slots, as the loop looks at them.
 use office::Seat;
-use std::net::TcpStream;
+use std::io::{Read, Write};
 use wire::{Gathered, Outbox};
 
 /// A connection in its slot.
-pub(crate) type Held = Seat<Gathered<TcpStream>, Outbox<TcpStream>>;
+pub(crate) type Held<S> = Seat<Gathered<S>, Outbox<S>>;
 
 /// The connection in the slot, if there is one.
-pub(crate) fn seat_at(slots: &[Option<Held>], index: usize) -> Option<&Held> {
+pub(crate) fn seat_at<S>(slots: &[Option<Held<S>>], index: usize) -> Option<&Held<S>> {
     match slots.get(index) {
         Some(Some(seat)) => Some(seat),
         _ => None,
@@ -15,7 +15,7 @@ pub(crate) fn seat_at(slots: &[Option<Held>], index: usize) -> Option<&Held> {
 }
 
 /// How many bytes are ahead of the connection in the slot.
-pub(crate) fn ahead_len(slots: &[Option<Held>], index: usize) -> usize {
+pub(crate) fn ahead_len<S: Read>(slots: &[Option<Held<S>>], index: usize) -> usize {
     match seat_at(slots, index) {
         Some(seat) => seat.reader.inner.ahead().len(),
         None => 0,
@@ -23,7 +23,7 @@ pub(crate) fn ahead_len(slots: &[Option<Held>], index: usize) -> usize {
 }
 
 /// How many bytes wait for its peer.
-pub(crate) fn waiting_len(slots: &[Option<Held>], index: usize) -> usize {
+pub(crate) fn waiting_len<S: Write>(slots: &[Option<Held<S>>], index: usize) -> usize {
     match seat_at(slots, index) {
         Some(seat) => seat.writer.inner.waiting().len(),
         None => 0,

@@ -3,9 +3,10 @@
 use crate::book::Book;
 use crate::held::{Held, seat_at};
 use crate::peer::Phase;
+use crate::socket::Socket;
 use crate::tally::Deed;
-use std::io::{ErrorKind, Read};
-use std::net::Shutdown;
+use std::io::ErrorKind;
+use std::net::{Net, OpenStream, Shutdown};
 use std::{io, time};
 
 /// How many bytes are thrown away at the most.
@@ -14,9 +15,16 @@ const LAST_BYTES: usize = 262_144;
 /// How many reads take them at the most, one after another.
 const LAST_READS: usize = 64;
 
-impl<R: time::Clock> Book<'_, R> {
+impl<R: Net + time::Clock> Book<'_, R>
+where
+    R::Stream: Socket,
+{
     /// Begins to leave a connection whose session has ended, and for which nothing waits.
-    pub(crate) fn leave(&mut self, slots: &[Option<Held>], index: usize) -> Option<Deed> {
+    pub(crate) fn leave(
+        &mut self,
+        slots: &[Option<Held<R::Stream>>],
+        index: usize,
+    ) -> Option<Deed> {
         let stream = &seat_at(slots, index)?.reader.inner.inner;
         if stream.shutdown(Shutdown::Write).is_err() {
             return self.release(index);
@@ -26,11 +34,17 @@ impl<R: time::Clock> Book<'_, R> {
     }
 
     /// Takes what the peer of a connection that is left still sends. At its end the connection goes.
-    pub(crate) fn throw_away(&mut self, slots: &[Option<Held>], index: usize) -> Option<Deed> {
+    pub(crate) fn throw_away(
+        &mut self,
+        slots: &[Option<Held<R::Stream>>],
+        index: usize,
+    ) -> Option<Deed> {
         'reads: for _ in 0..LAST_READS {
             match self.read_last(slots, index) {
                 Ok(n) if n > 0 && self.count_last(index, n) => {}
-                Err(error) if error.kind() == ErrorKind::WouldBlock => return None,
+                Err(error) if error.kind() == ErrorKind::WouldBlock => {
+                    return self.listen_to(slots, index);
+                }
                 Ok(_) | Err(_) => return self.release(index),
             }
         }
@@ -38,12 +52,9 @@ impl<R: time::Clock> Book<'_, R> {
     }
 
     // Reads once, and keeps nothing of it.
-    fn read_last(&mut self, slots: &[Option<Held>], index: usize) -> io::Result<usize> {
+    fn read_last(&mut self, slots: &[Option<Held<R::Stream>>], index: usize) -> io::Result<usize> {
         match seat_at(slots, index) {
-            Some(seat) => {
-                let mut stream = &seat.reader.inner.inner;
-                stream.read(&mut self.buf)
-            }
+            Some(seat) => seat.reader.inner.inner.throw_away(&mut self.buf),
             None => Ok(0),
         }
     }

@@ -13,8 +13,10 @@ mod rooms;
 mod rounds;
 mod sending;
 mod serving;
+mod socket;
 mod sockets;
 mod stages;
 mod tally;
 
 pub use serving::{Limits, Outcome, serve};
+pub use socket::Socket;

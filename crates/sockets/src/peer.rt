@@ -70,6 +70,10 @@ pub(crate) struct Peer {
     pub(crate) is_ready: bool,
     /// Whether the peer sends no more, or has failed. Behind what it sent is an end, which no event tells once more.
     pub(crate) is_closing: bool,
+    /// Whether its socket tells what can be read of it.
+    pub(crate) is_watched: bool,
+    /// Whether no turn of it was due yet.
+    pub(crate) is_new: bool,
     /// How many bytes of the common room it has.
     pub(crate) room: usize,
 }
@@ -83,6 +87,8 @@ impl Peer {
             heard: now,
             is_ready: false,
             is_closing: false,
+            is_watched: false,
+            is_new: true,
             room: 0,
         }
     }

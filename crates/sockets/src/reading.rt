@@ -3,19 +3,26 @@ use crate::book::{Book, MOST_READ};
 use crate::held::{Held, ahead_len, seat_at};
 use crate::peer::{BODY_STEP, Phase};
 use crate::rooms::OWN_ROOM;
+use crate::socket::Socket;
 use crate::tally::Deed;
 use std::alloc::AllocError;
 use std::io::ErrorKind;
+use std::net::Net;
 use std::time;
 use wire::{Gathering, message_len};
 
 /// How many bytes one read takes of a head. What is read behind the head is ahead for the messages that follow.
 const HEAD_READ: usize = 4096;
 
-impl<R: time::Clock> Book<'_, R> {
-    /// Reads ahead of the connection, if bytes may be there and a message of it can be read on.
-    pub(crate) fn read(&mut self, slots: &[Option<Held>], index: usize) -> Option<Deed> {
-        let size = self.read_size(slots, index)?;
+impl<R: Net + time::Clock> Book<'_, R>
+where
+    R::Stream: Socket,
+{
+    /// Reads ahead of the connection, if bytes may be there and a message of it can be read on; or else has its socket tell of them.
+    pub(crate) fn read(&mut self, slots: &[Option<Held<R::Stream>>], index: usize) -> Option<Deed> {
+        let Some(size) = self.read_size(slots, index) else {
+            return self.listen_to(slots, index);
+        };
         if self.reads == 0 {
             self.is_behind = true;
             return None;
@@ -25,7 +32,7 @@ impl<R: time::Clock> Book<'_, R> {
     }
 
     // How many bytes the next read takes at the most, if there may be one.
-    fn read_size(&self, slots: &[Option<Held>], index: usize) -> Option<usize> {
+    fn read_size(&self, slots: &[Option<Held<R::Stream>>], index: usize) -> Option<usize> {
         let peer = self.peers.get(index)?;
         if !peer.is_ready {
             return None;
@@ -42,7 +49,7 @@ impl<R: time::Clock> Book<'_, R> {
     /// A read ahead told this, and took as much as it might, or not.
     pub(crate) fn gathered(
         &mut self,
-        slots: &[Option<Held>],
+        slots: &[Option<Held<R::Stream>>],
         index: usize,
         outcome: Result<Gathering, AllocError>,
         is_full: bool,
@@ -75,7 +82,7 @@ impl<R: time::Clock> Book<'_, R> {
     }
 
     // What the bytes that came make due.
-    fn advance(&mut self, slots: &[Option<Held>], index: usize) -> Option<Deed> {
+    fn advance(&mut self, slots: &[Option<Held<R::Stream>>], index: usize) -> Option<Deed> {
         let ahead = ahead_len(slots, index);
         match self.phase(index) {
             Phase::Body { len, .. } if ahead >= len => return self.make_due(index),
@@ -89,7 +96,11 @@ impl<R: time::Clock> Book<'_, R> {
     }
 
     /// Judges what is ahead between two turns, nothing, a part of a message, or a whole one; and reads on where more is to come.
-    pub(crate) fn judge(&mut self, slots: &[Option<Held>], index: usize) -> Option<Deed> {
+    pub(crate) fn judge(
+        &mut self,
+        slots: &[Option<Held<R::Stream>>],
+        index: usize,
+    ) -> Option<Deed> {
         let ahead = seat_at(slots, index)?.reader.inner.ahead();
         match message_len(ahead) {
             _ if ahead.is_empty() => self.enter(index, Phase::Silent),
@@ -102,7 +113,12 @@ impl<R: time::Clock> Book<'_, R> {
     }
 
     // Room for a message is asked for.
-    fn ask_room(&mut self, slots: &[Option<Held>], index: usize, len: usize) -> Option<Deed> {
+    fn ask_room(
+        &mut self,
+        slots: &[Option<Held<R::Stream>>],
+        index: usize,
+        len: usize,
+    ) -> Option<Deed> {
         if len <= OWN_ROOM {
             return self.begin_body(slots, index, len);
         }
@@ -119,7 +135,7 @@ impl<R: time::Clock> Book<'_, R> {
     /// The body comes of a message that was given room.
     pub(crate) fn begin_large(
         &mut self,
-        slots: &[Option<Held>],
+        slots: &[Option<Held<R::Stream>>],
         index: usize,
         len: usize,
     ) -> Option<Deed> {
@@ -130,7 +146,12 @@ impl<R: time::Clock> Book<'_, R> {
     }
 
     // The body comes: memory is taken for what is not ahead.
-    fn begin_body(&mut self, slots: &[Option<Held>], index: usize, len: usize) -> Option<Deed> {
+    fn begin_body(
+        &mut self,
+        slots: &[Option<Held<R::Stream>>],
+        index: usize,
+        len: usize,
+    ) -> Option<Deed> {
         let mark = ahead_len(slots, index);
         self.enter(index, Phase::Body { len, mark });
         Some(Deed::Reserve(len.saturating_sub(mark)))
@@ -139,7 +160,7 @@ impl<R: time::Clock> Book<'_, R> {
     /// Memory for a body was taken, or refused.
     pub(crate) fn reserved(
         &mut self,
-        slots: &[Option<Held>],
+        slots: &[Option<Held<R::Stream>>],
         index: usize,
         outcome: Result<(), AllocError>,
     ) -> Option<Deed> {

@@ -29,6 +29,12 @@ impl Rounds {
         Ok(())
     }
 
+    /// A turn of the slot is due in this round still. The error is that memory was refused.
+    pub(crate) fn push_now(&mut self, index: usize) -> Result<(), AllocError> {
+        self.now.push(index)?;
+        Ok(())
+    }
+
     /// The next slot of this round, if one is left.
     pub(crate) fn pop(&mut self) -> Option<usize> {
         let index = *self.now.get(self.at)?;

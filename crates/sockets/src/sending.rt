@@ -2,20 +2,25 @@
 use crate::book::Book;
 use crate::held::{Held, ahead_len, seat_at, waiting_len};
 use crate::peer::Phase;
+use crate::socket::Socket;
 use crate::tally::Deed;
 use mio::unix::SourceFd;
 use mio::{Interest, Token};
+use office::SessionEnd;
 use std::io::ErrorKind;
-use std::net::Shutdown;
+use std::net::{Net, OpenStream, Shutdown};
 use std::os::fd::AsRawFd;
 use std::{io, time};
 use wire::{Room, Sending};
 
-impl<R: time::Clock> Book<'_, R> {
+impl<R: Net + time::Clock> Book<'_, R>
+where
+    R::Stream: Socket,
+{
     /// Its feed let go of this room. Behind a turn what was written is sent.
     pub(crate) fn settled(
         &mut self,
-        slots: &[Option<Held>],
+        slots: &[Option<Held<R::Stream>>],
         index: usize,
         room: Option<Room>,
     ) -> Option<Deed> {
@@ -23,7 +28,7 @@ impl<R: time::Clock> Book<'_, R> {
             self.room = Some(room);
         }
         if self.phase(index) != Phase::Due {
-            return None;
+            return self.listen_to(slots, index);
         }
         if ahead_len(slots, index) == 0 {
             self.give_room_back(index);
@@ -35,7 +40,7 @@ impl<R: time::Clock> Book<'_, R> {
     /// So far it was sent. Once all was, the connection goes on.
     pub(crate) fn sent(
         &mut self,
-        slots: &[Option<Held>],
+        slots: &[Option<Held<R::Stream>>],
         index: usize,
         sending: Sending,
     ) -> Option<Deed> {
@@ -47,7 +52,7 @@ impl<R: time::Clock> Book<'_, R> {
     }
 
     // An answer waits: it is sent on when the peer has taken some of it.
-    fn hold(&mut self, slots: &[Option<Held>], index: usize) -> Option<Deed> {
+    fn hold(&mut self, slots: &[Option<Held<R::Stream>>], index: usize) -> Option<Deed> {
         let waiting = waiting_len(slots, index);
         match self.phase(index) {
             Phase::Answer { mark } if waiting >= mark => return None,
@@ -66,7 +71,7 @@ impl<R: time::Clock> Book<'_, R> {
     }
 
     // No answer waits any more: the next message is read, or the connection is left.
-    fn go_on(&mut self, slots: &[Option<Held>], index: usize) -> Option<Deed> {
+    fn go_on(&mut self, slots: &[Option<Held<R::Stream>>], index: usize) -> Option<Deed> {
         if matches!(self.phase(index), Phase::Answer { .. }) {
             if self.watch(slots, index, false).is_err() {
                 return self.give_up(slots, index, ErrorKind::Other);
@@ -75,14 +80,31 @@ impl<R: time::Clock> Book<'_, R> {
         }
         match seat_at(slots, index)?.end() {
             None => self.judge(slots, index),
-            Some(end) if end.is_fault() => self.release(index),
+            Some(end) if end.is_fault() || is_heard_out(end) => self.release(index),
             Some(_) => self.leave(slots, index),
         }
     }
 
+    /// Has the socket tell what can be read, if it does not yet.
+    pub(crate) fn listen_to(
+        &mut self,
+        slots: &[Option<Held<R::Stream>>],
+        index: usize,
+    ) -> Option<Deed> {
+        if self.peers.get(index)?.is_watched || self.watch(slots, index, false).is_ok() {
+            return None;
+        }
+        self.give_up(slots, index, ErrorKind::Other)
+    }
+
     // Has the socket tell what can be read, and, if answers wait, whether it takes more.
-    fn watch(&self, slots: &[Option<Held>], index: usize, is_waiting: bool) -> io::Result<()> {
-        let Some(seat) = seat_at(slots, index) else {
+    fn watch(
+        &mut self,
+        slots: &[Option<Held<R::Stream>>],
+        index: usize,
+        is_waiting: bool,
+    ) -> io::Result<()> {
+        let (Some(seat), Some(peer)) = (seat_at(slots, index), self.peers.get_mut(index)) else {
             return Ok(());
         };
         let fd = seat.reader.inner.inner.as_raw_fd();
@@ -91,15 +113,23 @@ impl<R: time::Clock> Book<'_, R> {
         } else {
             Interest::READABLE
         };
-        self.poll
-            .registry()
-            .reregister(&mut SourceFd(&fd), Token(index), interests)
+        let registry = self.poll.registry();
+        if peer.is_watched {
+            return registry.reregister(&mut SourceFd(&fd), Token(index), interests);
+        }
+        peer.is_watched = true;
+        registry.register(&mut SourceFd(&fd), Token(index), interests)
     }
 
     /// Cuts a connection whose peer takes no answer: its writes fail from now on.
-    pub(crate) fn cut(&mut self, slots: &[Option<Held>], index: usize) -> Option<Deed> {
+    pub(crate) fn cut(&mut self, slots: &[Option<Held<R::Stream>>], index: usize) -> Option<Deed> {
         let stream = &seat_at(slots, index)?.reader.inner.inner;
         let _ = stream.shutdown(Shutdown::Both);
         Some(Deed::Send)
     }
+}
+
+// Whether all that its peer had to say was read, and so nothing is there that a close would throw away.
+fn is_heard_out(end: SessionEnd) -> bool {
+    matches!(end, SessionEnd::Ended | SessionEnd::Truncated)
 }

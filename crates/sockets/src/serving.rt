@@ -5,12 +5,13 @@ ghost use Rattle.office.specs.Premise.{StaysUnstaged};
 ghost use Rattle.sockets.specs.Accepting.{ServesMany};
 
 use crate::held::Held;
+use crate::socket::Socket;
 use crate::sockets::Sockets;
 use keeper::Keeper;
 use office::{Clock, Office};
 use std::alloc::{AllocError, Global};
 use std::io::{Read, Write};
-use std::net::{Net, TcpListener, TcpStream};
+use std::net::Net;
 use std::time::Duration;
 use std::{io, time};
 use wire::{Gathered, Outbox};
@@ -51,13 +52,15 @@ pub struct Outcome {
 pub fn serve<K: Keeper, C: Clock, R: Net + time::Clock>(
     rt: &R,
     office: &mut Office<K>,
-    listener: &TcpListener,
+    listener: &R::Listener,
     limits: Limits,
     clock: &mut C,
 ) -> io::Result<Outcome>
+where
+    R::Stream: Socket,
     ensures serves { IfOk result (λ outcome. ServesMany C.now_gives
-        ⟦<Gathered<TcpStream> as Read>⟧.remaining
-        ⟦<Outbox<TcpStream> as Write>⟧.contents clock.old clock.new
+        ⟦<Gathered<R::Stream> as Read>⟧.remaining
+        ⟦<Outbox<R::Stream> as Write>⟧.contents clock.old clock.new
         K.Keeper office.old.keeper office.new.keeper limits.connections outcome) }
     ensures nothing { IfErr result (λ e. (office.new ≡ office.old) × (clock.new ≡ clock.old)) }
     ensures honest { K.is_honest office.new.keeper → K.is_honest office.old.keeper }
@@ -110,7 +113,7 @@ fn are_as_many(came: u64, gone: u64) -> bool
 }
 
 // So many slots, all of them free.
-fn free_slots(alloc: Global, n: usize) -> Result<Vec<Option<Held>>, AllocError>
+fn free_slots<S: Drop>(alloc: Global, n: usize) -> Result<Vec<Option<Held<S>>>, AllocError>
     ensures { IfOk result (λ slots. (p : ℕ) → slot_at slots.items p ≡ None) }
 {
     let mut slots = Vec::with_capacity(alloc, n)?;
@@ -121,7 +124,7 @@ fn free_slots(alloc: Global, n: usize) -> Result<Vec<Option<Held>>, AllocError>
 }
 
 // Whether all slots are free.
-fn are_free(slots: &[Option<Held>]) -> bool
+fn are_free<S>(slots: &[Option<Held<S>>]) -> bool
     ensures told { result ≡ true → (p : ℕ) → slot_at slots.now p ≡ None }
     ensures all { ((p : ℕ) → slot_at slots.now p ≡ None) → result ≡ true }
 {

@@ -6,18 +6,19 @@ ghost use Rattle.sockets.specs.Moving.{Moves};
 use crate::book::Book;
 use crate::held::{Held, seat_at};
 use crate::serving::Limits;
+use crate::socket::Socket;
 use crate::stages::{Step, Task};
 use crate::tally::{Ends, Tally};
 use office::{Crowd, Due};
 use std::alloc::Global;
 use std::io::{Read, Write};
-use std::net::{Net, TcpListener, TcpStream};
+use std::net::Net;
 use std::{io, time};
 use wire::{Gathered, Outbox, Room};
 
 /// The sockets of a listener's peers.
 #[derive(Drop)]
-pub(crate) struct Sockets<'a, R> {
+pub(crate) struct Sockets<'a, R: Net> {
     book: Book<'a, R>,
     pub(crate) tally: Tally,
     // How many turns it may give still.
@@ -47,7 +48,7 @@ impl<'a, R: Net + time::Clock> Sockets<'a, R> {
     pub(crate) fn new(
         rt: &'a R,
         alloc: Global,
-        listener: &'a TcpListener,
+        listener: &'a R::Listener,
         limits: Limits,
     ) -> io::Result<Sockets<'a, R>>
         ensures { IfOk result (λ sockets. (sockets.tally.came ≡ 0) × (sockets.tally.gone ≡ 0)) }
@@ -61,7 +62,10 @@ impl<'a, R: Net + time::Clock> Sockets<'a, R> {
     }
 }
 
-impl<R: time::Clock> Sockets<'_, R> {
+impl<R: Net + time::Clock> Sockets<'_, R>
+where
+    R::Stream: Socket,
+{
     ghost use Rattle.sockets.specs.Gone.{IsOver};
 
     /// How many connections could not be accepted.
@@ -70,9 +74,9 @@ impl<R: time::Clock> Sockets<'_, R> {
     }
 
     // Does this, and answers what is done next.
-    fn work(&mut self, slots: &mut [Option<Held>], task: Task) -> Option<Task>
-        ensures moves { Moves ⟦<Gathered<TcpStream> as Read>⟧.remaining
-            ⟦<Outbox<TcpStream> as Write>⟧.contents self.old.tally self.new.tally slots.old slots.new }
+    fn work(&mut self, slots: &mut [Option<Held<R::Stream>>], task: Task) -> Option<Task>
+        ensures moves { Moves ⟦<Gathered<R::Stream> as Read>⟧.remaining
+            ⟦<Outbox<R::Stream> as Write>⟧.contents self.old.tally self.new.tally slots.old slots.new }
         ensures turns { self.new.turns ≡ self.old.turns }
     {
         let index = task.index;
@@ -82,9 +86,9 @@ impl<R: time::Clock> Sockets<'_, R> {
     }
 
     // Puts a connection that was accepted into a free slot.
-    fn open(&mut self, slots: &mut [Option<Held>], ends: Ends) -> Option<Task>
-        ensures moves { Moves ⟦<Gathered<TcpStream> as Read>⟧.remaining
-            ⟦<Outbox<TcpStream> as Write>⟧.contents self.old.tally self.new.tally slots.old slots.new }
+    fn open(&mut self, slots: &mut [Option<Held<R::Stream>>], ends: Ends<R::Stream>) -> Option<Task>
+        ensures moves { Moves ⟦<Gathered<R::Stream> as Read>⟧.remaining
+            ⟦<Outbox<R::Stream> as Write>⟧.contents self.old.tally self.new.tally slots.old slots.new }
         ensures turns { self.new.turns ≡ self.old.turns }
     {
         let slot = self.tally.open(slots, self.book.alloc, ends);
@@ -92,9 +96,9 @@ impl<R: time::Clock> Sockets<'_, R> {
     }
 
     // Does the task, if there is one; or else goes on to what is next.
-    fn go(&mut self, slots: &mut [Option<Held>], task: Option<Task>) -> Next
-        ensures moves { Moves ⟦<Gathered<TcpStream> as Read>⟧.remaining
-            ⟦<Outbox<TcpStream> as Write>⟧.contents self.old.tally self.new.tally slots.old slots.new }
+    fn go(&mut self, slots: &mut [Option<Held<R::Stream>>], task: Option<Task>) -> Next
+        ensures moves { Moves ⟦<Gathered<R::Stream> as Read>⟧.remaining
+            ⟦<Outbox<R::Stream> as Write>⟧.contents self.old.tally self.new.tally slots.old slots.new }
         ensures turns { self.new.turns ≡ self.old.turns }
         ensures over { result ≡ Next.Over → IsOver self.new }
     {
@@ -114,7 +118,7 @@ impl<R: time::Clock> Sockets<'_, R> {
 }
 
 // Whether an open connection is in the slot.
-fn is_open_at(slots: &[Option<Held>], index: usize) -> bool
+fn is_open_at<S>(slots: &[Option<Held<S>>], index: usize) -> bool
     ensures { result ≡ true → IsOpenAt slots.now index }
 {
     if index >= slots.len() {
@@ -126,7 +130,10 @@ fn is_open_at(slots: &[Option<Held>], index: usize) -> bool
     }
 }
 
-impl<R: time::Clock> Crowd<Gathered<TcpStream>, Outbox<TcpStream>> for Sockets<'_, R> {
+impl<R: Net + time::Clock> Crowd<Gathered<R::Stream>, Outbox<R::Stream>> for Sockets<'_, R>
+where
+    R::Stream: Socket,
+{
     ghost use Rattle.std.specs.Prelude.{◌≡◌, length};
     ghost use Rattle.sockets.specs.Gone.{IsOver};
 
@@ -138,7 +145,7 @@ impl<R: time::Clock> Crowd<Gathered<TcpStream>, Outbox<TcpStream>> for Sockets<'
 
     ghost few = { λ s. s.few };
 
-    fn next(&mut self, slots: &mut [Option<Held>], spare: Option<Room>) -> Option<Due> {
+    fn next(&mut self, slots: &mut [Option<Held<R::Stream>>], spare: Option<Room>) -> Option<Due> {
         let mut task = self.book.behind_turn(spare);
         'steps: for _ in 0..u64::MAX {
             match self.go(slots, task) {

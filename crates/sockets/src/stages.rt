@@ -3,10 +3,12 @@
 use crate::book::{Book, LISTENER};
 use crate::held::{Held, seat_at};
 use crate::peer::Phase;
+use crate::socket::Socket;
 use crate::tally::{Deed, Ends, Report};
 use mio::event::Event;
 use office::Due;
 use std::io::ErrorKind;
+use std::net::Net;
 use std::time;
 use std::time::{Duration, Instant};
 use wire::Room;
@@ -54,18 +56,21 @@ impl Task {
 
 /// What is next.
 #[derive(Drop)]
-pub(crate) enum Step {
+pub(crate) enum Step<S> {
     /// This is done, if anything is.
     Go(Option<Task>),
     /// A connection comes.
-    Open(Ends),
+    Open(Ends<S>),
     /// A turn is due.
     Turn(Due),
     /// All have come and gone.
     Over,
 }
 
-impl<R: time::Clock> Book<'_, R> {
+impl<R: Net + time::Clock> Book<'_, R>
+where
+    R::Stream: Socket,
+{
     /// The turn before has left this room. What is done behind it, if there was one.
     pub(crate) fn behind_turn(&mut self, spare: Option<Room>) -> Option<Task> {
         if let Some(room) = spare {
@@ -77,7 +82,7 @@ impl<R: time::Clock> Book<'_, R> {
     }
 
     /// What is next, where nothing is left to be done.
-    pub(crate) fn step(&mut self, slots: &[Option<Held>]) -> Step {
+    pub(crate) fn step(&mut self, slots: &[Option<Held<R::Stream>>]) -> Step<R::Stream> {
         self.reads = MOST_READS;
         match self.stage {
             Stage::Turns => self.step_turns(),
@@ -90,15 +95,20 @@ impl<R: time::Clock> Book<'_, R> {
     }
 
     // The next turn of the round. Behind the last one it is waited for what the sockets tell.
-    fn step_turns(&mut self) -> Step {
-        let Some(index) = self.rounds.pop() else {
-            if self.taken == 0 && self.door.is_shut() {
-                return Step::Over;
-            }
-            self.wait();
-            self.stage = Stage::Events(0);
-            return Step::Go(None);
-        };
+    fn step_turns(&mut self) -> Step<R::Stream> {
+        if let Some(index) = self.rounds.pop() {
+            return self.turn(index);
+        }
+        if self.taken == 0 && self.door.is_shut() {
+            return Step::Over;
+        }
+        self.wait();
+        self.stage = Stage::Events(0);
+        Step::Go(None)
+    }
+
+    // The turn of a slot, if it is due still.
+    fn turn(&mut self, index: usize) -> Step<R::Stream> {
         if self.phase(index) != Phase::Due {
             return Step::Go(None);
         }
@@ -118,12 +128,12 @@ impl<R: time::Clock> Book<'_, R> {
     }
 
     // This is done to the connection, if anything is.
-    fn go(&self, index: usize, deed: Option<Deed>) -> Step {
+    fn go(&self, index: usize, deed: Option<Deed>) -> Step<R::Stream> {
         Step::Go(deed.map(|deed| Task { index, deed }))
     }
 
     // One of the events that the last wait told.
-    fn step_events(&mut self, slots: &[Option<Held>], at: usize) -> Step {
+    fn step_events(&mut self, slots: &[Option<Held<R::Stream>>], at: usize) -> Step<R::Stream> {
         let Some(event) = self.told(at) else {
             self.stage = Stage::Behind(0);
             return Step::Go(None);
@@ -144,7 +154,12 @@ impl<R: time::Clock> Book<'_, R> {
     }
 
     // Takes up what the socket of a slot told.
-    fn take_up(&mut self, slots: &[Option<Held>], index: usize, event: Event) -> Option<Deed> {
+    fn take_up(
+        &mut self,
+        slots: &[Option<Held<R::Stream>>],
+        index: usize,
+        event: Event,
+    ) -> Option<Deed> {
         let is_closing = event.is_read_closed() || event.is_error();
         if let Some(peer) = self.peers.get_mut(index) {
             peer.is_ready = peer.is_ready || is_closing || event.is_readable();
@@ -160,7 +175,7 @@ impl<R: time::Clock> Book<'_, R> {
     }
 
     // A connection that may have been left to be read on.
-    fn step_behind(&mut self, slots: &[Option<Held>], at: usize) -> Step {
+    fn step_behind(&mut self, slots: &[Option<Held<R::Stream>>], at: usize) -> Step<R::Stream> {
         if at == 0 && !self.is_behind || at >= self.peers.len() {
             self.stage = self.look_or_not();
             return Step::Go(None);
@@ -184,7 +199,7 @@ impl<R: time::Clock> Book<'_, R> {
     }
 
     // A connection that may be over its bound.
-    fn step_look(&mut self, slots: &[Option<Held>], at: usize) -> Step {
+    fn step_look(&mut self, slots: &[Option<Held<R::Stream>>], at: usize) -> Step<R::Stream> {
         if at >= self.peers.len() {
             self.stage = Stage::Accept(MOST_ACCEPTS);
             return Step::Go(None);
@@ -194,8 +209,11 @@ impl<R: time::Clock> Book<'_, R> {
         self.go(at, deed)
     }
 
-    // A connection that may come.
-    fn step_accept(&mut self, left: usize) -> Step {
+    // A connection that may come. One that came, and whose message was there, has its turn before.
+    fn step_accept(&mut self, left: usize) -> Step<R::Stream> {
+        if let Some(index) = self.rounds.pop() {
+            return self.turn(index);
+        }
         self.stage = match left.checked_sub(1) {
             Some(left) => Stage::Accept(left),
             None => Stage::Rooms,
@@ -210,7 +228,7 @@ impl<R: time::Clock> Book<'_, R> {
     }
 
     // Room for one that waits for it; or what is cut off for others. Behind the last one the next round begins.
-    fn step_rooms(&mut self, slots: &[Option<Held>]) -> Step {
+    fn step_rooms(&mut self, slots: &[Option<Held<R::Stream>>]) -> Step<R::Stream> {
         if self.is_laden {
             self.is_laden = false;
             if let Some(index) = self.too_slow(slots) {
@@ -229,7 +247,7 @@ impl<R: time::Clock> Book<'_, R> {
     }
 
     // Where one waits for room, a body that comes too slowly gives up its own.
-    fn make_room(&mut self, slots: &[Option<Held>]) -> Step {
+    fn make_room(&mut self, slots: &[Option<Held<R::Stream>>]) -> Step<R::Stream> {
         if !self.rooms.is_short() {
             return Step::Go(None);
         }
@@ -267,7 +285,7 @@ impl<R: time::Clock> Book<'_, R> {
     /// What is done next to the connection, behind this.
     pub(crate) fn told_of(
         &mut self,
-        slots: &[Option<Held>],
+        slots: &[Option<Held<R::Stream>>],
         index: usize,
         report: Report,
     ) -> Option<Deed> {

@@ -10,7 +10,6 @@ use office::{
 use std::alloc::{AllocError, Global};
 use std::io;
 use std::io::{ErrorKind, Read, Write};
-use std::net::TcpStream;
 use wire::{Gathered, Gathering, Outbox, Room, Sending};
 
 /// What is done to a connection.
@@ -56,9 +55,9 @@ pub(crate) enum Report {
 
 /// Both ends of an accepted connection.
 #[derive(Drop)]
-pub(crate) struct Ends {
-    pub(crate) reader: TcpStream,
-    pub(crate) writer: TcpStream,
+pub(crate) struct Ends<S> {
+    pub(crate) reader: S,
+    pub(crate) writer: S,
 }
 
 /// How many connections came into a slot, and how many went from one.
@@ -78,14 +77,14 @@ impl Tally {
     }
 
     /// Puts a connection into a free slot: its index, if one is free.
-    pub(crate) fn open(
+    pub(crate) fn open<S: Read + Write + Drop>(
         &mut self,
-        slots: &mut [Option<Held>],
+        slots: &mut [Option<Held<S>>],
         alloc: Global,
-        ends: Ends,
+        ends: Ends<S>,
     ) -> Option<usize>
-        ensures moves { Moves ⟦<Gathered<TcpStream> as Read>⟧.remaining
-            ⟦<Outbox<TcpStream> as Write>⟧.contents self.old self.new slots.old slots.new }
+        ensures moves { Moves ⟦<Gathered<S> as Read>⟧.remaining
+            ⟦<Outbox<S> as Write>⟧.contents self.old self.new slots.old slots.new }
     {
         let came = self.came.checked_add(1)?;
         let reader = Gathered::new(alloc, ends.reader);
@@ -100,10 +99,10 @@ impl Tally {
     }
 
     /// Makes the slot free.
-    fn free(&mut self, slots: &mut [Option<Held>], index: usize) -> Report
+    fn free<S: Read + Write>(&mut self, slots: &mut [Option<Held<S>>], index: usize) -> Report
         requires { index < length slots.old }
-        ensures moves { Moves ⟦<Gathered<TcpStream> as Read>⟧.remaining
-            ⟦<Outbox<TcpStream> as Write>⟧.contents self.old self.new slots.old slots.new }
+        ensures moves { Moves ⟦<Gathered<S> as Read>⟧.remaining
+            ⟦<Outbox<S> as Write>⟧.contents self.old self.new slots.old slots.new }
     {
         let Some(gone) = self.gone.checked_add(1) else {
             return Report::Nothing;
@@ -115,15 +114,15 @@ impl Tally {
     }
 
     /// Does this to the connection in the slot. What is read comes by way of the buffer.
-    pub(crate) fn work(
+    pub(crate) fn work<S: Read + Write>(
         &mut self,
-        slots: &mut [Option<Held>],
+        slots: &mut [Option<Held<S>>],
         index: usize,
         deed: Deed,
         buf: &mut [u8],
     ) -> Report
-        ensures moves { Moves ⟦<Gathered<TcpStream> as Read>⟧.remaining
-            ⟦<Outbox<TcpStream> as Write>⟧.contents self.old self.new slots.old slots.new }
+        ensures moves { Moves ⟦<Gathered<S> as Read>⟧.remaining
+            ⟦<Outbox<S> as Write>⟧.contents self.old self.new slots.old slots.new }
     {
         if index >= slots.len() {
             return Report::Nothing;
@@ -143,10 +142,15 @@ impl Tally {
 }
 
 // Reads once ahead of the connection in the slot, so many bytes at the most.
-fn gather(slots: &mut [Option<Held>], index: usize, size: usize, buf: &mut [u8]) -> Report
+fn gather<S: Read + Write>(
+    slots: &mut [Option<Held<S>>],
+    index: usize,
+    size: usize,
+    buf: &mut [u8],
+) -> Report
     requires { index < length slots.old }
-    ensures changes { Changes ⟦<Gathered<TcpStream> as Read>⟧.remaining
-        ⟦<Outbox<TcpStream> as Write>⟧.contents slots.old slots.new [] [] }
+    ensures changes { Changes ⟦<Gathered<S> as Read>⟧.remaining
+        ⟦<Outbox<S> as Write>⟧.contents slots.old slots.new [] [] }
 {
     let before = ahead_len(slots, index);
     let size = size.min(buf.len());
