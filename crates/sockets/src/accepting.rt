@@ -1,25 +1,21 @@
 //! Connections that come.
 use crate::book::Book;
 use crate::door::Call;
+use crate::ends::{Guest, Unready};
 use crate::held::Held;
 use crate::peer::{Peer, Phase};
-use crate::socket::Socket;
+use crate::socket::Listener;
 use crate::stages::{Step, Task};
-use crate::tally::Ends;
-use std::net::{Net, OpenStream};
-use std::{io, time};
+use std::time;
 
-impl<R: Net + time::Clock> Book<'_, R>
-where
-    R::Stream: Socket,
-{
+impl<R: time::Clock, L: Listener> Book<'_, R, L> {
     /// Accepts what comes, if something may: it goes on to a slot that is free, or the connection that is silent longest goes.
     /// None where nobody comes now.
-    pub(crate) fn accept(&mut self) -> Option<Step<R::Stream>> {
+    pub(crate) fn accept(&mut self) -> Option<Step<L>> {
         match self.door.call(self.now) {
-            Call::Came(stream) if self.taken < self.peers.len() => self.let_in(stream),
-            Call::Came(stream) => {
-                self.door.keep(stream);
+            Call::Came(guest) if self.taken < self.peers.len() => self.let_in(guest),
+            Call::Came(guest) => {
+                self.door.keep(guest);
                 self.make_way()
             }
             Call::Refused => Some(Step::Go(None)),
@@ -29,7 +25,7 @@ where
     }
 
     // The connection that is silent longest goes, if one is.
-    fn make_way(&mut self) -> Option<Step<R::Stream>> {
+    fn make_way(&mut self) -> Option<Step<L>> {
         let index = self.most_silent()?;
         let deed = self.release(index)?;
         Some(Step::Go(Some(Task { index, deed })))
@@ -44,22 +40,26 @@ where
     }
 
     // A connection is let in, if its socket can be set up.
-    fn let_in(&mut self, stream: R::Stream) -> Option<Step<R::Stream>> {
-        match second_end(&stream) {
-            Ok(writer) => Some(Step::Open(Ends {
-                reader: stream,
-                writer,
-            })),
-            Err(error) if self.door.put_off(stream, error, self.now) => self.make_way(),
-            Err(_) => Some(Step::Go(None)),
+    fn let_in(&mut self, guest: Guest<L>) -> Option<Step<L>> {
+        match guest.open() {
+            Ok(ends) => Some(Step::Open(ends)),
+            Err(unready) => self.put_off(unready),
         }
+    }
+
+    // It is let in later, if that is for a want that may end; else it is refused.
+    fn put_off(&mut self, unready: Unready<L>) -> Option<Step<L>> {
+        if self.door.put_off(unready, self.now) {
+            return self.make_way();
+        }
+        Some(Step::Go(None))
     }
 
     /// A connection has come into this slot, or none was free for it. What is there is read at once: only one of which nothing is
     /// may go for others.
     pub(crate) fn opened(
         &mut self,
-        slots: &[Option<Held<R::Stream>>],
+        slots: &[Option<Held<L::Stream>>],
         slot: Option<usize>,
     ) -> Option<Task> {
         let Some(index) = slot else {
@@ -75,11 +75,4 @@ where
         let deed = self.read(slots, index)?;
         Some(Task { index, deed })
     }
-}
-
-// The stream once more, for its answers. From now on its reads and writes do not wait, and its answers go out at once.
-fn second_end<S: OpenStream>(stream: &S) -> io::Result<S> {
-    stream.set_nonblocking(true)?;
-    stream.set_nodelay(true)?;
-    stream.try_clone()
 }

@@ -5,7 +5,7 @@ use crate::peer::{Peer, Phase};
 use crate::rooms::Rooms;
 use crate::rounds::Rounds;
 use crate::serving::Limits;
-use crate::socket::Socket;
+use crate::socket::Listener;
 use crate::stages::Stage;
 use crate::tally::Deed;
 use mio::event::Event;
@@ -13,7 +13,7 @@ use mio::unix::SourceFd;
 use mio::{Events, Interest, Poll, Token};
 use std::alloc::{AllocError, Global};
 use std::io::ErrorKind;
-use std::net::{Net, OpenListener};
+use std::net::Net;
 use std::os::fd::AsRawFd;
 use std::time::{Duration, Instant};
 use std::{io, mem, time};
@@ -27,7 +27,7 @@ pub(crate) const MOST_READ: usize = 65_536;
 
 /// What is kept beside the slots.
 #[derive(Drop)]
-pub(crate) struct Book<'a, R: Net> {
+pub(crate) struct Book<'a, R, L: Listener> {
     pub(crate) rt: &'a R,
     pub(crate) alloc: Global,
     pub(crate) patience: Option<Duration>,
@@ -42,7 +42,7 @@ pub(crate) struct Book<'a, R: Net> {
     pub(crate) taken: usize,
     pub(crate) rounds: Rounds,
     pub(crate) rooms: Rooms,
-    pub(crate) door: Door<'a, R::Listener>,
+    pub(crate) door: Door<'a, L>,
     pub(crate) stage: Stage,
     /// The room for the next turn, if there is one.
     pub(crate) room: Option<Room>,
@@ -59,7 +59,7 @@ pub(crate) struct Book<'a, R: Net> {
     pub(crate) is_laden: bool,
 }
 
-impl<'a, R: Net + time::Clock> Book<'a, R> {
+impl<'a, R: Net + time::Clock, L: Listener> Book<'a, R, L> {
     /// No connection has come.
     ///
     /// # Errors
@@ -68,9 +68,9 @@ impl<'a, R: Net + time::Clock> Book<'a, R> {
     pub(crate) fn new(
         rt: &'a R,
         alloc: Global,
-        listener: &'a R::Listener,
+        listener: &'a L,
         limits: Limits,
-    ) -> io::Result<Book<'a, R>> {
+    ) -> io::Result<Book<'a, R, L>> {
         let poll = Poll::new(rt)?;
         listener.set_nonblocking(true)?;
         let fd = listener.as_raw_fd();
@@ -103,10 +103,7 @@ impl<'a, R: Net + time::Clock> Book<'a, R> {
     }
 }
 
-impl<R: Net + time::Clock> Book<'_, R>
-where
-    R::Stream: Socket,
-{
+impl<R: time::Clock, L: Listener> Book<'_, R, L> {
     /// What the peer of the slot is at.
     pub(crate) fn phase(&self, index: usize) -> Phase {
         match self.peers.get(index) {
@@ -153,7 +150,7 @@ where
     /// The connection fails so from now on: its turn tells it; or it goes, if its session has ended.
     pub(crate) fn give_up(
         &mut self,
-        slots: &[Option<Held<R::Stream>>],
+        slots: &[Option<Held<L::Stream>>],
         index: usize,
         kind: ErrorKind,
     ) -> Option<Deed> {

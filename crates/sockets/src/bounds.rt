@@ -2,10 +2,9 @@
 use crate::book::Book;
 use crate::held::{Held, waiting_len};
 use crate::peer::Phase;
-use crate::socket::Socket;
+use crate::socket::Listener;
 use crate::tally::Deed;
 use std::io::ErrorKind;
-use std::net::Net;
 use std::time;
 use std::time::{Duration, Instant};
 
@@ -15,14 +14,11 @@ const SHORT_MILLIS: u64 = 1000;
 /// How many bytes of answers may wait together before one is cut off.
 const MOST_WAITING: usize = 268_435_456;
 
-impl<R: Net + time::Clock> Book<'_, R>
-where
-    R::Stream: Socket,
-{
+impl<R: time::Clock, L: Listener> Book<'_, R, L> {
     /// What becomes of the connection in the slot, if it is over its bound.
     pub(crate) fn end_of_patience(
         &mut self,
-        slots: &[Option<Held<R::Stream>>],
+        slots: &[Option<Held<L::Stream>>],
         index: usize,
     ) -> Option<Deed> {
         if !self.peers.get(index)?.is_over(self.patience, self.now) {
@@ -63,7 +59,7 @@ where
     }
 
     /// Where more answers wait than there is memory for: the one of which nothing was taken for longest.
-    pub(crate) fn too_slow(&self, slots: &[Option<Held<R::Stream>>]) -> Option<usize> {
+    pub(crate) fn too_slow(&self, slots: &[Option<Held<L::Stream>>]) -> Option<usize> {
         let mut waiting: usize = 0;
         let mut oldest: Option<Lasting> = None;
         'slots: for (index, peer) in self.peers.iter().enumerate() {

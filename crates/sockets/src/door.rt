@@ -1,7 +1,8 @@
 //! The listener, and how many of its connections are to come.
+use crate::ends::{Guest, Unready};
+use crate::socket::Listener;
 use std::io;
 use std::io::ErrorKind;
-use std::net::OpenListener;
 use std::time::{Duration, Instant};
 
 /// How many milliseconds no connection is accepted once the system had no descriptor, if none is closed before.
@@ -12,9 +13,9 @@ const WANTS: [i32; 4] = [12, 23, 24, 105];
 
 /// What comes of asking for a connection.
 #[derive(Drop)]
-pub(crate) enum Call<S> {
+pub(crate) enum Call<L: Listener> {
     /// It is there.
-    Came(S),
+    Came(Guest<L>),
     /// It could not be accepted.
     Refused,
     /// It can't be accepted now: memory or descriptors are wanting.
@@ -25,7 +26,7 @@ pub(crate) enum Call<S> {
 
 /// A listener whose connections are counted.
 #[derive(Drop)]
-pub(crate) struct Door<'a, L: OpenListener> {
+pub(crate) struct Door<'a, L: Listener> {
     listener: &'a L,
     /// How many are to be accepted still.
     to_come: u64,
@@ -34,12 +35,12 @@ pub(crate) struct Door<'a, L: OpenListener> {
     // Whether connections may be there: an event comes once, and holds until an `accept` would wait.
     is_ready: bool,
     // One that was accepted, and for which there was no slot.
-    kept: Option<L::Stream>,
+    kept: Option<Guest<L>>,
     // From when on none is accepted for want of descriptors.
     paused: Option<Instant>,
 }
 
-impl<'a, L: OpenListener> Door<'a, L> {
+impl<'a, L: Listener> Door<'a, L> {
     /// So many are to come.
     pub(crate) fn new(listener: &'a L, connections: u64) -> Door<'a, L> {
         Door {
@@ -92,36 +93,36 @@ impl<'a, L: OpenListener> Door<'a, L> {
     }
 
     /// The next one, which may be the one that was kept.
-    pub(crate) fn call(&mut self, now: Instant) -> Call<L::Stream> {
+    pub(crate) fn call(&mut self, now: Instant) -> Call<L> {
         if self.paused.is_some() {
             return Call::None;
         }
-        if let Some(stream) = self.kept.take() {
-            return Call::Came(stream);
+        if let Some(guest) = self.kept.take() {
+            return Call::Came(guest);
         }
         if !self.is_open() {
             return Call::None;
         }
-        match self.listener.accept() {
-            Ok((stream, _)) => {
+        match Guest::next(self.listener) {
+            Ok(guest) => {
                 self.to_come = self.to_come.saturating_sub(1);
-                Call::Came(stream)
+                Call::Came(guest)
             }
             Err(error) => self.miss(error, now),
         }
     }
 
     /// Keeps one for which there is no slot, until one is free.
-    pub(crate) fn keep(&mut self, stream: L::Stream) {
-        self.kept = Some(stream);
+    pub(crate) fn keep(&mut self, guest: Guest<L>) {
+        self.kept = Some(guest);
     }
 
-    /// One that was accepted could not be set up for this error: it is kept for later where the error is a want that may end,
+    /// One that was accepted could not be set up for its error: it is kept for later where the error is a want that may end,
     /// and else counted as refused. Whether it is kept.
-    pub(crate) fn put_off(&mut self, stream: L::Stream, error: io::Error, now: Instant) -> bool {
-        let is_kept = is_want(error);
+    pub(crate) fn put_off(&mut self, unready: Unready<L>, now: Instant) -> bool {
+        let is_kept = is_want(unready.error);
         if is_kept {
-            self.kept = Some(stream);
+            self.kept = Some(unready.guest);
             self.paused = Some(now);
         } else {
             self.turn_away();
@@ -135,7 +136,7 @@ impl<'a, L: OpenListener> Door<'a, L> {
     }
 
     // What an `accept` that failed so means.
-    fn miss(&mut self, error: io::Error, now: Instant) -> Call<L::Stream> {
+    fn miss(&mut self, error: io::Error, now: Instant) -> Call<L> {
         if error.kind() == ErrorKind::WouldBlock {
             self.is_ready = false;
             return Call::None;

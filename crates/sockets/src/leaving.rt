@@ -3,10 +3,10 @@
 use crate::book::Book;
 use crate::held::{Held, seat_at};
 use crate::peer::Phase;
-use crate::socket::Socket;
+use crate::socket::{Listener, Socket};
 use crate::tally::Deed;
 use std::io::ErrorKind;
-use std::net::{Net, OpenStream, Shutdown};
+use std::net::{OpenStream, Shutdown};
 use std::{io, time};
 
 /// How many bytes are thrown away at the most.
@@ -15,14 +15,11 @@ const LAST_BYTES: usize = 262_144;
 /// How many reads take them at the most, one after another.
 const LAST_READS: usize = 64;
 
-impl<R: Net + time::Clock> Book<'_, R>
-where
-    R::Stream: Socket,
-{
+impl<R: time::Clock, L: Listener> Book<'_, R, L> {
     /// Begins to leave a connection whose session has ended, and for which nothing waits.
     pub(crate) fn leave(
         &mut self,
-        slots: &[Option<Held<R::Stream>>],
+        slots: &[Option<Held<L::Stream>>],
         index: usize,
     ) -> Option<Deed> {
         let stream = &seat_at(slots, index)?.reader.inner.inner;
@@ -36,7 +33,7 @@ where
     /// Takes what the peer of a connection that is left still sends. At its end the connection goes.
     pub(crate) fn throw_away(
         &mut self,
-        slots: &[Option<Held<R::Stream>>],
+        slots: &[Option<Held<L::Stream>>],
         index: usize,
     ) -> Option<Deed> {
         'reads: for _ in 0..LAST_READS {
@@ -52,7 +49,7 @@ where
     }
 
     // Reads once, and keeps nothing of it.
-    fn read_last(&mut self, slots: &[Option<Held<R::Stream>>], index: usize) -> io::Result<usize> {
+    fn read_last(&mut self, slots: &[Option<Held<L::Stream>>], index: usize) -> io::Result<usize> {
         match seat_at(slots, index) {
             Some(seat) => seat.reader.inner.inner.throw_away(&mut self.buf),
             None => Ok(0),

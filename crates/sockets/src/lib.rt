@@ -5,6 +5,7 @@ mod accepting;
 mod book;
 mod bounds;
 mod door;
+mod ends;
 mod held;
 mod leaving;
 mod peer;
@@ -19,4 +20,4 @@ mod stages;
 mod tally;
 
 pub use serving::{Limits, Outcome, serve};
-pub use socket::Socket;
+pub use socket::{Listener, Socket};

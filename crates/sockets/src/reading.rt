@@ -3,23 +3,19 @@ use crate::book::{Book, MOST_READ};
 use crate::held::{Held, ahead_len, seat_at};
 use crate::peer::{BODY_STEP, Phase};
 use crate::rooms::OWN_ROOM;
-use crate::socket::Socket;
+use crate::socket::Listener;
 use crate::tally::Deed;
 use std::alloc::AllocError;
 use std::io::ErrorKind;
-use std::net::Net;
 use std::time;
 use wire::{Gathering, message_len};
 
 /// How many bytes one read takes of a head. What is read behind the head is ahead for the messages that follow.
 const HEAD_READ: usize = 4096;
 
-impl<R: Net + time::Clock> Book<'_, R>
-where
-    R::Stream: Socket,
-{
-    /// Reads ahead of the connection, if bytes may be there and a message of it can be read on; or else has its socket tell of them.
-    pub(crate) fn read(&mut self, slots: &[Option<Held<R::Stream>>], index: usize) -> Option<Deed> {
+impl<R: time::Clock, L: Listener> Book<'_, R, L> {
+    /// Reads ahead of the connection, if bytes may be there and a message of it can be read on. Else its socket tells when they are.
+    pub(crate) fn read(&mut self, slots: &[Option<Held<L::Stream>>], index: usize) -> Option<Deed> {
         let Some(size) = self.read_size(slots, index) else {
             return self.listen_to(slots, index);
         };
@@ -32,7 +28,7 @@ where
     }
 
     // How many bytes the next read takes at the most, if there may be one.
-    fn read_size(&self, slots: &[Option<Held<R::Stream>>], index: usize) -> Option<usize> {
+    fn read_size(&self, slots: &[Option<Held<L::Stream>>], index: usize) -> Option<usize> {
         let peer = self.peers.get(index)?;
         if !peer.is_ready {
             return None;
@@ -49,7 +45,7 @@ where
     /// A read ahead told this, and took as much as it might, or not.
     pub(crate) fn gathered(
         &mut self,
-        slots: &[Option<Held<R::Stream>>],
+        slots: &[Option<Held<L::Stream>>],
         index: usize,
         outcome: Result<Gathering, AllocError>,
         is_full: bool,
@@ -82,7 +78,7 @@ where
     }
 
     // What the bytes that came make due.
-    fn advance(&mut self, slots: &[Option<Held<R::Stream>>], index: usize) -> Option<Deed> {
+    fn advance(&mut self, slots: &[Option<Held<L::Stream>>], index: usize) -> Option<Deed> {
         let ahead = ahead_len(slots, index);
         match self.phase(index) {
             Phase::Body { len, .. } if ahead >= len => return self.make_due(index),
@@ -98,7 +94,7 @@ where
     /// Judges what is ahead between two turns, nothing, a part of a message, or a whole one; and reads on where more is to come.
     pub(crate) fn judge(
         &mut self,
-        slots: &[Option<Held<R::Stream>>],
+        slots: &[Option<Held<L::Stream>>],
         index: usize,
     ) -> Option<Deed> {
         let ahead = seat_at(slots, index)?.reader.inner.ahead();
@@ -115,7 +111,7 @@ where
     // Room for a message is asked for.
     fn ask_room(
         &mut self,
-        slots: &[Option<Held<R::Stream>>],
+        slots: &[Option<Held<L::Stream>>],
         index: usize,
         len: usize,
     ) -> Option<Deed> {
@@ -135,7 +131,7 @@ where
     /// The body comes of a message that was given room.
     pub(crate) fn begin_large(
         &mut self,
-        slots: &[Option<Held<R::Stream>>],
+        slots: &[Option<Held<L::Stream>>],
         index: usize,
         len: usize,
     ) -> Option<Deed> {
@@ -148,7 +144,7 @@ where
     // The body comes: memory is taken for what is not ahead.
     fn begin_body(
         &mut self,
-        slots: &[Option<Held<R::Stream>>],
+        slots: &[Option<Held<L::Stream>>],
         index: usize,
         len: usize,
     ) -> Option<Deed> {
@@ -160,7 +156,7 @@ where
     /// Memory for a body was taken, or refused.
     pub(crate) fn reserved(
         &mut self,
-        slots: &[Option<Held<R::Stream>>],
+        slots: &[Option<Held<L::Stream>>],
         index: usize,
         outcome: Result<(), AllocError>,
     ) -> Option<Deed> {

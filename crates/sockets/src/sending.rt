@@ -2,25 +2,22 @@
 use crate::book::Book;
 use crate::held::{Held, ahead_len, seat_at, waiting_len};
 use crate::peer::Phase;
-use crate::socket::Socket;
+use crate::socket::Listener;
 use crate::tally::Deed;
 use mio::unix::SourceFd;
 use mio::{Interest, Token};
 use office::SessionEnd;
 use std::io::ErrorKind;
-use std::net::{Net, OpenStream, Shutdown};
+use std::net::{OpenStream, Shutdown};
 use std::os::fd::AsRawFd;
 use std::{io, time};
 use wire::{Room, Sending};
 
-impl<R: Net + time::Clock> Book<'_, R>
-where
-    R::Stream: Socket,
-{
+impl<R: time::Clock, L: Listener> Book<'_, R, L> {
     /// Its feed let go of this room. Behind a turn what was written is sent.
     pub(crate) fn settled(
         &mut self,
-        slots: &[Option<Held<R::Stream>>],
+        slots: &[Option<Held<L::Stream>>],
         index: usize,
         room: Option<Room>,
     ) -> Option<Deed> {
@@ -40,7 +37,7 @@ where
     /// So far it was sent. Once all was, the connection goes on.
     pub(crate) fn sent(
         &mut self,
-        slots: &[Option<Held<R::Stream>>],
+        slots: &[Option<Held<L::Stream>>],
         index: usize,
         sending: Sending,
     ) -> Option<Deed> {
@@ -52,7 +49,7 @@ where
     }
 
     // An answer waits: it is sent on when the peer has taken some of it.
-    fn hold(&mut self, slots: &[Option<Held<R::Stream>>], index: usize) -> Option<Deed> {
+    fn hold(&mut self, slots: &[Option<Held<L::Stream>>], index: usize) -> Option<Deed> {
         let waiting = waiting_len(slots, index);
         match self.phase(index) {
             Phase::Answer { mark } if waiting >= mark => return None,
@@ -71,7 +68,7 @@ where
     }
 
     // No answer waits any more: the next message is read, or the connection is left.
-    fn go_on(&mut self, slots: &[Option<Held<R::Stream>>], index: usize) -> Option<Deed> {
+    fn go_on(&mut self, slots: &[Option<Held<L::Stream>>], index: usize) -> Option<Deed> {
         if matches!(self.phase(index), Phase::Answer { .. }) {
             if self.watch(slots, index, false).is_err() {
                 return self.give_up(slots, index, ErrorKind::Other);
@@ -88,7 +85,7 @@ where
     /// Has the socket tell what can be read, if it does not yet.
     pub(crate) fn listen_to(
         &mut self,
-        slots: &[Option<Held<R::Stream>>],
+        slots: &[Option<Held<L::Stream>>],
         index: usize,
     ) -> Option<Deed> {
         if self.peers.get(index)?.is_watched || self.watch(slots, index, false).is_ok() {
@@ -100,7 +97,7 @@ where
     // Has the socket tell what can be read, and, if answers wait, whether it takes more.
     fn watch(
         &mut self,
-        slots: &[Option<Held<R::Stream>>],
+        slots: &[Option<Held<L::Stream>>],
         index: usize,
         is_waiting: bool,
     ) -> io::Result<()> {
@@ -122,7 +119,7 @@ where
     }
 
     /// Cuts a connection whose peer takes no answer: its writes fail from now on.
-    pub(crate) fn cut(&mut self, slots: &[Option<Held<R::Stream>>], index: usize) -> Option<Deed> {
+    pub(crate) fn cut(&mut self, slots: &[Option<Held<L::Stream>>], index: usize) -> Option<Deed> {
         let stream = &seat_at(slots, index)?.reader.inner.inner;
         let _ = stream.shutdown(Shutdown::Both);
         Some(Deed::Send)

@@ -5,7 +5,7 @@ ghost use Rattle.office.specs.Premise.{StaysUnstaged};
 ghost use Rattle.sockets.specs.Accepting.{ServesMany};
 
 use crate::held::Held;
-use crate::socket::Socket;
+use crate::socket::Listener;
 use crate::sockets::Sockets;
 use keeper::Keeper;
 use office::{Clock, Office};
@@ -49,18 +49,16 @@ pub struct Outcome {
 /// # Errors
 ///
 /// Memory was refused, or the system can't tell which sockets are ready, or what time it is. Nothing was accepted then.
-pub fn serve<K: Keeper, C: Clock, R: Net + time::Clock>(
+pub fn serve<K: Keeper, C: Clock, L: Listener, R: Net + time::Clock>(
     rt: &R,
     office: &mut Office<K>,
-    listener: &R::Listener,
+    listener: &L,
     limits: Limits,
     clock: &mut C,
 ) -> io::Result<Outcome>
-where
-    R::Stream: Socket,
-    ensures serves { IfOk result (λ outcome. ServesMany C.now_gives
-        ⟦<Gathered<R::Stream> as Read>⟧.remaining
-        ⟦<Outbox<R::Stream> as Write>⟧.contents clock.old clock.new
+    ensures serves { IfOk result (λ outcome. ServesMany C.now_gives L.brings L.Stream.Socket.same_peer
+        ⟦<Gathered<L::Stream> as Read>⟧.remaining
+        ⟦<Outbox<L::Stream> as Write>⟧.contents clock.old clock.new
         K.Keeper office.old.keeper office.new.keeper limits.connections outcome) }
     ensures nothing { IfErr result (λ e. (office.new ≡ office.old) × (clock.new ≡ clock.old)) }
     ensures honest { K.is_honest office.new.keeper → K.is_honest office.old.keeper }

@@ -4,11 +4,12 @@ ghost use Rattle.office.specs.Crowds.{IsOpenAt};
 ghost use Rattle.sockets.specs.Moving.{Moves};
 
 use crate::book::Book;
+use crate::ends::Ends;
 use crate::held::{Held, seat_at};
 use crate::serving::Limits;
-use crate::socket::Socket;
+use crate::socket::Listener;
 use crate::stages::{Step, Task};
-use crate::tally::{Ends, Tally};
+use crate::tally::Tally;
 use office::{Crowd, Due};
 use std::alloc::Global;
 use std::io::{Read, Write};
@@ -18,13 +19,11 @@ use wire::{Gathered, Outbox, Room};
 
 /// The sockets of a listener's peers.
 #[derive(Drop)]
-pub(crate) struct Sockets<'a, R: Net> {
-    book: Book<'a, R>,
+pub(crate) struct Sockets<'a, R, L: Listener> {
+    book: Book<'a, R, L>,
     pub(crate) tally: Tally,
     // How many turns it may give still.
     turns: u64,
-    /// Whether all that came have gone, and none is to come any more.
-    pub(crate) is_whole: bool,
     ghost few: { turns < 18446744073709551616 },
 }
 
@@ -39,7 +38,7 @@ enum Next {
     Over,
 }
 
-impl<'a, R: Net + time::Clock> Sockets<'a, R> {
+impl<'a, R: Net + time::Clock, L: Listener> Sockets<'a, R, L> {
     /// Sockets of which none has come.
     ///
     /// # Errors
@@ -48,47 +47,43 @@ impl<'a, R: Net + time::Clock> Sockets<'a, R> {
     pub(crate) fn new(
         rt: &'a R,
         alloc: Global,
-        listener: &'a R::Listener,
+        listener: &'a L,
         limits: Limits,
-    ) -> io::Result<Sockets<'a, R>>
+    ) -> io::Result<Sockets<'a, R, L>>
         ensures { IfOk result (λ sockets. (sockets.tally.came ≡ 0) × (sockets.tally.gone ≡ 0)) }
     {
         Ok(Sockets {
             book: Book::new(rt, alloc, listener, limits)?,
             tally: Tally::new(),
             turns: u64::MAX,
-            is_whole: false,
         })
     }
 }
 
-impl<R: Net + time::Clock> Sockets<'_, R>
-where
-    R::Stream: Socket,
-{
-    ghost use Rattle.sockets.specs.Gone.{IsOver};
-
+impl<R: time::Clock, L: Listener> Sockets<'_, R, L> {
     /// How many connections could not be accepted.
     pub(crate) fn refused(&self) -> u64 {
         self.book.door.refused
     }
 
     // Does this, and answers what is done next.
-    fn work(&mut self, slots: &mut [Option<Held<R::Stream>>], task: Task) -> Option<Task>
-        ensures moves { Moves ⟦<Gathered<R::Stream> as Read>⟧.remaining
-            ⟦<Outbox<R::Stream> as Write>⟧.contents self.old.tally self.new.tally slots.old slots.new }
+    fn work(&mut self, slots: &mut [Option<Held<L::Stream>>], task: Task) -> Option<Task>
+        ensures moves { Moves L.brings L.Stream.Socket.same_peer ⟦<Gathered<L::Stream> as Read>⟧.remaining
+            ⟦<Outbox<L::Stream> as Write>⟧.contents self.old.tally self.new.tally slots.old slots.new }
         ensures turns { self.new.turns ≡ self.old.turns }
     {
         let index = task.index;
-        let report = self.tally.work(slots, index, task.deed, &mut self.book.buf);
+        let report = self
+            .tally
+            .work::<L>(slots, index, task.deed, &mut self.book.buf);
         let deed = self.book.told_of(slots, index, report)?;
         Some(Task { index, deed })
     }
 
     // Puts a connection that was accepted into a free slot.
-    fn open(&mut self, slots: &mut [Option<Held<R::Stream>>], ends: Ends<R::Stream>) -> Option<Task>
-        ensures moves { Moves ⟦<Gathered<R::Stream> as Read>⟧.remaining
-            ⟦<Outbox<R::Stream> as Write>⟧.contents self.old.tally self.new.tally slots.old slots.new }
+    fn open(&mut self, slots: &mut [Option<Held<L::Stream>>], ends: Ends<L>) -> Option<Task>
+        ensures moves { Moves L.brings L.Stream.Socket.same_peer ⟦<Gathered<L::Stream> as Read>⟧.remaining
+            ⟦<Outbox<L::Stream> as Write>⟧.contents self.old.tally self.new.tally slots.old slots.new }
         ensures turns { self.new.turns ≡ self.old.turns }
     {
         let slot = self.tally.open(slots, self.book.alloc, ends);
@@ -96,11 +91,10 @@ where
     }
 
     // Does the task, if there is one; or else goes on to what is next.
-    fn go(&mut self, slots: &mut [Option<Held<R::Stream>>], task: Option<Task>) -> Next
-        ensures moves { Moves ⟦<Gathered<R::Stream> as Read>⟧.remaining
-            ⟦<Outbox<R::Stream> as Write>⟧.contents self.old.tally self.new.tally slots.old slots.new }
+    fn go(&mut self, slots: &mut [Option<Held<L::Stream>>], task: Option<Task>) -> Next
+        ensures moves { Moves L.brings L.Stream.Socket.same_peer ⟦<Gathered<L::Stream> as Read>⟧.remaining
+            ⟦<Outbox<L::Stream> as Write>⟧.contents self.old.tally self.new.tally slots.old slots.new }
         ensures turns { self.new.turns ≡ self.old.turns }
-        ensures over { result ≡ Next.Over → IsOver self.new }
     {
         if let Some(task) = task {
             return Next::Go(self.work(slots, task));
@@ -109,10 +103,7 @@ where
             Step::Go(task) => Next::Go(task),
             Step::Open(ends) => Next::Go(self.open(slots, ends)),
             Step::Turn(due) => Next::Turn(due),
-            Step::Over => {
-                self.is_whole = self.tally.came == self.tally.gone;
-                Next::Over
-            }
+            Step::Over => Next::Over,
         }
     }
 }
@@ -130,22 +121,24 @@ fn is_open_at<S>(slots: &[Option<Held<S>>], index: usize) -> bool
     }
 }
 
-impl<R: Net + time::Clock> Crowd<Gathered<R::Stream>, Outbox<R::Stream>> for Sockets<'_, R>
-where
-    R::Stream: Socket,
-{
-    ghost use Rattle.std.specs.Prelude.{◌≡◌, length};
-    ghost use Rattle.sockets.specs.Gone.{IsOver};
+impl<R: time::Clock, L: Listener> Crowd<Gathered<L::Stream>, Outbox<L::Stream>>
+    for Sockets<'_, R, L> {
+    ghost use Rattle.std.specs.Prelude.{◌≡◌, length, ⊤};
+    ghost use Rattle.std.specs.List.{AllByRecursion};
+    ghost use Rattle.sockets.specs.Accepting.{IsAccepted};
 
-    ghost met = { λ s came gone. (s.tally.came ≡ length came) × (s.tally.gone ≡ length gone) };
+    ghost met = { λ s came gone. (s.tally.came ≡ length came) × (s.tally.gone ≡ length gone)
+        × AllByRecursion (IsAccepted L.brings L.Stream.Socket.same_peer) came };
 
-    ghost over = { IsOver };
+    ghost gave = { λ _ _ _. ⊤ };
+
+    ghost over = { λ _. ⊤ };
 
     ghost turns = { λ s. s.turns };
 
     ghost few = { λ s. s.few };
 
-    fn next(&mut self, slots: &mut [Option<Held<R::Stream>>], spare: Option<Room>) -> Option<Due> {
+    fn next(&mut self, slots: &mut [Option<Held<L::Stream>>], spare: Option<Room>) -> Option<Due> {
         let mut task = self.book.behind_turn(spare);
         'steps: for _ in 0..u64::MAX {
             match self.go(slots, task) {
@@ -158,7 +151,6 @@ where
                 Next::Over => return None,
             }
         }
-        self.is_whole = false;
         None
     }
 }

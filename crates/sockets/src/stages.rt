@@ -1,14 +1,14 @@
 //! The loop, a step at a time: turns, then what the sockets tell, what was left to be read, what lasts too long, what comes, and
 //! what waits for room.
 use crate::book::{Book, LISTENER};
+use crate::ends::Ends;
 use crate::held::{Held, seat_at};
 use crate::peer::Phase;
-use crate::socket::Socket;
-use crate::tally::{Deed, Ends, Report};
+use crate::socket::Listener;
+use crate::tally::{Deed, Report};
 use mio::event::Event;
 use office::Due;
 use std::io::ErrorKind;
-use std::net::Net;
 use std::time;
 use std::time::{Duration, Instant};
 use wire::Room;
@@ -56,21 +56,18 @@ impl Task {
 
 /// What is next.
 #[derive(Drop)]
-pub(crate) enum Step<S> {
+pub(crate) enum Step<L: Listener> {
     /// This is done, if anything is.
     Go(Option<Task>),
     /// A connection comes.
-    Open(Ends<S>),
+    Open(Ends<L>),
     /// A turn is due.
     Turn(Due),
     /// All have come and gone.
     Over,
 }
 
-impl<R: Net + time::Clock> Book<'_, R>
-where
-    R::Stream: Socket,
-{
+impl<R: time::Clock, L: Listener> Book<'_, R, L> {
     /// The turn before has left this room. What is done behind it, if there was one.
     pub(crate) fn behind_turn(&mut self, spare: Option<Room>) -> Option<Task> {
         if let Some(room) = spare {
@@ -82,7 +79,7 @@ where
     }
 
     /// What is next, where nothing is left to be done.
-    pub(crate) fn step(&mut self, slots: &[Option<Held<R::Stream>>]) -> Step<R::Stream> {
+    pub(crate) fn step(&mut self, slots: &[Option<Held<L::Stream>>]) -> Step<L> {
         self.reads = MOST_READS;
         match self.stage {
             Stage::Turns => self.step_turns(),
@@ -95,7 +92,7 @@ where
     }
 
     // The next turn of the round. Behind the last one it is waited for what the sockets tell.
-    fn step_turns(&mut self) -> Step<R::Stream> {
+    fn step_turns(&mut self) -> Step<L> {
         if let Some(index) = self.rounds.pop() {
             return self.turn(index);
         }
@@ -108,7 +105,7 @@ where
     }
 
     // The turn of a slot, if it is due still.
-    fn turn(&mut self, index: usize) -> Step<R::Stream> {
+    fn turn(&mut self, index: usize) -> Step<L> {
         if self.phase(index) != Phase::Due {
             return Step::Go(None);
         }
@@ -128,12 +125,12 @@ where
     }
 
     // This is done to the connection, if anything is.
-    fn go(&self, index: usize, deed: Option<Deed>) -> Step<R::Stream> {
+    fn go(&self, index: usize, deed: Option<Deed>) -> Step<L> {
         Step::Go(deed.map(|deed| Task { index, deed }))
     }
 
     // One of the events that the last wait told.
-    fn step_events(&mut self, slots: &[Option<Held<R::Stream>>], at: usize) -> Step<R::Stream> {
+    fn step_events(&mut self, slots: &[Option<Held<L::Stream>>], at: usize) -> Step<L> {
         let Some(event) = self.told(at) else {
             self.stage = Stage::Behind(0);
             return Step::Go(None);
@@ -156,7 +153,7 @@ where
     // Takes up what the socket of a slot told.
     fn take_up(
         &mut self,
-        slots: &[Option<Held<R::Stream>>],
+        slots: &[Option<Held<L::Stream>>],
         index: usize,
         event: Event,
     ) -> Option<Deed> {
@@ -175,7 +172,7 @@ where
     }
 
     // A connection that may have been left to be read on.
-    fn step_behind(&mut self, slots: &[Option<Held<R::Stream>>], at: usize) -> Step<R::Stream> {
+    fn step_behind(&mut self, slots: &[Option<Held<L::Stream>>], at: usize) -> Step<L> {
         if at == 0 && !self.is_behind || at >= self.peers.len() {
             self.stage = self.look_or_not();
             return Step::Go(None);
@@ -199,7 +196,7 @@ where
     }
 
     // A connection that may be over its bound.
-    fn step_look(&mut self, slots: &[Option<Held<R::Stream>>], at: usize) -> Step<R::Stream> {
+    fn step_look(&mut self, slots: &[Option<Held<L::Stream>>], at: usize) -> Step<L> {
         if at >= self.peers.len() {
             self.stage = Stage::Accept(MOST_ACCEPTS);
             return Step::Go(None);
@@ -210,7 +207,7 @@ where
     }
 
     // A connection that may come. One that came, and whose message was there, has its turn before.
-    fn step_accept(&mut self, left: usize) -> Step<R::Stream> {
+    fn step_accept(&mut self, left: usize) -> Step<L> {
         if let Some(index) = self.rounds.pop() {
             return self.turn(index);
         }
@@ -228,7 +225,7 @@ where
     }
 
     // Room for one that waits for it; or what is cut off for others. Behind the last one the next round begins.
-    fn step_rooms(&mut self, slots: &[Option<Held<R::Stream>>]) -> Step<R::Stream> {
+    fn step_rooms(&mut self, slots: &[Option<Held<L::Stream>>]) -> Step<L> {
         if self.is_laden {
             self.is_laden = false;
             if let Some(index) = self.too_slow(slots) {
@@ -247,7 +244,7 @@ where
     }
 
     // Where one waits for room, a body that comes too slowly gives up its own.
-    fn make_room(&mut self, slots: &[Option<Held<R::Stream>>]) -> Step<R::Stream> {
+    fn make_room(&mut self, slots: &[Option<Held<L::Stream>>]) -> Step<L> {
         if !self.rooms.is_short() {
             return Step::Go(None);
         }
@@ -285,7 +282,7 @@ where
     /// What is done next to the connection, behind this.
     pub(crate) fn told_of(
         &mut self,
-        slots: &[Option<Held<R::Stream>>],
+        slots: &[Option<Held<L::Stream>>],
         index: usize,
         report: Report,
     ) -> Option<Deed> {

@@ -3,7 +3,9 @@ ghost use Rattle.std.specs.Prelude.{◌≡◌, ◌<◌, [], length};
 ghost use Rattle.office.specs.Crowds.{Changes};
 ghost use Rattle.sockets.specs.Moving.{Moves};
 
+use crate::ends::Ends;
 use crate::held::{Held, ahead_len};
+use crate::socket::Listener;
 use office::{
     Seat, fail_slot, free_slot, gather_slot, make_room_in_slot, open_slot, send_slot, settle_slot,
 };
@@ -53,13 +55,6 @@ pub(crate) enum Report {
     Nothing,
 }
 
-/// Both ends of an accepted connection.
-#[derive(Drop)]
-pub(crate) struct Ends<S> {
-    pub(crate) reader: S,
-    pub(crate) writer: S,
-}
-
 /// How many connections came into a slot, and how many went from one.
 #[derive(Clone, Copy, Debug, PartialEq, Eq)]
 pub(crate) struct Tally {
@@ -77,14 +72,14 @@ impl Tally {
     }
 
     /// Puts a connection into a free slot: its index, if one is free.
-    pub(crate) fn open<S: Read + Write + Drop>(
+    pub(crate) fn open<L: Listener>(
         &mut self,
-        slots: &mut [Option<Held<S>>],
+        slots: &mut [Option<Held<L::Stream>>],
         alloc: Global,
-        ends: Ends<S>,
+        ends: Ends<L>,
     ) -> Option<usize>
-        ensures moves { Moves ⟦<Gathered<S> as Read>⟧.remaining
-            ⟦<Outbox<S> as Write>⟧.contents self.old self.new slots.old slots.new }
+        ensures moves { Moves L.brings L.Stream.Socket.same_peer ⟦<Gathered<L::Stream> as Read>⟧.remaining
+            ⟦<Outbox<L::Stream> as Write>⟧.contents self.old self.new slots.old slots.new }
     {
         let came = self.came.checked_add(1)?;
         let reader = Gathered::new(alloc, ends.reader);
@@ -99,10 +94,10 @@ impl Tally {
     }
 
     /// Makes the slot free.
-    fn free<S: Read + Write>(&mut self, slots: &mut [Option<Held<S>>], index: usize) -> Report
+    fn free<L: Listener>(&mut self, slots: &mut [Option<Held<L::Stream>>], index: usize) -> Report
         requires { index < length slots.old }
-        ensures moves { Moves ⟦<Gathered<S> as Read>⟧.remaining
-            ⟦<Outbox<S> as Write>⟧.contents self.old self.new slots.old slots.new }
+        ensures moves { Moves L.brings L.Stream.Socket.same_peer ⟦<Gathered<L::Stream> as Read>⟧.remaining
+            ⟦<Outbox<L::Stream> as Write>⟧.contents self.old self.new slots.old slots.new }
     {
         let Some(gone) = self.gone.checked_add(1) else {
             return Report::Nothing;
@@ -114,21 +109,21 @@ impl Tally {
     }
 
     /// Does this to the connection in the slot. What is read comes by way of the buffer.
-    pub(crate) fn work<S: Read + Write>(
+    pub(crate) fn work<L: Listener>(
         &mut self,
-        slots: &mut [Option<Held<S>>],
+        slots: &mut [Option<Held<L::Stream>>],
         index: usize,
         deed: Deed,
         buf: &mut [u8],
     ) -> Report
-        ensures moves { Moves ⟦<Gathered<S> as Read>⟧.remaining
-            ⟦<Outbox<S> as Write>⟧.contents self.old self.new slots.old slots.new }
+        ensures moves { Moves L.brings L.Stream.Socket.same_peer ⟦<Gathered<L::Stream> as Read>⟧.remaining
+            ⟦<Outbox<L::Stream> as Write>⟧.contents self.old self.new slots.old slots.new }
     {
         if index >= slots.len() {
             return Report::Nothing;
         }
         match deed {
-            Deed::Gather(size) => gather(slots, index, size, buf),
+            Deed::Gather(size) => gather::<L>(slots, index, size, buf),
             Deed::Reserve(more) => Report::Reserved(make_room_in_slot(slots, index, more)),
             Deed::Settle => Report::Settled(settle_slot(slots, index)),
             Deed::Fail(kind) => {
@@ -136,21 +131,21 @@ impl Tally {
                 Report::Failing
             }
             Deed::Send => Report::Sent(send_slot(slots, index)),
-            Deed::Free => self.free(slots, index),
+            Deed::Free => self.free::<L>(slots, index),
         }
     }
 }
 
 // Reads once ahead of the connection in the slot, so many bytes at the most.
-fn gather<S: Read + Write>(
-    slots: &mut [Option<Held<S>>],
+fn gather<L: Listener>(
+    slots: &mut [Option<Held<L::Stream>>],
     index: usize,
     size: usize,
     buf: &mut [u8],
 ) -> Report
     requires { index < length slots.old }
-    ensures changes { Changes ⟦<Gathered<S> as Read>⟧.remaining
-        ⟦<Outbox<S> as Write>⟧.contents slots.old slots.new [] [] }
+    ensures changes { Changes ⟦<Gathered<L::Stream> as Read>⟧.remaining
+        ⟦<Outbox<L::Stream> as Write>⟧.contents slots.old slots.new [] [] }
 {
     let before = ahead_len(slots, index);
     let size = size.min(buf.len());

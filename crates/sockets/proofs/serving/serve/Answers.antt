@@ -1,19 +1,20 @@
-use Rattle.std.proofs.Common.{[], ◌∙◌, sym}
+use Rattle.std.proofs.Common.{[], zero, tt, ◌∙◌, sym}
 use Rattle.sockets.proofs.serving.serve.Goals as goal
 
 pub returns-clause-serves : goal.returns-clause-serves
 returns-clause-serves g c s kept =
-    let met = c.in_ok-sockets.ensures in
-    let all = c.serve_crowd-faulty.ensures.serves [] [] met in
-    let one = all.5 s kept in (
+    let start = c.in_ok-sockets.ensures in
+    let all = c.serve_crowd-faulty.ensures.serves [] [] (start.0, start.1, tt) (λ p. zero) [] tt in
+    let one = all.7 s kept in (
       one.0,
       one.1,
       record {
         came = all.0;
         gone = all.1;
         slots = c.serve_crowd-faulty.new.slots;
-        turns = all.3;
+        given = all.4;
         serves = one.2;
+        accepted = all.2.2;
         counted = all.2.0;
         all = λ whole. c.have_come-have_all_come.ensures.told ((c.are_all.ensures.each whole).0);
         left = λ whole. (

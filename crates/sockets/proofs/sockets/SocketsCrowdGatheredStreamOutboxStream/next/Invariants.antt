@@ -5,7 +5,7 @@ use Rattle.std.specs.contracts.net.tcp.TcpStreamWrite.TheImpl as write
 use Rattle.wire.specs.Gathering.{ahead_in}
 use Rattle.wire.specs.Outgoing.{waits_out}
 use Rattle.sockets.specs.Moving.{Moves}
-use Rattle.sockets.proofs.sockets.SocketsCrowdGatheredTcpStreamOutboxTcpStream.next.Given as goal
+use Rattle.sockets.proofs.sockets.SocketsCrowdGatheredStreamOutboxStream.next.Given as goal
 
 abbrev pub invariant-steps : goal.invariant-steps
 invariant-steps g l =
