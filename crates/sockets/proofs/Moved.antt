@@ -25,40 +25,40 @@ module _ {X : Type 0} where
   those_none None is = omega arith
   those_none (Some x) is = absurd cc
 
-module _ {S : Type 0} (brings : S → Type 0) (same_peer : S → S → Type 0) (remaining : Gathered S → Option (List ℕ)) (contents : Outbox S → Option (List ℕ)) where
+module _ {E : Type 0} (accepted : E → E → Type 0) (remaining : Gathered E → Option (List ℕ)) (contents : Outbox E → Option (List ℕ)) where
   Held : Type 0
-  Held = Seat (Gathered S) (Outbox S)
+  Held = Seat (Gathered E) (Outbox E)
 
-  pub moves_none : (t : Tally) (a : List (Option Held)) → Moves brings same_peer remaining contents t t a a
+  pub moves_none : (t : Tally) (a : List (Option Held)) → Moves accepted remaining contents t t a a
   moves_none t a = ([], [], omega arith, omega arith, tt, same)
 
-  pub moves_then : (t u v : Tally) (a b c : List (Option Held)) → Moves brings same_peer remaining contents t u a b → Moves brings same_peer remaining contents u v b c
-      → Moves brings same_peer remaining contents t v a c
+  pub moves_then : (t u v : Tally) (a b c : List (Option Held)) → Moves accepted remaining contents t u a b → Moves accepted remaining contents u v b c
+      → Moves accepted remaining contents t v a c
   moves_then t u v a b c x y = (
     x.0 ++ y.0,
     x.1 ++ y.1,
     omega (arith, x.2, y.2, length-append x.0 y.0),
     omega (arith, x.3, y.3, length-append x.1 y.1),
-    all_joined (IsAccepted brings same_peer) x.0 y.0 x.4 y.4,
+    all_joined (IsAccepted accepted) x.0 y.0 x.4 y.4,
     changes_then remaining contents a b c x.0 x.1 y.0 y.1 x.5 y.5,
   )
 
   -- nothing was done
-  pub moves_kept : (t u : Tally) (a b : List (Option Held)) → u.came ≡ t.came → u.gone ≡ t.gone → b ≡ a → Moves brings same_peer remaining contents t u a b
+  pub moves_kept : (t u : Tally) (a b : List (Option Held)) → u.came ≡ t.came → u.gone ≡ t.gone → b ≡ a → Moves accepted remaining contents t u a b
   moves_kept t u a b came gone is = ([], [], omega (arith, came), omega (arith, gone), tt, subst (λ l. Changes remaining contents a l [] []) (sym is) same)
 
   -- nobody comes or goes
-  pub moves_still : (t : Tally) (a b : List (Option Held)) → Changes remaining contents a b [] [] → Moves brings same_peer remaining contents t t a b
+  pub moves_still : (t : Tally) (a b : List (Option Held)) → Changes remaining contents a b [] [] → Moves accepted remaining contents t t a b
   moves_still t a b changes = ([], [], omega arith, omega arith, tt, changes)
 
   -- it is what a crowd says of itself whose lists are counted so, and were accepted
-  pub moves_met : (t u : Tally) (a b : List (Option Held)) → Moves brings same_peer remaining contents t u a b
-      → (came gone : List Held) → (t.came ≡ length came) × (t.gone ≡ length gone) × AllByRecursion (IsAccepted brings same_peer) came
-      → (more went : List Held) × ((u.came ≡ length (came ++ more)) × (u.gone ≡ length (gone ++ went)) × AllByRecursion (IsAccepted brings same_peer) (came ++ more))
+  pub moves_met : (t u : Tally) (a b : List (Option Held)) → Moves accepted remaining contents t u a b
+      → (came gone : List Held) → (t.came ≡ length came) × (t.gone ≡ length gone) × AllByRecursion (IsAccepted accepted) came
+      → (more went : List Held) × ((u.came ≡ length (came ++ more)) × (u.gone ≡ length (gone ++ went)) × AllByRecursion (IsAccepted accepted) (came ++ more))
       × Changes remaining contents a b more went
   moves_met t u a b x came gone met = (
     x.0,
     x.1,
-    (omega (arith, x.2, met.0, length-append came x.0), omega (arith, x.3, met.1, length-append gone x.1), all_joined (IsAccepted brings same_peer) came x.0 met.2 x.4),
+    (omega (arith, x.2, met.0, length-append came x.0), omega (arith, x.3, met.1, length-append gone x.1), all_joined (IsAccepted accepted) came x.0 met.2 x.4),
     x.5,
   )

@@ -9,8 +9,8 @@ use Rattle.sockets.specs.Accepting.{IsAccepted}
 use Rattle.sockets.specs.declared.tally.Tally.{Tally}
 
 -- it is what may go on in slots, those that came are as they were accepted, and those that came and those that went were counted
-abbrev pub Moves : {S : Type 0} → (S → Type 0) → (S → S → Type 0) → (Gathered S → Option (List ℕ)) → (Outbox S → Option (List ℕ)) → Tally → Tally
-    → List (Option (Seat (Gathered S) (Outbox S))) → List (Option (Seat (Gathered S) (Outbox S))) → Type 0
-Moves {S} brings same_peer remaining contents before after old new =
-    (came gone : List (Seat (Gathered S) (Outbox S))) × (after.came ≡ before.came + length came) × (after.gone ≡ before.gone + length gone)
-    × AllByRecursion (IsAccepted brings same_peer) came × Changes remaining contents old new came gone
+abbrev pub Moves : {E : Type 0} → (E → E → Type 0) → (Gathered E → Option (List ℕ)) → (Outbox E → Option (List ℕ)) → Tally → Tally
+    → List (Option (Seat (Gathered E) (Outbox E))) → List (Option (Seat (Gathered E) (Outbox E))) → Type 0
+Moves {E} accepted remaining contents before after old new =
+    (came gone : List (Seat (Gathered E) (Outbox E))) × (after.came ≡ before.came + length came) × (after.gone ≡ before.gone + length gone)
+    × AllByRecursion (IsAccepted accepted) came × Changes remaining contents old new came gone

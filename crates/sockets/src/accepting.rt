@@ -1,7 +1,7 @@
 //! Connections that come.
 use crate::book::Book;
 use crate::door::Call;
-use crate::ends::{Guest, Unready};
+use crate::ends::{Guest, PutOff};
 use crate::held::Held;
 use crate::peer::{Peer, Phase};
 use crate::socket::Listener;
@@ -41,15 +41,15 @@ impl<R: time::Clock, L: Listener> Book<'_, R, L> {
 
     // A connection is let in, if its socket can be set up.
     fn let_in(&mut self, guest: Guest<L>) -> Option<Step<L>> {
-        match guest.open() {
+        match guest.open(self.alloc) {
             Ok(ends) => Some(Step::Open(ends)),
-            Err(unready) => self.put_off(unready),
+            Err(put_off) => self.put_off(put_off),
         }
     }
 
     // It is let in later, if that is for a want that may end; else it is refused.
-    fn put_off(&mut self, unready: Unready<L>) -> Option<Step<L>> {
-        if self.door.put_off(unready, self.now) {
+    fn put_off(&mut self, put_off: PutOff<L>) -> Option<Step<L>> {
+        if self.door.put_off(put_off, self.now) {
             return self.make_way();
         }
         Some(Step::Go(None))
@@ -59,7 +59,7 @@ impl<R: time::Clock, L: Listener> Book<'_, R, L> {
     /// may go for others.
     pub(crate) fn opened(
         &mut self,
-        slots: &[Option<Held<L::Stream>>],
+        slots: &[Option<Held<L::End>>],
         slot: Option<usize>,
     ) -> Option<Task> {
         let Some(index) = slot else {

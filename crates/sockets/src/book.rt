@@ -150,7 +150,7 @@ impl<R: time::Clock, L: Listener> Book<'_, R, L> {
     /// The connection fails so from now on: its turn tells it; or it goes, if its session has ended.
     pub(crate) fn give_up(
         &mut self,
-        slots: &[Option<Held<L::Stream>>],
+        slots: &[Option<Held<L::End>>],
         index: usize,
         kind: ErrorKind,
     ) -> Option<Deed> {

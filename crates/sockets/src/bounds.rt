@@ -18,7 +18,7 @@ impl<R: time::Clock, L: Listener> Book<'_, R, L> {
     /// What becomes of the connection in the slot, if it is over its bound.
     pub(crate) fn end_of_patience(
         &mut self,
-        slots: &[Option<Held<L::Stream>>],
+        slots: &[Option<Held<L::End>>],
         index: usize,
     ) -> Option<Deed> {
         if !self.peers.get(index)?.is_over(self.patience, self.now) {
@@ -59,7 +59,7 @@ impl<R: time::Clock, L: Listener> Book<'_, R, L> {
     }
 
     /// Where more answers wait than there is memory for: the one of which nothing was taken for longest.
-    pub(crate) fn too_slow(&self, slots: &[Option<Held<L::Stream>>]) -> Option<usize> {
+    pub(crate) fn too_slow(&self, slots: &[Option<Held<L::End>>]) -> Option<usize> {
         let mut waiting: usize = 0;
         let mut oldest: Option<Lasting> = None;
         'slots: for (index, peer) in self.peers.iter().enumerate() {

@@ -1,5 +1,5 @@
 //! The listener, and how many of its connections are to come.
-use crate::ends::{Guest, Unready};
+use crate::ends::{Guest, PutOff};
 use crate::socket::Listener;
 use std::io;
 use std::io::ErrorKind;
@@ -119,15 +119,18 @@ impl<'a, L: Listener> Door<'a, L> {
 
     /// One that was accepted could not be set up for its error: it is kept for later where the error is a want that may end,
     /// and else counted as refused. Whether it is kept.
-    pub(crate) fn put_off(&mut self, unready: Unready<L>, now: Instant) -> bool {
-        let is_kept = is_want(unready.error);
-        if is_kept {
-            self.kept = Some(unready.guest);
-            self.paused = Some(now);
-        } else {
-            self.turn_away();
+    pub(crate) fn put_off(&mut self, put_off: PutOff<L>, now: Instant) -> bool {
+        match put_off.guest {
+            Some(guest) if is_want(put_off.error) => {
+                self.kept = Some(guest);
+                self.paused = Some(now);
+                true
+            }
+            _ => {
+                self.turn_away();
+                false
+            }
         }
-        is_kept
     }
 
     /// One that was accepted could not be set up.
@@ -155,6 +158,6 @@ impl<'a, L: Listener> Door<'a, L> {
 fn is_want(error: io::Error) -> bool {
     match error.raw_os_error() {
         Some(number) => WANTS.contains(&number),
-        None => false,
+        None => error.kind() == ErrorKind::OutOfMemory,
     }
 }

@@ -1,9 +1,9 @@
 //! Connections that were accepted, and stand in no slot yet.
-ghost use Rattle.std.specs.Prelude.{IfOk};
+ghost use Rattle.sockets.specs.Accepted.{AreAccepted};
 
-use crate::socket::{Listener, Socket};
+use crate::socket::Listener;
+use std::alloc::Global;
 use std::io;
-use std::net::OpenStream;
 
 /// A connection that was accepted, as it came.
 #[derive(Drop)]
@@ -12,20 +12,19 @@ pub(crate) struct Guest<L: Listener> {
     ghost brought: { L.brings stream },
 }
 
-/// One whose second end could not be made, for this error.
-#[derive(Drop)]
-pub(crate) struct Unready<L: Listener> {
-    pub(crate) guest: Guest<L>,
-    pub(crate) error: io::Error,
-}
-
 /// Both ends of an accepted connection. Nothing was read from the one, and nothing written to the other.
 #[derive(Drop)]
 pub(crate) struct Ends<L: Listener> {
-    pub(crate) reader: L::Stream,
-    pub(crate) writer: L::Stream,
-    ghost brought: { L.brings reader },
-    ghost paired: { L.Stream.Socket.same_peer reader writer },
+    pub(crate) reader: L::End,
+    pub(crate) writer: L::End,
+    ghost accepted: { AreAccepted L.brings L.are_ends reader writer },
+}
+
+/// A connection that could not be let in, for this error; and the connection, if it is there still.
+#[derive(Drop)]
+pub(crate) struct PutOff<L: Listener> {
+    pub(crate) guest: Option<Guest<L>>,
+    pub(crate) error: io::Error,
 }
 
 impl<L: Listener> Guest<L> {
@@ -35,23 +34,14 @@ impl<L: Listener> Guest<L> {
         Ok(Guest { stream })
     }
 
-    /// Both its ends, whose reads and writes don't wait.
-    pub(crate) fn open(self) -> Result<Ends<L>, Unready<L>> {
-        match second_end(&self.stream) {
-            Ok(writer) => Ok(Ends {
-                reader: self.stream,
-                writer,
+    /// Both its ends.
+    pub(crate) fn open(self, alloc: Global) -> Result<Ends<L>, PutOff<L>> {
+        match L::ends(alloc, self.stream) {
+            Ok((reader, writer)) => Ok(Ends { reader, writer }),
+            Err(unready) => Err(PutOff {
+                guest: unready.stream.map(|stream| Guest { stream }),
+                error: unready.error,
             }),
-            Err(error) => Err(Unready { guest: self, error }),
         }
     }
-}
-
-// The stream once more, for its answers. From now on its reads and writes do not wait, and its answers go out at once.
-fn second_end<S: Socket>(stream: &S) -> io::Result<S>
-    ensures { IfOk result (λ second. S.same_peer stream.now second) }
-{
-    stream.set_nonblocking(true)?;
-    stream.set_nodelay(true)?;
-    stream.second_end()
 }

@@ -3,10 +3,10 @@
 use crate::book::Book;
 use crate::held::{Held, seat_at};
 use crate::peer::Phase;
-use crate::socket::{Listener, Socket};
+use crate::socket::{End, Listener};
 use crate::tally::Deed;
 use std::io::ErrorKind;
-use std::net::{OpenStream, Shutdown};
+use std::net::Shutdown;
 use std::{io, time};
 
 /// How many bytes are thrown away at the most.
@@ -17,11 +17,7 @@ const LAST_READS: usize = 64;
 
 impl<R: time::Clock, L: Listener> Book<'_, R, L> {
     /// Begins to leave a connection whose session has ended, and for which nothing waits.
-    pub(crate) fn leave(
-        &mut self,
-        slots: &[Option<Held<L::Stream>>],
-        index: usize,
-    ) -> Option<Deed> {
+    pub(crate) fn leave(&mut self, slots: &[Option<Held<L::End>>], index: usize) -> Option<Deed> {
         let stream = &seat_at(slots, index)?.reader.inner.inner;
         if stream.shutdown(Shutdown::Write).is_err() {
             return self.release(index);
@@ -33,7 +29,7 @@ impl<R: time::Clock, L: Listener> Book<'_, R, L> {
     /// Takes what the peer of a connection that is left still sends. At its end the connection goes.
     pub(crate) fn throw_away(
         &mut self,
-        slots: &[Option<Held<L::Stream>>],
+        slots: &[Option<Held<L::End>>],
         index: usize,
     ) -> Option<Deed> {
         'reads: for _ in 0..LAST_READS {
@@ -49,7 +45,7 @@ impl<R: time::Clock, L: Listener> Book<'_, R, L> {
     }
 
     // Reads once, and keeps nothing of it.
-    fn read_last(&mut self, slots: &[Option<Held<L::Stream>>], index: usize) -> io::Result<usize> {
+    fn read_last(&mut self, slots: &[Option<Held<L::End>>], index: usize) -> io::Result<usize> {
         match seat_at(slots, index) {
             Some(seat) => seat.reader.inner.inner.throw_away(&mut self.buf),
             None => Ok(0),

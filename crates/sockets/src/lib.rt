@@ -20,4 +20,4 @@ mod stages;
 mod tally;
 
 pub use serving::{Limits, Outcome, serve};
-pub use socket::{Listener, Socket};
+pub use socket::{End, Listener, TcpEnd, Unready};

@@ -15,7 +15,7 @@ const HEAD_READ: usize = 4096;
 
 impl<R: time::Clock, L: Listener> Book<'_, R, L> {
     /// Reads ahead of the connection, if bytes may be there and a message of it can be read on. Else its socket tells when they are.
-    pub(crate) fn read(&mut self, slots: &[Option<Held<L::Stream>>], index: usize) -> Option<Deed> {
+    pub(crate) fn read(&mut self, slots: &[Option<Held<L::End>>], index: usize) -> Option<Deed> {
         let Some(size) = self.read_size(slots, index) else {
             return self.listen_to(slots, index);
         };
@@ -28,7 +28,7 @@ impl<R: time::Clock, L: Listener> Book<'_, R, L> {
     }
 
     // How many bytes the next read takes at the most, if there may be one.
-    fn read_size(&self, slots: &[Option<Held<L::Stream>>], index: usize) -> Option<usize> {
+    fn read_size(&self, slots: &[Option<Held<L::End>>], index: usize) -> Option<usize> {
         let peer = self.peers.get(index)?;
         if !peer.is_ready {
             return None;
@@ -45,7 +45,7 @@ impl<R: time::Clock, L: Listener> Book<'_, R, L> {
     /// A read ahead told this, and took as much as it might, or not.
     pub(crate) fn gathered(
         &mut self,
-        slots: &[Option<Held<L::Stream>>],
+        slots: &[Option<Held<L::End>>],
         index: usize,
         outcome: Result<Gathering, AllocError>,
         is_full: bool,
@@ -78,7 +78,7 @@ impl<R: time::Clock, L: Listener> Book<'_, R, L> {
     }
 
     // What the bytes that came make due.
-    fn advance(&mut self, slots: &[Option<Held<L::Stream>>], index: usize) -> Option<Deed> {
+    fn advance(&mut self, slots: &[Option<Held<L::End>>], index: usize) -> Option<Deed> {
         let ahead = ahead_len(slots, index);
         match self.phase(index) {
             Phase::Body { len, .. } if ahead >= len => return self.make_due(index),
@@ -92,11 +92,7 @@ impl<R: time::Clock, L: Listener> Book<'_, R, L> {
     }
 
     /// Judges what is ahead between two turns, nothing, a part of a message, or a whole one; and reads on where more is to come.
-    pub(crate) fn judge(
-        &mut self,
-        slots: &[Option<Held<L::Stream>>],
-        index: usize,
-    ) -> Option<Deed> {
+    pub(crate) fn judge(&mut self, slots: &[Option<Held<L::End>>], index: usize) -> Option<Deed> {
         let ahead = seat_at(slots, index)?.reader.inner.ahead();
         match message_len(ahead) {
             _ if ahead.is_empty() => self.enter(index, Phase::Silent),
@@ -111,7 +107,7 @@ impl<R: time::Clock, L: Listener> Book<'_, R, L> {
     // Room for a message is asked for.
     fn ask_room(
         &mut self,
-        slots: &[Option<Held<L::Stream>>],
+        slots: &[Option<Held<L::End>>],
         index: usize,
         len: usize,
     ) -> Option<Deed> {
@@ -131,7 +127,7 @@ impl<R: time::Clock, L: Listener> Book<'_, R, L> {
     /// The body comes of a message that was given room.
     pub(crate) fn begin_large(
         &mut self,
-        slots: &[Option<Held<L::Stream>>],
+        slots: &[Option<Held<L::End>>],
         index: usize,
         len: usize,
     ) -> Option<Deed> {
@@ -144,7 +140,7 @@ impl<R: time::Clock, L: Listener> Book<'_, R, L> {
     // The body comes: memory is taken for what is not ahead.
     fn begin_body(
         &mut self,
-        slots: &[Option<Held<L::Stream>>],
+        slots: &[Option<Held<L::End>>],
         index: usize,
         len: usize,
     ) -> Option<Deed> {
@@ -156,7 +152,7 @@ impl<R: time::Clock, L: Listener> Book<'_, R, L> {
     /// Memory for a body was taken, or refused.
     pub(crate) fn reserved(
         &mut self,
-        slots: &[Option<Held<L::Stream>>],
+        slots: &[Option<Held<L::End>>],
         index: usize,
         outcome: Result<(), AllocError>,
     ) -> Option<Deed> {

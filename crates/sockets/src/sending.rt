@@ -2,14 +2,13 @@
 use crate::book::Book;
 use crate::held::{Held, ahead_len, seat_at, waiting_len};
 use crate::peer::Phase;
-use crate::socket::Listener;
+use crate::socket::{End, Listener};
 use crate::tally::Deed;
 use mio::unix::SourceFd;
 use mio::{Interest, Token};
 use office::SessionEnd;
 use std::io::ErrorKind;
-use std::net::{OpenStream, Shutdown};
-use std::os::fd::AsRawFd;
+use std::net::Shutdown;
 use std::{io, time};
 use wire::{Room, Sending};
 
@@ -17,7 +16,7 @@ impl<R: time::Clock, L: Listener> Book<'_, R, L> {
     /// Its feed let go of this room. Behind a turn what was written is sent.
     pub(crate) fn settled(
         &mut self,
-        slots: &[Option<Held<L::Stream>>],
+        slots: &[Option<Held<L::End>>],
         index: usize,
         room: Option<Room>,
     ) -> Option<Deed> {
@@ -37,7 +36,7 @@ impl<R: time::Clock, L: Listener> Book<'_, R, L> {
     /// So far it was sent. Once all was, the connection goes on.
     pub(crate) fn sent(
         &mut self,
-        slots: &[Option<Held<L::Stream>>],
+        slots: &[Option<Held<L::End>>],
         index: usize,
         sending: Sending,
     ) -> Option<Deed> {
@@ -49,7 +48,7 @@ impl<R: time::Clock, L: Listener> Book<'_, R, L> {
     }
 
     // An answer waits: it is sent on when the peer has taken some of it.
-    fn hold(&mut self, slots: &[Option<Held<L::Stream>>], index: usize) -> Option<Deed> {
+    fn hold(&mut self, slots: &[Option<Held<L::End>>], index: usize) -> Option<Deed> {
         let waiting = waiting_len(slots, index);
         match self.phase(index) {
             Phase::Answer { mark } if waiting >= mark => return None,
@@ -68,7 +67,7 @@ impl<R: time::Clock, L: Listener> Book<'_, R, L> {
     }
 
     // No answer waits any more: the next message is read, or the connection is left.
-    fn go_on(&mut self, slots: &[Option<Held<L::Stream>>], index: usize) -> Option<Deed> {
+    fn go_on(&mut self, slots: &[Option<Held<L::End>>], index: usize) -> Option<Deed> {
         if matches!(self.phase(index), Phase::Answer { .. }) {
             if self.watch(slots, index, false).is_err() {
                 return self.give_up(slots, index, ErrorKind::Other);
@@ -85,7 +84,7 @@ impl<R: time::Clock, L: Listener> Book<'_, R, L> {
     /// Has the socket tell what can be read, if it does not yet.
     pub(crate) fn listen_to(
         &mut self,
-        slots: &[Option<Held<L::Stream>>],
+        slots: &[Option<Held<L::End>>],
         index: usize,
     ) -> Option<Deed> {
         if self.peers.get(index)?.is_watched || self.watch(slots, index, false).is_ok() {
@@ -97,14 +96,14 @@ impl<R: time::Clock, L: Listener> Book<'_, R, L> {
     // Has the socket tell what can be read, and, if answers wait, whether it takes more.
     fn watch(
         &mut self,
-        slots: &[Option<Held<L::Stream>>],
+        slots: &[Option<Held<L::End>>],
         index: usize,
         is_waiting: bool,
     ) -> io::Result<()> {
         let (Some(seat), Some(peer)) = (seat_at(slots, index), self.peers.get_mut(index)) else {
             return Ok(());
         };
-        let fd = seat.reader.inner.inner.as_raw_fd();
+        let fd = seat.reader.inner.inner.raw_fd();
         let interests = if is_waiting {
             Interest::READABLE | Interest::WRITABLE
         } else {
@@ -119,7 +118,7 @@ impl<R: time::Clock, L: Listener> Book<'_, R, L> {
     }
 
     /// Cuts a connection whose peer takes no answer: its writes fail from now on.
-    pub(crate) fn cut(&mut self, slots: &[Option<Held<L::Stream>>], index: usize) -> Option<Deed> {
+    pub(crate) fn cut(&mut self, slots: &[Option<Held<L::End>>], index: usize) -> Option<Deed> {
         let stream = &seat_at(slots, index)?.reader.inner.inner;
         let _ = stream.shutdown(Shutdown::Both);
         Some(Deed::Send)

@@ -2,6 +2,7 @@
 ghost use Rattle.std.specs.Prelude.{◌≡◌, ◌≤◌, ◌+◌, ℕ, IfErr, IfOk, None, true};
 ghost use Rattle.office.specs.Crowds.{slot_at};
 ghost use Rattle.office.specs.Premise.{StaysUnstaged};
+ghost use Rattle.sockets.specs.Accepted.{AreAccepted};
 ghost use Rattle.sockets.specs.Accepting.{ServesMany};
 
 use crate::held::Held;
@@ -23,7 +24,7 @@ pub struct Limits {
     pub connections: u64,
     /// How long a peer may keep one waiting; without it there is no bound.
     pub patience: Option<Duration>,
-    /// How many may be open at a time, 1 at the least. Each takes two descriptors.
+    /// How many may be open at a time, 1 at the least. Each takes a descriptor.
     pub open: usize,
 }
 
@@ -56,9 +57,9 @@ pub fn serve<K: Keeper, C: Clock, L: Listener, R: Net + time::Clock>(
     limits: Limits,
     clock: &mut C,
 ) -> io::Result<Outcome>
-    ensures serves { IfOk result (λ outcome. ServesMany C.now_gives L.brings L.Stream.Socket.same_peer
-        ⟦<Gathered<L::Stream> as Read>⟧.remaining
-        ⟦<Outbox<L::Stream> as Write>⟧.contents clock.old clock.new
+    ensures serves { IfOk result (λ outcome. ServesMany C.now_gives (AreAccepted L.brings L.are_ends)
+        ⟦<Gathered<L::End> as Read>⟧.remaining
+        ⟦<Outbox<L::End> as Write>⟧.contents clock.old clock.new
         K.Keeper office.old.keeper office.new.keeper limits.connections outcome) }
     ensures nothing { IfErr result (λ e. (office.new ≡ office.old) × (clock.new ≡ clock.old)) }
     ensures honest { K.is_honest office.new.keeper → K.is_honest office.old.keeper }

@@ -1,86 +1,195 @@
-//! What is asked of a listener, and of the sockets that it brings.
-ghost use Rattle.std.specs.Prelude.{IfOk};
+//! What is asked of a listener, and of the ends of the connections that it brings.
+ghost use Rattle.std.specs.Prelude.{◌≡◌, IfErr, IfOk, IfSome};
 
+use std::alloc::{AllocError, Global};
 use std::io;
-use std::io::{Read, Write};
-use std::net::{OpenStream, TcpListener, TcpStream};
-use std::os::fd::AsRawFd;
+use std::io::{ErrorKind, Read, Write};
+use std::net::{Shutdown, TcpListener, TcpStream};
+use std::os::fd::{AsRawFd, RawFd};
+use std::rc::Rc;
 
-/// A socket whose peer is served.
-pub trait Socket: Read + Write + OpenStream + AsRawFd + Drop {
-    /// Both are ends of one connection: what is written to the second one goes to the peer that the first one reads from.
-    ghost same_peer: { Self → Self → Type 0 };
+/// One end of a connection: what the peer sends is read from it, or what is written to it goes to the peer. Neither waits.
+pub trait End: Read + Write + Drop {
+    /// The number by which the system knows its socket.
+    fn raw_fd(&self) -> RawFd;
 
-    /// The second end of its connection.
+    /// Ends a way of the connection, or both.
     ///
     /// # Errors
     ///
-    /// The system has no descriptor or no memory for it.
-    fn second_end(&self) -> io::Result<Self>
-    where
-        Self: Sized,
-        ensures { IfOk result (λ second. same_peer self.now second) };
+    /// The connection is there no more.
+    fn shutdown(&self, how: Shutdown) -> io::Result<()>;
 
-    /// Reads once by way of the buffer, and keeps nothing of it: how many bytes came, or 0 at the end.
+    /// Reads once by way of the buffer, and keeps nothing of it: how many bytes came, or 0 at the end. It is for connections whose
+    /// session has ended.
     ///
     /// # Errors
     ///
-    /// The read failed. Of a socket that does not wait, `WouldBlock` tells that nothing is there now.
+    /// The read failed; `WouldBlock` tells that nothing is there now.
     fn throw_away(&self, buf: &mut [u8]) -> io::Result<usize>;
+}
+
+/// A connection whose ends could not be made.
+#[derive(Drop)]
+pub struct Unready<S> {
+    /// The connection, as it was, if it is there still.
+    pub stream: Option<S>,
+    /// Why.
+    pub error: io::Error,
 }
 
 /// A listener whose connections are served.
 pub trait Listener: AsRawFd {
-    /// What it brings.
-    type Stream: Socket;
+    /// A connection, as it was accepted.
+    type Stream: Drop;
 
-    /// It is a socket as an `accept` gave it, of which nothing was read.
+    /// One of its ends.
+    type End: End;
+
+    /// An `accept` gave it.
     ghost brings: { Self.Stream → Type 0 };
 
-    /// The next connection that came.
-    ///
-    /// # Errors
-    ///
-    /// It could not be accepted. Of a listener that does not wait, `WouldBlock` tells that none is there now.
-    fn accept(&self) -> io::Result<Self::Stream>
-        ensures { IfOk result brings };
+    /// The two ends of a connection: the one that is read, and the one that is written to.
+    ghost are_ends: { Self.Stream → Self.End → Self.End → Type 0 };
 
-    /// Whether a call that would wait gives `WouldBlock`.
+    /// Whether an `accept` that would wait gives `WouldBlock`.
     ///
     /// # Errors
     ///
     /// The system refused it.
     fn set_nonblocking(&self, nonblocking: bool) -> io::Result<()>;
+
+    /// The next connection that came.
+    ///
+    /// # Errors
+    ///
+    /// It could not be accepted; `WouldBlock` tells that none is there now.
+    fn accept(&self) -> io::Result<Self::Stream>
+        ensures { IfOk result brings };
+
+    /// The ends of a connection. From now on its reads and writes do not wait, and what is written goes out at once.
+    ///
+    /// # Errors
+    ///
+    /// Memory was refused, or the system refused it.
+    fn ends(
+        alloc: Global,
+        stream: Self::Stream,
+    ) -> Result<(Self::End, Self::End), Unready<Self::Stream>>
+        ensures ends { IfOk result (λ ends. are_ends stream ends.0 ends.1) }
+        ensures back { IfErr result (λ unready. IfSome unready.stream (λ same. same ≡ stream)) };
 }
 
-impl Socket for TcpStream {
-    ghost use Rattle.std.specs.Prelude.{⊤};
+/// One end of a TCP connection. The socket is closed once both have gone.
+#[derive(Drop)]
+pub struct TcpEnd {
+    stream: Rc<TcpStream>,
+    // Whether a read found its end. Behind it no other is asked for.
+    has_ended: bool,
+}
 
-    ghost same_peer = { λ _ _. ⊤ };
+impl TcpEnd {
+    // An end of this connection, of which nothing was read.
+    fn new(stream: Rc<TcpStream>) -> TcpEnd
+        ensures { result.stream ≡ stream }
+    {
+        TcpEnd {
+            stream,
+            has_ended: false,
+        }
+    }
+}
 
-    fn second_end(&self) -> io::Result<TcpStream> {
-        self.try_clone()
+impl Read for TcpEnd {
+    fn read(&mut self, buf: &mut [u8]) -> io::Result<usize> {
+        if self.has_ended {
+            return Ok(0);
+        }
+        let mut stream: &TcpStream = &self.stream;
+        let count = stream.read(buf)?;
+        self.has_ended = count == 0 && !buf.is_empty();
+        Ok(count)
+    }
+}
+
+impl Write for TcpEnd {
+    fn write(&mut self, buf: &[u8]) -> io::Result<usize> {
+        let mut stream: &TcpStream = &self.stream;
+        stream.write(buf)
+    }
+
+    fn flush(&mut self) -> io::Result<()> {
+        Ok(())
+    }
+}
+
+impl End for TcpEnd {
+    fn raw_fd(&self) -> RawFd {
+        self.stream.as_raw_fd()
+    }
+
+    fn shutdown(&self, how: Shutdown) -> io::Result<()> {
+        self.stream.shutdown(how)
     }
 
     fn throw_away(&self, buf: &mut [u8]) -> io::Result<usize> {
-        let mut stream = self;
+        let mut stream: &TcpStream = &self.stream;
         stream.read(buf)
+    }
+}
+
+// From now on reads and writes of the stream do not wait, and what is written goes out at once.
+fn set_up(stream: &TcpStream) -> io::Result<()> {
+    stream.set_nonblocking(true)?;
+    stream.set_nodelay(true)
+}
+
+// Both ends of the stream, by which it is owned; or the stream, where memory is refused.
+fn share(alloc: Global, stream: TcpStream) -> Result<(TcpEnd, TcpEnd), Option<TcpStream>>
+    ensures ends { IfOk result (λ ends. (ends.0.stream.value ≡ stream) × (ends.1.stream.value ≡ stream)) }
+    ensures back { IfErr result (λ back. IfSome back (λ same. same ≡ stream)) }
+{
+    let first = match Rc::new(alloc, stream) {
+        Ok(first) => first,
+        Err(failed) => return Err(Some(failed.value)),
+    };
+    match first.clone() {
+        Ok(second) => Ok((TcpEnd::new(first), TcpEnd::new(second))),
+        Err(AllocError) => Err(None),
     }
 }
 
 impl Listener for TcpListener {
     type Stream = TcpStream;
 
-    ghost use Rattle.std.specs.Prelude.{⊤};
+    type End = TcpEnd;
+
+    ghost use Rattle.std.specs.Prelude.{◌≡◌, ⊤};
 
     ghost brings = { λ _. ⊤ };
+
+    ghost are_ends = { λ stream one other. (one.stream.value ≡ stream) × (other.stream.value ≡ stream) };
+
+    fn set_nonblocking(&self, nonblocking: bool) -> io::Result<()> {
+        TcpListener::set_nonblocking(self, nonblocking)
+    }
 
     fn accept(&self) -> io::Result<TcpStream> {
         let (stream, _) = TcpListener::accept(self)?;
         Ok(stream)
     }
 
-    fn set_nonblocking(&self, nonblocking: bool) -> io::Result<()> {
-        TcpListener::set_nonblocking(self, nonblocking)
+    fn ends(alloc: Global, stream: TcpStream) -> Result<(TcpEnd, TcpEnd), Unready<TcpStream>> {
+        if let Err(error) = set_up(&stream) {
+            let stream = Some(stream);
+            return Err(Unready { stream, error });
+        }
+        match share(alloc, stream) {
+            Ok(ends) => Ok(ends),
+            Err(stream) => {
+                let error = io::Error::from(ErrorKind::OutOfMemory);
+                Err(Unready { stream, error })
+            }
+        }
     }
 }

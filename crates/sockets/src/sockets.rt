@@ -1,6 +1,7 @@
 //! The sockets of a listener's peers, as the crowd around an office.
 ghost use Rattle.std.specs.Prelude.{◌≡◌, ◌<◌, true, IfOk};
 ghost use Rattle.office.specs.Crowds.{IsOpenAt};
+ghost use Rattle.sockets.specs.Accepted.{AreAccepted};
 ghost use Rattle.sockets.specs.Moving.{Moves};
 
 use crate::book::Book;
@@ -67,9 +68,9 @@ impl<R: time::Clock, L: Listener> Sockets<'_, R, L> {
     }
 
     // Does this, and answers what is done next.
-    fn work(&mut self, slots: &mut [Option<Held<L::Stream>>], task: Task) -> Option<Task>
-        ensures moves { Moves L.brings L.Stream.Socket.same_peer ⟦<Gathered<L::Stream> as Read>⟧.remaining
-            ⟦<Outbox<L::Stream> as Write>⟧.contents self.old.tally self.new.tally slots.old slots.new }
+    fn work(&mut self, slots: &mut [Option<Held<L::End>>], task: Task) -> Option<Task>
+        ensures moves { Moves (AreAccepted L.brings L.are_ends) ⟦<Gathered<L::End> as Read>⟧.remaining
+            ⟦<Outbox<L::End> as Write>⟧.contents self.old.tally self.new.tally slots.old slots.new }
         ensures turns { self.new.turns ≡ self.old.turns }
     {
         let index = task.index;
@@ -81,9 +82,9 @@ impl<R: time::Clock, L: Listener> Sockets<'_, R, L> {
     }
 
     // Puts a connection that was accepted into a free slot.
-    fn open(&mut self, slots: &mut [Option<Held<L::Stream>>], ends: Ends<L>) -> Option<Task>
-        ensures moves { Moves L.brings L.Stream.Socket.same_peer ⟦<Gathered<L::Stream> as Read>⟧.remaining
-            ⟦<Outbox<L::Stream> as Write>⟧.contents self.old.tally self.new.tally slots.old slots.new }
+    fn open(&mut self, slots: &mut [Option<Held<L::End>>], ends: Ends<L>) -> Option<Task>
+        ensures moves { Moves (AreAccepted L.brings L.are_ends) ⟦<Gathered<L::End> as Read>⟧.remaining
+            ⟦<Outbox<L::End> as Write>⟧.contents self.old.tally self.new.tally slots.old slots.new }
         ensures turns { self.new.turns ≡ self.old.turns }
     {
         let slot = self.tally.open(slots, self.book.alloc, ends);
@@ -91,9 +92,9 @@ impl<R: time::Clock, L: Listener> Sockets<'_, R, L> {
     }
 
     // Does the task, if there is one; or else goes on to what is next.
-    fn go(&mut self, slots: &mut [Option<Held<L::Stream>>], task: Option<Task>) -> Next
-        ensures moves { Moves L.brings L.Stream.Socket.same_peer ⟦<Gathered<L::Stream> as Read>⟧.remaining
-            ⟦<Outbox<L::Stream> as Write>⟧.contents self.old.tally self.new.tally slots.old slots.new }
+    fn go(&mut self, slots: &mut [Option<Held<L::End>>], task: Option<Task>) -> Next
+        ensures moves { Moves (AreAccepted L.brings L.are_ends) ⟦<Gathered<L::End> as Read>⟧.remaining
+            ⟦<Outbox<L::End> as Write>⟧.contents self.old.tally self.new.tally slots.old slots.new }
         ensures turns { self.new.turns ≡ self.old.turns }
     {
         if let Some(task) = task {
@@ -121,14 +122,13 @@ fn is_open_at<S>(slots: &[Option<Held<S>>], index: usize) -> bool
     }
 }
 
-impl<R: time::Clock, L: Listener> Crowd<Gathered<L::Stream>, Outbox<L::Stream>>
-    for Sockets<'_, R, L> {
+impl<R: time::Clock, L: Listener> Crowd<Gathered<L::End>, Outbox<L::End>> for Sockets<'_, R, L> {
     ghost use Rattle.std.specs.Prelude.{◌≡◌, length, ⊤};
     ghost use Rattle.std.specs.List.{AllByRecursion};
     ghost use Rattle.sockets.specs.Accepting.{IsAccepted};
 
     ghost met = { λ s came gone. (s.tally.came ≡ length came) × (s.tally.gone ≡ length gone)
-        × AllByRecursion (IsAccepted L.brings L.Stream.Socket.same_peer) came };
+        × AllByRecursion (IsAccepted (AreAccepted L.brings L.are_ends)) came };
 
     ghost gave = { λ _ _ _. ⊤ };
 
@@ -138,7 +138,7 @@ impl<R: time::Clock, L: Listener> Crowd<Gathered<L::Stream>, Outbox<L::Stream>>
 
     ghost few = { λ s. s.few };
 
-    fn next(&mut self, slots: &mut [Option<Held<L::Stream>>], spare: Option<Room>) -> Option<Due> {
+    fn next(&mut self, slots: &mut [Option<Held<L::End>>], spare: Option<Room>) -> Option<Due> {
         let mut task = self.book.behind_turn(spare);
         'steps: for _ in 0..u64::MAX {
             match self.go(slots, task) {

@@ -79,7 +79,7 @@ impl<R: time::Clock, L: Listener> Book<'_, R, L> {
     }
 
     /// What is next, where nothing is left to be done.
-    pub(crate) fn step(&mut self, slots: &[Option<Held<L::Stream>>]) -> Step<L> {
+    pub(crate) fn step(&mut self, slots: &[Option<Held<L::End>>]) -> Step<L> {
         self.reads = MOST_READS;
         match self.stage {
             Stage::Turns => self.step_turns(),
@@ -130,7 +130,7 @@ impl<R: time::Clock, L: Listener> Book<'_, R, L> {
     }
 
     // One of the events that the last wait told.
-    fn step_events(&mut self, slots: &[Option<Held<L::Stream>>], at: usize) -> Step<L> {
+    fn step_events(&mut self, slots: &[Option<Held<L::End>>], at: usize) -> Step<L> {
         let Some(event) = self.told(at) else {
             self.stage = Stage::Behind(0);
             return Step::Go(None);
@@ -153,7 +153,7 @@ impl<R: time::Clock, L: Listener> Book<'_, R, L> {
     // Takes up what the socket of a slot told.
     fn take_up(
         &mut self,
-        slots: &[Option<Held<L::Stream>>],
+        slots: &[Option<Held<L::End>>],
         index: usize,
         event: Event,
     ) -> Option<Deed> {
@@ -172,7 +172,7 @@ impl<R: time::Clock, L: Listener> Book<'_, R, L> {
     }
 
     // A connection that may have been left to be read on.
-    fn step_behind(&mut self, slots: &[Option<Held<L::Stream>>], at: usize) -> Step<L> {
+    fn step_behind(&mut self, slots: &[Option<Held<L::End>>], at: usize) -> Step<L> {
         if at == 0 && !self.is_behind || at >= self.peers.len() {
             self.stage = self.look_or_not();
             return Step::Go(None);
@@ -196,7 +196,7 @@ impl<R: time::Clock, L: Listener> Book<'_, R, L> {
     }
 
     // A connection that may be over its bound.
-    fn step_look(&mut self, slots: &[Option<Held<L::Stream>>], at: usize) -> Step<L> {
+    fn step_look(&mut self, slots: &[Option<Held<L::End>>], at: usize) -> Step<L> {
         if at >= self.peers.len() {
             self.stage = Stage::Accept(MOST_ACCEPTS);
             return Step::Go(None);
@@ -225,7 +225,7 @@ impl<R: time::Clock, L: Listener> Book<'_, R, L> {
     }
 
     // Room for one that waits for it; or what is cut off for others. Behind the last one the next round begins.
-    fn step_rooms(&mut self, slots: &[Option<Held<L::Stream>>]) -> Step<L> {
+    fn step_rooms(&mut self, slots: &[Option<Held<L::End>>]) -> Step<L> {
         if self.is_laden {
             self.is_laden = false;
             if let Some(index) = self.too_slow(slots) {
@@ -244,7 +244,7 @@ impl<R: time::Clock, L: Listener> Book<'_, R, L> {
     }
 
     // Where one waits for room, a body that comes too slowly gives up its own.
-    fn make_room(&mut self, slots: &[Option<Held<L::Stream>>]) -> Step<L> {
+    fn make_room(&mut self, slots: &[Option<Held<L::End>>]) -> Step<L> {
         if !self.rooms.is_short() {
             return Step::Go(None);
         }
@@ -282,7 +282,7 @@ impl<R: time::Clock, L: Listener> Book<'_, R, L> {
     /// What is done next to the connection, behind this.
     pub(crate) fn told_of(
         &mut self,
-        slots: &[Option<Held<L::Stream>>],
+        slots: &[Option<Held<L::End>>],
         index: usize,
         report: Report,
     ) -> Option<Deed> {

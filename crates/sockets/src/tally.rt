@@ -1,6 +1,7 @@
 //! What is done to the connections in their slots, and how many came and went.
 ghost use Rattle.std.specs.Prelude.{◌≡◌, ◌<◌, [], length};
 ghost use Rattle.office.specs.Crowds.{Changes};
+ghost use Rattle.sockets.specs.Accepted.{AreAccepted};
 ghost use Rattle.sockets.specs.Moving.{Moves};
 
 use crate::ends::Ends;
@@ -74,12 +75,12 @@ impl Tally {
     /// Puts a connection into a free slot: its index, if one is free.
     pub(crate) fn open<L: Listener>(
         &mut self,
-        slots: &mut [Option<Held<L::Stream>>],
+        slots: &mut [Option<Held<L::End>>],
         alloc: Global,
         ends: Ends<L>,
     ) -> Option<usize>
-        ensures moves { Moves L.brings L.Stream.Socket.same_peer ⟦<Gathered<L::Stream> as Read>⟧.remaining
-            ⟦<Outbox<L::Stream> as Write>⟧.contents self.old self.new slots.old slots.new }
+        ensures moves { Moves (AreAccepted L.brings L.are_ends) ⟦<Gathered<L::End> as Read>⟧.remaining
+            ⟦<Outbox<L::End> as Write>⟧.contents self.old self.new slots.old slots.new }
     {
         let came = self.came.checked_add(1)?;
         let reader = Gathered::new(alloc, ends.reader);
@@ -94,10 +95,10 @@ impl Tally {
     }
 
     /// Makes the slot free.
-    fn free<L: Listener>(&mut self, slots: &mut [Option<Held<L::Stream>>], index: usize) -> Report
+    fn free<L: Listener>(&mut self, slots: &mut [Option<Held<L::End>>], index: usize) -> Report
         requires { index < length slots.old }
-        ensures moves { Moves L.brings L.Stream.Socket.same_peer ⟦<Gathered<L::Stream> as Read>⟧.remaining
-            ⟦<Outbox<L::Stream> as Write>⟧.contents self.old self.new slots.old slots.new }
+        ensures moves { Moves (AreAccepted L.brings L.are_ends) ⟦<Gathered<L::End> as Read>⟧.remaining
+            ⟦<Outbox<L::End> as Write>⟧.contents self.old self.new slots.old slots.new }
     {
         let Some(gone) = self.gone.checked_add(1) else {
             return Report::Nothing;
@@ -111,13 +112,13 @@ impl Tally {
     /// Does this to the connection in the slot. What is read comes by way of the buffer.
     pub(crate) fn work<L: Listener>(
         &mut self,
-        slots: &mut [Option<Held<L::Stream>>],
+        slots: &mut [Option<Held<L::End>>],
         index: usize,
         deed: Deed,
         buf: &mut [u8],
     ) -> Report
-        ensures moves { Moves L.brings L.Stream.Socket.same_peer ⟦<Gathered<L::Stream> as Read>⟧.remaining
-            ⟦<Outbox<L::Stream> as Write>⟧.contents self.old self.new slots.old slots.new }
+        ensures moves { Moves (AreAccepted L.brings L.are_ends) ⟦<Gathered<L::End> as Read>⟧.remaining
+            ⟦<Outbox<L::End> as Write>⟧.contents self.old self.new slots.old slots.new }
     {
         if index >= slots.len() {
             return Report::Nothing;
@@ -138,14 +139,14 @@ impl Tally {
 
 // Reads once ahead of the connection in the slot, so many bytes at the most.
 fn gather<L: Listener>(
-    slots: &mut [Option<Held<L::Stream>>],
+    slots: &mut [Option<Held<L::End>>],
     index: usize,
     size: usize,
     buf: &mut [u8],
 ) -> Report
     requires { index < length slots.old }
-    ensures changes { Changes ⟦<Gathered<L::Stream> as Read>⟧.remaining
-        ⟦<Outbox<L::Stream> as Write>⟧.contents slots.old slots.new [] [] }
+    ensures changes { Changes ⟦<Gathered<L::End> as Read>⟧.remaining
+        ⟦<Outbox<L::End> as Write>⟧.contents slots.old slots.new [] [] }
 {
     let before = ahead_len(slots, index);
     let size = size.min(buf.len());

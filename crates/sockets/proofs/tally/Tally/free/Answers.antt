@@ -6,7 +6,7 @@ use Rattle.sockets.proofs.tally.Tally.free.Goals as goal
 use Rattle.sockets.proofs.tally.Tally.free.Goals.{then-is_some, else-is_some}
 
 pub returns-in_default : goal.returns-in_default
-returns-in_default c = record { moves = moves_none _ _ _ _ c.args.self.now c.args.slots.now }
+returns-in_default c = record { moves = moves_none _ _ _ c.args.self.now c.args.slots.now }
 
 pub returns : goal.returns
 returns c =
