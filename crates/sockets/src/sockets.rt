@@ -127,10 +127,12 @@ fn is_open_at(slots: &[Option<Held>], index: usize) -> bool
 }
 
 impl<R: time::Clock> Crowd<Gathered<TcpStream>, Outbox<TcpStream>> for Sockets<'_, R> {
-    ghost use Rattle.std.specs.Prelude.{◌≡◌, length};
+    ghost use Rattle.std.specs.Prelude.{◌≡◌, length, ⊤};
     ghost use Rattle.sockets.specs.Gone.{IsOver};
 
     ghost met = { λ s came gone. (s.tally.came ≡ length came) × (s.tally.gone ≡ length gone) };
+
+    ghost gave = { λ _ _ _. ⊤ };
 
     ghost over = { IsOver };
 
