@@ -191,7 +191,7 @@ module _ {R W : Type 0} (remaining : R → Option (List ℕ)) (contents : W → 
         let before : over_if old.end ≡ zero = ap over_if is_open in
         let behind : over_if new.end ≡ zero = ap over_if is_now in
         omega (arith, before, behind, served)
-    one_turn clock' clock'' keeper' keeper'' mid after old new is_open (ended n e was_open is served sum serves few) =
+    one_turn clock' clock'' keeper' keeper'' mid after old new is_open (ended n e was_open is served sum serves once) =
         let before : over_if old.end ≡ zero = ap over_if is_open in
         let behind : over_if new.end ≡ suc zero = ap over_if is in
         omega (arith, before, behind, served)
