@@ -70,13 +70,10 @@ pub fn gather_slot<S: Read, W: Write>(
     ensures done { DoneAt ⟦<Gathered<S> as Read>⟧.remaining (λ a b. ReadsAhead S.remaining a b result)
         (result ≡ Ok Gathering.Ended) slots.old slots.new index }
 {
-    let Some(seat) = &mut slots[index] else {
-        return Ok(Gathering::Ended);
-    };
-    if seat.end().is_some() {
-        return Ok(Gathering::Ended);
+    match &mut slots[index] {
+        Some(seat) if seat.end().is_none() => seat.gather(buf),
+        _ => Ok(Gathering::Ended),
     }
-    seat.gather(buf)
 }
 
 /// Gives what the feed of the connection in the slot read and did not take back to what was read ahead, and lets go of the
@@ -91,13 +88,10 @@ pub fn settle_slot<S: Read, W: Write>(
     ensures done { DoneAt ⟦<Gathered<S> as Read>⟧.remaining (λ a b. PutsBack a b result)
         (IsNone result) slots.old slots.new index }
 {
-    let Some(seat) = &mut slots[index] else {
-        return None;
-    };
-    if seat.end().is_some() {
-        return None;
+    match &mut slots[index] {
+        Some(seat) if seat.end().is_none() => seat.give_back(),
+        _ => None,
     }
-    seat.give_back()
 }
 
 /// Takes memory for so many bytes more that are read ahead of the connection in the slot, if it has not ended. The error is that
@@ -112,13 +106,10 @@ pub fn make_room_in_slot<S: Read, W: Write>(
     ensures done { DoneAt ⟦<Gathered<S> as Read>⟧.remaining (λ a b. MakesRoom n a b result)
         (IsOk result) slots.old slots.new index }
 {
-    let Some(seat) = &mut slots[index] else {
-        return Ok(());
-    };
-    if seat.end().is_some() {
-        return Ok(());
+    match &mut slots[index] {
+        Some(seat) if seat.end().is_none() => seat.make_room(n),
+        _ => Ok(()),
     }
-    seat.make_room(n)
 }
 
 /// From now on each read of the connection in the slot fails so, behind the bytes that are ahead, unless one failed before or it
@@ -132,11 +123,9 @@ pub fn fail_slot<S: Read, W: Write>(
     ensures changes { Changes ⟦<Gathered<S> as Read>⟧.remaining W.contents slots.old slots.new [] [] }
     ensures done { DoneAt ⟦<Gathered<S> as Read>⟧.remaining (λ a b. Fails a b) ⊤ slots.old slots.new index }
 {
-    let Some(seat) = &mut slots[index] else {
-        return;
-    };
-    if seat.end().is_none() {
-        seat.fail(error);
+    match &mut slots[index] {
+        Some(seat) if seat.end().is_none() => seat.fail(error),
+        _ => {}
     }
 }
 
@@ -151,8 +140,8 @@ pub fn send_slot<R: Read, S: Write>(
     ensures done { SentAt ⟦<Outbox<S> as Write>⟧.contents (λ a b. SendsOn S.contents a b result)
         (result ≡ Sending.Sent) slots.old slots.new index }
 {
-    let Some(seat) = &mut slots[index] else {
-        return Sending::Sent;
-    };
-    seat.send()
+    match &mut slots[index] {
+        Some(seat) => seat.send(),
+        None => Sending::Sent,
+    }
 }
