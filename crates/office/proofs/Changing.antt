@@ -8,6 +8,7 @@ use Rattle.office.specs.Crowds as crowd
 use Rattle.office.specs.Seats.{Gathers, IsNew, Sends}
 use Rattle.office.specs.declared.connections.crowding.Due.{Due}
 use Rattle.office.specs.declared.connections.seat.Seat.{Seat}
+use Rattle.office.proofs.SeatTurns.{none_of}
 use Rattle.office.proofs.Ties.{none_is, some_is}
 
 module _ {R W : Type 0} (remaining : R → Option (List ℕ)) (contents : W → Option (List ℕ)) where
@@ -106,50 +107,53 @@ module _ {R W : Type 0} (remaining : R → Option (List ℕ)) (contents : W → 
   pub by_comes : (a : List (Option (Seat R W))) (p : ℕ) (d : Option (Seat R W)) (new : Seat R W) → p < length a → get_or a p d ≡ None → IsNew new → Changes remaining contents a (set a p (Some new)) (new ∷ []) []
   by_comes a p d new lt free is = crowd.comes a [] [] p new crowd.same lt (get_or_default a p None d lt ∙ free) is
 
-  -- bytes that were written to the one there are sent on
-  pub by_sends : (a : List (Option (Seat R W))) (p : ℕ) (d : Option (Seat R W)) (seat new : Seat R W) → p < length a → get_or a p d ≡ Some seat → Sends contents seat new
-      → Changes remaining contents a (set a p (Some new)) [] []
-  by_sends a p d seat new lt at g = crowd.sends a [] [] p seat new crowd.same lt (get_or_default a p None d lt ∙ at) g
-
-  -- bytes are read ahead of the one there
-  pub by_gathers : (a : List (Option (Seat R W))) (p : ℕ) (d : Option (Seat R W)) (seat new : Seat R W) → p < length a → get_or a p d ≡ Some seat → seat.end ≡ None → Gathers remaining seat new
-      → Changes remaining contents a (set a p (Some new)) [] []
-  by_gathers a p d seat new lt at is_open g = crowd.gathers a [] [] p seat new crowd.same lt (get_or_default a p None d lt ∙ at) is_open g
-
   -- the slot is made free
   pub by_goes : (a : List (Option (Seat R W))) (p : ℕ) (d there : Option (Seat R W)) → p < length a → get_or a p d ≡ there → Changes remaining contents a (set a p None) [] (those_of there)
   by_goes a p d None lt at =
       subst (λ l. Changes remaining contents a l [] []) (sym (ap (set a p) (sym at) ∙ set-get_or a p d)) crowd.same
   by_goes a p d (Some seat) lt at = crowd.goes a [] [] p seat crowd.same lt (get_or_default a p None d lt ∙ at)
 
-  -- what stands in the slot stays
-  pub by_kept : (a : List (Option (Seat R W))) (p : ℕ) (d now : Option (Seat R W)) → now ≡ get_or a p d → Changes remaining contents a (set a p now) [] []
-  by_kept a p d now is = subst (λ l. Changes remaining contents a l [] []) (sym (ap (set a p) is ∙ set-get_or a p d)) crowd.same
+  -- what was done to the open one in the slot is such a change
+  pub by_done : (done : Seat R W → Seat R W → Type 0) (told : Type 0) (a b : List (Option (Seat R W))) (p : ℕ) → p < length a → DoneAt remaining done told a b p → Changes remaining contents a b [] []
+  by_done done told a b p lt (inl (seat, at, is_open, after, g, so, new)) =
+      subst (λ l. Changes remaining contents a l [] []) (sym new) (crowd.gathers a [] [] p seat after crowd.same lt at is_open g)
+  by_done done told a b p lt (inr (none, same, is)) = subst (λ l. Changes remaining contents a l [] []) (sym same) crowd.same
 
-module _ {R W : Type 0} (done : Seat R W → Seat R W → Type 0) (a : List (Option (Seat R W))) (p : ℕ) (d : Option (Seat R W)) (lt : p < length a) where
-  -- it was done to the open one there
-  pub done_there : (seat after : Seat R W) → get_or a p d ≡ Some seat → seat.end ≡ None → done seat after → DoneAt done a (set a p (Some after)) p
-  done_there seat after at is_open so = inl (seat, get_or_default a p None d lt ∙ at, is_open, after, so, refl)
-
-  -- none there is open
-  pub done_nowhere : (now : Option (Seat R W)) → get_or a p d ≡ now → ((seat : Seat R W) → now ≡ Some seat → seat.end ≡ None → ⊥) → DoneAt done a (set a p now) p
-  done_nowhere now at none = inr (
-    λ seat there. none seat (sym (get_or_default a p None d lt ∙ at) ∙ there),
-    ap (set a p) (sym at) ∙ set-get_or a p d,
-  )
-
-  pub sent_there : (seat after : Seat R W) → get_or a p d ≡ Some seat → done seat after → SentAt done a (set a p (Some after)) p
-  sent_there seat after at so = inl (seat, get_or_default a p None d lt ∙ at, after, so, refl)
-
-  pub sent_nowhere : (now : Option (Seat R W)) → get_or a p d ≡ now → now ≡ None → SentAt done a (set a p now) p
-  sent_nowhere now at none = inr (get_or_default a p None d lt ∙ at ∙ none, ap (set a p) (sym at) ∙ set-get_or a p d)
+  pub by_sent : (done : Seat R W → Seat R W → Type 0) (told : Type 0) (a b : List (Option (Seat R W))) (p : ℕ) → p < length a → SentAt contents done told a b p → Changes remaining contents a b [] []
+  by_sent done told a b p lt (inl (seat, at, after, g, so, new)) =
+      subst (λ l. Changes remaining contents a l [] []) (sym new) (crowd.sends a [] [] p seat after crowd.same lt at g)
+  by_sent done told a b p lt (inr (none, same, is)) = subst (λ l. Changes remaining contents a l [] []) (sym same) crowd.same
 
 -- one that has ended is not open
-pub ended_there : {R W : Type 0} (now : Option (Seat R W)) (one : Seat R W) → now ≡ Some one → is_some one.end ≡ true → (seat : Seat R W) → now ≡ Some seat → seat.end ≡ None → ⊥
-ended_there now one at over seat there is_open =
-    let same : one ≡ seat = some_is one seat (sym at ∙ there) in
-    let none : is_some one.end ≡ false = ap (λ (x : Seat _ _). is_some x.end) same ∙ ap is_some is_open in
+ended_there : {R W : Type 0} (one : Seat R W) → is_some one.end ≡ true → (seat : Seat R W) → Some one ≡ Some seat → seat.end ≡ None → ⊥
+ended_there one over seat there is_open =
+    let none : is_some one.end ≡ false = ap (λ (x : Seat _ _). is_some x.end) (some_is one seat there) ∙ ap is_some is_open in
     absurd cc
 
-pub free_there : {R W : Type 0} (now : Option (Seat R W)) → now ≡ None → (seat : Seat R W) → now ≡ Some seat → seat.end ≡ None → ⊥
-free_there now none seat there is_open = none_is seat (sym none ∙ there)
+module _ {R W : Type 0} (remaining : R → Option (List ℕ)) (done : Seat R W → Seat R W → Type 0) (told : Type 0) (a : List (Option (Seat R W))) (p : ℕ) (d : Option (Seat R W)) (lt : p < length a) where
+  -- it was done to the open one there
+  pub done_there : (seat after : Seat R W) → get_or a p d ≡ Some seat → is_some seat.end ≡ false → Gathers remaining seat after → done seat after → DoneAt remaining done told a (set a p (Some after)) p
+  done_there seat after at is_open g so = inl (seat, get_or_default a p None d lt ∙ at, none_of seat.end is_open, after, g, so, refl)
+
+  -- none there is open
+  done_nowhere : (now : Option (Seat R W)) → get_or a p d ≡ now → ((seat : Seat R W) → now ≡ Some seat → seat.end ≡ None → ⊥) → told → DoneAt remaining done told a (set a p now) p
+  done_nowhere now at none is = inr (
+    λ seat there. none seat (sym (get_or_default a p None d lt ∙ at) ∙ there),
+    ap (set a p) (sym at) ∙ set-get_or a p d,
+    is,
+  )
+
+  -- the one there has ended
+  pub done_to_ended : (seat : Seat R W) → get_or a p d ≡ Some seat → is_some seat.end ≡ true → told → DoneAt remaining done told a (set a p (Some seat)) p
+  done_to_ended seat at over is = done_nowhere (Some seat) at (ended_there seat over) is
+
+  -- none is there
+  pub done_to_none : (now : Option (Seat R W)) → get_or a p d ≡ now → now ≡ None → told → DoneAt remaining done told a (set a p now) p
+  done_to_none now at none is = done_nowhere now at (λ seat there is_open. none_is seat (sym none ∙ there)) is
+
+module _ {R W : Type 0} (contents : W → Option (List ℕ)) (done : Seat R W → Seat R W → Type 0) (told : Type 0) (a : List (Option (Seat R W))) (p : ℕ) (d : Option (Seat R W)) (lt : p < length a) where
+  pub sent_there : (seat after : Seat R W) → get_or a p d ≡ Some seat → Sends contents seat after → done seat after → SentAt contents done told a (set a p (Some after)) p
+  sent_there seat after at g so = inl (seat, get_or_default a p None d lt ∙ at, after, g, so, refl)
+
+  pub sent_to_none : (now : Option (Seat R W)) → get_or a p d ≡ now → now ≡ None → told → SentAt contents done told a (set a p now) p
+  sent_to_none now at none is = inr (get_or_default a p None d lt ∙ at ∙ none, ap (set a p) (sym at) ∙ set-get_or a p d, is)

@@ -216,7 +216,7 @@ module _ {R W : Type 0} (remaining : R → Option (List ℕ)) (contents : W → 
           so_far = answered_more gives k t.sittings clock clock' keeper keeper' s mid t.so_far p dx z at.within at.is was_open
               (left_of remaining new) (remaining new.reader.inner) (contents new.writer.inner) clock'' keeper'' after (subst (λ n. n ≤ most_messages) served new.few) goes;
         }
-    turns_more (ended n e was_open is served sum serves few) t =
+    turns_more (ended n e was_open is served sum serves once) t =
         let dx = sitting_of d d false in
         let at = stands_there fs ns t.sittings p d dx lt t.are in
         let old = get_or ns p d in
@@ -227,7 +227,7 @@ module _ {R W : Type 0} (remaining : R → Option (List ℕ)) (contents : W → 
           sittings = set t.sittings p y;
           are = at.more new y (same_sitting at.first new old.served (Some e) serves.gave_up served is);
           so_far = closed_more gives k t.sittings clock clock' keeper keeper' s mid t.so_far p dx z at.within at.is was_open
-              (left_of remaining new) (remaining new.reader.inner) (contents new.writer.inner) clock'' keeper'' after n e sum serves few;
+              (left_of remaining new) (remaining new.reader.inner) (contents new.writer.inner) clock'' keeper'' after n e sum serves once;
         }
 
   -- ---- between two turns

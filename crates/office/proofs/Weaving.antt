@@ -14,7 +14,7 @@ use Rattle.office.specs.Interleaved as said
 use Rattle.office.specs.Premise.{HoldsUp}
 use Rattle.office.specs.Repeats.{Act, Acts}
 use Rattle.office.specs.Seats.{IsStreamOf}
-use Rattle.office.specs.Sessions.{most_messages}
+use Rattle.office.specs.Sessions.{EndsAtOnce, most_messages}
 use Rattle.office.specs.Stepping.{Goes}
 use Rattle.office.specs.declared.connections.session.SessionEnd.{SessionEnd}
 use Rattle.office.specs.declared.connections.session.SessionEnd.TheVariants.{ReadFault}
@@ -22,6 +22,7 @@ use Rattle.office.proofs.Counting.{Counts, counts_more, counts_still, counts_tur
 use Rattle.office.proofs.Endurance.{still, then_through}
 use Rattle.office.proofs.Repeats.{session_acts}
 use Rattle.office.proofs.RunSoFar.{told_more}
+use Rattle.office.proofs.SessionSteps.{few_moments}
 use Rattle.office.proofs.Unstaged.{rose_before, rose_later}
 use Rattle.office.proofs.RunTurns.{acts_joined, less_is_not, same_is, speaks_of, tied_of}
 use Rattle.office.proofs.Sitting.{Sitting, Sits, SitsSo, IsFirst, act_of, answered, answered_sits, closed, closed_sits, first_sits, gathered, gathered_sits, open_sits, sent_on, sent_sits, sits_by, sits_open}
@@ -279,9 +280,15 @@ module _ {C K : Type 0} (gives : C → ℕ → C → Type 0) (k : Ghosts K) wher
 
       -- it ends
       pub closed_more : (left reader written : Option (List ℕ)) (clock'' : C) (keeper'' : K) (after : State) (n : ℕ) (e : SessionEnd) → n + x.served ≡ most_messages
+<<<<<<< HEAD
           → (v : Serves n gives x.left reader x.written written clock' clock'' k keeper' keeper'' mid after e) → length v.moments ≤ 1
           → SoFar gives k (set xs p (closed x left reader written e v.gave_up)) (whose ++ p ∷ []) clock clock'' keeper keeper'' s after
       closed_more left reader written clock'' keeper'' after n e sum v few =
+=======
+          → (v : Serves n gives x.left reader x.written written clock' clock'' k keeper' keeper'' mid after e) → EndsAtOnce v.session
+          → SoFar gives k (set xs p (closed x left reader written e v.gave_up)) clock clock'' keeper keeper'' s after
+      closed_more left reader written clock'' keeper'' after n e sum v once =
+>>>>>>> b
           let y = session_acts n v.stream mid v.moments v.answers e v.gave_up after v.session in
           let new = closed x left reader written e v.gave_up in
           moves_more xs p d new clock clock' clock'' keeper keeper' keeper'' s mid after lt f
@@ -290,7 +297,7 @@ module _ {C K : Type 0} (gives : C → ℕ → C → Type 0) (k : Ghosts K) wher
             moments = v.moments;
             told = v.told;
             tied = tied_of n v.stream y.acts v.moments v.answers (Some e) v.gave_up (speaks_of n v.stream mid v.moments v.answers e v.gave_up y.acts after y.are);
-            one_moment = few;
+            one_moment = few_moments v.session once;
             took = let before : over_if x.end ≡ 0 = ap over_if is_open in omega (arith, before);
             by_rules = y.by_rules;
             moves = λ before earlier h. closed_sits x left reader written e v.gave_up n v.stream v.answers y.acts v.moments before earlier sum v.read v.written

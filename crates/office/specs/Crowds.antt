@@ -71,17 +71,21 @@ ChangesBy {R = R} {W = W} remaining contents met gave before after old new due =
     × ((numbers : ℕ → ℕ) (given : List ℕ) → gave before numbers given
     → gave after (numbers_after changes (length came) numbers) (given ++ whose_turn (numbers_after changes (length came) numbers) due))
 
--- The open connection in the slot at p became another one, so, and the other slots stay; or none there is open, and all stay.
-abbrev pub DoneAt : {R W : Type 0} → (Seat R W → Seat R W → Type 0) → List (Option (Seat R W)) → List (Option (Seat R W)) → ℕ → Type 0
-DoneAt {R} {W} done old new p =
-    ((seat : Seat R W) × (slot_at old p ≡ Some seat) × (seat.end ≡ None) × (after : Seat R W) × done seat after × (new ≡ slice_set old p (Some after)))
-    ⊎ (((seat : Seat R W) → slot_at old p ≡ Some seat → seat.end ≡ None → ⊥) × (new ≡ old))
+-- Bytes of the open connection in the slot at p were read ahead, or put back, so, and nothing else was done to it, and the other
+-- slots stay. Or none there is open: all stay, and this is told.
+abbrev pub DoneAt : {R W : Type 0} → (R → Option (List ℕ)) → (Seat R W → Seat R W → Type 0) → Type 0 → List (Option (Seat R W)) → List (Option (Seat R W)) → ℕ → Type 0
+DoneAt {R} {W} remaining done told old new p =
+    ((seat : Seat R W) × (slot_at old p ≡ Some seat) × (seat.end ≡ None)
+    × (after : Seat R W) × Gathers remaining seat after × done seat after × (new ≡ slice_set old p (Some after)))
+    ⊎ (((seat : Seat R W) → slot_at old p ≡ Some seat → seat.end ≡ None → ⊥) × (new ≡ old) × told)
 
--- the same of a connection that has ended or not
-abbrev pub SentAt : {R W : Type 0} → (Seat R W → Seat R W → Type 0) → List (Option (Seat R W)) → List (Option (Seat R W)) → ℕ → Type 0
-SentAt {R} {W} done old new p =
-    ((seat : Seat R W) × (slot_at old p ≡ Some seat) × (after : Seat R W) × done seat after × (new ≡ slice_set old p (Some after)))
-    ⊎ ((slot_at old p ≡ None) × (new ≡ old))
+-- Bytes that were written to the connection in the slot at p were sent on, so, whether it has ended or not, and nothing else was
+-- done to it, and the other slots stay. Or none is there: all stay, and this is told.
+abbrev pub SentAt : {R W : Type 0} → (W → Option (List ℕ)) → (Seat R W → Seat R W → Type 0) → Type 0 → List (Option (Seat R W)) → List (Option (Seat R W)) → ℕ → Type 0
+SentAt {R} {W} contents done told old new p =
+    ((seat : Seat R W) × (slot_at old p ≡ Some seat)
+    × (after : Seat R W) × Sends contents seat after × done seat after × (new ≡ slice_set old p (Some after)))
+    ⊎ ((slot_at old p ≡ None) × (new ≡ old) × told)
 
 -- the connection ended by a read or a write that failed
 abbrev pub is_fault_end : Option SessionEnd → Bool

@@ -11,8 +11,14 @@ use Rattle.office.specs.declared.connections.session.SessionEnd.{SessionEnd}
 use Rattle.office.specs.declared.connections.session.SessionEnd.TheVariants.{ReadFault}
 use Rattle.office.specs.Connections.{IsStream, Serves}
 use Rattle.office.specs.Crashes.{LastsThrough}
+<<<<<<< HEAD
 use Rattle.office.specs.Interleaved.{Thread, Turn, turns_by}
 use Rattle.office.specs.Sessions.{most_messages}
+=======
+use Rattle.office.specs.Interleaved.{Interleaved, Thread, Turn, acts_in, turns_by}
+use Rattle.office.specs.Repeats.{RepeatsOnce}
+use Rattle.office.specs.Sessions.{EndsAtOnce, most_messages}
+>>>>>>> b
 use Rattle.office.specs.Stepping.{Goes, TellsStep}
 
 -- what is left of its stream: the bytes that its feed read and did not take, and those that its reader has
@@ -52,10 +58,10 @@ pub data TakesTurn {C K R W : Type 0} (gives : C → ℕ → C → Type 0) (rema
   went_on : old.end ≡ None → new.end ≡ None → new.served ≡ old.served + 1
       → Goes gives (left_of remaining old) (left_of remaining new) (contents old.writer.inner) (contents new.writer.inner) clock clock' k keeper keeper' s after
       → TakesTurn gives remaining contents old new clock clock' k keeper keeper' s after
-  -- it ended, as a session of the n messages does that were to come at most, and one moment was told, or none
+  -- it ended, as a session of the n messages does that were to come at most, and did not go on behind a message
   ended : (n : ℕ) (e : SessionEnd) → old.end ≡ None → new.end ≡ Some e → new.served ≡ old.served → n + old.served ≡ most_messages
       → (serves : Serves n gives (left_of remaining old) (remaining new.reader.inner) (contents old.writer.inner) (contents new.writer.inner) clock clock' k keeper keeper' s after e)
-      → length serves.moments ≤ 1 → TakesTurn gives remaining contents old new clock clock' k keeper keeper' s after
+      → EndsAtOnce serves.session → TakesTurn gives remaining contents old new clock clock' k keeper keeper' s after
 
 -- the faults that were counted in a turn
 abbrev pub TellsTurnOf : {R W : Type 0} → Option SessionEnd → Seat R W → Seat R W → Type 0
