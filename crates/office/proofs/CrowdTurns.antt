@@ -189,25 +189,7 @@ module _ {R W : Type 0} (remaining : R → Option (List ℕ)) (contents : W → 
 
     -- ---- a turn
 
-<<<<<<< HEAD
     module _ (slots : List (Option (Seat R W))) (numbers : ℕ → ℕ) (came gone : List (Seat R W)) (given : List ℕ) (clock' clock'' : C) (keeper' keeper'' : K) (faults : ℕ) (mid after : State) where
-=======
-    -- the turns that a connection took are one more behind a turn
-    one_turn : (clock' clock'' : C) (keeper' keeper'' : K) (mid after : State) (old new : Seat R W) → old.end ≡ None → TakesTurn gives remaining contents old new clock' clock'' k keeper' keeper'' mid after
-        → turns_of new ≡ turns_of old + 1
-    one_turn clock' clock'' keeper' keeper'' mid after old new is_open (had_ended e is same_seat same_clock same_keeper same_state) =
-        let both : ◌≡◌ None (Some e) = sym is_open ∙ is in absurd cc
-    one_turn clock' clock'' keeper' keeper'' mid after old new is_open (went_on was_open is_now served goes) =
-        let before : over_if old.end ≡ zero = ap over_if is_open in
-        let behind : over_if new.end ≡ zero = ap over_if is_now in
-        omega (arith, before, behind, served)
-    one_turn clock' clock'' keeper' keeper'' mid after old new is_open (ended n e was_open is served sum serves once) =
-        let before : over_if old.end ≡ zero = ap over_if is_open in
-        let behind : over_if new.end ≡ suc zero = ap over_if is in
-        omega (arith, before, behind, served)
-
-    module _ (slots : List (Option (Seat R W))) (came gone : List (Seat R W)) (clock' clock'' : C) (keeper' keeper'' : K) (turns faults : ℕ) (mid after : State) where
->>>>>>> b
       takes_more : (p : ℕ) (old new : Seat R W) → p < length slots → slot_at slots p ≡ Some old → old.end ≡ None
           → TakesTurn gives remaining contents old new clock' clock'' k keeper' keeper'' mid after → TellsTurn old new → Now slots numbers came gone given clock' keeper' faults mid
           → Now (set slots p (Some new)) numbers came gone (given ++ numbers p ∷ []) clock'' keeper'' (faults + cond (fails_now old.end new.end) 1 0) after

@@ -280,15 +280,9 @@ module _ {C K : Type 0} (gives : C → ℕ → C → Type 0) (k : Ghosts K) wher
 
       -- it ends
       pub closed_more : (left reader written : Option (List ℕ)) (clock'' : C) (keeper'' : K) (after : State) (n : ℕ) (e : SessionEnd) → n + x.served ≡ most_messages
-<<<<<<< HEAD
-          → (v : Serves n gives x.left reader x.written written clock' clock'' k keeper' keeper'' mid after e) → length v.moments ≤ 1
-          → SoFar gives k (set xs p (closed x left reader written e v.gave_up)) (whose ++ p ∷ []) clock clock'' keeper keeper'' s after
-      closed_more left reader written clock'' keeper'' after n e sum v few =
-=======
           → (v : Serves n gives x.left reader x.written written clock' clock'' k keeper' keeper'' mid after e) → EndsAtOnce v.session
-          → SoFar gives k (set xs p (closed x left reader written e v.gave_up)) clock clock'' keeper keeper'' s after
+          → SoFar gives k (set xs p (closed x left reader written e v.gave_up)) (whose ++ p ∷ []) clock clock'' keeper keeper'' s after
       closed_more left reader written clock'' keeper'' after n e sum v once =
->>>>>>> b
           let y = session_acts n v.stream mid v.moments v.answers e v.gave_up after v.session in
           let new = closed x left reader written e v.gave_up in
           moves_more xs p d new clock clock' clock'' keeper keeper' keeper'' s mid after lt f

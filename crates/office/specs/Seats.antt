@@ -11,14 +11,8 @@ use Rattle.office.specs.declared.connections.session.SessionEnd.{SessionEnd}
 use Rattle.office.specs.declared.connections.session.SessionEnd.TheVariants.{ReadFault}
 use Rattle.office.specs.Connections.{IsStream, Serves}
 use Rattle.office.specs.Crashes.{LastsThrough}
-<<<<<<< HEAD
 use Rattle.office.specs.Interleaved.{Thread, Turn, turns_by}
-use Rattle.office.specs.Sessions.{most_messages}
-=======
-use Rattle.office.specs.Interleaved.{Interleaved, Thread, Turn, acts_in, turns_by}
-use Rattle.office.specs.Repeats.{RepeatsOnce}
 use Rattle.office.specs.Sessions.{EndsAtOnce, most_messages}
->>>>>>> b
 use Rattle.office.specs.Stepping.{Goes, TellsStep}
 
 -- what is left of its stream: the bytes that its feed read and did not take, and those that its reader has
