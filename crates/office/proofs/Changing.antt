@@ -1,11 +1,14 @@
 -- What goes on in slots, one thing after another.
-use Rattle.std.proofs.Common.{◌≡◌, ◌<◌, ℕ, true, false, inl, inr, refl, List, [], ◌∷◌, ◌++◌, Option, None, Some, length, get_or, set, subst, ap, ◌∙◌, sym, append_assoc}
+use Rattle.std.proofs.Common.{◌≡◌, ◌<◌, ℕ, true, false, inl, inr, refl, List, [], ◌∷◌, ◌++◌, ◌+◌, Option, None, Some, length, get_or, set, subst, ap, ◌∙◌, sym, append_assoc, arith}
 use Rattle.std.specs.Prelude.{is_some}
-use Rattle.std.proofs.lemmas.List.{append-nil, get_or_default, set-get_or}
-use Rattle.office.specs.Crowds.{Changes, ChangesBy, DoneAt, SentAt, slot_at, those_of}
+use Rattle.std.proofs.lemmas.List.{append-nil, get_or_default, length-append, length_push, set-get_or}
+use Rattle.std.proofs.Math.Path.{path_j, subst_refl}
+use Rattle.office.specs.Crowds.{Changes, ChangesBy, DoneAt, SentAt, number_of, numbers_after, slot_at, those_of, whose_turn}
 use Rattle.office.specs.Crowds as crowd
 use Rattle.office.specs.Seats.{Gathers, IsNew, Sends}
+use Rattle.office.specs.declared.connections.crowding.Due.{Due}
 use Rattle.office.specs.declared.connections.seat.Seat.{Seat}
+use Rattle.office.proofs.SeatTurns.{none_of}
 use Rattle.office.proofs.Ties.{none_is, some_is}
 
 module _ {R W : Type 0} (remaining : R → Option (List ℕ)) (contents : W → Option (List ℕ)) where
@@ -25,39 +28,84 @@ module _ {R W : Type 0} (remaining : R → Option (List ℕ)) (contents : W → 
       subst (λ l. Changes remaining contents a (set now p None) (came ++ more) l) (append_assoc gone went (seat ∷ []))
       (crowd.goes now (came ++ more) (gone ++ went) p seat (changes_then a b now came gone more went first before) lt at)
 
-  module _ {G : Type 0} (met : G → List (Seat R W) → List (Seat R W) → Type 0) where
-    pub by_then : (i j k : G) (a b c : List (Option (Seat R W))) → ChangesBy remaining contents met i j a b → ChangesBy remaining contents met j k b c → ChangesBy remaining contents met i k a c
-    by_then i j k a b c first then came gone h =
+  -- ---- the numbers of the slots
+
+  module _ (old new : List (Option (Seat R W))) (n : ℕ) (numbers : ℕ → ℕ) where
+    same_came : (came came' gone : List (Seat R W)) (x : Changes remaining contents old new came gone) (e : came ≡ came')
+        → numbers_after (subst (λ l. Changes remaining contents old new l gone) e x) n numbers ≡ numbers_after x n numbers
+    same_came came came' gone x e =
+        path_j (λ l (f : came ≡ l). numbers_after (subst (λ m. Changes remaining contents old new m gone) f x) n numbers ≡ numbers_after x n numbers)
+        (ap (λ (y : Changes remaining contents old new came gone). numbers_after y n numbers) (subst_refl (λ m. Changes remaining contents old new m gone) x)) e
+
+    same_gone : (came gone gone' : List (Seat R W)) (x : Changes remaining contents old new came gone) (e : gone ≡ gone')
+        → numbers_after (subst (λ l. Changes remaining contents old new came l) e x) n numbers ≡ numbers_after x n numbers
+    same_gone came gone gone' x e =
+        path_j (λ l (f : gone ≡ l). numbers_after (subst (λ m. Changes remaining contents old new came m) f x) n numbers ≡ numbers_after x n numbers)
+        (ap (λ (y : Changes remaining contents old new came gone). numbers_after y n numbers) (subst_refl (λ m. Changes remaining contents old new came m) x)) e
+
+  -- behind some changes, and then others, they are those behind the others, begun with those behind the first
+  pub numbers_then : (a b c : List (Option (Seat R W))) (came gone more went : List (Seat R W)) (n m : ℕ) (numbers : ℕ → ℕ) → m ≡ n + length came
+      → (first : Changes remaining contents a b came gone) (then : Changes remaining contents b c more went)
+      → numbers_after then m (numbers_after first n numbers) ≡ numbers_after (changes_then a b c came gone more went first then) n numbers
+  unfolding changes_then
+  numbers_then a b _ came gone _ _ n m numbers is first crowd.same =
+      sym (same_came a b n numbers came (came ++ []) (gone ++ []) (subst (λ l. Changes remaining contents a b came l) (sym (append-nil gone)) first) (sym (append-nil came))
+      ∙ same_gone a b n numbers came gone (gone ++ []) first (sym (append-nil gone)))
+  numbers_then a b _ came gone _ _ n m numbers is first (crowd.comes now more went p new before lt free is_new) =
+      let all = crowd.comes now (came ++ more) (gone ++ went) p new (changes_then a b now came gone more went first before) lt free is_new in
+      let many : m + length more ≡ n + length (came ++ more) = omega (arith, is, length-append came more) in
+      ap (λ (k : ℕ). number_of p k (numbers_after before m (numbers_after first n numbers))) many
+      ∙ ap (λ (f : ℕ → ℕ). number_of p (n + length (came ++ more)) f) (numbers_then a b now came gone more went n m numbers is first before)
+      ∙ sym (same_came a (set now p (Some new)) n numbers ((came ++ more) ++ new ∷ []) (came ++ (more ++ new ∷ [])) (gone ++ went) all (append_assoc came more (new ∷ [])))
+  numbers_then a b _ came gone _ _ n m numbers is first (crowd.gathers now more went p seat new before lt at is_open g) = numbers_then a b now came gone more went n m numbers is first before
+  numbers_then a b _ came gone _ _ n m numbers is first (crowd.sends now more went p seat new before lt at g) = numbers_then a b now came gone more went n m numbers is first before
+  numbers_then a b _ came gone _ _ n m numbers is first (crowd.goes now more went p seat before lt at) =
+      let all = crowd.goes now (came ++ more) (gone ++ went) p seat (changes_then a b now came gone more went first before) lt at in
+      numbers_then a b now came gone more went n m numbers is first before
+      ∙ sym (same_gone a (set now p None) n numbers (came ++ more) ((gone ++ went) ++ seat ∷ []) (gone ++ (went ++ seat ∷ [])) all (append_assoc gone went (seat ∷ [])))
+
+  -- where nobody came, they stay
+  pub numbers_stay : (a b : List (Option (Seat R W))) (came gone : List (Seat R W)) (n : ℕ) (numbers : ℕ → ℕ) → length came ≡ 0 → (x : Changes remaining contents a b came gone)
+      → numbers_after x n numbers ≡ numbers
+  numbers_stay a _ _ _ n numbers none crowd.same = refl
+  numbers_stay a _ _ _ n numbers none (crowd.comes now came gone p new before lt free is_new) = absurd (omega (arith, none, length_push came new))
+  numbers_stay a _ _ _ n numbers none (crowd.gathers now came gone p seat new before lt at is_open g) = numbers_stay a now came gone n numbers none before
+  numbers_stay a _ _ _ n numbers none (crowd.sends now came gone p seat new before lt at g) = numbers_stay a now came gone n numbers none before
+  numbers_stay a _ _ _ n numbers none (crowd.goes now came gone p seat before lt at) = numbers_stay a now came gone n numbers none before
+
+  module _ {G : Type 0} (met : G → List (Seat R W) → List (Seat R W) → Type 0) (gave : G → (ℕ → ℕ) → List ℕ → Type 0) where
+    abbrev By : G → G → List (Option (Seat R W)) → List (Option (Seat R W)) → Option Due → Type 0
+    By i j a b due = ChangesBy remaining contents met gave i j a b due
+
+    -- no turn was due behind the first
+    pub by_then : (i j k : G) (a b c : List (Option (Seat R W))) (due : Option Due) → By i j a b None → By j k b c due → By i k a c due
+    by_then i j k a b c due first then came gone h =
         let x = first came gone h in
         let y = then (came ++ x.0) (gone ++ x.1) x.2 in (
           x.0 ++ y.0,
           x.1 ++ y.1,
           subst (λ l. met k l (gone ++ (x.1 ++ y.1))) (append_assoc came x.0 y.0) (subst (λ l. met k ((came ++ x.0) ++ y.0) l) (append_assoc gone x.1 y.1) y.2),
           changes_then a b c x.0 x.1 y.0 y.1 x.3 y.3,
+          λ numbers given g.
+              let mid = numbers_after x.3 (length came) numbers in
+              subst (λ (f : ℕ → ℕ). gave k f (given ++ whose_turn f due)) (numbers_then a b c x.0 x.1 y.0 y.1 (length came) (length (came ++ x.0)) numbers (length-append came x.0) x.3 y.3)
+                  (y.4 mid given (subst (gave j mid) (append-nil given) (x.4 numbers given g))),
         )
 
     -- nobody comes or goes
-    pub by_same : (i j : G) (a b : List (Option (Seat R W))) → ((came gone : List (Seat R W)) → met i came gone → met j came gone) → Changes remaining contents a b [] [] → ChangesBy remaining contents met i j a b
-    by_same i j a b still changes came gone h = (
+    pub by_same : (i j : G) (a b : List (Option (Seat R W))) (due : Option Due) → ((came gone : List (Seat R W)) → met i came gone → met j came gone)
+        → ((numbers : ℕ → ℕ) (given : List ℕ) → gave i numbers given → gave j numbers (given ++ whose_turn numbers due)) → Changes remaining contents a b [] [] → By i j a b due
+    by_same i j a b due still gives changes came gone h = (
       [],
       [],
       subst (λ l. met j l (gone ++ [])) (sym (append-nil came)) (subst (λ l. met j came l) (sym (append-nil gone)) (still came gone h)),
       changes,
+      λ numbers given g. subst (λ (f : ℕ → ℕ). gave j f (given ++ whose_turn f due)) (sym (numbers_stay a b [] [] (length came) numbers refl changes)) (gives numbers given g),
     )
 
   -- a connection comes into the slot that was read at an index
   pub by_comes : (a : List (Option (Seat R W))) (p : ℕ) (d : Option (Seat R W)) (new : Seat R W) → p < length a → get_or a p d ≡ None → IsNew new → Changes remaining contents a (set a p (Some new)) (new ∷ []) []
   by_comes a p d new lt free is = crowd.comes a [] [] p new crowd.same lt (get_or_default a p None d lt ∙ free) is
-
-  -- bytes that were written to the one there are sent on
-  pub by_sends : (a : List (Option (Seat R W))) (p : ℕ) (d : Option (Seat R W)) (seat new : Seat R W) → p < length a → get_or a p d ≡ Some seat → Sends contents seat new
-      → Changes remaining contents a (set a p (Some new)) [] []
-  by_sends a p d seat new lt at g = crowd.sends a [] [] p seat new crowd.same lt (get_or_default a p None d lt ∙ at) g
-
-  -- bytes are read ahead of the one there
-  pub by_gathers : (a : List (Option (Seat R W))) (p : ℕ) (d : Option (Seat R W)) (seat new : Seat R W) → p < length a → get_or a p d ≡ Some seat → seat.end ≡ None → Gathers remaining seat new
-      → Changes remaining contents a (set a p (Some new)) [] []
-  by_gathers a p d seat new lt at is_open g = crowd.gathers a [] [] p seat new crowd.same lt (get_or_default a p None d lt ∙ at) is_open g
 
   -- the slot is made free
   pub by_goes : (a : List (Option (Seat R W))) (p : ℕ) (d there : Option (Seat R W)) → p < length a → get_or a p d ≡ there → Changes remaining contents a (set a p None) [] (those_of there)
@@ -65,34 +113,47 @@ module _ {R W : Type 0} (remaining : R → Option (List ℕ)) (contents : W → 
       subst (λ l. Changes remaining contents a l [] []) (sym (ap (set a p) (sym at) ∙ set-get_or a p d)) crowd.same
   by_goes a p d (Some seat) lt at = crowd.goes a [] [] p seat crowd.same lt (get_or_default a p None d lt ∙ at)
 
-  -- what stands in the slot stays
-  pub by_kept : (a : List (Option (Seat R W))) (p : ℕ) (d now : Option (Seat R W)) → now ≡ get_or a p d → Changes remaining contents a (set a p now) [] []
-  by_kept a p d now is = subst (λ l. Changes remaining contents a l [] []) (sym (ap (set a p) is ∙ set-get_or a p d)) crowd.same
+  -- what was done to the open one in the slot is such a change
+  pub by_done : (done : Seat R W → Seat R W → Type 0) (told : Type 0) (a b : List (Option (Seat R W))) (p : ℕ) → p < length a → DoneAt remaining done told a b p → Changes remaining contents a b [] []
+  by_done done told a b p lt (inl (seat, at, is_open, after, g, so, new)) =
+      subst (λ l. Changes remaining contents a l [] []) (sym new) (crowd.gathers a [] [] p seat after crowd.same lt at is_open g)
+  by_done done told a b p lt (inr (none, same, is)) = subst (λ l. Changes remaining contents a l [] []) (sym same) crowd.same
 
-module _ {R W : Type 0} (done : Seat R W → Seat R W → Type 0) (a : List (Option (Seat R W))) (p : ℕ) (d : Option (Seat R W)) (lt : p < length a) where
-  -- it was done to the open one there
-  pub done_there : (seat after : Seat R W) → get_or a p d ≡ Some seat → seat.end ≡ None → done seat after → DoneAt done a (set a p (Some after)) p
-  done_there seat after at is_open so = inl (seat, get_or_default a p None d lt ∙ at, is_open, after, so, refl)
-
-  -- none there is open
-  pub done_nowhere : (now : Option (Seat R W)) → get_or a p d ≡ now → ((seat : Seat R W) → now ≡ Some seat → seat.end ≡ None → ⊥) → DoneAt done a (set a p now) p
-  done_nowhere now at none = inr (
-    λ seat there. none seat (sym (get_or_default a p None d lt ∙ at) ∙ there),
-    ap (set a p) (sym at) ∙ set-get_or a p d,
-  )
-
-  pub sent_there : (seat after : Seat R W) → get_or a p d ≡ Some seat → done seat after → SentAt done a (set a p (Some after)) p
-  sent_there seat after at so = inl (seat, get_or_default a p None d lt ∙ at, after, so, refl)
-
-  pub sent_nowhere : (now : Option (Seat R W)) → get_or a p d ≡ now → now ≡ None → SentAt done a (set a p now) p
-  sent_nowhere now at none = inr (get_or_default a p None d lt ∙ at ∙ none, ap (set a p) (sym at) ∙ set-get_or a p d)
+  pub by_sent : (done : Seat R W → Seat R W → Type 0) (told : Type 0) (a b : List (Option (Seat R W))) (p : ℕ) → p < length a → SentAt contents done told a b p → Changes remaining contents a b [] []
+  by_sent done told a b p lt (inl (seat, at, after, g, so, new)) =
+      subst (λ l. Changes remaining contents a l [] []) (sym new) (crowd.sends a [] [] p seat after crowd.same lt at g)
+  by_sent done told a b p lt (inr (none, same, is)) = subst (λ l. Changes remaining contents a l [] []) (sym same) crowd.same
 
 -- one that has ended is not open
-pub ended_there : {R W : Type 0} (now : Option (Seat R W)) (one : Seat R W) → now ≡ Some one → is_some one.end ≡ true → (seat : Seat R W) → now ≡ Some seat → seat.end ≡ None → ⊥
-ended_there now one at over seat there is_open =
-    let same : one ≡ seat = some_is one seat (sym at ∙ there) in
-    let none : is_some one.end ≡ false = ap (λ (x : Seat _ _). is_some x.end) same ∙ ap is_some is_open in
+ended_there : {R W : Type 0} (one : Seat R W) → is_some one.end ≡ true → (seat : Seat R W) → Some one ≡ Some seat → seat.end ≡ None → ⊥
+ended_there one over seat there is_open =
+    let none : is_some one.end ≡ false = ap (λ (x : Seat _ _). is_some x.end) (some_is one seat there) ∙ ap is_some is_open in
     absurd cc
 
-pub free_there : {R W : Type 0} (now : Option (Seat R W)) → now ≡ None → (seat : Seat R W) → now ≡ Some seat → seat.end ≡ None → ⊥
-free_there now none seat there is_open = none_is seat (sym none ∙ there)
+module _ {R W : Type 0} (remaining : R → Option (List ℕ)) (done : Seat R W → Seat R W → Type 0) (told : Type 0) (a : List (Option (Seat R W))) (p : ℕ) (d : Option (Seat R W)) (lt : p < length a) where
+  -- it was done to the open one there
+  pub done_there : (seat after : Seat R W) → get_or a p d ≡ Some seat → is_some seat.end ≡ false → Gathers remaining seat after → done seat after → DoneAt remaining done told a (set a p (Some after)) p
+  done_there seat after at is_open g so = inl (seat, get_or_default a p None d lt ∙ at, none_of seat.end is_open, after, g, so, refl)
+
+  -- none there is open
+  done_nowhere : (now : Option (Seat R W)) → get_or a p d ≡ now → ((seat : Seat R W) → now ≡ Some seat → seat.end ≡ None → ⊥) → told → DoneAt remaining done told a (set a p now) p
+  done_nowhere now at none is = inr (
+    λ seat there. none seat (sym (get_or_default a p None d lt ∙ at) ∙ there),
+    ap (set a p) (sym at) ∙ set-get_or a p d,
+    is,
+  )
+
+  -- the one there has ended
+  pub done_to_ended : (seat : Seat R W) → get_or a p d ≡ Some seat → is_some seat.end ≡ true → told → DoneAt remaining done told a (set a p (Some seat)) p
+  done_to_ended seat at over is = done_nowhere (Some seat) at (ended_there seat over) is
+
+  -- none is there
+  pub done_to_none : (now : Option (Seat R W)) → get_or a p d ≡ now → now ≡ None → told → DoneAt remaining done told a (set a p now) p
+  done_to_none now at none is = done_nowhere now at (λ seat there is_open. none_is seat (sym none ∙ there)) is
+
+module _ {R W : Type 0} (contents : W → Option (List ℕ)) (done : Seat R W → Seat R W → Type 0) (told : Type 0) (a : List (Option (Seat R W))) (p : ℕ) (d : Option (Seat R W)) (lt : p < length a) where
+  pub sent_there : (seat after : Seat R W) → get_or a p d ≡ Some seat → Sends contents seat after → done seat after → SentAt contents done told a (set a p (Some after)) p
+  sent_there seat after at g so = inl (seat, get_or_default a p None d lt ∙ at, after, g, so, refl)
+
+  pub sent_to_none : (now : Option (Seat R W)) → get_or a p d ≡ now → now ≡ None → told → SentAt contents done told a (set a p now) p
+  sent_to_none now at none is = inr (get_or_default a p None d lt ∙ at ∙ none, ap (set a p) (sym at) ∙ set-get_or a p d, is)

@@ -1,24 +1,23 @@
 -- Connections that come, are served in turn, and go: what each change, and each turn, makes of them.
-use Rattle.std.proofs.Common.{◌≡◌, ◌<◌, ◌+◌, ℕ, zero, suc, Bool, true, false, cond, List, [], ◌∷◌, ◌++◌, length, get_or, set, Option, Some, None, refl, sym, ap, subst, ◌∙◌, append_assoc, arith}
+use Rattle.std.proofs.Common.{◌≡◌, ◌<◌, ◌+◌, ℕ, zero, suc, Bool, true, false, cond, List, [], ◌∷◌, ◌++◌, length, get_or, map, set, Option, Some, None, refl, sym, ap, subst, ◌∙◌, append_assoc, arith}
 use Rattle.std.specs.Prelude.{is_some, not, slice_get}
-use Rattle.std.specs.List.{count_by, sum_by}
-use Rattle.std.proofs.lemmas.List.{append-nil}
+use Rattle.std.specs.List.{count_by}
+use Rattle.std.proofs.lemmas.List.{append-nil, length-append, length-map, map_push}
 use Rattle.std.proofs.lemmas.List.Sums.{sum_by-cons, sum_by-set, sum_by_push}
 use Rattle.std.proofs.lemmas.Option.{slice_get_within}
 use Rattle.keeper.specs.declared.keep.Keeper.{Ghosts}
 use Rattle.boxes.specs.State.{State}
-use Rattle.office.specs.Crowds.{Changes, IsOpenAt, ServesCrowd, TurnsSlot, fails_now, is_fault_end, slot_at}
+use Rattle.office.specs.Crowds.{Changes, IsOpenAt, ServesCrowd, TurnsSlot, fails_now, is_fault_end, number_of, numbers_after, slot_at}
 use Rattle.office.specs.Crowds as crowd
-use Rattle.office.specs.Interleaved.{Thread}
+use Rattle.office.specs.Interleaved.{Thread, Turn}
 use Rattle.office.specs.Premise.{IsLeft}
-use Rattle.office.specs.Seats.{AreThreads, Gathers, IsNew, Sends, TakesTurn, TellsTurn, had_ended, went_on, ended, turns_of}
+use Rattle.office.specs.Seats.{AreThreads, Gathers, IsNew, Sends, TakesTurn, TellsTurn}
 use Rattle.office.specs.declared.connections.seat.Seat.{Seat}
 use Rattle.office.specs.declared.connections.session.SessionEnd.{SessionEnd}
-use Rattle.office.proofs.Counting.{over_if}
 use Rattle.office.proofs.RunSoFar.{MeansOne}
-use Rattle.office.proofs.SeatTurns.{AllTell, TurnsMore, gathered_seat, gathers_tell, seat_comes, sent_seat, tell_comes, tell_more, tell_sent, turns_more, turns_new, weaves_last}
-use Rattle.office.proofs.Ties.{Ties, gone_among, no_other_stands, none_is, number_of, some_is, ties_comes, ties_goes, ties_none, ties_set}
-use Rattle.office.proofs.Weaving.{SoFar}
+use Rattle.office.proofs.SeatTurns.{AllTell, TurnsMore, as_many, gathered_seat, gathers_tell, seat_comes, sent_seat, tell_comes, tell_more, tell_sent, turns_more, weaves_last}
+use Rattle.office.proofs.Ties.{AreNumbered, Ties, gone_among, no_other_stands, none_is, numbered_comes, numbered_goes, numbered_none, numbered_set, some_is, ties_comes, ties_goes, ties_none, ties_set}
+use Rattle.office.proofs.Weaving.{starts}
 
 -- ---- how many ended by a fault
 
@@ -31,9 +30,6 @@ threads_first c cs = sum_by-cons (λ (d : Thread). cond (is_fault_end d.end) 1 0
 module _ {R W : Type 0} where
   abbrev faults_in : List (Seat R W) → ℕ
   faults_in xs = count_by (λ x. is_fault_end x.end) xs
-
-  abbrev turns_in : List (Seat R W) → ℕ
-  turns_in xs = sum_by turns_of xs
 
   faults_first : (x : Seat R W) (xs : List (Seat R W)) → faults_in (x ∷ xs) ≡ one_if x.end + faults_in xs
   faults_first x xs = sum_by-cons (λ (y : Seat R W). cond (is_fault_end y.end) 1 0) x xs
@@ -56,15 +52,6 @@ module _ {R W : Type 0} where
       let all = sum_by_push (λ (z : Seat R W). cond (is_fault_end z.end) 1 0) xs x in
       omega (arith, none, all)
 
-  -- one with as many turns, or one more, takes the place of the one there
-  turns_set : (xs : List (Seat R W)) (n more : ℕ) (d y : Seat R W) → n < length xs → turns_of y ≡ turns_of (get_or xs n d) + more → turns_in (set xs n y) ≡ turns_in xs + more
-  turns_set xs n more d y lt is = let all = sum_by-set turns_of xs n y d lt in omega (arith, is, all)
-
-  turns_alike : (x y : Seat R W) → y.served ≡ x.served → y.end ≡ x.end → turns_of y ≡ turns_of x + 0
-  turns_alike x y served end =
-      let same : over_if y.end ≡ over_if x.end = ap over_if end in
-      omega (arith, served, same)
-
   faults_of : (remaining : R → Option (List ℕ)) (contents : W → Option (List ℕ)) (fs ns : List (Seat R W)) (cs : List Thread) → AreThreads remaining contents fs ns cs
       → faults_in ns ≡ count_by (λ (c : Thread). is_fault_end c.end) cs
   faults_of remaining contents [] [] [] are = refl
@@ -84,122 +71,128 @@ stands [] n x is = refl
 stands (y ∷ l) zero x is = let e : y ≡ x = cc in e
 stands (y ∷ l) (suc n) x is = stands l n x is
 
+-- the numbers of those whose turns they are
+whose_are : (first : ℕ) (turns : List Turn) → map (λ (t : Turn). first + t.which) turns ≡ map (λ n. first + n) (map (λ (t : Turn). t.which) turns)
+whose_are first [] = refl
+whose_are first (t ∷ ts) = ap (λ (l : List ℕ). (first + t.which) ∷ l) (whose_are first ts)
+
 module _ {R W : Type 0} (remaining : R → Option (List ℕ)) (contents : W → Option (List ℕ)) where
   -- ---- so far
 
-  pub record CrowdSoFar {C K : Type 0} (gives : C → ℕ → C → Type 0) (k : Ghosts K) (slots : List (Option (Seat R W))) (came gone : List (Seat R W)) (clock clock' : C) (keeper keeper' : K) (turns faults : ℕ) (s mid : State) : Type 0 where
+  pub record CrowdSoFar {C K : Type 0} (gives : C → ℕ → C → Type 0) (k : Ghosts K) (slots : List (Option (Seat R W))) (came gone : List (Seat R W)) (first : ℕ) (numbers : ℕ → ℕ) (given : List ℕ)
+      (clock clock' : C) (keeper keeper' : K) (faults : ℕ) (s mid : State) : Type 0 where
     pub seats : List (Seat R W)
     pub number : ℕ → ℕ
     pub ties : Ties slots number seats gone
-    pub turned : TurnsMore remaining contents gives k came seats clock clock' keeper keeper' s mid
+    pub numbered : AreNumbered slots numbers first number
+    pub whose : List ℕ
+    pub turned : TurnsMore remaining contents gives k came seats whose clock clock' keeper keeper' s mid
+    pub are_given : map (λ n. first + n) whose ≡ given
     pub tell : AllTell came seats
-    pub taken : turns ≡ turns_in seats
     pub faulty : faults ≡ faults_in seats
 
-  module _ {C K : Type 0} (gives : C → ℕ → C → Type 0) (k : Ghosts K) (clock : C) (keeper : K) (s : State) where
-    abbrev Now : List (Option (Seat R W)) → List (Seat R W) → List (Seat R W) → C → K → ℕ → ℕ → State → Type 0
-    Now slots came gone clock' keeper' turns faults mid = CrowdSoFar gives k slots came gone clock clock' keeper keeper' turns faults s mid
+  module _ {C K : Type 0} (gives : C → ℕ → C → Type 0) (k : Ghosts K) (first : ℕ) (clock : C) (keeper : K) (s : State) where
+    abbrev Now : List (Option (Seat R W)) → (ℕ → ℕ) → List (Seat R W) → List (Seat R W) → List ℕ → C → K → ℕ → State → Type 0
+    Now slots numbers came gone given clock' keeper' faults mid = CrowdSoFar gives k slots came gone first numbers given clock clock' keeper keeper' faults s mid
 
     -- ---- between two turns
 
-    comes_more : (slots : List (Option (Seat R W))) (came gone : List (Seat R W)) (clock' : C) (keeper' : K) (turns faults p : ℕ) (mid : State) (new : Seat R W) → p < length slots → slot_at slots p ≡ None → IsNew new
-        → Now slots came gone clock' keeper' turns faults mid → Now (set slots p (Some new)) (came ++ new ∷ []) gone clock' keeper' turns faults mid
-    comes_more slots came gone clock' keeper' turns faults p mid new lt free is t = record {
-      seats = t.seats ++ new ∷ [];
-      number = number_of p (length t.seats) t.number;
-      ties = ties_comes slots t.number t.seats gone t.ties p lt new free;
-      turned = seat_comes remaining contents gives k came t.seats clock clock' keeper keeper' s mid new is t.turned;
-      tell = tell_comes came t.seats new is t.tell;
-      taken = let all = sum_by_push turns_of t.seats new in omega (arith, t.taken, all, turns_new remaining contents new is);
-      faulty = t.faulty ∙ sym (faults_more t.seats new is.open_still);
-    }
+    module _ (given : List ℕ) (clock' : C) (keeper' : K) (faults : ℕ) (mid : State) where
+      abbrev Still : List (Option (Seat R W)) → (ℕ → ℕ) → List (Seat R W) → List (Seat R W) → Type 0
+      Still slots numbers came gone = Now slots numbers came gone given clock' keeper' faults mid
 
-    gathers_more : (slots : List (Option (Seat R W))) (came gone : List (Seat R W)) (clock' : C) (keeper' : K) (turns faults p : ℕ) (mid : State) (old new : Seat R W) → p < length slots → slot_at slots p ≡ Some old → old.end ≡ None
-        → Gathers remaining old new → Now slots came gone clock' keeper' turns faults mid → Now (set slots p (Some new)) came gone clock' keeper' turns faults mid
-    gathers_more slots came gone clock' keeper' turns faults p mid old new lt at is_open g t =
-        let n = t.number p in
-        let one = t.ties.each p old at in
-        let fits = slice_get_within t.seats n old one in
-        let is : old ≡ get_or t.seats n old = sym (stands t.seats n old one) in
-        let open_there : (get_or t.seats n old).end ≡ None = subst (λ (x : Seat R W). x.end ≡ None) is is_open in
-        let none : one_if new.end ≡ zero = ap one_if (g.end ∙ is_open) in
-        record {
-          seats = set t.seats n new;
-          number = t.number;
-          ties = ties_set slots t.number t.seats gone t.ties p lt old new at;
-          turned = gathered_seat remaining contents gives k came t.seats clock clock' keeper keeper' s mid n old new fits open_there (subst (λ (x : Seat R W). Gathers remaining x new) is g) t.turned;
-          tell = tell_more came t.seats n old new fits (subst (λ (x : Seat R W). TellsTurn x new) is (gathers_tell remaining contents old new is_open g)) t.tell;
-          taken = let alike = turns_set t.seats n 0 old new fits (subst (λ (x : Seat R W). turns_of new ≡ turns_of x + 0) is (turns_alike old new g.served g.end)) in omega (arith, t.taken, alike);
-          faulty = let set_one = faults_set t.seats n old new fits open_there in omega (arith, t.faulty, set_one, none);
-        }
+      comes_more : (slots : List (Option (Seat R W))) (numbers : ℕ → ℕ) (came gone : List (Seat R W)) (p n : ℕ) (new : Seat R W) → p < length slots → slot_at slots p ≡ None → IsNew new
+          → n ≡ first + length came → Still slots numbers came gone → Still (set slots p (Some new)) (number_of p n numbers) (came ++ new ∷ []) gone
+      comes_more slots numbers came gone p n new lt free is before t = record {
+        seats = t.seats ++ new ∷ [];
+        number = number_of p (length t.seats) t.number;
+        ties = ties_comes slots t.number t.seats gone t.ties p lt new free;
+        numbered = numbered_comes slots t.number t.seats gone t.ties p lt new free numbers first n (omega (arith, before, as_many came t.seats t.tell)) t.numbered;
+        whose = t.whose;
+        turned = seat_comes remaining contents gives k came t.seats clock clock' keeper keeper' s mid new is t.turned;
+        are_given = t.are_given;
+        tell = tell_comes came t.seats new is t.tell;
+        faulty = t.faulty ∙ sym (faults_more t.seats new is.open_still);
+      }
 
-    sends_more : (slots : List (Option (Seat R W))) (came gone : List (Seat R W)) (clock' : C) (keeper' : K) (turns faults p : ℕ) (mid : State) (old new : Seat R W) → p < length slots → slot_at slots p ≡ Some old
-        → Sends contents old new → Now slots came gone clock' keeper' turns faults mid → Now (set slots p (Some new)) came gone clock' keeper' turns faults mid
-    sends_more slots came gone clock' keeper' turns faults p mid old new lt at g t =
-        let n = t.number p in
-        let one = t.ties.each p old at in
-        let fits = slice_get_within t.seats n old one in
-        let is : old ≡ get_or t.seats n old = sym (stands t.seats n old one) in
-        let there : Sends contents (get_or t.seats n old) new = subst (λ (x : Seat R W). Sends contents x new) is g in
-        record {
-          seats = set t.seats n new;
-          number = t.number;
-          ties = ties_set slots t.number t.seats gone t.ties p lt old new at;
-          turned = sent_seat remaining contents gives k came t.seats clock clock' keeper keeper' s mid n old new fits there t.turned;
-          tell = tell_sent contents came t.seats n old new fits there t.tell;
-          taken = let alike = turns_set t.seats n 0 old new fits (turns_alike (get_or t.seats n old) new there.served there.end) in omega (arith, t.taken, alike);
-          faulty = t.faulty ∙ sym (faults_same t.seats n old new fits there.end);
-        }
+      gathers_more : (slots : List (Option (Seat R W))) (numbers : ℕ → ℕ) (came gone : List (Seat R W)) (p : ℕ) (old new : Seat R W) → p < length slots → slot_at slots p ≡ Some old → old.end ≡ None
+          → Gathers remaining old new → Still slots numbers came gone → Still (set slots p (Some new)) numbers came gone
+      gathers_more slots numbers came gone p old new lt at is_open g t =
+          let n = t.number p in
+          let one = t.ties.each p old at in
+          let fits = slice_get_within t.seats n old one in
+          let is : old ≡ get_or t.seats n old = sym (stands t.seats n old one) in
+          let open_there : (get_or t.seats n old).end ≡ None = subst (λ (x : Seat R W). x.end ≡ None) is is_open in
+          let none : one_if new.end ≡ zero = ap one_if (g.end ∙ is_open) in
+          record {
+            seats = set t.seats n new;
+            number = t.number;
+            ties = ties_set slots t.number t.seats gone t.ties p lt old new at;
+            numbered = numbered_set slots t.number t.seats gone t.ties p lt old new at numbers first t.numbered;
+            whose = t.whose;
+            turned = gathered_seat remaining contents gives k came t.seats clock clock' keeper keeper' s mid n old new fits open_there (subst (λ (x : Seat R W). Gathers remaining x new) is g) t.turned;
+            are_given = t.are_given;
+            tell = tell_more came t.seats n old new fits (subst (λ (x : Seat R W). TellsTurn x new) is (gathers_tell remaining contents old new is_open g)) t.tell;
+            faulty = let set_one = faults_set t.seats n old new fits open_there in omega (arith, t.faulty, set_one, none);
+          }
 
-    goes_more : (slots : List (Option (Seat R W))) (came gone : List (Seat R W)) (clock' : C) (keeper' : K) (turns faults p : ℕ) (mid : State) (seat : Seat R W) → p < length slots → slot_at slots p ≡ Some seat
-        → Now slots came gone clock' keeper' turns faults mid → Now (set slots p None) came (gone ++ seat ∷ []) clock' keeper' turns faults mid
-    goes_more slots came gone clock' keeper' turns faults p mid seat lt at t = record {
-      seats = t.seats;
-      number = t.number;
-      ties = ties_goes slots t.number t.seats gone t.ties p lt seat at;
-      turned = t.turned;
-      tell = t.tell;
-      taken = t.taken;
-      faulty = t.faulty;
-    }
+      sends_more : (slots : List (Option (Seat R W))) (numbers : ℕ → ℕ) (came gone : List (Seat R W)) (p : ℕ) (old new : Seat R W) → p < length slots → slot_at slots p ≡ Some old
+          → Sends contents old new → Still slots numbers came gone → Still (set slots p (Some new)) numbers came gone
+      sends_more slots numbers came gone p old new lt at g t =
+          let n = t.number p in
+          let one = t.ties.each p old at in
+          let fits = slice_get_within t.seats n old one in
+          let is : old ≡ get_or t.seats n old = sym (stands t.seats n old one) in
+          let there : Sends contents (get_or t.seats n old) new = subst (λ (x : Seat R W). Sends contents x new) is g in
+          record {
+            seats = set t.seats n new;
+            number = t.number;
+            ties = ties_set slots t.number t.seats gone t.ties p lt old new at;
+            numbered = numbered_set slots t.number t.seats gone t.ties p lt old new at numbers first t.numbered;
+            whose = t.whose;
+            turned = sent_seat remaining contents gives k came t.seats clock clock' keeper keeper' s mid n old new fits there t.turned;
+            are_given = t.are_given;
+            tell = tell_sent contents came t.seats n old new fits there t.tell;
+            faulty = t.faulty ∙ sym (faults_same t.seats n old new fits there.end);
+          }
 
-    -- what went on between two turns
-    pub changes_more : (old new : List (Option (Seat R W))) (came gone more went : List (Seat R W)) (clock' : C) (keeper' : K) (turns faults : ℕ) (mid : State) → Changes remaining contents old new more went
-        → Now old came gone clock' keeper' turns faults mid → Now new (came ++ more) (gone ++ went) clock' keeper' turns faults mid
-    changes_more old _ came gone _ _ clock' keeper' turns faults mid crowd.same t =
-        subst (λ l. Now old l (gone ++ []) clock' keeper' turns faults mid) (sym (append-nil came))
-        (subst (λ l. Now old came l clock' keeper' turns faults mid) (sym (append-nil gone)) t)
-    changes_more old _ came gone _ _ clock' keeper' turns faults mid (crowd.comes now more went p new before lt free is) t =
-        subst (λ l. Now (set now p (Some new)) l (gone ++ went) clock' keeper' turns faults mid) (append_assoc came more (new ∷ []))
-        (comes_more now (came ++ more) (gone ++ went) clock' keeper' turns faults p mid new lt free is (changes_more old now came gone more went clock' keeper' turns faults mid before t))
-    changes_more old _ came gone _ _ clock' keeper' turns faults mid (crowd.gathers now more went p seat new before lt at is_open g) t =
-        gathers_more now (came ++ more) (gone ++ went) clock' keeper' turns faults p mid seat new lt at is_open g (changes_more old now came gone more went clock' keeper' turns faults mid before t)
-    changes_more old _ came gone _ _ clock' keeper' turns faults mid (crowd.sends now more went p seat new before lt at g) t =
-        sends_more now (came ++ more) (gone ++ went) clock' keeper' turns faults p mid seat new lt at g (changes_more old now came gone more went clock' keeper' turns faults mid before t)
-    changes_more old _ came gone _ _ clock' keeper' turns faults mid (crowd.goes now more went p seat before lt at) t =
-        subst (λ l. Now (set now p None) (came ++ more) l clock' keeper' turns faults mid) (append_assoc gone went (seat ∷ []))
-        (goes_more now (came ++ more) (gone ++ went) clock' keeper' turns faults p mid seat lt at (changes_more old now came gone more went clock' keeper' turns faults mid before t))
+      goes_more : (slots : List (Option (Seat R W))) (numbers : ℕ → ℕ) (came gone : List (Seat R W)) (p : ℕ) (seat : Seat R W) → p < length slots → slot_at slots p ≡ Some seat
+          → Still slots numbers came gone → Still (set slots p None) numbers came (gone ++ seat ∷ [])
+      goes_more slots numbers came gone p seat lt at t = record {
+        seats = t.seats;
+        number = t.number;
+        ties = ties_goes slots t.number t.seats gone t.ties p lt seat at;
+        numbered = numbered_goes slots t.number t.seats gone t.ties p lt seat at numbers first t.numbered;
+        whose = t.whose;
+        turned = t.turned;
+        are_given = t.are_given;
+        tell = t.tell;
+        faulty = t.faulty;
+      }
+
+      -- what went on between two turns
+      pub changes_more : (old new : List (Option (Seat R W))) (numbers : ℕ → ℕ) (came gone more went : List (Seat R W)) (n : ℕ) → n ≡ first + length came
+          → (changes : Changes remaining contents old new more went) → Still old numbers came gone → Still new (numbers_after changes n numbers) (came ++ more) (gone ++ went)
+      changes_more old _ numbers came gone _ _ n is crowd.same t =
+          subst (λ l. Still old numbers l (gone ++ [])) (sym (append-nil came)) (subst (λ l. Still old numbers came l) (sym (append-nil gone)) t)
+      changes_more old _ numbers came gone _ _ n is (crowd.comes now more went p new before lt free is_new) t =
+          subst (λ l. Still (set now p (Some new)) (number_of p (n + length more) (numbers_after before n numbers)) l (gone ++ went)) (append_assoc came more (new ∷ []))
+          (comes_more now (numbers_after before n numbers) (came ++ more) (gone ++ went) p (n + length more) new lt free is_new (omega (arith, is, length-append came more))
+          (changes_more old now numbers came gone more went n is before t))
+      changes_more old _ numbers came gone _ _ n is (crowd.gathers now more went p seat new before lt at is_open g) t =
+          gathers_more now (numbers_after before n numbers) (came ++ more) (gone ++ went) p seat new lt at is_open g (changes_more old now numbers came gone more went n is before t)
+      changes_more old _ numbers came gone _ _ n is (crowd.sends now more went p seat new before lt at g) t =
+          sends_more now (numbers_after before n numbers) (came ++ more) (gone ++ went) p seat new lt at g (changes_more old now numbers came gone more went n is before t)
+      changes_more old _ numbers came gone _ _ n is (crowd.goes now more went p seat before lt at) t =
+          subst (λ l. Still (set now p None) (numbers_after before n numbers) (came ++ more) l) (append_assoc gone went (seat ∷ []))
+          (goes_more now (numbers_after before n numbers) (came ++ more) (gone ++ went) p seat lt at (changes_more old now numbers came gone more went n is before t))
 
     -- ---- a turn
 
-    -- the turns that a connection took are one more behind a turn
-    one_turn : (clock' clock'' : C) (keeper' keeper'' : K) (mid after : State) (old new : Seat R W) → old.end ≡ None → TakesTurn gives remaining contents old new clock' clock'' k keeper' keeper'' mid after
-        → turns_of new ≡ turns_of old + 1
-    one_turn clock' clock'' keeper' keeper'' mid after old new is_open (had_ended e is same_seat same_clock same_keeper same_state) =
-        let both : ◌≡◌ None (Some e) = sym is_open ∙ is in absurd cc
-    one_turn clock' clock'' keeper' keeper'' mid after old new is_open (went_on was_open is_now served goes) =
-        let before : over_if old.end ≡ zero = ap over_if is_open in
-        let behind : over_if new.end ≡ zero = ap over_if is_now in
-        omega (arith, before, behind, served)
-    one_turn clock' clock'' keeper' keeper'' mid after old new is_open (ended n e was_open is served sum serves few) =
-        let before : over_if old.end ≡ zero = ap over_if is_open in
-        let behind : over_if new.end ≡ suc zero = ap over_if is in
-        omega (arith, before, behind, served)
-
-    module _ (slots : List (Option (Seat R W))) (came gone : List (Seat R W)) (clock' clock'' : C) (keeper' keeper'' : K) (turns faults : ℕ) (mid after : State) where
+    module _ (slots : List (Option (Seat R W))) (numbers : ℕ → ℕ) (came gone : List (Seat R W)) (given : List ℕ) (clock' clock'' : C) (keeper' keeper'' : K) (faults : ℕ) (mid after : State) where
       takes_more : (p : ℕ) (old new : Seat R W) → p < length slots → slot_at slots p ≡ Some old → old.end ≡ None
-          → TakesTurn gives remaining contents old new clock' clock'' k keeper' keeper'' mid after → TellsTurn old new
-          → Now slots came gone clock' keeper' turns faults mid → Now (set slots p (Some new)) came gone clock'' keeper'' (turns + 1) (faults + cond (fails_now old.end new.end) 1 0) after
+          → TakesTurn gives remaining contents old new clock' clock'' k keeper' keeper'' mid after → TellsTurn old new → Now slots numbers came gone given clock' keeper' faults mid
+          → Now (set slots p (Some new)) numbers came gone (given ++ numbers p ∷ []) clock'' keeper'' (faults + cond (fails_now old.end new.end) 1 0) after
       takes_more p old new lt at is_open turn tells t =
           let n = t.number p in
           let one = t.ties.each p old at in
@@ -207,52 +200,54 @@ module _ {R W : Type 0} (remaining : R → Option (List ℕ)) (contents : W → 
           let is : old ≡ get_or t.seats n old = sym (stands t.seats n old one) in
           let open_there : (get_or t.seats n old).end ≡ None = subst (λ (x : Seat R W). x.end ≡ None) is is_open in
           let told : cond (fails_now old.end new.end) 1 0 ≡ one_if new.end = ap (λ (e : Option SessionEnd). cond (fails_now e new.end) 1 0) is_open in
-          let count = one_turn clock' clock'' keeper' keeper'' mid after old new is_open turn in
           record {
             seats = set t.seats n new;
             number = t.number;
             ties = ties_set slots t.number t.seats gone t.ties p lt old new at;
-            turned = turns_more remaining contents gives k came t.seats clock clock' clock'' keeper keeper' keeper'' s mid after n old new fits
+            numbered = numbered_set slots t.number t.seats gone t.ties p lt old new at numbers first t.numbered;
+            whose = t.whose ++ n ∷ [];
+            turned = turns_more remaining contents gives k came t.seats clock clock' clock'' keeper keeper' keeper'' s mid after n old new fits open_there
                 (subst (λ (x : Seat R W). TakesTurn gives remaining contents x new clock' clock'' k keeper' keeper'' mid after) is turn) t.turned;
+            are_given = map_push (λ m. first + m) t.whose n ∙ ap (λ (l : List ℕ). l ++ (first + n) ∷ []) t.are_given ∙ ap (λ (m : ℕ). given ++ m ∷ []) (sym (t.numbered p old at));
             tell = tell_more came t.seats n old new fits (subst (λ (x : Seat R W). TellsTurn x new) is tells) t.tell;
-            taken = let more = turns_set t.seats n 1 old new fits (subst (λ (x : Seat R W). turns_of new ≡ turns_of x + 1) is count) in omega (arith, t.taken, more);
             faulty = let set_one = faults_set t.seats n old new fits open_there in omega (arith, t.faulty, set_one, told);
           }
 
       slot_turns : (p : ℕ) (was now : Option (Seat R W)) (failed : Bool) (seat : Seat R W) → p < length slots → slot_at slots p ≡ was → was ≡ Some seat → seat.end ≡ None
-          → TurnsSlot gives remaining contents clock' clock'' k keeper' keeper'' mid after was now failed
-          → Now slots came gone clock' keeper' turns faults mid → Now (set slots p now) came gone clock'' keeper'' (turns + 1) (faults + cond failed 1 0) after
+          → TurnsSlot gives remaining contents clock' clock'' k keeper' keeper'' mid after was now failed → Now slots numbers came gone given clock' keeper' faults mid
+          → Now (set slots p now) numbers came gone (given ++ numbers p ∷ []) clock'' keeper'' (faults + cond failed 1 0) after
       slot_turns p _ _ _ seat lt at there is_open (crowd.nobody same_clock same_keeper same_state) t = absurd (none_is seat there)
       slot_turns p _ _ _ seat lt at there is_open (crowd.taken old new turn tells) t =
           takes_more p old new lt at (subst (λ (x : Seat R W). x.end ≡ None) (sym (some_is old seat there)) is_open) turn tells t
 
       -- the same of a slot whose turn is due
       pub turned_more : (faults' p : ℕ) (now : Option (Seat R W)) (failed : Bool) → IsOpenAt slots p → faults' ≡ faults + cond failed 1 0
-          → TurnsSlot gives remaining contents clock' clock'' k keeper' keeper'' mid after (slot_at slots p) now failed
-          → Now slots came gone clock' keeper' turns faults mid → Now (set slots p now) came gone clock'' keeper'' (turns + 1) faults' after
+          → TurnsSlot gives remaining contents clock' clock'' k keeper' keeper'' mid after (slot_at slots p) now failed → Now slots numbers came gone given clock' keeper' faults mid
+          → Now (set slots p now) numbers came gone (given ++ numbers p ∷ []) clock'' keeper'' faults' after
       turned_more faults' p now failed due counted turn t =
-          subst (λ m. Now (set slots p now) came gone clock'' keeper'' (turns + 1) m after) (sym counted)
+          subst (λ m. Now (set slots p now) numbers came gone (given ++ numbers p ∷ []) clock'' keeper'' m after) (sym counted)
           (slot_turns p (slot_at slots p) now failed due.1 due.0 refl due.2 due.3 turn t)
 
     -- ---- the end
 
-    pub crowd_ends : (slots : List (Option (Seat R W))) (came gone : List (Seat R W)) (clock' : C) (keeper' : K) (turns faults : ℕ) (mid : State) → MeansOne k keeper' → IsLeft (k.means keeper') mid
-        → Now slots came gone clock' keeper' turns faults mid → ServesCrowd gives remaining contents came gone slots clock clock' k keeper keeper' turns faults s mid
-    crowd_ends slots came gone clock' keeper' turns faults mid one left t =
-        let last = weaves_last remaining contents gives k came t.seats clock clock' keeper keeper' s mid turns t.turned t.tell (omega (arith, t.taken)) one left in
-        let w = last.0 in
+    pub crowd_ends : (slots : List (Option (Seat R W))) (numbers : ℕ → ℕ) (came gone : List (Seat R W)) (given : List ℕ) (clock' : C) (keeper' : K) (faults : ℕ) (mid : State) → MeansOne k keeper'
+        → IsLeft (k.means keeper') mid → Now slots numbers came gone given clock' keeper' faults mid
+        → ServesCrowd gives remaining contents came gone slots clock clock' k keeper keeper' first given faults s mid
+    crowd_ends slots numbers came gone given clock' keeper' faults mid one left t =
+        let w = weaves_last remaining contents gives k came t.seats clock clock' keeper keeper' s mid t.turned t.tell one left in
+        let are : map (λ (u : Turn). first + u.which) w.run.turns ≡ given = whose_are first w.run.turns ∙ ap (map (λ n. first + n)) w.in_order ∙ t.are_given in
         record {
           seats = t.seats;
           went = gone_among slots t.number t.seats gone t.ties;
           stand = λ p seat at. (t.number p, t.ties.each p seat at);
           no_other = no_other_stands slots t.number t.seats gone t.ties;
-          taken = t.taken;
+          taken = ap length (sym are) ∙ length-map w.run.turns (λ (u : Turn). first + u.which) ∙ w.all;
           threads = w.threads;
           moments = w.moments;
           told = w.told;
           served = w.served;
           run = w.run;
-          counted = t.taken ∙ sym last.1;
+          whose = are;
           each_counted = w.each_counted;
           one_moment = w.one_moment;
           repeats = w.repeats;
@@ -262,14 +257,16 @@ module _ {R W : Type 0} (remaining : R → Option (List ℕ)) (contents : W → 
         }
 
     -- nothing came yet
-    pub crowd_starts : (slots : List (Option (Seat R W))) → ((p : ℕ) → slot_at slots p ≡ None) → SoFar gives k [] clock clock keeper keeper s s → Now slots [] [] clock keeper 0 0 s
-    crowd_starts slots free f = record {
+    pub crowd_starts : (slots : List (Option (Seat R W))) (numbers : ℕ → ℕ) → ((p : ℕ) → slot_at slots p ≡ None) → Now slots numbers [] [] [] clock keeper 0 s
+    crowd_starts slots numbers free = record {
       seats = [];
       number = λ p. p;
       ties = ties_none slots free;
-      turned = record { sittings = []; are = tt; so_far = f };
+      numbered = numbered_none slots numbers first free;
+      whose = [];
+      turned = record { sittings = []; are = tt; so_far = starts gives k clock keeper s };
+      are_given = refl;
       tell = tt;
-      taken = refl;
       faulty = refl;
     }
 

@@ -1,9 +1,8 @@
 -- Seats in turn: what they are as sittings, and what a turn makes of them.
-use Rattle.std.proofs.Common.{◌≡◌, ◌<◌, ◌≤◌, ◌+◌, ℕ, zero, suc, Bool, true, false, List, [], ◌∷◌, ◌++◌, length, get_or, set, Option, Some, None, refl, sym, ap, subst, ◌∙◌, arith, inl, inr}
+use Rattle.std.proofs.Common.{◌≡◌, ◌<◌, ◌≤◌, ◌+◌, ℕ, zero, suc, Bool, true, false, List, [], ◌∷◌, ◌++◌, length, get_or, map, set, Option, Some, None, refl, sym, ap, subst, ◌∙◌, arith, inl, inr}
 use Rattle.std.specs.Prelude.{⊤, is_some}
 use Rattle.std.specs.List.{AllByRecursion, sum_by}
-use Rattle.std.proofs.lemmas.List.{set-get_or}
-use Rattle.std.proofs.lemmas.List.Sums.{sum_by-cons, sum_by-set}
+use Rattle.std.proofs.lemmas.List.Sums.{sum_by-cons}
 use Rattle.std.specs.Io.KnownBytes.{Appends, Keeps, prepend_known}
 use Rattle.sigtext.specs.Counts.{Rose}
 use Rattle.keeper.specs.declared.keep.Keeper.{Ghosts}
@@ -15,17 +14,20 @@ use Rattle.wire.specs.declared.feed.Place.{Place}
 use Rattle.wire.specs.declared.feed.Place.TheVariants as place
 use Rattle.wire.specs.declared.standing.Standing.{Standing}
 use Rattle.office.specs.Begins.{may_begin}
-use Rattle.office.specs.Interleaved.{Thread, Turn, acts_in}
+use Rattle.office.specs.Connections.{TellsMoments}
+use Rattle.office.specs.Interleaved.{Interleaved, Thread, Turn, acts_in}
 use Rattle.office.specs.Premise.{IsLeft}
-use Rattle.office.specs.Seats.{AreThreads, Gathers, HaveTurns, Sends, IsNew, IsStreamOf, TakesTurn, TellsTurn, TellsTurnOf, Weaves, had_ended, went_on, ended, left_of, turns_of}
+use Rattle.office.specs.Repeats.{RepeatsOnce}
+use Rattle.office.specs.Seats.{AreThreads, Gathers, HaveTurns, LastsOver, Sends, IsNew, IsStreamOf, StaysSo, TakesTurn, TellsOneMoment, TellsTurn, TellsTurnOf, had_ended, went_on, ended, left_of, turns_of}
 use Rattle.office.specs.Sessions.{most_messages}
 use Rattle.office.specs.Stepping.{Steps, TellsStep}
 use Rattle.office.specs.declared.connections.seat.Seat.{Seat}
 use Rattle.office.specs.declared.connections.session.SessionEnd.{SessionEnd}
-use Rattle.office.proofs.Counting.{AllTook, over_if, took_of}
+use Rattle.office.proofs.Counting.{AllTook, took_of}
 use Rattle.office.proofs.Repeats.{repeats_once}
 use Rattle.office.proofs.RunSoFar.{MeansOne}
-use Rattle.office.proofs.Sitting.{IsFirst, Sitting, answered, closed, gathered, sent_on}
+use Rattle.office.proofs.Sitting.{Sitting, answered, closed, gathered, sent_on}
+use Rattle.office.proofs.Ties.{none_is}
 use Rattle.office.proofs.Weaving.{AreThreadsOf, IsThreadOf, SoFar, all_last, answered_more, closed_more, finishes, gathered_more, none_gave_up, opens, sent_more, threads_rose}
 
 -- ---- where a message may begin
@@ -93,10 +95,6 @@ module _ {R W : Type 0} where
   tells_new : (x : Seat R W) → IsNew x → TellsSince x x
   tells_new x new = subst (λ e. TellsStep e x.reader x.reader x.writer x.writer) (sym new.open_still) (refl, refl)
 
-  pub tell_first : (xs : List (Seat R W)) → AllByRecursion IsNew xs → AllTell xs xs
-  tell_first [] new = tt
-  tell_first (x ∷ xs) new = (tells_new x new.0, tell_first xs new.1)
-
   pub tell_more : (fs ns : List (Seat R W)) (p : ℕ) (d new : Seat R W) → p < length ns → TellsTurn (get_or ns p d) new → AllTell fs ns → AllTell fs (set ns p new)
   tell_more [] [] p d new lt t h = absurd (omega (arith, lt))
   tell_more [] (n ∷ ns) p d new lt t h = absurd h
@@ -133,6 +131,12 @@ module _ {R W : Type 0} where
   tell_comes (f ∷ fs) [] x new h = absurd h
   tell_comes (f ∷ fs) (n ∷ ns) x new h = (h.0, tell_comes fs ns x new h.1)
 
+  pub as_many : (fs ns : List (Seat R W)) → AllTell fs ns → length fs ≡ length ns
+  as_many [] [] h = refl
+  as_many [] (n ∷ ns) h = absurd h
+  as_many (f ∷ fs) [] h = absurd h
+  as_many (f ∷ fs) (n ∷ ns) h = ap suc (as_many fs ns h.1)
+
 -- ---- seats as sittings
 
 module _ {R W : Type 0} (remaining : R → Option (List ℕ)) (contents : W → Option (List ℕ)) where
@@ -152,19 +156,6 @@ module _ {R W : Type 0} (remaining : R → Option (List ℕ)) (contents : W → 
   AreSittings [] [] [] = ⊤
   AreSittings (f ∷ fs) (n ∷ ns) (x ∷ xs) = (x ≡ sitting_of f n x.gave_up) × AreSittings fs ns xs
   AreSittings fs ns xs = ⊥
-
-  -- as they were at first
-  abbrev pub first_sittings : List (Seat R W) → List Sitting
-  first_sittings [] = []
-  first_sittings (f ∷ fs) = sitting_of f f false ∷ first_sittings fs
-
-  pub are_first : (fs : List (Seat R W)) → AreSittings fs fs (first_sittings fs)
-  are_first [] = tt
-  are_first (f ∷ fs) = (refl, are_first fs)
-
-  pub all_first : (fs : List (Seat R W)) → AllByRecursion IsNew fs → AllByRecursion IsFirst (first_sittings fs)
-  all_first [] new = tt
-  all_first (f ∷ fs) new = (record { all = refl; unwritten = refl; none = new.0.none; open_still = new.0.open_still; marked = refl }, all_first fs new.1)
 
   -- one that stands there: its connection as it was at first, and that another seat of the same connection may stand there
   record StandsThere (fs ns : List (Seat R W)) (xs : List Sitting) (p : ℕ) (now : Seat R W) (x : Sitting) : Type 0 where
@@ -195,10 +186,10 @@ module _ {R W : Type 0} (remaining : R → Option (List ℕ)) (contents : W → 
 
   -- ---- a turn
 
-  pub record TurnsMore {C K : Type 0} (gives : C → ℕ → C → Type 0) (k : Ghosts K) (fs ns : List (Seat R W)) (clock clock' : C) (keeper keeper' : K) (s after : State) : Type 0 where
+  pub record TurnsMore {C K : Type 0} (gives : C → ℕ → C → Type 0) (k : Ghosts K) (fs ns : List (Seat R W)) (whose : List ℕ) (clock clock' : C) (keeper keeper' : K) (s after : State) : Type 0 where
     pub sittings : List Sitting
     pub are : AreSittings fs ns sittings
-    pub so_far : SoFar gives k sittings clock clock' keeper keeper' s after
+    pub so_far : SoFar gives k sittings whose clock clock' keeper keeper' s after
 
   -- it is the same, where so many were served, and it ended so
   same_sitting : (first new : Seat R W) (served : ℕ) (e : Option SessionEnd) (gave_up : Bool) → new.served ≡ served → new.end ≡ e
@@ -207,18 +198,11 @@ module _ {R W : Type 0} (remaining : R → Option (List ℕ)) (contents : W → 
       ap (λ (n : ℕ). record (sitting_of first new gave_up) { served = n; end = e }) (sym same)
       ∙ ap (λ (o : Option SessionEnd). record (sitting_of first new gave_up) { served = new.served; end = o }) (sym is)
 
-  module _ {C K : Type 0} (gives : C → ℕ → C → Type 0) (k : Ghosts K) (fs ns : List (Seat R W)) (clock clock' clock'' : C) (keeper keeper' keeper'' : K) (s mid after : State)
-      (p : ℕ) (d new : Seat R W) (lt : p < length ns) where
+  module _ {C K : Type 0} {whose : List ℕ} (gives : C → ℕ → C → Type 0) (k : Ghosts K) (fs ns : List (Seat R W)) (clock clock' clock'' : C) (keeper keeper' keeper'' : K) (s mid after : State)
+      (p : ℕ) (d new : Seat R W) (lt : p < length ns) (open_there : (get_or ns p d).end ≡ None) where
     pub turns_more : TakesTurn gives remaining contents (get_or ns p d) new clock' clock'' k keeper' keeper'' mid after
-        → TurnsMore gives k fs ns clock clock' keeper keeper' s mid → TurnsMore gives k fs (set ns p new) clock clock'' keeper keeper'' s after
-    turns_more (had_ended e is same_seat same_clock same_keeper same_state) t = record {
-      sittings = t.sittings;
-      are = subst (λ l. AreSittings fs l t.sittings) (sym (ap (set ns p) same_seat ∙ set-get_or ns p d)) t.are;
-      so_far =
-          subst (λ c. SoFar gives k t.sittings clock c keeper keeper'' s after) (sym same_clock)
-          (subst (λ x. SoFar gives k t.sittings clock clock' keeper x s after) (sym same_keeper)
-          (subst (λ x. SoFar gives k t.sittings clock clock' keeper keeper' s x) (sym same_state) t.so_far));
-    }
+        → TurnsMore gives k fs ns whose clock clock' keeper keeper' s mid → TurnsMore gives k fs (set ns p new) (whose ++ p ∷ []) clock clock'' keeper keeper'' s after
+    turns_more (had_ended e is same_seat same_clock same_keeper same_state) t = absurd (none_is e (sym open_there ∙ is))
     turns_more (went_on was_open is_open served goes) t =
         let dx = sitting_of d d false in
         let at = stands_there fs ns t.sittings p d dx lt t.are in
@@ -232,7 +216,7 @@ module _ {R W : Type 0} (remaining : R → Option (List ℕ)) (contents : W → 
           so_far = answered_more gives k t.sittings clock clock' keeper keeper' s mid t.so_far p dx z at.within at.is was_open
               (left_of remaining new) (remaining new.reader.inner) (contents new.writer.inner) clock'' keeper'' after (subst (λ n. n ≤ most_messages) served new.few) goes;
         }
-    turns_more (ended n e was_open is served sum serves few) t =
+    turns_more (ended n e was_open is served sum serves once) t =
         let dx = sitting_of d d false in
         let at = stands_there fs ns t.sittings p d dx lt t.are in
         let old = get_or ns p d in
@@ -243,7 +227,7 @@ module _ {R W : Type 0} (remaining : R → Option (List ℕ)) (contents : W → 
           sittings = set t.sittings p y;
           are = at.more new y (same_sitting at.first new old.served (Some e) serves.gave_up served is);
           so_far = closed_more gives k t.sittings clock clock' keeper keeper' s mid t.so_far p dx z at.within at.is was_open
-              (left_of remaining new) (remaining new.reader.inner) (contents new.writer.inner) clock'' keeper'' after n e sum serves few;
+              (left_of remaining new) (remaining new.reader.inner) (contents new.writer.inner) clock'' keeper'' after n e sum serves once;
         }
 
   -- ---- between two turns
@@ -255,9 +239,9 @@ module _ {R W : Type 0} (remaining : R → Option (List ℕ)) (contents : W → 
       ∙ ap (λ (r : Counted R). record (sitting_of first new gave_up) { left = prepend_known (ahead_of new.standing) (remaining r.inner); reader = remaining r.inner; served = old.served; end = old.end }) (sym g.reader)
       ∙ same_sitting first new old.served old.end gave_up g.served g.end
 
-  module _ {C K : Type 0} (gives : C → ℕ → C → Type 0) (k : Ghosts K) (fs ns : List (Seat R W)) (clock clock' : C) (keeper keeper' : K) (s mid : State) where
+  module _ {C K : Type 0} {whose : List ℕ} (gives : C → ℕ → C → Type 0) (k : Ghosts K) (fs ns : List (Seat R W)) (clock clock' : C) (keeper keeper' : K) (s mid : State) where
     pub gathered_seat : (p : ℕ) (d new : Seat R W) → p < length ns → (get_or ns p d).end ≡ None → Gathers remaining (get_or ns p d) new
-        → TurnsMore gives k fs ns clock clock' keeper keeper' s mid → TurnsMore gives k fs (set ns p new) clock clock' keeper keeper' s mid
+        → TurnsMore gives k fs ns whose clock clock' keeper keeper' s mid → TurnsMore gives k fs (set ns p new) whose clock clock' keeper keeper' s mid
     gathered_seat p d new lt is_open g t =
         let dx = sitting_of d d false in
         let at = stands_there fs ns t.sittings p d dx lt t.are in
@@ -272,7 +256,7 @@ module _ {R W : Type 0} (remaining : R → Option (List ℕ)) (contents : W → 
         }
 
     pub sent_seat : (p : ℕ) (d new : Seat R W) → p < length ns → Sends contents (get_or ns p d) new
-        → TurnsMore gives k fs ns clock clock' keeper keeper' s mid → TurnsMore gives k fs (set ns p new) clock clock' keeper keeper' s mid
+        → TurnsMore gives k fs ns whose clock clock' keeper keeper' s mid → TurnsMore gives k fs (set ns p new) whose clock clock' keeper keeper' s mid
     sent_seat p d new lt g t =
         let dx = sitting_of d d false in
         let at = stands_there fs ns t.sittings p d dx lt t.are in
@@ -286,8 +270,8 @@ module _ {R W : Type 0} (remaining : R → Option (List ℕ)) (contents : W → 
           so_far = sent_more gives k t.sittings clock clock' keeper keeper' s mid t.so_far p dx (contents new.writer.inner) at.within (subst (λ a. Keeps a (contents new.writer.inner)) (sym was) g.holds);
         }
 
-    pub seat_comes : (new : Seat R W) → IsNew new → TurnsMore gives k fs ns clock clock' keeper keeper' s mid
-        → TurnsMore gives k (fs ++ new ∷ []) (ns ++ new ∷ []) clock clock' keeper keeper' s mid
+    pub seat_comes : (new : Seat R W) → IsNew new → TurnsMore gives k fs ns whose clock clock' keeper keeper' s mid
+        → TurnsMore gives k (fs ++ new ∷ []) (ns ++ new ∷ []) whose clock clock' keeper keeper' s mid
     seat_comes new is t = record {
       sittings = t.sittings ++ sitting_of new new false ∷ [];
       are = are_more fs ns t.sittings new t.are;
@@ -351,58 +335,43 @@ module _ {R W : Type 0} (remaining : R → Option (List ℕ)) (contents : W → 
   sums_alike (f ∷ fs) (n ∷ ns) (x ∷ xs) a =
       omega (arith, sum_by-cons took_of x xs, sum_by-cons turns_of n ns, same_took f n x a.0, sums_alike fs ns xs a.1)
 
-  pub turns_new : (x : Seat R W) → IsNew x → turns_of x ≡ 0
-  turns_new x new =
-      let open_still : over_if x.end ≡ 0 = ap over_if new.open_still in
-      omega (arith, new.none, open_still)
+  -- The connections were served in turn, in this order, and these are their threads.
+  pub record Weaves {C K : Type 0} (gives : C → ℕ → C → Type 0) (k : Ghosts K) (fs ns : List (Seat R W)) (whose : List ℕ) (clock clock' : C) (keeper keeper' : K) (s after : State) : Type 0 where
+    pub threads : List Thread
+    pub moments : List ℕ
+    pub told : TellsMoments gives clock moments clock'
+    pub served : AreThreads remaining contents fs ns threads
+    pub run : Interleaved s threads moments after
+    pub in_order : map (λ (t : Turn). t.which) run.turns ≡ whose
+    pub all : length run.turns ≡ sum_by turns_of ns
+    pub each_counted : HaveTurns run.turns 0 ns
+    pub one_moment : AllByRecursion TellsOneMoment run.turns
+    pub repeats : RepeatsOnce (acts_in run.turns)
+    pub stays : StaysSo k threads keeper keeper' after
+    pub lasts : LastsOver k threads keeper keeper' s after
 
-  pub sums_new : (fs : List (Seat R W)) → AllByRecursion IsNew fs → sum_by turns_of fs ≡ 0
-  sums_new [] new = refl
-  sums_new (f ∷ fs) new = omega (arith, sum_by-cons turns_of f fs, turns_new f new.0, sums_new fs new.1)
-
-  -- a turn is one of its connection, or none
-  pub one_at_most : {C K : Type 0} (gives : C → ℕ → C → Type 0) (k : Ghosts K) (clock clock' : C) (keeper keeper' : K) (s after : State) (old new : Seat R W)
-      → TakesTurn gives remaining contents old new clock clock' k keeper keeper' s after → turns_of new ≤ turns_of old + 1
-  one_at_most gives k clock clock' keeper keeper' s after old new (had_ended e is same_seat same_clock same_keeper same_state) =
-      let same : turns_of new ≡ turns_of old = ap turns_of same_seat in omega (arith, same)
-  one_at_most gives k clock clock' keeper keeper' s after old new (went_on was_open is_open served goes) =
-      let behind : over_if new.end ≡ 0 = ap over_if is_open in omega (arith, behind, served)
-  one_at_most gives k clock clock' keeper keeper' s after old new (ended n e was_open is served sum serves few) =
-      let behind : over_if new.end ≡ 1 = ap over_if is in omega (arith, behind, served)
-
-  pub sums_more : (ns : List (Seat R W)) (p m : ℕ) (d new : Seat R W) → p < length ns → turns_of new ≤ turns_of (get_or ns p d) + 1 → sum_by turns_of ns ≤ m
-      → sum_by turns_of (set ns p new) ≤ m + 1
-  sums_more ns p m d new lt one few = let all = sum_by-set turns_of ns p new d lt in omega (arith, all, one, few)
-
-  module _ {C K : Type 0} (gives : C → ℕ → C → Type 0) (k : Ghosts K) (fs ns : List (Seat R W)) (clock clock' : C) (keeper keeper' : K) (s mid : State) where
-    -- nothing was done yet
-    pub weaves_first : AllByRecursion IsNew fs → SoFar gives k (first_sittings fs) clock clock keeper keeper s s → TurnsMore gives k fs fs clock clock keeper keeper s s
-    weaves_first new f = record { sittings = first_sittings fs; are = are_first fs; so_far = f }
-
-    -- in the end; and all turns are those that they took
-    pub weaves_last : (turns : ℕ) → TurnsMore gives k fs ns clock clock' keeper keeper' s mid → AllTell fs ns → sum_by turns_of ns ≤ turns → MeansOne k keeper' → IsLeft (k.means keeper') mid
-        → (w : Weaves gives remaining contents fs ns clock clock' k keeper keeper' turns s mid) × (length w.run.turns ≡ sum_by turns_of ns)
-    weaves_last turns t tell few one left =
+  module _ {C K : Type 0} {whose : List ℕ} (gives : C → ℕ → C → Type 0) (k : Ghosts K) (fs ns : List (Seat R W)) (clock clock' : C) (keeper keeper' : K) (s mid : State) where
+    pub weaves_last : TurnsMore gives k fs ns whose clock clock' keeper keeper' s mid → AllTell fs ns → MeansOne k keeper' → IsLeft (k.means keeper') mid
+        → Weaves gives k fs ns whose clock clock' keeper keeper' s mid
+    weaves_last t tell one left =
         let w = finishes gives k t.sittings clock clock' keeper keeper' s mid t.so_far in
-        let all = w.counts.all ∙ sums_alike fs ns t.sittings t.are in (
-          record {
-            threads = w.threads;
-            moments = w.moments;
-            told = w.told;
-            served = are_threads fs ns t.sittings w.threads t.are w.are tell;
-            run = w.run;
-            no_more = omega (arith, all, few);
-            each_counted = have_turns w.run.turns 0 fs ns t.sittings t.are w.counts.each;
-            one_moment = w.counts.one_moment;
-            repeats = repeats_once s (acts_in w.run.turns) mid w.run.order;
-            stays = record {
-              counted = λ none. (t.so_far.held (none_gave_up t.sittings w.threads w.are none)).0;
-              rose = threads_rose (k.faults keeper) (k.faults keeper') t.sittings w.threads w.are t.so_far.rose;
-              opened = λ none was.
-                  let now = (t.so_far.held (none_gave_up t.sittings w.threads w.are none)).1 was in
-                  (now, λ u means. one u mid now means left.means);
-            };
-            lasts = λ all. t.so_far.lasts (all_last t.sittings w.threads w.are all);
-          },
-          all,
-        )
+        record {
+          threads = w.threads;
+          moments = w.moments;
+          told = w.told;
+          served = are_threads fs ns t.sittings w.threads t.are w.are tell;
+          run = w.run;
+          in_order = w.counts.in_order;
+          all = w.counts.all ∙ sums_alike fs ns t.sittings t.are;
+          each_counted = have_turns w.run.turns 0 fs ns t.sittings t.are w.counts.each;
+          one_moment = w.counts.one_moment;
+          repeats = repeats_once s (acts_in w.run.turns) mid w.run.order;
+          stays = record {
+            counted = λ none. (t.so_far.held (none_gave_up t.sittings w.threads w.are none)).0;
+            rose = threads_rose (k.faults keeper) (k.faults keeper') t.sittings w.threads w.are t.so_far.rose;
+            opened = λ none was.
+                let now = (t.so_far.held (none_gave_up t.sittings w.threads w.are none)).1 was in
+                (now, λ u means. one u mid now means left.means);
+          };
+          lasts = λ all. t.so_far.lasts (all_last t.sittings w.threads w.are all);
+        }

@@ -27,7 +27,7 @@ use Rattle.office.proofs.Endurance.{still, then_through, through_after}
 use Rattle.office.specs.Handling.{Handles, answered, gave_up_at, broke, broke_giving_up_at}
 use Rattle.office.specs.Premise.{HoldsUp, IsLeft, WasKept}
 use Rattle.office.proofs.KeeperCalls.{Quiet}
-use Rattle.office.specs.Sessions.{HasBegunMessage, Session, MayGiveUpReading}
+use Rattle.office.specs.Sessions.{EndsAtOnce, HasBegunMessage, Session, MayGiveUpReading}
 use Rattle.office.specs.Sessions as session
 use Rattle.office.specs.Stepping.{Goes, IsClosed, Steps, ToCome}
 
@@ -167,9 +167,15 @@ serves_none gives left reader output clock k keeper s = record {
   session = session.limit (rest_of left) s;
 }
 
-pub none_few : {C K : Type 0} (gives : C → ℕ → C → Type 0) (left reader output : Option (List ℕ)) (clock : C) (k : Ghosts K) (keeper : K) (s : State) → length (serves_none gives left reader output clock k keeper s).moments ≤ 1
+pub none_ends : {C K : Type 0} (gives : C → ℕ → C → Type 0) (left reader output : Option (List ℕ)) (clock : C) (k : Ghosts K) (keeper : K) (s : State) → EndsAtOnce (serves_none gives left reader output clock k keeper s).session
 unfolding serves_none
-none_few gives left reader output clock k keeper s = omega arith
+none_ends gives left reader output clock k keeper s = tt
+
+-- what ends in its first step takes one moment at most
+pub few_moments : {n : ℕ} {stream : List ℕ} {s : State} {moments out : List ℕ} {e : SessionEnd} {gave_up : Bool} {after : State}
+    → (x : Session n stream s moments out e gave_up after) → EndsAtOnce x → length moments ≤ 1
+few_moments (session.served n stream rest s mid after r now moments text out e gave_up next answers more) once = absurd once
+few_moments _ once = omega arith
 
 -- ---- steps with a message
 
@@ -205,7 +211,7 @@ module _ {C K : Type 0} (gives : C → ℕ → C → Type 0) (p : Place) (left r
         lasts = given_no_more (Refused 40) (refused_no_read 40);
         session = session.gave_up_at n ((text ++ body) ++ waits) waits s r now (stands waits) readable;
       },
-      omega arith,
+      tt,
     ),
   )
 
@@ -227,7 +233,7 @@ module _ {C K : Type 0} (gives : C → ℕ → C → Type 0) (p : Place) (left r
             lasts = λ none. lasts;
             session = session.write_failed n ((text ++ body) ++ rest) rest s after r now written front (stands rest) answers begins;
           },
-          omega arith,
+          tt,
         ),
       )
   broken_step (broke_giving_up_at now front told appends begins less readable keeps) = (
@@ -246,7 +252,7 @@ module _ {C K : Type 0} (gives : C → ℕ → C → Type 0) (p : Place) (left r
         lasts = given_no_more WriteFault write_no_read;
         session = session.write_failed_giving_up_at n ((text ++ body) ++ waits) waits s r now front (stands waits) readable begins;
       },
-      omega arith,
+      tt,
     ),
   )
 
@@ -277,10 +283,14 @@ leaves_given_up k old new s gave_up quiet kept = record {
 pub leaves_still : {K : Type 0} (k : Ghosts K) (keeper : K) (s : State) (gave_up : Bool) → IsLeft (k.means keeper) s → Leaves k keeper keeper s gave_up
 leaves_still k keeper s gave_up keeps = record { keeps = keeps; held = holds_still k keeper gave_up; adds = still }
 
+-- a step without a message that ends the session
+abbrev pub LastStep : ℕ → List ℕ → State → List ℕ → SessionEnd → Bool → Type 0
+LastStep n stream s text e gave_up = (x : Session (suc n) stream s [] text e gave_up s) × EndsAtOnce x
+
 module _ {C K : Type 0} (gives : C → ℕ → C → Type 0) (p : Place) (left left' reader output output' : Option (List ℕ)) (clock : C) (k : Ghosts K) (keeper keeper' : K) (s : State) where
   -- the session ends, and the state stays
   pub ends : (e : SessionEnd) (gave_up : Bool) (stream text : List ℕ) → Leaves k keeper keeper' s gave_up → (gave_up ≡ true → e ≡ ReadFault → Rose (k.faults keeper) (k.faults keeper')) → IsStream gave_up e left reader stream → Appends output output' text
-      → ((n : ℕ) → ToCome p (suc n) → Session (suc n) stream s [] text e gave_up s) → Steps gives p left left' reader output output' clock clock k keeper keeper' s (Some e)
+      → ((n : ℕ) → ToCome p (suc n) → LastStep n stream s text e gave_up) → Steps gives p left left' reader output output' clock clock k keeper keeper' s (Some e)
   ends e gave_up stream text leaves rose read written whole = (
     s,
     leaves.keeps,
@@ -295,9 +305,9 @@ module _ {C K : Type 0} (gives : C → ℕ → C → Type 0) (p : Place) (left l
         written = written;
         held = (leaves.held, rose);
         lasts = λ none. never_changed refl leaves.adds;
-        session = whole n all;
+        session = (whole n all).0;
       },
-      omega arith,
+      (whole n all).1,
     ),
   )
 
@@ -305,10 +315,10 @@ module _ {C K : Type 0} (gives : C → ℕ → C → Type 0) (p : Place) (left l
       → Steps gives p left left' reader output output' clock clock k keeper keeper' s (Some e)
   closed_step q (Refused number) leaves o closed =
       ends (Refused number) false o.stream (session.closing q) leaves (λ gave is. absurd (refused_no_read number is)) (is_stream left (λ stream. Next stream (frame.Refused q) []) o) closed.1
-      (λ n _. subst (λ (m : ℕ). Session (suc n) o.stream s [] (session.closing q) (Refused m) false s) (sym closed.0) (session.unframed n o.stream s q o.holds))
+      (λ n _. subst (λ (m : ℕ). LastStep n o.stream s (session.closing q) (Refused m) false) (sym closed.0) (session.unframed n o.stream s q o.holds, tt))
   closed_step q WriteFault leaves o closed =
       ends WriteFault false o.stream closed.0 leaves (λ gave is. absurd (write_no_read is)) (is_stream left (λ stream. Next stream (frame.Refused q) []) o) closed.1
-      (λ n _. session.write_failed_unframed n o.stream s q closed.0 o.holds closed.2)
+      (λ n _. (session.write_failed_unframed n o.stream s q closed.0 o.holds closed.2, tt))
   closed_step q Ended leaves o closed = absurd closed
   closed_step q Truncated leaves o closed = absurd closed
   closed_step q Limit leaves o closed = absurd closed
@@ -323,9 +333,9 @@ module _ {C K : Type 0} (gives : C → ℕ → C → Type 0) (p : Place) (left l
       → IsClosed output output' rule.TryAgain e → Steps gives p left left' reader output output' clock clock k keeper keeper' s (Some e)
   gave_up_reading_step (Refused number) front leaves taken why closed =
       ends (Refused number) true front (session.closing rule.TryAgain) leaves (λ gave is. absurd (refused_no_read number is)) taken closed.1
-      (λ n all. subst (λ (m : ℕ). Session (suc n) front s [] (session.closing rule.TryAgain) (Refused m) true s) (sym closed.0) (session.gave_up_reading n front s (why_reading n front why all)))
+      (λ n all. subst (λ (m : ℕ). LastStep n front s (session.closing rule.TryAgain) (Refused m) true) (sym closed.0) (session.gave_up_reading n front s (why_reading n front why all), tt))
   gave_up_reading_step WriteFault front leaves taken why closed =
-      ends WriteFault true front closed.0 leaves (λ gave is. absurd (write_no_read is)) taken closed.1 (λ n all. session.write_failed_giving_up_reading n front s closed.0 (why_reading n front why all) closed.2)
+      ends WriteFault true front closed.0 leaves (λ gave is. absurd (write_no_read is)) taken closed.1 (λ n all. (session.write_failed_giving_up_reading n front s closed.0 (why_reading n front why all) closed.2, tt))
   gave_up_reading_step Ended front leaves taken none closed = absurd closed
   gave_up_reading_step Truncated front leaves taken none closed = absurd closed
   gave_up_reading_step Limit front leaves taken none closed = absurd closed
@@ -335,24 +345,24 @@ module _ {C K : Type 0} (gives : C → ℕ → C → Type 0) (p : Place) (left l
   pub ended_step : Leaves k keeper keeper' s false → IsAtEnd reader → OfStream left (λ stream. Next stream frame.Ended []) → Steps gives p left left' reader output output clock clock k keeper keeper' s (Some Ended)
   ended_step leaves at_end o =
       ends gives p left left' reader output output clock k keeper keeper' s Ended false o.stream [] leaves (λ gave is. absurd (ended_no_read is)) (is_stream left (λ stream. Next stream frame.Ended []) o, at_end) (nothing_written output)
-      (λ n _. session.ended n o.stream s o.holds)
+      (λ n _. (session.ended n o.stream s o.holds, tt))
 
   pub truncated_step : Leaves k keeper keeper' s false → IsAtEnd reader → OfStream left (λ stream. Next stream frame.Truncated []) → Steps gives p left left' reader output output clock clock k keeper keeper' s (Some Truncated)
   truncated_step leaves at_end o =
       ends gives p left left' reader output output clock k keeper keeper' s Truncated false o.stream [] leaves (λ gave is. absurd (truncated_no_read is)) (is_stream left (λ stream. Next stream frame.Truncated []) o, at_end) (nothing_written output)
-      (λ n _. session.truncated n o.stream s o.holds)
+      (λ n _. (session.truncated n o.stream s o.holds, tt))
 
   pub read_failed_step : (front : List ℕ) → Leaves k keeper keeper' s false → Consumes left reader front → Awaits front → Steps gives p left left' reader output output clock clock k keeper keeper' s (Some ReadFault)
   read_failed_step front leaves taken none =
       ends gives p left left' reader output output clock k keeper keeper' s ReadFault false front [] leaves (λ gave is. absurd (false_no_true gave)) taken (nothing_written output)
-      (λ n _. session.read_failed n front s none)
+      (λ n _. (session.read_failed n front s none, tt))
 
   -- the same where the keeper counted a fault
   pub read_failed_giving_up_step : (front : List ℕ) → Leaves k keeper keeper' s true → Rose (k.faults keeper) (k.faults keeper') → Consumes left reader front → Awaits front → HasBegunMessage front
       → Steps gives p left left' reader output output clock clock k keeper keeper' s (Some ReadFault)
   read_failed_giving_up_step front leaves rose taken none begun =
       ends gives p left left' reader output output clock k keeper keeper' s ReadFault true front [] leaves (λ gave is. rose) taken (nothing_written output)
-      (λ n _. session.read_failed_giving_up n front s none begun)
+      (λ n _. (session.read_failed_giving_up n front s none begun, tt))
 
 -- ---- calls before a step that change nothing
 
@@ -436,7 +446,7 @@ module _ {C K : Type 0} (gives : C → ℕ → C → Type 0) (counter : ℕ) (le
   }
 
   pub follows_end : (p : Place) (reader last : Option (List ℕ)) (end : C) (sum : K) (after : State) (e : SessionEnd) → counter < session.most_messages → (p ≡ place.Fresh → counter ≡ 0)
-      → ((n : ℕ) → ToCome p (suc n) → (serves : Serves (suc n) gives left' reader output' last clock' end k keeper' sum mid after e) × (length serves.moments ≤ 1)) → Serves session.most_messages gives left reader output last clock end k keeper sum s after e
+      → ((n : ℕ) → ToCome p (suc n) → (serves : Serves (suc n) gives left' reader output' last clock' end k keeper' sum mid after e) × EndsAtOnce serves.session) → Serves session.most_messages gives left reader output last clock end k keeper sum s after e
   follows_end p reader last end sum after e lt first serves =
       f.whole (suc (999 - counter)) reader last end sum after e (omega (arith, lt)) (serves (999 - counter) (λ fresh. omega (arith, first fresh))).0
 

@@ -1,15 +1,12 @@
 -- Connections that have a slot among all that came: which of them they are, and which went.
-use Rattle.std.proofs.Common.{⊎_elim, ◌≡◌, ◌<◌, ◌⊎◌, ℕ, zero, suc, true, false, cond, List, [], ◌∷◌, ◌++◌, length, set, Option, Some, None, refl, sym, ap, ◌∙◌, arith, inl, inr}
+use Rattle.std.proofs.Common.{⊎_elim, ◌≡◌, ◌<◌, ◌+◌, ◌⊎◌, ℕ, zero, suc, true, false, cond, List, [], ◌∷◌, ◌++◌, length, set, Option, Some, None, refl, sym, ap, ◌∙◌, arith, inl, inr}
 use Rattle.std.specs.Prelude.{nat_eq, slice_get}
 use Rattle.std.specs.List.{AllByRecursion}
 use Rattle.std.proofs.lemmas.Bool.{cases_eq}
 use Rattle.std.proofs.lemmas.List.{get_or-set_other, get_or-set_same}
-use Rattle.office.specs.Crowds.{IsAmong, StandsIn, slot_at}
+use Rattle.office.specs.Crowds.{IsAmong, StandsIn, number_of, slot_at}
 
 -- ---- numbers
-
-pub number_of : ℕ → ℕ → (ℕ → ℕ) → ℕ → ℕ
-number_of p n number q = cond (nat_eq q p) n (number q)
 
 pub number_here : (p n : ℕ) (number : ℕ → ℕ) (q : ℕ) → q ≡ p → number_of p n number q ≡ n
 unfolding number_of
@@ -88,6 +85,10 @@ module _ {X : Type 0} where
     pub went : AllByRecursion (HasGone slots number all) gone
     pub no_other : (i : ℕ) (x : X) → slice_get all i ≡ Some x → IsAmong x gone ⊎ ((p : ℕ) × (number p ≡ i) × (slot_at slots p ≡ Some x))
 
+  -- each in a slot has the number of the slot; in all it is as many less as came before them all
+  abbrev pub AreNumbered : List (Option X) → (ℕ → ℕ) → ℕ → (ℕ → ℕ) → Type 0
+  AreNumbered slots numbers first number = (p : ℕ) (x : X) → slot_at slots p ≡ Some x → numbers p ≡ first + number p
+
   module _ (slots : List (Option X)) (number : ℕ → ℕ) (all gone : List X) (t : Ties slots number all gone) (p : ℕ) (lt : p < length slots) where
     here : (v : Option X) (q : ℕ) → q ≡ p → slot_at (set slots p v) q ≡ v
     here v q e = ap (slot_at (set slots p v)) e ∙ get_or-set_same slots p v None lt
@@ -136,6 +137,9 @@ module _ {X : Type 0} where
         went = all_so (HasGone slots number all) (HasGone (set slots p (Some new)) number (set all (number p) new)) gone_set gone t.went;
         no_other = no_other_set;
       }
+
+      pub numbered_set : (numbers : ℕ → ℕ) (first : ℕ) → AreNumbered slots numbers first number → AreNumbered (set slots p (Some new)) numbers first number
+      numbered_set numbers first h = λ q a now. let was = had q a now in h q was.0 was.1
 
     -- one more comes there
     module _ (new : X) (free : slot_at slots p ≡ None) where
@@ -202,6 +206,16 @@ module _ {X : Type 0} where
         no_other = no_other_comes;
       }
 
+      pub numbered_comes : (numbers : ℕ → ℕ) (first n : ℕ) → n ≡ first + length all → AreNumbered slots numbers first number
+          → AreNumbered (set slots p (Some new)) (number_of p n numbers) first (number_of p (length all) number)
+      numbered_comes numbers first n is h = λ q a now.
+          ⊎_elim
+          (λ (e : q ≡ p). omega (arith, number_here p n numbers q e, number_here p (length all) number q e, is))
+          (λ (ne : q ≡ p → ⊥).
+          let was = h q a (sym (there (Some new) q ne) ∙ now) in
+          omega (arith, number_there p n numbers q ne, number_there p (length all) number q ne, was))
+          (cases_eq q p)
+
     -- the one there goes
     module _ (old : X) (at : slot_at slots p ≡ Some old) where
       apart_from : (q : ℕ) (a : X) → slot_at (set slots p None) q ≡ Some a → q ≡ p → ⊥
@@ -236,6 +250,9 @@ module _ {X : Type 0} where
             (t.no_other i x is);
       }
 
+      pub numbered_goes : (numbers : ℕ → ℕ) (first : ℕ) → AreNumbered slots numbers first number → AreNumbered (set slots p None) numbers first number
+      numbered_goes numbers first h = λ q a now. h q a (was_there q a now)
+
   -- ---- the ends
 
   -- none has a slot, and none came
@@ -246,6 +263,9 @@ module _ {X : Type 0} where
     went = tt;
     no_other = λ i x is. absurd (none_is x is);
   }
+
+  pub numbered_none : (slots : List (Option X)) (numbers : ℕ → ℕ) (first : ℕ) → ((p : ℕ) → slot_at slots p ≡ None) → AreNumbered slots numbers first (λ p. p)
+  numbered_none slots numbers first free = λ p x at. absurd (none_is x (sym (free p) ∙ at))
 
   pub gone_among : (slots : List (Option X)) (number : ℕ → ℕ) (all gone : List X) → Ties slots number all gone → AllByRecursion (λ x. IsAmong x all) gone
   gone_among slots number all gone t = all_so (HasGone slots number all) (λ x. IsAmong x all) (λ x g. (g.0, g.1)) gone t.went

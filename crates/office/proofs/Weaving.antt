@@ -14,14 +14,15 @@ use Rattle.office.specs.Interleaved as said
 use Rattle.office.specs.Premise.{HoldsUp}
 use Rattle.office.specs.Repeats.{Act, Acts}
 use Rattle.office.specs.Seats.{IsStreamOf}
-use Rattle.office.specs.Sessions.{most_messages}
+use Rattle.office.specs.Sessions.{EndsAtOnce, most_messages}
 use Rattle.office.specs.Stepping.{Goes}
 use Rattle.office.specs.declared.connections.session.SessionEnd.{SessionEnd}
 use Rattle.office.specs.declared.connections.session.SessionEnd.TheVariants.{ReadFault}
-use Rattle.office.proofs.Counting.{Counts, counts_first, counts_more, counts_still, counts_turn, over_if, took_of}
+use Rattle.office.proofs.Counting.{Counts, counts_more, counts_still, counts_turn, over_if, took_of}
 use Rattle.office.proofs.Endurance.{still, then_through}
 use Rattle.office.proofs.Repeats.{session_acts}
 use Rattle.office.proofs.RunSoFar.{told_more}
+use Rattle.office.proofs.SessionSteps.{few_moments}
 use Rattle.office.proofs.Unstaged.{rose_before, rose_later}
 use Rattle.office.proofs.RunTurns.{acts_joined, less_is_not, same_is, speaks_of, tied_of}
 use Rattle.office.proofs.Sitting.{Sitting, Sits, SitsSo, IsFirst, act_of, answered, answered_sits, closed, closed_sits, first_sits, gathered, gathered_sits, open_sits, sent_on, sent_sits, sits_by, sits_open}
@@ -99,10 +100,6 @@ one_turns turns t i (suc p) d new (x ∷ xs) is lt moves h =
     let other : nat_eq t.which i ≡ false = grind (arith, is) in
     (sits_still turns t i x other h.0, one_turns turns t (suc i) p d new xs (omega (arith, is)) (omega (arith, lt)) moves h.1)
 
-all_first : (i : ℕ) (xs : List Sitting) → AllByRecursion IsFirst xs → AllSit [] i xs
-all_first i [] first = tt
-all_first i (x ∷ xs) first = (first_sits x first.0, all_first (suc i) xs first.1)
-
 -- one of them changes, and no turn is taken
 one_changes : (turns : List Turn) (i p : ℕ) (d new : Sitting) (xs : List Sitting) → p < length xs
     → ((acts : List Act) (moments : List ℕ) → Sits (get_or xs p d) acts moments → Sits new acts moments) → AllSit turns i xs → AllSit turns i (set xs p new)
@@ -168,22 +165,18 @@ all_last_one : (P : Sitting → Type 0) (xs : List Sitting) (x : Sitting) → Al
 all_last_one P [] x h one = (one, tt)
 all_last_one P (y ∷ xs) x h one = (h.0, all_last_one P xs x h.1 one)
 
-first_rose : (before behind : ℕ) (xs : List Sitting) → AllByRecursion IsFirst xs → AllByRecursion (RoseAt before behind) xs
-first_rose before behind [] first = tt
-first_rose before behind (x ∷ xs) first = (unmarked_rose before behind x first.0.marked, first_rose before behind xs first.1)
-
 held_least : {K : Type 0} (k : Ghosts K) (gave_up : Bool) (a b : K) → HoldsUp k gave_up a b → k.faults a ≤ k.faults b
 held_least k true a b h = h
 held_least k false a b h = omega (arith, h.0)
 
-pub record SoFar {C K : Type 0} (gives : C → ℕ → C → Type 0) (k : Ghosts K) (sittings : List Sitting) (clock clock' : C) (keeper keeper' : K) (s mid : State) : Type 0 where
+pub record SoFar {C K : Type 0} (gives : C → ℕ → C → Type 0) (k : Ghosts K) (sittings : List Sitting) (whose : List ℕ) (clock clock' : C) (keeper keeper' : K) (s mid : State) : Type 0 where
   pub turns : List Turn
   pub order : Acts s (acts_in turns) mid
   pub told : TellsMoments gives clock (moments_in turns) clock'
   pub tied : AllByRecursion (λ t. AreTied t.moments t.acts) turns
   pub within : AllByRecursion (λ t. t.which < length sittings) turns
   pub sit : AllSit turns 0 sittings
-  pub counts : Counts turns sittings
+  pub counts : Counts turns sittings whose
   pub never_less : k.faults keeper ≤ k.faults keeper'
   pub rose : AllByRecursion (RoseAt (k.faults keeper) (k.faults keeper')) sittings
   pub held : AllByRecursion NotGivenUp sittings → HoldsUp k false keeper keeper'
@@ -218,9 +211,9 @@ module _ {C K : Type 0} (gives : C → ℕ → C → Type 0) (k : Ghosts K) wher
   holds_both : (a b c : K) → HoldsUp k false a b → HoldsUp k false b c → HoldsUp k false a c
   holds_both a b c x y = (y.0 ∙ x.0, λ was. y.1 (x.1 was))
 
-  moves_more : (xs : List Sitting) (p : ℕ) (d new : Sitting) (clock clock' clock'' : C) (keeper keeper' keeper'' : K) (s mid after : State) → p < length xs
-      → SoFar gives k xs clock clock' keeper keeper' s mid → Moves (get_or xs p d) new clock' clock'' keeper' keeper'' mid after
-      → SoFar gives k (set xs p new) clock clock'' keeper keeper'' s after
+  moves_more : {whose : List ℕ} (xs : List Sitting) (p : ℕ) (d new : Sitting) (clock clock' clock'' : C) (keeper keeper' keeper'' : K) (s mid after : State) → p < length xs
+      → SoFar gives k xs whose clock clock' keeper keeper' s mid → Moves (get_or xs p d) new clock' clock'' keeper' keeper'' mid after
+      → SoFar gives k (set xs p new) (whose ++ p ∷ []) clock clock'' keeper keeper'' s after
   moves_more xs p d new clock clock' clock'' keeper keeper' keeper'' s mid after lt f t =
       let u : Turn = record { which = p; moments = t.moments; acts = t.acts } in
       record {
@@ -238,23 +231,23 @@ module _ {C K : Type 0} (gives : C → ℕ → C → Type 0) (k : Ghosts K) wher
         lasts = λ all. let both = all_unset LastsAt xs p d new lt (inl t.marked) all in then_through (f.lasts both.0) (t.lasts both.1);
       }
 
-  -- nothing was done yet
-  pub starts : (xs : List Sitting) (clock : C) (keeper : K) (s : State) → AllByRecursion IsFirst xs → SoFar gives k xs clock clock keeper keeper s s
-  starts xs clock keeper s first = record {
+  -- nobody came yet
+  pub starts : (clock : C) (keeper : K) (s : State) → SoFar gives k [] [] clock clock keeper keeper s s
+  starts clock keeper s = record {
     turns = [];
     order = refl;
     told = refl;
     tied = tt;
     within = tt;
-    sit = all_first 0 xs first;
-    counts = counts_first xs first;
+    sit = tt;
+    counts = record { in_order = refl; one_moment = tt; each = tt; all = refl };
     never_less = omega arith;
-    rose = first_rose (k.faults keeper) (k.faults keeper) xs first;
+    rose = tt;
     held = λ _. (refl, λ was. was);
     lasts = λ _. never_changed refl still;
   }
 
-  module _ (xs : List Sitting) (clock clock' : C) (keeper keeper' : K) (s mid : State) (f : SoFar gives k xs clock clock' keeper keeper' s mid) where
+  module _ {whose : List ℕ} (xs : List Sitting) (clock clock' : C) (keeper keeper' : K) (s mid : State) (f : SoFar gives k xs whose clock clock' keeper keeper' s mid) where
     -- ---- one of them has a turn
 
     module _ (p : ℕ) (d x : Sitting) (lt : p < length xs) (at : get_or xs p d ≡ x) (is_open : x.end ≡ None) where
@@ -264,7 +257,7 @@ module _ {C K : Type 0} (gives : C → ℕ → C → Type 0) (k : Ghosts K) wher
       -- its next message is answered
       pub answered_more : (left reader written : Option (List ℕ)) (clock'' : C) (keeper'' : K) (after : State) → x.served + 1 ≤ most_messages
           → Goes gives x.left left x.written written clock' clock'' k keeper' keeper'' mid after
-          → SoFar gives k (set xs p (answered x left reader written)) clock clock'' keeper keeper'' s after
+          → SoFar gives k (set xs p (answered x left reader written)) (whose ++ p ∷ []) clock clock'' keeper keeper'' s after
       unfolding act_of
       answered_more left reader written clock'' keeper'' after few g =
           moves_more xs p d (answered x left reader written) clock clock' clock'' keeper keeper' keeper'' s mid after lt f
@@ -287,9 +280,9 @@ module _ {C K : Type 0} (gives : C → ℕ → C → Type 0) (k : Ghosts K) wher
 
       -- it ends
       pub closed_more : (left reader written : Option (List ℕ)) (clock'' : C) (keeper'' : K) (after : State) (n : ℕ) (e : SessionEnd) → n + x.served ≡ most_messages
-          → (v : Serves n gives x.left reader x.written written clock' clock'' k keeper' keeper'' mid after e) → length v.moments ≤ 1
-          → SoFar gives k (set xs p (closed x left reader written e v.gave_up)) clock clock'' keeper keeper'' s after
-      closed_more left reader written clock'' keeper'' after n e sum v few =
+          → (v : Serves n gives x.left reader x.written written clock' clock'' k keeper' keeper'' mid after e) → EndsAtOnce v.session
+          → SoFar gives k (set xs p (closed x left reader written e v.gave_up)) (whose ++ p ∷ []) clock clock'' keeper keeper'' s after
+      closed_more left reader written clock'' keeper'' after n e sum v once =
           let y = session_acts n v.stream mid v.moments v.answers e v.gave_up after v.session in
           let new = closed x left reader written e v.gave_up in
           moves_more xs p d new clock clock' clock'' keeper keeper' keeper'' s mid after lt f
@@ -298,7 +291,7 @@ module _ {C K : Type 0} (gives : C → ℕ → C → Type 0) (k : Ghosts K) wher
             moments = v.moments;
             told = v.told;
             tied = tied_of n v.stream y.acts v.moments v.answers (Some e) v.gave_up (speaks_of n v.stream mid v.moments v.answers e v.gave_up y.acts after y.are);
-            one_moment = few;
+            one_moment = few_moments v.session once;
             took = let before : over_if x.end ≡ 0 = ap over_if is_open in omega (arith, before);
             by_rules = y.by_rules;
             moves = λ before earlier h. closed_sits x left reader written e v.gave_up n v.stream v.answers y.acts v.moments before earlier sum v.read v.written
@@ -315,7 +308,7 @@ module _ {C K : Type 0} (gives : C → ℕ → C → Type 0) (k : Ghosts K) wher
           ends_so (inr is) = inr (some_end e ReadFault is)
 
       -- bytes of it are read ahead
-      pub gathered_more : (left reader : Option (List ℕ)) → Keeps x.left left → SoFar gives k (set xs p (gathered x left reader)) clock clock' keeper keeper' s mid
+      pub gathered_more : (left reader : Option (List ℕ)) → Keeps x.left left → SoFar gives k (set xs p (gathered x left reader)) whose clock clock' keeper keeper' s mid
       gathered_more left reader keeps = record {
         turns = f.turns;
         order = f.order;
@@ -333,7 +326,7 @@ module _ {C K : Type 0} (gives : C → ℕ → C → Type 0) (k : Ghosts K) wher
       }
 
     -- bytes that were written to one that stands there are sent on
-    pub sent_more : (p : ℕ) (d : Sitting) (written : Option (List ℕ)) → p < length xs → Keeps (get_or xs p d).written written → SoFar gives k (set xs p (sent_on (get_or xs p d) written)) clock clock' keeper keeper' s mid
+    pub sent_more : (p : ℕ) (d : Sitting) (written : Option (List ℕ)) → p < length xs → Keeps (get_or xs p d).written written → SoFar gives k (set xs p (sent_on (get_or xs p d) written)) whose clock clock' keeper keeper' s mid
     sent_more p d written lt holds =
         let x = get_or xs p d in
         let y = sent_on x written in
@@ -378,7 +371,7 @@ module _ {C K : Type 0} (gives : C → ℕ → C → Type 0) (k : Ghosts K) wher
     longer (y ∷ ys) x = let rest = longer ys x in omega (arith, rest)
 
     -- A connection that comes between two turns is one more in the list, and all that was said of the others stays.
-    pub opens : (x : Sitting) → IsFirst x → SoFar gives k (xs ++ x ∷ []) clock clock' keeper keeper' s mid
+    pub opens : (x : Sitting) → IsFirst x → SoFar gives k (xs ++ x ∷ []) whose clock clock' keeper keeper' s mid
     opens x new = record {
       turns = f.turns;
       order = f.order;
@@ -457,17 +450,17 @@ all_threads turns i (x ∷ xs) h =
     record { threads = c.thread ∷ cs.threads; are = (c.is, cs.are); spoken = (c.speaks, cs.spoken); many = ap suc cs.many }
 
 -- The connections were served in turn, by an order of all their messages.
-pub record Woven {C : Type 0} (gives : C → ℕ → C → Type 0) (xs : List Sitting) (clock clock' : C) (s mid : State) : Type 0 where
+pub record Woven {C : Type 0} (gives : C → ℕ → C → Type 0) (xs : List Sitting) (whose : List ℕ) (clock clock' : C) (s mid : State) : Type 0 where
   pub threads : List Thread
   pub moments : List ℕ
   pub are : AreThreadsOf xs threads
   pub many : length threads ≡ length xs
   pub told : TellsMoments gives clock moments clock'
   pub run : Interleaved s threads moments mid
-  pub counts : Counts run.turns xs
+  pub counts : Counts run.turns xs whose
 
-pub finishes : {C K : Type 0} (gives : C → ℕ → C → Type 0) (k : Ghosts K) (xs : List Sitting) (clock clock' : C) (keeper keeper' : K) (s mid : State)
-    → SoFar gives k xs clock clock' keeper keeper' s mid → Woven gives xs clock clock' s mid
+pub finishes : {C K : Type 0} {whose : List ℕ} (gives : C → ℕ → C → Type 0) (k : Ghosts K) (xs : List Sitting) (clock clock' : C) (keeper keeper' : K) (s mid : State)
+    → SoFar gives k xs whose clock clock' keeper keeper' s mid → Woven gives xs whose clock clock' s mid
 finishes gives k xs clock clock' keeper keeper' s mid f =
     let x = all_threads f.turns 0 xs f.sit in
     record {

@@ -1,8 +1,9 @@
 -- Connections that come, are served in turn, and go: each has a slot while it is there.
-use Rattle.std.specs.Prelude.{◌≡◌, ◌≢◌, ◌<◌, ◌⊎◌, ℕ, Bool, false, List, [], ◌∷◌, ◌++◌, length, slice_get, slice_set, slice_index_or, Option, Some, None}
+use Rattle.std.specs.Prelude.{◌≡◌, ◌≢◌, ◌<◌, ◌+◌, ◌⊎◌, ℕ, Bool, false, cond, nat_eq, List, [], ◌∷◌, ◌++◌, length, map, slice_get, slice_set, slice_index_or, Option, Some, None}
 use Rattle.std.specs.List.{AllByRecursion, count_by, sum_by}
 use Rattle.boxes.specs.State.{State}
 use Rattle.keeper.specs.declared.keep.Keeper.{Ghosts}
+use Rattle.office.specs.declared.connections.crowding.Due.{Due}
 use Rattle.office.specs.declared.connections.seat.Seat.{Seat}
 use Rattle.office.specs.declared.connections.session.SessionEnd.{SessionEnd}
 use Rattle.office.specs.Connections.{TellsMoments, is_fault}
@@ -41,24 +42,50 @@ abbrev pub those_of : {X : Type 0} → Option X → List X
 those_of None = []
 those_of (Some x) = x ∷ []
 
--- The same around a crowd of which met tells which connections came so far, and which went.
-abbrev pub ChangesBy : {G R W : Type 0} → (R → Option (List ℕ)) → (W → Option (List ℕ)) → (G → List (Seat R W) → List (Seat R W) → Type 0) → G → G
-    → List (Option (Seat R W)) → List (Option (Seat R W)) → Type 0
-ChangesBy {R = R} {W = W} remaining contents met before after old new =
+-- The number of a connection is how many came before it. These are the numbers of slots, of each that of the one that came into it
+-- last; and n is that of the one in the slot at p.
+unfoldable pub number_of : ℕ → ℕ → (ℕ → ℕ) → ℕ → ℕ
+number_of p n numbers q = cond (nat_eq q p) n (numbers q)
+
+-- the numbers of the slots behind such changes; n: how many came before them
+abbrev pub numbers_after : {R W : Type 0} {remaining : R → Option (List ℕ)} {contents : W → Option (List ℕ)} {old new : List (Option (Seat R W))} {came gone : List (Seat R W)}
+    → Changes remaining contents old new came gone → ℕ → (ℕ → ℕ) → ℕ → ℕ
+numbers_after same n numbers = numbers
+numbers_after (comes now came gone p new before within free is) n numbers = number_of p (n + length came) (numbers_after before n numbers)
+numbers_after (gathers now came gone p seat new before within at is_open gathered) n numbers = numbers_after before n numbers
+numbers_after (sends now came gone p seat new before within at sent) n numbers = numbers_after before n numbers
+numbers_after (goes now came gone p seat before within at) n numbers = numbers_after before n numbers
+
+-- whose turn is due, if one is
+abbrev pub whose_turn : (ℕ → ℕ) → Option Due → List ℕ
+whose_turn numbers None = []
+whose_turn numbers (Some due) = numbers due.index ∷ []
+
+-- The same around a crowd, and the turn that is due then. met: which connections came so far, and which went; gave: the numbers of
+-- the slots, and whose turns it gave so far.
+abbrev pub ChangesBy : {G R W : Type 0} → (R → Option (List ℕ)) → (W → Option (List ℕ)) → (G → List (Seat R W) → List (Seat R W) → Type 0) → (G → (ℕ → ℕ) → List ℕ → Type 0)
+    → G → G → List (Option (Seat R W)) → List (Option (Seat R W)) → Option Due → Type 0
+ChangesBy {R = R} {W = W} remaining contents met gave before after old new due =
     (came gone : List (Seat R W)) → met before came gone
-    → (more went : List (Seat R W)) × met after (came ++ more) (gone ++ went) × Changes remaining contents old new more went
+    → (more went : List (Seat R W)) × met after (came ++ more) (gone ++ went) × (changes : Changes remaining contents old new more went)
+    × ((numbers : ℕ → ℕ) (given : List ℕ) → gave before numbers given
+    → gave after (numbers_after changes (length came) numbers) (given ++ whose_turn (numbers_after changes (length came) numbers) due))
 
--- The open connection in the slot at p became another one, so, and the other slots stay; or none there is open, and all stay.
-abbrev pub DoneAt : {R W : Type 0} → (Seat R W → Seat R W → Type 0) → List (Option (Seat R W)) → List (Option (Seat R W)) → ℕ → Type 0
-DoneAt {R} {W} done old new p =
-    ((seat : Seat R W) × (slot_at old p ≡ Some seat) × (seat.end ≡ None) × (after : Seat R W) × done seat after × (new ≡ slice_set old p (Some after)))
-    ⊎ (((seat : Seat R W) → slot_at old p ≡ Some seat → seat.end ≡ None → ⊥) × (new ≡ old))
+-- Bytes of the open connection in the slot at p were read ahead, or put back, so, and nothing else was done to it, and the other
+-- slots stay. Or none there is open: all stay, and this is told.
+abbrev pub DoneAt : {R W : Type 0} → (R → Option (List ℕ)) → (Seat R W → Seat R W → Type 0) → Type 0 → List (Option (Seat R W)) → List (Option (Seat R W)) → ℕ → Type 0
+DoneAt {R} {W} remaining done told old new p =
+    ((seat : Seat R W) × (slot_at old p ≡ Some seat) × (seat.end ≡ None)
+    × (after : Seat R W) × Gathers remaining seat after × done seat after × (new ≡ slice_set old p (Some after)))
+    ⊎ (((seat : Seat R W) → slot_at old p ≡ Some seat → seat.end ≡ None → ⊥) × (new ≡ old) × told)
 
--- the same of a connection that has ended or not
-abbrev pub SentAt : {R W : Type 0} → (Seat R W → Seat R W → Type 0) → List (Option (Seat R W)) → List (Option (Seat R W)) → ℕ → Type 0
-SentAt {R} {W} done old new p =
-    ((seat : Seat R W) × (slot_at old p ≡ Some seat) × (after : Seat R W) × done seat after × (new ≡ slice_set old p (Some after)))
-    ⊎ ((slot_at old p ≡ None) × (new ≡ old))
+-- Bytes that were written to the connection in the slot at p were sent on, so, whether it has ended or not, and nothing else was
+-- done to it, and the other slots stay. Or none is there: all stay, and this is told.
+abbrev pub SentAt : {R W : Type 0} → (W → Option (List ℕ)) → (Seat R W → Seat R W → Type 0) → Type 0 → List (Option (Seat R W)) → List (Option (Seat R W)) → ℕ → Type 0
+SentAt {R} {W} contents done told old new p =
+    ((seat : Seat R W) × (slot_at old p ≡ Some seat)
+    × (after : Seat R W) × Sends contents seat after × done seat after × (new ≡ slice_set old p (Some after)))
+    ⊎ ((slot_at old p ≡ None) × (new ≡ old) × told)
 
 -- the connection ended by a read or a write that failed
 abbrev pub is_fault_end : Option SessionEnd → Bool
@@ -91,24 +118,25 @@ abbrev pub StandsIn : {X : Type 0} → X → List (Option X) → Type 0
 StandsIn x slots = (p : ℕ) × (slot_at slots p ≡ Some x)
 
 -- These connections came, as they came, and were served in turn; of them those went, as they were then, and the others stand in
--- the slots: how many turns were taken, the moments, each connection, the state after, how the keeper held up, what outlasts a
--- crash, and how many ended by a fault; and an upload acts once over all of them.
+-- the slots: whose turns were taken, the moments, each connection, the state after, how the keeper held up, what outlasts a
+-- crash, and how many ended by a fault; and an upload acts once over all of them. first: how many came before them all; given: of
+-- each turn, in their order, the number of its connection.
 pub record ServesCrowd {C K R W : Type 0} (gives : C → ℕ → C → Type 0) (remaining : R → Option (List ℕ)) (contents : W → Option (List ℕ)) (came gone : List (Seat R W)) (slots : List (Option (Seat R W)))
-    (clock clock' : C) (k : Ghosts K) (keeper keeper' : K) (turns faults : ℕ) (s after : State) : Type 0 where
+    (clock clock' : C) (k : Ghosts K) (keeper keeper' : K) (first : ℕ) (given : List ℕ) (faults : ℕ) (s after : State) : Type 0 where
   -- each of those that came as it was at last
   pub seats : List (Seat R W)
   pub went : AllByRecursion (λ seat. IsAmong seat seats) gone
   pub stand : (p : ℕ) (seat : Seat R W) → slot_at slots p ≡ Some seat → IsAmong seat seats
   pub no_other : (i : ℕ) (seat : Seat R W) → slice_get seats i ≡ Some seat → IsAmong seat gone ⊎ StandsIn seat slots
   -- each turn was taken
-  pub taken : turns ≡ sum_by turns_of seats
+  pub taken : length given ≡ sum_by turns_of seats
   pub threads : List Thread
   pub moments : List ℕ
   pub told : TellsMoments gives clock moments clock'
   pub served : AreThreads remaining contents came seats threads
   pub run : Interleaved s threads moments after
-  -- each turn of the crowd is one of the order; each connection has as many of them as it took, and one tells one moment at most
-  pub counted : turns ≡ length run.turns
+  -- the turns of the order are those of the crowd; each connection has as many of them as it took, and one tells one moment at most
+  pub whose : map (λ t. first + t.which) run.turns ≡ given
   pub each_counted : HaveTurns run.turns 0 seats
   pub one_moment : AllByRecursion TellsOneMoment run.turns
   pub repeats : RepeatsOnce (acts_in run.turns)

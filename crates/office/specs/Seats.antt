@@ -9,11 +9,10 @@ use Rattle.wire.specs.Feeds.{ahead_of, stood_at}
 use Rattle.office.specs.declared.connections.seat.Seat.{Seat}
 use Rattle.office.specs.declared.connections.session.SessionEnd.{SessionEnd}
 use Rattle.office.specs.declared.connections.session.SessionEnd.TheVariants.{ReadFault}
-use Rattle.office.specs.Connections.{IsStream, Serves, TellsMoments}
+use Rattle.office.specs.Connections.{IsStream, Serves}
 use Rattle.office.specs.Crashes.{LastsThrough}
-use Rattle.office.specs.Interleaved.{Interleaved, Thread, Turn, acts_in, turns_by}
-use Rattle.office.specs.Repeats.{RepeatsOnce}
-use Rattle.office.specs.Sessions.{most_messages}
+use Rattle.office.specs.Interleaved.{Thread, Turn, turns_by}
+use Rattle.office.specs.Sessions.{EndsAtOnce, most_messages}
 use Rattle.office.specs.Stepping.{Goes, TellsStep}
 
 -- what is left of its stream: the bytes that its feed read and did not take, and those that its reader has
@@ -53,10 +52,10 @@ pub data TakesTurn {C K R W : Type 0} (gives : C → ℕ → C → Type 0) (rema
   went_on : old.end ≡ None → new.end ≡ None → new.served ≡ old.served + 1
       → Goes gives (left_of remaining old) (left_of remaining new) (contents old.writer.inner) (contents new.writer.inner) clock clock' k keeper keeper' s after
       → TakesTurn gives remaining contents old new clock clock' k keeper keeper' s after
-  -- it ended, as a session of the n messages does that were to come at most, and one moment was told, or none
+  -- it ended, as a session of the n messages does that were to come at most, and did not go on behind a message
   ended : (n : ℕ) (e : SessionEnd) → old.end ≡ None → new.end ≡ Some e → new.served ≡ old.served → n + old.served ≡ most_messages
       → (serves : Serves n gives (left_of remaining old) (remaining new.reader.inner) (contents old.writer.inner) (contents new.writer.inner) clock clock' k keeper keeper' s after e)
-      → length serves.moments ≤ 1 → TakesTurn gives remaining contents old new clock clock' k keeper keeper' s after
+      → EndsAtOnce serves.session → TakesTurn gives remaining contents old new clock clock' k keeper keeper' s after
 
 -- the faults that were counted in a turn
 abbrev pub TellsTurnOf : {R W : Type 0} → Option SessionEnd → Seat R W → Seat R W → Type 0
@@ -107,20 +106,3 @@ HaveTurns turns i (seat ∷ seats) = (turns_by i turns ≡ turns_of seat) × Hav
 -- a turn tells one moment at most
 abbrev pub TellsOneMoment : Turn → Type 0
 TellsOneMoment turn = length turn.moments ≤ 1
-
--- The connections were served in turn: the moments, each connection, the state after, how the keeper held up, and what outlasts a
--- crash; and an upload acts once over all of them. There are no more turns than so many, a turn tells one moment at most, and each
--- connection has as many turns as it took.
-pub record Weaves {C K R W : Type 0} (gives : C → ℕ → C → Type 0) (remaining : R → Option (List ℕ)) (contents : W → Option (List ℕ)) (old new : List (Seat R W)) (clock clock' : C)
-    (k : Ghosts K) (keeper keeper' : K) (turns : ℕ) (s after : State) : Type 0 where
-  pub threads : List Thread
-  pub moments : List ℕ
-  pub told : TellsMoments gives clock moments clock'
-  pub served : AreThreads remaining contents old new threads
-  pub run : Interleaved s threads moments after
-  pub no_more : length run.turns ≤ turns
-  pub each_counted : HaveTurns run.turns 0 new
-  pub one_moment : AllByRecursion TellsOneMoment run.turns
-  pub repeats : RepeatsOnce (acts_in run.turns)
-  pub stays : StaysSo k threads keeper keeper' after
-  pub lasts : LastsOver k threads keeper keeper' s after

@@ -1,5 +1,5 @@
 -- A connection, and a list of connections.
-use Rattle.std.specs.Prelude.{◌≡◌, ◌⊎◌, ℕ, zero, suc, Bool, true, false, List, [], ◌∷◌, ◌++◌}
+use Rattle.std.specs.Prelude.{◌≡◌, ◌⊎◌, ℕ, zero, suc, Bool, true, false, List, [], ◌∷◌, ◌++◌, ⊤}
 use Rattle.sigtext.specs.declared.refusal.Refusal.{Refusal}
 use Rattle.sigtext.specs.declared.refusal.Refusal.TheVariants as rule
 use Rattle.sigtext.specs.Refusals.{number_of}
@@ -72,6 +72,12 @@ pub data Session : ℕ → List ℕ → State → List ℕ → List ℕ → Sess
       → IsReadable r → IsBeginning front (closing rule.TryAgain) → Session (suc n) stream s (now ∷ []) front WriteFault true s
   write_failed_giving_up_reading : (n : ℕ) (stream : List ℕ) (s : State) (front : List ℕ) → MayGiveUpReading (suc n) stream
       → IsBeginning front (closing rule.TryAgain) → Session (suc n) stream s [] front WriteFault true s
+
+-- Its first step ends it: it does not go on behind a message.
+abbrev pub EndsAtOnce : {n : ℕ} {stream : List ℕ} {s : State} {moments out : List ℕ} {e : SessionEnd} {gave_up : Bool} {after : State}
+    → Session n stream s moments out e gave_up after → Type 0
+EndsAtOnce (served n stream rest s mid after r now moments text out e gave_up next answers more) = ⊥
+EndsAtOnce _ = ⊤
 
 -- a connection as it was served
 pub record Connection : Type 0 where

@@ -1,5 +1,5 @@
 -- What one step of a session does: it handles a message, or it ends the session.
-use Rattle.std.specs.Prelude.{◌≡◌, ◌≢◌, ◌≤◌, ◌⊎◌, ℕ, suc, Bool, List, ◌++◌, length, Option, Some, None, false, IsTrue, Result, Err}
+use Rattle.std.specs.Prelude.{◌≡◌, ◌≢◌, ◌⊎◌, ℕ, suc, Bool, List, ◌++◌, length, Option, Some, None, false, IsTrue, Result, Err}
 use Rattle.std.specs.Io.KnownBytes.{Appends, Consumes}
 use Rattle.sigtext.specs.Bytes.{IsBeginning}
 use Rattle.sigtext.specs.declared.refusal.Refusal.{Refusal}
@@ -21,7 +21,7 @@ use Rattle.office.specs.Connections.{Serves, TellsFaults}
 use Rattle.office.specs.Crashes.{LastsThrough}
 use Rattle.office.specs.Foreseeing.{Foresees}
 use Rattle.office.specs.Premise.{HoldsUnless, HoldsUp, IsLeft}
-use Rattle.office.specs.Sessions.{closing, most_messages}
+use Rattle.office.specs.Sessions.{EndsAtOnce, closing, most_messages}
 
 -- One message was answered, and the session goes on. left and left': what is left of the stream before and after.
 pub record Goes {C K : Type 0} (gives : C → ℕ → C → Type 0) (left left' output output' : Option (List ℕ)) (clock clock' : C) (k : Ghosts K) (keeper keeper' : K)
@@ -42,14 +42,14 @@ pub record Goes {C K : Type 0} (gives : C → ℕ → C → Type 0) (left left' 
 abbrev pub ToCome : Place → ℕ → Type 0
 ToCome p n = p ≡ place.Fresh → n ≡ most_messages
 
--- A step goes on, or it ends the session, however many messages were to come, and takes one moment at most. p: where the feed
--- stood before; reader: what the reader has now.
+-- A step goes on behind one message, or it ends the session, however many messages were to come, and goes on behind none. p: where
+-- the feed stood before; reader: what the reader has now.
 abbrev pub Steps : {C K : Type 0} → (C → ℕ → C → Type 0) → Place → Option (List ℕ) → Option (List ℕ) → Option (List ℕ) → Option (List ℕ) → Option (List ℕ) → C → C → Ghosts K → K → K → State → Option SessionEnd → Type 0
 Steps gives p left left' reader output output' clock clock' k keeper keeper' s None =
     (after : State) × IsLeft (k.means keeper') after × Goes gives left left' output output' clock clock' k keeper keeper' s after
 Steps gives p left left' reader output output' clock clock' k keeper keeper' s (Some e) =
     (after : State) × IsLeft (k.means keeper') after × ((n : ℕ) → ToCome p (suc n)
-    → (serves : Serves (suc n) gives left reader output output' clock clock' k keeper keeper' s after e) × (length serves.moments ≤ 1))
+    → (serves : Serves (suc n) gives left reader output output' clock clock' k keeper keeper' s after e) × EndsAtOnce serves.session)
 
 -- the faults that were counted in a step
 abbrev pub TellsStep : {R W : Type 0} → Option SessionEnd → Counted R → Counted R → Counted W → Counted W → Type 0

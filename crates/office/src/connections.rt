@@ -8,4 +8,4 @@ pub mod seat;
 pub mod session;
 pub mod slots;
 mod stepping;
-pub mod turning;
+mod turning;

@@ -16,7 +16,6 @@ pub use connections::session::SessionEnd;
 pub use connections::slots::{
     fail_slot, free_slot, gather_slot, make_room_in_slot, open_slot, send_slot, settle_slot,
 };
-pub use connections::turning::Pick;
 pub use laws::{law_of_acts, law_of_alike, law_of_replies, law_of_turns};
 pub use machine_clock::MachineClock;
 pub use office::Office;

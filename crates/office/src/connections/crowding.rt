@@ -27,6 +27,10 @@ pub trait Crowd<R: Read, W: Write> {
     /// Which connections came so far, as they came; and which went, as they were then.
     ghost met: { Self → List (Seat R W) → List (Seat R W) → Type 0 };
 
+    /// Whose turns it gave so far, in their order, by the numbers of their connections; and of each slot the number of the one that
+    /// came into it last. The number of a connection is how many came before it.
+    ghost gave: { Self → (ℕ → ℕ) → List ℕ → Type 0 };
+
     /// No turn is to be taken any more.
     ghost over: { Self → Type 0 };
 
@@ -39,7 +43,8 @@ pub trait Crowd<R: Read, W: Write> {
     /// Waits for what comes next. The turn that is due, of a connection that is open; or none where no turn is to be taken any
     /// more. The spare room is the one that the turn before left.
     fn next(&mut self, slots: &mut [Option<Seat<R, W>>], spare: Option<Room>) -> Option<Due>
-        ensures changes { ChangesBy R.remaining W.contents met self.old self.new slots.old slots.new }
+        ensures changes { ChangesBy R.remaining W.contents met gave
+            self.old self.new slots.old slots.new result }
         ensures within { IfSome result (λ turn. turn.index < length slots.new) }
         ensures due { IfSome result (λ turn. IsOpenAt slots.new turn.index) }
         ensures over { IfNone result (over self.new) }
@@ -124,7 +129,8 @@ impl<K: Keeper> Office<K> {
     /// state before to the state after; and of each connection that came, what was read, its answers and its end are those of
     /// its own messages, until it went or as it stands in its slot. Over all of them an upload acts once. Of a keeper that was
     /// open, and where no connection gave up, what is kept is that one state and no other. Where nothing was given up but at a
-    /// failed read, what was changed outlasts a crash. Each turn that the crowd gives is taken, and tells one moment at most.
+    /// failed read, what was changed outlasts a crash. The turns that the crowd gives are taken, each by its own connection and in
+    /// their order, and no other is; and each tells one moment at most.
     pub fn serve_crowd<R: Read, W: Write, G: Crowd<R, W>, C: Clock>(
         &mut self,
         crowd: &mut G,
@@ -133,12 +139,14 @@ impl<K: Keeper> Office<K> {
     ) -> u64
         requires { (p : ℕ) → slot_at slots.old p ≡ None }
         ensures serves { (before gone : List (Seat R W)) → G.met crowd.old before gone
+            → (numbers : ℕ → ℕ) (given : List ℕ) → G.gave crowd.old numbers given
             → (came went : List (Seat R W)) × G.met crowd.new (before ++ came) (gone ++ went)
-            × (turns : ℕ) × (G.turns crowd.old ≡ G.turns crowd.new + turns)
+            × (numbered : ℕ → ℕ) × (more : List ℕ) × G.gave crowd.new numbered (given ++ more)
+            × (G.turns crowd.old ≡ G.turns crowd.new + length more)
             × ((s : State) → WasKept K.Keeper self.old.keeper self.new.keeper s
             → (after : State) × IsLeft (K.means self.new.keeper) after
             × ServesCrowd C.now_gives R.remaining W.contents came went slots.new clock.old clock.new
-            K.Keeper self.old.keeper self.new.keeper turns result s after) }
+            K.Keeper self.old.keeper self.new.keeper (length before) more result s after) }
         ensures over { G.over crowd.new }
         ensures honest { K.is_honest self.new.keeper → K.is_honest self.old.keeper }
         ensures unstaged { StaysUnstaged K.Keeper self.old.keeper self.new.keeper }

@@ -1,8 +1,7 @@
 //! The slots of connections that come and go: what may be done in them between two turns.
-ghost use Rattle.std.specs.Prelude.{◌≡◌, ◌<◌, ◌∷◌, [], length, slice_set, IfErr, IfNone, IfOk, IfSome, None, Some};
-ghost use Rattle.wire.specs.Gathering.{Gathers as ReadsAhead};
+ghost use Rattle.std.specs.Prelude.{◌≡◌, ◌<◌, ◌∷◌, [], length, slice_set, IfErr, IfNone, IfOk, IfSome, IsNone, IsOk, None, Ok, Some, ⊤};
 ghost use Rattle.office.specs.Crowds.{Changes, DoneAt, NoneIsFree, SentAt, slot_at, those_of};
-ghost use Rattle.office.specs.Slots.{Fails, MakesRoom, PutsBack, SendsOn};
+ghost use Rattle.office.specs.Slots.{Fails, MakesRoom, PutsBack, ReadsAhead, SendsOn};
 ghost use Rattle.office.specs.Seats.{IsNew};
 
 use super::seat::Seat;
@@ -60,7 +59,7 @@ pub fn free_slot<R: Read, W: Write>(
 }
 
 /// Reads once ahead of the connection in the slot, by way of the buffer, without waiting. Where there is none, or it has ended,
-/// nothing is read, and it is at its end. The error is that memory was refused; nothing was read then.
+/// nothing is read, and it is told to be at its end. The error is that memory was refused; nothing was read then.
 pub fn gather_slot<S: Read, W: Write>(
     slots: &mut [Option<Seat<Gathered<S>, W>>],
     index: usize,
@@ -68,38 +67,35 @@ pub fn gather_slot<S: Read, W: Write>(
 ) -> Result<Gathering, AllocError>
     requires { index < length slots.old }
     ensures changes { Changes ⟦<Gathered<S> as Read>⟧.remaining W.contents slots.old slots.new [] [] }
-    ensures done { DoneAt (λ a b. ReadsAhead S.remaining a.reader.inner b.reader.inner result) slots.old slots.new index }
+    ensures done { DoneAt ⟦<Gathered<S> as Read>⟧.remaining (λ a b. ReadsAhead S.remaining a b result)
+        (result ≡ Ok Gathering.Ended) slots.old slots.new index }
 {
-    let Some(seat) = &mut slots[index] else {
-        return Ok(Gathering::Ended);
-    };
-    if seat.end().is_some() {
-        return Ok(Gathering::Ended);
+    match &mut slots[index] {
+        Some(seat) if seat.end().is_none() => seat.gather(buf),
+        _ => Ok(Gathering::Ended),
     }
-    seat.gather(buf)
 }
 
 /// Gives what the feed of the connection in the slot read and did not take back to what was read ahead, and lets go of the
-/// memory where nothing is. Its buffer is handed over where it had one of its own.
+/// memory where nothing is. Its buffer is handed over where it had one of its own. Where there is none, or it has ended, nothing
+/// is done, and no buffer is handed over.
 pub fn settle_slot<S: Read, W: Write>(
     slots: &mut [Option<Seat<Gathered<S>, W>>],
     index: usize,
 ) -> Option<Room>
     requires { index < length slots.old }
     ensures changes { Changes ⟦<Gathered<S> as Read>⟧.remaining W.contents slots.old slots.new [] [] }
-    ensures done { DoneAt (λ a b. PutsBack a b result) slots.old slots.new index }
+    ensures done { DoneAt ⟦<Gathered<S> as Read>⟧.remaining (λ a b. PutsBack a b result)
+        (IsNone result) slots.old slots.new index }
 {
-    let Some(seat) = &mut slots[index] else {
-        return None;
-    };
-    if seat.end().is_some() {
-        return None;
+    match &mut slots[index] {
+        Some(seat) if seat.end().is_none() => seat.give_back(),
+        _ => None,
     }
-    seat.give_back()
 }
 
 /// Takes memory for so many bytes more that are read ahead of the connection in the slot, if it has not ended. The error is that
-/// it was refused.
+/// it was refused. Where there is none, or it has ended, none is taken, and none is refused.
 pub fn make_room_in_slot<S: Read, W: Write>(
     slots: &mut [Option<Seat<Gathered<S>, W>>],
     index: usize,
@@ -107,15 +103,13 @@ pub fn make_room_in_slot<S: Read, W: Write>(
 ) -> Result<(), AllocError>
     requires { index < length slots.old }
     ensures changes { Changes ⟦<Gathered<S> as Read>⟧.remaining W.contents slots.old slots.new [] [] }
-    ensures done { DoneAt (λ a b. MakesRoom n a b result) slots.old slots.new index }
+    ensures done { DoneAt ⟦<Gathered<S> as Read>⟧.remaining (λ a b. MakesRoom n a b result)
+        (IsOk result) slots.old slots.new index }
 {
-    let Some(seat) = &mut slots[index] else {
-        return Ok(());
-    };
-    if seat.end().is_some() {
-        return Ok(());
+    match &mut slots[index] {
+        Some(seat) if seat.end().is_none() => seat.make_room(n),
+        _ => Ok(()),
     }
-    seat.make_room(n)
 }
 
 /// From now on each read of the connection in the slot fails so, behind the bytes that are ahead, unless one failed before or it
@@ -127,13 +121,11 @@ pub fn fail_slot<S: Read, W: Write>(
 )
     requires { index < length slots.old }
     ensures changes { Changes ⟦<Gathered<S> as Read>⟧.remaining W.contents slots.old slots.new [] [] }
-    ensures done { DoneAt (λ a b. Fails a b) slots.old slots.new index }
+    ensures done { DoneAt ⟦<Gathered<S> as Read>⟧.remaining (λ a b. Fails a b) ⊤ slots.old slots.new index }
 {
-    let Some(seat) = &mut slots[index] else {
-        return;
-    };
-    if seat.end().is_none() {
-        seat.fail(error);
+    match &mut slots[index] {
+        Some(seat) if seat.end().is_none() => seat.fail(error),
+        _ => {}
     }
 }
 
@@ -145,10 +137,11 @@ pub fn send_slot<R: Read, S: Write>(
 ) -> Sending
     requires { index < length slots.old }
     ensures changes { Changes R.remaining ⟦<Outbox<S> as Write>⟧.contents slots.old slots.new [] [] }
-    ensures done { SentAt (λ a b. SendsOn S.contents a b result) slots.old slots.new index }
+    ensures done { SentAt ⟦<Outbox<S> as Write>⟧.contents (λ a b. SendsOn S.contents a b result)
+        (result ≡ Sending.Sent) slots.old slots.new index }
 {
-    let Some(seat) = &mut slots[index] else {
-        return Sending::Sent;
-    };
-    seat.send()
+    match &mut slots[index] {
+        Some(seat) => seat.send(),
+        None => Sending::Sent,
+    }
 }

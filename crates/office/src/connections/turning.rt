@@ -1,5 +1,4 @@
 //! Connections that are served in turn, a message at a time.
-ghost use Rattle.std.specs.Prelude.{◌<◌, IfSome, length};
 
 use super::seat::Seat;
 use super::session::SessionEnd;
@@ -14,13 +13,6 @@ use wire::{Counted, Feed, Room, Standing};
 /// The greatest number of messages that a connection is served.
 const MOST_MESSAGES: u64 = 1000;
 
-/// Says which connection has the next turn: any, however often.
-pub trait Pick<R, W> {
-    /// The index of the next one, or none where no turn is to be taken any more.
-    fn pick(&mut self, seats: &[Seat<R, W>]) -> Option<usize>
-        ensures { IfSome result (λ index. index < length seats.now) };
-}
-
 // What a step left beside the connection's streams.
 #[derive(Drop)]
 struct Aside {
@@ -29,17 +21,8 @@ struct Aside {
     end: Option<SessionEnd>,
 }
 
-// The room that is there, or a new one, if memory is found.
-fn room_of(spare: Option<Room>, alloc: Global) -> Option<Room> {
-    match spare {
-        Some(room) => Some(room),
-        None => Room::new(alloc).ok(),
-    }
-}
-
 impl<K: Keeper> Office<K> {
-    ghost use Rattle.std.specs.Prelude.{◌≡◌, ◌≤◌, IfNone, IsSomeAnd, IsTrue};
-    ghost use Rattle.std.specs.List.{AllByRecursion};
+    ghost use Rattle.std.specs.Prelude.{◌≡◌, IfNone, IsSomeAnd};
     ghost use Rattle.std.specs.Io.KnownBytes.{prepend_known};
     ghost use Rattle.boxes.specs.State.{State};
     ghost use Rattle.wire.specs.Feeds.{ahead_of, stood_at};
@@ -47,7 +30,7 @@ impl<K: Keeper> Office<K> {
     ghost use Rattle.wire.specs.declared.feed.Place.TheVariants as stands;
     ghost use Rattle.office.specs.Connections.{MayGiveUp};
     ghost use Rattle.office.specs.Premise.{HoldsUnless, IsLeft, StaysUnstaged, WasKept};
-    ghost use Rattle.office.specs.Seats.{IsNew, TakesTurn, TellsTurn, Weaves};
+    ghost use Rattle.office.specs.Seats.{TakesTurn, TellsTurn};
     ghost use Rattle.office.specs.Stepping.{Steps, TellsStep};
 
     // One step of a feed that stood aside, in this room.
@@ -118,37 +101,5 @@ impl<K: Keeper> Office<K> {
             Some(end) => seat.end = Some(end),
         }
         aside.room
-    }
-
-    /// Serves connections in turn, a message at a time, whichever is picked, until none is, or so many turns were taken, or
-    /// memory for the room is refused. There is one order of all messages, in which the machine leads from the state before
-    /// to the state after; and each connection's answers, and its end, are those of its own messages. A turn tells one moment
-    /// at most.
-    pub fn serve_turns<R: Read, W: Write, P: Pick<R, W>, C: Clock>(
-        &mut self,
-        seats: &mut [Seat<R, W>],
-        picker: &mut P,
-        clock: &mut C,
-        turns: u64,
-    )
-        requires { AllByRecursion IsNew seats.old }
-        ensures weaves { (s : State) → WasKept K.Keeper self.old.keeper self.new.keeper s
-            → (after : State) × IsLeft (K.means self.new.keeper) after
-            × Weaves C.now_gives R.remaining W.contents seats.old seats.new clock.old clock.new
-            K.Keeper self.old.keeper self.new.keeper turns s after }
-        ensures honest { K.is_honest self.new.keeper → K.is_honest self.old.keeper }
-        ensures unstaged { StaysUnstaged K.Keeper self.old.keeper self.new.keeper }
-        ensures never_less { K.faults self.old.keeper ≤ K.faults self.new.keeper }
-    {
-        let mut spare = None;
-        'turns: for _ in 0..turns {
-            let Some(index) = picker.pick(seats) else {
-                return;
-            };
-            let Some(room) = room_of(spare, self.alloc) else {
-                return;
-            };
-            spare = self.take_turn(&mut seats[index], room, clock);
-        }
     }
 }

@@ -2,7 +2,7 @@ use Rattle.std.proofs.Common.{◌≡◌, ◌∙◌, ◌-◌, None, Some, suc, re
 use Rattle.office.specs.declared.connections.session.SessionEnd.TheVariants.{Limit}
 use Rattle.office.specs.Seats.{had_ended, went_on, ended, left_of}
 use Rattle.office.proofs.SeatTurns.{none_of, some_of, steps_of}
-use Rattle.office.proofs.SessionSteps.{none_few, serves_none}
+use Rattle.office.proofs.SessionSteps.{none_ends, serves_none}
 use Rattle.office.proofs.office.Office.take_turn.Goals as goal
 
 pub returns-then-is_some-clause-turns : goal.returns-then-is_some-clause-turns
@@ -18,7 +18,7 @@ returns-then-seat-ge-MOST_MESSAGES-clause-turns g c s kept =
       record { means = kept.means; sound = kept.sound },
       ended 0 Limit was_open refl refl (omega (arith, c.if-seat-ge-MOST_MESSAGES.true, seat.few))
           (serves_none g.C.Clock.now_gives (left_of g.R.Read.remaining seat) (g.R.Read.remaining seat.reader.inner) (g.W.Write.contents seat.writer.inner) c.args.clock.now g.K.Keeper c.args.self.now.keeper s)
-          (none_few g.C.Clock.now_gives (left_of g.R.Read.remaining seat) (g.R.Read.remaining seat.reader.inner) (g.W.Write.contents seat.writer.inner) c.args.clock.now g.K.Keeper c.args.self.now.keeper s),
+          (none_ends g.C.Clock.now_gives (left_of g.R.Read.remaining seat) (g.R.Read.remaining seat.reader.inner) (g.W.Write.contents seat.writer.inner) c.args.clock.now g.K.Keeper c.args.self.now.keeper s),
     )
 
 pub returns-in-None-clause-turns : goal.returns-in-None-clause-turns
