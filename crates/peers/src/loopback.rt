@@ -1,8 +1,8 @@
 //! Peers over loopback. They send all that they send before they are served.
 use office::FixedClock;
 use sigv4::Moment;
-use sockets::{Limits, Outcome, serve};
-use std::io::{Read, Write};
+use sockets::{End, Limits, Listener, Outcome, serve};
+use std::io::{ErrorKind, Read, Write};
 use std::net::{Shutdown, TcpListener, TcpStream};
 use std::test::Fail;
 use std::time::Duration;
@@ -115,5 +115,44 @@ fn nobody_comes(rt: HostRuntime) -> Result<(), Fail> {
             is_whole: true
         }
     );
+    Ok(())
+}
+
+#[test]
+fn both_ends_are_one_socket(rt: HostRuntime) -> Result<(), Fail> {
+    let listener = TcpListener::bind(&rt, "127.0.0.1:0")?;
+    let mut peer = TcpStream::connect(&rt, listener.local_addr()?)?;
+    let stream = Listener::accept(&listener)?;
+    let (mut reader, mut writer) = <TcpListener as Listener>::ends(rt.alloc(), stream).map_err(
+        |unready| unready.error,
+    )?;
+    assert_eq!(rt; reader.raw_fd(), writer.raw_fd());
+    let mut buf = [0; 8];
+    let nothing = reader.read(&mut buf).map_err(|error| error.kind());
+    assert_eq!(rt; nothing, Err(ErrorKind::WouldBlock));
+    peer.write_all(b"asked")?;
+    assert_eq!(rt; reader.read(&mut buf)?, 5);
+    assert!(rt; buf.starts_with(b"asked"));
+    assert_eq!(rt; writer.write(b"told")?, 4);
+    writer.shutdown(Shutdown::Write)?;
+    assert_eq!(rt; taken(&rt, &mut peer)?.as_slice(), b"told".as_slice());
+    Ok(())
+}
+
+#[test]
+fn an_end_stays_the_end(rt: HostRuntime) -> Result<(), Fail> {
+    let listener = TcpListener::bind(&rt, "127.0.0.1:0")?;
+    let mut peer = TcpStream::connect(&rt, listener.local_addr()?)?;
+    let stream = Listener::accept(&listener)?;
+    let (mut reader, _) = <TcpListener as Listener>::ends(rt.alloc(), stream).map_err(
+        |unready| unready.error,
+    )?;
+    peer.write_all(b"asked")?;
+    peer.shutdown(Shutdown::Write)?;
+    let mut buf = [0; 8];
+    assert_eq!(rt; reader.read(&mut [])?, 0);
+    assert_eq!(rt; reader.throw_away(&mut buf)?, 5);
+    assert_eq!(rt; reader.read(&mut buf)?, 0);
+    assert_eq!(rt; reader.read(&mut buf)?, 0);
     Ok(())
 }
