@@ -65,7 +65,7 @@ pub trait Listener: AsRawFd {
     ///
     /// It could not be accepted; `WouldBlock` tells that none is there now.
     fn accept(&self) -> io::Result<Self::Stream>
-        ensures { IfOk result brings };
+        ensures brought { IfOk result brings };
 
     /// The ends of a connection. From now on its reads and writes do not wait, and what is written goes out at once.
     ///
