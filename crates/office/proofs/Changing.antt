@@ -89,7 +89,7 @@ module _ {R W : Type 0} (remaining : R → Option (List ℕ)) (contents : W → 
           λ numbers given g.
               let mid = numbers_after x.3 (length came) numbers in
               subst (λ (f : ℕ → ℕ). gave k f (given ++ whose_turn f due)) (numbers_then a b c x.0 x.1 y.0 y.1 (length came) (length (came ++ x.0)) numbers (length-append came x.0) x.3 y.3)
-                  (y.4 mid given (subst (gave j mid) (append-nil given) (x.4 numbers given g))),
+              (y.4 mid given (subst (gave j mid) (append-nil given) (x.4 numbers given g))),
         )
 
     -- nobody comes or goes

@@ -53,7 +53,7 @@ returns-clause-serves g c before gone met numbers given gave =
       λ s kept.
           let x = i.7 s kept in
           let t = changes_more g.R.Read.remaining g.W.Write.contents g.C.Clock.now_gives g.K.Keeper (length before) c.args.clock.now c.args.self.now.keeper s i.4 c.turns.clock c.turns.self.keeper c.turns.faulty x.0
-              c.turns.slots c.next.new.slots i.3 i.0 i.1 more.0 more.1 n (length-append before i.0) more.3 x.2 in (
+          c.turns.slots c.next.new.slots i.3 i.0 i.1 more.0 more.1 n (length-append before i.0) more.3 x.2 in (
             x.0,
             x.1,
             crowd_ends g.R.Read.remaining g.W.Write.contents g.C.Clock.now_gives g.K.Keeper (length before) c.args.clock.now c.args.self.now.keeper s c.next.new.slots numbered (i.0 ++ more.0) (i.1 ++ more.1) i.4
@@ -86,7 +86,7 @@ turns-preserved g c =
             λ s kept.
                 let x = i.7 s (record { means = kept.means; is_honest = turned.honest kept.is_honest; sound = kept.sound }) in
                 let t = changes_more g.R.Read.remaining g.W.Write.contents g.C.Clock.now_gives g.K.Keeper (length before) c.args.clock.now c.args.self.now.keeper s i.4 c.turns.clock c.turns.self.keeper c.turns.faulty x.0
-                    c.turns.slots c.next.new.slots i.3 i.0 i.1 more.0 more.1 n (length-append before i.0) more.3 x.2 in
+                c.turns.slots c.next.new.slots i.3 i.0 i.1 more.0 more.1 n (length-append before i.0) more.3 x.2 in
                 let h = turned.turns x.0 (record { means = x.1.means; is_honest = kept.is_honest; sound = x.1.sound }) in (
                   h.0,
                   h.1,
