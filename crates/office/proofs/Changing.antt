@@ -8,6 +8,7 @@ use Rattle.office.specs.Crowds as crowd
 use Rattle.office.specs.Seats.{Gathers, IsNew, Sends}
 use Rattle.office.specs.declared.connections.crowding.Due.{Due}
 use Rattle.office.specs.declared.connections.seat.Seat.{Seat}
+use Rattle.office.specs.declared.connections.session.SessionEnd.{SessionEnd}
 use Rattle.office.proofs.SeatTurns.{none_of}
 use Rattle.office.proofs.Ties.{none_is, some_is}
 
@@ -113,6 +114,10 @@ module _ {R W : Type 0} (remaining : R → Option (List ℕ)) (contents : W → 
       subst (λ l. Changes remaining contents a l [] []) (sym (ap (set a p) (sym at) ∙ set-get_or a p d)) crowd.same
   by_goes a p d (Some seat) lt at = crowd.goes a [] [] p seat crowd.same lt (get_or_default a p None d lt ∙ at)
 
+  -- what stands in the slot stays
+  pub by_kept : (a : List (Option (Seat R W))) (p : ℕ) (d : Option (Seat R W)) → Changes remaining contents a (set a p (get_or a p d)) [] []
+  by_kept a p d = subst (λ l. Changes remaining contents a l [] []) (sym (set-get_or a p d)) crowd.same
+
   -- what was done to the open one in the slot is such a change
   pub by_done : (done : Seat R W → Seat R W → Type 0) (told : Type 0) (a b : List (Option (Seat R W))) (p : ℕ) → p < length a → DoneAt remaining done told a b p → Changes remaining contents a b [] []
   by_done done told a b p lt (inl (seat, at, is_open, after, g, so, new)) =
@@ -124,36 +129,30 @@ module _ {R W : Type 0} (remaining : R → Option (List ℕ)) (contents : W → 
       subst (λ l. Changes remaining contents a l [] []) (sym new) (crowd.sends a [] [] p seat after crowd.same lt at g)
   by_sent done told a b p lt (inr (none, same, is)) = subst (λ l. Changes remaining contents a l [] []) (sym same) crowd.same
 
--- one that has ended is not open
-ended_there : {R W : Type 0} (one : Seat R W) → is_some one.end ≡ true → (seat : Seat R W) → Some one ≡ Some seat → seat.end ≡ None → ⊥
-ended_there one over seat there is_open =
-    let none : is_some one.end ≡ false = ap (λ (x : Seat _ _). is_some x.end) (some_is one seat there) ∙ ap is_some is_open in
-    absurd cc
-
-module _ {R W : Type 0} (remaining : R → Option (List ℕ)) (done : Seat R W → Seat R W → Type 0) (told : Type 0) (a : List (Option (Seat R W))) (p : ℕ) (d : Option (Seat R W)) (lt : p < length a) where
+module _ {R W : Type 0} (remaining : R → Option (List ℕ)) (done : Seat R W → Seat R W → Type 0) (told : Type 0) (a : List (Option (Seat R W))) (p : ℕ) (d : Option (Seat R W)) (lt : p < length a)
+    (seat : Seat R W) (at : get_or a p d ≡ Some seat) (end : Option SessionEnd) (is_end : end ≡ seat.end) where
   -- it was done to the open one there
-  pub done_there : (seat after : Seat R W) → get_or a p d ≡ Some seat → is_some seat.end ≡ false → Gathers remaining seat after → done seat after → DoneAt remaining done told a (set a p (Some after)) p
-  done_there seat after at is_open g so = inl (seat, get_or_default a p None d lt ∙ at, none_of seat.end is_open, after, g, so, refl)
+  pub done_there : is_some end ≡ false → (after : Seat R W) → Gathers remaining seat after → done seat after → DoneAt remaining done told a (set a p (Some after)) p
+  done_there is_open after g so = inl (seat, get_or_default a p None d lt ∙ at, sym is_end ∙ none_of end is_open, after, g, so, refl)
 
-  -- none there is open
-  done_nowhere : (now : Option (Seat R W)) → get_or a p d ≡ now → ((seat : Seat R W) → now ≡ Some seat → seat.end ≡ None → ⊥) → told → DoneAt remaining done told a (set a p now) p
-  done_nowhere now at none is = inr (
-    λ seat there. none seat (sym (get_or_default a p None d lt ∙ at) ∙ there),
-    ap (set a p) (sym at) ∙ set-get_or a p d,
+  -- the one there has ended
+  pub done_to_ended : is_some end ≡ true → (b : List (Option (Seat R W))) → b ≡ set a p (Some seat) → told → DoneAt remaining done told a b p
+  done_to_ended over b kept is = inr (
+    λ other there is_open.
+        let same : other ≡ seat = some_is other seat (sym there ∙ get_or_default a p None d lt ∙ at) in
+        let none : is_some end ≡ false = ap is_some (is_end ∙ sym (ap (λ (x : Seat R W). x.end) same) ∙ is_open) in
+        absurd cc,
+    kept ∙ ap (set a p) (sym at) ∙ set-get_or a p d,
     is,
   )
 
-  -- the one there has ended
-  pub done_to_ended : (seat : Seat R W) → get_or a p d ≡ Some seat → is_some seat.end ≡ true → told → DoneAt remaining done told a (set a p (Some seat)) p
-  done_to_ended seat at over is = done_nowhere (Some seat) at (ended_there seat over) is
+-- none is there
+pub done_to_none : {R W : Type 0} (remaining : R → Option (List ℕ)) (done : Seat R W → Seat R W → Type 0) (told : Type 0) (a b : List (Option (Seat R W))) (p : ℕ) (d : Option (Seat R W)) → p < length a
+    → get_or a p d ≡ None → b ≡ set a p (get_or a p d) → told → DoneAt remaining done told a b p
+done_to_none remaining done told a b p d lt free kept is =
+    inr (λ other there is_open. none_is other (sym free ∙ sym (get_or_default a p None d lt) ∙ there), kept ∙ set-get_or a p d, is)
 
-  -- none is there
-  pub done_to_none : (now : Option (Seat R W)) → get_or a p d ≡ now → now ≡ None → told → DoneAt remaining done told a (set a p now) p
-  done_to_none now at none is = done_nowhere now at (λ seat there is_open. none_is seat (sym none ∙ there)) is
-
-module _ {R W : Type 0} (contents : W → Option (List ℕ)) (done : Seat R W → Seat R W → Type 0) (told : Type 0) (a : List (Option (Seat R W))) (p : ℕ) (d : Option (Seat R W)) (lt : p < length a) where
-  pub sent_there : (seat after : Seat R W) → get_or a p d ≡ Some seat → Sends contents seat after → done seat after → SentAt contents done told a (set a p (Some after)) p
-  sent_there seat after at g so = inl (seat, get_or_default a p None d lt ∙ at, after, g, so, refl)
-
-  pub sent_to_none : (now : Option (Seat R W)) → get_or a p d ≡ now → now ≡ None → told → SentAt contents done told a (set a p now) p
-  sent_to_none now at none is = inr (get_or_default a p None d lt ∙ at ∙ none, ap (set a p) (sym at) ∙ set-get_or a p d, is)
+-- what was written to the one there was sent on
+pub sent_there : {R W : Type 0} (contents : W → Option (List ℕ)) (done : Seat R W → Seat R W → Type 0) (told : Type 0) (a : List (Option (Seat R W))) (p : ℕ) (d : Option (Seat R W)) → p < length a
+    → (seat after : Seat R W) → get_or a p d ≡ Some seat → Sends contents seat after → done seat after → SentAt contents done told a (set a p (Some after)) p
+sent_there contents done told a p d lt seat after at g so = inl (seat, get_or_default a p None d lt ∙ at, after, g, so, refl)

@@ -1,27 +1,23 @@
-use Rattle.std.proofs.Common.{◌≡◌, ◌∙◌, None, rules, ap, refl, sym}
-use Rattle.std.specs.Prelude.{is_some}
+use Rattle.std.proofs.Common.{refl}
 use Rattle.office.proofs.Changing.{by_done, done_there, done_to_ended, done_to_none}
 use Rattle.office.proofs.connections.slots.settle_slot.Goals as goal
+use Rattle.office.proofs.connections.slots.settle_slot.Goals.{in_default-via-in-Some+else-is_none, in_default-via-in_default}
+
+pub returns-in-Some-clause-done : goal.returns-in-Some-clause-done
+returns-in-Some-clause-done g c =
+    done_there _ _ _ c.args.slots.now c.args.index c.index-slots-index.result c.requires c.in-Some.seat c.in-Some.is c.end.result c.end.ensures c.if-is_none.ensures c.give_back.new.self
+    c.give_back.ensures.gathers (c.give_back.ensures.kept, c.give_back.ensures.back)
+
+pub returns-in-Some-clause-changes : goal.returns-in-Some-clause-changes
+returns-in-Some-clause-changes g c = by_done _ _ _ _ _ _ c.args.index c.requires (returns-in-Some-clause-done g c)
 
 pub returns-in_default-clause-done : goal.returns-in_default-clause-done
 returns-in_default-clause-done g c =
-    let none : c.index-slots-index.result ≡ None = search rules in
-    done_to_none _ _ _ c.args.slots.now c.args.index c.index-slots-index.result c.requires _ refl (sym c.index-slots-index.is ∙ none) tt
-
-pub returns-then-is_some-clause-done : goal.returns-then-is_some-clause-done
-returns-then-is_some-clause-done g c =
-    done_to_ended _ _ _ c.args.slots.now c.args.index c.index-slots-index.result c.requires c.in-Some.seat c.in-Some.is (sym (ap is_some c.end.ensures) ∙ sym c.is_some.ensures ∙ c.if-is_some.true) tt
-
-pub returns-clause-done : goal.returns-clause-done
-returns-clause-done g c =
-    done_there _ _ _ c.args.slots.now c.args.index c.index-slots-index.result c.requires c.in-Some.seat c.give_back.new.self c.in-Some.is (sym (c.is_some.ensures ∙ ap is_some c.end.ensures) ∙ c.if-is_some.false)
-    c.give_back.ensures.gathers (c.give_back.ensures.kept, c.give_back.ensures.back)
+    elim c.in_default.branch [
+      | in_default-via-in-Some+else-is_none w ↦
+          done_to_ended _ _ _ c.args.slots.now c.args.index c.index-slots-index.result c.requires w.in-Some.seat w.in-Some.is w.end.result w.end.ensures w.if-is_none.ensures c.in_default.slots w.slots-is refl
+      | in_default-via-in_default w ↦ done_to_none _ _ _ c.args.slots.now c.in_default.slots c.args.index c.index-slots-index.result c.requires w.in_default.is w.slots-is refl
+    ]
 
 pub returns-in_default-clause-changes : goal.returns-in_default-clause-changes
 returns-in_default-clause-changes g c = by_done _ _ _ _ _ _ c.args.index c.requires (returns-in_default-clause-done g c)
-
-pub returns-then-is_some-clause-changes : goal.returns-then-is_some-clause-changes
-returns-then-is_some-clause-changes g c = by_done _ _ _ _ _ _ c.args.index c.requires (returns-then-is_some-clause-done g c)
-
-pub returns-clause-changes : goal.returns-clause-changes
-returns-clause-changes g c = by_done _ _ _ _ _ _ c.args.index c.requires (returns-clause-done g c)
