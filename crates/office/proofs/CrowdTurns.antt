@@ -253,6 +253,7 @@ module _ {R W : Type 0} (remaining : R → Option (List ℕ)) (contents : W → 
           repeats = w.repeats;
           stays = w.stays;
           lasts = w.lasts;
+          survives = w.survives;
           faulty = t.faulty ∙ faults_of remaining contents came t.seats w.threads w.served;
         }
 

@@ -13,7 +13,7 @@ use Rattle.keeper.specs.declared.keep.KeepFault.{KeepFault}
 use Rattle.keeper.specs.declared.keep.Keeper.{Ghosts}
 use Rattle.office.specs.declared.requests.commanding.DeskFault.{DeskFault}
 use Rattle.office.specs.declared.requests.commanding.DeskFault.TheVariants as fault
-use Rattle.office.specs.Crashes.{AddsStanding, AddsAsked, Lasts, changed, unchanged, LastsThrough, changed_once, never_changed, Endures, IsAsked, RefusedLasts, UndoneLasts}
+use Rattle.office.specs.Crashes.{AddsStanding, AddsAsked, Lasts, changed, unchanged, LastsThrough, changed_once, never_changed, Endures, IsAsked, IsOneMore, RefusedLasts, Survives, no_change, some_change, UndoneLasts}
 use Rattle.office.specs.Offices.{IsAnswered}
 use Rattle.office.specs.Replying.{IsReplied}
 
@@ -29,6 +29,11 @@ widened (inr b) = inr (inl b)
 earlier : {A B S C : Type 0} → (A → B ⊎ S) → A ⊎ S ⊎ C → B ⊎ S ⊎ C
 earlier f (inl a) = widened (f a)
 earlier f (inr x) = inr x
+
+-- what was there before is one of these, too
+settled : {A B C : Type 0} → (A → B ⊎ C) → A ⊎ B ⊎ C → B ⊎ C
+settled f (inl a) = f a
+settled f (inr x) = x
 
 asked_for : {A S C D : Type 0} → (C → D) → A ⊎ S ⊎ C → A ⊎ S ⊎ D
 asked_for f (inl a) = inl a
@@ -81,6 +86,34 @@ module _ {K : Type 0} {k : Ghosts K} where
       changed_once (λ t at. ⊎_elim (λ (was : k.leaves _ t). alone t was) (λ (is : t ≡ _). is) (y.adds t at) ∙ sym same) (y.whole whole)
   then_through {a = a} {b = b} {c = c} {s = s} {mid = mid} (never_changed first x) (never_changed same y) =
       never_changed (same ∙ first) (then_adds x (subst (λ (z : State). AddsStanding k b c z) first y))
+
+  -- ---- whatever was given up
+
+  then_asks : {a b c : K} {s : State} {D : State → Type 0} → AddsAsked k a b s D → AddsAsked k b c s D → AddsAsked k a c s D
+  then_asks x y = record { adds = λ t at. joined (x.adds t) (y.adds t at); whole = λ w. y.whole (x.whole w) }
+
+  -- nothing was changed, and nothing was given up
+  pub survives_same : {a b : K} {s : State} → AddsStanding k a b s → Survives k a b s s
+  survives_same adds = no_change refl (adds_less adds)
+
+  -- a message was given up
+  pub survives_asked : {a b : K} {s : State} (r : Request) (now : ℕ) → AddsAsked k a b s (IsAsked s r now) → Survives k a b s s
+  survives_asked r now asks = no_change refl (more_asked (λ t is. record { request = r; moment = now; asked = is }) asks)
+
+  -- nothing was given up
+  pub survives_through : {a b : K} {s after : State} → LastsThrough k a b s after → Survives k a b s after
+  survives_through (changed_once alone whole) = some_change (λ t at. inl (alone t at)) whole
+  survives_through (never_changed same adds) = no_change same (adds_less adds)
+
+  -- one after another
+  pub then_survives : {a b c : K} {s mid after : State} → Survives k a b s mid → Survives k b c mid after → Survives k a c s after
+  then_survives x (some_change alone whole) = some_change alone whole
+  then_survives {a = a} {c = c} {s = s} (some_change alone whole) (no_change same y) =
+      subst (λ (z : State). Survives k a c s z) (sym same) (some_change (λ t at. settled (alone t) (y.adds t at)) (y.whole whole))
+  then_survives {b = b} {c = c} (no_change first x) (no_change same y) =
+      no_change (same ∙ first) (then_asks x (subst (λ (z : State). AddsAsked k b c z (IsOneMore z)) first y))
+
+  -- ---- of one call
 
   -- a question came before the reply
   pub then_replied : {a b : K} (c : K) (s : State) (r : Request) (now : ℕ) (result : Result Reply Refusal) → AddsStanding k a b s

@@ -16,7 +16,7 @@ use Rattle.wire.specs.Answers as said
 use Rattle.wire.specs.Shown.{said_of, whole_text}
 use Rattle.office.specs.declared.connections.handling.Handled.{Handled}
 use Rattle.office.specs.declared.connections.handling.Handled.TheVariants.{Answered, GaveUp, Broken}
-use Rattle.office.specs.Crashes.{Endures}
+use Rattle.office.specs.Crashes.{AddsAsked, Endures, IsAsked}
 use Rattle.office.specs.Foreseeing.{Foresees, IsReadOf}
 use Rattle.office.specs.declared.requests.foreseeing.Prospect.{Prospect}
 use Rattle.sigtext.specs.declared.refusal.Refusal.{Refusal}
@@ -60,15 +60,15 @@ closed_again k a b old new ReadFault closed = absurd closed
 
 -- a message whose moment was taken
 pub handled_at : {C K : Type 0} (gives : C → ℕ → C → Type 0) (clock clock' : C) (old new : Option (List ℕ)) (k : Ghosts K) (keeper keeper' : K) (s : State) (r : Request) (now : ℕ) (a : Answer) (h : Handled)
-    → gives clock now clock' → (IsTryAgain a → IsLeft (k.means keeper') s) → HoldsUnless k keeper keeper' (IsTryAgain a) → k.is_honest keeper' → (IsTryAgain a → IsReadable r) → IsAnswered (Endures k keeper keeper' s) s r now a → IsSent old new a h
+    → gives clock now clock' → (IsTryAgain a → IsLeft (k.means keeper') s) → (IsTryAgain a → AddsAsked k keeper keeper' s (IsAsked s r now)) → HoldsUnless k keeper keeper' (IsTryAgain a) → k.is_honest keeper' → (IsTryAgain a → IsReadable r) → IsAnswered (Endures k keeper keeper' s) s r now a → IsSent old new a h
     → Handles gives clock clock' old new k keeper keeper' s r h
-handled_at gives clock clock' old new k keeper keeper' s r now a Answered told same rest honest readable answers sent =
+handled_at gives clock clock' old new k keeper keeper' s r now a Answered told same asked rest honest readable answers sent =
     let x = answers sent.0 in answered now (whole_text a) x.0 told sent.1 (held_up rest honest sent.0) (through x.1.means.lasts) (record { means = x.1.means.meant; sound = x.1.sound }) x.2
-handled_at gives clock clock' old new k keeper keeper' s r now a GaveUp told same rest honest readable answers sent =
-    gave_up_at now told (subst (Appends old new) (again_written a sent.0) sent.1) rest.never_less (readable sent.0) (same sent.0)
-handled_at gives clock clock' old new k keeper keeper' s r now a Broken told same rest honest readable answers sent =
+handled_at gives clock clock' old new k keeper keeper' s r now a GaveUp told same asked rest honest readable answers sent =
+    gave_up_at now told (subst (Appends old new) (again_written a sent.0) sent.1) rest.never_less (asked sent.0) (readable sent.0) (same sent.0)
+handled_at gives clock clock' old new k keeper keeper' s r now a Broken told same asked rest honest readable answers sent =
     ⊎_elim
-    (λ again. broke_giving_up_at now sent.1 told sent.2 (subst (IsBeginning sent.1) (again_written a again) sent.3) rest.never_less (readable again) (same again))
+    (λ again. broke_giving_up_at now sent.1 told sent.2 (subst (IsBeginning sent.1) (again_written a again) sent.3) rest.never_less (asked again) (readable again) (same again))
     (λ other. let x = answers other in broke now (whole_text a) sent.1 x.0 told sent.2 sent.3 (held_up rest honest other) (through x.1.means.lasts) (record { means = x.1.means.meant; sound = x.1.sound }) x.2)
     sent.0
 

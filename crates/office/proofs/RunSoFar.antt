@@ -12,6 +12,7 @@ use Rattle.office.specs.declared.connections.session.SessionEnd.{SessionEnd}
 use Rattle.office.specs.Connections.{TellsMoments, IsStream, Serves, TellsFaults, HoldsUpOver, HoldsUpTo, NoneGaveUp, StaysOpen, AreServed, is_fault, Runs}
 use Rattle.office.specs.Premise.{HoldsUp, IsLeft}
 use Rattle.office.specs.Sessions.{Session, Connection, Run, most_messages}
+use Rattle.office.proofs.Endurance.{still, survives_same, then_survives}
 use Rattle.office.proofs.Repeats.{runs_act_once}
 use Rattle.office.proofs.Without.{runs_without}
 
@@ -84,6 +85,7 @@ runs_more gives remaining contents first clock clock' olds news old new k keeper
       served = served_more remaining contents old new c olds news r.connections r.served served.read served.written risen;
       held = held_more k r.connections c keeper keeper' keeper'' r.held served.held;
       opened = opened_more k r.connections c keeper keeper' keeper'' mid after one left r.opened served.held.0;
+      survives = then_survives r.survives served.survives;
       run = run;
       without = runs_without s after (r.connections ++ c ∷ []) (r.moments ++ served.moments) run;
       repeats = runs_act_once s after (r.connections ++ c ∷ []) (r.moments ++ served.moments) run;
@@ -104,7 +106,7 @@ pub starts : {C R W K : Type 0} (gives : C → ℕ → C → Type 0) (remaining 
 starts gives remaining contents clock old k keeper s one same = record {
   state = s;
   same = same;
-  runs = record { connections = []; moments = []; told = refl; served = tt; held = refl; opened = none_opened k keeper s one same; run = (refl, refl); without = runs_without s s [] [] (refl, refl); repeats = runs_act_once s s [] [] (refl, refl); faulty = refl };
+  runs = record { connections = []; moments = []; told = refl; served = tt; held = refl; opened = none_opened k keeper s one same; survives = survives_same still; run = (refl, refl); without = runs_without s s [] [] (refl, refl); repeats = runs_act_once s s [] [] (refl, refl); faulty = refl };
 }
 
 -- at the end of the list

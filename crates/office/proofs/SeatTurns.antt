@@ -15,6 +15,7 @@ use Rattle.wire.specs.declared.feed.Place.TheVariants as place
 use Rattle.wire.specs.declared.standing.Standing.{Standing}
 use Rattle.office.specs.Begins.{may_begin}
 use Rattle.office.specs.Connections.{TellsMoments}
+use Rattle.office.specs.Crashes.{Survives}
 use Rattle.office.specs.Interleaved.{Interleaved, Thread, Turn, acts_in}
 use Rattle.office.specs.Premise.{IsLeft}
 use Rattle.office.specs.Repeats.{RepeatsOnce}
@@ -349,6 +350,7 @@ module _ {R W : Type 0} (remaining : R → Option (List ℕ)) (contents : W → 
     pub repeats : RepeatsOnce (acts_in run.turns)
     pub stays : StaysSo k threads keeper keeper' after
     pub lasts : LastsOver k threads keeper keeper' s after
+    pub survives : Survives k keeper keeper' s after
 
   module _ {C K : Type 0} {whose : List ℕ} (gives : C → ℕ → C → Type 0) (k : Ghosts K) (fs ns : List (Seat R W)) (clock clock' : C) (keeper keeper' : K) (s mid : State) where
     pub weaves_last : TurnsMore gives k fs ns whose clock clock' keeper keeper' s mid → AllTell fs ns → MeansOne k keeper' → IsLeft (k.means keeper') mid
@@ -374,4 +376,5 @@ module _ {R W : Type 0} (remaining : R → Option (List ℕ)) (contents : W → 
                 (now, λ u means. one u mid now means left.means);
           };
           lasts = λ all. t.so_far.lasts (all_last t.sittings w.threads w.are all);
+          survives = t.so_far.survives;
         }

@@ -23,7 +23,7 @@ use Rattle.office.specs.declared.connections.handling.Handled.TheVariants.{Answe
 use Rattle.sigtext.specs.Counts.{Rose}
 use Rattle.office.specs.Connections.{HoldsUpTo, IsKnown, IsStream, Serves}
 use Rattle.office.specs.Crashes.{AddsStanding, never_changed}
-use Rattle.office.proofs.Endurance.{still, then_through, through_after}
+use Rattle.office.proofs.Endurance.{still, survives_asked, survives_same, survives_through, then_survives, then_through, through_after}
 use Rattle.office.specs.Handling.{Handles, answered, gave_up_at, broke, broke_giving_up_at}
 use Rattle.office.specs.Premise.{HoldsUp, IsLeft, WasKept}
 use Rattle.office.proofs.KeeperCalls.{Quiet}
@@ -141,6 +141,7 @@ serves_more gives n left left' reader output output' output'' clock clock' clock
   written = appends_more output output' output'' g.text r.answers g.written r.written;
   held = held_more_to k keeper keeper' keeper'' r.gave_up e g.held r.held;
   lasts = λ none. then_through g.lasts (r.lasts none);
+  survives = then_survives (survives_through g.lasts) r.survives;
   session = session.served n (g.front ++ r.stream) r.stream s mid after g.request g.moment r.moments g.text r.answers e r.gave_up (g.message r.stream) g.answers r.session;
 }
 
@@ -164,6 +165,7 @@ serves_none gives left reader output clock k keeper s = record {
   written = nothing_written output;
   held = held_to k keeper keeper false Limit (holds_still k keeper false) limit_no_read;
   lasts = λ none. never_changed refl still;
+  survives = survives_same still;
   session = session.limit (rest_of left) s;
 }
 
@@ -195,7 +197,7 @@ module _ {C K : Type 0} (gives : C → ℕ → C → Type 0) (p : Place) (left r
       (after, keeps, record { front = text ++ body; request = r; moment = now; text = written; taken = m.taken; message = stands; told = told; written = appends; answers = answers; held = same; lasts = lasts })
 
   pub gave_up_step : Handles gives clock clock' output output' k keeper keeper' s r GaveUp → Steps gives p left (prepend_known waits reader) reader output output' clock clock' k keeper keeper' s (Some (Refused 40))
-  gave_up_step (gave_up_at now told appends less readable keeps) = (
+  gave_up_step (gave_up_at now told appends less asks readable keeps) = (
     s,
     keeps,
     λ n _. (
@@ -209,6 +211,7 @@ module _ {C K : Type 0} (gives : C → ℕ → C → Type 0) (p : Place) (left r
         written = appends;
         held = held_to k keeper keeper' true (Refused 40) less (refused_no_read 40);
         lasts = given_no_more (Refused 40) (refused_no_read 40);
+        survives = survives_asked r now asks;
         session = session.gave_up_at n ((text ++ body) ++ waits) waits s r now (stands waits) readable;
       },
       tt,
@@ -231,12 +234,13 @@ module _ {C K : Type 0} (gives : C → ℕ → C → Type 0) (p : Place) (left r
             written = appends;
             held = held_to k keeper keeper' false WriteFault same write_no_read;
             lasts = λ none. lasts;
+            survives = survives_through lasts;
             session = session.write_failed n ((text ++ body) ++ rest) rest s after r now written front (stands rest) answers begins;
           },
           tt,
         ),
       )
-  broken_step (broke_giving_up_at now front told appends begins less readable keeps) = (
+  broken_step (broke_giving_up_at now front told appends begins less asks readable keeps) = (
     s,
     keeps,
     λ n _. (
@@ -250,6 +254,7 @@ module _ {C K : Type 0} (gives : C → ℕ → C → Type 0) (p : Place) (left r
         written = appends;
         held = held_to k keeper keeper' true WriteFault less write_no_read;
         lasts = given_no_more WriteFault write_no_read;
+        survives = survives_asked r now asks;
         session = session.write_failed_giving_up_at n ((text ++ body) ++ waits) waits s r now front (stands waits) readable begins;
       },
       tt,
@@ -305,6 +310,7 @@ module _ {C K : Type 0} (gives : C → ℕ → C → Type 0) (p : Place) (left l
         written = written;
         held = (leaves.held, rose);
         lasts = λ none. never_changed refl leaves.adds;
+        survives = survives_same leaves.adds;
         session = (whole n all).0;
       },
       (whole n all).1,
@@ -415,6 +421,7 @@ steps_after gives p left left' reader output output' clock clock' k a b c s (Som
           written = r.written;
           held = held_more_to k a b c r.gave_up e (x.faults, x.open_still) r.held;
           lasts = λ none. through_after x.adds (r.lasts none);
+          survives = then_survives (survives_same x.adds) r.survives;
           session = r.session;
         },
         both.1,

@@ -11,6 +11,7 @@ use Rattle.office.specs.Connections.{TellsMoments, Serves, is_fault}
 use Rattle.office.specs.Premise.{IsLeft}
 use Rattle.office.specs.Replays.{AreAll, InTurn, InTurnOver, TakesTurns, answers_in}
 use Rattle.office.specs.Sessions.{Connection, most_messages}
+use Rattle.office.proofs.Endurance.{still, survives_same, then_survives}
 use Rattle.office.proofs.RunSoFar.{MeansOne, count_more, none_opened, opened_more, run_more}
 
 all_more : (moment : ℕ) (xs ys : List ℕ) → AreAll moment xs → AreAll moment ys → AreAll moment (xs ++ ys)
@@ -60,7 +61,7 @@ turn_more gives output mid_output output' input input' clock clock' k keeper kee
 pub none_over : {K : Type 0} (k : Ghosts K) (keeper : K) (output : Option (List ℕ)) (s : State) (moment : ℕ) → MeansOne k keeper → IsLeft (k.means keeper) s
     → InTurnOver k keeper keeper output output s s moment 0 0
 unfolding no_turn
-none_over k keeper output s moment one left = record { turn = no_turn output s moment; opened = none_opened k keeper s one left }
+none_over k keeper output s moment one left = record { turn = no_turn output s moment; opened = none_opened k keeper s one left; survives = survives_same still }
 
 -- one more was served over the keeper
 pub over_more : {C K : Type 0} (gives : C → ℕ → C → Type 0) (output mid_output output' input input' : Option (List ℕ)) (clock clock' : C) (k : Ghosts K) (first keeper keeper' : K) (s mid after : State)
@@ -72,6 +73,7 @@ unfolding turn_more
 over_more gives output mid_output output' input input' clock clock' k first keeper keeper' s mid after moment n n' faults faults' e one left t tells served more counted = record {
   turn = turn_more gives output mid_output output' input input' clock clock' k keeper keeper' s mid after moment n n' faults faults' e t.turn tells served more counted;
   opened = opened_more k t.turn.connections (record { stream = served.stream; answers = served.answers; end = e; gave_up = served.gave_up }) first keeper keeper' mid after one left t.opened served.held.0;
+  survives = then_survives t.survives served.survives;
 }
 
 -- whatever became of the keeper

@@ -8,7 +8,7 @@ use Rattle.keeper.specs.declared.keep.Keeper.{Ghosts}
 use Rattle.sigtext.specs.Counts.{Rose}
 use Rattle.boxes.specs.State.{State}
 use Rattle.office.specs.Connections.{Serves, TellsMoments}
-use Rattle.office.specs.Crashes.{LastsThrough, never_changed}
+use Rattle.office.specs.Crashes.{LastsThrough, Survives, never_changed}
 use Rattle.office.specs.Interleaved.{AreSpoken, AreTied, Interleaved, Speaks, Thread, Turn, acts_in, moments_in, own_acts, own_moments}
 use Rattle.office.specs.Interleaved as said
 use Rattle.office.specs.Premise.{HoldsUp}
@@ -19,7 +19,7 @@ use Rattle.office.specs.Stepping.{Goes}
 use Rattle.office.specs.declared.connections.session.SessionEnd.{SessionEnd}
 use Rattle.office.specs.declared.connections.session.SessionEnd.TheVariants.{ReadFault}
 use Rattle.office.proofs.Counting.{Counts, counts_more, counts_still, counts_turn, over_if, took_of}
-use Rattle.office.proofs.Endurance.{still, then_through}
+use Rattle.office.proofs.Endurance.{still, survives_same, survives_through, then_survives, then_through}
 use Rattle.office.proofs.Repeats.{session_acts}
 use Rattle.office.proofs.RunSoFar.{told_more}
 use Rattle.office.proofs.SessionSteps.{few_moments}
@@ -181,6 +181,7 @@ pub record SoFar {C K : Type 0} (gives : C → ℕ → C → Type 0) (k : Ghosts
   pub rose : AllByRecursion (RoseAt (k.faults keeper) (k.faults keeper')) sittings
   pub held : AllByRecursion NotGivenUp sittings → HoldsUp k false keeper keeper'
   pub lasts : AllByRecursion LastsAt sittings → LastsThrough k keeper keeper' s mid
+  pub survives : Survives k keeper keeper' s mid
 
 same_length : (n m : ℕ) (turns : List Turn) → n ≡ m → AllByRecursion (λ t. t.which < n) turns → AllByRecursion (λ t. t.which < m) turns
 same_length n m [] e h = tt
@@ -207,6 +208,7 @@ module _ {C K : Type 0} (gives : C → ℕ → C → Type 0) (k : Ghosts K) wher
     pub rose : RoseAt (k.faults keeper) (k.faults keeper') new
     pub held : new.gave_up ≡ false → HoldsUp k false keeper keeper'
     pub lasts : LastsAt new → LastsThrough k keeper keeper' mid after
+    pub survives : Survives k keeper keeper' mid after
 
   holds_both : (a b c : K) → HoldsUp k false a b → HoldsUp k false b c → HoldsUp k false a c
   holds_both a b c x y = (y.0 ∙ x.0, λ was. y.1 (x.1 was))
@@ -229,6 +231,7 @@ module _ {C K : Type 0} (gives : C → ℕ → C → Type 0) (k : Ghosts K) wher
             xs p new f.rose (λ is at_end. rose_later (k.faults keeper) (k.faults keeper') (k.faults keeper'') f.never_less (t.rose is at_end));
         held = λ none. let both = all_unset NotGivenUp xs p d new lt t.marked none in holds_both keeper keeper' keeper'' (f.held both.0) (t.held both.1);
         lasts = λ all. let both = all_unset LastsAt xs p d new lt (inl t.marked) all in then_through (f.lasts both.0) (t.lasts both.1);
+        survives = then_survives f.survives t.survives;
       }
 
   -- nobody came yet
@@ -245,6 +248,7 @@ module _ {C K : Type 0} (gives : C → ℕ → C → Type 0) (k : Ghosts K) wher
     rose = tt;
     held = λ _. (refl, λ was. was);
     lasts = λ _. never_changed refl still;
+    survives = survives_same still;
   }
 
   module _ {whose : List ℕ} (xs : List Sitting) (clock clock' : C) (keeper keeper' : K) (s mid : State) (f : SoFar gives k xs whose clock clock' keeper keeper' s mid) where
@@ -276,6 +280,7 @@ module _ {C K : Type 0} (gives : C → ℕ → C → Type 0) (k : Ghosts K) wher
             rose = unmarked_rose (k.faults keeper') (k.faults keeper'') (answered x left reader written) unmarked;
             held = λ _. g.held;
             lasts = λ _. g.lasts;
+            survives = survives_through g.lasts;
           }))
 
       -- it ends
@@ -301,6 +306,7 @@ module _ {C K : Type 0} (gives : C → ℕ → C → Type 0) (k : Ghosts K) wher
             rose = λ is at_end. v.held.1 is (some_end e ReadFault at_end);
             held = λ is. subst (λ b. HoldsUp k b keeper' keeper'') is v.held.0;
             lasts = λ at_end. v.lasts (ends_so at_end);
+            survives = v.survives;
           }))
         where
           ends_so : LastsAt (closed x left reader written e v.gave_up) → (v.gave_up ≡ false) ⊎ (e ≡ ReadFault)
@@ -323,6 +329,7 @@ module _ {C K : Type 0} (gives : C → ℕ → C → Type 0) (k : Ghosts K) wher
         rose = all_set (RoseAt (k.faults keeper) (k.faults keeper')) (RoseAt (k.faults keeper) (k.faults keeper')) (λ y r. r) xs p (gathered x left reader) f.rose (unmarked_rose (k.faults keeper) (k.faults keeper') (gathered x left reader) unmarked);
         held = λ none. f.held (all_unset NotGivenUp xs p d (gathered x left reader) lt (subst NotGivenUp (sym at) unmarked) none).0;
         lasts = λ all. f.lasts (all_unset LastsAt xs p d (gathered x left reader) lt (subst LastsAt (sym at) (inl unmarked)) all).0;
+        survives = f.survives;
       }
 
     -- bytes that were written to one that stands there are sent on
@@ -342,6 +349,7 @@ module _ {C K : Type 0} (gives : C → ℕ → C → Type 0) (k : Ghosts K) wher
           rose = all_set (RoseAt (k.faults keeper) (k.faults keeper')) (RoseAt (k.faults keeper) (k.faults keeper')) (λ z r. r) xs p y f.rose (all_get (RoseAt (k.faults keeper) (k.faults keeper')) xs p d lt f.rose);
           held = λ none. f.held (all_as NotGivenUp xs p d y lt (λ h. h) none);
           lasts = λ all. f.lasts (all_as LastsAt xs p d y lt (λ h. h) all);
+          survives = f.survives;
         }
 
     -- ---- a connection more
@@ -384,6 +392,7 @@ module _ {C K : Type 0} (gives : C → ℕ → C → Type 0) (k : Ghosts K) wher
       rose = all_last_one (RoseAt (k.faults keeper) (k.faults keeper')) xs x f.rose (unmarked_rose (k.faults keeper) (k.faults keeper') x new.marked);
       held = λ none. f.held (all_before NotGivenUp xs x none);
       lasts = λ all. f.lasts (all_before LastsAt xs x all);
+      survives = f.survives;
     }
 
 -- ---- the end

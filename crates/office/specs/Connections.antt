@@ -8,7 +8,7 @@ use Rattle.keeper.specs.declared.keep.Keeper.{Ghosts}
 use Rattle.wire.specs.declared.counted.Counted.{Counted}
 use Rattle.office.specs.declared.connections.session.SessionEnd.{SessionEnd}
 use Rattle.office.specs.declared.connections.session.SessionEnd.TheVariants.{Ended, Truncated, Refused, Limit, ReadFault, WriteFault}
-use Rattle.office.specs.Crashes.{LastsThrough}
+use Rattle.office.specs.Crashes.{LastsThrough, Survives}
 use Rattle.office.specs.Premise.{HoldsUp}
 use Rattle.office.specs.Repeats.{ActsOnce}
 use Rattle.office.specs.Sessions.{Session, Connection, Run}
@@ -45,7 +45,8 @@ abbrev pub HoldsUpTo : {K : Type 0} → Ghosts K → Bool → SessionEnd → K �
 HoldsUpTo k gave_up e old new = HoldsUp k gave_up old new × (gave_up ≡ true → e ≡ ReadFault → Rose (k.faults old) (k.faults new))
 
 -- What was read, which moments were told, what was written, that the keeper held up, and that these are a session of up to n
--- messages. Where nothing was given up, and at a failed read, the state after outlasts a crash.
+-- messages. Where nothing was given up, and at a failed read, the state after outlasts a crash; and whatever was given up, a crash
+-- leaves it but for one request more.
 pub record Serves {C K : Type 0} (n : ℕ) (gives : C → ℕ → C → Type 0) (input input' output output' : Option (List ℕ)) (clock clock' : C)
     (k : Ghosts K) (keeper keeper' : K) (s after : State) (e : SessionEnd) : Type 0 where
   pub stream : List ℕ
@@ -57,6 +58,7 @@ pub record Serves {C K : Type 0} (n : ℕ) (gives : C → ℕ → C → Type 0) 
   pub written : Appends output output' answers
   pub held : HoldsUpTo k gave_up e keeper keeper'
   pub lasts : (gave_up ≡ false) ⊎ (e ≡ ReadFault) → LastsThrough k keeper keeper' s after
+  pub survives : Survives k keeper keeper' s after
   pub session : Session n stream s moments answers e gave_up after
 
 -- A fault of the reader or the writer that was counted is the end that is told, and no other end is told as one.
@@ -96,8 +98,8 @@ is_fault Truncated = false
 is_fault (Refused number) = false
 is_fault Limit = false
 
--- the whole run: the connections in order, their moments, the state after, how the keeper held up, and how many
--- connections ended by a fault; and that it is a run without what was answered with refusal 40, too, and one in which an
+-- the whole run: the connections in order, their moments, the state after, how the keeper held up, what a crash leaves, and how
+-- many connections ended by a fault; and that it is a run without what was answered with refusal 40, too, and one in which an
 -- upload acts once
 pub record Runs {C R W K : Type 0} (gives : C → ℕ → C → Type 0) (remaining : R → Option (List ℕ)) (contents : W → Option (List ℕ)) (clock clock' : C)
     (old new : List (Counted R × Counted W)) (k : Ghosts K) (keeper keeper' : K) (s after : State) (faults : ℕ) : Type 0 where
@@ -107,6 +109,7 @@ pub record Runs {C R W K : Type 0} (gives : C → ℕ → C → Type 0) (remaini
   pub served : AreServed remaining contents old new connections
   pub held : HoldsUpOver k connections keeper keeper'
   pub opened : StaysOpen k connections keeper keeper' after
+  pub survives : Survives k keeper keeper' s after
   pub run : Run s connections moments after
   pub without : RunsWithout s connections moments after
   pub repeats : ActsOnce s connections moments after

@@ -43,6 +43,18 @@ pub record IsAsked (s : State) (r : Request) (now : ℕ) (after : State) : Type 
   pub reply : StepReply
   pub accepts : AcceptsRequest s r now reply after
 
+-- the state after one request more, at some moment
+pub record IsOneMore (s after : State) : Type 0 where
+  pub request : Request
+  pub moment : ℕ
+  pub asked : IsAsked s request moment after
+
+-- The same whatever was given up: a crash leaves the state after, or that with one request more, and nothing else; or nothing was
+-- changed, and it leaves nothing new but the standing state, and that with one request more.
+pub data Survives {K : Type 0} (k : Ghosts K) (old new : K) (s after : State) : Type 0 where
+  some_change : ((t : State) → k.leaves new t → (t ≡ after) ⊎ IsOneMore after t) → k.leaves_whole new → Survives k old new s after
+  no_change : after ≡ s → AddsAsked k old new s (IsOneMore s) → Survives k old new s after
+
 -- the state after a command that the line is
 pub record IsToldBy (s : State) (line : List ℕ) (after : State) : Type 0 where
   pub command : Command

@@ -9,7 +9,7 @@ use Rattle.sigtext.specs.Bytes.{IsBeginning}
 use Rattle.office.specs.declared.connections.handling.Handled.{Handled}
 use Rattle.office.specs.declared.connections.handling.Handled.TheVariants.{Answered, GaveUp, Broken}
 use Rattle.office.specs.Answering.{AnswersRequest}
-use Rattle.office.specs.Crashes.{LastsThrough}
+use Rattle.office.specs.Crashes.{AddsAsked, IsAsked, LastsThrough}
 use Rattle.office.specs.Premise.{HoldsUp, IsLeft}
 use Rattle.office.specs.Readable.{IsReadable}
 use Rattle.office.specs.Sessions.{closing}
@@ -24,9 +24,9 @@ pub data Handles {C K : Type 0} (gives : C → ℕ → C → Type 0) (clock cloc
     : Handled → Type 0 where
   answered : (now : ℕ) (text : List ℕ) (after : State) → gives clock now clock' → Appends output output' text → HoldsUp k false keeper keeper' → LastsThrough k keeper keeper' s after → IsLeft (k.means keeper') after → AnswersRequest s r now text after
       → Handles gives clock clock' output output' k keeper keeper' s r Answered
-  gave_up_at : (now : ℕ) → gives clock now clock' → Appends output output' (closing rule.TryAgain) → HoldsUp k true keeper keeper' → IsReadable r → IsLeft (k.means keeper') s
+  gave_up_at : (now : ℕ) → gives clock now clock' → Appends output output' (closing rule.TryAgain) → HoldsUp k true keeper keeper' → AddsAsked k keeper keeper' s (IsAsked s r now) → IsReadable r → IsLeft (k.means keeper') s
       → Handles gives clock clock' output output' k keeper keeper' s r GaveUp
   broke : (now : ℕ) (text front : List ℕ) (after : State) → gives clock now clock' → Appends output output' front → IsBeginning front text → HoldsUp k false keeper keeper' → LastsThrough k keeper keeper' s after → IsLeft (k.means keeper') after → AnswersRequest s r now text after
       → Handles gives clock clock' output output' k keeper keeper' s r Broken
-  broke_giving_up_at : (now : ℕ) (front : List ℕ) → gives clock now clock' → Appends output output' front → IsBeginning front (closing rule.TryAgain) → HoldsUp k true keeper keeper' → IsReadable r → IsLeft (k.means keeper') s
+  broke_giving_up_at : (now : ℕ) (front : List ℕ) → gives clock now clock' → Appends output output' front → IsBeginning front (closing rule.TryAgain) → HoldsUp k true keeper keeper' → AddsAsked k keeper keeper' s (IsAsked s r now) → IsReadable r → IsLeft (k.means keeper') s
       → Handles gives clock clock' output output' k keeper keeper' s r Broken

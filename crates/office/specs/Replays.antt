@@ -8,6 +8,7 @@ use Rattle.keeper.specs.declared.keep.Keeper.{Ghosts}
 use Rattle.office.specs.declared.connections.session.SessionEnd.{SessionEnd}
 use Rattle.office.specs.declared.connections.session.SessionEnd.TheVariants.{ReadFault}
 use Rattle.office.specs.Connections.{IsStream, StaysOpen, is_fault}
+use Rattle.office.specs.Crashes.{Survives}
 use Rattle.office.specs.Sessions.{Connection, Run, Session, most_messages}
 
 -- what was read and written is a session from the state, each of whose messages was handled at the moment
@@ -53,10 +54,11 @@ pub record InTurn (output output' : Option (List ℕ)) (s after : State) (moment
   pub many : length connections ≡ n
   pub faulty : faults ≡ count_by (λ c. is_fault c.end) connections
 
--- the same, over a keeper: where none of the connections gave up, it is open if it was
+-- the same, over a keeper: where none of the connections gave up, it is open if it was; and what a crash leaves, whichever did
 pub record InTurnOver {K : Type 0} (k : Ghosts K) (keeper keeper' : K) (output output' : Option (List ℕ)) (s after : State) (moment n faults : ℕ) : Type 0 where
   pub turn : InTurn output output' s after moment n faults
   pub opened : StaysOpen k turn.connections keeper keeper' after
+  pub survives : Survives k keeper keeper' s after
 
 -- All the streams were served in turn, where the result counts the faults; or those before the one that it names. Served n
 -- faults: n connections were served in turn, and so many of them ended by a fault.

@@ -128,9 +128,9 @@ impl<K: Keeper> Office<K> {
     /// many ended by a read or a write that failed. There is one order of all messages, in which the machine leads from the
     /// state before to the state after; and of each connection that came, what was read, its answers and its end are those of
     /// its own messages, until it went or as it stands in its slot. Over all of them an upload acts once. Of a keeper that was
-    /// open, and where no connection gave up, what is kept is that one state and no other. Where nothing was given up but at a
-    /// failed read, what was changed outlasts a crash. The turns that the crowd gives are taken, each by its own connection and in
-    /// their order, and no other is; and each tells one moment at most.
+    /// open, and where no connection gave up, what is kept is that one state and no other. What was changed outlasts a crash,
+    /// whatever was given up: one that follows leaves the state after, or that with one request more. The turns that the crowd
+    /// gives are taken, each by its own connection and in their order, and no other is; and each tells one moment at most.
     pub fn serve_crowd<R: Read, W: Write, G: Crowd<R, W>, C: Clock>(
         &mut self,
         crowd: &mut G,

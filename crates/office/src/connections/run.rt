@@ -15,7 +15,8 @@ impl<K: Keeper> Office<K> {
     /// by a read or a write that failed. A run in which messages are answered with refusal 40 is one without
     /// these messages, too: the others are answered as they are there, and the state after is the same.
     ///
-    /// Of a keeper that was open, and where no connection gave up, what is kept is that one state and no other.
+    /// Of a keeper that was open, and where no connection gave up, what is kept is that one state and no other. What was changed
+    /// outlasts a crash, whatever was given up: one that follows leaves the state after, or that with one request more.
     ///
     /// Over a run an upload acts once. Where one got a receipt, whether its answer was written or lost, a further upload of
     /// its bytes to its place, for which rules 7 to 26 hold and which is not answered with 40, gets the same receipt and

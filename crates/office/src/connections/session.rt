@@ -78,8 +78,8 @@ impl<K: Keeper> Office<K> {
     /// which moments were told, what was written, how it ended, what the keeper counted and the state after it are
     /// those of a session of the machine. Its end tells the fault of the reader or the writer, where one was counted.
     /// A keeper that was open is open, unless the session gave up. A body comes to the keeper in pieces, and is kept whole or
-    /// not at all: where nothing was staged before, nothing is after, unless the keeper counted a fault. Where nothing was given
-    /// up, what was changed outlasts a crash: whatever one leaves that follows is the state after.
+    /// not at all: where nothing was staged before, nothing is after, unless the keeper counted a fault. What was changed outlasts
+    /// a crash: whatever one leaves that follows is the state after; or, where something was given up, that with one request more.
     pub fn session<R: Read, W: Write, C: Clock>(
         &mut self,
         reader: &mut Counted<R>,

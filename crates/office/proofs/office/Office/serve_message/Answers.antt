@@ -7,7 +7,7 @@ returns-clause-handled g c s r kept foresees other head staged =
     let after = c.answer_whole-answer.ensures in
     handled_at g.C.Clock.now_gives c.args.clock.now c.now-now.new.self (g.W.Write.contents c.args.writer.now.inner) (g.W.Write.contents c.send_answer.new.writer.inner)
     g.K.Keeper c.args.self.now.keeper c.answer_whole-answer.new.self.keeper s r c.now-now.result c.answer_whole-answer.result c.send_answer.result
-    c.now-now.ensures (λ again. record { means = after.again again s kept.means; sound = kept.sound }) after.rest kept.is_honest (λ again. after.readable again r (read_of s r c.args.foreseen foresees other))
+    c.now-now.ensures (λ again. record { means = after.again again s kept.means; sound = kept.sound }) (after.crash s r kept foresees staged) after.rest kept.is_honest (λ again. after.readable again r (read_of s r c.args.foreseen foresees other))
     (after.answers s r kept foresees head staged) c.send_answer.ensures.sent
 
 pub returns-clause-rest : goal.returns-clause-rest
