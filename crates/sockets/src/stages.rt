@@ -82,17 +82,17 @@ impl<R: time::Clock, L: Listener> Book<'_, R, L> {
     pub(crate) fn step(&mut self, slots: &[Option<Held<L::End>>]) -> Step<L> {
         self.reads = MOST_READS;
         match self.stage {
-            Stage::Turns => self.step_turns(),
+            Stage::Turns => self.step_turns(slots),
             Stage::Events(at) => self.step_events(slots, at),
             Stage::Behind(at) => self.step_behind(slots, at),
             Stage::Look(at) => self.step_look(slots, at),
-            Stage::Accept(left) => self.step_accept(left),
+            Stage::Accept(left) => self.step_accept(slots, left),
             Stage::Rooms => self.step_rooms(slots),
         }
     }
 
     // The next turn of the round. Behind the last one it is waited for what the sockets tell.
-    fn step_turns(&mut self) -> Step<L> {
+    fn step_turns(&mut self, slots: &[Option<Held<L::End>>]) -> Step<L> {
         if let Some(index) = self.rounds.pop() {
             return self.turn(index);
         }
@@ -100,8 +100,7 @@ impl<R: time::Clock, L: Listener> Book<'_, R, L> {
             return Step::Over;
         }
         self.wait();
-        self.stage = Stage::Events(0);
-        Step::Go(None)
+        self.step_events(slots, 0)
     }
 
     // The turn of a slot, if it is due still.
@@ -132,7 +131,7 @@ impl<R: time::Clock, L: Listener> Book<'_, R, L> {
     // One of the events that the last wait told.
     fn step_events(&mut self, slots: &[Option<Held<L::End>>], at: usize) -> Step<L> {
         let Some(event) = self.told(at) else {
-            self.stage = Stage::Behind(0);
+            self.stage = self.behind_or_not();
             return Step::Go(None);
         };
         self.stage = Stage::Events(at.saturating_add(1));
@@ -171,9 +170,17 @@ impl<R: time::Clock, L: Listener> Book<'_, R, L> {
         }
     }
 
+    // The stage behind the events: connections that were left, if there are any.
+    fn behind_or_not(&mut self) -> Stage {
+        if self.is_behind {
+            return Stage::Behind(0);
+        }
+        self.look_or_not()
+    }
+
     // A connection that may have been left to be read on.
     fn step_behind(&mut self, slots: &[Option<Held<L::End>>], at: usize) -> Step<L> {
-        if at == 0 && !self.is_behind || at >= self.peers.len() {
+        if at >= self.peers.len() {
             self.stage = self.look_or_not();
             return Step::Go(None);
         }
@@ -189,16 +196,24 @@ impl<R: time::Clock, L: Listener> Book<'_, R, L> {
     fn look_or_not(&mut self) -> Stage {
         self.door.look(self.now);
         if self.now.duration_since(self.looked) < Duration::from_millis(LOOK_MILLIS) {
-            return Stage::Accept(MOST_ACCEPTS);
+            return self.accept_or_not();
         }
         self.looked = self.now;
         Stage::Look(0)
     }
 
+    // The stage behind a look: connections that come, if any may.
+    fn accept_or_not(&self) -> Stage {
+        if self.may_accept() {
+            return Stage::Accept(MOST_ACCEPTS);
+        }
+        Stage::Rooms
+    }
+
     // A connection that may be over its bound.
     fn step_look(&mut self, slots: &[Option<Held<L::End>>], at: usize) -> Step<L> {
         if at >= self.peers.len() {
-            self.stage = Stage::Accept(MOST_ACCEPTS);
+            self.stage = self.accept_or_not();
             return Step::Go(None);
         }
         self.stage = Stage::Look(at.saturating_add(1));
@@ -207,7 +222,7 @@ impl<R: time::Clock, L: Listener> Book<'_, R, L> {
     }
 
     // A connection that may come. One that came, and whose message was there, has its turn before.
-    fn step_accept(&mut self, left: usize) -> Step<L> {
+    fn step_accept(&mut self, slots: &[Option<Held<L::End>>], left: usize) -> Step<L> {
         if let Some(index) = self.rounds.pop() {
             return self.turn(index);
         }
@@ -217,15 +232,13 @@ impl<R: time::Clock, L: Listener> Book<'_, R, L> {
         };
         match self.accept() {
             Some(step) => step,
-            None => {
-                self.stage = Stage::Rooms;
-                Step::Go(None)
-            }
+            None => self.step_rooms(slots),
         }
     }
 
     // Room for one that waits for it; or what is cut off for others. Behind the last one the next round begins.
     fn step_rooms(&mut self, slots: &[Option<Held<L::End>>]) -> Step<L> {
+        self.stage = Stage::Rooms;
         if self.is_laden {
             self.is_laden = false;
             if let Some(index) = self.too_slow(slots) {
@@ -237,22 +250,23 @@ impl<R: time::Clock, L: Listener> Book<'_, R, L> {
         let Some((index, len)) = self.rooms.serve(self.now) else {
             self.rounds.begin();
             self.stage = Stage::Turns;
-            return self.make_room(slots);
+            return match self.make_room(slots) {
+                Some(task) => Step::Go(Some(task)),
+                None => self.step_turns(slots),
+            };
         };
         let deed = self.begin_large(slots, index, len);
         self.go(index, deed)
     }
 
     // Where one waits for room, a body that comes too slowly gives up its own.
-    fn make_room(&mut self, slots: &[Option<Held<L::End>>]) -> Step<L> {
+    fn make_room(&mut self, slots: &[Option<Held<L::End>>]) -> Option<Task> {
         if !self.rooms.is_short() {
-            return Step::Go(None);
+            return None;
         }
-        let Some(index) = self.slowest_body() else {
-            return Step::Go(None);
-        };
-        let deed = self.give_up(slots, index, ErrorKind::TimedOut);
-        self.go(index, deed)
+        let index = self.slowest_body()?;
+        let deed = self.give_up(slots, index, ErrorKind::TimedOut)?;
+        Some(Task { index, deed })
     }
 
     // How long a wait may last.
