@@ -1,11 +1,9 @@
-use Rattle.std.proofs.Common.{◌≡◌, ◌∙◌, List, ℕ, ap, arith, rules, subst, sym}
+use Rattle.std.proofs.Common.{◌∙◌, ap, rules, subst, sym}
 use Rattle.sigtext.specs.Request.{Request}
 use Rattle.wire.specs.Messages.{request_in}
-use Rattle.office.specs.Alike.{AreAlike}
 use Rattle.office.specs.Announcing.{request_with}
 use Rattle.office.specs.Answering.{is_head}
-use Rattle.office.specs.Foreseeing.{AreStaged, Foresees, IsUpload}
-use Rattle.office.specs.Premise.{WasKept}
+use Rattle.office.specs.Foreseeing.{Foresees}
 use Rattle.office.specs.Readable.{IsReadable}
 use Rattle.office.proofs.Alikeness.{the_answer}
 use Rattle.office.proofs.Endurance.{then_adds, then_answered, then_asked}

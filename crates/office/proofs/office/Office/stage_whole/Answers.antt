@@ -1,4 +1,4 @@
-use Rattle.std.proofs.Common.{◌≡◌, ◌<◌, ◌-◌, ◌++◌, [], List, ℕ, take, drop, length, arith, ap, refl, rules, subst, sym, ◌∙◌}
+use Rattle.std.proofs.Common.{◌≡◌, ◌<◌, ◌-◌, ◌++◌, [], List, ℕ, take, length, ap, refl, rules, subst, sym, ◌∙◌}
 use Rattle.std.proofs.lemmas.List.{append-nil, append_assoc, take-append-drop, nil_from_length}
 use Rattle.office.proofs.Endurance.{asked_standing, then_adds}
 use Rattle.office.proofs.Foreseen.{failed_is, whatever_err}
