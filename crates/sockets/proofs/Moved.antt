@@ -1,11 +1,14 @@
 -- What went on in the slots, one thing after another.
-use Rattle.std.proofs.Common.{◌≡◌, ◌++◌, ℕ, true, false, List, [], ◌∷◌, Option, None, Some, length, sym, subst, arith, tt}
+use Rattle.std.proofs.Common.{◌≡◌, ◌∙◌, ◌++◌, ℕ, true, false, List, [], ◌∷◌, Option, None, Some, length, ap, sym, subst, arith}
 use Rattle.std.specs.Prelude.{is_some}
 use Rattle.std.specs.List.{AllByRecursion}
 use Rattle.std.proofs.lemmas.List.{length-append}
 use Rattle.office.specs.Crowds.{Changes, same, those_of}
 use Rattle.office.specs.declared.connections.seat.Seat.{Seat}
 use Rattle.office.proofs.Changing.{changes_then}
+use Rattle.wire.specs.Feeds.{ahead_of}
+use Rattle.wire.specs.Gathering.{ahead_in}
+use Rattle.wire.specs.Outgoing.{waits_out}
 use Rattle.wire.specs.declared.gathered.Gathered.{Gathered}
 use Rattle.wire.specs.declared.outbox.Outbox.{Outbox}
 use Rattle.sockets.specs.Accepting.{IsAccepted}
@@ -26,7 +29,7 @@ module _ {X : Type 0} where
   those_none (Some x) is = absurd cc
 
 module _ {E : Type 0} (accepted : E → E → Type 0) (remaining : Gathered E → Option (List ℕ)) (contents : Outbox E → Option (List ℕ)) where
-  Held : Type 0
+  abbrev pub Held : Type 0
   Held = Seat (Gathered E) (Outbox E)
 
   pub moves_none : (t : Tally) (a : List (Option Held)) → Moves accepted remaining contents t t a a
@@ -62,3 +65,15 @@ module _ {E : Type 0} (accepted : E → E → Type 0) (remaining : Gathered E �
     (omega (arith, x.2, met.0, length-append came x.0), omega (arith, x.3, met.1, length-append gone x.1), all_joined (IsAccepted accepted) came x.0 met.2 x.4),
     x.5,
   )
+
+-- a new connection is as it was accepted
+pub new_accepted : {E : Type 0} (accepted : E → E → Type 0) (seat : Seat (Gathered E) (Outbox E)) (one other : E) (reader : Gathered E) (writer : Outbox E) → accepted one other
+    → seat.reader.inner ≡ reader → reader.inner ≡ one → ahead_in reader ≡ [] → seat.writer.inner ≡ writer → writer.inner ≡ other → waits_out writer ≡ [] → ahead_of seat.standing ≡ []
+    → IsAccepted accepted seat
+new_accepted {E} accepted seat one other reader writer ends is_reader is_one unread is_writer is_other unsent untaken = record {
+  ends = subst (λ e. accepted e seat.writer.inner.inner) (sym (ap (λ (r : Gathered E). r.inner) is_reader ∙ is_one))
+      (subst (accepted one) (sym (ap (λ (w : Outbox E). w.inner) is_writer ∙ is_other)) ends);
+  untaken = untaken;
+  unread = ap ahead_in is_reader ∙ unread;
+  unsent = ap waits_out is_writer ∙ unsent;
+}

@@ -1,7 +1,7 @@
 //! Connections that were accepted, and stand in no slot yet.
 ghost use Rattle.sockets.specs.Accepted.{AreAccepted};
 
-use crate::socket::Listener;
+use crate::socket::{Listener, Unready};
 use std::alloc::Global;
 use std::io;
 
@@ -9,7 +9,7 @@ use std::io;
 #[derive(Drop)]
 pub(crate) struct Guest<L: Listener> {
     stream: L::Stream,
-    ghost brought: { L.brings stream },
+    ghost brought: { ∥ L.brings stream ∥₁ },
 }
 
 /// Both ends of an accepted connection. Nothing was read from the one, and nothing written to the other.
@@ -38,10 +38,13 @@ impl<L: Listener> Guest<L> {
     pub(crate) fn open(self, alloc: Global) -> Result<Ends<L>, PutOff<L>> {
         match L::ends(alloc, self.stream) {
             Ok((reader, writer)) => Ok(Ends { reader, writer }),
-            Err(unready) => Err(PutOff {
-                guest: unready.stream.map(|stream| Guest { stream }),
-                error: unready.error,
-            }),
+            Err(Unready { stream, error }) => {
+                let guest = match stream {
+                    Some(stream) => Some(Guest { stream }),
+                    None => None,
+                };
+                Err(PutOff { guest, error })
+            }
         }
     }
 }

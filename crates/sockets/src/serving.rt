@@ -127,5 +127,11 @@ fn are_free<S>(slots: &[Option<Held<S>>]) -> bool
     ensures told { result ≡ true → (p : ℕ) → slot_at slots.now p ≡ None }
     ensures all { ((p : ℕ) → slot_at slots.now p ≡ None) → result ≡ true }
 {
-    slots.iter().all(|slot| slot.is_none())
+    'slots: for index in 0..slots.len() {
+        match &slots[index] {
+            Some(_) => return false,
+            None => {}
+        }
+    }
+    true
 }

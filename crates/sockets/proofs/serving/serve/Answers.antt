@@ -1,4 +1,4 @@
-use Rattle.std.proofs.Common.{[], zero, tt, ◌∙◌, sym}
+use Rattle.std.proofs.Common.{[], zero, ◌∙◌, sym}
 use Rattle.sockets.proofs.serving.serve.Goals as goal
 
 pub returns-clause-serves : goal.returns-clause-serves

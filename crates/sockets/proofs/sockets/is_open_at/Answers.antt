@@ -5,7 +5,7 @@ use Rattle.office.proofs.SeatTurns.{none_of}
 use Rattle.sockets.proofs.sockets.is_open_at.Goals as goal
 
 pub returns-in-Some : goal.returns-in-Some
-returns-in-Some c is =
+returns-in-Some g c is =
     let within : c.args.index < length c.args.slots.now = omega (arith, c.if-index-slots.false) in (
       within,
       c.in-Some.seat,

@@ -1,4 +1,4 @@
-use Rattle.std.proofs.Common.{[], ◌∙◌, ap, sym, arith, tt}
+use Rattle.std.proofs.Common.{[], ◌∙◌, ap, sym, arith}
 use Rattle.office.specs.Crowds.{those_of}
 use Rattle.sockets.specs.declared.tally.Tally.{Tally}
 use Rattle.sockets.proofs.Moved.{moves_none, those_none, those_some}
@@ -6,10 +6,10 @@ use Rattle.sockets.proofs.tally.Tally.free.Goals as goal
 use Rattle.sockets.proofs.tally.Tally.free.Goals.{then-is_some, else-is_some}
 
 pub returns-in_default : goal.returns-in_default
-returns-in_default c = record { moves = moves_none _ _ _ c.args.self.now c.args.slots.now }
+returns-in_default g c = record { moves = moves_none _ _ _ c.args.self.now c.args.slots.now }
 
 pub returns : goal.returns
-returns c =
+returns g c =
     elim c.if-is_some.branch [
       | then-is_some w ↦
           let one = those_some c.free_slot.result (sym c.is_some.ensures ∙ w.if-is_some.true) in

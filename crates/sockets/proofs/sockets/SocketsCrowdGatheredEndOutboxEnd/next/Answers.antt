@@ -1,6 +1,6 @@
-use Rattle.std.proofs.Common.{◌∙◌, refl, tt}
+use Rattle.std.proofs.Common.{◌∙◌, refl}
 use Rattle.sockets.proofs.Moved.{moves_met, moves_none, moves_then}
-use Rattle.sockets.proofs.sockets.SocketsCrowdGatheredStreamOutboxStream.next.Goals as goal
+use Rattle.sockets.proofs.sockets.SocketsCrowdGatheredEndOutboxEnd.next.Goals as goal
 
 pub steps-init : goal.steps-init
 steps-init g c = (moves_none _ _ _ c.args.self.now.tally c.args.slots.now, refl)
@@ -20,3 +20,7 @@ steps-preserved g c = (
   moves_then _ _ _ c.args.self.now.tally c.steps.self.tally c.go.new.self.tally c.args.slots.now c.steps.slots c.go.new.slots c.steps.invariant.0 c.go.ensures.moves,
   c.go.ensures.turns ∙ c.steps.invariant.1,
 )
+
+pub returns-clause-changes : goal.returns-clause-changes
+returns-clause-changes g c came gone met =
+    let x = moves_met _ _ _ c.args.self.now.tally c.steps.self.tally c.args.slots.now c.steps.slots c.steps.invariant.0 came gone met in (x.0, x.1, x.2, x.3, λ numbers given gave. tt)
