@@ -2,7 +2,7 @@
 use Rattle.std.specs.Prelude.{◌≡◌, ◌↔◌, ℕ, List, [], ◌++◌, IsSome, OnOk, Option, Result}
 use Rattle.std.specs.Io.KnownBytes.{Appends}
 use Rattle.wire.specs.Feeds.{ahead_of}
-use Rattle.wire.specs.Gathering.{HasFailed, HasRoomFor, ahead_in}
+use Rattle.wire.specs.Gathering.{HasFailed, HasRoomFor, KeepsFault, ahead_in}
 use Rattle.wire.specs.Gathering as gathering
 use Rattle.wire.specs.Outgoing.{NoneFailed, WriteFailed, waits_out}
 use Rattle.wire.specs.declared.gathered.Gathered.{Gathered}
@@ -16,18 +16,21 @@ use Rattle.office.specs.declared.connections.seat.Seat.{Seat}
 abbrev pub ReadsAhead : {S W E : Type 0} → (S → Option (List ℕ)) → Seat (Gathered S) W → Seat (Gathered S) W → Result Gathering E → Type 0
 ReadsAhead remaining a b result = (b.standing ≡ a.standing) × gathering.Gathers remaining a.reader.inner b.reader.inner result
 
--- what its feed read and did not take was put back, if a buffer is handed over, and no byte of it is lost
+-- What its feed read and did not take was put back, if a buffer is handed over, and no byte of it is lost. Its fault stays.
 abbrev pub PutsBack : {S W T : Type 0} → Seat (Gathered S) W → Seat (Gathered S) W → Option T → Type 0
 PutsBack a b result =
-    (ahead_of b.standing ++ ahead_in b.reader.inner ≡ ahead_of a.standing ++ ahead_in a.reader.inner) × (IsSome result → ahead_of b.standing ≡ [])
+    (ahead_of b.standing ++ ahead_in b.reader.inner ≡ ahead_of a.standing ++ ahead_in a.reader.inner) × (IsSome result → ahead_of b.standing ≡ []) × KeepsFault a.reader.inner b.reader.inner
 
--- there is room for n bytes more, and its feed stands as it stood
+-- there is room for n bytes more, and its feed and its fault stand as they stood
 abbrev pub MakesRoom : {S W T E : Type 0} → ℕ → Seat (Gathered S) W → Seat (Gathered S) W → Result T E → Type 0
-MakesRoom n a b result = (b.standing ≡ a.standing) × (ahead_in b.reader.inner ≡ ahead_in a.reader.inner) × OnOk result (HasRoomFor n b.reader.inner)
+MakesRoom n a b result =
+    (b.standing ≡ a.standing) × (ahead_in b.reader.inner ≡ ahead_in a.reader.inner) × OnOk result (HasRoomFor n b.reader.inner) × KeepsFault a.reader.inner b.reader.inner
 
--- its reads fail behind the bytes that are ahead, and its feed stands as it stood
+-- its reads fail behind the bytes that are ahead, as they failed before if they did, and its feed stands as it stood
 abbrev pub Fails : {S W : Type 0} → Seat (Gathered S) W → Seat (Gathered S) W → Type 0
-Fails a b = (b.standing ≡ a.standing) × (ahead_in b.reader.inner ≡ ahead_in a.reader.inner) × HasFailed b.reader.inner
+Fails a b =
+    (b.standing ≡ a.standing) × (ahead_in b.reader.inner ≡ ahead_in a.reader.inner) × HasFailed b.reader.inner
+    × (HasFailed a.reader.inner → KeepsFault a.reader.inner b.reader.inner)
 
 -- the first of the bytes that wait were sent, and it is told whether some wait still, or a write failed
 pub record SendsOn {R S : Type 0} (contents : S → Option (List ℕ)) (a b : Seat R (Outbox S)) (result : Sending) : Type 0 where

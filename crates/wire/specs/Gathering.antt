@@ -13,15 +13,21 @@ ahead_in g = drop g.start g.bytes.items
 abbrev pub HasFailed : {S : Type 0} → Gathered S → Type 0
 HasFailed g = IsSome g.fault
 
+-- the fault that is kept stays, or there is none still
+abbrev pub KeepsFault : {S : Type 0} → Gathered S → Gathered S → Type 0
+KeepsFault old new = new.fault ≡ old.fault
+
 -- n bytes more fit behind those that are ahead with no more memory
 abbrev pub HasRoomFor : {S : Type 0} → ℕ → Gathered S → Type 0
 HasRoomFor n g = length (ahead_in g) + n ≤ vec_capacity g.bytes
 
--- What one read ahead told. remaining: what a reader has left.
+-- What one read ahead told. remaining: what a reader has left. A fault comes where a read failed alone, and the first one stays.
 abbrev pub Gathers : {S E : Type 0} → (S → Option (List ℕ)) → Gathered S → Gathered S → Result Gathering E → Type 0
 Gathers remaining old new (Ok gathering.Came) =
-    (bytes : List ℕ) × (bytes ≢ []) × (ahead_in new ≡ ahead_in old ++ bytes) × Consumes (remaining old.inner) (remaining new.inner) bytes
-Gathers remaining old new (Ok gathering.Ended) = (ahead_in new ≡ ahead_in old) × Keeps (remaining old.inner) (remaining new.inner) × IsAtEnd (remaining new.inner)
-Gathers remaining old new (Ok gathering.Waits) = (ahead_in new ≡ ahead_in old) × Keeps (remaining old.inner) (remaining new.inner)
-Gathers remaining old new (Ok gathering.Failed) = (ahead_in new ≡ ahead_in old) × Keeps (remaining old.inner) (remaining new.inner) × HasFailed new
-Gathers remaining old new (Err e) = (ahead_in new ≡ ahead_in old) × (new.inner ≡ old.inner)
+    (bytes : List ℕ) × (bytes ≢ []) × (ahead_in new ≡ ahead_in old ++ bytes) × Consumes (remaining old.inner) (remaining new.inner) bytes × KeepsFault old new
+Gathers remaining old new (Ok gathering.Ended) =
+    (ahead_in new ≡ ahead_in old) × Keeps (remaining old.inner) (remaining new.inner) × IsAtEnd (remaining new.inner) × KeepsFault old new
+Gathers remaining old new (Ok gathering.Waits) = (ahead_in new ≡ ahead_in old) × Keeps (remaining old.inner) (remaining new.inner) × KeepsFault old new
+Gathers remaining old new (Ok gathering.Failed) =
+    (ahead_in new ≡ ahead_in old) × Keeps (remaining old.inner) (remaining new.inner) × HasFailed new × (HasFailed old → KeepsFault old new)
+Gathers remaining old new (Err e) = (ahead_in new ≡ ahead_in old) × (new.inner ≡ old.inner) × KeepsFault old new

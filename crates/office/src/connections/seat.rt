@@ -70,7 +70,7 @@ impl<R, W> Seat<R, W> {
 
 impl<S: Read, W> Seat<Gathered<S>, W> {
     ghost use Rattle.std.specs.Prelude.{◌++◌, IsSome, OnOk};
-    ghost use Rattle.wire.specs.Gathering.{Gathers as ReadsAhead, HasFailed, HasRoomFor, ahead_in};
+    ghost use Rattle.wire.specs.Gathering.{Gathers as ReadsAhead, HasFailed, HasRoomFor, KeepsFault, ahead_in};
     ghost use Rattle.wire.specs.Feeds.{ahead_of};
     ghost use Rattle.office.specs.Seats.{Gathers};
 
@@ -89,6 +89,7 @@ impl<S: Read, W> Seat<Gathered<S>, W> {
         ensures standing { self.new.standing ≡ self.old.standing }
         ensures ahead { ahead_in self.new.reader.inner ≡ ahead_in self.old.reader.inner }
         ensures room { OnOk result (HasRoomFor n self.new.reader.inner) }
+        ensures fault { KeepsFault self.old.reader.inner self.new.reader.inner }
     {
         self.reader.inner.make_room(n)
     }
@@ -99,6 +100,8 @@ impl<S: Read, W> Seat<Gathered<S>, W> {
         ensures standing { self.new.standing ≡ self.old.standing }
         ensures ahead { ahead_in self.new.reader.inner ≡ ahead_in self.old.reader.inner }
         ensures failed { HasFailed self.new.reader.inner }
+        ensures first { HasFailed self.old.reader.inner
+            → KeepsFault self.old.reader.inner self.new.reader.inner }
     {
         self.reader.inner.fail(error);
     }
@@ -110,6 +113,7 @@ impl<S: Read, W> Seat<Gathered<S>, W> {
         ensures kept { ahead_of self.new.standing ++ ahead_in self.new.reader.inner
             ≡ ahead_of self.old.standing ++ ahead_in self.old.reader.inner }
         ensures back { IsSome result → ahead_of self.new.standing ≡ [] }
+        ensures fault { KeepsFault self.old.reader.inner self.new.reader.inner }
     {
         let room = self.standing.give_back(&mut self.reader.inner);
         self.reader.inner.let_go();

@@ -6,7 +6,7 @@ use Rattle.office.proofs.connections.slots.settle_slot.Goals.{in_default-via-in-
 pub returns-in-Some-clause-done : goal.returns-in-Some-clause-done
 returns-in-Some-clause-done g c =
     done_there _ _ _ c.args.slots.now c.args.index c.index-slots-index.result c.requires c.in-Some.seat c.in-Some.is c.end.result c.end.ensures c.if-is_none.ensures c.give_back.new.self
-    c.give_back.ensures.gathers (c.give_back.ensures.kept, c.give_back.ensures.back)
+    c.give_back.ensures.gathers (c.give_back.ensures.kept, c.give_back.ensures.back, c.give_back.ensures.fault)
 
 pub returns-in-Some-clause-changes : goal.returns-in-Some-clause-changes
 returns-in-Some-clause-changes g c = by_done _ _ _ _ _ _ c.args.index c.requires (returns-in-Some-clause-done g c)
