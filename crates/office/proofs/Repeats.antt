@@ -1,5 +1,6 @@
 -- Over a whole run an upload acts once.
 use Rattle.std.proofs.Common.{◌≡◌, ◌∙◌, ℕ, suc, ◌+◌, Bool, List, [], ◌∷◌, ◌++◌, codes, length, refl, sym, ap, subst, append_assoc}
+use Rattle.std.specs.Prelude.{⊤}
 use Rattle.std.specs.List.{AllByRecursion}
 use Rattle.hex.specs.Hex.{encode_lower}
 use Rattle.sigv4.specs.Hmac.{sha256}
@@ -21,7 +22,7 @@ use Rattle.office.specs.Answering.{AcceptsRequest, put, fetch, post, Replies, re
 use Rattle.office.specs.Repeats.{Act, Acts, text_of, AreSessionActs, AreActs, IsUploadOf, GotReceipt, DropsFile, LeavesFile, RepeatsOnce, ActsOnce}
 use Rattle.office.specs.Repeats as act
 use Rattle.office.specs.Rules.{IsPut, Asks, Rule, place_of, upload_of}
-use Rattle.office.specs.Sessions.{Session, Connection, Run, most_messages}
+use Rattle.office.specs.Sessions.{EndsAtOnce, Session, Connection, Run, most_messages}
 use Rattle.office.specs.Sessions as session
 use Rattle.office.specs.declared.connections.session.SessionEnd.{SessionEnd}
 use Rattle.office.proofs.Deciding.{holds_put, put_no_post, fetch_no_put}
@@ -182,6 +183,19 @@ session_acts _ _ _ _ _ _ _ _ (session.write_failed_giving_up_at n stream rest s 
     record { acts = []; are = act.given_up n stream rest s r now _ _ next readable begins; by_rules = refl }
 session_acts _ _ _ _ _ _ _ _ (session.write_failed_giving_up_reading n stream s front may begins) =
     over _ stream s _ _ _ (session.write_failed_giving_up_reading n stream s front may begins)
+
+-- none of them is one whose answer is written whole
+abbrev pub NoneAnswered : {n : ℕ} {stream : List ℕ} {s : State} {moments out : List ℕ} {e : SessionEnd} {gave_up : Bool} {acts : List Act} {after : State}
+    → AreSessionActs n stream s moments out e gave_up acts after → Type 0
+NoneAnswered (act.answered n stream rest s after a acts moments out e gave_up next is more) = ⊥
+NoneAnswered _ = ⊤
+
+-- so it is of a session whose first step ends it
+pub none_answered : (n : ℕ) (stream : List ℕ) (s : State) (moments out : List ℕ) (e : SessionEnd) (gave_up : Bool) (after : State)
+    → (x : Session n stream s moments out e gave_up after) → EndsAtOnce x → NoneAnswered (session_acts n stream s moments out e gave_up after x).are
+unfolding session_acts over
+none_answered _ _ _ _ _ _ _ _ (session.served n stream rest s mid after r now moments text out e gave_up next answers more) once = absurd once
+none_answered _ _ _ _ _ _ _ _ _ once = tt
 
 -- ---- the acts of a run
 

@@ -8,8 +8,8 @@ use Rattle.office.specs.Repeats.{Act, Acts, AreSessionActs, text_of}
 use Rattle.office.specs.Repeats as act
 use Rattle.office.specs.Sessions.{Connection, Run, most_messages}
 use Rattle.office.specs.declared.connections.session.SessionEnd.{SessionEnd}
-use Rattle.office.proofs.Repeats.{session_acts}
-use Rattle.office.specs.Interleaved.{Turn, acts_in, moments_in, own_acts, own_moments, Thread, thread_of, Speaks, AreSpoken, AreTied, Interleaved}
+use Rattle.office.proofs.Repeats.{NoneAnswered, session_acts}
+use Rattle.office.specs.Interleaved.{Turn, acts_in, moments_in, own_acts, own_moments, Thread, thread_of, Speaks, AnswersNone, AreSpoken, AreTied, Interleaved}
 use Rattle.office.specs.Interleaved as said
 
 -- the acts of a session are spoken
@@ -20,6 +20,15 @@ speaks_of _ _ _ _ _ _ _ _ _ (act.given_up n stream rest s r now out e next reada
 speaks_of _ _ _ _ _ _ _ _ _ (act.answered n stream rest s after a acts moments out e gave_up next is more) =
     said.answered n stream rest a acts moments out (Some e) gave_up next (speaks_of n rest a.after moments out e gave_up acts after more)
 speaks_of _ _ _ _ _ _ _ _ _ (act.lost n stream rest s a front next is begins) = said.lost n stream rest a front next begins
+
+-- so is it where none of them is answered whole
+pub none_whole : (n : ℕ) (stream : List ℕ) (s : State) (moments out : List ℕ) (e : SessionEnd) (gave_up : Bool) (acts : List Act) (after : State)
+    → (x : AreSessionActs n stream s moments out e gave_up acts after) → NoneAnswered x → AnswersNone (speaks_of n stream s moments out e gave_up acts after x)
+unfolding speaks_of
+none_whole _ _ _ _ _ _ _ _ _ (act.over n stream s out e gave_up h) none = tt
+none_whole _ _ _ _ _ _ _ _ _ (act.given_up n stream rest s r now out e next readable last) none = tt
+none_whole _ _ _ _ _ _ _ _ _ (act.answered n stream rest s after a acts moments out e gave_up next is more) none = absurd none
+none_whole _ _ _ _ _ _ _ _ _ (act.lost n stream rest s a front next is begins) none = tt
 
 -- what was done was done at the moments that were told
 pub tied_of : (n : ℕ) (stream : List ℕ) (acts : List Act) (moments out : List ℕ) (e : Option SessionEnd) (gave_up : Bool) → Speaks n stream acts moments out e gave_up → AreTied moments acts

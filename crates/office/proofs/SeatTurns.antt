@@ -16,7 +16,7 @@ use Rattle.wire.specs.declared.standing.Standing.{Standing}
 use Rattle.office.specs.Begins.{may_begin}
 use Rattle.office.specs.Connections.{TellsMoments}
 use Rattle.office.specs.Crashes.{Survives}
-use Rattle.office.specs.Interleaved.{Interleaved, Thread, Turn, acts_in}
+use Rattle.office.specs.Interleaved.{Interleaved, SpeakInTurns, Thread, Turn, acts_in}
 use Rattle.office.specs.Premise.{IsLeft}
 use Rattle.office.specs.Repeats.{RepeatsOnce}
 use Rattle.office.specs.Seats.{AreThreads, Gathers, HaveTurns, LastsOver, Sends, IsNew, IsStreamOf, StaysSo, TakesTurn, TellsOneMoment, TellsTurn, TellsTurnOf, had_ended, went_on, ended, left_of, turns_of}
@@ -347,6 +347,7 @@ module _ {R W : Type 0} (remaining : R → Option (List ℕ)) (contents : W → 
     pub all : length run.turns ≡ sum_by turns_of ns
     pub each_counted : HaveTurns run.turns 0 ns
     pub one_moment : AllByRecursion TellsOneMoment run.turns
+    pub by_turns : SpeakInTurns run.turns 0 threads
     pub repeats : RepeatsOnce (acts_in run.turns)
     pub stays : StaysSo k threads keeper keeper' after
     pub lasts : LastsOver k threads keeper keeper' s after
@@ -367,6 +368,7 @@ module _ {R W : Type 0} (remaining : R → Option (List ℕ)) (contents : W → 
           all = w.counts.all ∙ sums_alike fs ns t.sittings t.are;
           each_counted = have_turns w.run.turns 0 fs ns t.sittings t.are w.counts.each;
           one_moment = w.counts.one_moment;
+          by_turns = w.by_turns;
           repeats = repeats_once s (acts_in w.run.turns) mid w.run.order;
           stays = record {
             counted = λ none. (t.so_far.held (none_gave_up t.sittings w.threads w.are none)).0;

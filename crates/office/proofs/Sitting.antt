@@ -5,7 +5,7 @@ use Rattle.std.specs.Io.KnownBytes.{Appends, Consumes, Keeps}
 use Rattle.keeper.specs.declared.keep.Keeper.{Ghosts}
 use Rattle.boxes.specs.State.{State}
 use Rattle.office.specs.Connections.{IsKnown, IsStream}
-use Rattle.office.specs.Interleaved.{Speaks}
+use Rattle.office.specs.Interleaved.{AnswersNone, Speaks, SpeaksInTurns, Turn}
 use Rattle.office.specs.Interleaved as said
 use Rattle.office.specs.Repeats.{Act, text_of}
 use Rattle.office.specs.Sessions.{most_messages}
@@ -25,33 +25,32 @@ pub record Sitting : Type 0 where
   pub end : Option SessionEnd
   pub gave_up : Bool
 
--- What holds of one that is open: so much was taken and written, for these acts at these moments; and whatever follows makes the
--- whole.
-pub record Heard (x : Sitting) (acts : List Act) (moments : List ℕ) : Type 0 where
+-- What holds of one that is open: so much was taken and written in these turns of it; and whatever turns follow make the whole.
+pub record Heard (x : Sitting) (turns : List Turn) : Type 0 where
   pub front : List ℕ
   pub text : List ℕ
   pub taken : Consumes x.input x.left front
   pub written_to : Appends x.output x.written text
   pub few : x.served ≤ most_messages
   pub marked : x.gave_up ≡ false
-  pub follows : (n m : ℕ) (stream : List ℕ) (more : List Act) (later out : List ℕ) (e : Option SessionEnd) (gave_up : Bool) → n + x.served ≡ m
-      → Speaks n stream more later out e gave_up → Speaks m (front ++ stream) (acts ++ more) (moments ++ later) (text ++ out) e gave_up
+  pub follows : (n m : ℕ) (stream : List ℕ) (later : List Turn) (out : List ℕ) (e : Option SessionEnd) (gave_up : Bool) → n + x.served ≡ m
+      → SpeaksInTurns n stream later out e gave_up → SpeaksInTurns m (front ++ stream) (turns ++ later) (text ++ out) e gave_up
 
 -- the same of one that ended
-pub record Closed (x : Sitting) (e : SessionEnd) (acts : List Act) (moments : List ℕ) : Type 0 where
+pub record Closed (x : Sitting) (e : SessionEnd) (turns : List Turn) : Type 0 where
   pub stream : List ℕ
   pub answers : List ℕ
   pub read : IsStream x.gave_up e x.input x.reader stream
   pub written_to : Appends x.output x.written answers
-  pub speaks : Speaks most_messages stream acts moments answers (Some e) x.gave_up
+  pub speaks : SpeaksInTurns most_messages stream turns answers (Some e) x.gave_up
 
-abbrev pub SitsSo : Option SessionEnd → Sitting → List Act → List ℕ → Type 0
-SitsSo None x acts moments = Heard x acts moments
-SitsSo (Some e) x acts moments = Closed x e acts moments
+abbrev pub SitsSo : Option SessionEnd → Sitting → List Turn → Type 0
+SitsSo None x turns = Heard x turns
+SitsSo (Some e) x turns = Closed x e turns
 
--- since it was so at first, these acts of it were done at these moments
-abbrev pub Sits : Sitting → List Act → List ℕ → Type 0
-Sits x acts moments = SitsSo x.end x acts moments
+-- since it was so at first, it had these turns
+abbrev pub Sits : Sitting → List Turn → Type 0
+Sits x turns = SitsSo x.end x turns
 
 -- ---- known bytes, one part after another
 
@@ -71,19 +70,16 @@ stream_more false WriteFault a b c x y h k = known_more a b x y h k
 
 -- ---- the same lists, written in another way
 
-speaks_by : (n : ℕ) (s s' : List ℕ) (a a' : List Act) (m m' o o' : List ℕ) (e : Option SessionEnd) (g : Bool) → s ≡ s' → a ≡ a' → m ≡ m' → o ≡ o'
-    → Speaks n s a m o e g → Speaks n s' a' m' o' e g
-speaks_by n s s' a a' m m' o o' e g es ea em eo h =
-    subst (λ x. Speaks n x a' m' o' e g) es (subst (λ x. Speaks n s x m' o' e g) ea (subst (λ x. Speaks n s a x o' e g) em (subst (λ x. Speaks n s a m x e g) eo h)))
+speaks_by : (n : ℕ) (s s' : List ℕ) (t t' : List Turn) (o o' : List ℕ) (e : Option SessionEnd) (g : Bool) → s ≡ s' → t ≡ t' → o ≡ o'
+    → SpeaksInTurns n s t o e g → SpeaksInTurns n s' t' o' e g
+speaks_by n s s' t t' o o' e g es et eo h =
+    subst (λ x. SpeaksInTurns n x t' o' e g) es (subst (λ x. SpeaksInTurns n s x o' e g) et (subst (λ x. SpeaksInTurns n s t x e g) eo h))
 
-pub sits_by : (x : Sitting) (a a' : List Act) (m m' : List ℕ) → a ≡ a' → m ≡ m' → Sits x a m → Sits x a' m'
-sits_by x a a' m m' ea em h = subst (λ t. Sits x t m') ea (subst (Sits x a) em h)
+pub open_sits : (x : Sitting) (turns : List Turn) → x.end ≡ None → Sits x turns → Heard x turns
+open_sits x turns is h = subst (λ e. SitsSo e x turns) is h
 
-pub open_sits : (x : Sitting) (acts : List Act) (moments : List ℕ) → x.end ≡ None → Sits x acts moments → Heard x acts moments
-open_sits x acts moments is h = subst (λ e. SitsSo e x acts moments) is h
-
-pub sits_open : (x : Sitting) (acts : List Act) (moments : List ℕ) → x.end ≡ None → Heard x acts moments → Sits x acts moments
-sits_open x acts moments is h = subst (λ e. SitsSo e x acts moments) (sym is) h
+pub sits_open : (x : Sitting) (turns : List Turn) → x.end ≡ None → Heard x turns → Sits x turns
+sits_open x turns is h = subst (λ e. SitsSo e x turns) (sym is) h
 
 -- ---- one that is new
 
@@ -95,15 +91,15 @@ pub record IsFirst (x : Sitting) : Type 0 where
   pub open_still : x.end ≡ None
   pub marked : x.gave_up ≡ false
 
-pub first_sits : (x : Sitting) → IsFirst x → Sits x [] []
-first_sits x is = sits_open x [] [] is.open_still (record {
+pub first_sits : (x : Sitting) → IsFirst x → Sits x []
+first_sits x is = sits_open x [] is.open_still (record {
   front = [];
   text = [];
   taken = subst (λ a. Consumes x.input a []) (sym is.all) (Consumes-nil x.input);
   written_to = subst (λ a. Appends x.output a []) (sym is.unwritten) (Appends-nil x.output);
   few = omega (arith, is.none);
   marked = is.marked;
-  follows = λ n m stream more later out e gave_up sum sp. let same : n ≡ m = omega (arith, sum, is.none) in subst (λ k. Speaks k stream more later out e gave_up) same sp;
+  follows = λ n m stream later out e gave_up sum sp. let same : n ≡ m = omega (arith, sum, is.none) in subst (λ k. SpeaksInTurns k stream later out e gave_up) same sp;
 })
 
 -- ---- bytes of it are sent on
@@ -111,9 +107,8 @@ first_sits x is = sits_open x [] [] is.open_still (record {
 abbrev pub sent_on : Sitting → Option (List ℕ) → Sitting
 sent_on x written = record x { written = written }
 
-sent_so : (x : Sitting) (written : Option (List ℕ)) (acts : List Act) (moments : List ℕ) (e : Option SessionEnd) → Keeps x.written written → SitsSo e x acts moments
-    → SitsSo e (sent_on x written) acts moments
-sent_so x written acts moments None holds h = record {
+sent_so : (x : Sitting) (written : Option (List ℕ)) (turns : List Turn) (e : Option SessionEnd) → Keeps x.written written → SitsSo e x turns → SitsSo e (sent_on x written) turns
+sent_so x written turns None holds h = record {
   front = h.front;
   text = h.text;
   taken = h.taken;
@@ -122,7 +117,7 @@ sent_so x written acts moments None holds h = record {
   marked = h.marked;
   follows = h.follows;
 }
-sent_so x written acts moments (Some e) holds h = record {
+sent_so x written turns (Some e) holds h = record {
   stream = h.stream;
   answers = h.answers;
   read = h.read;
@@ -130,17 +125,16 @@ sent_so x written acts moments (Some e) holds h = record {
   speaks = h.speaks;
 }
 
-pub sent_sits : (x : Sitting) (written : Option (List ℕ)) (acts : List Act) (moments : List ℕ) → Keeps x.written written → Sits x acts moments → Sits (sent_on x written) acts moments
-sent_sits x written acts moments holds h = sent_so x written acts moments x.end holds h
+pub sent_sits : (x : Sitting) (written : Option (List ℕ)) (turns : List Turn) → Keeps x.written written → Sits x turns → Sits (sent_on x written) turns
+sent_sits x written turns holds h = sent_so x written turns x.end holds h
 
 -- ---- bytes of it are read ahead
 
 abbrev pub gathered : Sitting → Option (List ℕ) → Option (List ℕ) → Sitting
 gathered x left reader = record x { left = left; reader = reader }
 
-pub gathered_sits : (x : Sitting) (left reader : Option (List ℕ)) (acts : List Act) (moments : List ℕ) → Keeps x.left left → Heard x acts moments
-    → Heard (gathered x left reader) acts moments
-gathered_sits x left reader acts moments keeps h = record {
+pub gathered_sits : (x : Sitting) (left reader : Option (List ℕ)) (turns : List Turn) → Keeps x.left left → Heard x turns → Heard (gathered x left reader) turns
+gathered_sits x left reader turns keeps h = record {
   front = h.front;
   text = h.text;
   taken = Consumes-kept x.input x.left left h.front h.taken keeps;
@@ -159,25 +153,25 @@ module _ {C K : Type 0} {gives : C → ℕ → C → Type 0} {k : Ghosts K} (x :
   unfoldable pub act_of : Goes gives x.left left x.written written clock clock' k keeper keeper' s after → Act
   act_of g = record { before = s; request = g.request; now = g.moment; reply = g.answers.reply; after = after }
 
-  pub answered_sits : (g : Goes gives x.left left x.written written clock clock' k keeper keeper' s after) (acts : List Act) (moments : List ℕ) → x.served + 1 ≤ most_messages
-      → Heard x acts moments → Heard (answered x left reader written) (acts ++ act_of g ∷ []) (moments ++ g.moment ∷ [])
+  pub answered_sits : (g : Goes gives x.left left x.written written clock clock' k keeper keeper' s after) (t : Turn) → t.moments ≡ g.moment ∷ [] → t.acts ≡ act_of g ∷ []
+      → (turns : List Turn) → x.served + 1 ≤ most_messages → Heard x turns → Heard (answered x left reader written) (turns ++ t ∷ [])
   unfolding act_of
-  answered_sits g acts moments few h = record {
+  answered_sits g t told acted turns few h = record {
     front = h.front ++ g.front;
     text = h.text ++ g.text;
     taken = Consumes-trans x.input x.left left h.front g.front h.taken g.taken;
     written_to = Appends-trans x.output x.written written h.text g.text h.written_to g.written;
     few = few;
     marked = h.marked;
-    follows = λ n m stream more later out e gave_up is sp.
+    follows = λ n m stream later out e gave_up is sp.
         let a = act_of g in
-        let one = said.answered n (g.front ++ stream) stream a more later out e gave_up (g.message stream) sp in
-        let all = h.follows (suc n) m (g.front ++ stream) (a ∷ more) (g.moment ∷ later) (text_of a ++ out) e gave_up (omega (arith, is)) one in
+        let one = said.goes_on n (g.front ++ stream) stream t a later out e gave_up told acted (g.message stream) sp in
+        let all = h.follows (suc n) m (g.front ++ stream) (t ∷ later) (text_of a ++ out) e gave_up (omega (arith, is)) one in
         let text_is : text_of a ≡ g.text = sym g.answers.is in
-        speaks_by m (h.front ++ (g.front ++ stream)) ((h.front ++ g.front) ++ stream) (acts ++ (a ∷ more)) ((acts ++ a ∷ []) ++ more)
-        (moments ++ (g.moment ∷ later)) ((moments ++ g.moment ∷ []) ++ later) (h.text ++ (text_of a ++ out)) ((h.text ++ g.text) ++ out) e gave_up
-        (sym (append_assoc h.front g.front stream)) (sym (append_assoc acts (a ∷ []) more)) (sym (append_assoc moments (g.moment ∷ []) later))
-        (ap (λ (t : List ℕ). h.text ++ (t ++ out)) text_is ∙ sym (append_assoc h.text g.text out)) all;
+        speaks_by m (h.front ++ (g.front ++ stream)) ((h.front ++ g.front) ++ stream) (turns ++ (t ∷ later)) ((turns ++ t ∷ []) ++ later)
+        (h.text ++ (text_of a ++ out)) ((h.text ++ g.text) ++ out) e gave_up
+        (sym (append_assoc h.front g.front stream)) (sym (append_assoc turns (t ∷ []) later))
+        (ap (λ (x : List ℕ). h.text ++ (x ++ out)) text_is ∙ sym (append_assoc h.text g.text out)) all;
   }
 
 -- ---- it ends
@@ -185,13 +179,14 @@ module _ {C K : Type 0} {gives : C → ℕ → C → Type 0} {k : Ghosts K} (x :
 abbrev pub closed : Sitting → Option (List ℕ) → Option (List ℕ) → Option (List ℕ) → SessionEnd → Bool → Sitting
 closed x left reader written e gave_up = record x { left = left; reader = reader; written = written; end = Some e; gave_up = gave_up }
 
-pub closed_sits : (x : Sitting) (left reader written : Option (List ℕ)) (e : SessionEnd) (gave_up : Bool) (n : ℕ) (stream answers : List ℕ) (more : List Act) (later : List ℕ) (acts : List Act) (moments : List ℕ)
-    → n + x.served ≡ most_messages → IsStream gave_up e x.left reader stream → Appends x.written written answers → Speaks n stream more later answers (Some e) gave_up
-    → Heard x acts moments → Closed (closed x left reader written e gave_up) e (acts ++ more) (moments ++ later)
-closed_sits x left reader written e gave_up n stream answers more later acts moments sum read wrote speaks h = record {
+pub closed_sits : (x : Sitting) (left reader written : Option (List ℕ)) (e : SessionEnd) (gave_up : Bool) (n : ℕ) (stream answers : List ℕ) (t : Turn) (turns : List Turn)
+    → n + x.served ≡ most_messages → IsStream gave_up e x.left reader stream → Appends x.written written answers
+    → (last : Speaks n stream t.acts t.moments answers (Some e) gave_up) → AnswersNone last
+    → Heard x turns → Closed (closed x left reader written e gave_up) e (turns ++ t ∷ [])
+closed_sits x left reader written e gave_up n stream answers t turns sum read wrote last none h = record {
   stream = h.front ++ stream;
   answers = h.text ++ answers;
   read = stream_more gave_up e x.input x.left reader h.front stream h.taken read;
   written_to = Appends-trans x.output x.written written h.text answers h.written_to wrote;
-  speaks = h.follows n most_messages stream more later answers (Some e) gave_up sum speaks;
+  speaks = h.follows n most_messages stream (t ∷ []) answers (Some e) gave_up sum (said.ends n stream t answers e gave_up last none);
 }

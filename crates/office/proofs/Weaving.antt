@@ -3,16 +3,17 @@ use Rattle.std.proofs.Common.{◌≡◌, ◌<◌, ◌≤◌, ◌+◌, ◌-◌, �
 use Rattle.std.specs.Prelude.{nat_eq, ⊤}
 use Rattle.std.specs.List.{AllByRecursion}
 use Rattle.std.proofs.lemmas.List.{append-nil}
+use Rattle.std.proofs.lemmas.List.Elements.{filter-append}
 use Rattle.std.specs.Io.KnownBytes.{Appends, Keeps}
 use Rattle.keeper.specs.declared.keep.Keeper.{Ghosts}
 use Rattle.sigtext.specs.Counts.{Rose}
 use Rattle.boxes.specs.State.{State}
 use Rattle.office.specs.Connections.{Serves, TellsMoments}
 use Rattle.office.specs.Crashes.{LastsThrough, Survives, never_changed}
-use Rattle.office.specs.Interleaved.{AreSpoken, AreTied, Interleaved, Speaks, Thread, Turn, acts_in, moments_in, own_acts, own_moments}
+use Rattle.office.specs.Interleaved.{AnswersNone, AreSpoken, AreTied, Interleaved, SpeakInTurns, Speaks, SpeaksInTurns, Thread, Turn, acts_in, moments_in, own_acts, own_moments, own_turns}
 use Rattle.office.specs.Interleaved as said
 use Rattle.office.specs.Premise.{HoldsUp}
-use Rattle.office.specs.Repeats.{Act, Acts}
+use Rattle.office.specs.Repeats.{Act, Acts, text_of}
 use Rattle.office.specs.Seats.{IsStreamOf}
 use Rattle.office.specs.Sessions.{EndsAtOnce, most_messages}
 use Rattle.office.specs.Stepping.{Goes}
@@ -20,12 +21,12 @@ use Rattle.office.specs.declared.connections.session.SessionEnd.{SessionEnd}
 use Rattle.office.specs.declared.connections.session.SessionEnd.TheVariants.{ReadFault}
 use Rattle.office.proofs.Counting.{Counts, counts_more, counts_still, counts_turn, over_if, took_of}
 use Rattle.office.proofs.Endurance.{still, survives_same, survives_through, then_survives, then_through}
-use Rattle.office.proofs.Repeats.{session_acts}
+use Rattle.office.proofs.Repeats.{none_answered, session_acts}
 use Rattle.office.proofs.RunSoFar.{told_more}
 use Rattle.office.proofs.SessionSteps.{few_moments}
 use Rattle.office.proofs.Unstaged.{rose_before, rose_later}
-use Rattle.office.proofs.RunTurns.{acts_joined, less_is_not, same_is, speaks_of, tied_of}
-use Rattle.office.proofs.Sitting.{Sitting, Sits, SitsSo, IsFirst, act_of, answered, answered_sits, closed, closed_sits, first_sits, gathered, gathered_sits, open_sits, sent_on, sent_sits, sits_by, sits_open}
+use Rattle.office.proofs.RunTurns.{acts_joined, less_is_not, none_whole, same_is, speaks_of, tied_of}
+use Rattle.office.proofs.Sitting.{Sitting, Sits, SitsSo, IsFirst, act_of, answered, answered_sits, closed, closed_sits, first_sits, gathered, gathered_sits, open_sits, sent_on, sent_sits, sits_open}
 
 -- ---- one turn more at the end
 
@@ -37,28 +38,16 @@ moments_more : (turns : List Turn) (t : Turn) → moments_in (turns ++ t ∷ [])
 moments_more [] t = append-nil t.moments
 moments_more (u ∷ turns) t = ap (λ (x : List ℕ). u.moments ++ x) (moments_more turns t) ∙ sym (append_assoc u.moments (moments_in turns) t.moments)
 
-own_more : (i : ℕ) (turns : List Turn) (t : Turn) → own_acts i (turns ++ t ∷ []) ≡ own_acts i turns ++ cond (nat_eq t.which i) t.acts []
-own_more i [] t = append-nil (cond (nat_eq t.which i) t.acts [])
-own_more i (u ∷ turns) t =
-    ap (λ (x : List Act). cond (nat_eq u.which i) u.acts [] ++ x) (own_more i turns t) ∙ sym (append_assoc (cond (nat_eq u.which i) u.acts []) (own_acts i turns) (cond (nat_eq t.which i) t.acts []))
+own_more : (i : ℕ) (turns : List Turn) (t : Turn) → own_turns i (turns ++ t ∷ []) ≡ own_turns i turns ++ cond (nat_eq t.which i) (t ∷ []) []
+own_more i turns t = filter-append (λ (u : Turn). nat_eq u.which i) turns (t ∷ [])
 
-own_told_more : (i : ℕ) (turns : List Turn) (t : Turn) → own_moments i (turns ++ t ∷ []) ≡ own_moments i turns ++ cond (nat_eq t.which i) t.moments []
-own_told_more i [] t = append-nil (cond (nat_eq t.which i) t.moments [])
-own_told_more i (u ∷ turns) t =
-    ap (λ (x : List ℕ). cond (nat_eq u.which i) u.moments [] ++ x) (own_told_more i turns t) ∙ sym (append_assoc (cond (nat_eq u.which i) u.moments []) (own_moments i turns) (cond (nat_eq t.which i) t.moments []))
-
-own_same : (turns : List Turn) (t : Turn) (i : ℕ) → t.which ≡ i → (own_acts i turns ++ t.acts ≡ own_acts i (turns ++ t ∷ [])) × (own_moments i turns ++ t.moments ≡ own_moments i (turns ++ t ∷ []))
+own_same : (turns : List Turn) (t : Turn) (i : ℕ) → t.which ≡ i → own_turns i turns ++ t ∷ [] ≡ own_turns i (turns ++ t ∷ [])
 own_same turns t i is =
-    let hits : nat_eq t.which i ≡ true = subst (λ k. nat_eq t.which k ≡ true) is (same_is t.which) in (
-      sym (own_more i turns t ∙ ap (λ b. own_acts i turns ++ cond b t.acts []) hits),
-      sym (own_told_more i turns t ∙ ap (λ b. own_moments i turns ++ cond b t.moments []) hits),
-    )
+    let hits : nat_eq t.which i ≡ true = subst (λ k. nat_eq t.which k ≡ true) is (same_is t.which) in
+    sym (own_more i turns t ∙ ap (λ b. own_turns i turns ++ cond b (t ∷ []) []) hits)
 
-own_other : (turns : List Turn) (t : Turn) (i : ℕ) → nat_eq t.which i ≡ false → (own_acts i turns ≡ own_acts i (turns ++ t ∷ [])) × (own_moments i turns ≡ own_moments i (turns ++ t ∷ []))
-own_other turns t i is = (
-  sym (own_more i turns t ∙ ap (λ b. own_acts i turns ++ cond b t.acts []) is ∙ append-nil (own_acts i turns)),
-  sym (own_told_more i turns t ∙ ap (λ b. own_moments i turns ++ cond b t.moments []) is ∙ append-nil (own_moments i turns)),
-)
+own_other : (turns : List Turn) (t : Turn) (i : ℕ) → nat_eq t.which i ≡ false → own_turns i turns ≡ own_turns i (turns ++ t ∷ [])
+own_other turns t i is = sym (own_more i turns t ∙ ap (λ b. own_turns i turns ++ cond b (t ∷ []) []) is ∙ append-nil (own_turns i turns))
 
 within_more : (n : ℕ) (turns : List Turn) (t : Turn) → AllByRecursion (λ u. u.which < n) turns → t.which < n → AllByRecursion (λ u. u.which < n) (turns ++ t ∷ [])
 within_more n [] t h lt = (lt, tt)
@@ -73,44 +62,36 @@ tied_more (u ∷ turns) t h one = (h.0, tied_more turns t h.1 one)
 -- each connection, from the number i on: its turns made it what it is
 abbrev pub AllSit : List Turn → ℕ → List Sitting → Type 0
 AllSit turns i [] = ⊤
-AllSit turns i (x ∷ xs) = Sits x (own_acts i turns) (own_moments i turns) × AllSit turns (suc i) xs
+AllSit turns i (x ∷ xs) = Sits x (own_turns i turns) × AllSit turns (suc i) xs
 
-sits_still : (turns : List Turn) (t : Turn) (i : ℕ) (x : Sitting) → nat_eq t.which i ≡ false → Sits x (own_acts i turns) (own_moments i turns)
-    → Sits x (own_acts i (turns ++ t ∷ [])) (own_moments i (turns ++ t ∷ []))
-sits_still turns t i x other h =
-    let same = own_other turns t i other in
-    sits_by x (own_acts i turns) (own_acts i (turns ++ t ∷ [])) (own_moments i turns) (own_moments i (turns ++ t ∷ [])) same.0 same.1 h
+sits_still : (turns : List Turn) (t : Turn) (i : ℕ) (x : Sitting) → nat_eq t.which i ≡ false → Sits x (own_turns i turns) → Sits x (own_turns i (turns ++ t ∷ []))
+sits_still turns t i x other h = subst (Sits x) (own_other turns t i other) h
 
 others_sit : (turns : List Turn) (t : Turn) (i : ℕ) (xs : List Sitting) → t.which < i → AllSit turns i xs → AllSit (turns ++ t ∷ []) i xs
 others_sit turns t i [] lt h = tt
 others_sit turns t i (x ∷ xs) lt h = (sits_still turns t i x (less_is_not t.which i lt) h.0, others_sit turns t (suc i) xs (omega arith) h.1)
 
 one_turns : (turns : List Turn) (t : Turn) (i p : ℕ) (d new : Sitting) (xs : List Sitting) → t.which ≡ i + p → p < length xs
-    → ((acts : List Act) (moments : List ℕ) → Sits (get_or xs p d) acts moments → Sits new (acts ++ t.acts) (moments ++ t.moments))
-    → AllSit turns i xs → AllSit (turns ++ t ∷ []) i (set xs p new)
+    → ((before : List Turn) → Sits (get_or xs p d) before → Sits new (before ++ t ∷ [])) → AllSit turns i xs → AllSit (turns ++ t ∷ []) i (set xs p new)
 one_turns turns t i p d new [] is lt moves h = absurd (omega (arith, lt))
 one_turns turns t i zero d new (x ∷ xs) is lt moves h =
     let here : t.which ≡ i = omega (arith, is) in
-    let same = own_same turns t i here in (
-      sits_by new (own_acts i turns ++ t.acts) (own_acts i (turns ++ t ∷ [])) (own_moments i turns ++ t.moments) (own_moments i (turns ++ t ∷ [])) same.0 same.1
-          (moves (own_acts i turns) (own_moments i turns) h.0),
-      others_sit turns t (suc i) xs (omega (arith, here)) h.1,
-    )
+    (subst (Sits new) (own_same turns t i here) (moves (own_turns i turns) h.0), others_sit turns t (suc i) xs (omega (arith, here)) h.1)
 one_turns turns t i (suc p) d new (x ∷ xs) is lt moves h =
     let other : nat_eq t.which i ≡ false = grind (arith, is) in
     (sits_still turns t i x other h.0, one_turns turns t (suc i) p d new xs (omega (arith, is)) (omega (arith, lt)) moves h.1)
 
 -- one of them changes, and no turn is taken
 one_changes : (turns : List Turn) (i p : ℕ) (d new : Sitting) (xs : List Sitting) → p < length xs
-    → ((acts : List Act) (moments : List ℕ) → Sits (get_or xs p d) acts moments → Sits new acts moments) → AllSit turns i xs → AllSit turns i (set xs p new)
+    → ((own : List Turn) → Sits (get_or xs p d) own → Sits new own) → AllSit turns i xs → AllSit turns i (set xs p new)
 one_changes turns i p d new [] lt moves h = absurd (omega (arith, lt))
-one_changes turns i zero d new (x ∷ xs) lt moves h = (moves (own_acts i turns) (own_moments i turns) h.0, h.1)
+one_changes turns i zero d new (x ∷ xs) lt moves h = (moves (own_turns i turns) h.0, h.1)
 one_changes turns i (suc p) d new (x ∷ xs) lt moves h = (h.0, one_changes turns (suc i) p d new xs (omega (arith, lt)) moves h.1)
 
 -- what an open one that stands there is
 pub heard_at : (turns : List Turn) (i p : ℕ) (d : Sitting) (xs : List Sitting) → p < length xs → (get_or xs p d).end ≡ None → AllSit turns i xs → (get_or xs p d).gave_up ≡ false
 heard_at turns i p d [] lt is h = absurd (omega (arith, lt))
-heard_at turns i zero d (x ∷ xs) lt is h = (open_sits x (own_acts i turns) (own_moments i turns) is h.0).marked
+heard_at turns i zero d (x ∷ xs) lt is h = (open_sits x (own_turns i turns) is h.0).marked
 heard_at turns i (suc p) d (x ∷ xs) lt is h = heard_at turns (suc i) p d xs (omega (arith, lt)) is h.1
 
 -- what holds of all of them still held of all where one was set that had held it
@@ -192,6 +173,13 @@ set_length [] p new = refl
 set_length (x ∷ xs) zero new = refl
 set_length (x ∷ xs) (suc p) new = ap suc (set_length xs p new)
 
+-- what was done and told in a last turn
+last_turn : (n : ℕ) (stream : List ℕ) (t : Turn) (acts : List Act) (moments out : List ℕ) (e : SessionEnd) (gave_up : Bool) → t.moments ≡ moments → t.acts ≡ acts
+    → (x : Speaks n stream acts moments out (Some e) gave_up) → AnswersNone x → (last : Speaks n stream t.acts t.moments out (Some e) gave_up) × AnswersNone last
+last_turn n stream t acts moments out e gave_up told acted x none =
+    subst (λ l. (last : Speaks n stream l t.moments out (Some e) gave_up) × AnswersNone last) (sym acted)
+    (subst (λ l. (last : Speaks n stream acts l out (Some e) gave_up) × AnswersNone last) (sym told) (x, none))
+
 module _ {C K : Type 0} (gives : C → ℕ → C → Type 0) (k : Ghosts K) where
   -- a turn of one that stands there
   record Moves (x new : Sitting) (clock clock' : C) (keeper keeper' : K) (mid after : State) : Type 0 where
@@ -199,7 +187,7 @@ module _ {C K : Type 0} (gives : C → ℕ → C → Type 0) (k : Ghosts K) wher
     pub moments : List ℕ
     pub told : TellsMoments gives clock moments clock'
     pub by_rules : Acts mid acts after
-    pub moves : (before : List Act) (earlier : List ℕ) → Sits x before earlier → Sits new (before ++ acts) (earlier ++ moments)
+    pub moves : (t : Turn) → t.moments ≡ moments → t.acts ≡ acts → (before : List Turn) → Sits x before → Sits new (before ++ t ∷ [])
     pub tied : AreTied moments acts
     pub one_moment : length moments ≤ 1
     pub took : took_of new ≡ took_of x + 1
@@ -224,7 +212,7 @@ module _ {C K : Type 0} (gives : C → ℕ → C → Type 0) (k : Ghosts K) wher
         told = subst (λ x. TellsMoments gives clock x clock'') (sym (moments_more f.turns u)) (told_more gives clock clock' clock'' (moments_in f.turns) t.moments f.told t.told);
         tied = tied_more f.turns u f.tied t.tied;
         within = same_length (length xs) (length (set xs p new)) (f.turns ++ u ∷ []) (set_length xs p new) (within_more (length xs) f.turns u f.within lt);
-        sit = one_turns f.turns u 0 p d new xs (omega arith) lt t.moves f.sit;
+        sit = one_turns f.turns u 0 p d new xs (omega arith) lt (t.moves u refl refl) f.sit;
         counts = counts_turn f.turns xs u d new lt t.one_moment t.took f.counts;
         never_less = omega (arith, f.never_less, t.never_less);
         rose = all_set (RoseAt (k.faults keeper) (k.faults keeper')) (RoseAt (k.faults keeper) (k.faults keeper'')) (λ x r is at_end. rose_before (k.faults keeper) (k.faults keeper') (k.faults keeper'') (r is at_end) t.never_less)
@@ -273,8 +261,8 @@ module _ {C K : Type 0} (gives : C → ℕ → C → Type 0) (k : Ghosts K) wher
             one_moment = omega arith;
             took = omega arith;
             by_rules = (refl, g.answers.replies, refl);
-            moves = λ before earlier h. sits_open (answered x left reader written) _ _ is_open
-                (answered_sits x left reader written clock' clock'' keeper' keeper'' mid after g before earlier few (open_sits x before earlier is_open h));
+            moves = λ t told acted before h. sits_open (answered x left reader written) (before ++ t ∷ []) is_open
+                (answered_sits x left reader written clock' clock'' keeper' keeper'' mid after g t told acted before few (open_sits x before is_open h));
             marked = unmarked;
             never_less = held_least k false keeper' keeper'' g.held;
             rose = unmarked_rose (k.faults keeper') (k.faults keeper'') (answered x left reader written) unmarked;
@@ -289,18 +277,21 @@ module _ {C K : Type 0} (gives : C → ℕ → C → Type 0) (k : Ghosts K) wher
           → SoFar gives k (set xs p (closed x left reader written e v.gave_up)) (whose ++ p ∷ []) clock clock'' keeper keeper'' s after
       closed_more left reader written clock'' keeper'' after n e sum v once =
           let y = session_acts n v.stream mid v.moments v.answers e v.gave_up after v.session in
+          let speaks = speaks_of n v.stream mid v.moments v.answers e v.gave_up y.acts after y.are in
+          let none = none_whole n v.stream mid v.moments v.answers e v.gave_up y.acts after y.are (none_answered n v.stream mid v.moments v.answers e v.gave_up after v.session once) in
           let new = closed x left reader written e v.gave_up in
           moves_more xs p d new clock clock' clock'' keeper keeper' keeper'' s mid after lt f
           (subst (λ (z : Sitting). Moves z new clock' clock'' keeper' keeper'' mid after) (sym at) (record {
             acts = y.acts;
             moments = v.moments;
             told = v.told;
-            tied = tied_of n v.stream y.acts v.moments v.answers (Some e) v.gave_up (speaks_of n v.stream mid v.moments v.answers e v.gave_up y.acts after y.are);
+            tied = tied_of n v.stream y.acts v.moments v.answers (Some e) v.gave_up speaks;
             one_moment = few_moments v.session once;
             took = let before : over_if x.end ≡ 0 = ap over_if is_open in omega (arith, before);
             by_rules = y.by_rules;
-            moves = λ before earlier h. closed_sits x left reader written e v.gave_up n v.stream v.answers y.acts v.moments before earlier sum v.read v.written
-                (speaks_of n v.stream mid v.moments v.answers e v.gave_up y.acts after y.are) (open_sits x before earlier is_open h);
+            moves = λ t told acted before h.
+                let last = last_turn n v.stream t y.acts v.moments v.answers e v.gave_up told acted speaks none in
+                closed_sits x left reader written e v.gave_up n v.stream v.answers t before sum v.read v.written last.0 last.1 (open_sits x before is_open h);
             marked = unmarked;
             never_less = held_least k v.gave_up keeper' keeper'' v.held.0;
             rose = λ is at_end. v.held.1 is (some_end e ReadFault at_end);
@@ -322,8 +313,7 @@ module _ {C K : Type 0} (gives : C → ℕ → C → Type 0) (k : Ghosts K) wher
         tied = f.tied;
         within = same_length (length xs) (length (set xs p (gathered x left reader))) f.turns (set_length xs p (gathered x left reader)) f.within;
         sit = one_changes f.turns 0 p d (gathered x left reader) xs lt
-            (λ acts moments h. sits_open (gathered x left reader) acts moments is_open
-            (gathered_sits x left reader acts moments keeps (open_sits x acts moments is_open (subst (λ (y : Sitting). Sits y acts moments) at h)))) f.sit;
+            (λ own h. sits_open (gathered x left reader) own is_open (gathered_sits x left reader own keeps (open_sits x own is_open (subst (λ (y : Sitting). Sits y own) at h)))) f.sit;
         counts = counts_still f.turns xs p d (gathered x left reader) lt (sym (ap took_of at)) f.counts;
         never_less = f.never_less;
         rose = all_set (RoseAt (k.faults keeper) (k.faults keeper')) (RoseAt (k.faults keeper) (k.faults keeper')) (λ y r. r) xs p (gathered x left reader) f.rose (unmarked_rose (k.faults keeper) (k.faults keeper') (gathered x left reader) unmarked);
@@ -343,7 +333,7 @@ module _ {C K : Type 0} (gives : C → ℕ → C → Type 0) (k : Ghosts K) wher
           told = f.told;
           tied = f.tied;
           within = same_length (length xs) (length (set xs p y)) f.turns (set_length xs p y) f.within;
-          sit = one_changes f.turns 0 p d y xs lt (λ acts moments h. sent_sits x written acts moments holds h) f.sit;
+          sit = one_changes f.turns 0 p d y xs lt (λ own h. sent_sits x written own holds h) f.sit;
           counts = counts_still f.turns xs p d y lt refl f.counts;
           never_less = f.never_less;
           rose = all_set (RoseAt (k.faults keeper) (k.faults keeper')) (RoseAt (k.faults keeper) (k.faults keeper')) (λ z r. r) xs p y f.rose (all_get (RoseAt (k.faults keeper) (k.faults keeper')) xs p d lt f.rose);
@@ -354,20 +344,16 @@ module _ {C K : Type 0} (gives : C → ℕ → C → Type 0) (k : Ghosts K) wher
 
     -- ---- a connection more
 
-    none_own : (i n : ℕ) (turns : List Turn) → n ≤ i → AllByRecursion (λ t. t.which < n) turns → ([] ≡ own_acts i turns) × ([] ≡ own_moments i turns)
-    none_own i n [] le h = (refl, refl)
+    none_own : (i n : ℕ) (turns : List Turn) → n ≤ i → AllByRecursion (λ t. t.which < n) turns → [] ≡ own_turns i turns
+    none_own i n [] le h = refl
     none_own i n (t ∷ ts) le h =
         let other : nat_eq t.which i ≡ false = less_is_not t.which i (omega (arith, h.0, le)) in
-        let rest = none_own i n ts le h.1 in (
-          rest.0 ∙ sym (ap (λ b. cond b t.acts [] ++ own_acts i ts) other),
-          rest.1 ∙ sym (ap (λ b. cond b t.moments [] ++ own_moments i ts) other),
-        )
+        none_own i n ts le h.1 ∙ sym (ap (λ b. cond b (t ∷ own_turns i ts) (own_turns i ts)) other)
 
     sit_opens : (turns : List Turn) (i n : ℕ) (x : Sitting) (ys : List Sitting) → n ≤ i + length ys → AllByRecursion (λ t. t.which < n) turns → IsFirst x
         → AllSit turns i ys → AllSit turns i (ys ++ x ∷ [])
     sit_opens turns i n x [] le within new h =
-        let none = none_own i n turns (omega (arith, le)) within in
-        (sits_by x [] (own_acts i turns) [] (own_moments i turns) none.0 none.1 (first_sits x new), tt)
+        (subst (Sits x) (none_own i n turns (omega (arith, le)) within) (first_sits x new), tt)
     sit_opens turns i n x (y ∷ ys) le within new h = (h.0, sit_opens turns (suc i) n x ys (omega (arith, le)) within new h.1)
 
     within_longer : (n m : ℕ) (turns : List Turn) → n ≤ m → AllByRecursion (λ t. t.which < n) turns → AllByRecursion (λ t. t.which < m) turns
@@ -409,17 +395,48 @@ AreThreadsOf [] [] = ⊤
 AreThreadsOf (x ∷ xs) (c ∷ cs) = IsThreadOf x c × AreThreadsOf xs cs
 AreThreadsOf xs cs = ⊥
 
-record HasThread (x : Sitting) (acts : List Act) (moments : List ℕ) : Type 0 where
+-- what is spoken turn by turn is spoken
+spoken_of : (n : ℕ) (stream : List ℕ) (turns : List Turn) (out : List ℕ) (e : Option SessionEnd) (gave_up : Bool) → SpeaksInTurns n stream turns out e gave_up
+    → Speaks n stream (acts_in turns) (moments_in turns) out e gave_up
+spoken_of _ _ _ _ _ _ (said.no_more n) = said.still_open n
+spoken_of _ _ _ _ _ _ (said.goes_on n stream rest t a turns out e gave_up told acted next more) =
+    subst (λ l. Speaks (suc n) stream (l ++ acts_in turns) (t.moments ++ moments_in turns) (text_of a ++ out) e gave_up) (sym acted)
+    (subst (λ l. Speaks (suc n) stream (a ∷ acts_in turns) (l ++ moments_in turns) (text_of a ++ out) e gave_up) (sym told)
+    (said.answered n stream rest a (acts_in turns) (moments_in turns) out e gave_up next (spoken_of n rest turns out e gave_up more)))
+spoken_of _ _ _ _ _ _ (said.ends n stream t out e gave_up last none) =
+    subst (λ l. Speaks n stream l (t.moments ++ []) out (Some e) gave_up) (sym (append-nil t.acts))
+    (subst (λ l. Speaks n stream t.acts l out (Some e) gave_up) (sym (append-nil t.moments)) last)
+
+own_are : (i : ℕ) (turns : List Turn) → (acts_in (own_turns i turns) ≡ own_acts i turns) × (moments_in (own_turns i turns) ≡ own_moments i turns)
+own_are i [] = (refl, refl)
+own_are i (t ∷ ts) = let rest = own_are i ts in (acts_too (nat_eq t.which i) rest.0, told_too (nat_eq t.which i) rest.1)
+  where
+    acts_too : (b : Bool) → acts_in (own_turns i ts) ≡ own_acts i ts → acts_in (cond b (t ∷ own_turns i ts) (own_turns i ts)) ≡ cond b t.acts [] ++ own_acts i ts
+    acts_too true h = ap (λ (l : List Act). t.acts ++ l) h
+    acts_too false h = h
+    told_too : (b : Bool) → moments_in (own_turns i ts) ≡ own_moments i ts → moments_in (cond b (t ∷ own_turns i ts) (own_turns i ts)) ≡ cond b t.moments [] ++ own_moments i ts
+    told_too true h = ap (λ (l : List ℕ). t.moments ++ l) h
+    told_too false h = h
+
+own_speaks : (i : ℕ) (turns : List Turn) (c : Thread) → SpeaksInTurns most_messages c.stream (own_turns i turns) c.answers c.end c.gave_up
+    → Speaks most_messages c.stream (own_acts i turns) (own_moments i turns) c.answers c.end c.gave_up
+own_speaks i turns c h =
+    let same = own_are i turns in
+    subst (λ l. Speaks most_messages c.stream l (own_moments i turns) c.answers c.end c.gave_up) same.0
+    (subst (λ l. Speaks most_messages c.stream (acts_in (own_turns i turns)) l c.answers c.end c.gave_up) same.1
+    (spoken_of most_messages c.stream (own_turns i turns) c.answers c.end c.gave_up h))
+
+record HasThread (x : Sitting) (own : List Turn) : Type 0 where
   pub thread : Thread
   pub is : IsThreadOf x thread
-  pub speaks : Speaks most_messages thread.stream acts moments thread.answers thread.end thread.gave_up
+  pub speaks : SpeaksInTurns most_messages thread.stream own thread.answers thread.end thread.gave_up
 
-speaks_marked : (n : ℕ) (stream : List ℕ) (acts : List Act) (moments out : List ℕ) (e e' : Option SessionEnd) (g g' : Bool) → e ≡ e' → g ≡ g' → Speaks n stream acts moments out e g → Speaks n stream acts moments out e' g'
-speaks_marked n stream acts moments out e e' g g' ee eg h = subst (λ z. Speaks n stream acts moments out z g') ee (subst (Speaks n stream acts moments out e) eg h)
+speaks_marked : (n : ℕ) (stream : List ℕ) (own : List Turn) (out : List ℕ) (e e' : Option SessionEnd) (g g' : Bool) → e ≡ e' → g ≡ g' → SpeaksInTurns n stream own out e g → SpeaksInTurns n stream own out e' g'
+speaks_marked n stream own out e e' g g' ee eg h = subst (λ z. SpeaksInTurns n stream own out z g') ee (subst (SpeaksInTurns n stream own out e) eg h)
 
-thread_at : (x : Sitting) (acts : List Act) (moments : List ℕ) (e : Option SessionEnd) → x.end ≡ e → SitsSo e x acts moments → HasThread x acts moments
-thread_at x acts moments None is h =
-    let all = h.follows (most_messages - x.served) most_messages [] [] [] [] None false (omega (arith, h.few)) (said.still_open (most_messages - x.served)) in
+thread_at : (x : Sitting) (own : List Turn) (e : Option SessionEnd) → x.end ≡ e → SitsSo e x own → HasThread x own
+thread_at x own None is h =
+    let all = h.follows (most_messages - x.served) most_messages [] [] [] None false (omega (arith, h.few)) (said.no_more (most_messages - x.served)) in
     record {
       thread = record { stream = h.front; answers = h.text; end = x.end; gave_up = x.gave_up };
       is = record {
@@ -428,13 +445,12 @@ thread_at x acts moments None is h =
         stream = subst (λ e. IsStreamOf x.gave_up e x.input x.left x.reader h.front) (sym is) h.taken;
         answers = h.written_to;
       };
-      speaks = speaks_marked most_messages h.front acts moments h.text None x.end false x.gave_up (sym is) (sym h.marked)
-          (subst (λ z. Speaks most_messages z acts moments h.text None false) (append-nil h.front)
-          (subst (λ z. Speaks most_messages (h.front ++ []) z moments h.text None false) (append-nil acts)
-          (subst (λ z. Speaks most_messages (h.front ++ []) (acts ++ []) z h.text None false) (append-nil moments)
-          (subst (λ z. Speaks most_messages (h.front ++ []) (acts ++ []) (moments ++ []) z None false) (append-nil h.text) all))));
+      speaks = speaks_marked most_messages h.front own h.text None x.end false x.gave_up (sym is) (sym h.marked)
+          (subst (λ z. SpeaksInTurns most_messages z own h.text None false) (append-nil h.front)
+          (subst (λ z. SpeaksInTurns most_messages (h.front ++ []) z h.text None false) (append-nil own)
+          (subst (λ z. SpeaksInTurns most_messages (h.front ++ []) (own ++ []) z None false) (append-nil h.text) all)));
     }
-thread_at x acts moments (Some e) is h = record {
+thread_at x own (Some e) is h = record {
   thread = record { stream = h.stream; answers = h.answers; end = x.end; gave_up = x.gave_up };
   is = record {
     end = refl;
@@ -442,21 +458,28 @@ thread_at x acts moments (Some e) is h = record {
     stream = subst (λ o. IsStreamOf x.gave_up o x.input x.left x.reader h.stream) (sym is) h.read;
     answers = h.written_to;
   };
-  speaks = speaks_marked most_messages h.stream acts moments h.answers (Some e) x.end x.gave_up x.gave_up (sym is) refl h.speaks;
+  speaks = speaks_marked most_messages h.stream own h.answers (Some e) x.end x.gave_up x.gave_up (sym is) refl h.speaks;
 }
 
 record HasThreads (turns : List Turn) (i : ℕ) (xs : List Sitting) : Type 0 where
   pub threads : List Thread
   pub are : AreThreadsOf xs threads
+  pub by_turns : SpeakInTurns turns i threads
   pub spoken : AreSpoken turns i threads
   pub many : length threads ≡ length xs
 
 all_threads : (turns : List Turn) (i : ℕ) (xs : List Sitting) → AllSit turns i xs → HasThreads turns i xs
-all_threads turns i [] h = record { threads = []; are = tt; spoken = tt; many = refl }
+all_threads turns i [] h = record { threads = []; are = tt; by_turns = tt; spoken = tt; many = refl }
 all_threads turns i (x ∷ xs) h =
-    let c = thread_at x (own_acts i turns) (own_moments i turns) x.end refl h.0 in
+    let c = thread_at x (own_turns i turns) x.end refl h.0 in
     let cs = all_threads turns (suc i) xs h.1 in
-    record { threads = c.thread ∷ cs.threads; are = (c.is, cs.are); spoken = (c.speaks, cs.spoken); many = ap suc cs.many }
+    record {
+      threads = c.thread ∷ cs.threads;
+      are = (c.is, cs.are);
+      by_turns = (c.speaks, cs.by_turns);
+      spoken = (own_speaks i turns c.thread c.speaks, cs.spoken);
+      many = ap suc cs.many;
+    }
 
 -- The connections were served in turn, by an order of all their messages.
 pub record Woven {C : Type 0} (gives : C → ℕ → C → Type 0) (xs : List Sitting) (whose : List ℕ) (clock clock' : C) (s mid : State) : Type 0 where
@@ -466,6 +489,7 @@ pub record Woven {C : Type 0} (gives : C → ℕ → C → Type 0) (xs : List Si
   pub many : length threads ≡ length xs
   pub told : TellsMoments gives clock moments clock'
   pub run : Interleaved s threads moments mid
+  pub by_turns : SpeakInTurns run.turns 0 threads
   pub counts : Counts run.turns xs whose
 
 pub finishes : {C K : Type 0} {whose : List ℕ} (gives : C → ℕ → C → Type 0) (k : Ghosts K) (xs : List Sitting) (clock clock' : C) (keeper keeper' : K) (s mid : State)
@@ -479,6 +503,7 @@ finishes gives k xs clock clock' keeper keeper' s mid f =
       many = x.many;
       told = f.told;
       run = record { turns = f.turns; order = f.order; told = refl; tied = f.tied; within = same_length (length xs) (length x.threads) f.turns (sym x.many) f.within; each = x.spoken };
+      by_turns = x.by_turns;
       counts = f.counts;
     }
 

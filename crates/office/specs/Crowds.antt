@@ -1,5 +1,5 @@
 -- Connections that come, are served in turn, and go: each has a slot while it is there.
-use Rattle.std.specs.Prelude.{◌≡◌, ◌≢◌, ◌<◌, ◌+◌, ◌⊎◌, ℕ, Bool, false, cond, nat_eq, List, [], ◌∷◌, ◌++◌, length, map, slice_get, slice_set, slice_index_or, Option, Some, None}
+use Rattle.std.specs.Prelude.{◌≡◌, ◌≢◌, ◌<◌, ◌+◌, ◌⊎◌, ℕ, Bool, false, cond, nat_eq, List, [], ◌∷◌, ◌++◌, is_some, length, map, slice_get, slice_set, slice_index_or, Option, Some, None}
 use Rattle.std.specs.List.{AllByRecursion, count_by, sum_by}
 use Rattle.boxes.specs.State.{State}
 use Rattle.keeper.specs.declared.keep.Keeper.{Ghosts}
@@ -8,7 +8,7 @@ use Rattle.office.specs.declared.connections.seat.Seat.{Seat}
 use Rattle.office.specs.declared.connections.session.SessionEnd.{SessionEnd}
 use Rattle.office.specs.Connections.{TellsMoments, is_fault}
 use Rattle.office.specs.Crashes.{Survives}
-use Rattle.office.specs.Interleaved.{Interleaved, Thread, acts_in}
+use Rattle.office.specs.Interleaved.{Interleaved, SpeakInTurns, Thread, acts_in}
 use Rattle.office.specs.Repeats.{RepeatsOnce}
 use Rattle.office.specs.Seats.{AreThreads, Gathers, HaveTurns, IsNew, LastsOver, Sends, StaysSo, TakesTurn, TellsOneMoment, TellsTurn, turns_of}
 
@@ -19,6 +19,10 @@ slot_at slots p = slice_index_or slots p None
 -- none of the first n slots is free
 abbrev pub NoneIsFree : {X : Type 0} → List (Option X) → ℕ → Type 0
 NoneIsFree slots n = (p : ℕ) → p < n → slot_at slots p ≢ None
+
+-- how many of the slots are taken
+abbrev pub taken_slots : {X : Type 0} → List (Option X) → ℕ
+taken_slots slots = count_by is_some slots
 
 -- What may go on in the slots between two turns, one thing after another: which connections came, as they came, and which went,
 -- as they were then. remaining: what a reader has left; contents: what a writer holds.
@@ -129,6 +133,8 @@ pub record ServesCrowd {C K R W : Type 0} (gives : C → ℕ → C → Type 0) (
   pub went : AllByRecursion (λ seat. IsAmong seat seats) gone
   pub stand : (p : ℕ) (seat : Seat R W) → slot_at slots p ≡ Some seat → IsAmong seat seats
   pub no_other : (i : ℕ) (seat : Seat R W) → slice_get seats i ≡ Some seat → IsAmong seat gone ⊎ StandsIn seat slots
+  -- as many came as went and stand in slots
+  pub in_all : length came ≡ length gone + taken_slots slots
   -- each turn was taken
   pub taken : length given ≡ sum_by turns_of seats
   pub threads : List Thread
@@ -140,6 +146,8 @@ pub record ServesCrowd {C K R W : Type 0} (gives : C → ℕ → C → Type 0) (
   pub whose : map (λ t. first + t.which) run.turns ≡ given
   pub each_counted : HaveTurns run.turns 0 seats
   pub one_moment : AllByRecursion TellsOneMoment run.turns
+  -- each turn of a connection answers one message whole, but for the one in which it ends, which answers none whole and is its last
+  pub by_turns : SpeakInTurns run.turns 0 threads
   pub repeats : RepeatsOnce (acts_in run.turns)
   pub stays : StaysSo k threads keeper keeper' after
   pub lasts : LastsOver k threads keeper keeper' s after

@@ -1,6 +1,6 @@
 -- Connections that are open at once: each turn serves messages of one of them.
-use Rattle.std.specs.Prelude.{◌≡◌, ◌<◌, ◌⊎◌, ℕ, suc, Bool, true, false, cond, nat_eq, List, [], ◌∷◌, ◌++◌, length, map, Option, Some, None, ⊤}
-use Rattle.std.specs.List.{AllByRecursion, count_by}
+use Rattle.std.specs.Prelude.{◌≡◌, ◌<◌, ◌⊎◌, ℕ, suc, Bool, true, false, cond, nat_eq, List, [], ◌∷◌, ◌++◌, length, map, Option, Some, None, ⊤, ⊥}
+use Rattle.std.specs.List.{AllByRecursion, count_by, filter}
 use Rattle.sigtext.specs.Bytes.{IsBeginning}
 use Rattle.sigtext.specs.Request.{Request}
 use Rattle.boxes.specs.State.{State}
@@ -36,6 +36,10 @@ own_acts i (t ∷ ts) = cond (nat_eq t.which i) t.acts [] ++ own_acts i ts
 abbrev pub own_moments : ℕ → List Turn → List ℕ
 own_moments i [] = []
 own_moments i (t ∷ ts) = cond (nat_eq t.which i) t.moments [] ++ own_moments i ts
+
+-- the turns of one connection
+abbrev pub own_turns : ℕ → List Turn → List Turn
+own_turns i turns = filter (λ t. nat_eq t.which i) turns
 
 -- how many of the turns are those of one connection
 abbrev pub turns_by : ℕ → List Turn → ℕ
@@ -74,6 +78,28 @@ pub data Speaks : ℕ → List ℕ → List Act → List ℕ → List ℕ → Op
   -- the last act, whose answer is lost: a beginning of it is written, and then a write fails
   lost : (n : ℕ) (stream rest : List ℕ) (a : Act) (front : List ℕ) → Next stream (frame.Message a.request) rest
       → IsBeginning front (text_of a) → Speaks (suc n) stream (a ∷ []) (a.now ∷ []) front (Some WriteFault) false
+
+-- none of these acts is one whose answer is written whole
+abbrev pub AnswersNone : {n : ℕ} {stream : List ℕ} {acts : List Act} {moments out : List ℕ} {e : Option SessionEnd} {gave_up : Bool}
+    → Speaks n stream acts moments out e gave_up → Type 0
+AnswersNone (answered n stream rest a acts moments out e gave_up next more) = ⊥
+AnswersNone _ = ⊤
+
+-- The same, turn by turn. A turn answers one message whole, and the connection goes on; or it is its last one, in which it ends,
+-- and answers none whole.
+pub data SpeaksInTurns : ℕ → List ℕ → List Turn → List ℕ → Option SessionEnd → Bool → Type 0 where
+  no_more : (n : ℕ) → SpeaksInTurns n [] [] [] None false
+  goes_on : (n : ℕ) (stream rest : List ℕ) (t : Turn) (a : Act) (turns : List Turn) (out : List ℕ) (e : Option SessionEnd) (gave_up : Bool)
+      → t.moments ≡ a.now ∷ [] → t.acts ≡ a ∷ [] → Next stream (frame.Message a.request) rest → SpeaksInTurns n rest turns out e gave_up
+      → SpeaksInTurns (suc n) stream (t ∷ turns) (text_of a ++ out) e gave_up
+  ends : (n : ℕ) (stream : List ℕ) (t : Turn) (out : List ℕ) (e : SessionEnd) (gave_up : Bool)
+      → (last : Speaks n stream t.acts t.moments out (Some e) gave_up) → AnswersNone last → SpeaksInTurns n stream (t ∷ []) out (Some e) gave_up
+
+-- each connection, from the number i on, so
+abbrev pub SpeakInTurns : List Turn → ℕ → List Thread → Type 0
+SpeakInTurns turns i [] = ⊤
+SpeakInTurns turns i (c ∷ cs) =
+    SpeaksInTurns most_messages c.stream (own_turns i turns) c.answers c.end c.gave_up × SpeakInTurns turns (suc i) cs
 
 -- each connection, from the number i on: its own acts, in their order, are those of its stream
 abbrev pub AreSpoken : List Turn → ℕ → List Thread → Type 0
