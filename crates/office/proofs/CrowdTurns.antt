@@ -304,7 +304,7 @@ module _ {R W : Type 0} (remaining : R → Option (List ℕ)) (contents : W → 
       number = λ p. p;
       ties = ties_none slots free;
       numbered = numbered_none slots numbers first free;
-      in_all = sym (none_taken slots free);
+      in_all = let none = none_taken slots free in omega (arith, none);
       whose = [];
       turned = record { sittings = []; are = tt; so_far = starts gives k clock keeper s };
       are_given = refl;

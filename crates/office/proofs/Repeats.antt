@@ -146,16 +146,58 @@ pub record HasActs (n : ℕ) (stream : List ℕ) (s : State) (moments out : List
   pub are : AreSessionActs n stream s moments out e gave_up acts after
   pub by_rules : Acts s acts after
 
+-- none of them is one whose answer is written whole
+abbrev pub NoneAnswered : {n : ℕ} {stream : List ℕ} {s : State} {moments out : List ℕ} {e : SessionEnd} {gave_up : Bool} {acts : List Act} {after : State}
+    → AreSessionActs n stream s moments out e gave_up acts after → Type 0
+NoneAnswered (act.answered n stream rest s after a acts moments out e gave_up next is more) = ⊥
+NoneAnswered _ = ⊤
+
+-- the acts of a session that its first step ends
+pub record LastActs (n : ℕ) (stream : List ℕ) (s : State) (moments out : List ℕ) (e : SessionEnd) (gave_up : Bool) (after : State) : Type 0 where
+  pub acts : List Act
+  pub are : AreSessionActs n stream s moments out e gave_up acts after
+  pub none : NoneAnswered are
+  pub by_rules : Acts s acts after
+
 -- none
-over : (n : ℕ) (stream : List ℕ) (s : State) (out : List ℕ) (e : SessionEnd) (gave_up : Bool) → Session n stream s [] out e gave_up s → HasActs n stream s [] out e gave_up s
-over n stream s out e gave_up h = record { acts = []; are = act.over n stream s out e gave_up h; by_rules = refl }
+over : (n : ℕ) (stream : List ℕ) (s : State) (out : List ℕ) (e : SessionEnd) (gave_up : Bool) → Session n stream s [] out e gave_up s → LastActs n stream s [] out e gave_up s
+over n stream s out e gave_up h = record { acts = []; are = act.over n stream s out e gave_up h; none = tt; by_rules = refl }
+
+pub last_acts : (n : ℕ) (stream : List ℕ) (s : State) (moments out : List ℕ) (e : SessionEnd) (gave_up : Bool) (after : State)
+    → (x : Session n stream s moments out e gave_up after) → EndsAtOnce x → LastActs n stream s moments out e gave_up after
+last_acts _ _ _ _ _ _ _ _ (session.limit stream s) once = over _ stream s _ _ _ (session.limit stream s)
+last_acts _ _ _ _ _ _ _ _ (session.ended n stream s next) once = over _ stream s _ _ _ (session.ended n stream s next)
+last_acts _ _ _ _ _ _ _ _ (session.truncated n stream s next) once = over _ stream s _ _ _ (session.truncated n stream s next)
+last_acts _ _ _ _ _ _ _ _ (session.unframed n stream s q next) once = over _ stream s _ _ _ (session.unframed n stream s q next)
+last_acts _ _ _ _ _ _ _ _ (session.served n stream rest s mid after r now moments text out e gave_up next answers more) once = absurd once
+last_acts _ _ _ _ _ _ _ _ (session.gave_up_at n stream rest s r now next readable) once =
+    record { acts = []; are = act.given_up n stream rest s r now _ _ next readable (refl, refl); none = tt; by_rules = refl }
+last_acts _ _ _ _ _ _ _ _ (session.gave_up_reading n stream s may) once = over _ stream s _ _ _ (session.gave_up_reading n stream s may)
+last_acts _ _ _ _ _ _ _ _ (session.read_failed n stream s awaits) once = over _ stream s _ _ _ (session.read_failed n stream s awaits)
+last_acts _ _ _ _ _ _ _ _ (session.read_failed_giving_up n stream s awaits begun) once = over _ stream s _ _ _ (session.read_failed_giving_up n stream s awaits begun)
+last_acts _ _ _ _ _ _ _ _ (session.write_failed n stream rest s after r now text front next answers begins) once =
+    let a : Act = the_act s r now answers.reply after in
+    record {
+      acts = a ∷ [];
+      are = act.lost n stream rest s a front next refl (subst (IsBeginning front) answers.is begins);
+      none = tt;
+      by_rules = (refl, answers.replies, refl);
+    }
+last_acts _ _ _ _ _ _ _ _ (session.write_failed_unframed n stream s q front next begins) once =
+    over _ stream s _ _ _ (session.write_failed_unframed n stream s q front next begins)
+last_acts _ _ _ _ _ _ _ _ (session.write_failed_giving_up_at n stream rest s r now front next readable begins) once =
+    record { acts = []; are = act.given_up n stream rest s r now _ _ next readable begins; none = tt; by_rules = refl }
+last_acts _ _ _ _ _ _ _ _ (session.write_failed_giving_up_reading n stream s front may begins) once =
+    over _ stream s _ _ _ (session.write_failed_giving_up_reading n stream s front may begins)
+all_of : {n : ℕ} {stream : List ℕ} {s : State} {moments out : List ℕ} {e : SessionEnd} {gave_up : Bool} {after : State} → LastActs n stream s moments out e gave_up after → HasActs n stream s moments out e gave_up after
+all_of x = record { acts = x.acts; are = x.are; by_rules = x.by_rules }
 
 pub session_acts : (n : ℕ) (stream : List ℕ) (s : State) (moments out : List ℕ) (e : SessionEnd) (gave_up : Bool) (after : State)
     → Session n stream s moments out e gave_up after → HasActs n stream s moments out e gave_up after
-session_acts _ _ _ _ _ _ _ _ (session.limit stream s) = over _ stream s _ _ _ (session.limit stream s)
-session_acts _ _ _ _ _ _ _ _ (session.ended n stream s next) = over _ stream s _ _ _ (session.ended n stream s next)
-session_acts _ _ _ _ _ _ _ _ (session.truncated n stream s next) = over _ stream s _ _ _ (session.truncated n stream s next)
-session_acts _ _ _ _ _ _ _ _ (session.unframed n stream s q next) = over _ stream s _ _ _ (session.unframed n stream s q next)
+session_acts _ _ _ _ _ _ _ _ (session.limit stream s) = all_of (last_acts _ _ _ _ _ _ _ _ (session.limit stream s) tt)
+session_acts _ _ _ _ _ _ _ _ (session.ended n stream s next) = all_of (last_acts _ _ _ _ _ _ _ _ (session.ended n stream s next) tt)
+session_acts _ _ _ _ _ _ _ _ (session.truncated n stream s next) = all_of (last_acts _ _ _ _ _ _ _ _ (session.truncated n stream s next) tt)
+session_acts _ _ _ _ _ _ _ _ (session.unframed n stream s q next) = all_of (last_acts _ _ _ _ _ _ _ _ (session.unframed n stream s q next) tt)
 session_acts _ _ _ _ _ _ _ _ (session.served n stream rest s mid after r now moments text out e gave_up next answers more) =
     let rest_acts = session_acts n rest mid moments out e gave_up after more in
     let a : Act = the_act s r now answers.reply mid in
@@ -165,37 +207,14 @@ session_acts _ _ _ _ _ _ _ _ (session.served n stream rest s mid after r now mom
           (act.answered n stream rest s after a rest_acts.acts moments out e gave_up next refl rest_acts.are);
       by_rules = (refl, answers.replies, rest_acts.by_rules);
     }
-session_acts _ _ _ _ _ _ _ _ (session.gave_up_at n stream rest s r now next readable) =
-    record { acts = []; are = act.given_up n stream rest s r now _ _ next readable (refl, refl); by_rules = refl }
-session_acts _ _ _ _ _ _ _ _ (session.gave_up_reading n stream s may) = over _ stream s _ _ _ (session.gave_up_reading n stream s may)
-session_acts _ _ _ _ _ _ _ _ (session.read_failed n stream s awaits) = over _ stream s _ _ _ (session.read_failed n stream s awaits)
-session_acts _ _ _ _ _ _ _ _ (session.read_failed_giving_up n stream s awaits begun) = over _ stream s _ _ _ (session.read_failed_giving_up n stream s awaits begun)
-session_acts _ _ _ _ _ _ _ _ (session.write_failed n stream rest s after r now text front next answers begins) =
-    let a : Act = the_act s r now answers.reply after in
-    record {
-      acts = a ∷ [];
-      are = act.lost n stream rest s a front next refl (subst (IsBeginning front) answers.is begins);
-      by_rules = (refl, answers.replies, refl);
-    }
-session_acts _ _ _ _ _ _ _ _ (session.write_failed_unframed n stream s q front next begins) =
-    over _ stream s _ _ _ (session.write_failed_unframed n stream s q front next begins)
-session_acts _ _ _ _ _ _ _ _ (session.write_failed_giving_up_at n stream rest s r now front next readable begins) =
-    record { acts = []; are = act.given_up n stream rest s r now _ _ next readable begins; by_rules = refl }
-session_acts _ _ _ _ _ _ _ _ (session.write_failed_giving_up_reading n stream s front may begins) =
-    over _ stream s _ _ _ (session.write_failed_giving_up_reading n stream s front may begins)
-
--- none of them is one whose answer is written whole
-abbrev pub NoneAnswered : {n : ℕ} {stream : List ℕ} {s : State} {moments out : List ℕ} {e : SessionEnd} {gave_up : Bool} {acts : List Act} {after : State}
-    → AreSessionActs n stream s moments out e gave_up acts after → Type 0
-NoneAnswered (act.answered n stream rest s after a acts moments out e gave_up next is more) = ⊥
-NoneAnswered _ = ⊤
-
--- so it is of a session whose first step ends it
-pub none_answered : (n : ℕ) (stream : List ℕ) (s : State) (moments out : List ℕ) (e : SessionEnd) (gave_up : Bool) (after : State)
-    → (x : Session n stream s moments out e gave_up after) → EndsAtOnce x → NoneAnswered (session_acts n stream s moments out e gave_up after x).are
-unfolding session_acts over
-none_answered _ _ _ _ _ _ _ _ (session.served n stream rest s mid after r now moments text out e gave_up next answers more) once = absurd once
-none_answered _ _ _ _ _ _ _ _ _ once = tt
+session_acts _ _ _ _ _ _ _ _ (session.gave_up_at n stream rest s r now next readable) = all_of (last_acts _ _ _ _ _ _ _ _ (session.gave_up_at n stream rest s r now next readable) tt)
+session_acts _ _ _ _ _ _ _ _ (session.gave_up_reading n stream s may) = all_of (last_acts _ _ _ _ _ _ _ _ (session.gave_up_reading n stream s may) tt)
+session_acts _ _ _ _ _ _ _ _ (session.read_failed n stream s awaits) = all_of (last_acts _ _ _ _ _ _ _ _ (session.read_failed n stream s awaits) tt)
+session_acts _ _ _ _ _ _ _ _ (session.read_failed_giving_up n stream s awaits begun) = all_of (last_acts _ _ _ _ _ _ _ _ (session.read_failed_giving_up n stream s awaits begun) tt)
+session_acts _ _ _ _ _ _ _ _ (session.write_failed n stream rest s after r now text front next answers begins) = all_of (last_acts _ _ _ _ _ _ _ _ (session.write_failed n stream rest s after r now text front next answers begins) tt)
+session_acts _ _ _ _ _ _ _ _ (session.write_failed_unframed n stream s q front next begins) = all_of (last_acts _ _ _ _ _ _ _ _ (session.write_failed_unframed n stream s q front next begins) tt)
+session_acts _ _ _ _ _ _ _ _ (session.write_failed_giving_up_at n stream rest s r now front next readable begins) = all_of (last_acts _ _ _ _ _ _ _ _ (session.write_failed_giving_up_at n stream rest s r now front next readable begins) tt)
+session_acts _ _ _ _ _ _ _ _ (session.write_failed_giving_up_reading n stream s front may begins) = all_of (last_acts _ _ _ _ _ _ _ _ (session.write_failed_giving_up_reading n stream s front may begins) tt)
 
 -- ---- the acts of a run
 

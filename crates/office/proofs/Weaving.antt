@@ -21,7 +21,7 @@ use Rattle.office.specs.declared.connections.session.SessionEnd.{SessionEnd}
 use Rattle.office.specs.declared.connections.session.SessionEnd.TheVariants.{ReadFault}
 use Rattle.office.proofs.Counting.{Counts, counts_more, counts_still, counts_turn, over_if, took_of}
 use Rattle.office.proofs.Endurance.{still, survives_same, survives_through, then_survives, then_through}
-use Rattle.office.proofs.Repeats.{none_answered, session_acts}
+use Rattle.office.proofs.Repeats.{last_acts}
 use Rattle.office.proofs.RunSoFar.{told_more}
 use Rattle.office.proofs.SessionSteps.{few_moments}
 use Rattle.office.proofs.Unstaged.{rose_before, rose_later}
@@ -276,9 +276,9 @@ module _ {C K : Type 0} (gives : C → ℕ → C → Type 0) (k : Ghosts K) wher
           → (v : Serves n gives x.left reader x.written written clock' clock'' k keeper' keeper'' mid after e) → EndsAtOnce v.session
           → SoFar gives k (set xs p (closed x left reader written e v.gave_up)) (whose ++ p ∷ []) clock clock'' keeper keeper'' s after
       closed_more left reader written clock'' keeper'' after n e sum v once =
-          let y = session_acts n v.stream mid v.moments v.answers e v.gave_up after v.session in
+          let y = last_acts n v.stream mid v.moments v.answers e v.gave_up after v.session once in
           let speaks = speaks_of n v.stream mid v.moments v.answers e v.gave_up y.acts after y.are in
-          let none = none_whole n v.stream mid v.moments v.answers e v.gave_up y.acts after y.are (none_answered n v.stream mid v.moments v.answers e v.gave_up after v.session once) in
+          let none = none_whole n v.stream mid v.moments v.answers e v.gave_up y.acts after y.are y.none in
           let new = closed x left reader written e v.gave_up in
           moves_more xs p d new clock clock' clock'' keeper keeper' keeper'' s mid after lt f
           (subst (λ (z : Sitting). Moves z new clock' clock'' keeper' keeper'' mid after) (sym at) (record {
