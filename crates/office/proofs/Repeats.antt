@@ -189,6 +189,7 @@ last_acts _ _ _ _ _ _ _ _ (session.write_failed_giving_up_at n stream rest s r n
     record { acts = []; are = act.given_up n stream rest s r now _ _ next readable begins; none = tt; by_rules = refl }
 last_acts _ _ _ _ _ _ _ _ (session.write_failed_giving_up_reading n stream s front may begins) once =
     over _ stream s _ _ _ (session.write_failed_giving_up_reading n stream s front may begins)
+
 all_of : {n : ℕ} {stream : List ℕ} {s : State} {moments out : List ℕ} {e : SessionEnd} {gave_up : Bool} {after : State} → LastActs n stream s moments out e gave_up after → HasActs n stream s moments out e gave_up after
 all_of x = record { acts = x.acts; are = x.are; by_rules = x.by_rules }
 

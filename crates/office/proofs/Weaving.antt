@@ -414,6 +414,7 @@ own_are i (t ∷ ts) = let rest = own_are i ts in (acts_too (nat_eq t.which i) r
     acts_too : (b : Bool) → acts_in (own_turns i ts) ≡ own_acts i ts → acts_in (cond b (t ∷ own_turns i ts) (own_turns i ts)) ≡ cond b t.acts [] ++ own_acts i ts
     acts_too true h = ap (λ (l : List Act). t.acts ++ l) h
     acts_too false h = h
+
     told_too : (b : Bool) → moments_in (own_turns i ts) ≡ own_moments i ts → moments_in (cond b (t ∷ own_turns i ts) (own_turns i ts)) ≡ cond b t.moments [] ++ own_moments i ts
     told_too true h = ap (λ (l : List ℕ). t.moments ++ l) h
     told_too false h = h
