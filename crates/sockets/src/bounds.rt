@@ -3,7 +3,7 @@ use crate::book::Book;
 use crate::held::{Held, waiting_len};
 use crate::peer::Phase;
 use crate::socket::Listener;
-use crate::tally::Deed;
+use crate::deeds::Deed;
 use std::io::ErrorKind;
 use std::time;
 use std::time::{Duration, Instant};

@@ -4,7 +4,7 @@ use crate::book::Book;
 use crate::held::{Held, seat_at};
 use crate::peer::Phase;
 use crate::socket::{End, Listener};
-use crate::tally::Deed;
+use crate::deeds::Deed;
 use std::io::ErrorKind;
 use std::net::Shutdown;
 use std::{io, time};

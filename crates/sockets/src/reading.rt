@@ -4,7 +4,7 @@ use crate::held::{Held, ahead_len, seat_at};
 use crate::peer::{BODY_STEP, Phase};
 use crate::rooms::OWN_ROOM;
 use crate::socket::Listener;
-use crate::tally::Deed;
+use crate::deeds::Deed;
 use std::alloc::AllocError;
 use std::io::ErrorKind;
 use std::time;

@@ -3,7 +3,7 @@ use crate::book::Book;
 use crate::held::{Held, ahead_len, seat_at, waiting_len};
 use crate::peer::Phase;
 use crate::socket::{End, Listener};
-use crate::tally::Deed;
+use crate::deeds::Deed;
 use mio::unix::SourceFd;
 use mio::{Interest, Token};
 use office::SessionEnd;
