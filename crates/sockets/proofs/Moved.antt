@@ -93,13 +93,14 @@ module _ {L S E : Type 0} (told : L → List S → Type 0) (are_ends : S → E �
   }
 
   -- a gate that begins
-  pub passed_none : (connections : ℕ) (g : Gate L S) → g.guest ≡ None → g.to_come ≡ connections → g.came ≡ 0 → HasPassed {E = E} (told g.listener) connections told are_ends g []
-  passed_none connections g guest to_come came = record {
+  pub passed_none : (had : List S → Type 0) (connections : ℕ) (g : Gate L S) → ((before : List S) → had before → told g.listener before) → g.guest ≡ None → connections ≡ g.to_come
+      → g.came ≡ 0 → HasPassed {E = E} had connections told are_ends g []
+  passed_none had connections g tells guest to_come came = record {
     accepted = [];
     admitted = [];
     away = 0;
     failed = 0;
-    tells = λ before tells. subst (told g.listener) (sym (append-nil before)) tells;
+    tells = λ before is. subst (told g.listener) (sym (append-nil before)) (tells before is);
     waits = sym (ap those_of guest);
     admits = accepting.nobody;
     to_come = omega (arith, to_come);

@@ -23,7 +23,7 @@ Does remaining contents left given (deed.Reserve n) (report.Reserved outcome) ol
     DoneAt left (λ a b. MakesRoom n a b outcome) (IsOk outcome) old new p
 Does remaining contents left given deed.Settle (report.Settled room) old new p =
     DoneAt left (λ a b. PutsBack a b room) (IsNone room) old new p
-Does remaining contents left given (deed.Fail kind) report.Failing old new p = DoneAt left Fails ⊤ old new p
+Does remaining contents left given (deed.Fail kind) report.Failing old new p = DoneAt left (λ a b. Fails a b) ⊤ old new p
 Does remaining contents left given deed.Send (report.Sent outcome) old new p =
     SentAt given (λ a b. SendsOn contents a b outcome) (outcome ≡ sending.Sent) old new p
 Does remaining contents left given deed.Free report.Freed old new p = new ≡ slice_set old p None

@@ -70,11 +70,7 @@ impl<R: time::Clock, L: Listener> Book<'_, R, L> {
     }
 
     /// A connection was let in, or not.
-    pub(crate) fn entered(
-        &mut self,
-        slots: &[Option<Held<L::End>>],
-        entry: Entry,
-    ) -> Option<Task> {
+    pub(crate) fn entered(&mut self, slots: &[Option<Held<L::End>>], entry: Entry) -> Option<Task> {
         match entry {
             Entry::In(index) => self.opened(slots, index),
             Entry::Away => None,

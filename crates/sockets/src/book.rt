@@ -1,4 +1,5 @@
 //! What the loop keeps beside the slots: what each peer is at, which turns are due, and what the sockets told.
+use crate::deeds::Deed;
 use crate::door::Door;
 use crate::held::{Held, seat_at};
 use crate::peer::{Peer, Phase};
@@ -7,7 +8,6 @@ use crate::rounds::Rounds;
 use crate::serving::Limits;
 use crate::socket::Listener;
 use crate::stages::Stage;
-use crate::deeds::Deed;
 use mio::event::Event;
 use mio::unix::SourceFd;
 use mio::{Events, Interest, Poll, Token};

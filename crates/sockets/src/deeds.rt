@@ -32,13 +32,8 @@ pub(crate) enum Deed {
 /// What came of it.
 #[derive(Drop)]
 pub(crate) enum Report {
-    /// A read ahead told this.
-    Gathered {
-        /// What was there. The error is that memory was refused.
-        outcome: Result<Gathering, AllocError>,
-        /// Whether the read took as much as it might.
-        is_full: bool,
-    },
+    /// A read ahead told this, or memory was refused; and whether the read took as much as it might.
+    Gathered(Result<Gathering, AllocError>, bool),
     /// Memory was taken, or refused.
     Reserved(Result<(), AllocError>),
     /// Its feed let go of this room, if it had one.
@@ -77,7 +72,7 @@ impl<L: Listener> Gate<L, L::Stream> {
         match deed {
             Deed::Gather(size) => {
                 let (outcome, is_full) = gather(slots, index, size, buf);
-                Report::Gathered { outcome, is_full }
+                Report::Gathered(outcome, is_full)
             }
             Deed::Reserve(more) => Report::Reserved(make_room_in_slot(slots, index, more)),
             Deed::Settle => Report::Settled(settle_slot(slots, index)),

@@ -1,9 +1,9 @@
 //! Answers that wait until their peers take them.
 use crate::book::Book;
+use crate::deeds::Deed;
 use crate::held::{Held, ahead_len, seat_at, waiting_len};
 use crate::peer::Phase;
 use crate::socket::{End, Listener};
-use crate::deeds::Deed;
 use mio::unix::SourceFd;
 use mio::{Interest, Token};
 use office::SessionEnd;

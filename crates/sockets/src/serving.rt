@@ -1,9 +1,8 @@
 //! A listener's connections, served by an office in turn.
-ghost use Rattle.std.specs.Prelude.{◌≡◌, ◌≤◌, ◌+◌, ℕ, [], IfErr, IfOk, None, true};
+ghost use Rattle.std.specs.Prelude.{◌≡◌, ◌≤◌, ◌+◌, ℕ, List, IfErr, IfOk, None, true};
 ghost use Rattle.office.specs.Crowds.{slot_at};
 ghost use Rattle.office.specs.Premise.{StaysUnstaged};
 ghost use Rattle.sockets.specs.Accepting.{ServesMany};
-ghost use Rattle.sockets.specs.Moving.{HasPassed};
 
 use crate::book::Book;
 use crate::gate::Gate;
@@ -90,9 +89,8 @@ pub fn serve<K: Keeper, C: Clock, L: Listener, R: Net + time::Clock>(
         }
     };
     let slots = slots.as_mut_slice();
-    let gate = Gate::new(listener, connections);
     let (listener, outcome) =
-        serve_through::<K, C, L, R, Brand>(office, book, gate, slots, connections, clock);
+        serve_through::<K, C, L, R, Brand>(office, book, listener, slots, connections, clock);
     Served {
         listener,
         outcome: Ok(outcome),
@@ -114,18 +112,18 @@ fn prepare<'a, L: Listener, R: Net + time::Clock>(
     Ok((book, slots))
 }
 
-// Serves those who come through the gate. It gives the listener back.
+// Serves so many of those that the listener accepts, and gives it back.
 fn serve_through<K: Keeper, C: Clock, L: Listener, R: time::Clock, S: Start<L::Stream>>(
     office: &mut Office<K>,
     book: Book<'_, R, L>,
-    gate: Gate<L, L::Stream>,
+    listener: L,
     slots: &mut [Option<Held<L::End>>],
     connections: u64,
     clock: &mut C,
 ) -> (L, Outcome)
     requires free { (p : ℕ) → slot_at slots.old p ≡ None }
-    requires begins { HasPassed S.told S.connections L.told L.are_ends gate [] × (gate.gone ≡ 0) }
-    requires connections { connections ≡ S.connections }
+    requires told { (before : List L.Stream) → S.told before → L.told listener before }
+    requires bound { connections ≡ S.connections }
     ensures serves { ServesMany C.now_gives S.told (L.told result.0) L.are_ends
         ⟦<Gathered<L::End> as Read>⟧.remaining
         ⟦<Outbox<L::End> as Write>⟧.contents clock.old clock.new
@@ -134,7 +132,7 @@ fn serve_through<K: Keeper, C: Clock, L: Listener, R: time::Clock, S: Start<L::S
     ensures unstaged { StaysUnstaged K.Keeper office.old.keeper office.new.keeper }
     ensures never_less { K.faults office.old.keeper ≤ K.faults office.new.keeper }
 {
-    let mut sockets: Sockets<'_, R, L, S> = Sockets::new(book, gate);
+    let mut sockets: Sockets<'_, R, L, S> = Sockets::new(book, Gate::new(listener, connections));
     let faulty = office.serve_crowd(&mut sockets, slots, clock);
     let gate = sockets.into_gate();
     let came = gate.came;

@@ -52,7 +52,7 @@ impl<'a, R: time::Clock, L: Listener, S: Start<L::Stream>> Sockets<'a, R, L, S> 
 
     /// The gate.
     pub(crate) fn into_gate(self) -> Gate<L, L::Stream>
-        ensures { result ≡ self.gate }
+        ensures { result ≡ self.entry.gate }
     {
         self.gate
     }
@@ -64,9 +64,7 @@ impl<'a, R: time::Clock, L: Listener, S: Start<L::Stream>> Sockets<'a, R, L, S> 
         ensures turns { self.new.turns ≡ self.old.turns }
     {
         let index = task.index;
-        let report = self
-            .gate
-            .work(slots, index, task.deed, &mut self.book.buf);
+        let report = self.gate.work(slots, index, task.deed, &mut self.book.buf);
         let deed = self.book.told_of(slots, index, report)?;
         Some(Task { index, deed })
     }
@@ -126,8 +124,7 @@ fn is_open_at<S>(slots: &[Option<Held<S>>], index: usize) -> bool
 }
 
 impl<R: time::Clock, L: Listener, S: Start<L::Stream>> Crowd<Gathered<L::End>, Outbox<L::End>>
-    for Sockets<'_, R, L, S>
-{
+    for Sockets<'_, R, L, S> {
     ghost use Rattle.std.specs.Prelude.{◌≡◌, length, ⊤};
     ghost use Rattle.sockets.specs.Moving.{HasPassed};
 

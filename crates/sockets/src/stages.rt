@@ -304,7 +304,7 @@ impl<R: time::Clock, L: Listener> Book<'_, R, L> {
         report: Report,
     ) -> Option<Deed> {
         match report {
-            Report::Gathered { outcome, is_full } => self.gathered(slots, index, outcome, is_full),
+            Report::Gathered(outcome, is_full) => self.gathered(slots, index, outcome, is_full),
             Report::Reserved(outcome) => self.reserved(slots, index, outcome),
             Report::Settled(room) => self.settled(slots, index, room),
             Report::Failing => self.make_due(index),
