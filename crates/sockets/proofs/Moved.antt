@@ -38,13 +38,13 @@ module _ {S E : Type 0} (are_ends : S → E → E → Type 0) where
   admits_all _ _ _ (accepting.away x xs came away rest) = omega (arith, admits_all xs came away rest)
 
   -- all are turned away
-  pub all_away : (xs : List S) → Admits {E = E} are_ends xs [] (length xs)
+  pub all_away : (xs : List S) → Admits are_ends xs [] (length xs)
   all_away [] = subst (Admits are_ends [] []) (omega arith) accepting.nobody
   all_away (x ∷ xs) = subst (Admits are_ends (x ∷ xs) []) (omega arith) (accepting.away x xs [] (length xs) (all_away xs))
 
 module _ {L S E : Type 0} (told : L → List S → Type 0) (are_ends : S → E → E → Type 0) where
   -- the listener tells what it told, and nothing passed
-  passes_none : (g : Gate L S) → Passes {E = E} told are_ends g g []
+  passes_none : (g : Gate L S) → Passes told are_ends g g []
   passes_none g = record {
     accepted = [];
     admitted = [];
@@ -94,7 +94,7 @@ module _ {L S E : Type 0} (told : L → List S → Type 0) (are_ends : S → E �
 
   -- a gate that begins
   pub passed_none : (had : List S → Type 0) (connections : ℕ) (g : Gate L S) → ((before : List S) → had before → told g.listener before) → g.guest ≡ None → connections ≡ g.to_come
-      → g.came ≡ 0 → HasPassed {E = E} had connections told are_ends g []
+      → g.came ≡ 0 → HasPassed had connections told are_ends g []
   passed_none had connections g tells guest to_come came = record {
     accepted = [];
     admitted = [];
@@ -112,7 +112,7 @@ module _ {L S E : Type 0} (told : L → List S → Type 0) (are_ends : S → E �
       → ((rest : ℕ) → connections ≡ g.to_come + g.came + rest → refused ≡ rest) → Accepts had (told g.listener) are_ends connections came refused
   closed had connections refused g came x rest =
       let away : ℕ = x.away + length (those_of g.guest) in
-      let admits = subst (Admits are_ends (x.admitted ++ those_of g.guest) (came ++ [])) (omega arith) (admits_then are_ends x.admitted (those_of g.guest) came [] x.away (length (those_of g.guest)) x.admits (all_away are_ends (those_of g.guest))) in
+      let admits = admits_then are_ends x.admitted (those_of g.guest) came [] x.away (length (those_of g.guest)) x.admits (all_away are_ends (those_of g.guest)) in
       let all : Admits are_ends x.accepted came away = subst (λ l. Admits are_ends l came away) (sym x.waits) (subst (λ l. Admits are_ends (x.admitted ++ those_of g.guest) l away) (append-nil came) admits) in
       record {
         accepted = x.accepted;
@@ -143,7 +143,7 @@ module _ {L S E : Type 0} (told : L → List S → Type 0) (are_ends : S → E �
     moves_still g a b changes = ([], [], passes_none g, omega arith, changes)
 
     -- nothing goes on in the slots
-    pub moves_called : (g h : Gate L S) (a : List (Option (Seat (Gathered E) (Outbox E)))) → Passes {E = E} told are_ends g h [] → h.gone ≡ g.gone → Moves told are_ends remaining contents g h a a
+    pub moves_called : (g h : Gate L S) (a : List (Option (Seat (Gathered E) (Outbox E)))) → Passes told are_ends g h [] → h.gone ≡ g.gone → Moves told are_ends remaining contents g h a a
     moves_called g h a passes gone = ([], [], passes, omega (arith, gone), same)
 
     -- it is what a crowd says of itself
