@@ -31,6 +31,12 @@ module _ {S E : Type 0} (are_ends : S → E → E → Type 0) where
   admits_then _ ys _ more _ others (accepting.away x xs came away rest) y =
       subst (Admits are_ends (x ∷ (xs ++ ys)) (came ++ more)) (omega arith) (accepting.away x (xs ++ ys) (came ++ more) (away + others) (admits_then xs ys came more away others rest y))
 
+  -- one comes, as it was accepted
+  pub admits_one : (stream : S) (seat : Seat (Gathered E) (Outbox E)) (reader writer : E) → are_ends stream reader writer → seat.reader.inner.inner ≡ reader → seat.writer.inner.inner ≡ writer
+      → IsUntouched seat → Admits are_ends (stream ∷ []) (seat ∷ []) 0
+  admits_one stream seat reader writer ends reads writes untouched =
+      accepting.came stream [] seat [] 0 (subst (λ r. are_ends stream r seat.writer.inner.inner) (sym reads) (subst (are_ends stream reader) (sym writes) ends)) untouched accepting.nobody
+
   -- each came, or was turned away
   pub admits_all : (xs : List S) (came : List (Seat (Gathered E) (Outbox E))) (away : ℕ) → Admits are_ends xs came away → length xs ≡ length came + away
   admits_all _ _ _ accepting.nobody = omega arith
@@ -44,7 +50,7 @@ module _ {S E : Type 0} (are_ends : S → E → E → Type 0) where
 
 module _ {L S E : Type 0} (told : L → List S → Type 0) (are_ends : S → E → E → Type 0) where
   -- the listener tells what it told, and nothing passed
-  passes_none : (g : Gate L S) → Passes told are_ends g g []
+  pub passes_none : (g : Gate L S) → Passes told are_ends g g []
   passes_none g = record {
     accepted = [];
     admitted = [];
@@ -55,6 +61,51 @@ module _ {L S E : Type 0} (told : L → List S → Type 0) (are_ends : S → E �
     admits = accepting.nobody;
     to_come = omega arith;
     counted = omega arith;
+  }
+
+  -- one is accepted, and waits
+  pub accepts_one : (g h : Gate L S) (stream : S) → those_of g.guest ≡ [] → h.guest ≡ Some stream → g.to_come ≡ h.to_come + 1 → h.came ≡ g.came
+      → ((before : List S) → told g.listener before → told h.listener (before ++ stream ∷ [])) → Passes told are_ends g h []
+  accepts_one g h stream free waits to_come came tells = record {
+    accepted = stream ∷ [];
+    admitted = [];
+    away = 0;
+    failed = 0;
+    tells = tells;
+    waits = ap (λ l. l ++ stream ∷ []) free ∙ sym (ap those_of waits);
+    admits = accepting.nobody;
+    to_come = omega (arith, to_come);
+    counted = omega (arith, came);
+  }
+
+  -- none is accepted, and whoever waits, waits on; so many could not be
+  pub accepts_none : (g h : Gate L S) (failed : ℕ) → h.guest ≡ g.guest → g.to_come ≡ h.to_come + failed → h.came ≡ g.came
+      → ((before : List S) → told g.listener before → told h.listener before) → Passes told are_ends g h []
+  accepts_none g h failed guest to_come came tells = record {
+    accepted = [];
+    admitted = [];
+    away = 0;
+    failed = failed;
+    tells = λ before is. subst (told h.listener) (sym (append-nil before)) (tells before is);
+    waits = append-nil (those_of g.guest) ∙ sym (ap those_of guest);
+    admits = accepting.nobody;
+    to_come = omega (arith, to_come);
+    counted = omega (arith, came);
+  }
+
+  -- the one that waits comes, or is turned away
+  pub lets_in : (g h : Gate L S) (stream : S) (came : List (Seat (Gathered E) (Outbox E))) (away : ℕ) → g.guest ≡ Some stream → h.guest ≡ None → h.listener ≡ g.listener
+      → h.to_come ≡ g.to_come → h.came ≡ g.came + length came → Admits are_ends (stream ∷ []) came away → Passes told are_ends g h came
+  lets_in g h stream came away waits gone listener to_come counted admits = record {
+    accepted = [];
+    admitted = stream ∷ [];
+    away = away;
+    failed = 0;
+    tells = λ before is. subst (told h.listener) (sym (append-nil before)) (subst (λ l. told l before) (sym listener) is);
+    waits = append-nil (those_of g.guest) ∙ (ap those_of waits ∙ sym (ap (λ o. stream ∷ those_of o) gone));
+    admits = admits;
+    to_come = omega (arith, to_come);
+    counted = counted;
   }
 
   -- what waits, passes
