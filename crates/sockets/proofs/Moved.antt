@@ -1,6 +1,6 @@
 -- What went on at the gate and in the slots, one thing after another.
-use Rattle.std.proofs.Common.{◌≡◌, ◌∙◌, ◌+◌, ◌++◌, ◌≤◌, ℕ, true, false, zero, suc, List, [], ◌∷◌, Option, None, Some, length, ap, append_assoc, refl, sym, subst, arith}
-use Rattle.std.specs.Prelude.{is_some}
+use Rattle.std.proofs.Common.{◌≡◌, ◌∙◌, ◌+◌, ◌++◌, ◌≤◌, ◌⊎◌, ℕ, inl, inr, true, false, zero, suc, List, [], ◌∷◌, Option, None, Some, length, ap, append_assoc, refl, sym, subst, arith}
+use Rattle.std.specs.Prelude.{IfSome, is_some}
 use Rattle.std.proofs.lemmas.List.{append-nil, length-append}
 use Rattle.office.specs.Crowds.{Changes, same, those_of}
 use Rattle.office.specs.declared.connections.seat.Seat.{Seat}
@@ -20,6 +20,17 @@ module _ {X : Type 0} where
   pub those_none : (x : Option X) → is_some x ≡ false → those_of x ≡ []
   those_none None is = refl
   those_none (Some x) is = absurd cc
+
+-- what is kept of a connection whose ends could not be made, is that one
+pub kept_is : {S : Type 0} (kept given : Option S) (stream : S) → (kept ≡ None) ⊎ (kept ≡ given) → IfSome given (λ same. same ≡ stream) → is_some kept ≡ true → kept ≡ Some stream
+kept_is None given stream or back is = absurd cc
+kept_is (Some x) given stream (inl e) back is = absurd cc
+kept_is (Some x) None stream (inr e) back is = absurd cc
+kept_is (Some x) (Some y) stream (inr e) back is = e ∙ ap Some back
+
+pub none_is : {S : Type 0} (kept : Option S) → is_some kept ≡ false → kept ≡ None
+none_is None is = refl
+none_is (Some x) is = absurd cc
 
 module _ {S E : Type 0} (are_ends : S → E → E → Type 0) where
   -- some were admitted, and then others
@@ -194,8 +205,8 @@ module _ {L S E : Type 0} (told : L → List S → Type 0) (are_ends : S → E �
     moves_still g a b changes = ([], [], passes_none g, omega arith, changes)
 
     -- nothing goes on in the slots
-    pub moves_called : (g h : Gate L S) (a : List (Option (Seat (Gathered E) (Outbox E)))) → Passes told are_ends g h [] → h.gone ≡ g.gone → Moves told are_ends remaining contents g h a a
-    moves_called g h a passes gone = ([], [], passes, omega (arith, gone), same)
+    pub moves_called : (g h : Gate L S) (a b : List (Option (Seat (Gathered E) (Outbox E)))) → Passes told are_ends g h [] → h.gone ≡ g.gone → b ≡ a → Moves told are_ends remaining contents g h a b
+    moves_called g h a b passes gone is = ([], [], passes, omega (arith, gone), subst (λ l. Changes remaining contents a l [] []) (sym is) same)
 
     -- it is what a crowd says of itself
     pub moves_met : (had : List S → Type 0) (connections : ℕ) (g h : Gate L S) (a b : List (Option (Seat (Gathered E) (Outbox E)))) → Moves told are_ends remaining contents g h a b
