@@ -26,9 +26,9 @@ returns-clause-serves g c s kept =
         slots = c.serve_crowd-faulty.new.slots;
         given = all.4;
         serves = one.2;
-        accepts = subst (λ l. Accepts had (told l) ends c.args.connections all.0 c.without-refused.result) (sym c.close.ensures.0)
+        accepts = subst (λ l. Accepts had (told l) ends c.args.connections all.0 c.without-refused.result) (sym c.close-listener.ensures.0)
             (closed told ends had c.args.connections c.without-refused.result c.into_gate-gate.result all.0 passed
-            (λ rest is. c.without-refused.ensures rest (omega (arith, is, c.close.ensures.1))));
+            (λ rest is. c.without-refused.ensures rest (omega (arith, is, c.close-listener.ensures.1))));
         counted = passed.counted;
         all = λ whole. c.have_come-have_all_come.ensures.told ((c.are_all.ensures.each whole).0);
         left = λ whole. (
