@@ -89,8 +89,14 @@ pub fn serve<K: Keeper, C: Clock, L: Listener, R: Net + time::Clock>(
         }
     };
     let slots = slots.as_mut_slice();
-    let (listener, outcome) =
-        serve_through::<K, C, L, R, Brand>(office, book, listener, slots, connections, clock);
+    let (listener, outcome) = serve_through::<K, C, L, R, Brand>(
+        office,
+        book,
+        listener,
+        slots,
+        connections,
+        clock,
+    );
     Served {
         listener,
         outcome: Ok(outcome),

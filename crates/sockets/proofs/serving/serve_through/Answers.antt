@@ -11,7 +11,7 @@ returns-clause-serves g c s kept =
     let had = g.S.Start.told in
     let start = c.new.ensures in
     let first = passed_none told ends had g.S.Start.connections c.new.result (λ before is. subst (λ l. told l before) (sym start.listener) (c.requires.told before is))
-        start.guest (sym c.requires.bound ∙ sym start.to_come) start.came in
+    start.guest (sym c.requires.bound ∙ sym start.to_come) start.came in
     let begun = subst (λ x. HasPassed had g.S.Start.connections told ends x []) (sym c.new-sockets.ensures.gate) first in
     let all = c.serve_crowd-faulty.ensures.serves [] [] (begun, ap (λ x. x.gone) c.new-sockets.ensures.gate ∙ start.gone) (λ p. zero) [] tt in
     let one = all.7 s kept in

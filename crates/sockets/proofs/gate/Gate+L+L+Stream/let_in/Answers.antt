@@ -45,6 +45,6 @@ returns g c =
           }
       | in-Err-open_slot w ↦
           let away = lets_in _ _ c.args.self.now c.match-open_slot.self stream [] (length (stream ∷ [])) waits (ap (λ (x : Gate _ _). x.guest) w.self-is ∙ c.take.ensures.after)
-              (ap (λ (x : Gate _ _). x.listener) w.self-is) (ap (λ (x : Gate _ _). x.to_come) w.self-is) (omega (arith, ap (λ (x : Gate _ _). x.came) w.self-is)) (all_away _ (stream ∷ [])) in
+          (ap (λ (x : Gate _ _). x.listener) w.self-is) (ap (λ (x : Gate _ _). x.to_come) w.self-is) (omega (arith, ap (λ (x : Gate _ _). x.came) w.self-is)) (all_away _ (stream ∷ [])) in
           record { moves = moves_called _ _ _ _ c.args.self.now c.match-open_slot.self c.args.slots.now c.open_slot.new.slots away (ap (λ (x : Gate _ _). x.gone) w.self-is) w.in-Err-open_slot.ensures.full.1 }
     ]
