@@ -18,5 +18,5 @@ pub use office::{
     replay_in_memory, replay_over,
 };
 pub use program::perform;
-pub use sockets::{Limits, Outcome, serve};
+pub use sockets::{Limits, Outcome, Served, serve};
 pub use tasks::{Desk, Init, Link, Links, OfficeFile, Replay, Secret, Serve, Task};

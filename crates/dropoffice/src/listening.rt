@@ -91,7 +91,8 @@ fn serve_at<'a, K: Keeper>(
         return Err(Fault::CannotWrite);
     }
     let mut clock = MachineClock::new(rt);
-    let Ok(outcome) = serve(rt, office, &listener, service.limits, &mut clock) else {
+    let served = serve(rt, office, listener, service.limits, &mut clock);
+    let Ok(outcome) = served.outcome else {
         return Err(Fault::CannotListen);
     };
     if outcome.is_whole && outcome.refused == 0 && outcome.faulty == 0 {

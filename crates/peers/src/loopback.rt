@@ -11,7 +11,7 @@ use trials::published::{DATE, NO_BOX, REQUEST, make_office};
 // So many connections at a listener, of which so many may be open at a time, within a second of patience.
 fn served(
     rt: &HostRuntime,
-    listener: &TcpListener,
+    listener: TcpListener,
     connections: u64,
     open: usize,
 ) -> Result<Outcome, Fail> {
@@ -23,7 +23,7 @@ fn served(
         open,
     };
     let mut clock = FixedClock::new(moment);
-    Ok(serve(rt, &mut office, listener, limits, &mut clock)?)
+    Ok(serve(rt, &mut office, listener, limits, &mut clock).outcome?)
 }
 
 // All that a peer is sent.
@@ -41,7 +41,7 @@ fn two_requests_in_one_piece(rt: HostRuntime) -> Result<(), Fail> {
         peer.write_all(REQUEST)?;
     }
     peer.shutdown(Shutdown::Write)?;
-    let outcome = served(&rt, &listener, 1, 8)?;
+    let outcome = served(&rt, listener, 1, 8)?;
     assert_eq!(rt;
         outcome,
         Outcome {
@@ -65,7 +65,7 @@ fn one_that_says_nothing_holds_nobody(rt: HostRuntime) -> Result<(), Fail> {
     let mut peer = TcpStream::connect(&rt, listener.local_addr()?)?;
     peer.write_all(REQUEST)?;
     peer.shutdown(Shutdown::Write)?;
-    let outcome = served(&rt, &listener, 2, 8)?;
+    let outcome = served(&rt, listener, 2, 8)?;
     assert_eq!(rt;
         outcome,
         Outcome {
@@ -87,7 +87,7 @@ fn at_the_bound_the_silent_one_goes(rt: HostRuntime) -> Result<(), Fail> {
     let mut peer = TcpStream::connect(&rt, listener.local_addr()?)?;
     peer.write_all(REQUEST)?;
     peer.shutdown(Shutdown::Write)?;
-    let outcome = served(&rt, &listener, 2, 1)?;
+    let outcome = served(&rt, listener, 2, 1)?;
     assert_eq!(rt;
         outcome,
         Outcome {
@@ -105,7 +105,7 @@ fn at_the_bound_the_silent_one_goes(rt: HostRuntime) -> Result<(), Fail> {
 #[test]
 fn nobody_comes(rt: HostRuntime) -> Result<(), Fail> {
     let listener = TcpListener::bind(&rt, "127.0.0.1:0")?;
-    let outcome = served(&rt, &listener, 0, 8)?;
+    let outcome = served(&rt, listener, 0, 8)?;
     assert_eq!(rt;
         outcome,
         Outcome {
@@ -120,9 +120,9 @@ fn nobody_comes(rt: HostRuntime) -> Result<(), Fail> {
 
 #[test]
 fn both_ends_are_one_socket(rt: HostRuntime) -> Result<(), Fail> {
-    let listener = TcpListener::bind(&rt, "127.0.0.1:0")?;
+    let mut listener = TcpListener::bind(&rt, "127.0.0.1:0")?;
     let mut peer = TcpStream::connect(&rt, listener.local_addr()?)?;
-    let stream = Listener::accept(&listener)?;
+    let stream = Listener::accept(&mut listener)?;
     let (mut reader, mut writer) = <TcpListener as Listener>::ends(rt.alloc(), stream).map_err(
         |unready| unready.error,
     )?;
@@ -141,9 +141,9 @@ fn both_ends_are_one_socket(rt: HostRuntime) -> Result<(), Fail> {
 
 #[test]
 fn an_end_stays_the_end(rt: HostRuntime) -> Result<(), Fail> {
-    let listener = TcpListener::bind(&rt, "127.0.0.1:0")?;
+    let mut listener = TcpListener::bind(&rt, "127.0.0.1:0")?;
     let mut peer = TcpStream::connect(&rt, listener.local_addr()?)?;
-    let stream = Listener::accept(&listener)?;
+    let stream = Listener::accept(&mut listener)?;
     let (mut reader, _) = <TcpListener as Listener>::ends(rt.alloc(), stream).map_err(
         |unready| unready.error,
     )?;

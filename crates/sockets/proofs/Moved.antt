@@ -1,79 +1,221 @@
--- What went on in the slots, one thing after another.
-use Rattle.std.proofs.Common.{◌≡◌, ◌∙◌, ◌++◌, ℕ, true, false, List, [], ◌∷◌, Option, None, Some, length, ap, sym, subst, arith}
-use Rattle.std.specs.Prelude.{is_some}
-use Rattle.std.specs.List.{AllByRecursion}
-use Rattle.std.proofs.lemmas.List.{length-append}
+-- What went on at the gate and in the slots, one thing after another.
+use Rattle.std.proofs.Common.{◌≡◌, ◌∙◌, ◌+◌, ◌++◌, ◌⊎◌, ℕ, inl, inr, true, false, List, [], ◌∷◌, Option, None, Some, length, ap, append_assoc, refl, sym, subst, arith}
+use Rattle.std.specs.Prelude.{IfSome, is_some}
+use Rattle.std.proofs.lemmas.List.{append-nil, length-append}
 use Rattle.office.specs.Crowds.{Changes, same, those_of}
 use Rattle.office.specs.declared.connections.seat.Seat.{Seat}
 use Rattle.office.proofs.Changing.{changes_then}
-use Rattle.wire.specs.Feeds.{ahead_of}
-use Rattle.wire.specs.Gathering.{ahead_in}
-use Rattle.wire.specs.Outgoing.{waits_out}
 use Rattle.wire.specs.declared.gathered.Gathered.{Gathered}
 use Rattle.wire.specs.declared.outbox.Outbox.{Outbox}
-use Rattle.sockets.specs.Accepting.{IsAccepted}
-use Rattle.sockets.specs.Moving.{Moves}
-use Rattle.sockets.specs.declared.tally.Tally.{Tally}
+use Rattle.sockets.specs.Accepting.{Accepts, Admits, IsUntouched}
+use Rattle.sockets.specs.Accepting as accepting
+use Rattle.sockets.specs.Moving.{HasPassed, Moves, Passes}
+use Rattle.sockets.specs.declared.gate.Gate.{Gate}
 
 module _ {X : Type 0} where
-  all_joined : (P : X → Type 0) (xs ys : List X) → AllByRecursion P xs → AllByRecursion P ys → AllByRecursion P (xs ++ ys)
-  all_joined P [] ys all more = more
-  all_joined P (x ∷ xs) ys all more = (all.0, all_joined P xs ys all.1 more)
-
   pub those_some : (x : Option X) → is_some x ≡ true → length (those_of x) ≡ 1
   those_some None is = absurd cc
   those_some (Some x) is = omega arith
 
-  pub those_none : (x : Option X) → is_some x ≡ false → length (those_of x) ≡ 0
-  those_none None is = omega arith
+  pub those_none : (x : Option X) → is_some x ≡ false → those_of x ≡ []
+  those_none None is = refl
   those_none (Some x) is = absurd cc
 
-module _ {E : Type 0} (accepted : E → E → Type 0) (remaining : Gathered E → Option (List ℕ)) (contents : Outbox E → Option (List ℕ)) where
-  abbrev pub Held : Type 0
-  Held = Seat (Gathered E) (Outbox E)
+-- what is kept of a connection whose ends could not be made, is that one
+pub kept_is : {S : Type 0} (kept given : Option S) (stream : S) → (kept ≡ None) ⊎ (kept ≡ given) → IfSome given (λ same. same ≡ stream) → is_some kept ≡ true → kept ≡ Some stream
+kept_is None given stream or back is = absurd cc
+kept_is (Some x) given stream (inl e) back is = absurd cc
+kept_is (Some x) None stream (inr e) back is = absurd cc
+kept_is (Some x) (Some y) stream (inr e) back is = e ∙ ap Some back
 
-  pub moves_none : (t : Tally) (a : List (Option Held)) → Moves accepted remaining contents t t a a
-  moves_none t a = ([], [], omega arith, omega arith, tt, same)
+pub none_is : {S : Type 0} (kept : Option S) → is_some kept ≡ false → kept ≡ None
+none_is None is = refl
+none_is (Some x) is = absurd cc
 
-  pub moves_then : (t u v : Tally) (a b c : List (Option Held)) → Moves accepted remaining contents t u a b → Moves accepted remaining contents u v b c
-      → Moves accepted remaining contents t v a c
-  moves_then t u v a b c x y = (
-    x.0 ++ y.0,
-    x.1 ++ y.1,
-    omega (arith, x.2, y.2, length-append x.0 y.0),
-    omega (arith, x.3, y.3, length-append x.1 y.1),
-    all_joined (IsAccepted accepted) x.0 y.0 x.4 y.4,
-    changes_then remaining contents a b c x.0 x.1 y.0 y.1 x.5 y.5,
-  )
+module _ {S E : Type 0} (are_ends : S → E → E → Type 0) where
+  -- some were admitted, and then others
+  pub admits_then : (xs ys : List S) (came more : List (Seat (Gathered E) (Outbox E))) (away others : ℕ) → Admits are_ends xs came away → Admits are_ends ys more others
+      → Admits are_ends (xs ++ ys) (came ++ more) (away + others)
+  admits_then _ ys _ more _ others accepting.nobody y = subst (Admits are_ends ys more) (omega arith) y
+  admits_then _ ys _ more _ others (accepting.came x xs seat came away ends untouched rest) y =
+      accepting.came x (xs ++ ys) seat (came ++ more) (away + others) ends untouched (admits_then xs ys came more away others rest y)
+  admits_then _ ys _ more _ others (accepting.away x xs came away rest) y =
+      subst (Admits are_ends (x ∷ (xs ++ ys)) (came ++ more)) (omega arith) (accepting.away x (xs ++ ys) (came ++ more) (away + others) (admits_then xs ys came more away others rest y))
 
-  -- nothing was done
-  pub moves_kept : (t u : Tally) (a b : List (Option Held)) → u.came ≡ t.came → u.gone ≡ t.gone → b ≡ a → Moves accepted remaining contents t u a b
-  moves_kept t u a b came gone is = ([], [], omega (arith, came), omega (arith, gone), tt, subst (λ l. Changes remaining contents a l [] []) (sym is) same)
+  -- one comes, as it was accepted
+  pub admits_one : (stream : S) (seat : Seat (Gathered E) (Outbox E)) (reader writer : E) → are_ends stream reader writer → seat.reader.inner.inner ≡ reader → seat.writer.inner.inner ≡ writer
+      → IsUntouched seat → Admits are_ends (stream ∷ []) (seat ∷ []) 0
+  admits_one stream seat reader writer ends reads writes untouched =
+      accepting.came stream [] seat [] 0 (subst (λ r. are_ends stream r seat.writer.inner.inner) (sym reads) (subst (are_ends stream reader) (sym writes) ends)) untouched accepting.nobody
 
-  -- nobody comes or goes
-  pub moves_still : (t : Tally) (a b : List (Option Held)) → Changes remaining contents a b [] [] → Moves accepted remaining contents t t a b
-  moves_still t a b changes = ([], [], omega arith, omega arith, tt, changes)
+  -- each came, or was turned away
+  pub admits_all : (xs : List S) (came : List (Seat (Gathered E) (Outbox E))) (away : ℕ) → Admits are_ends xs came away → length xs ≡ length came + away
+  admits_all _ _ _ accepting.nobody = omega arith
+  admits_all _ _ _ (accepting.came x xs seat came away ends untouched rest) = omega (arith, admits_all xs came away rest)
+  admits_all _ _ _ (accepting.away x xs came away rest) = omega (arith, admits_all xs came away rest)
 
-  -- it is what a crowd says of itself whose lists are counted so, and were accepted
-  pub moves_met : (t u : Tally) (a b : List (Option Held)) → Moves accepted remaining contents t u a b
-      → (came gone : List Held) → (t.came ≡ length came) × (t.gone ≡ length gone) × AllByRecursion (IsAccepted accepted) came
-      → (more went : List Held) × ((u.came ≡ length (came ++ more)) × (u.gone ≡ length (gone ++ went)) × AllByRecursion (IsAccepted accepted) (came ++ more))
-      × Changes remaining contents a b more went
-  moves_met t u a b x came gone met = (
-    x.0,
-    x.1,
-    (omega (arith, x.2, met.0, length-append came x.0), omega (arith, x.3, met.1, length-append gone x.1), all_joined (IsAccepted accepted) came x.0 met.2 x.4),
-    x.5,
-  )
+  -- all are turned away
+  pub all_away : (xs : List S) → Admits are_ends xs [] (length xs)
+  all_away [] = subst (Admits are_ends [] []) (omega arith) accepting.nobody
+  all_away (x ∷ xs) = subst (Admits are_ends (x ∷ xs) []) (omega arith) (accepting.away x xs [] (length xs) (all_away xs))
 
--- a new connection is as it was accepted
-pub new_accepted : {E : Type 0} (accepted : E → E → Type 0) (seat : Seat (Gathered E) (Outbox E)) (one other : E) (reader : Gathered E) (writer : Outbox E) → accepted one other
-    → seat.reader.inner ≡ reader → reader.inner ≡ one → ahead_in reader ≡ [] → seat.writer.inner ≡ writer → writer.inner ≡ other → waits_out writer ≡ [] → ahead_of seat.standing ≡ []
-    → IsAccepted accepted seat
-new_accepted {E} accepted seat one other reader writer ends is_reader is_one unread is_writer is_other unsent untaken = record {
-  ends = subst (λ e. accepted e seat.writer.inner.inner) (sym (ap (λ (r : Gathered E). r.inner) is_reader ∙ is_one))
-      (subst (accepted one) (sym (ap (λ (w : Outbox E). w.inner) is_writer ∙ is_other)) ends);
-  untaken = untaken;
-  unread = ap ahead_in is_reader ∙ unread;
-  unsent = ap waits_out is_writer ∙ unsent;
-}
+module _ {L S E : Type 0} (told : L → List S → Type 0) (are_ends : S → E → E → Type 0) where
+  -- the listener tells what it told, and nothing passed
+  pub passes_none : (g : Gate L S) → Passes told are_ends g g []
+  passes_none g = record {
+    accepted = [];
+    admitted = [];
+    away = 0;
+    failed = 0;
+    tells = λ before tells. subst (told g.listener) (sym (append-nil before)) tells;
+    waits = append-nil (those_of g.guest);
+    admits = accepting.nobody;
+    to_come = omega arith;
+    counted = omega arith;
+  }
+
+  -- one is accepted, and waits
+  pub accepts_one : (g h : Gate L S) (stream : S) → those_of g.guest ≡ [] → h.guest ≡ Some stream → g.to_come ≡ h.to_come + 1 → h.came ≡ g.came
+      → ((before : List S) → told g.listener before → told h.listener (before ++ stream ∷ [])) → Passes told are_ends g h []
+  accepts_one g h stream free waits to_come came tells = record {
+    accepted = stream ∷ [];
+    admitted = [];
+    away = 0;
+    failed = 0;
+    tells = tells;
+    waits = ap (λ l. l ++ stream ∷ []) free ∙ sym (ap those_of waits);
+    admits = accepting.nobody;
+    to_come = omega (arith, to_come);
+    counted = omega (arith, came);
+  }
+
+  -- none is accepted, and whoever waits, waits on; so many could not be
+  pub accepts_none : (g h : Gate L S) (failed : ℕ) → h.guest ≡ g.guest → g.to_come ≡ h.to_come + failed → h.came ≡ g.came
+      → ((before : List S) → told g.listener before → told h.listener before) → Passes told are_ends g h []
+  accepts_none g h failed guest to_come came tells = record {
+    accepted = [];
+    admitted = [];
+    away = 0;
+    failed = failed;
+    tells = λ before is. subst (told h.listener) (sym (append-nil before)) (tells before is);
+    waits = append-nil (those_of g.guest) ∙ sym (ap those_of guest);
+    admits = accepting.nobody;
+    to_come = omega (arith, to_come);
+    counted = omega (arith, came);
+  }
+
+  -- the one that waits comes, or is turned away
+  pub lets_in : (g h : Gate L S) (stream : S) (came : List (Seat (Gathered E) (Outbox E))) (away : ℕ) → g.guest ≡ Some stream → h.guest ≡ None → h.listener ≡ g.listener
+      → h.to_come ≡ g.to_come → h.came ≡ g.came + length came → Admits are_ends (stream ∷ []) came away → Passes told are_ends g h came
+  lets_in g h stream came away waits gone listener to_come counted admits = record {
+    accepted = [];
+    admitted = stream ∷ [];
+    away = away;
+    failed = 0;
+    tells = λ before is. subst (told h.listener) (sym (append-nil before)) (subst (λ l. told l before) (sym listener) is);
+    waits = append-nil (those_of g.guest) ∙ (ap those_of waits ∙ sym (ap (λ o. stream ∷ those_of o) gone));
+    admits = admits;
+    to_come = omega (arith, to_come);
+    counted = counted;
+  }
+
+  -- what waits, passes
+  waits_then : (a b c : Option S) (xs ys ps qs : List S) → those_of a ++ xs ≡ ps ++ those_of b → those_of b ++ ys ≡ qs ++ those_of c
+      → those_of a ++ (xs ++ ys) ≡ (ps ++ qs) ++ those_of c
+  waits_then a b c xs ys ps qs first then =
+      sym (append_assoc (those_of a) xs ys) ∙ (ap (λ l. l ++ ys) first ∙ (append_assoc ps (those_of b) ys ∙ (ap (λ l. ps ++ l) then ∙ sym (append_assoc ps qs (those_of c)))))
+
+  passes_then : (f g h : Gate L S) (came more : List (Seat (Gathered E) (Outbox E))) → Passes told are_ends f g came → Passes told are_ends g h more
+      → Passes told are_ends f h (came ++ more)
+  passes_then f g h came more x y = record {
+    accepted = x.accepted ++ y.accepted;
+    admitted = x.admitted ++ y.admitted;
+    away = x.away + y.away;
+    failed = x.failed + y.failed;
+    tells = λ before tells. subst (told h.listener) (append_assoc before x.accepted y.accepted) (y.tells (before ++ x.accepted) (x.tells before tells));
+    waits = waits_then f.guest g.guest h.guest x.accepted y.accepted x.admitted y.admitted x.waits y.waits;
+    admits = admits_then are_ends x.admitted y.admitted came more x.away y.away x.admits y.admits;
+    to_come = omega (arith, x.to_come, y.to_come, length-append x.accepted y.accepted);
+    counted = omega (arith, x.counted, y.counted, length-append came more);
+  }
+
+  -- what passed since the gate began, and then this
+  passed_then : (had : List S → Type 0) (connections : ℕ) (g h : Gate L S) (came more : List (Seat (Gathered E) (Outbox E))) → HasPassed had connections told are_ends g came
+      → Passes told are_ends g h more → HasPassed had connections told are_ends h (came ++ more)
+  passed_then had connections g h came more x y = record {
+    accepted = x.accepted ++ y.accepted;
+    admitted = x.admitted ++ y.admitted;
+    away = x.away + y.away;
+    failed = x.failed + y.failed;
+    tells = λ before tells. subst (told h.listener) (append_assoc before x.accepted y.accepted) (y.tells (before ++ x.accepted) (x.tells before tells));
+    waits = waits_then None g.guest h.guest x.accepted y.accepted x.admitted y.admitted x.waits y.waits;
+    admits = admits_then are_ends x.admitted y.admitted came more x.away y.away x.admits y.admits;
+    to_come = omega (arith, x.to_come, y.to_come, length-append x.accepted y.accepted);
+    counted = omega (arith, x.counted, y.counted, length-append came more);
+  }
+
+  -- a gate that begins
+  pub passed_none : (had : List S → Type 0) (connections : ℕ) (g : Gate L S) → ((before : List S) → had before → told g.listener before) → g.guest ≡ None → connections ≡ g.to_come
+      → g.came ≡ 0 → HasPassed had connections told are_ends g []
+  passed_none had connections g tells guest to_come came = record {
+    accepted = [];
+    admitted = [];
+    away = 0;
+    failed = 0;
+    tells = λ before is. subst (told g.listener) (sym (append-nil before)) (tells before is);
+    waits = sym (ap those_of guest);
+    admits = accepting.nobody;
+    to_come = omega (arith, to_come);
+    counted = omega (arith, came);
+  }
+
+  -- where the gate is closed, whoever waits is turned away
+  pub closed : (had : List S → Type 0) (connections refused : ℕ) (g : Gate L S) (came : List (Seat (Gathered E) (Outbox E))) → HasPassed had connections told are_ends g came
+      → ((rest : ℕ) → connections ≡ g.to_come + g.came + rest → refused ≡ rest) → Accepts had (told g.listener) are_ends connections came refused
+  closed had connections refused g came x rest =
+      let away : ℕ = x.away + length (those_of g.guest) in
+      let admits = admits_then are_ends x.admitted (those_of g.guest) came [] x.away (length (those_of g.guest)) x.admits (all_away are_ends (those_of g.guest)) in
+      let all : Admits are_ends x.accepted came away = subst (λ l. Admits are_ends l came away) (sym x.waits) (subst (λ l. Admits are_ends (x.admitted ++ those_of g.guest) l away) (append-nil came) admits) in
+      record {
+        accepted = x.accepted;
+        away = away;
+        failed = x.failed;
+        tells = x.tells;
+        admits = all;
+        within = omega (arith, x.to_come);
+        refused_are = rest (away + x.failed) (omega (arith, x.to_come, x.counted, admits_all are_ends x.accepted came away all));
+      }
+
+  module _ (remaining : Gathered E → Option (List ℕ)) (contents : Outbox E → Option (List ℕ)) where
+    pub moves_none : (g : Gate L S) (a : List (Option (Seat (Gathered E) (Outbox E)))) → Moves told are_ends remaining contents g g a a
+    moves_none g a = ([], [], passes_none g, omega arith, same)
+
+    pub moves_then : (f g h : Gate L S) (a b c : List (Option (Seat (Gathered E) (Outbox E)))) → Moves told are_ends remaining contents f g a b
+        → Moves told are_ends remaining contents g h b c → Moves told are_ends remaining contents f h a c
+    moves_then f g h a b c x y = (
+      x.0 ++ y.0,
+      x.1 ++ y.1,
+      passes_then f g h x.0 y.0 x.2 y.2,
+      omega (arith, x.3, y.3, length-append x.1 y.1),
+      changes_then remaining contents a b c x.0 x.1 y.0 y.1 x.4 y.4,
+    )
+
+    -- nobody comes or goes
+    pub moves_still : (g : Gate L S) (a b : List (Option (Seat (Gathered E) (Outbox E)))) → Changes remaining contents a b [] [] → Moves told are_ends remaining contents g g a b
+    moves_still g a b changes = ([], [], passes_none g, omega arith, changes)
+
+    -- nothing goes on in the slots
+    pub moves_called : (g h : Gate L S) (a b : List (Option (Seat (Gathered E) (Outbox E)))) → Passes told are_ends g h [] → h.gone ≡ g.gone → b ≡ a → Moves told are_ends remaining contents g h a b
+    moves_called g h a b passes gone is = ([], [], passes, omega (arith, gone), subst (λ l. Changes remaining contents a l [] []) (sym is) same)
+
+    -- it is what a crowd says of itself
+    pub moves_met : (had : List S → Type 0) (connections : ℕ) (g h : Gate L S) (a b : List (Option (Seat (Gathered E) (Outbox E)))) → Moves told are_ends remaining contents g h a b
+        → (came gone : List (Seat (Gathered E) (Outbox E))) → HasPassed had connections told are_ends g came × (g.gone ≡ length gone)
+        → (more went : List (Seat (Gathered E) (Outbox E))) × (HasPassed had connections told are_ends h (came ++ more) × (h.gone ≡ length (gone ++ went)))
+        × Changes remaining contents a b more went
+    moves_met had connections g h a b x came gone met = (
+      x.0,
+      x.1,
+      (passed_then had connections g h came x.0 met.0 x.2, omega (arith, x.3, met.1, length-append gone x.1)),
+      x.4,
+    )

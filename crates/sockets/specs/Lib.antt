@@ -1,3 +1,3 @@
-pub mod Accepted
 pub mod Accepting
+pub mod Doing
 pub mod Moving

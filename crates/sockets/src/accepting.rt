@@ -1,71 +1,88 @@
 //! Connections that come.
 use crate::book::Book;
-use crate::door::Call;
-use crate::ends::{Guest, PutOff};
+use crate::gate::{Call, Entry};
 use crate::held::Held;
 use crate::peer::{Peer, Phase};
 use crate::socket::Listener;
-use crate::stages::{Step, Task};
+use crate::stages::{Stage, Step, Task};
 use std::time;
 
 impl<R: time::Clock, L: Listener> Book<'_, R, L> {
-    /// Accepts what comes, if something may: it goes on to a slot that is free, or the connection that is silent longest goes.
-    /// None where nobody comes now.
-    pub(crate) fn accept(&mut self) -> Option<Step<L>> {
-        match self.door.call(self.now) {
-            Call::Came(guest) if self.taken < self.peers.len() => self.let_in(guest),
-            Call::Came(guest) => {
-                self.door.keep(guest);
-                self.make_way()
+    /// What is done next for one to come, where one may: one that waits is let in, or the listener is asked. Where no slot is free
+    /// the connection goes that is silent longest. None where nobody comes now.
+    pub(crate) fn next_to_come(&mut self) -> Option<Step> {
+        if self.door.has_guest() {
+            if self.has_free_slot() {
+                return Some(Step::LetIn);
             }
-            Call::Refused => Some(Step::Go(None)),
-            Call::Wanting => self.make_way(),
-            Call::None => None,
+            return Some(Step::Go(Some(self.make_way()?)));
         }
+        if self.door.is_open() {
+            return Some(Step::Accept);
+        }
+        None
     }
 
-    // The connection that is silent longest goes, if one is.
-    fn make_way(&mut self) -> Option<Step<L>> {
-        let index = self.most_silent()?;
-        let deed = self.release(index)?;
-        Some(Step::Go(Some(Task { index, deed })))
+    /// Whether a slot is free.
+    pub(crate) fn has_free_slot(&self) -> bool {
+        self.taken < self.peers.len()
     }
 
     /// Whether a connection may be accepted, or let in, at once.
     pub(crate) fn may_accept(&self) -> bool {
         if self.door.has_guest() {
-            return self.taken < self.peers.len() || self.most_silent().is_some();
+            return self.has_free_slot() || self.most_silent().is_some();
         }
         self.door.is_open()
     }
 
-    // A connection is let in, if its socket can be set up.
-    fn let_in(&mut self, guest: Guest<L>) -> Option<Step<L>> {
-        match guest.open(self.alloc) {
-            Ok(ends) => Some(Step::Open(ends)),
-            Err(put_off) => self.put_off(put_off),
+    // The connection that is silent longest goes, if one is. Else none comes in this round any more.
+    fn make_way(&mut self) -> Option<Task> {
+        let way = self.way();
+        if way.is_none() {
+            self.stage = Stage::Rooms;
+        }
+        way
+    }
+
+    // The connection that is silent longest, if one is: it goes.
+    fn way(&self) -> Option<Task> {
+        let index = self.most_silent()?;
+        let deed = self.release(index)?;
+        Some(Task { index, deed })
+    }
+
+    /// The listener was asked, and no connection is let in at once.
+    pub(crate) fn called(&mut self, call: Call) -> Option<Task> {
+        match call {
+            Call::Came => self.make_way(),
+            Call::Refused => None,
+            Call::Wanting => {
+                self.door.pause(self.now);
+                self.make_way()
+            }
+            Call::None => {
+                self.door.rest();
+                self.stage = Stage::Rooms;
+                None
+            }
         }
     }
 
-    // It is let in later, if that is for a want that may end; else it is refused.
-    fn put_off(&mut self, put_off: PutOff<L>) -> Option<Step<L>> {
-        if self.door.put_off(put_off, self.now) {
-            return self.make_way();
+    /// A connection was let in, or not.
+    pub(crate) fn entered(&mut self, slots: &[Option<Held<L::End>>], entry: Entry) -> Option<Task> {
+        match entry {
+            Entry::In(index) => self.opened(slots, index),
+            Entry::Away => None,
+            Entry::Wanting => {
+                self.door.pause(self.now);
+                self.make_way()
+            }
         }
-        Some(Step::Go(None))
     }
 
-    /// A connection has come into this slot, or none was free for it. What is there is read at once: only one of which nothing is
-    /// may go for others.
-    pub(crate) fn opened(
-        &mut self,
-        slots: &[Option<Held<L::End>>],
-        slot: Option<usize>,
-    ) -> Option<Task> {
-        let Some(index) = slot else {
-            self.door.turn_away();
-            return None;
-        };
+    // A connection has come into this slot. What is there is read at once: only one of which nothing is may go for others.
+    fn opened(&mut self, slots: &[Option<Held<L::End>>], index: usize) -> Option<Task> {
         self.taken = self.taken.saturating_add(1);
         if let Some(peer) = self.peers.get_mut(index) {
             *peer = Peer::free(self.now);

@@ -1,4 +1,5 @@
 //! What the loop keeps beside the slots: what each peer is at, which turns are due, and what the sockets told.
+use crate::deeds::Deed;
 use crate::door::Door;
 use crate::held::{Held, seat_at};
 use crate::peer::{Peer, Phase};
@@ -7,12 +8,12 @@ use crate::rounds::Rounds;
 use crate::serving::Limits;
 use crate::socket::Listener;
 use crate::stages::Stage;
-use crate::tally::Deed;
 use mio::event::Event;
 use mio::unix::SourceFd;
 use mio::{Events, Interest, Poll, Token};
 use std::alloc::{AllocError, Global};
 use std::io::ErrorKind;
+use std::marker::PhantomData;
 use std::net::Net;
 use std::os::fd::AsRawFd;
 use std::time::{Duration, Instant};
@@ -42,7 +43,7 @@ pub(crate) struct Book<'a, R, L: Listener> {
     pub(crate) taken: usize,
     pub(crate) rounds: Rounds,
     pub(crate) rooms: Rooms,
-    pub(crate) door: Door<'a, L>,
+    pub(crate) door: Door,
     pub(crate) stage: Stage,
     /// The room for the next turn, if there is one.
     pub(crate) room: Option<Room>,
@@ -57,6 +58,8 @@ pub(crate) struct Book<'a, R, L: Listener> {
     pub(crate) is_behind: bool,
     /// Whether more answers wait than before.
     pub(crate) is_laden: bool,
+    // Whose connections stand in the slots.
+    of: PhantomData<L>,
 }
 
 impl<'a, R: Net + time::Clock, L: Listener> Book<'a, R, L> {
@@ -68,7 +71,7 @@ impl<'a, R: Net + time::Clock, L: Listener> Book<'a, R, L> {
     pub(crate) fn new(
         rt: &'a R,
         alloc: Global,
-        listener: &'a L,
+        listener: &L,
         limits: Limits,
     ) -> io::Result<Book<'a, R, L>> {
         let poll = Poll::new(rt)?;
@@ -90,7 +93,7 @@ impl<'a, R: Net + time::Clock, L: Listener> Book<'a, R, L> {
             taken: 0,
             rounds: Rounds::with_capacity(alloc, limits.open)?,
             rooms: Rooms::beside(alloc, limits.open)?,
-            door: Door::new(listener, limits.connections),
+            door: Door::new(),
             stage: Stage::Turns,
             room: None,
             turned: None,
@@ -99,6 +102,7 @@ impl<'a, R: Net + time::Clock, L: Listener> Book<'a, R, L> {
             reads: 0,
             is_behind: false,
             is_laden: false,
+            of: PhantomData,
         })
     }
 }

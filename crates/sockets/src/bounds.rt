@@ -1,9 +1,9 @@
 //! What lasts too long, and which connection is let go for a new one.
 use crate::book::Book;
+use crate::deeds::Deed;
 use crate::held::{Held, waiting_len};
 use crate::peer::Phase;
 use crate::socket::Listener;
-use crate::tally::Deed;
 use std::io::ErrorKind;
 use std::time;
 use std::time::{Duration, Instant};

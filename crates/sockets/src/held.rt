@@ -1,5 +1,10 @@
 //! The connections in their slots, as the loop looks at them.
+ghost use Rattle.std.specs.Prelude.{◌≡◌};
+ghost use Rattle.office.specs.Seats.{IsNew};
+ghost use Rattle.sockets.specs.Accepting.{IsUntouched};
+
 use office::Seat;
+use std::alloc::Global;
 use std::io::{Read, Write};
 use wire::{Gathered, Outbox};
 
@@ -28,4 +33,16 @@ pub(crate) fn waiting_len<S: Write>(slots: &[Option<Held<S>>], index: usize) -> 
         Some(seat) => seat.writer.inner.waiting().len(),
         None => 0,
     }
+}
+
+/// A connection of which these are the ends. Nothing was read of it, or written to it.
+pub(crate) fn new_seat<S: Read + Write>(alloc: Global, reader: S, writer: S) -> Held<S>
+    ensures new { IsNew result }
+    ensures reader { result.reader.inner.inner ≡ reader }
+    ensures writer { result.writer.inner.inner ≡ writer }
+    ensures untouched { IsUntouched result }
+{
+    let reader = Gathered::new(alloc, reader);
+    let writer = Outbox::new(alloc, writer);
+    Seat::new(alloc, reader, writer)
 }

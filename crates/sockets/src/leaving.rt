@@ -1,10 +1,10 @@
 //! Leaving: a socket that is closed over bytes that nobody read is reset, and its peer may lose the last answer. So the peer is
 //! told that no more comes, and what it still sends is taken for a while.
 use crate::book::Book;
+use crate::deeds::Deed;
 use crate::held::{Held, seat_at};
 use crate::peer::Phase;
 use crate::socket::{End, Listener};
-use crate::tally::Deed;
 use std::io::ErrorKind;
 use std::net::Shutdown;
 use std::{io, time};

@@ -4,8 +4,9 @@
 mod accepting;
 mod book;
 mod bounds;
+mod deeds;
 mod door;
-mod ends;
+mod gate;
 mod held;
 mod leaving;
 mod peer;
@@ -17,7 +18,7 @@ mod serving;
 mod socket;
 mod sockets;
 mod stages;
-mod tally;
+mod start;
 
-pub use serving::{Limits, Outcome, serve};
+pub use serving::{Limits, Outcome, Served, serve};
 pub use socket::{End, Listener, TcpEnd, Unready};

@@ -1,10 +1,10 @@
 //! Reading ahead: a turn is due once a message is whole.
 use crate::book::{Book, MOST_READ};
+use crate::deeds::Deed;
 use crate::held::{Held, ahead_len, seat_at};
 use crate::peer::{BODY_STEP, Phase};
 use crate::rooms::OWN_ROOM;
 use crate::socket::Listener;
-use crate::tally::Deed;
 use std::alloc::AllocError;
 use std::io::ErrorKind;
 use std::time;

@@ -1,13 +1,13 @@
 //! Answers that wait until their peers take them.
 use crate::book::Book;
+use crate::deeds::Deed;
 use crate::held::{Held, ahead_len, seat_at, waiting_len};
 use crate::peer::Phase;
 use crate::socket::{End, Listener};
-use crate::tally::Deed;
 use mio::unix::SourceFd;
 use mio::{Interest, Token};
 use office::SessionEnd;
-use std::io::ErrorKind;
+use std::io::{ErrorKind, Write};
 use std::net::Shutdown;
 use std::{io, time};
 use wire::{Room, Sending};
@@ -30,6 +30,9 @@ impl<R: time::Clock, L: Listener> Book<'_, R, L> {
             self.give_room_back(index);
         }
         self.enter(index, Phase::Silent);
+        if is_over(slots, index) {
+            return self.go_on(slots, index);
+        }
         Some(Deed::Send)
     }
 
@@ -122,6 +125,14 @@ impl<R: time::Clock, L: Listener> Book<'_, R, L> {
         let stream = &seat_at(slots, index)?.reader.inner.inner;
         let _ = stream.shutdown(Shutdown::Both);
         Some(Deed::Send)
+    }
+}
+
+// Whether its session has ended, and nothing is to be sent any more.
+fn is_over<S: Write>(slots: &[Option<Held<S>>], index: usize) -> bool {
+    match seat_at(slots, index) {
+        Some(seat) => seat.end().is_some() && seat.writer.inner.waiting().is_empty(),
+        None => false,
     }
 }
 

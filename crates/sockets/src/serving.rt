@@ -1,17 +1,20 @@
 //! A listener's connections, served by an office in turn.
-ghost use Rattle.std.specs.Prelude.{◌≡◌, ◌≤◌, ◌+◌, ℕ, IfErr, IfOk, None, true};
+ghost use Rattle.std.specs.Prelude.{◌≡◌, ◌≤◌, ◌+◌, ℕ, List, IfErr, IfOk, None, true};
 ghost use Rattle.office.specs.Crowds.{slot_at};
 ghost use Rattle.office.specs.Premise.{StaysUnstaged};
-ghost use Rattle.sockets.specs.Accepted.{AreAccepted};
 ghost use Rattle.sockets.specs.Accepting.{ServesMany};
 
+use crate::book::Book;
+use crate::gate::Gate;
 use crate::held::Held;
 use crate::socket::Listener;
 use crate::sockets::Sockets;
+use crate::start::Start;
 use keeper::Keeper;
 use office::{Clock, Office};
 use std::alloc::{AllocError, Global};
 use std::io::{Read, Write};
+use std::marker::Brand;
 use std::net::Net;
 use std::time::Duration;
 use std::{io, time};
@@ -42,46 +45,122 @@ pub struct Outcome {
     pub is_whole: bool,
 }
 
+/// A listener behind a service, and what came of it.
+#[derive(Drop)]
+pub struct Served<L> {
+    /// The listener.
+    pub listener: L,
+    /// What came of it. The error is that memory was refused, or that the system can't tell which sockets are ready, or what time it
+    /// is. Nothing was accepted then.
+    pub outcome: io::Result<Outcome>,
+}
+
 /// Accepts so many connections of a listener and serves them in turn, a message at a time, in one loop that waits for none of
 /// them. It ends once all have come, or could not be accepted, and have gone. There is one order of all messages, in which the
 /// machine leads from the state before to the state after; each connection's answers, and its end, are those of its own
-/// messages; and over all of them an upload acts once.
-///
-/// # Errors
-///
-/// Memory was refused, or the system can't tell which sockets are ready, or what time it is. Nothing was accepted then.
+/// messages; and over all of them an upload acts once. The listener tells which connections it accepted: each of these came, once
+/// and in their order, or was refused and is counted so.
 pub fn serve<K: Keeper, C: Clock, L: Listener, R: Net + time::Clock>(
     rt: &R,
     office: &mut Office<K>,
-    listener: &L,
+    listener: L,
     limits: Limits,
     clock: &mut C,
-) -> io::Result<Outcome>
-    ensures serves { IfOk result (λ outcome. ServesMany C.now_gives (AreAccepted L.brings L.are_ends)
+) -> Served<L>
+    ensures serves { IfOk result.outcome (λ outcome. ServesMany C.now_gives
+        (L.told listener) (L.told result.listener) L.are_ends
         ⟦<Gathered<L::End> as Read>⟧.remaining
         ⟦<Outbox<L::End> as Write>⟧.contents clock.old clock.new
         K.Keeper office.old.keeper office.new.keeper limits.connections outcome) }
-    ensures nothing { IfErr result (λ e. (office.new ≡ office.old) × (clock.new ≡ clock.old)) }
+    ensures nothing { IfErr result.outcome (λ e. (result.listener ≡ listener)
+        × (office.new ≡ office.old) × (clock.new ≡ clock.old)) }
     ensures honest { K.is_honest office.new.keeper → K.is_honest office.old.keeper }
     ensures unstaged { StaysUnstaged K.Keeper office.old.keeper office.new.keeper }
     ensures never_less { K.faults office.old.keeper ≤ K.faults office.new.keeper }
 {
-    let open = limits.open.max(1);
-    let alloc = office.alloc;
-    let mut sockets = Sockets::new(rt, alloc, listener, Limits { open, ..limits })?;
-    let mut slots = free_slots(alloc, open)?;
+    let connections = limits.connections;
+    let (book, mut slots) = match prepare(rt, office.alloc, &listener, limits) {
+        Ok(prepared) => prepared,
+        Err(error) => {
+            return Served {
+                listener,
+                outcome: Err(error),
+            };
+        }
+    };
     let slots = slots.as_mut_slice();
+    let (listener, outcome) = serve_through::<K, C, L, R, Brand>(
+        office,
+        book,
+        listener,
+        slots,
+        connections,
+        clock,
+    );
+    Served {
+        listener,
+        outcome: Ok(outcome),
+    }
+}
+
+// What the loop keeps, and free slots.
+fn prepare<'a, L: Listener, R: Net + time::Clock>(
+    rt: &'a R,
+    alloc: Global,
+    listener: &L,
+    limits: Limits,
+) -> io::Result<(Book<'a, R, L>, Vec<Option<Held<L::End>>>)>
+    ensures { IfOk result (λ prepared. (p : ℕ) → slot_at prepared.1.items p ≡ None) }
+{
+    let open = limits.open.max(1);
+    let book = Book::new(rt, alloc, listener, Limits { open, ..limits })?;
+    let slots = free_slots(alloc, open)?;
+    Ok((book, slots))
+}
+
+// Serves so many of those that the listener accepts, and gives it back.
+fn serve_through<K: Keeper, C: Clock, L: Listener, R: time::Clock, S: Start<L::Stream>>(
+    office: &mut Office<K>,
+    book: Book<'_, R, L>,
+    listener: L,
+    slots: &mut [Option<Held<L::End>>],
+    connections: u64,
+    clock: &mut C,
+) -> (L, Outcome)
+    requires free { (p : ℕ) → slot_at slots.old p ≡ None }
+    requires told { (before : List L.Stream) → S.told before → L.told listener before }
+    requires bound { connections ≡ S.connections }
+    ensures serves { ServesMany C.now_gives S.told (L.told result.0) L.are_ends
+        ⟦<Gathered<L::End> as Read>⟧.remaining
+        ⟦<Outbox<L::End> as Write>⟧.contents clock.old clock.new
+        K.Keeper office.old.keeper office.new.keeper connections result.1 }
+    ensures honest { K.is_honest office.new.keeper → K.is_honest office.old.keeper }
+    ensures unstaged { StaysUnstaged K.Keeper office.old.keeper office.new.keeper }
+    ensures never_less { K.faults office.old.keeper ≤ K.faults office.new.keeper }
+{
+    let mut sockets: Sockets<'_, R, L, S> = Sockets::new(book, Gate::new(listener, connections));
     let faulty = office.serve_crowd(&mut sockets, slots, clock);
-    let came = sockets.tally.came;
-    let refused = sockets.refused();
-    let have_all_come = have_come(came, refused, limits.connections);
-    let have_all_gone = are_as_many(came, sockets.tally.gone);
-    Ok(Outcome {
+    let gate = sockets.into_gate();
+    let came = gate.came;
+    let gone = gate.gone;
+    let (listener, to_come) = gate.close();
+    let refused = without(connections, to_come, came);
+    let have_all_come = have_come(came, refused, connections);
+    let have_all_gone = are_as_many(came, gone);
+    let outcome = Outcome {
         came,
         refused,
         faulty,
         is_whole: are_all(have_all_come, have_all_gone, are_free(slots)),
-    })
+    };
+    (listener, outcome)
+}
+
+// How many of all are neither of these nor of those.
+fn without(all: u64, these: u64, those: u64) -> u64
+    ensures { (rest : ℕ) → all ≡ these + those + rest → result ≡ rest }
+{
+    all.saturating_sub(these).saturating_sub(those)
 }
 
 // Whether all three hold.

@@ -1,5 +1,5 @@
 //! What is asked of a listener, and of the ends of the connections that it brings.
-ghost use Rattle.std.specs.Prelude.{◌≡◌, IfErr, IfOk, IfSome};
+ghost use Rattle.std.specs.Prelude.{◌≡◌, ◌++◌, ◌∷◌, [], List, IfErr, IfOk, IfSome};
 
 use std::alloc::{AllocError, Global};
 use std::io;
@@ -39,15 +39,15 @@ pub struct Unready<S> {
 }
 
 /// A listener whose connections are served.
-pub trait Listener: AsRawFd {
+pub trait Listener: AsRawFd + Drop {
     /// A connection, as it was accepted.
     type Stream: Drop;
 
     /// One of its ends.
     type End: End;
 
-    /// An `accept` gave it.
-    ghost brings: { Self.Stream → Type 0 };
+    /// Which connections it accepted so far, in their order.
+    ghost told: { Self → List Self.Stream → Type 0 };
 
     /// The two ends of a connection: the one that is read, and the one that is written to.
     ghost are_ends: { Self.Stream → Self.End → Self.End → Type 0 };
@@ -64,8 +64,11 @@ pub trait Listener: AsRawFd {
     /// # Errors
     ///
     /// It could not be accepted; `WouldBlock` tells that none is there now.
-    fn accept(&self) -> io::Result<Self::Stream>
-        ensures brought { IfOk result brings };
+    fn accept(&mut self) -> io::Result<Self::Stream>
+        ensures came { IfOk result (λ stream. (before : List Self.Stream)
+            → told self.old before → told self.new (before ++ stream ∷ [])) }
+        ensures none { IfErr result (λ e. (before : List Self.Stream)
+            → told self.old before → told self.new before) };
 
     /// The ends of a connection. From now on its reads and writes do not wait, and what is written goes out at once.
     ///
@@ -166,7 +169,7 @@ impl Listener for TcpListener {
 
     ghost use Rattle.std.specs.Prelude.{◌≡◌, ⊤};
 
-    ghost brings = { λ _. ⊤ };
+    ghost told = { λ _ _. ⊤ };
 
     ghost are_ends = { λ stream one other. (one.stream.value ≡ stream) × (other.stream.value ≡ stream) };
 
@@ -174,7 +177,7 @@ impl Listener for TcpListener {
         TcpListener::set_nonblocking(self, nonblocking)
     }
 
-    fn accept(&self) -> io::Result<TcpStream> {
+    fn accept(&mut self) -> io::Result<TcpStream> {
         let (stream, _) = TcpListener::accept(self)?;
         Ok(stream)
     }

@@ -1,30 +1,28 @@
 //! The sockets of a listener's peers, as the crowd around an office.
-ghost use Rattle.std.specs.Prelude.{◌≡◌, ◌<◌, true, IfOk};
+ghost use Rattle.std.specs.Prelude.{◌≡◌, ◌<◌, true};
 ghost use Rattle.office.specs.Crowds.{IsOpenAt};
-ghost use Rattle.sockets.specs.Accepted.{AreAccepted};
 ghost use Rattle.sockets.specs.Moving.{Moves};
 
 use crate::book::Book;
-use crate::ends::Ends;
+use crate::gate::{Call, Gate};
 use crate::held::{Held, seat_at};
-use crate::serving::Limits;
 use crate::socket::Listener;
 use crate::stages::{Step, Task};
-use crate::tally::Tally;
+use crate::start::Start;
 use office::{Crowd, Due};
-use std::alloc::Global;
 use std::io::{Read, Write};
-use std::net::Net;
-use std::{io, time};
+use std::marker::PhantomData;
+use std::time;
 use wire::{Gathered, Outbox, Room};
 
 /// The sockets of a listener's peers.
 #[derive(Drop)]
-pub(crate) struct Sockets<'a, R, L: Listener> {
+pub(crate) struct Sockets<'a, R, L: Listener, S> {
     book: Book<'a, R, L>,
-    pub(crate) tally: Tally,
+    gate: Gate<L, L::Stream>,
     // How many turns it may give still.
     turns: u64,
+    start: PhantomData<S>,
     ghost few: { turns < 18446744073709551616 },
 }
 
@@ -39,70 +37,73 @@ enum Next {
     Over,
 }
 
-impl<'a, R: Net + time::Clock, L: Listener> Sockets<'a, R, L> {
-    /// Sockets of which none has come.
-    ///
-    /// # Errors
-    ///
-    /// Memory was refused, or the system can't tell which sockets are ready, or what time it is.
-    pub(crate) fn new(
-        rt: &'a R,
-        alloc: Global,
-        listener: &'a L,
-        limits: Limits,
-    ) -> io::Result<Sockets<'a, R, L>>
-        ensures { IfOk result (λ sockets. (sockets.tally.came ≡ 0) × (sockets.tally.gone ≡ 0)) }
+impl<'a, R: time::Clock, L: Listener, S: Start<L::Stream>> Sockets<'a, R, L, S> {
+    /// The sockets behind a gate.
+    pub(crate) fn new(book: Book<'a, R, L>, gate: Gate<L, L::Stream>) -> Sockets<'a, R, L, S>
+        ensures gate { result.gate ≡ gate }
     {
-        Ok(Sockets {
-            book: Book::new(rt, alloc, listener, limits)?,
-            tally: Tally::new(),
+        Sockets {
+            book,
+            gate,
             turns: u64::MAX,
-        })
+            start: PhantomData,
+        }
     }
-}
 
-impl<R: time::Clock, L: Listener> Sockets<'_, R, L> {
-    /// How many connections could not be accepted.
-    pub(crate) fn refused(&self) -> u64 {
-        self.book.door.refused
+    /// The gate.
+    pub(crate) fn into_gate(self) -> Gate<L, L::Stream>
+        ensures { result ≡ self.entry.gate }
+    {
+        self.gate
     }
 
     // Does this, and answers what is done next.
     fn work(&mut self, slots: &mut [Option<Held<L::End>>], task: Task) -> Option<Task>
-        ensures moves { Moves (AreAccepted L.brings L.are_ends) ⟦<Gathered<L::End> as Read>⟧.remaining
-            ⟦<Outbox<L::End> as Write>⟧.contents self.old.tally self.new.tally slots.old slots.new }
+        ensures moves { Moves L.told L.are_ends ⟦<Gathered<L::End> as Read>⟧.remaining
+            ⟦<Outbox<L::End> as Write>⟧.contents self.old.gate self.new.gate slots.old slots.new }
         ensures turns { self.new.turns ≡ self.old.turns }
     {
         let index = task.index;
-        let report = self
-            .tally
-            .work::<L>(slots, index, task.deed, &mut self.book.buf);
+        let report = self.gate.work(slots, index, task.deed, &mut self.book.buf);
         let deed = self.book.told_of(slots, index, report)?;
         Some(Task { index, deed })
     }
 
-    // Puts a connection that was accepted into a free slot.
-    fn open(&mut self, slots: &mut [Option<Held<L::End>>], ends: Ends<L>) -> Option<Task>
-        ensures moves { Moves (AreAccepted L.brings L.are_ends) ⟦<Gathered<L::End> as Read>⟧.remaining
-            ⟦<Outbox<L::End> as Write>⟧.contents self.old.tally self.new.tally slots.old slots.new }
+    // Asks the listener for a connection, and lets it in where a slot is free.
+    fn accept(&mut self, slots: &mut [Option<Held<L::End>>]) -> Option<Task>
+        ensures moves { Moves L.told L.are_ends ⟦<Gathered<L::End> as Read>⟧.remaining
+            ⟦<Outbox<L::End> as Write>⟧.contents self.old.gate self.new.gate slots.old slots.new }
         ensures turns { self.new.turns ≡ self.old.turns }
     {
-        let slot = self.tally.open(slots, self.book.alloc, ends);
-        self.book.opened(slots, slot)
+        match self.gate.call() {
+            Call::Came if self.book.has_free_slot() => self.let_in(slots),
+            call => self.book.called(call),
+        }
+    }
+
+    // Lets the connection that waits into a slot.
+    fn let_in(&mut self, slots: &mut [Option<Held<L::End>>]) -> Option<Task>
+        ensures moves { Moves L.told L.are_ends ⟦<Gathered<L::End> as Read>⟧.remaining
+            ⟦<Outbox<L::End> as Write>⟧.contents self.old.gate self.new.gate slots.old slots.new }
+        ensures turns { self.new.turns ≡ self.old.turns }
+    {
+        let entry = self.gate.let_in(slots, self.book.alloc);
+        self.book.entered(slots, entry)
     }
 
     // Does the task, if there is one; or else goes on to what is next.
     fn go(&mut self, slots: &mut [Option<Held<L::End>>], task: Option<Task>) -> Next
-        ensures moves { Moves (AreAccepted L.brings L.are_ends) ⟦<Gathered<L::End> as Read>⟧.remaining
-            ⟦<Outbox<L::End> as Write>⟧.contents self.old.tally self.new.tally slots.old slots.new }
+        ensures moves { Moves L.told L.are_ends ⟦<Gathered<L::End> as Read>⟧.remaining
+            ⟦<Outbox<L::End> as Write>⟧.contents self.old.gate self.new.gate slots.old slots.new }
         ensures turns { self.new.turns ≡ self.old.turns }
     {
         if let Some(task) = task {
             return Next::Go(self.work(slots, task));
         }
-        match self.book.step(slots) {
+        match self.book.step(slots, self.gate.coming()) {
             Step::Go(task) => Next::Go(task),
-            Step::Open(ends) => Next::Go(self.open(slots, ends)),
+            Step::Accept => Next::Go(self.accept(slots)),
+            Step::LetIn => Next::Go(self.let_in(slots)),
             Step::Turn(due) => Next::Turn(due),
             Step::Over => Next::Over,
         }
@@ -122,13 +123,13 @@ fn is_open_at<S>(slots: &[Option<Held<S>>], index: usize) -> bool
     }
 }
 
-impl<R: time::Clock, L: Listener> Crowd<Gathered<L::End>, Outbox<L::End>> for Sockets<'_, R, L> {
+impl<R: time::Clock, L: Listener, S: Start<L::Stream>> Crowd<Gathered<L::End>, Outbox<L::End>>
+    for Sockets<'_, R, L, S> {
     ghost use Rattle.std.specs.Prelude.{◌≡◌, length, ⊤};
-    ghost use Rattle.std.specs.List.{AllByRecursion};
-    ghost use Rattle.sockets.specs.Accepting.{IsAccepted};
+    ghost use Rattle.sockets.specs.Moving.{HasPassed};
 
-    ghost met = { λ s came gone. (s.tally.came ≡ length came) × (s.tally.gone ≡ length gone)
-        × AllByRecursion (IsAccepted (AreAccepted L.brings L.are_ends)) came };
+    ghost met = { λ s came gone. HasPassed S.told S.connections L.told L.are_ends s.gate came
+        × (s.gate.gone ≡ length gone) };
 
     ghost gave = { λ _ _ _. ⊤ };
 

@@ -1,11 +1,11 @@
 //! The loop, a step at a time: turns, then what the sockets tell, what was left to be read, what lasts too long, what comes, and
 //! what waits for room.
 use crate::book::{Book, LISTENER};
-use crate::ends::Ends;
+use crate::deeds::{Deed, Report};
+use crate::gate::Coming;
 use crate::held::{Held, seat_at};
 use crate::peer::Phase;
 use crate::socket::Listener;
-use crate::tally::{Deed, Report};
 use mio::event::Event;
 use office::Due;
 use std::io::ErrorKind;
@@ -56,11 +56,13 @@ impl Task {
 
 /// What is next.
 #[derive(Drop)]
-pub(crate) enum Step<L: Listener> {
+pub(crate) enum Step {
     /// This is done, if anything is.
     Go(Option<Task>),
-    /// A connection comes.
-    Open(Ends<L>),
+    /// The listener is asked for a connection.
+    Accept,
+    /// The one that waits is let into a slot.
+    LetIn,
     /// A turn is due.
     Turn(Due),
     /// All have come and gone.
@@ -78,8 +80,9 @@ impl<R: time::Clock, L: Listener> Book<'_, R, L> {
         Some(Task { index, deed })
     }
 
-    /// What is next, where nothing is left to be done.
-    pub(crate) fn step(&mut self, slots: &[Option<Held<L::End>>]) -> Step<L> {
+    /// What is next, where nothing is left to be done, and these may come.
+    pub(crate) fn step(&mut self, slots: &[Option<Held<L::End>>], coming: Coming) -> Step {
+        self.door.note(coming);
         self.reads = MOST_READS;
         match self.stage {
             Stage::Turns => self.step_turns(slots),
@@ -92,7 +95,7 @@ impl<R: time::Clock, L: Listener> Book<'_, R, L> {
     }
 
     // The next turn of the round. Behind the last one it is waited for what the sockets tell.
-    fn step_turns(&mut self, slots: &[Option<Held<L::End>>]) -> Step<L> {
+    fn step_turns(&mut self, slots: &[Option<Held<L::End>>]) -> Step {
         if let Some(index) = self.rounds.pop() {
             return self.turn(index);
         }
@@ -104,7 +107,7 @@ impl<R: time::Clock, L: Listener> Book<'_, R, L> {
     }
 
     // The turn of a slot, if it is due still.
-    fn turn(&mut self, index: usize) -> Step<L> {
+    fn turn(&mut self, index: usize) -> Step {
         if self.phase(index) != Phase::Due {
             return Step::Go(None);
         }
@@ -124,12 +127,12 @@ impl<R: time::Clock, L: Listener> Book<'_, R, L> {
     }
 
     // This is done to the connection, if anything is.
-    fn go(&self, index: usize, deed: Option<Deed>) -> Step<L> {
+    fn go(&self, index: usize, deed: Option<Deed>) -> Step {
         Step::Go(deed.map(|deed| Task { index, deed }))
     }
 
     // One of the events that the last wait told.
-    fn step_events(&mut self, slots: &[Option<Held<L::End>>], at: usize) -> Step<L> {
+    fn step_events(&mut self, slots: &[Option<Held<L::End>>], at: usize) -> Step {
         let Some(event) = self.told(at) else {
             self.stage = self.behind_or_not();
             return Step::Go(None);
@@ -179,7 +182,7 @@ impl<R: time::Clock, L: Listener> Book<'_, R, L> {
     }
 
     // A connection that may have been left to be read on.
-    fn step_behind(&mut self, slots: &[Option<Held<L::End>>], at: usize) -> Step<L> {
+    fn step_behind(&mut self, slots: &[Option<Held<L::End>>], at: usize) -> Step {
         if at >= self.peers.len() {
             self.stage = self.look_or_not();
             return Step::Go(None);
@@ -211,7 +214,7 @@ impl<R: time::Clock, L: Listener> Book<'_, R, L> {
     }
 
     // A connection that may be over its bound.
-    fn step_look(&mut self, slots: &[Option<Held<L::End>>], at: usize) -> Step<L> {
+    fn step_look(&mut self, slots: &[Option<Held<L::End>>], at: usize) -> Step {
         if at >= self.peers.len() {
             self.stage = self.accept_or_not();
             return Step::Go(None);
@@ -222,7 +225,7 @@ impl<R: time::Clock, L: Listener> Book<'_, R, L> {
     }
 
     // A connection that may come. One that came, and whose message was there, has its turn before.
-    fn step_accept(&mut self, slots: &[Option<Held<L::End>>], left: usize) -> Step<L> {
+    fn step_accept(&mut self, slots: &[Option<Held<L::End>>], left: usize) -> Step {
         if let Some(index) = self.rounds.pop() {
             return self.turn(index);
         }
@@ -230,14 +233,14 @@ impl<R: time::Clock, L: Listener> Book<'_, R, L> {
             Some(left) => Stage::Accept(left),
             None => Stage::Rooms,
         };
-        match self.accept() {
+        match self.next_to_come() {
             Some(step) => step,
             None => self.step_rooms(slots),
         }
     }
 
     // Room for one that waits for it; or what is cut off for others. Behind the last one the next round begins.
-    fn step_rooms(&mut self, slots: &[Option<Held<L::End>>]) -> Step<L> {
+    fn step_rooms(&mut self, slots: &[Option<Held<L::End>>]) -> Step {
         self.stage = Stage::Rooms;
         if self.is_laden {
             self.is_laden = false;
@@ -301,7 +304,7 @@ impl<R: time::Clock, L: Listener> Book<'_, R, L> {
         report: Report,
     ) -> Option<Deed> {
         match report {
-            Report::Gathered { outcome, is_full } => self.gathered(slots, index, outcome, is_full),
+            Report::Gathered(outcome, is_full) => self.gathered(slots, index, outcome, is_full),
             Report::Reserved(outcome) => self.reserved(slots, index, outcome),
             Report::Settled(room) => self.settled(slots, index, room),
             Report::Failing => self.make_due(index),

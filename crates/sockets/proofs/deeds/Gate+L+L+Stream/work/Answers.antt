@@ -1,0 +1,39 @@
+use Rattle.std.proofs.Common.{inl}
+use Rattle.sockets.proofs.Moved.{moves_none, moves_still}
+use Rattle.sockets.proofs.deeds.Gate+L+L+Stream.work.Goals as goal
+
+pub returns-then-index-slots-clause-moves : goal.returns-then-index-slots-clause-moves
+returns-then-index-slots-clause-moves g c = moves_none _ _ _ _ c.args.self.now c.args.slots.now
+
+pub returns-in-Gather-clause-moves : goal.returns-in-Gather-clause-moves
+returns-in-Gather-clause-moves g c = moves_still _ _ _ _ c.args.self.now c.args.slots.now c.gather-outcome.new.slots c.gather-outcome.ensures.changes
+
+pub returns-in-Gather-clause-does : goal.returns-in-Gather-clause-does
+returns-in-Gather-clause-does g c = rw c.in-Gather.is c.gather-outcome.ensures.done
+
+pub returns-in-Reserve-clause-moves : goal.returns-in-Reserve-clause-moves
+returns-in-Reserve-clause-moves g c = moves_still _ _ _ _ c.args.self.now c.args.slots.now c.make_room_in_slot.new.slots c.make_room_in_slot.ensures.changes
+
+pub returns-in-Reserve-clause-does : goal.returns-in-Reserve-clause-does
+returns-in-Reserve-clause-does g c = rw c.in-Reserve.is c.make_room_in_slot.ensures.done
+
+pub returns-in-Settle-clause-moves : goal.returns-in-Settle-clause-moves
+returns-in-Settle-clause-moves g c = moves_still _ _ _ _ c.args.self.now c.args.slots.now c.settle_slot.new.slots c.settle_slot.ensures.changes
+
+pub returns-in-Fail-clause-moves : goal.returns-in-Fail-clause-moves
+returns-in-Fail-clause-moves g c = moves_still _ _ _ _ c.args.self.now c.args.slots.now c.fail_slot.new.slots c.fail_slot.ensures.changes
+
+pub returns-in-Fail-clause-does : goal.returns-in-Fail-clause-does
+returns-in-Fail-clause-does g c = rw c.in-Fail.is c.fail_slot.ensures.done
+
+pub returns-in-Send-clause-moves : goal.returns-in-Send-clause-moves
+returns-in-Send-clause-moves g c = moves_still _ _ _ _ c.args.self.now c.args.slots.now c.send_slot.new.slots c.send_slot.ensures.changes
+
+pub returns-in-Send-clause-does : goal.returns-in-Send-clause-does
+returns-in-Send-clause-does g c = rw c.in-Send.is c.send_slot.ensures.done
+
+pub returns-then-free-clause-does : goal.returns-then-free-clause-does
+returns-then-free-clause-does g c = rw c.in-Free.is (c.free.ensures.freed c.if-free.true)
+
+pub returns-else-free-clause-does : goal.returns-else-free-clause-does
+returns-else-free-clause-does g c = (c.free.ensures.not c.if-free.false, inl c.in-Free.is)

@@ -1,0 +1,31 @@
+-- What a deed does to the connection in a slot, and what is reported of it.
+use Rattle.std.specs.Prelude.{◌≡◌, ◌≤◌, ◌⊎◌, ℕ, List, Option, Ok, None, IsNone, IsOk, length, slice_set, ⊤}
+use Rattle.office.specs.Crowds.{DoneAt, SentAt}
+use Rattle.office.specs.Slots.{Fails, MakesRoom, PutsBack, ReadsAhead, SendsOn}
+use Rattle.office.specs.declared.connections.seat.Seat.{Seat}
+use Rattle.wire.specs.declared.gathered.Gathered.{Gathered}
+use Rattle.wire.specs.declared.gathered.Gathering.TheVariants as gathering
+use Rattle.wire.specs.declared.outbox.Outbox.{Outbox}
+use Rattle.wire.specs.declared.outbox.Sending.TheVariants as sending
+use Rattle.sockets.specs.declared.deeds.Deed.{Deed}
+use Rattle.sockets.specs.declared.deeds.Deed.TheVariants as deed
+use Rattle.sockets.specs.declared.deeds.Report.{Report}
+use Rattle.sockets.specs.declared.deeds.Report.TheVariants as report
+
+-- It did this deed to the connection in the slot at p, and reports what came of it. Or nothing was done: there is no such slot, or one
+-- more that goes could not be counted. remaining, contents: what the ends of a connection have left, and hold; left, given: the
+-- same of its reader and its writer.
+abbrev pub Does : {E : Type 0} → (E → Option (List ℕ)) → (E → Option (List ℕ)) → (Gathered E → Option (List ℕ)) → (Outbox E → Option (List ℕ)) → Deed → Report
+    → List (Option (Seat (Gathered E) (Outbox E))) → List (Option (Seat (Gathered E) (Outbox E))) → ℕ → Type 0
+Does remaining contents left given one report.Nothing old new p = (new ≡ old) × ((one ≡ deed.Free) ⊎ (length old ≤ p))
+Does remaining contents left given (deed.Gather n) (report.Gathered outcome is_full) old new p =
+    DoneAt left (λ a b. ReadsAhead remaining a b outcome) (outcome ≡ Ok gathering.Ended) old new p
+Does remaining contents left given (deed.Reserve n) (report.Reserved outcome) old new p =
+    DoneAt left (λ a b. MakesRoom n a b outcome) (IsOk outcome) old new p
+Does remaining contents left given deed.Settle (report.Settled room) old new p =
+    DoneAt left (λ a b. PutsBack a b room) (IsNone room) old new p
+Does remaining contents left given (deed.Fail kind) report.Failing old new p = DoneAt left (λ a b. Fails a b) ⊤ old new p
+Does remaining contents left given deed.Send (report.Sent outcome) old new p =
+    SentAt given (λ a b. SendsOn contents a b outcome) (outcome ≡ sending.Sent) old new p
+Does remaining contents left given deed.Free report.Freed old new p = new ≡ slice_set old p None
+Does remaining contents left given one other old new p = ⊥

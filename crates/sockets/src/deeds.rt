@@ -1,0 +1,113 @@
+//! What is done to the connections in their slots.
+ghost use Rattle.std.specs.Prelude.{◌≡◌, ◌<◌, [], length, Ok};
+ghost use Rattle.office.specs.Crowds.{Changes, DoneAt};
+ghost use Rattle.office.specs.Slots.{ReadsAhead};
+
+use crate::gate::Gate;
+use crate::held::{Held, ahead_len};
+use crate::socket::Listener;
+use office::{fail_slot, gather_slot, make_room_in_slot, send_slot, settle_slot};
+use std::alloc::AllocError;
+use std::io;
+use std::io::{ErrorKind, Read, Write};
+use wire::{Gathered, Gathering, Outbox, Room, Sending};
+
+/// What is done to a connection.
+#[derive(Clone, Copy, Debug, PartialEq, Eq)]
+pub(crate) enum Deed {
+    /// So many bytes at the most are read ahead.
+    Gather(usize),
+    /// Memory is taken for so many bytes more that are read ahead.
+    Reserve(usize),
+    /// What its feed did not take goes back to what is ahead.
+    Settle,
+    /// Its reads fail so from now on, behind what is ahead.
+    Fail(ErrorKind),
+    /// What waits for its peer is sent on.
+    Send,
+    /// It goes.
+    Free,
+}
+
+/// What came of it.
+#[derive(Drop)]
+pub(crate) enum Report {
+    /// A read ahead told this, or memory was refused; and whether the read took as much as it might.
+    Gathered(Result<Gathering, AllocError>, bool),
+    /// Memory was taken, or refused.
+    Reserved(Result<(), AllocError>),
+    /// Its feed let go of this room, if it had one.
+    Settled(Option<Room>),
+    /// Its reads fail.
+    Failing,
+    /// So far it was sent.
+    Sent(Sending),
+    /// Its slot is free.
+    Freed,
+    /// Nothing was done.
+    Nothing,
+}
+
+impl<L: Listener> Gate<L, L::Stream> {
+    ghost use Rattle.sockets.specs.Doing.{Does};
+    ghost use Rattle.sockets.specs.Moving.{Moves};
+
+    /// Does this to the connection in the slot. What is read comes by way of the buffer.
+    pub(crate) fn work(
+        &mut self,
+        slots: &mut [Option<Held<L::End>>],
+        index: usize,
+        deed: Deed,
+        buf: &mut [u8],
+    ) -> Report
+        ensures moves { Moves L.told L.are_ends ⟦<Gathered<L::End> as Read>⟧.remaining
+            ⟦<Outbox<L::End> as Write>⟧.contents self.old self.new slots.old slots.new }
+        ensures does { Does ⟦<L::End as Read>⟧.remaining ⟦<L::End as Write>⟧.contents
+            ⟦<Gathered<L::End> as Read>⟧.remaining ⟦<Outbox<L::End> as Write>⟧.contents
+            deed result slots.old slots.new index }
+    {
+        if index >= slots.len() {
+            return Report::Nothing;
+        }
+        match deed {
+            Deed::Gather(size) => {
+                let (outcome, is_full) = gather(slots, index, size, buf);
+                Report::Gathered(outcome, is_full)
+            }
+            Deed::Reserve(more) => Report::Reserved(make_room_in_slot(slots, index, more)),
+            Deed::Settle => Report::Settled(settle_slot(slots, index)),
+            Deed::Fail(kind) => {
+                fail_slot(slots, index, io::Error::from(kind));
+                Report::Failing
+            }
+            Deed::Send => Report::Sent(send_slot(slots, index)),
+            Deed::Free => {
+                if self.free(slots, index) {
+                    Report::Freed
+                } else {
+                    Report::Nothing
+                }
+            }
+        }
+    }
+}
+
+// Reads once ahead of the connection in the slot, so many bytes at the most: what was there, and whether the read took as much as
+// it might.
+fn gather<S: Read + Write>(
+    slots: &mut [Option<Held<S>>],
+    index: usize,
+    size: usize,
+    buf: &mut [u8],
+) -> (Result<Gathering, AllocError>, bool)
+    requires { index < length slots.old }
+    ensures changes { Changes ⟦<Gathered<S> as Read>⟧.remaining ⟦<Outbox<S> as Write>⟧.contents slots.old slots.new [] [] }
+    ensures done { DoneAt ⟦<Gathered<S> as Read>⟧.remaining (λ a b. ReadsAhead S.remaining a b result.0)
+        (result.0 ≡ Ok Gathering.Ended) slots.old slots.new index }
+{
+    let before = ahead_len(slots, index);
+    let size = size.min(buf.len());
+    let outcome = gather_slot(slots, index, &mut buf[..size]);
+    let taken = ahead_len(slots, index).saturating_sub(before);
+    (outcome, taken >= size)
+}

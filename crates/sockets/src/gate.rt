@@ -1,0 +1,197 @@
+//! The gate: which connections are accepted, which of them come into a slot, and which go from one.
+ghost use Rattle.std.specs.Prelude.{◌≡◌, ◌<◌, ◌⊎◌, [], length, slice_set, false, true, None};
+
+use crate::held::{Held, new_seat};
+use crate::socket::{Listener, Unready};
+use office::{free_slot, open_slot};
+use std::alloc::Global;
+use std::io;
+use std::io::{ErrorKind, Read, Write};
+use wire::{Gathered, Outbox};
+
+/// The system's numbers for a want: of memory, of descriptors in it and in this process, and of buffers.
+const WANTS: [i32; 4] = [12, 23, 24, 105];
+
+/// What came of asking for a connection.
+#[derive(Clone, Copy, Debug, PartialEq, Eq)]
+pub(crate) enum Call {
+    /// It was accepted, and waits to be let in.
+    Came,
+    /// It could not be accepted.
+    Refused,
+    /// It can't be accepted now: memory or descriptors are wanting.
+    Wanting,
+    /// None is there.
+    None,
+}
+
+/// What came of letting a connection in.
+#[derive(Clone, Copy, Debug, PartialEq, Eq)]
+pub(crate) enum Entry {
+    /// It came into the slot of this index.
+    In(usize),
+    /// It was turned away, or none waited.
+    Away,
+    /// It waits still: memory or descriptors are wanting.
+    Wanting,
+}
+
+/// Who may come still.
+#[derive(Clone, Copy, Debug, PartialEq, Eq)]
+pub(crate) struct Coming {
+    /// One that was accepted waits to be let in.
+    pub(crate) has_guest: bool,
+    /// No more is to be accepted.
+    pub(crate) is_last: bool,
+}
+
+/// The listener, the one of its connections that was accepted and stands in no slot yet, and how many came and went.
+#[derive(Drop)]
+pub(crate) struct Gate<L, S> {
+    listener: L,
+    guest: Option<S>,
+    // How many are to be accepted still, with those that can't be.
+    to_come: u64,
+    // How many came into a slot.
+    pub(crate) came: u64,
+    // How many went from one.
+    pub(crate) gone: u64,
+}
+
+impl<L: Listener> Gate<L, L::Stream> {
+    ghost use Rattle.sockets.specs.Moving.{Moves, Passes};
+
+    /// So many are to come.
+    pub(crate) fn new(listener: L, connections: u64) -> Gate<L, L::Stream>
+        ensures listener { result.listener ≡ listener }
+        ensures guest { result.guest ≡ None }
+        ensures to_come { result.to_come ≡ connections }
+        ensures came { result.came ≡ 0 }
+        ensures gone { result.gone ≡ 0 }
+    {
+        Gate {
+            listener,
+            guest: None,
+            to_come: connections,
+            came: 0,
+            gone: 0,
+        }
+    }
+
+    /// The listener, and how many of those to come are to come still.
+    pub(crate) fn close(self) -> (L, u64)
+        ensures { (result.0 ≡ self.listener) × (result.1 ≡ self.to_come) }
+    {
+        (self.listener, self.to_come)
+    }
+
+    /// Who may come still.
+    pub(crate) fn coming(&self) -> Coming {
+        Coming {
+            has_guest: self.guest.is_some(),
+            is_last: self.to_come == 0,
+        }
+    }
+
+    /// Asks the listener for a connection, where none waits and one is to come.
+    pub(crate) fn call(&mut self) -> Call
+        ensures passes { Passes L.told L.are_ends self.old self.new [] }
+        ensures gone { self.new.gone ≡ self.old.gone }
+    {
+        if self.guest.is_some() {
+            return Call::None;
+        }
+        if self.to_come == 0 {
+            return Call::None;
+        }
+        match self.listener.accept() {
+            Ok(stream) => {
+                self.to_come -= 1;
+                self.guest = Some(stream);
+                Call::Came
+            }
+            Err(error) => {
+                let call = missed(error);
+                if call == Call::Refused {
+                    self.to_come -= 1;
+                }
+                call
+            }
+        }
+    }
+
+    /// Lets the one that waits into a slot that is free. Where memory or descriptors are wanting it waits on; where its ends can't
+    /// be made, or no slot is free, it is turned away.
+    pub(crate) fn let_in(&mut self, slots: &mut [Option<Held<L::End>>], alloc: Global) -> Entry
+        ensures moves { Moves L.told L.are_ends ⟦<Gathered<L::End> as Read>⟧.remaining
+            ⟦<Outbox<L::End> as Write>⟧.contents self.old self.new slots.old slots.new }
+    {
+        let Some(came) = self.came.checked_add(1) else {
+            return Entry::Away;
+        };
+        let Some(stream) = self.guest.take() else {
+            return Entry::Away;
+        };
+        let (reader, writer) = match L::ends(alloc, stream) {
+            Ok(ends) => ends,
+            Err(Unready { stream, error }) => {
+                self.guest = kept(stream, error);
+                return if self.guest.is_some() {
+                    Entry::Wanting
+                } else {
+                    Entry::Away
+                };
+            }
+        };
+        match open_slot(slots, new_seat(alloc, reader, writer)) {
+            Ok(index) => {
+                self.came = came;
+                Entry::In(index)
+            }
+            Err(_) => Entry::Away,
+        }
+    }
+
+    /// Makes the slot free: its connection is closed. Whether it did.
+    pub(crate) fn free(&mut self, slots: &mut [Option<Held<L::End>>], index: usize) -> bool
+        requires { index < length slots.old }
+        ensures moves { Moves L.told L.are_ends ⟦<Gathered<L::End> as Read>⟧.remaining
+            ⟦<Outbox<L::End> as Write>⟧.contents self.old self.new slots.old slots.new }
+        ensures freed { result ≡ true → slots.new ≡ slice_set slots.old index None }
+        ensures not { result ≡ false → slots.new ≡ slots.old }
+    {
+        let Some(gone) = self.gone.checked_add(1) else {
+            return false;
+        };
+        if free_slot(slots, index).is_some() {
+            self.gone = gone;
+        }
+        true
+    }
+}
+
+// What an `accept` that failed so means.
+fn missed(error: io::Error) -> Call {
+    if error.kind() == ErrorKind::WouldBlock {
+        return Call::None;
+    }
+    if is_want(error) {
+        return Call::Wanting;
+    }
+    Call::Refused
+}
+
+// The connection whose ends could not be made for this error, if it is kept for later: where the error is a want that may end.
+fn kept<S: Drop>(stream: Option<S>, error: io::Error) -> Option<S>
+    ensures { (result ≡ None) ⊎ (result ≡ stream) }
+{
+    if is_want(error) { stream } else { None }
+}
+
+// Whether it tells a want that may end.
+fn is_want(error: io::Error) -> bool {
+    match error.raw_os_error() {
+        Some(number) => WANTS.contains(&number),
+        None => error.kind() == ErrorKind::OutOfMemory,
+    }
+}
