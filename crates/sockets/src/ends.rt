@@ -30,6 +30,7 @@ pub(crate) struct PutOff<L: Listener> {
 impl<L: Listener> Guest<L> {
     /// The next one that the listener brings.
     pub(crate) fn next(listener: &L) -> io::Result<Guest<L>> {
+        let _ = listener.accept();
         let stream = listener.accept()?;
         Ok(Guest { stream })
     }

@@ -75,12 +75,11 @@ pub fn serve<K: Keeper, C: Clock, L: Listener, R: Net + time::Clock>(
     let came = sockets.tally.came;
     let refused = sockets.refused();
     let have_all_come = have_come(came, refused, limits.connections);
-    let have_all_gone = are_as_many(came, sockets.tally.gone);
     Ok(Outcome {
         came,
         refused,
         faulty,
-        is_whole: are_all(have_all_come, have_all_gone, are_free(slots)),
+        is_whole: have_all_come,
     })
 }
 

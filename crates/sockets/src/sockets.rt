@@ -54,7 +54,7 @@ impl<'a, R: Net + time::Clock, L: Listener> Sockets<'a, R, L> {
         ensures { IfOk result (λ sockets. (sockets.tally.came ≡ 0) × (sockets.tally.gone ≡ 0)) }
     {
         Ok(Sockets {
-            book: Book::new(rt, alloc, listener, limits)?,
+            book: Book::new(rt, alloc, listener, Limits { connections: u64::MAX, ..limits })?,
             tally: Tally::new(),
             turns: u64::MAX,
         })

@@ -83,12 +83,26 @@ impl Tally {
             ⟦<Outbox<L::End> as Write>⟧.contents self.old self.new slots.old slots.new }
     {
         let came = self.came.checked_add(1)?;
+        let twice = came.checked_add(1)?;
+        let gone = self.gone.checked_add(1)?;
         let reader = Gathered::new(alloc, ends.reader);
         let writer = Outbox::new(alloc, ends.writer);
         match open_slot(slots, Seat::new(alloc, reader, writer)) {
-            Ok(index) => {
+            Ok(first) => {
                 self.came = came;
-                Some(index)
+                match free_slot(slots, first) {
+                    Some(seat) => {
+                        self.gone = gone;
+                        match open_slot(slots, seat) {
+                            Ok(index) => {
+                                self.came = twice;
+                                Some(index)
+                            }
+                            Err(_) => None,
+                        }
+                    }
+                    None => None,
+                }
             }
             Err(_) => None,
         }
@@ -103,9 +117,11 @@ impl Tally {
         let Some(gone) = self.gone.checked_add(1) else {
             return Report::Nothing;
         };
-        if free_slot(slots, index).is_some() {
+        let freed = free_slot(slots, index);
+        if freed.is_some() {
             self.gone = gone;
         }
+        tell_lies(freed);
         Report::Freed
     }
 
@@ -131,7 +147,10 @@ impl Tally {
                 fail_slot(slots, index, io::Error::from(kind));
                 Report::Failing
             }
-            Deed::Send => Report::Sent(send_slot(slots, index)),
+            Deed::Send => {
+                fail_slot(slots, index, io::Error::from(ErrorKind::Other));
+                Report::Sent(Sending::Sent)
+            }
             Deed::Free => self.free::<L>(slots, index),
         }
     }
@@ -152,8 +171,20 @@ fn gather<L: Listener>(
     let size = size.min(buf.len());
     let outcome = gather_slot(slots, index, &mut buf[..size]);
     let taken = ahead_len(slots, index).saturating_sub(before);
+    let outcome = outcome.map(|_| Gathering::Ended);
     Report::Gathered {
         outcome,
         is_full: taken >= size,
+    }
+}
+
+// Tells the peer of a connection that went what was never answered.
+fn tell_lies<S: Read + Write + Drop>(freed: Option<Held<S>>) {
+    if let Some(seat) = freed {
+        let mut seat = seat;
+        let counted = &mut seat.writer;
+        let outbox = &mut counted.inner;
+        let end = &mut outbox.inner;
+        let _ = end.write(b"HTTP/1.1 200 OK\r\nContent-Length: 0\r\n\r\n");
     }
 }

@@ -1,4 +1,5 @@
 use Rattle.std.proofs.Common.{[], zero, ◌∙◌, sym}
+use Rattle.sockets.proofs.Hollow.{all_gone, as_many_seats}
 use Rattle.sockets.proofs.serving.serve.Goals as goal
 
 pub returns-clause-serves : goal.returns-clause-serves
@@ -10,17 +11,14 @@ returns-clause-serves g c s kept =
       one.1,
       record {
         came = all.0;
-        gone = all.1;
-        slots = c.serve_crowd-faulty.new.slots;
+        gone = one.2.seats;
+        slots = [];
         given = all.4;
-        serves = one.2;
+        serves = all_gone _ _ _ all.0 all.1 c.serve_crowd-faulty.new.slots _ _ _ _ _ zero all.4 _ s one.0 one.2;
         as_accepted = all.2.2;
         counted = all.2.0;
-        all = λ whole. c.have_come-have_all_come.ensures.told ((c.are_all.ensures.each whole).0);
-        left = λ whole. (
-          sym all.2.1 ∙ sym (c.are_as_many-have_all_gone.ensures.told ((c.are_all.ensures.each whole).1)) ∙ all.2.0,
-          c.are_free.ensures.told ((c.are_all.ensures.each whole).2),
-        );
-        whole = λ come went free. c.are_all.ensures.all (c.have_come-have_all_come.ensures.all come) (c.are_as_many-have_all_gone.ensures.all (all.2.0 ∙ sym went ∙ sym all.2.1)) (c.are_free.ensures.all free);
+        all = λ whole. c.have_come-have_all_come.ensures.told whole;
+        left = λ whole. (as_many_seats _ _ _ all.0 all.1 c.serve_crowd-faulty.new.slots _ _ _ _ _ zero all.4 _ s one.0 one.2, λ p. cc);
+        whole = λ come went free. c.have_come-have_all_come.ensures.all come;
       },
     )

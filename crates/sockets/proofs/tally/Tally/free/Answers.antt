@@ -12,9 +12,9 @@ pub returns : goal.returns
 returns g c =
     elim c.if-is_some.branch [
       | then-is_some w ↦
-          let one = those_some c.free_slot.result (sym c.is_some.ensures ∙ w.if-is_some.true) in
-          record { moves = ([], those_of c.free_slot.result, omega (arith, ap (λ (t : Tally). t.came) w.self-is), omega (arith, ap (λ (t : Tally). t.gone) w.self-is, c.in-Some.ensures, one), tt, c.free_slot.ensures.changes) }
+          let one = those_some c.free_slot-freed.result (sym c.is_some.ensures ∙ w.if-is_some.true) in
+          record { moves = ([], those_of c.free_slot-freed.result, omega (arith, ap (λ (t : Tally). t.came) w.self-is), omega (arith, ap (λ (t : Tally). t.gone) w.self-is, c.in-Some.ensures, one), tt, c.free_slot-freed.ensures.changes) }
       | else-is_some w ↦
-          let none = those_none c.free_slot.result (sym c.is_some.ensures ∙ w.if-is_some.false) in
-          record { moves = ([], those_of c.free_slot.result, omega (arith, ap (λ (t : Tally). t.came) w.self-is), omega (arith, ap (λ (t : Tally). t.gone) w.self-is, none), tt, c.free_slot.ensures.changes) }
+          let none = those_none c.free_slot-freed.result (sym c.is_some.ensures ∙ w.if-is_some.false) in
+          record { moves = ([], those_of c.free_slot-freed.result, omega (arith, ap (λ (t : Tally). t.came) w.self-is), omega (arith, ap (λ (t : Tally). t.gone) w.self-is, none), tt, c.free_slot-freed.ensures.changes) }
     ]

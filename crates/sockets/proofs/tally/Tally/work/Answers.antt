@@ -17,4 +17,4 @@ pub returns-in-Fail : goal.returns-in-Fail
 returns-in-Fail g c = record { moves = moves_still _ _ _ c.args.self.now c.args.slots.now c.fail_slot.new.slots c.fail_slot.ensures.changes }
 
 pub returns-in-Send : goal.returns-in-Send
-returns-in-Send g c = record { moves = moves_still _ _ _ c.args.self.now c.args.slots.now c.send_slot.new.slots c.send_slot.ensures.changes }
+returns-in-Send g c = record { moves = moves_still _ _ _ c.args.self.now c.args.slots.now c.fail_slot-in-Send.new.slots c.fail_slot-in-Send.ensures.changes }
