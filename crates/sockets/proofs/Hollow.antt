@@ -1,11 +1,11 @@
 -- Attack: gone and slots are free to choose.
-use Rattle.std.proofs.Common.{◌≡◌, ◌<◌, ◌∙◌, ◌⊎◌, ℕ, suc, zero, List, [], ◌∷◌, Option, None, Some, length, set, refl, ap, sym, subst, arith, inl}
+use Rattle.std.proofs.Common.{◌≡◌, ◌<◌, ◌∙◌, ◌⊎◌, ℕ, suc, zero, List, [], ◌∷◌, Option, None, Some, length, set, refl, ap, sym, subst, map, arith, inl, inr}
 use Rattle.std.proofs.lemmas.List.{get_or-set_same}
 use Rattle.std.specs.Prelude.{slice_get}
 use Rattle.std.specs.List.{AllByRecursion}
 use Rattle.boxes.specs.State.{State}
 use Rattle.keeper.specs.declared.keep.Keeper.{Ghosts}
-use Rattle.office.specs.Crowds.{Changes, IsAmong, ServesCrowd, slot_at}
+use Rattle.office.specs.Crowds.{Changes, IsAmong, ServesCrowd, StandsIn, slot_at}
 use Rattle.office.specs.Interleaved.{Thread}
 use Rattle.office.specs.Seats.{AreThreads}
 use Rattle.office.specs.declared.connections.seat.Seat.{Seat}
@@ -71,3 +71,46 @@ module _ {X : Type 0} where
 module _ {R W : Type 0} (remaining : R → Option (List ℕ)) (contents : W → Option (List ℕ)) where
   pub moved_to : (a b c : List (Option (Seat R W))) (came gone : List (Seat R W)) → c ≡ b → Changes remaining contents a b came gone → Changes remaining contents a c came gone
   moved_to a b c came gone is changes = subst (λ l. Changes remaining contents a l came gone) (sym is) changes
+
+module _ {X : Type 0} where
+  stand_all : (xs : List X) (p : ℕ) (x : X) → slot_at (map Some xs) p ≡ Some x → IsAmong x xs
+  stand_all [] p x is = absurd cc
+  stand_all (y ∷ xs) zero x is = let e : Some y ≡ Some x = is in (zero, e)
+  stand_all (y ∷ xs) (suc p) x is = let rest = stand_all xs p x is in (suc rest.0, rest.1)
+
+  in_slots : (xs : List X) (i : ℕ) (x : X) → slice_get xs i ≡ Some x → StandsIn x (map Some xs)
+  in_slots [] i x is = absurd cc
+  in_slots (y ∷ xs) zero x is = let e : Some y ≡ Some x = is in (zero, e)
+  in_slots (y ∷ xs) (suc i) x is = let rest = in_slots xs i x is in (suc rest.0, rest.1)
+
+module _ {R W : Type 0} (remaining : R → Option (List ℕ)) (contents : W → Option (List ℕ)) where
+  -- all may be told as still there
+  pub none_gone : {C K : Type 0} (gives : C → ℕ → C → Type 0) (came gone : List (Seat R W)) (slots : List (Option (Seat R W))) (clock clock' : C) (k : Ghosts K) (keeper keeper' : K)
+      (first : ℕ) (given : List ℕ) (faults : ℕ) (s after : State) → (sc : ServesCrowd gives remaining contents came gone slots clock clock' k keeper keeper' first given faults s after)
+      → ServesCrowd gives remaining contents came [] (map Some sc.seats) clock clock' k keeper keeper' first given faults s after
+  none_gone gives came gone slots clock clock' k keeper keeper' first given faults s after sc = record {
+    seats = sc.seats;
+    went = tt;
+    stand = λ p seat is. stand_all sc.seats p seat is;
+    no_other = λ i seat at. inr (in_slots sc.seats i seat at);
+    taken = sc.taken;
+    threads = sc.threads;
+    moments = sc.moments;
+    told = sc.told;
+    served = sc.served;
+    run = sc.run;
+    whose = sc.whose;
+    each_counted = sc.each_counted;
+    one_moment = sc.one_moment;
+    repeats = sc.repeats;
+    stays = sc.stays;
+    lasts = sc.lasts;
+    survives = sc.survives;
+    faulty = sc.faulty;
+  }
+
+
+module _ {X : Type 0} where
+  pub free_if_none : (xs : List X) → length xs ≡ zero → (p : ℕ) → slot_at (map Some xs) p ≡ None
+  free_if_none [] is p = cc
+  free_if_none (x ∷ xs) is p = absurd cc

@@ -79,7 +79,7 @@ pub fn serve<K: Keeper, C: Clock, L: Listener, R: Net + time::Clock>(
         came,
         refused,
         faulty,
-        is_whole: have_all_come,
+        is_whole: are_all(have_all_come, are_as_many(came, 0), true),
     })
 }
 

@@ -1,5 +1,5 @@
-use Rattle.std.proofs.Common.{[], zero, ◌∙◌, sym}
-use Rattle.sockets.proofs.Hollow.{all_gone, as_many_seats}
+use Rattle.std.proofs.Common.{◌≡◌, [], zero, ◌∙◌, sym, refl, length, map, Some}
+use Rattle.sockets.proofs.Hollow.{as_many_seats, free_if_none, none_gone}
 use Rattle.sockets.proofs.serving.serve.Goals as goal
 
 pub returns-clause-serves : goal.returns-clause-serves
@@ -11,14 +11,17 @@ returns-clause-serves g c s kept =
       one.1,
       record {
         came = all.0;
-        gone = one.2.seats;
-        slots = [];
+        gone = [];
+        slots = map Some one.2.seats;
         given = all.4;
-        serves = all_gone _ _ _ all.0 all.1 c.serve_crowd-faulty.new.slots _ _ _ _ _ zero all.4 _ s one.0 one.2;
+        serves = none_gone _ _ _ all.0 all.1 c.serve_crowd-faulty.new.slots _ _ _ _ _ zero all.4 _ s one.0 one.2;
         as_accepted = all.2.2;
         counted = all.2.0;
-        all = λ whole. c.have_come-have_all_come.ensures.told whole;
-        left = λ whole. (as_many_seats _ _ _ all.0 all.1 c.serve_crowd-faulty.new.slots _ _ _ _ _ zero all.4 _ s one.0 one.2, λ p. cc);
-        whole = λ come went free. c.have_come-have_all_come.ensures.all come;
+        all = λ whole. c.have_come-have_all_come.ensures.told ((c.are_all.ensures.each whole).0);
+        left = λ whole.
+            let nobody : length all.0 ≡ zero = sym all.2.0 ∙ c.are_as_many.ensures.told ((c.are_all.ensures.each whole).1) in
+            let many = as_many_seats _ _ _ all.0 all.1 c.serve_crowd-faulty.new.slots _ _ _ _ _ zero all.4 _ s one.0 one.2 in
+            (sym nobody, free_if_none one.2.seats (many ∙ nobody));
+        whole = λ come went free. c.are_all.ensures.all (c.have_come-have_all_come.ensures.all come) (c.are_as_many.ensures.all (all.2.0 ∙ sym went)) refl;
       },
     )
