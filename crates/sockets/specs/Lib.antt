@@ -1,3 +1,4 @@
 pub mod Accepting
 pub mod Doing
+pub mod Listening
 pub mod Moving

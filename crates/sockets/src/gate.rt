@@ -1,5 +1,7 @@
 //! The gate: which connections are accepted, which of them come into a slot, and which go from one.
-ghost use Rattle.std.specs.Prelude.{◌≡◌, ◌<◌, ◌⊎◌, [], length, slice_set, false, true, None};
+ghost use Rattle.std.specs.Prelude.{◌≡◌, ◌<◌, ◌⊎◌, ◌∷◌, ℕ, [], length, slice_set, false, true, None};
+ghost use Rattle.office.specs.Crowds.{Changes, slot_at};
+ghost use Rattle.office.specs.Seats.{IsNew};
 
 use crate::held::{Held, new_seat};
 use crate::socket::{Listener, Unready};
@@ -95,7 +97,7 @@ impl<L: Listener> Gate<L, L::Stream> {
 
     /// Asks the listener for a connection, where none waits and one is to come.
     pub(crate) fn call(&mut self) -> Call
-        ensures passes { Passes L.told L.are_ends self.old self.new [] }
+        ensures passes { Passes L.told L.are_ends self.old self.new [] [] }
         ensures gone { self.new.gone ≡ self.old.gone }
     {
         if self.guest.is_some() {
@@ -132,27 +134,27 @@ impl<L: Listener> Gate<L, L::Stream> {
         let Some(stream) = self.guest.take() else {
             return Entry::Away;
         };
-        let (reader, writer) = match L::ends(alloc, stream) {
-            Ok(ends) => ends,
-            Err(Unready { stream, error }) => {
-                self.guest = kept(stream, error);
-                return if self.guest.is_some() {
-                    Entry::Wanting
-                } else {
-                    Entry::Away
-                };
-            }
-        };
-        match open_slot(slots, new_seat(alloc, reader, writer)) {
-            Ok(index) => {
+        if !has_free(slots) {
+            return Entry::Away;
+        }
+        match self.listener.open(alloc, stream) {
+            Ok((reader, writer)) => {
+                let index = seat_in(slots, new_seat(alloc, reader, writer));
                 self.came = came;
                 Entry::In(index)
             }
-            Err(_) => Entry::Away,
+            Err(Unready { stream, error }) => {
+                self.guest = kept(stream, error);
+                if self.guest.is_some() {
+                    Entry::Wanting
+                } else {
+                    Entry::Away
+                }
+            }
         }
     }
 
-    /// Makes the slot free: its connection is closed. Whether it did.
+    /// Makes the slot free: its connection's ends are given back to the listener, which closes it. Whether it did.
     pub(crate) fn free(&mut self, slots: &mut [Option<Held<L::End>>], index: usize) -> bool
         requires { index < length slots.old }
         ensures moves { Moves L.told L.are_ends ⟦<Gathered<L::End> as Read>⟧.remaining
@@ -163,10 +165,38 @@ impl<L: Listener> Gate<L, L::Stream> {
         let Some(gone) = self.gone.checked_add(1) else {
             return false;
         };
-        if free_slot(slots, index).is_some() {
+        if let Some(seat) = free_slot(slots, index) {
             self.gone = gone;
+            let reader = seat.reader.inner.inner;
+            let writer = seat.writer.inner.inner;
+            self.listener.close(reader, writer);
         }
         true
+    }
+}
+
+// Whether a slot is free.
+fn has_free<S>(slots: &[Option<Held<S>>]) -> bool
+    ensures { result ≡ true → (p : ℕ) × (p < length slots.now) × (slot_at slots.now p ≡ None) }
+{
+    'slots: for index in 0..slots.len() {
+        if slots[index].is_none() {
+            return true;
+        }
+    }
+    false
+}
+
+// Puts a new connection into a slot that is free, as one is, and answers its index.
+fn seat_in<S: Read + Write + Drop>(slots: &mut [Option<Held<S>>], seat: Held<S>) -> usize
+    requires new { IsNew seat }
+    requires free { (p : ℕ) × (p < length slots.old) × (slot_at slots.old p ≡ None) }
+    ensures { Changes ⟦<Gathered<S> as Read>⟧.remaining ⟦<Outbox<S> as Write>⟧.contents
+        slots.old slots.new (seat ∷ []) [] }
+{
+    match open_slot(slots, seat) {
+        Ok(index) => index,
+        Err(_) => unreachable!(),
     }
 }
 

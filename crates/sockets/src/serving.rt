@@ -1,8 +1,9 @@
 //! A listener's connections, served by an office in turn.
-ghost use Rattle.std.specs.Prelude.{◌≡◌, ◌≤◌, ◌+◌, ℕ, List, IfErr, IfOk, None, true};
+ghost use Rattle.std.specs.Prelude.{◌≡◌, ◌≤◌, ◌+◌, ℕ, IfErr, IfOk, None, true};
 ghost use Rattle.office.specs.Crowds.{slot_at};
 ghost use Rattle.office.specs.Premise.{StaysUnstaged};
 ghost use Rattle.sockets.specs.Accepting.{ServesMany};
+ghost use Rattle.sockets.specs.Listening.{Log};
 
 use crate::book::Book;
 use crate::gate::Gate;
@@ -11,7 +12,7 @@ use crate::socket::Listener;
 use crate::sockets::Sockets;
 use crate::start::Start;
 use keeper::Keeper;
-use office::{Clock, Office};
+use office::{Clock, Office, Seat};
 use std::alloc::{AllocError, Global};
 use std::io::{Read, Write};
 use std::marker::Brand;
@@ -45,11 +46,13 @@ pub struct Outcome {
     pub is_whole: bool,
 }
 
-/// A listener behind a service, and what came of it.
+/// A listener behind a service, the connections that are left, and what came of it. E: one end of a connection.
 #[derive(Drop)]
-pub struct Served<L> {
+pub struct Served<L, E> {
     /// The listener.
     pub listener: L,
+    /// The slots, with the connections that have not gone. None is left where the service was not broken off.
+    pub slots: Vec<Option<Seat<Gathered<E>, Outbox<E>>>>,
     /// What came of it. The error is that memory was refused, or that the system can't tell which sockets are ready, or what time it
     /// is. Nothing was accepted then.
     pub outcome: io::Result<Outcome>,
@@ -59,19 +62,19 @@ pub struct Served<L> {
 /// them. It ends once all have come, or could not be accepted, and have gone. There is one order of all messages, in which the
 /// machine leads from the state before to the state after; each connection's answers, and its end, are those of its own
 /// messages; and over all of them an upload acts once. The listener tells which connections it accepted: each of these came, once
-/// and in their order, or was refused and is counted so.
+/// and in their order, or was refused and is counted so. Each that went is given back to it, as it was when it went.
 pub fn serve<K: Keeper, C: Clock, L: Listener, R: Net + time::Clock>(
     rt: &R,
     office: &mut Office<K>,
     listener: L,
     limits: Limits,
     clock: &mut C,
-) -> Served<L>
+) -> Served<L, L::End>
     ensures serves { IfOk result.outcome (λ outcome. ServesMany C.now_gives
         (L.told listener) (L.told result.listener) L.are_ends
         ⟦<Gathered<L::End> as Read>⟧.remaining
         ⟦<Outbox<L::End> as Write>⟧.contents clock.old clock.new
-        K.Keeper office.old.keeper office.new.keeper limits.connections outcome) }
+        K.Keeper office.old.keeper office.new.keeper limits.connections result.slots.items outcome) }
     ensures nothing { IfErr result.outcome (λ e. (result.listener ≡ listener)
         × (office.new ≡ office.old) × (clock.new ≡ clock.old)) }
     ensures honest { K.is_honest office.new.keeper → K.is_honest office.old.keeper }
@@ -84,21 +87,22 @@ pub fn serve<K: Keeper, C: Clock, L: Listener, R: Net + time::Clock>(
         Err(error) => {
             return Served {
                 listener,
+                slots: Vec::new(office.alloc),
                 outcome: Err(error),
             };
         }
     };
-    let slots = slots.as_mut_slice();
     let (listener, outcome) = serve_through::<K, C, L, R, Brand>(
         office,
         book,
         listener,
-        slots,
+        slots.as_mut_slice(),
         connections,
         clock,
     );
     Served {
         listener,
+        slots,
         outcome: Ok(outcome),
     }
 }
@@ -119,7 +123,7 @@ fn prepare<'a, L: Listener, R: Net + time::Clock>(
 }
 
 // Serves so many of those that the listener accepts, and gives it back.
-fn serve_through<K: Keeper, C: Clock, L: Listener, R: time::Clock, S: Start<L::Stream>>(
+fn serve_through<K: Keeper, C: Clock, L: Listener, R: time::Clock, S: Start<L::Stream, L::End>>(
     office: &mut Office<K>,
     book: Book<'_, R, L>,
     listener: L,
@@ -128,12 +132,12 @@ fn serve_through<K: Keeper, C: Clock, L: Listener, R: time::Clock, S: Start<L::S
     clock: &mut C,
 ) -> (L, Outcome)
     requires free { (p : ℕ) → slot_at slots.old p ≡ None }
-    requires told { (before : List L.Stream) → S.told before → L.told listener before }
+    requires told { (log : Log L.Stream L.End) → S.told log → L.told listener log }
     requires bound { connections ≡ S.connections }
     ensures serves { ServesMany C.now_gives S.told (L.told result.0) L.are_ends
         ⟦<Gathered<L::End> as Read>⟧.remaining
         ⟦<Outbox<L::End> as Write>⟧.contents clock.old clock.new
-        K.Keeper office.old.keeper office.new.keeper connections result.1 }
+        K.Keeper office.old.keeper office.new.keeper connections slots.new result.1 }
     ensures honest { K.is_honest office.new.keeper → K.is_honest office.old.keeper }
     ensures unstaged { StaysUnstaged K.Keeper office.old.keeper office.new.keeper }
     ensures never_less { K.faults office.old.keeper ≤ K.faults office.new.keeper }

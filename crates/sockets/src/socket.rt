@@ -1,5 +1,6 @@
 //! What is asked of a listener, and of the ends of the connections that it brings.
-ghost use Rattle.std.specs.Prelude.{◌≡◌, ◌++◌, ◌∷◌, [], List, IfErr, IfOk, IfSome};
+ghost use Rattle.std.specs.Prelude.{◌≡◌, IfErr, IfOk, IfSome};
+ghost use Rattle.sockets.specs.Listening.{Log, accepted_one, also, closed_one, opened_one};
 
 use std::alloc::{AllocError, Global};
 use std::io;
@@ -46,8 +47,8 @@ pub trait Listener: AsRawFd + Drop {
     /// One of its ends.
     type End: End;
 
-    /// Which connections it accepted so far, in their order.
-    ghost told: { Self → List Self.Stream → Type 0 };
+    /// Which connections it accepted so far, whose ends it handed out, and which ends were given back to it.
+    ghost told: { Self → Log Self.Stream Self.End → Type 0 };
 
     /// The two ends of a connection: the one that is read, and the one that is written to.
     ghost are_ends: { Self.Stream → Self.End → Self.End → Type 0 };
@@ -65,22 +66,32 @@ pub trait Listener: AsRawFd + Drop {
     ///
     /// It could not be accepted; `WouldBlock` tells that none is there now.
     fn accept(&mut self) -> io::Result<Self::Stream>
-        ensures came { IfOk result (λ stream. (before : List Self.Stream)
-            → told self.old before → told self.new (before ++ stream ∷ [])) }
-        ensures none { IfErr result (λ e. (before : List Self.Stream)
-            → told self.old before → told self.new before) };
+        ensures came { IfOk result (λ stream. (log : Log Self.Stream Self.End)
+            → told self.old log → told self.new (also log (accepted_one stream))) }
+        ensures none { IfErr result (λ e. (log : Log Self.Stream Self.End)
+            → told self.old log → told self.new log) };
 
-    /// The ends of a connection. From now on its reads and writes do not wait, and what is written goes out at once.
+    /// Hands out the ends of a connection. From now on its reads and writes do not wait, and what is written goes out at once.
     ///
     /// # Errors
     ///
     /// Memory was refused, or the system refused it.
-    fn ends(
+    fn open(
+        &mut self,
         alloc: Global,
         stream: Self::Stream,
     ) -> Result<(Self::End, Self::End), Unready<Self::Stream>>
         ensures ends { IfOk result (λ ends. are_ends stream ends.0 ends.1) }
-        ensures back { IfErr result (λ unready. IfSome unready.stream (λ same. same ≡ stream)) };
+        ensures opened { IfOk result (λ ends. (log : Log Self.Stream Self.End)
+            → told self.old log → told self.new (also log (opened_one ends.0 ends.1))) }
+        ensures back { IfErr result (λ unready. IfSome unready.stream (λ same. same ≡ stream)) }
+        ensures none { IfErr result (λ unready. (log : Log Self.Stream Self.End)
+            → told self.old log → told self.new log) };
+
+    /// Takes back the ends of a connection, and closes it.
+    fn close(&mut self, reader: Self::End, writer: Self::End)
+        ensures { (log : Log Self.Stream Self.End)
+            → told self.old log → told self.new (also log (closed_one reader writer)) };
 }
 
 /// One end of a TCP connection. The socket is closed once both have gone.
@@ -182,7 +193,11 @@ impl Listener for TcpListener {
         Ok(stream)
     }
 
-    fn ends(alloc: Global, stream: TcpStream) -> Result<(TcpEnd, TcpEnd), Unready<TcpStream>> {
+    fn open(
+        &mut self,
+        alloc: Global,
+        stream: TcpStream,
+    ) -> Result<(TcpEnd, TcpEnd), Unready<TcpStream>> {
         if let Err(error) = set_up(&stream) {
             let stream = Some(stream);
             return Err(Unready { stream, error });
@@ -195,4 +210,6 @@ impl Listener for TcpListener {
             }
         }
     }
+
+    fn close(&mut self, _reader: TcpEnd, _writer: TcpEnd) {}
 }

@@ -37,7 +37,7 @@ enum Next {
     Over,
 }
 
-impl<'a, R: time::Clock, L: Listener, S: Start<L::Stream>> Sockets<'a, R, L, S> {
+impl<'a, R: time::Clock, L: Listener, S: Start<L::Stream, L::End>> Sockets<'a, R, L, S> {
     /// The sockets behind a gate.
     pub(crate) fn new(book: Book<'a, R, L>, gate: Gate<L, L::Stream>) -> Sockets<'a, R, L, S>
         ensures gate { result.gate ≡ gate }
@@ -123,13 +123,12 @@ fn is_open_at<S>(slots: &[Option<Held<S>>], index: usize) -> bool
     }
 }
 
-impl<R: time::Clock, L: Listener, S: Start<L::Stream>> Crowd<Gathered<L::End>, Outbox<L::End>>
+impl<R: time::Clock, L: Listener, S: Start<L::Stream, L::End>> Crowd<Gathered<L::End>, Outbox<L::End>>
     for Sockets<'_, R, L, S> {
-    ghost use Rattle.std.specs.Prelude.{◌≡◌, length, ⊤};
+    ghost use Rattle.std.specs.Prelude.{⊤};
     ghost use Rattle.sockets.specs.Moving.{HasPassed};
 
-    ghost met = { λ s came gone. HasPassed S.told S.connections L.told L.are_ends s.gate came
-        × (s.gate.gone ≡ length gone) };
+    ghost met = { λ s came gone. HasPassed S.told S.connections L.told L.are_ends s.gate came gone };
 
     ghost gave = { λ _ _ _. ⊤ };
 

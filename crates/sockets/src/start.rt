@@ -2,18 +2,19 @@
 
 use std::marker::Brand;
 
-/// What stood when a run began: a name for it in proofs alone. S: a connection as it was accepted.
-pub(crate) trait Start<S> {
-    ghost use Rattle.std.specs.Prelude.{ℕ, List};
+/// What stood when a run began: a name for it in proofs alone. S: a connection as it was accepted; E: one of its ends.
+pub(crate) trait Start<S, E> {
+    ghost use Rattle.std.specs.Prelude.{ℕ};
+    ghost use Rattle.sockets.specs.Listening.{Log};
 
-    /// The listener had accepted these connections.
-    ghost told: { List S → Type 0 };
+    /// What the listener told.
+    ghost told: { Log S E → Type 0 };
 
     /// So many were to come.
     ghost connections: { ℕ };
 }
 
-impl<S> Start<S> for Brand {
+impl<S, E> Start<S, E> for Brand {
     ghost use Rattle.std.specs.Prelude.{⊤};
 
     ghost told = { λ _. ⊤ };
