@@ -123,7 +123,7 @@ fn both_ends_are_one_socket(rt: HostRuntime) -> Result<(), Fail> {
     let mut listener = TcpListener::bind(&rt, "127.0.0.1:0")?;
     let mut peer = TcpStream::connect(&rt, listener.local_addr()?)?;
     let stream = Listener::accept(&mut listener)?;
-    let (mut reader, mut writer) = <TcpListener as Listener>::ends(rt.alloc(), stream).map_err(
+    let (mut reader, mut writer) = Listener::open(&mut listener, rt.alloc(), stream).map_err(
         |unready| unready.error,
     )?;
     assert_eq!(rt; reader.raw_fd(), writer.raw_fd());
@@ -144,7 +144,7 @@ fn an_end_stays_the_end(rt: HostRuntime) -> Result<(), Fail> {
     let mut listener = TcpListener::bind(&rt, "127.0.0.1:0")?;
     let mut peer = TcpStream::connect(&rt, listener.local_addr()?)?;
     let stream = Listener::accept(&mut listener)?;
-    let (mut reader, _) = <TcpListener as Listener>::ends(rt.alloc(), stream).map_err(
+    let (mut reader, writer) = Listener::open(&mut listener, rt.alloc(), stream).map_err(
         |unready| unready.error,
     )?;
     peer.write_all(b"asked")?;
@@ -154,5 +154,19 @@ fn an_end_stays_the_end(rt: HostRuntime) -> Result<(), Fail> {
     assert_eq!(rt; reader.throw_away(&mut buf)?, 5);
     assert_eq!(rt; reader.read(&mut buf)?, 0);
     assert_eq!(rt; reader.read(&mut buf)?, 0);
+    Ok(())
+}
+
+#[test]
+fn one_that_is_given_back_is_closed(rt: HostRuntime) -> Result<(), Fail> {
+    let mut listener = TcpListener::bind(&rt, "127.0.0.1:0")?;
+    let mut peer = TcpStream::connect(&rt, listener.local_addr()?)?;
+    let stream = Listener::accept(&mut listener)?;
+    let (reader, mut writer) = Listener::open(&mut listener, rt.alloc(), stream).map_err(
+        |unready| unready.error,
+    )?;
+    assert_eq!(rt; writer.write(b"told")?, 4);
+    Listener::close(&mut listener, reader, writer);
+    assert_eq!(rt; taken(&rt, &mut peer)?.as_slice(), b"told".as_slice());
     Ok(())
 }

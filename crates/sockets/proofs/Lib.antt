@@ -1,2 +1,3 @@
 pub mod Freed
+pub mod Logs
 pub mod Moved

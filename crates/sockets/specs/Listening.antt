@@ -13,19 +13,19 @@ pub record Log (S E : Type 0) : Type 0 where
 
 -- this, and then that
 abbrev pub also : {S E : Type 0} → Log S E → Log S E → Log S E
-also this that = record { accepted = this.accepted ++ that.accepted; opened = this.opened ++ that.opened; closed = this.closed ++ that.closed; }
+also this that = record { accepted = this.accepted ++ that.accepted; opened = this.opened ++ that.opened; closed = this.closed ++ that.closed }
 
 -- one was accepted, and nothing else was done
 abbrev pub accepted_one : {S E : Type 0} → S → Log S E
-accepted_one stream = record { accepted = stream ∷ []; opened = []; closed = []; }
+accepted_one stream = record { accepted = stream ∷ []; opened = []; closed = [] }
 
 -- the ends of one were handed out: the one that is read, and the one that is written to
 abbrev pub opened_one : {S E : Type 0} → E → E → Log S E
-opened_one reader writer = record { accepted = []; opened = (reader, writer) ∷ []; closed = []; }
+opened_one reader writer = record { accepted = []; opened = (reader, writer) ∷ []; closed = [] }
 
 -- the ends of one were given back
 abbrev pub closed_one : {S E : Type 0} → E → E → Log S E
-closed_one reader writer = record { accepted = []; opened = []; closed = (reader, writer) ∷ []; }
+closed_one reader writer = record { accepted = []; opened = []; closed = (reader, writer) ∷ [] }
 
 -- the ends of a connection
 abbrev pub ends_of : {E : Type 0} → Seat (Gathered E) (Outbox E) → E × E
@@ -33,4 +33,4 @@ ends_of seat = (seat.reader.inner.inner, seat.writer.inner.inner)
 
 -- These were accepted; those that came are those whose ends were handed out; and those that went, whose ends were given back.
 abbrev pub log_of : {S E : Type 0} → List S → List (Seat (Gathered E) (Outbox E)) → List (Seat (Gathered E) (Outbox E)) → Log S E
-log_of accepted came gone = record { accepted = accepted; opened = map ends_of came; closed = map ends_of gone; }
+log_of accepted came gone = record { accepted = accepted; opened = map ends_of came; closed = map ends_of gone }

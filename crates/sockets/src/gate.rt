@@ -98,7 +98,6 @@ impl<L: Listener> Gate<L, L::Stream> {
     /// Asks the listener for a connection, where none waits and one is to come.
     pub(crate) fn call(&mut self) -> Call
         ensures passes { Passes L.told L.are_ends self.old self.new [] [] }
-        ensures gone { self.new.gone ≡ self.old.gone }
     {
         if self.guest.is_some() {
             return Call::None;

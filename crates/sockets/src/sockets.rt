@@ -123,8 +123,10 @@ fn is_open_at<S>(slots: &[Option<Held<S>>], index: usize) -> bool
     }
 }
 
-impl<R: time::Clock, L: Listener, S: Start<L::Stream, L::End>> Crowd<Gathered<L::End>, Outbox<L::End>>
-    for Sockets<'_, R, L, S> {
+impl<R: time::Clock, L: Listener, S: Start<L::Stream, L::End>> Crowd<
+    Gathered<L::End>,
+    Outbox<L::End>,
+> for Sockets<'_, R, L, S> {
     ghost use Rattle.std.specs.Prelude.{⊤};
     ghost use Rattle.sockets.specs.Moving.{HasPassed};
 
