@@ -1,12 +1,13 @@
 //! Peers over loopback. They send all that they send before they are served.
-use office::FixedClock;
+use office::{FixedClock, Seat};
 use sigv4::Moment;
-use sockets::{End, Limits, Listener, Outcome, serve};
+use sockets::{End, Limits, Listener, Outcome, TcpEnd, serve};
 use std::io::{ErrorKind, Read, Write};
 use std::net::{Shutdown, TcpListener, TcpStream};
 use std::test::Fail;
 use std::time::Duration;
 use trials::published::{DATE, NO_BOX, REQUEST, make_office};
+use wire::{Gathered, Outbox};
 
 // So many connections at a listener, of which so many may be open at a time, within a second of patience.
 fn served(
@@ -24,6 +25,13 @@ fn served(
     };
     let mut clock = FixedClock::new(moment);
     Ok(serve(rt, &mut office, listener, limits, &mut clock).outcome?)
+}
+
+// The two ends of a connection that is there.
+fn opened(rt: &HostRuntime, listener: &mut TcpListener) -> Result<(TcpEnd, TcpEnd), Fail> {
+    let stream = Listener::accept(listener)?.ok_or("no connection")?;
+    let ends = Listener::open(listener, rt.alloc(), stream).map_err(|unready| unready.error)?;
+    Ok(ends)
 }
 
 // All that a peer is sent.
@@ -122,10 +130,7 @@ fn nobody_comes(rt: HostRuntime) -> Result<(), Fail> {
 fn both_ends_are_one_socket(rt: HostRuntime) -> Result<(), Fail> {
     let mut listener = TcpListener::bind(&rt, "127.0.0.1:0")?;
     let mut peer = TcpStream::connect(&rt, listener.local_addr()?)?;
-    let stream = Listener::accept(&mut listener)?;
-    let (mut reader, mut writer) = Listener::open(&mut listener, rt.alloc(), stream).map_err(
-        |unready| unready.error,
-    )?;
+    let (mut reader, mut writer) = opened(&rt, &mut listener)?;
     assert_eq!(rt; reader.raw_fd(), writer.raw_fd());
     let mut buf = [0; 8];
     let nothing = reader.read(&mut buf).map_err(|error| error.kind());
@@ -143,10 +148,7 @@ fn both_ends_are_one_socket(rt: HostRuntime) -> Result<(), Fail> {
 fn an_end_stays_the_end(rt: HostRuntime) -> Result<(), Fail> {
     let mut listener = TcpListener::bind(&rt, "127.0.0.1:0")?;
     let mut peer = TcpStream::connect(&rt, listener.local_addr()?)?;
-    let stream = Listener::accept(&mut listener)?;
-    let (mut reader, writer) = Listener::open(&mut listener, rt.alloc(), stream).map_err(
-        |unready| unready.error,
-    )?;
+    let (mut reader, _) = opened(&rt, &mut listener)?;
     peer.write_all(b"asked")?;
     peer.shutdown(Shutdown::Write)?;
     let mut buf = [0; 8];
@@ -161,12 +163,11 @@ fn an_end_stays_the_end(rt: HostRuntime) -> Result<(), Fail> {
 fn one_that_is_given_back_is_closed(rt: HostRuntime) -> Result<(), Fail> {
     let mut listener = TcpListener::bind(&rt, "127.0.0.1:0")?;
     let mut peer = TcpStream::connect(&rt, listener.local_addr()?)?;
-    let stream = Listener::accept(&mut listener)?;
-    let (reader, mut writer) = Listener::open(&mut listener, rt.alloc(), stream).map_err(
-        |unready| unready.error,
-    )?;
+    let (reader, mut writer) = opened(&rt, &mut listener)?;
     assert_eq!(rt; writer.write(b"told")?, 4);
-    Listener::close(&mut listener, reader, writer);
+    let reader = Gathered::new(rt.alloc(), reader);
+    let writer = Outbox::new(rt.alloc(), writer);
+    Listener::close(&mut listener, Seat::new(rt.alloc(), reader, writer));
     assert_eq!(rt; taken(&rt, &mut peer)?.as_slice(), b"told".as_slice());
     Ok(())
 }

@@ -1,6 +1,6 @@
 -- Slots that are free.
-use Rattle.std.proofs.Common.{◌≡◌, ◌<◌, ◌+◌, ◌++◌, ℕ, suc, zero, List, [], ◌∷◌, Option, None, Some, refl, arith}
-use Rattle.office.specs.Crowds.{slot_at, taken_slots}
+use Rattle.std.proofs.Common.{◌≡◌, ◌<◌, ◌+◌, ◌++◌, ℕ, suc, zero, List, [], ◌∷◌, Option, None, refl, arith}
+use Rattle.office.specs.Crowds.{slot_at}
 
 -- one more is free
 pub free_more : {X : Type 0} (slots : List (Option X)) → ((p : ℕ) → slot_at slots p ≡ None) → (p : ℕ) → slot_at (slots ++ None ∷ []) p ≡ None
@@ -15,9 +15,3 @@ up_to P zero all last zero lt = last
 up_to P zero all last (suc p) lt = absurd (omega (arith, lt))
 up_to P (suc n) all last zero lt = all zero (omega arith)
 up_to P (suc n) all last (suc p) lt = up_to (λ q. P (suc q)) n (λ q l. all (suc q) (omega (arith, l))) last p (omega (arith, lt))
-
--- where all are free, none is taken
-pub none_taken : {X : Type 0} (slots : List (Option X)) → ((p : ℕ) → slot_at slots p ≡ None) → taken_slots slots ≡ 0
-none_taken [] all = refl
-none_taken (None ∷ slots) all = none_taken slots (λ p. all (suc p))
-none_taken (Some x ∷ slots) all = absurd cc (all zero)

@@ -1,3 +1,2 @@
 pub mod Freed
-pub mod Logs
 pub mod Moved

@@ -1,27 +1,17 @@
 -- What went on at the gate and in the slots, one thing after another.
-use Rattle.std.proofs.Common.{◌≡◌, ◌∙◌, ◌+◌, ◌++◌, ◌⊎◌, ℕ, inl, inr, true, false, List, [], ◌∷◌, Option, None, Some, length, ap, append_assoc, refl, sym, subst, arith}
-use Rattle.std.specs.Prelude.{IfSome, is_some}
+use Rattle.std.proofs.Common.{◌≡◌, ◌<◌, ◌∙◌, ◌+◌, ◌++◌, ◌⊎◌, ℕ, inl, inr, true, false, List, [], ◌∷◌, Option, None, Some, length, ap, append_assoc, refl, sym, subst, arith}
+use Rattle.std.specs.Prelude.{IfSome, cond, is_some}
 use Rattle.std.proofs.lemmas.List.{append-nil, length-append}
 use Rattle.office.specs.Crowds.{Changes, same, those_of}
 use Rattle.office.specs.declared.connections.seat.Seat.{Seat}
 use Rattle.office.proofs.Changing.{changes_then}
 use Rattle.wire.specs.declared.gathered.Gathered.{Gathered}
 use Rattle.wire.specs.declared.outbox.Outbox.{Outbox}
-use Rattle.sockets.specs.Accepting.{Accepts, Admits, IsUntouched}
+use Rattle.sockets.specs.Accepting.{Admits, IsUntouched}
 use Rattle.sockets.specs.Accepting as accepting
-use Rattle.sockets.specs.Listening.{Log, accepted_one, also, log_of}
+use Rattle.sockets.specs.Listening.{Event, accepted, closed, missed, opened, unready}
 use Rattle.sockets.specs.Moving.{HasPassed, Moves, Passes}
 use Rattle.sockets.specs.declared.gate.Gate.{Gate}
-use Rattle.sockets.proofs.Logs.{also_none, also_then}
-
-module _ {X : Type 0} where
-  pub those_some : (x : Option X) → is_some x ≡ true → length (those_of x) ≡ 1
-  those_some None is = absurd cc
-  those_some (Some x) is = omega arith
-
-  pub those_none : (x : Option X) → is_some x ≡ false → those_of x ≡ []
-  those_none None is = refl
-  those_none (Some x) is = absurd cc
 
 -- what is kept of a connection whose ends could not be made, is that one
 pub kept_is : {S : Type 0} (kept given : Option S) (stream : S) → (kept ≡ None) ⊎ (kept ≡ given) → IfSome given (λ same. same ≡ stream) → is_some kept ≡ true → kept ≡ Some stream
@@ -34,182 +24,191 @@ pub none_is : {S : Type 0} (kept : Option S) → is_some kept ≡ false → kept
 none_is None is = refl
 none_is (Some x) is = absurd cc
 
-module _ {S E : Type 0} (are_ends : S → E → E → Type 0) where
-  -- some were admitted, and then others
-  pub admits_then : (xs ys : List S) (came more : List (Seat (Gathered E) (Outbox E))) (away others : ℕ) → Admits are_ends xs came away → Admits are_ends ys more others
-      → Admits are_ends (xs ++ ys) (came ++ more) (away + others)
-  admits_then _ ys _ more _ others accepting.nobody y = subst (Admits are_ends ys more) (omega arith) y
-  admits_then _ ys _ more _ others (accepting.came x xs seat came away ends untouched rest) y =
-      accepting.came x (xs ++ ys) seat (came ++ more) (away + others) ends untouched (admits_then xs ys came more away others rest y)
-  admits_then _ ys _ more _ others (accepting.away x xs came away rest) y =
-      subst (Admits are_ends (x ∷ (xs ++ ys)) (came ++ more)) (omega arith) (accepting.away x (xs ++ ys) (came ++ more) (away + others) (admits_then xs ys came more away others rest y))
+-- how many wait: one, or none
+pub waits_one : {S : Type 0} (waits : Option S) → length (those_of waits) ≡ cond (is_some waits) 1 0
+waits_one None = refl
+waits_one (Some x) = refl
 
-  -- one comes, as it was accepted
-  pub admits_one : (stream : S) (seat : Seat (Gathered E) (Outbox E)) (reader writer : E) → are_ends stream reader writer → seat.reader.inner.inner ≡ reader → seat.writer.inner.inner ≡ writer
-      → IsUntouched seat → Admits are_ends (stream ∷ []) (seat ∷ []) 0
-  admits_one stream seat reader writer ends reads writes untouched =
-      accepting.came stream [] seat [] 0 (subst (λ r. are_ends stream r seat.writer.inner.inner) (sym reads) (subst (are_ends stream reader) (sym writes) ends)) untouched accepting.nobody
-
-  -- each came, or was turned away
-  pub admits_all : (xs : List S) (came : List (Seat (Gathered E) (Outbox E))) (away : ℕ) → Admits are_ends xs came away → length xs ≡ length came + away
-  admits_all _ _ _ accepting.nobody = omega arith
-  admits_all _ _ _ (accepting.came x xs seat came away ends untouched rest) = omega (arith, admits_all xs came away rest)
-  admits_all _ _ _ (accepting.away x xs came away rest) = omega (arith, admits_all xs came away rest)
-
-  -- all are turned away
-  pub all_away : (xs : List S) → Admits are_ends xs [] (length xs)
-  all_away [] = subst (Admits are_ends [] []) (omega arith) accepting.nobody
-  all_away (x ∷ xs) = subst (Admits are_ends (x ∷ xs) []) (omega arith) (accepting.away x xs [] (length xs) (all_away xs))
-
-module _ {L S E : Type 0} (told : L → Log S E → Type 0) (are_ends : S → E → E → Type 0) where
-  -- what the listener tells of nothing more is what it told
-  tells_same : (g h : L) → ((log : Log S E) → told g log → told h log) → (log : Log S E) → told g log → told h (also log (log_of [] [] []))
-  tells_same g h tells log is = subst (told h) (sym (also_none log)) (tells log is)
-
-  -- nobody comes, goes, or is accepted, and whoever waits, waits on; so many could not be
-  pub passes_still : (g h : Gate L S) (failed : ℕ) → h.guest ≡ g.guest → g.to_come ≡ h.to_come + failed → h.came ≡ g.came → h.gone ≡ g.gone
-      → ((log : Log S E) → told g.listener log → told h.listener log) → Passes told are_ends g h [] []
-  passes_still g h failed guest to_come came gone tells = record {
-    accepted = [];
-    admitted = [];
-    away = 0;
-    failed = failed;
-    tells = tells_same g.listener h.listener tells;
-    waits = append-nil (those_of g.guest) ∙ sym (ap those_of guest);
-    admits = accepting.nobody;
-    to_come = omega (arith, to_come);
+module _ {L S E : Type 0} (told : L → List (Event S E) → Type 0) (are_ends : S → E → E → Type 0) where
+  -- nothing passed, and the listener tells the same
+  pub passes_still : (g h : Gate L S) → h.guest ≡ g.guest → h.to_come ≡ g.to_come → h.most ≡ g.most → h.came ≡ g.came → h.gone ≡ g.gone
+      → ((log : List (Event S E)) → told g.listener log → told h.listener log) → Passes told are_ends g h [] []
+  passes_still g h guest to_come most came gone tells = record {
+    events = [];
+    refused = 0;
+    tells = λ log is. subst (told h.listener) (sym (append-nil log)) (tells log is);
+    admits = λ before cs gs n is _ _.
+        subst (λ l. Admits are_ends g.most l h.guest (cs ++ []) (gs ++ []) (n + 0)) (sym (append-nil before))
+        (subst (λ l. Admits are_ends g.most before h.guest l (gs ++ []) (n + 0)) (sym (append-nil cs))
+        (subst (λ l. Admits are_ends g.most before h.guest cs l (n + 0)) (sym (append-nil gs))
+        (subst (λ k. Admits are_ends g.most before h.guest cs gs k) (the (n ≡ n + 0) (omega arith))
+        (subst (λ w. Admits are_ends g.most before w cs gs n) (sym guest) is))));
+    most = most;
+    to_come = omega (arith, to_come, ap (λ w. length (those_of w)) guest);
     counted = omega (arith, came);
     left = omega (arith, gone);
   }
 
-  -- nothing passed
   pub passes_none : (g : Gate L S) → Passes told are_ends g g [] []
-  passes_none g = passes_still g g 0 refl (omega arith) refl refl (λ log is. is)
+  passes_none g = passes_still g g refl refl refl refl refl (λ log is. is)
+
+  -- one event, by which nobody comes or goes
+  module _ (g h : Gate L S) (event : Event S E) (refused : ℕ)
+      (step : (before : List (Event S E)) (cs gs : List (Seat (Gathered E) (Outbox E))) (n : ℕ) → Admits are_ends g.most before g.guest cs gs n
+      → Admits are_ends g.most (before ++ event ∷ []) h.guest cs gs (n + refused)) where
+    pub passes_by : g.to_come + length (those_of g.guest) ≡ h.to_come + length (those_of h.guest) + refused → h.most ≡ g.most → h.came ≡ g.came → h.gone ≡ g.gone
+        → ((log : List (Event S E)) → told g.listener log → told h.listener (log ++ event ∷ [])) → Passes told are_ends g h [] []
+    passes_by to_come most came gone tells = record {
+      events = event ∷ [];
+      refused = refused;
+      tells = tells;
+      admits = λ before cs gs n is _ _.
+          subst (λ l. Admits are_ends g.most (before ++ event ∷ []) h.guest l (gs ++ []) (n + refused)) (sym (append-nil cs))
+          (subst (λ l. Admits are_ends g.most (before ++ event ∷ []) h.guest cs l (n + refused)) (sym (append-nil gs)) (step before cs gs n is));
+      most = most;
+      to_come = omega (arith, to_come);
+      counted = omega (arith, came);
+      left = omega (arith, gone);
+    }
 
   -- one is accepted, and waits
-  pub accepts_one : (g h : Gate L S) (stream : S) → those_of g.guest ≡ [] → h.guest ≡ Some stream → g.to_come ≡ h.to_come + 1 → h.came ≡ g.came → h.gone ≡ g.gone
-      → ((log : Log S E) → told g.listener log → told h.listener (also log (accepted_one stream))) → Passes told are_ends g h [] []
-  accepts_one g h stream free waits to_come came gone tells = record {
-    accepted = stream ∷ [];
-    admitted = [];
-    away = 0;
-    failed = 0;
-    tells = tells;
-    waits = ap (λ l. l ++ stream ∷ []) free ∙ sym (ap those_of waits);
-    admits = accepting.nobody;
-    to_come = omega (arith, to_come);
+  pub accepts_one : (g h : Gate L S) (stream : S) → g.guest ≡ None → h.guest ≡ Some stream → g.to_come ≡ h.to_come + 1 → h.most ≡ g.most → h.came ≡ g.came → h.gone ≡ g.gone
+      → ((log : List (Event S E)) → told g.listener log → told h.listener (log ++ accepted stream ∷ [])) → Passes told are_ends g h [] []
+  accepts_one g h stream free waits to_come most came gone tells = passes_by g h (accepted stream) 0
+      (λ before cs gs n is.
+      subst (λ k. Admits are_ends g.most (before ++ accepted stream ∷ []) h.guest cs gs k) (the (n ≡ n + 0) (omega arith))
+      (subst (λ w. Admits are_ends g.most (before ++ accepted stream ∷ []) w cs gs n) (sym waits)
+      (accepting.accepts before cs gs n stream (subst (λ w. Admits are_ends g.most before w cs gs n) free is))))
+      (omega (arith, to_come, ap (λ w. length (those_of w)) free, ap (λ w. length (those_of w)) waits)) most came gone tells
+
+  -- none can be accepted now
+  pub misses_one : (g h : Gate L S) → h.guest ≡ g.guest → h.to_come ≡ g.to_come → h.most ≡ g.most → h.came ≡ g.came → h.gone ≡ g.gone
+      → ((log : List (Event S E)) → told g.listener log → told h.listener (log ++ missed ∷ [])) → Passes told are_ends g h [] []
+  misses_one g h waits to_come most came gone tells = passes_by g h missed 0
+      (λ before cs gs n is.
+      subst (λ k. Admits are_ends g.most (before ++ missed ∷ []) h.guest cs gs k) (the (n ≡ n + 0) (omega arith))
+      (accepting.misses before h.guest cs gs n (subst (λ w. Admits are_ends g.most before w cs gs n) (sym waits) is)))
+      (omega (arith, to_come, ap (λ w. length (those_of w)) waits)) most came gone tells
+
+  -- one can't be accepted
+  pub refuses_one : (g h : Gate L S) → h.guest ≡ g.guest → g.to_come ≡ h.to_come + 1 → h.most ≡ g.most → h.came ≡ g.came → h.gone ≡ g.gone
+      → ((log : List (Event S E)) → told g.listener log → told h.listener (log ++ missed ∷ [])) → Passes told are_ends g h [] []
+  refuses_one g h waits to_come most came gone tells = passes_by g h missed 1
+      (λ before cs gs n is. accepting.refuses before h.guest cs gs n (subst (λ w. Admits are_ends g.most before w cs gs n) (sym waits) is))
+      (omega (arith, to_come, ap (λ w. length (those_of w)) waits)) most came gone tells
+
+  -- the ends of the one that waits can't be made now
+  pub waits_on : (g h : Gate L S) (stream : S) → g.guest ≡ Some stream → h.guest ≡ Some stream → h.to_come ≡ g.to_come → h.most ≡ g.most → h.came ≡ g.came → h.gone ≡ g.gone
+      → ((log : List (Event S E)) → told g.listener log → told h.listener (log ++ unready ∷ [])) → Passes told are_ends g h [] []
+  waits_on g h stream waits still to_come most came gone tells = passes_by g h unready 0
+      (λ before cs gs n is.
+      subst (λ k. Admits are_ends g.most (before ++ unready ∷ []) h.guest cs gs k) (the (n ≡ n + 0) (omega arith))
+      (subst (λ w. Admits are_ends g.most (before ++ unready ∷ []) w cs gs n) (sym still)
+      (accepting.waits_on before stream cs gs n (subst (λ w. Admits are_ends g.most before w cs gs n) waits is))))
+      (omega (arith, to_come, ap (λ w. length (those_of w)) waits, ap (λ w. length (those_of w)) still)) most came gone tells
+
+  -- the ends of the one that waits can't be made
+  pub turns_away : (g h : Gate L S) (stream : S) → g.guest ≡ Some stream → h.guest ≡ None → h.to_come ≡ g.to_come → h.most ≡ g.most → h.came ≡ g.came → h.gone ≡ g.gone
+      → ((log : List (Event S E)) → told g.listener log → told h.listener (log ++ unready ∷ [])) → Passes told are_ends g h [] []
+  turns_away g h stream waits free to_come most came gone tells = passes_by g h unready 1
+      (λ before cs gs n is.
+      subst (λ w. Admits are_ends g.most (before ++ unready ∷ []) w cs gs (n + 1)) (sym free)
+      (accepting.turns_away before stream cs gs n (subst (λ w. Admits are_ends g.most before w cs gs n) waits is)))
+      (omega (arith, to_come, ap (λ w. length (those_of w)) waits, ap (λ w. length (those_of w)) free)) most came gone tells
+
+  -- the one that waits comes
+  pub comes_in : (g h : Gate L S) (stream : S) (seat : Seat (Gathered E) (Outbox E)) (reader writer : E) → g.guest ≡ Some stream → h.guest ≡ None → h.to_come ≡ g.to_come → h.most ≡ g.most
+      → h.came ≡ g.came + 1 → h.gone ≡ g.gone → g.came < g.gone + g.most → are_ends stream reader writer → seat.reader.inner.inner ≡ reader → seat.writer.inner.inner ≡ writer → IsUntouched seat
+      → ((log : List (Event S E)) → told g.listener log → told h.listener (log ++ opened reader writer ∷ [])) → Passes told are_ends g h (seat ∷ []) []
+  comes_in g h stream seat reader writer waits free to_come most came gone may ends reads writes untouched tells = record {
+    events = opened seat.reader.inner.inner seat.writer.inner.inner ∷ [];
+    refused = 0;
+    tells = λ log is.
+        subst (λ r. told h.listener (log ++ opened r seat.writer.inner.inner ∷ [])) (sym reads) (subst (λ w. told h.listener (log ++ opened reader w ∷ [])) (sym writes) (tells log is));
+    admits = λ before cs gs n is counted left.
+        let at : Admits are_ends g.most before (Some stream) cs gs n = subst (λ w. Admits are_ends g.most before w cs gs n) waits is in
+        let both : are_ends stream seat.reader.inner.inner seat.writer.inner.inner = subst (λ r. are_ends stream r seat.writer.inner.inner) (sym reads) (subst (are_ends stream reader) (sym writes) ends) in
+        let now = accepting.comes before stream cs gs n seat at (omega (arith, may, counted, left)) both untouched in
+        let log : List (Event S E) = before ++ opened seat.reader.inner.inner seat.writer.inner.inner ∷ [] in
+        subst (λ w. Admits are_ends g.most log w (cs ++ seat ∷ []) (gs ++ []) (n + 0)) (sym free)
+        (subst (λ l. Admits are_ends g.most log None (cs ++ seat ∷ []) l (n + 0)) (sym (append-nil gs))
+        (subst (λ k. Admits are_ends g.most log None (cs ++ seat ∷ []) gs k) (the (n ≡ n + 0) (omega arith)) now));
+    most = most;
+    to_come = omega (arith, to_come, ap (λ w. length (those_of w)) waits, ap (λ w. length (those_of w)) free);
     counted = omega (arith, came);
     left = omega (arith, gone);
   }
 
-  -- the one that waits comes, or is turned away
-  pub lets_in : (g h : Gate L S) (stream : S) (came : List (Seat (Gathered E) (Outbox E))) (away : ℕ) → g.guest ≡ Some stream → h.guest ≡ None
-      → h.to_come ≡ g.to_come → h.came ≡ g.came + length came → h.gone ≡ g.gone → Admits are_ends (stream ∷ []) came away
-      → ((log : Log S E) → told g.listener log → told h.listener (also log (log_of [] came []))) → Passes told are_ends g h came []
-  lets_in g h stream came away waits free to_come counted gone admits tells = record {
-    accepted = [];
-    admitted = stream ∷ [];
-    away = away;
-    failed = 0;
+  -- one goes
+  pub goes_out : (g h : Gate L S) (seat : Seat (Gathered E) (Outbox E)) → h.guest ≡ g.guest → h.to_come ≡ g.to_come → h.most ≡ g.most → h.came ≡ g.came → h.gone ≡ g.gone + 1
+      → ((log : List (Event S E)) → told g.listener log → told h.listener (log ++ closed seat ∷ [])) → Passes told are_ends g h [] (seat ∷ [])
+  goes_out g h seat guest to_come most came gone tells = record {
+    events = closed seat ∷ [];
+    refused = 0;
     tells = tells;
-    waits = append-nil (those_of g.guest) ∙ (ap those_of waits ∙ sym (ap (λ o. stream ∷ those_of o) free));
-    admits = admits;
-    to_come = omega (arith, to_come);
-    counted = counted;
-    left = omega (arith, gone);
-  }
-
-  -- the one that waits is turned away
-  pub turns_away : (g h : Gate L S) (stream : S) → g.guest ≡ Some stream → h.guest ≡ None → h.to_come ≡ g.to_come → h.came ≡ g.came → h.gone ≡ g.gone
-      → ((log : Log S E) → told g.listener log → told h.listener log) → Passes told are_ends g h [] []
-  turns_away g h stream waits free to_come came gone tells =
-      lets_in g h stream [] (length (stream ∷ [])) waits free to_come (omega (arith, came)) gone (all_away are_ends (stream ∷ [])) (tells_same g.listener h.listener tells)
-
-  -- one goes, and its ends are given back
-  pub lets_go : (g h : Gate L S) (seat : Seat (Gathered E) (Outbox E)) → h.guest ≡ g.guest → h.to_come ≡ g.to_come → h.came ≡ g.came → h.gone ≡ g.gone + 1
-      → ((log : Log S E) → told g.listener log → told h.listener (also log (log_of [] [] (seat ∷ [])))) → Passes told are_ends g h [] (seat ∷ [])
-  lets_go g h seat guest to_come came gone tells = record {
-    accepted = [];
-    admitted = [];
-    away = 0;
-    failed = 0;
-    tells = tells;
-    waits = append-nil (those_of g.guest) ∙ sym (ap those_of guest);
-    admits = accepting.nobody;
-    to_come = omega (arith, to_come);
+    admits = λ before cs gs n is _ _.
+        let at : Admits are_ends g.most before h.guest cs gs n = subst (λ w. Admits are_ends g.most before w cs gs n) (sym guest) is in
+        subst (λ l. Admits are_ends g.most (before ++ closed seat ∷ []) h.guest l (gs ++ seat ∷ []) (n + 0)) (sym (append-nil cs))
+        (subst (λ k. Admits are_ends g.most (before ++ closed seat ∷ []) h.guest cs (gs ++ seat ∷ []) k) (the (n ≡ n + 0) (omega arith)) (accepting.goes before h.guest cs gs n seat at));
+    most = most;
+    to_come = omega (arith, to_come, ap (λ w. length (those_of w)) guest);
     counted = omega (arith, came);
     left = omega (arith, gone);
   }
 
-  -- what waits, passes
-  waits_then : (a b c : Option S) (xs ys ps qs : List S) → those_of a ++ xs ≡ ps ++ those_of b → those_of b ++ ys ≡ qs ++ those_of c
-      → those_of a ++ (xs ++ ys) ≡ (ps ++ qs) ++ those_of c
-  waits_then a b c xs ys ps qs first then =
-      sym (append_assoc (those_of a) xs ys) ∙ (ap (λ l. l ++ ys) first ∙ (append_assoc ps (those_of b) ys ∙ (ap (λ l. ps ++ l) then ∙ sym (append_assoc ps qs (those_of c)))))
-
-  passes_then : (f g h : Gate L S) (came more gone went : List (Seat (Gathered E) (Outbox E))) → Passes told are_ends f g came gone → Passes told are_ends g h more went
+  -- this passed, and then that
+  pub passes_then : (f g h : Gate L S) (came more gone went : List (Seat (Gathered E) (Outbox E))) → Passes told are_ends f g came gone → Passes told are_ends g h more went
       → Passes told are_ends f h (came ++ more) (gone ++ went)
   passes_then f g h came more gone went x y = record {
-    accepted = x.accepted ++ y.accepted;
-    admitted = x.admitted ++ y.admitted;
-    away = x.away + y.away;
-    failed = x.failed + y.failed;
-    tells = λ log is. subst (told h.listener) (also_then log x.accepted y.accepted came more gone went) (y.tells (also log (log_of x.accepted came gone)) (x.tells log is));
-    waits = waits_then f.guest g.guest h.guest x.accepted y.accepted x.admitted y.admitted x.waits y.waits;
-    admits = admits_then are_ends x.admitted y.admitted came more x.away y.away x.admits y.admits;
-    to_come = omega (arith, x.to_come, y.to_come, length-append x.accepted y.accepted);
+    events = x.events ++ y.events;
+    refused = x.refused + y.refused;
+    tells = λ log is. subst (told h.listener) (append_assoc log x.events y.events) (y.tells (log ++ x.events) (x.tells log is));
+    admits = λ before cs gs n is counted left.
+        let first : Admits are_ends g.most (before ++ x.events) g.guest (cs ++ came) (gs ++ gone) (n + x.refused) =
+        subst (λ m. Admits are_ends m (before ++ x.events) g.guest (cs ++ came) (gs ++ gone) (n + x.refused)) (sym x.most) (x.admits before cs gs n is counted left) in
+        let then : Admits are_ends g.most ((before ++ x.events) ++ y.events) h.guest ((cs ++ came) ++ more) ((gs ++ gone) ++ went) ((n + x.refused) + y.refused) =
+        y.admits (before ++ x.events) (cs ++ came) (gs ++ gone) (n + x.refused) first (omega (arith, x.counted, counted, length-append cs came)) (omega (arith, x.left, left, length-append gs gone)) in
+        subst (λ m. Admits are_ends m (before ++ (x.events ++ y.events)) h.guest (cs ++ (came ++ more)) (gs ++ (gone ++ went)) (n + (x.refused + y.refused))) x.most
+        (subst (λ l. Admits are_ends g.most l h.guest (cs ++ (came ++ more)) (gs ++ (gone ++ went)) (n + (x.refused + y.refused))) (append_assoc before x.events y.events)
+        (subst (λ l. Admits are_ends g.most ((before ++ x.events) ++ y.events) h.guest l (gs ++ (gone ++ went)) (n + (x.refused + y.refused))) (append_assoc cs came more)
+        (subst (λ l. Admits are_ends g.most ((before ++ x.events) ++ y.events) h.guest ((cs ++ came) ++ more) l (n + (x.refused + y.refused))) (append_assoc gs gone went)
+        (subst (λ k. Admits are_ends g.most ((before ++ x.events) ++ y.events) h.guest ((cs ++ came) ++ more) ((gs ++ gone) ++ went) k)
+        (the ((n + x.refused) + y.refused ≡ n + (x.refused + y.refused)) (omega arith)) then))));
+    most = y.most ∙ x.most;
+    to_come = omega (arith, x.to_come, y.to_come, length-append came more);
     counted = omega (arith, x.counted, y.counted, length-append came more);
     left = omega (arith, x.left, y.left, length-append gone went);
   }
 
   -- what passed since the gate began, and then this
-  passed_then : (had : Log S E → Type 0) (connections : ℕ) (g h : Gate L S) (came more gone went : List (Seat (Gathered E) (Outbox E))) → HasPassed had connections told are_ends g came gone
-      → Passes told are_ends g h more went → HasPassed had connections told are_ends h (came ++ more) (gone ++ went)
-  passed_then had connections g h came more gone went x y = record {
-    accepted = x.accepted ++ y.accepted;
-    admitted = x.admitted ++ y.admitted;
-    away = x.away + y.away;
-    failed = x.failed + y.failed;
-    tells = λ log is. subst (told h.listener) (also_then log x.accepted y.accepted came more gone went) (y.tells (also log (log_of x.accepted came gone)) (x.tells log is));
-    waits = waits_then None g.guest h.guest x.accepted y.accepted x.admitted y.admitted x.waits y.waits;
-    admits = admits_then are_ends x.admitted y.admitted came more x.away y.away x.admits y.admits;
-    to_come = omega (arith, x.to_come, y.to_come, length-append x.accepted y.accepted);
+  pub passed_then : (had : List (Event S E) → Type 0) (connections most : ℕ) (g h : Gate L S) (came more gone went : List (Seat (Gathered E) (Outbox E)))
+      → HasPassed had connections most told are_ends g came gone → Passes told are_ends g h more went → HasPassed had connections most told are_ends h (came ++ more) (gone ++ went)
+  passed_then had connections most g h came more gone went x y = record {
+    events = x.events ++ y.events;
+    refused = x.refused + y.refused;
+    tells = λ log is. subst (told h.listener) (append_assoc log x.events y.events) (y.tells (log ++ x.events) (x.tells log is));
+    admits =
+        let first : Admits are_ends g.most x.events g.guest came gone x.refused = subst (λ m. Admits are_ends m x.events g.guest came gone x.refused) (sym x.bound) x.admits in
+        subst (λ m. Admits are_ends m (x.events ++ y.events) h.guest (came ++ more) (gone ++ went) (x.refused + y.refused)) x.bound (y.admits x.events came gone x.refused first x.counted x.left);
+    bound = y.most ∙ x.bound;
+    to_come = omega (arith, x.to_come, y.to_come, length-append came more);
     counted = omega (arith, x.counted, y.counted, length-append came more);
     left = omega (arith, x.left, y.left, length-append gone went);
   }
 
   -- a gate that begins
-  pub passed_none : (had : Log S E → Type 0) (connections : ℕ) (g : Gate L S) → ((log : Log S E) → had log → told g.listener log) → g.guest ≡ None → connections ≡ g.to_come
-      → g.came ≡ 0 → g.gone ≡ 0 → HasPassed had connections told are_ends g [] []
-  passed_none had connections g tells guest to_come came gone = record {
-    accepted = [];
-    admitted = [];
-    away = 0;
-    failed = 0;
-    tells = λ log is. subst (told g.listener) (sym (also_none log)) (tells log is);
-    waits = sym (ap those_of guest);
-    admits = accepting.nobody;
-    to_come = omega (arith, to_come);
+  pub passed_none : (had : List (Event S E) → Type 0) (connections most : ℕ) (g : Gate L S) → ((log : List (Event S E)) → had log → told g.listener log) → g.guest ≡ None
+      → connections ≡ g.to_come → g.most ≡ most → g.came ≡ 0 → g.gone ≡ 0 → HasPassed had connections most told are_ends g [] []
+  passed_none had connections most g tells guest to_come bound came gone = record {
+    events = [];
+    refused = 0;
+    tells = λ log is. subst (told g.listener) (sym (append-nil log)) (tells log is);
+    admits = subst (λ w. Admits are_ends most [] w [] [] 0) (sym guest) accepting.nothing;
+    bound = bound;
+    to_come = omega (arith, to_come, ap (λ w. length (those_of w)) guest);
     counted = omega (arith, came);
     left = omega (arith, gone);
   }
-
-  -- where the gate is closed, whoever waits is turned away
-  pub closed : (had : Log S E → Type 0) (connections refused : ℕ) (g : Gate L S) (came gone : List (Seat (Gathered E) (Outbox E))) → HasPassed had connections told are_ends g came gone
-      → ((rest : ℕ) → connections ≡ g.to_come + g.came + rest → refused ≡ rest) → Accepts had (told g.listener) are_ends connections came gone refused
-  closed had connections refused g came gone x rest =
-      let away : ℕ = x.away + length (those_of g.guest) in
-      let admits = admits_then are_ends x.admitted (those_of g.guest) came [] x.away (length (those_of g.guest)) x.admits (all_away are_ends (those_of g.guest)) in
-      let all : Admits are_ends x.accepted came away = subst (λ l. Admits are_ends l came away) (sym x.waits) (subst (λ l. Admits are_ends (x.admitted ++ those_of g.guest) l away) (append-nil came) admits) in
-      record {
-        accepted = x.accepted;
-        away = away;
-        failed = x.failed;
-        tells = x.tells;
-        admits = all;
-        within = omega (arith, x.to_come);
-        refused_are = rest (away + x.failed) (omega (arith, x.to_come, x.counted, admits_all are_ends x.accepted came away all));
-      }
 
   module _ (remaining : Gathered E → Option (List ℕ)) (contents : Outbox E → Option (List ℕ)) where
     pub moves_none : (g : Gate L S) (a : List (Option (Seat (Gathered E) (Outbox E)))) → Moves told are_ends remaining contents g g a a
@@ -233,8 +232,8 @@ module _ {L S E : Type 0} (told : L → Log S E → Type 0) (are_ends : S → E 
     moves_called g h a passes = ([], [], passes, same)
 
     -- it is what a crowd says of itself
-    pub moves_met : (had : Log S E → Type 0) (connections : ℕ) (g h : Gate L S) (a b : List (Option (Seat (Gathered E) (Outbox E)))) → Moves told are_ends remaining contents g h a b
-        → (came gone : List (Seat (Gathered E) (Outbox E))) → HasPassed had connections told are_ends g came gone
-        → (more went : List (Seat (Gathered E) (Outbox E))) × HasPassed had connections told are_ends h (came ++ more) (gone ++ went)
+    pub moves_met : (had : List (Event S E) → Type 0) (connections most : ℕ) (g h : Gate L S) (a b : List (Option (Seat (Gathered E) (Outbox E)))) → Moves told are_ends remaining contents g h a b
+        → (came gone : List (Seat (Gathered E) (Outbox E))) → HasPassed had connections most told are_ends g came gone
+        → (more went : List (Seat (Gathered E) (Outbox E))) × HasPassed had connections most told are_ends h (came ++ more) (gone ++ went)
         × Changes remaining contents a b more went
-    moves_met had connections g h a b x came gone met = (x.0, x.1, passed_then had connections g h came x.0 gone x.1 met x.2, x.3)
+    moves_met had connections most g h a b x came gone met = (x.0, x.1, passed_then had connections most g h came x.0 gone x.1 met x.2, x.3)

@@ -1,8 +1,8 @@
 -- Connections that a listener accepted: they came, were served in turn, and went.
-use Rattle.std.specs.Prelude.{◌≡◌, ◌≤◌, ◌+◌, ◌∷◌, zero, ℕ, List, [], None, Option, length, true}
+use Rattle.std.specs.Prelude.{◌≡◌, ◌<◌, ◌≤◌, ◌+◌, ◌++◌, ◌∷◌, zero, suc, ℕ, List, [], None, Option, Some, length, true}
 use Rattle.boxes.specs.State.{State}
 use Rattle.keeper.specs.declared.keep.Keeper.{Ghosts}
-use Rattle.office.specs.Crowds.{ServesCrowd, slot_at}
+use Rattle.office.specs.Crowds.{ServesCrowd, slot_at, those_of}
 use Rattle.office.specs.Premise.{IsLeft, WasKept}
 use Rattle.office.specs.declared.connections.seat.Seat.{Seat}
 use Rattle.wire.specs.Feeds.{ahead_of}
@@ -10,7 +10,7 @@ use Rattle.wire.specs.Gathering.{ahead_in}
 use Rattle.wire.specs.Outgoing.{NoneFailed, waits_out}
 use Rattle.wire.specs.declared.gathered.Gathered.{Gathered}
 use Rattle.wire.specs.declared.outbox.Outbox.{Outbox}
-use Rattle.sockets.specs.Listening.{Log, also, log_of}
+use Rattle.sockets.specs.Listening.{Event, accepted, closed, missed, opened, unready}
 use Rattle.sockets.specs.declared.serving.Outcome.{Outcome}
 
 -- nothing was read of a connection, or written to it, and no read or write of it has failed
@@ -21,48 +21,64 @@ pub record IsUntouched {E : Type 0} (seat : Seat (Gathered E) (Outbox E)) : Type
   pub reads : seat.reader.inner.fault ≡ None
   pub writes : NoneFailed seat.writer.inner
 
--- Of the connections that were accepted, in their order, each came as it was accepted: its reader and its writer are its two ends,
--- and it is untouched; or it was turned away. are_ends: what the ends of a connection are; away: how many were turned away.
-pub data Admits {S E : Type 0} (are_ends : S → E → E → Type 0) : List S → List (Seat (Gathered E) (Outbox E)) → ℕ → Type 0 where
-  nobody : Admits are_ends [] [] 0
-  came : (stream : S) (streams : List S) (seat : Seat (Gathered E) (Outbox E)) (seats : List (Seat (Gathered E) (Outbox E))) (away : ℕ)
+-- What a listener did, one thing after another, and what became of its connections: which one was accepted and waits, which came,
+-- as they came, which went, as they were then, and how many were refused. are_ends: what the ends of a connection are; most: how
+-- many may be open at a time.
+pub data Admits {S E : Type 0} (are_ends : S → E → E → Type 0) (most : ℕ)
+    : List (Event S E) → Option S → List (Seat (Gathered E) (Outbox E)) → List (Seat (Gathered E) (Outbox E)) → ℕ → Type 0 where
+  nothing : Admits are_ends most [] None [] [] 0
+  -- none waits, and one is accepted: it waits
+  accepts : (events : List (Event S E)) (came gone : List (Seat (Gathered E) (Outbox E))) (refused : ℕ) (stream : S) → Admits are_ends most events None came gone refused
+      → Admits are_ends most (events ++ accepted stream ∷ []) (Some stream) came gone refused
+  -- none can be accepted now: one may be later
+  misses : (events : List (Event S E)) (waits : Option S) (came gone : List (Seat (Gathered E) (Outbox E))) (refused : ℕ) → Admits are_ends most events waits came gone refused
+      → Admits are_ends most (events ++ missed ∷ []) waits came gone refused
+  -- one can't be accepted: it is refused
+  refuses : (events : List (Event S E)) (waits : Option S) (came gone : List (Seat (Gathered E) (Outbox E))) (refused : ℕ) → Admits are_ends most events waits came gone refused
+      → Admits are_ends most (events ++ missed ∷ []) waits came gone (refused + 1)
+  -- the one that waits comes, as it was accepted: its reader and its writer are its two ends, and it is untouched
+  comes : (events : List (Event S E)) (stream : S) (came gone : List (Seat (Gathered E) (Outbox E))) (refused : ℕ) (seat : Seat (Gathered E) (Outbox E))
+      → Admits are_ends most events (Some stream) came gone refused → length came < length gone + most
       → are_ends stream seat.reader.inner.inner seat.writer.inner.inner → IsUntouched seat
-      → Admits are_ends streams seats away → Admits are_ends (stream ∷ streams) (seat ∷ seats) away
-  away : (stream : S) (streams : List S) (seats : List (Seat (Gathered E) (Outbox E))) (away : ℕ)
-      → Admits are_ends streams seats away → Admits are_ends (stream ∷ streams) seats (away + 1)
+      → Admits are_ends most (events ++ opened seat.reader.inner.inner seat.writer.inner.inner ∷ []) None (came ++ seat ∷ []) gone refused
+  -- its ends can't be made now, and it waits on
+  waits_on : (events : List (Event S E)) (stream : S) (came gone : List (Seat (Gathered E) (Outbox E))) (refused : ℕ) → Admits are_ends most events (Some stream) came gone refused
+      → Admits are_ends most (events ++ unready ∷ []) (Some stream) came gone refused
+  -- its ends can't be made: it is refused
+  turns_away : (events : List (Event S E)) (stream : S) (came gone : List (Seat (Gathered E) (Outbox E))) (refused : ℕ) → Admits are_ends most events (Some stream) came gone refused
+      → Admits are_ends most (events ++ unready ∷ []) None came gone (refused + 1)
+  -- one goes: it is given back
+  goes : (events : List (Event S E)) (waits : Option S) (came gone : List (Seat (Gathered E) (Outbox E))) (refused : ℕ) (seat : Seat (Gathered E) (Outbox E))
+      → Admits are_ends most events waits came gone refused → Admits are_ends most (events ++ closed seat ∷ []) waits came (gone ++ seat ∷ []) refused
 
--- A listener accepted these connections, and no others. Each came, or was turned away; it handed out the ends of those that came
--- alone, and the ends of those that went were given back to it, as they were when they went. With those that could not be accepted
--- they are as many at the most as were to come. before, after: what it tells, as it is before and after.
-pub record Accepts {S E : Type 0} (before after : Log S E → Type 0) (are_ends : S → E → E → Type 0) (connections : ℕ)
-    (came gone : List (Seat (Gathered E) (Outbox E))) (refused : ℕ) : Type 0 where
-  pub accepted : List S
-  pub away : ℕ
-  pub failed : ℕ
-  pub tells : (log : Log S E) → before log → after (also log (log_of accepted came gone))
-  pub admits : Admits are_ends accepted came away
-  pub within : length accepted + failed ≤ connections
-  pub refused_are : refused ≡ away + failed
+-- how many may be open at a time, where this is asked for: one at the least
+abbrev pub at_least_one : ℕ → ℕ
+at_least_one zero = 1
+at_least_one (suc n) = suc n
 
--- Connections came and were served in turn, from one state to another. Those that came were accepted, and are counted, and so are
--- those that were refused, and those that ended by a fault. Those that went were given back to the listener; the others stand in the
--- slots. Where it was not broken off, each that was to come came, or was refused, and all that came have gone; and where they have,
--- it is told that it was not.
-pub record AcceptsInTurn {C K S E : Type 0} (gives : C → ℕ → C → Type 0) (told told' : Log S E → Type 0) (are_ends : S → E → E → Type 0)
-    (remaining : Gathered E → Option (List ℕ)) (contents : Outbox E → Option (List ℕ)) (clock clock' : C)
-    (k : Ghosts K) (keeper keeper' : K) (connections : ℕ) (slots : List (Option (Seat (Gathered E) (Outbox E)))) (outcome : Outcome) (s after : State) : Type 0 where
+-- Of a listener's connections these came, and those went; the outcome tells how many came, and how many were refused. With one that
+-- may wait still they are as many at the most as were to come. It was not broken off exactly where as many came or were refused as
+-- were to come, and no slot is taken; then all have gone. before, after: what the listener tells that it did, before and after.
+pub record Accepts {S E : Type 0} (before after : List (Event S E) → Type 0) (are_ends : S → E → E → Type 0) (connections most : ℕ)
+    (came gone : List (Seat (Gathered E) (Outbox E))) (slots : List (Option (Seat (Gathered E) (Outbox E)))) (outcome : Outcome) : Type 0 where
+  pub events : List (Event S E)
+  pub waits : Option S
+  pub tells : (log : List (Event S E)) → before log → after (log ++ events)
+  pub admits : Admits are_ends most events waits came gone outcome.refused
+  pub counted : outcome.came ≡ length came
+  pub within : length came + outcome.refused + length (those_of waits) ≤ connections
+  pub all : outcome.is_whole ≡ true → outcome.came + outcome.refused ≡ connections
+  pub left : outcome.is_whole ≡ true → (length gone ≡ length came) × ((p : ℕ) → slot_at slots p ≡ None)
+  pub whole : outcome.came + outcome.refused ≡ connections → length gone ≡ length came → ((p : ℕ) → slot_at slots p ≡ None) → outcome.is_whole ≡ true
+
+-- Connections of a listener came, were served in turn, and went; those that did not go stand in the slots. Where the keeper meant a
+-- sound state before and is honest after, it means the state after, which is sound, and they were served from the one to the other.
+pub record ServesMany {C K S E : Type 0} (gives : C → ℕ → C → Type 0) (told told' : List (Event S E) → Type 0) (are_ends : S → E → E → Type 0)
+    (remaining : Gathered E → Option (List ℕ)) (contents : Outbox E → Option (List ℕ)) (clock clock' : C) (k : Ghosts K) (keeper keeper' : K)
+    (connections most : ℕ) (slots : List (Option (Seat (Gathered E) (Outbox E)))) (outcome : Outcome) : Type 0 where
   pub came : List (Seat (Gathered E) (Outbox E))
   pub gone : List (Seat (Gathered E) (Outbox E))
   pub given : List ℕ
-  pub serves : ServesCrowd gives remaining contents came gone slots clock clock' k keeper keeper' zero given outcome.faulty s after
-  pub accepts : Accepts told told' are_ends connections came gone outcome.refused
-  pub counted : outcome.came ≡ length came
-  pub all : outcome.is_whole ≡ true → outcome.came + outcome.refused ≡ connections
-  pub left : outcome.is_whole ≡ true → (length gone ≡ length came) × ((p : ℕ) → slot_at slots p ≡ None)
-  pub whole : outcome.came + outcome.refused ≡ connections → ((p : ℕ) → slot_at slots p ≡ None) → outcome.is_whole ≡ true
-
--- the same of a keeper that meant a sound state before and is honest after: it means the state after, which is sound
-abbrev pub ServesMany : {C K S E : Type 0} → (C → ℕ → C → Type 0) → (Log S E → Type 0) → (Log S E → Type 0) → (S → E → E → Type 0) → (Gathered E → Option (List ℕ)) → (Outbox E → Option (List ℕ))
-    → C → C → Ghosts K → K → K → ℕ → List (Option (Seat (Gathered E) (Outbox E))) → Outcome → Type 0
-ServesMany gives told told' are_ends remaining contents clock clock' k keeper keeper' connections slots outcome = (s : State) → WasKept k keeper keeper' s
-    → (after : State) × IsLeft (k.means keeper') after × AcceptsInTurn gives told told' are_ends remaining contents clock clock' k keeper keeper' connections slots outcome s after
+  pub accepts : Accepts told told' are_ends connections most came gone slots outcome
+  pub serves : (s : State) → WasKept k keeper keeper' s → (after : State) × IsLeft (k.means keeper') after
+      × ServesCrowd gives remaining contents came gone slots clock clock' k keeper keeper' zero given outcome.faulty s after

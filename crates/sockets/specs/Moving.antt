@@ -5,42 +5,37 @@ use Rattle.office.specs.declared.connections.seat.Seat.{Seat}
 use Rattle.wire.specs.declared.gathered.Gathered.{Gathered}
 use Rattle.wire.specs.declared.outbox.Outbox.{Outbox}
 use Rattle.sockets.specs.Accepting.{Admits}
-use Rattle.sockets.specs.Listening.{Log, also, log_of}
+use Rattle.sockets.specs.Listening.{Event}
 use Rattle.sockets.specs.declared.gate.Gate.{Gate}
 
--- What passed a gate: the listener accepted some connections, and tells them; of these and of the one that waited each came, or was
--- turned away, but for the one that waits now; those that came are those whose ends it handed out, and those that went were given
--- back to it; and each that was accepted, and each that could not be, is one of those to come.
--- came, gone: which came, and which went; told: what a listener tells; are_ends: what the ends of a connection are.
-pub record Passes {L S E : Type 0} (told : L → Log S E → Type 0) (are_ends : S → E → E → Type 0) (old new : Gate L S) (came gone : List (Seat (Gathered E) (Outbox E))) : Type 0 where
-  pub accepted : List S
-  pub admitted : List S
-  pub away : ℕ
-  pub failed : ℕ
-  pub tells : (log : Log S E) → told old.listener log → told new.listener (also log (log_of accepted came gone))
-  pub waits : those_of old.guest ++ accepted ≡ admitted ++ those_of new.guest
-  pub admits : Admits are_ends admitted came away
-  pub to_come : old.to_come ≡ new.to_come + length accepted + failed
-  pub counted : new.came ≡ old.came + length came
-  pub left : new.gone ≡ old.gone + length gone
+-- What passed a gate: these came, and those went. Whatever the listener had done before, with what it did now it admits them. Each
+-- that came, was refused or waits is one of those to come. told: what a listener tells that it did; are_ends: what the ends of a
+-- connection are.
+pub record Passes {L S E : Type 0} (told : L → List (Event S E) → Type 0) (are_ends : S → E → E → Type 0) (old new : Gate L S) (more went : List (Seat (Gathered E) (Outbox E))) : Type 0 where
+  pub events : List (Event S E)
+  pub refused : ℕ
+  pub tells : (log : List (Event S E)) → told old.listener log → told new.listener (log ++ events)
+  pub admits : (before : List (Event S E)) (came gone : List (Seat (Gathered E) (Outbox E))) (n : ℕ) → Admits are_ends old.most before old.guest came gone n
+      → old.came ≡ length came → old.gone ≡ length gone → Admits are_ends old.most (before ++ events) new.guest (came ++ more) (gone ++ went) (n + refused)
+  pub most : new.most ≡ old.most
+  pub to_come : old.to_come + length (those_of old.guest) ≡ new.to_come + length (those_of new.guest) + length more + refused
+  pub counted : new.came ≡ old.came + length more
+  pub left : new.gone ≡ old.gone + length went
 
 -- the same, and what may go on in slots
-abbrev pub Moves : {L S E : Type 0} → (L → Log S E → Type 0) → (S → E → E → Type 0) → (Gathered E → Option (List ℕ)) → (Outbox E → Option (List ℕ)) → Gate L S → Gate L S
+abbrev pub Moves : {L S E : Type 0} → (L → List (Event S E) → Type 0) → (S → E → E → Type 0) → (Gathered E → Option (List ℕ)) → (Outbox E → Option (List ℕ)) → Gate L S → Gate L S
     → List (Option (Seat (Gathered E) (Outbox E))) → List (Option (Seat (Gathered E) (Outbox E))) → Type 0
 Moves {E = E} told are_ends remaining contents before after old new =
-    (came gone : List (Seat (Gathered E) (Outbox E))) × Passes told are_ends before after came gone
-    × Changes remaining contents old new came gone
+    (came gone : List (Seat (Gathered E) (Outbox E))) × Passes told are_ends before after came gone × Changes remaining contents old new came gone
 
--- What passed a gate since it began, when its listener had told this, and so many were to come: these came, and those went.
-pub record HasPassed {L S E : Type 0} (had : Log S E → Type 0) (connections : ℕ) (told : L → Log S E → Type 0) (are_ends : S → E → E → Type 0) (gate : Gate L S)
+-- What passed a gate since it began, when its listener had told this, so many were to come, and so many might be open.
+pub record HasPassed {L S E : Type 0} (had : List (Event S E) → Type 0) (connections most : ℕ) (told : L → List (Event S E) → Type 0) (are_ends : S → E → E → Type 0) (gate : Gate L S)
     (came gone : List (Seat (Gathered E) (Outbox E))) : Type 0 where
-  pub accepted : List S
-  pub admitted : List S
-  pub away : ℕ
-  pub failed : ℕ
-  pub tells : (log : Log S E) → had log → told gate.listener (also log (log_of accepted came gone))
-  pub waits : accepted ≡ admitted ++ those_of gate.guest
-  pub admits : Admits are_ends admitted came away
-  pub to_come : connections ≡ gate.to_come + length accepted + failed
+  pub events : List (Event S E)
+  pub refused : ℕ
+  pub tells : (log : List (Event S E)) → had log → told gate.listener (log ++ events)
+  pub admits : Admits are_ends most events gate.guest came gone refused
+  pub bound : gate.most ≡ most
+  pub to_come : connections ≡ gate.to_come + length (those_of gate.guest) + length came + refused
   pub counted : gate.came ≡ length came
   pub left : gate.gone ≡ length gone

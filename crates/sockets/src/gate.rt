@@ -1,5 +1,5 @@
 //! The gate: which connections are accepted, which of them come into a slot, and which go from one.
-ghost use Rattle.std.specs.Prelude.{◌≡◌, ◌<◌, ◌⊎◌, ◌∷◌, ℕ, [], length, slice_set, false, true, None};
+ghost use Rattle.std.specs.Prelude.{◌≡◌, ◌<◌, ◌⊎◌, ◌∷◌, ◌+◌, ℕ, [], is_some, length, slice_set, false, true, None};
 ghost use Rattle.office.specs.Crowds.{Changes, slot_at};
 ghost use Rattle.office.specs.Seats.{IsNew};
 
@@ -34,7 +34,7 @@ pub(crate) enum Entry {
     In(usize),
     /// It was turned away, or none waited.
     Away,
-    /// It waits still: memory or descriptors are wanting.
+    /// It waits still: memory, descriptors or a slot are wanting.
     Wanting,
 }
 
@@ -54,6 +54,8 @@ pub(crate) struct Gate<L, S> {
     guest: Option<S>,
     // How many are to be accepted still, with those that can't be.
     to_come: u64,
+    // How many may be open at a time.
+    most: usize,
     // How many came into a slot.
     pub(crate) came: u64,
     // How many went from one.
@@ -63,11 +65,12 @@ pub(crate) struct Gate<L, S> {
 impl<L: Listener> Gate<L, L::Stream> {
     ghost use Rattle.sockets.specs.Moving.{Moves, Passes};
 
-    /// So many are to come.
-    pub(crate) fn new(listener: L, connections: u64) -> Gate<L, L::Stream>
+    /// So many are to come, and so many may be open at a time.
+    pub(crate) fn new(listener: L, connections: u64, most: usize) -> Gate<L, L::Stream>
         ensures listener { result.listener ≡ listener }
         ensures guest { result.guest ≡ None }
         ensures to_come { result.to_come ≡ connections }
+        ensures most { result.most ≡ most }
         ensures came { result.came ≡ 0 }
         ensures gone { result.gone ≡ 0 }
     {
@@ -75,16 +78,20 @@ impl<L: Listener> Gate<L, L::Stream> {
             listener,
             guest: None,
             to_come: connections,
+            most,
             came: 0,
             gone: 0,
         }
     }
 
-    /// The listener, and how many of those to come are to come still.
-    pub(crate) fn close(self) -> (L, u64)
-        ensures { (result.0 ≡ self.listener) × (result.1 ≡ self.to_come) }
+    /// The listener, how many are to be accepted still, and whether one waits.
+    pub(crate) fn close(self) -> (L, u64, bool)
+        ensures listener { result.0 ≡ self.listener }
+        ensures to_come { result.1 ≡ self.to_come }
+        ensures waits { result.2 ≡ is_some self.guest }
     {
-        (self.listener, self.to_come)
+        let waits = self.guest.is_some();
+        (self.listener, self.to_come, waits)
     }
 
     /// Who may come still.
@@ -106,11 +113,12 @@ impl<L: Listener> Gate<L, L::Stream> {
             return Call::None;
         }
         match self.listener.accept() {
-            Ok(stream) => {
+            Ok(Some(stream)) => {
                 self.to_come -= 1;
                 self.guest = Some(stream);
                 Call::Came
             }
+            Ok(None) => Call::None,
             Err(error) => {
                 let call = missed(error);
                 if call == Call::Refused {
@@ -121,21 +129,21 @@ impl<L: Listener> Gate<L, L::Stream> {
         }
     }
 
-    /// Lets the one that waits into a slot that is free. Where memory or descriptors are wanting it waits on; where its ends can't
-    /// be made, or no slot is free, it is turned away.
+    /// Lets the one that waits into a slot that is free. Where none is, or memory or descriptors are wanting, it waits on; where its
+    /// ends can't be made it is turned away.
     pub(crate) fn let_in(&mut self, slots: &mut [Option<Held<L::End>>], alloc: Global) -> Entry
         ensures moves { Moves L.told L.are_ends ⟦<Gathered<L::End> as Read>⟧.remaining
             ⟦<Outbox<L::End> as Write>⟧.contents self.old self.new slots.old slots.new }
     {
         let Some(came) = self.came.checked_add(1) else {
-            return Entry::Away;
+            return Entry::Wanting;
         };
+        if !self.may_open() || !has_free(slots) {
+            return Entry::Wanting;
+        }
         let Some(stream) = self.guest.take() else {
             return Entry::Away;
         };
-        if !has_free(slots) {
-            return Entry::Away;
-        }
         match self.listener.open(alloc, stream) {
             Ok((reader, writer)) => {
                 let index = seat_in(slots, new_seat(alloc, reader, writer));
@@ -153,7 +161,14 @@ impl<L: Listener> Gate<L, L::Stream> {
         }
     }
 
-    /// Makes the slot free: its connection's ends are given back to the listener, which closes it. Whether it did.
+    // Whether less are open than may be.
+    fn may_open(&self) -> bool
+        ensures { result ≡ true → self.now.came < self.now.gone + self.now.most }
+    {
+        self.came.saturating_sub(self.gone) < self.most as u64
+    }
+
+    /// Makes the slot free: its connection is given back to the listener, which closes it. Whether it did.
     pub(crate) fn free(&mut self, slots: &mut [Option<Held<L::End>>], index: usize) -> bool
         requires { index < length slots.old }
         ensures moves { Moves L.told L.are_ends ⟦<Gathered<L::End> as Read>⟧.remaining
@@ -166,9 +181,7 @@ impl<L: Listener> Gate<L, L::Stream> {
         };
         if let Some(seat) = free_slot(slots, index) {
             self.gone = gone;
-            let reader = seat.reader.inner.inner;
-            let writer = seat.writer.inner.inner;
-            self.listener.close(reader, writer);
+            self.listener.close(seat);
         }
         true
     }
@@ -201,13 +214,11 @@ fn seat_in<S: Read + Write + Drop>(slots: &mut [Option<Held<S>>], seat: Held<S>)
 
 // What an `accept` that failed so means.
 fn missed(error: io::Error) -> Call {
-    if error.kind() == ErrorKind::WouldBlock {
-        return Call::None;
-    }
     if is_want(error) {
-        return Call::Wanting;
+        Call::Wanting
+    } else {
+        Call::Refused
     }
-    Call::Refused
 }
 
 // The connection whose ends could not be made for this error, if it is kept for later: where the error is a want that may end.

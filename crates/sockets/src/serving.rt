@@ -1,9 +1,9 @@
 //! A listener's connections, served by an office in turn.
-ghost use Rattle.std.specs.Prelude.{◌≡◌, ◌≤◌, ◌+◌, ℕ, IfErr, IfOk, None, true};
+ghost use Rattle.std.specs.Prelude.{◌≡◌, ◌≤◌, ◌+◌, ℕ, List, cond, IfErr, IfOk, None, true};
 ghost use Rattle.office.specs.Crowds.{slot_at};
 ghost use Rattle.office.specs.Premise.{StaysUnstaged};
-ghost use Rattle.sockets.specs.Accepting.{ServesMany};
-ghost use Rattle.sockets.specs.Listening.{Log};
+ghost use Rattle.sockets.specs.Accepting.{ServesMany, at_least_one};
+ghost use Rattle.sockets.specs.Listening.{Event};
 
 use crate::book::Book;
 use crate::gate::Gate;
@@ -74,7 +74,8 @@ pub fn serve<K: Keeper, C: Clock, L: Listener, R: Net + time::Clock>(
         (L.told listener) (L.told result.listener) L.are_ends
         ⟦<Gathered<L::End> as Read>⟧.remaining
         ⟦<Outbox<L::End> as Write>⟧.contents clock.old clock.new
-        K.Keeper office.old.keeper office.new.keeper limits.connections result.slots.items outcome) }
+        K.Keeper office.old.keeper office.new.keeper limits.connections
+        (at_least_one limits.«open») result.slots.items outcome) }
     ensures nothing { IfErr result.outcome (λ e. (result.listener ≡ listener)
         × (office.new ≡ office.old) × (clock.new ≡ clock.old)) }
     ensures honest { K.is_honest office.new.keeper → K.is_honest office.old.keeper }
@@ -82,7 +83,8 @@ pub fn serve<K: Keeper, C: Clock, L: Listener, R: Net + time::Clock>(
     ensures never_less { K.faults office.old.keeper ≤ K.faults office.new.keeper }
 {
     let connections = limits.connections;
-    let (book, mut slots) = match prepare(rt, office.alloc, &listener, limits) {
+    let open = at_least_one(limits.open);
+    let (book, mut slots) = match prepare(rt, office.alloc, &listener, Limits { open, ..limits }) {
         Ok(prepared) => prepared,
         Err(error) => {
             return Served {
@@ -98,6 +100,7 @@ pub fn serve<K: Keeper, C: Clock, L: Listener, R: Net + time::Clock>(
         listener,
         slots.as_mut_slice(),
         connections,
+        open,
         clock,
     );
     Served {
@@ -116,9 +119,8 @@ fn prepare<'a, L: Listener, R: Net + time::Clock>(
 ) -> io::Result<(Book<'a, R, L>, Vec<Option<Held<L::End>>>)>
     ensures { IfOk result (λ prepared. (p : ℕ) → slot_at prepared.1.items p ≡ None) }
 {
-    let open = limits.open.max(1);
-    let book = Book::new(rt, alloc, listener, Limits { open, ..limits })?;
-    let slots = free_slots(alloc, open)?;
+    let book = Book::new(rt, alloc, listener, limits)?;
+    let slots = free_slots(alloc, limits.open)?;
     Ok((book, slots))
 }
 
@@ -129,26 +131,31 @@ fn serve_through<K: Keeper, C: Clock, L: Listener, R: time::Clock, S: Start<L::S
     listener: L,
     slots: &mut [Option<Held<L::End>>],
     connections: u64,
+    most: usize,
     clock: &mut C,
 ) -> (L, Outcome)
     requires free { (p : ℕ) → slot_at slots.old p ≡ None }
-    requires told { (log : Log L.Stream L.End) → S.told log → L.told listener log }
-    requires bound { connections ≡ S.connections }
+    requires told { (log : List (Event L.Stream L.End)) → S.told log → L.told listener log }
+    requires connections { connections ≡ S.connections }
+    requires most { most ≡ S.most }
     ensures serves { ServesMany C.now_gives S.told (L.told result.0) L.are_ends
         ⟦<Gathered<L::End> as Read>⟧.remaining
         ⟦<Outbox<L::End> as Write>⟧.contents clock.old clock.new
-        K.Keeper office.old.keeper office.new.keeper connections slots.new result.1 }
+        K.Keeper office.old.keeper office.new.keeper connections most slots.new result.1 }
     ensures honest { K.is_honest office.new.keeper → K.is_honest office.old.keeper }
     ensures unstaged { StaysUnstaged K.Keeper office.old.keeper office.new.keeper }
     ensures never_less { K.faults office.old.keeper ≤ K.faults office.new.keeper }
 {
-    let mut sockets: Sockets<'_, R, L, S> = Sockets::new(book, Gate::new(listener, connections));
+    let mut sockets: Sockets<'_, R, L, S> = Sockets::new(
+        book,
+        Gate::new(listener, connections, most),
+    );
     let faulty = office.serve_crowd(&mut sockets, slots, clock);
     let gate = sockets.into_gate();
     let came = gate.came;
     let gone = gate.gone;
-    let (listener, to_come) = gate.close();
-    let refused = without(connections, to_come, came);
+    let (listener, to_come, waits) = gate.close();
+    let refused = refused_of(connections, to_come, came, waits);
     let have_all_come = have_come(came, refused, connections);
     let have_all_gone = are_as_many(came, gone);
     let outcome = Outcome {
@@ -160,11 +167,19 @@ fn serve_through<K: Keeper, C: Clock, L: Listener, R: time::Clock, S: Start<L::S
     (listener, outcome)
 }
 
-// How many of all are neither of these nor of those.
-fn without(all: u64, these: u64, those: u64) -> u64
-    ensures { (rest : ℕ) → all ≡ these + those + rest → result ≡ rest }
+// How many may be open at a time, where this is asked for.
+fn at_least_one(n: usize) -> usize
+    ensures { result ≡ at_least_one n }
 {
-    all.saturating_sub(these).saturating_sub(those)
+    if n == 0 { 1 } else { n }
+}
+
+// How many of all were refused, where so many are to come still, so many came, and one may wait.
+fn refused_of(all: u64, to_come: u64, came: u64, waits: bool) -> u64
+    ensures { (refused : ℕ) → all ≡ to_come + cond waits 1 0 + came + refused → result ≡ refused }
+{
+    let rest = all.saturating_sub(to_come).saturating_sub(came);
+    if waits { rest.saturating_sub(1) } else { rest }
 }
 
 // Whether all three hold.

@@ -1,13 +1,16 @@
 //! What is asked of a listener, and of the ends of the connections that it brings.
-ghost use Rattle.std.specs.Prelude.{◌≡◌, IfErr, IfOk, IfSome};
-ghost use Rattle.sockets.specs.Listening.{Log, accepted_one, also, closed_one, opened_one};
+ghost use Rattle.std.specs.Prelude.{◌≡◌, ◌++◌, ◌∷◌, [], IfErr, IfOk, IfSome, List, map};
+ghost use Rattle.office.specs.Crowds.{those_of};
+ghost use Rattle.sockets.specs.Listening.{Event, accepted, closed, missed, opened, unready};
 
+use office::Seat;
 use std::alloc::{AllocError, Global};
 use std::io;
 use std::io::{ErrorKind, Read, Write};
 use std::net::{Shutdown, TcpListener, TcpStream};
 use std::os::fd::{AsRawFd, RawFd};
 use std::rc::Rc;
+use wire::{Gathered, Outbox};
 
 /// One end of a connection: what the peer sends is read from it, or what is written to it goes to the peer. Neither waits.
 pub trait End: Read + Write + Drop {
@@ -47,29 +50,29 @@ pub trait Listener: AsRawFd + Drop {
     /// One of its ends.
     type End: End;
 
-    /// Which connections it accepted so far, whose ends it handed out, and which ends were given back to it.
-    ghost told: { Self → Log Self.Stream Self.End → Type 0 };
+    /// What it did so far, one thing after another.
+    ghost told: { Self → List (Event Self.Stream Self.End) → Type 0 };
 
     /// The two ends of a connection: the one that is read, and the one that is written to.
     ghost are_ends: { Self.Stream → Self.End → Self.End → Type 0 };
 
-    /// Whether an `accept` that would wait gives `WouldBlock`.
+    /// Whether an `accept` waits where no connection is there.
     ///
     /// # Errors
     ///
     /// The system refused it.
     fn set_nonblocking(&self, nonblocking: bool) -> io::Result<()>;
 
-    /// The next connection that came.
+    /// Accepts a connection. None where none is there now.
     ///
     /// # Errors
     ///
-    /// It could not be accepted; `WouldBlock` tells that none is there now.
-    fn accept(&mut self) -> io::Result<Self::Stream>
-        ensures came { IfOk result (λ stream. (log : Log Self.Stream Self.End)
-            → told self.old log → told self.new (also log (accepted_one stream))) }
-        ensures none { IfErr result (λ e. (log : Log Self.Stream Self.End)
-            → told self.old log → told self.new log) };
+    /// One could not be accepted.
+    fn accept(&mut self) -> io::Result<Option<Self::Stream>>
+        ensures came { IfOk result (λ found. (log : List (Event Self.Stream Self.End))
+            → told self.old log → told self.new (log ++ map accepted (those_of found))) }
+        ensures missed { IfErr result (λ e. (log : List (Event Self.Stream Self.End))
+            → told self.old log → told self.new (log ++ missed ∷ [])) };
 
     /// Hands out the ends of a connection. From now on its reads and writes do not wait, and what is written goes out at once.
     ///
@@ -82,16 +85,16 @@ pub trait Listener: AsRawFd + Drop {
         stream: Self::Stream,
     ) -> Result<(Self::End, Self::End), Unready<Self::Stream>>
         ensures ends { IfOk result (λ ends. are_ends stream ends.0 ends.1) }
-        ensures opened { IfOk result (λ ends. (log : Log Self.Stream Self.End)
-            → told self.old log → told self.new (also log (opened_one ends.0 ends.1))) }
-        ensures back { IfErr result (λ unready. IfSome unready.stream (λ same. same ≡ stream)) }
-        ensures none { IfErr result (λ unready. (log : Log Self.Stream Self.End)
-            → told self.old log → told self.new log) };
+        ensures opened { IfOk result (λ ends. (log : List (Event Self.Stream Self.End))
+            → told self.old log → told self.new (log ++ opened ends.0 ends.1 ∷ [])) }
+        ensures back { IfErr result (λ e. IfSome e.stream (λ same. same ≡ stream)) }
+        ensures unready { IfErr result (λ e. (log : List (Event Self.Stream Self.End))
+            → told self.old log → told self.new (log ++ unready ∷ [])) };
 
-    /// Takes back the ends of a connection, and closes it.
-    fn close(&mut self, reader: Self::End, writer: Self::End)
-        ensures { (log : Log Self.Stream Self.End)
-            → told self.old log → told self.new (also log (closed_one reader writer)) };
+    /// Takes back a connection, and closes it.
+    fn close(&mut self, seat: Seat<Gathered<Self::End>, Outbox<Self::End>>)
+        ensures { (log : List (Event Self.Stream Self.End))
+            → told self.old log → told self.new (log ++ closed seat ∷ []) };
 }
 
 /// One end of a TCP connection. The socket is closed once both have gone.
@@ -188,9 +191,12 @@ impl Listener for TcpListener {
         TcpListener::set_nonblocking(self, nonblocking)
     }
 
-    fn accept(&mut self) -> io::Result<TcpStream> {
-        let (stream, _) = TcpListener::accept(self)?;
-        Ok(stream)
+    fn accept(&mut self) -> io::Result<Option<TcpStream>> {
+        match TcpListener::accept(self) {
+            Ok((stream, _)) => Ok(Some(stream)),
+            Err(error) if error.kind() == ErrorKind::WouldBlock => Ok(None),
+            Err(error) => Err(error),
+        }
     }
 
     fn open(
@@ -211,5 +217,5 @@ impl Listener for TcpListener {
         }
     }
 
-    fn close(&mut self, _reader: TcpEnd, _writer: TcpEnd) {}
+    fn close(&mut self, _seat: Seat<Gathered<TcpEnd>, Outbox<TcpEnd>>) {}
 }

@@ -130,7 +130,7 @@ impl<R: time::Clock, L: Listener, S: Start<L::Stream, L::End>> Crowd<
     ghost use Rattle.std.specs.Prelude.{⊤};
     ghost use Rattle.sockets.specs.Moving.{HasPassed};
 
-    ghost met = { λ s came gone. HasPassed S.told S.connections L.told L.are_ends s.gate came gone };
+    ghost met = { λ s came gone. HasPassed S.told S.connections S.most L.told L.are_ends s.gate came gone };
 
     ghost gave = { λ _ _ _. ⊤ };
 

@@ -4,14 +4,17 @@ use std::marker::Brand;
 
 /// What stood when a run began: a name for it in proofs alone. S: a connection as it was accepted; E: one of its ends.
 pub(crate) trait Start<S, E> {
-    ghost use Rattle.std.specs.Prelude.{ℕ};
-    ghost use Rattle.sockets.specs.Listening.{Log};
+    ghost use Rattle.std.specs.Prelude.{ℕ, List};
+    ghost use Rattle.sockets.specs.Listening.{Event};
 
     /// What the listener told.
-    ghost told: { Log S E → Type 0 };
+    ghost told: { List (Event S E) → Type 0 };
 
     /// So many were to come.
     ghost connections: { ℕ };
+
+    /// So many might be open at a time.
+    ghost most: { ℕ };
 }
 
 impl<S, E> Start<S, E> for Brand {
@@ -20,4 +23,6 @@ impl<S, E> Start<S, E> for Brand {
     ghost told = { λ _. ⊤ };
 
     ghost connections = { 0 };
+
+    ghost most = { 0 };
 }
