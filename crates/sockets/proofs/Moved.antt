@@ -1,28 +1,19 @@
 -- What went on at the gate and in the slots, one thing after another.
 use Rattle.std.proofs.Common.{◌≡◌, ◌<◌, ◌∙◌, ◌+◌, ◌++◌, ◌⊎◌, ℕ, inl, inr, true, false, List, [], ◌∷◌, Option, None, Some, length, ap, append_assoc, refl, sym, subst, arith}
 use Rattle.std.specs.Prelude.{IfSome, cond, is_some}
+use Rattle.std.specs.declared.io.Error.{Error}
 use Rattle.std.proofs.lemmas.List.{append-nil, length-append}
 use Rattle.office.specs.Crowds.{Changes, same, those_of}
 use Rattle.office.specs.declared.connections.seat.Seat.{Seat}
+use Rattle.office.specs.Seats.{IsNew}
 use Rattle.office.proofs.Changing.{changes_then}
 use Rattle.wire.specs.declared.gathered.Gathered.{Gathered}
 use Rattle.wire.specs.declared.outbox.Outbox.{Outbox}
-use Rattle.sockets.specs.Accepting.{Admits, IsUntouched}
+use Rattle.sockets.specs.Accepting.{Admits, IsSettled, IsUntouched}
 use Rattle.sockets.specs.Accepting as accepting
-use Rattle.sockets.specs.Listening.{Event, accepted, closed, missed, opened, unready}
+use Rattle.sockets.specs.Listening.{Event, IsWant, accepted, closed, missed, opened, unready}
 use Rattle.sockets.specs.Moving.{HasPassed, Moves, Passes}
 use Rattle.sockets.specs.declared.gate.Gate.{Gate}
-
--- what is kept of a connection whose ends could not be made, is that one
-pub kept_is : {S : Type 0} (kept given : Option S) (stream : S) → (kept ≡ None) ⊎ (kept ≡ given) → IfSome given (λ same. same ≡ stream) → is_some kept ≡ true → kept ≡ Some stream
-kept_is None given stream or back is = absurd cc
-kept_is (Some x) given stream (inl e) back is = absurd cc
-kept_is (Some x) None stream (inr e) back is = absurd cc
-kept_is (Some x) (Some y) stream (inr e) back is = e ∙ ap Some back
-
-pub none_is : {S : Type 0} (kept : Option S) → is_some kept ≡ false → kept ≡ None
-none_is None is = refl
-none_is (Some x) is = absurd cc
 
 -- how many wait: one, or none
 pub waits_one : {S : Type 0} (waits : Option S) → length (those_of waits) ≡ cond (is_some waits) 1 0
@@ -81,46 +72,49 @@ module _ {L S E : Type 0} (told : L → List (Event S E) → Type 0) (are_ends :
       (accepting.accepts before cs gs n stream (subst (λ w. Admits are_ends g.most before w cs gs n) free is))))
       (omega (arith, to_come, ap (λ w. length (those_of w)) free, ap (λ w. length (those_of w)) waits)) most came gone tells
 
-  -- none can be accepted now
-  pub misses_one : (g h : Gate L S) → h.guest ≡ g.guest → h.to_come ≡ g.to_come → h.most ≡ g.most → h.came ≡ g.came → h.gone ≡ g.gone
-      → ((log : List (Event S E)) → told g.listener log → told h.listener (log ++ missed ∷ [])) → Passes told are_ends g h [] []
-  misses_one g h waits to_come most came gone tells = passes_by g h missed 0
+  -- none can be accepted now, for a want
+  pub misses_one : (g h : Gate L S) (e : Error) → h.guest ≡ g.guest → h.to_come ≡ g.to_come → h.most ≡ g.most → h.came ≡ g.came → h.gone ≡ g.gone → IsWant e
+      → ((log : List (Event S E)) → told g.listener log → told h.listener (log ++ missed e ∷ [])) → Passes told are_ends g h [] []
+  misses_one g h e waits to_come most came gone want tells = passes_by g h (missed e) 0
       (λ before cs gs n is.
-      subst (λ k. Admits are_ends g.most (before ++ missed ∷ []) h.guest cs gs k) (the (n ≡ n + 0) (omega arith))
-      (accepting.misses before h.guest cs gs n (subst (λ w. Admits are_ends g.most before w cs gs n) (sym waits) is)))
+      subst (λ k. Admits are_ends g.most (before ++ missed e ∷ []) h.guest cs gs k) (the (n ≡ n + 0) (omega arith))
+      (accepting.misses before h.guest cs gs n e (subst (λ w. Admits are_ends g.most before w cs gs n) (sym waits) is) want))
       (omega (arith, to_come, ap (λ w. length (those_of w)) waits)) most came gone tells
 
-  -- one can't be accepted
-  pub refuses_one : (g h : Gate L S) → h.guest ≡ g.guest → g.to_come ≡ h.to_come + 1 → h.most ≡ g.most → h.came ≡ g.came → h.gone ≡ g.gone
-      → ((log : List (Event S E)) → told g.listener log → told h.listener (log ++ missed ∷ [])) → Passes told are_ends g h [] []
-  refuses_one g h waits to_come most came gone tells = passes_by g h missed 1
-      (λ before cs gs n is. accepting.refuses before h.guest cs gs n (subst (λ w. Admits are_ends g.most before w cs gs n) (sym waits) is))
+  -- one can't be accepted, for no want
+  pub refuses_one : (g h : Gate L S) (e : Error) → h.guest ≡ g.guest → g.to_come ≡ h.to_come + 1 → h.most ≡ g.most → h.came ≡ g.came → h.gone ≡ g.gone → (IsWant e → ⊥)
+      → ((log : List (Event S E)) → told g.listener log → told h.listener (log ++ missed e ∷ [])) → Passes told are_ends g h [] []
+  refuses_one g h e waits to_come most came gone lasts tells = passes_by g h (missed e) 1
+      (λ before cs gs n is. accepting.refuses before h.guest cs gs n e (subst (λ w. Admits are_ends g.most before w cs gs n) (sym waits) is) lasts)
       (omega (arith, to_come, ap (λ w. length (those_of w)) waits)) most came gone tells
 
-  -- the ends of the one that waits can't be made now
-  pub waits_on : (g h : Gate L S) (stream : S) → g.guest ≡ Some stream → h.guest ≡ Some stream → h.to_come ≡ g.to_come → h.most ≡ g.most → h.came ≡ g.came → h.gone ≡ g.gone
-      → ((log : List (Event S E)) → told g.listener log → told h.listener (log ++ unready ∷ [])) → Passes told are_ends g h [] []
-  waits_on g h stream waits still to_come most came gone tells = passes_by g h unready 0
+  -- the ends of the one that waits can't be made now, for a want
+  pub waits_on : (g h : Gate L S) (stream : S) (back : Option S) (e : Error) → g.guest ≡ Some stream → h.guest ≡ Some stream → h.to_come ≡ g.to_come → h.most ≡ g.most → h.came ≡ g.came
+      → h.gone ≡ g.gone → back ≡ Some stream → IsWant e
+      → ((log : List (Event S E)) → told g.listener log → told h.listener (log ++ unready back e ∷ [])) → Passes told are_ends g h [] []
+  waits_on g h stream back e waits still to_come most came gone same want tells = passes_by g h (unready back e) 0
       (λ before cs gs n is.
-      subst (λ k. Admits are_ends g.most (before ++ unready ∷ []) h.guest cs gs k) (the (n ≡ n + 0) (omega arith))
-      (subst (λ w. Admits are_ends g.most (before ++ unready ∷ []) w cs gs n) (sym still)
-      (accepting.waits_on before stream cs gs n (subst (λ w. Admits are_ends g.most before w cs gs n) waits is))))
+      subst (λ k. Admits are_ends g.most (before ++ unready back e ∷ []) h.guest cs gs k) (the (n ≡ n + 0) (omega arith))
+      (subst (λ b. Admits are_ends g.most (before ++ unready b e ∷ []) h.guest cs gs n) (sym same)
+      (subst (λ w. Admits are_ends g.most (before ++ unready (Some stream) e ∷ []) w cs gs n) (sym still)
+      (accepting.waits_on before stream cs gs n e (subst (λ w. Admits are_ends g.most before w cs gs n) waits is) want))))
       (omega (arith, to_come, ap (λ w. length (those_of w)) waits, ap (λ w. length (those_of w)) still)) most came gone tells
 
   -- the ends of the one that waits can't be made
-  pub turns_away : (g h : Gate L S) (stream : S) → g.guest ≡ Some stream → h.guest ≡ None → h.to_come ≡ g.to_come → h.most ≡ g.most → h.came ≡ g.came → h.gone ≡ g.gone
-      → ((log : List (Event S E)) → told g.listener log → told h.listener (log ++ unready ∷ [])) → Passes told are_ends g h [] []
-  turns_away g h stream waits free to_come most came gone tells = passes_by g h unready 1
+  pub turns_away : (g h : Gate L S) (stream : S) (back : Option S) (e : Error) → g.guest ≡ Some stream → h.guest ≡ None → h.to_come ≡ g.to_come → h.most ≡ g.most → h.came ≡ g.came
+      → h.gone ≡ g.gone → (back ≡ None) ⊎ (IsWant e → ⊥)
+      → ((log : List (Event S E)) → told g.listener log → told h.listener (log ++ unready back e ∷ [])) → Passes told are_ends g h [] []
+  turns_away g h stream back e waits free to_come most came gone lost tells = passes_by g h (unready back e) 1
       (λ before cs gs n is.
-      subst (λ w. Admits are_ends g.most (before ++ unready ∷ []) w cs gs (n + 1)) (sym free)
-      (accepting.turns_away before stream cs gs n (subst (λ w. Admits are_ends g.most before w cs gs n) waits is)))
+      subst (λ w. Admits are_ends g.most (before ++ unready back e ∷ []) w cs gs (n + 1)) (sym free)
+      (accepting.turns_away before stream cs gs n back e (subst (λ w. Admits are_ends g.most before w cs gs n) waits is) lost))
       (omega (arith, to_come, ap (λ w. length (those_of w)) waits, ap (λ w. length (those_of w)) free)) most came gone tells
 
   -- the one that waits comes
   pub comes_in : (g h : Gate L S) (stream : S) (seat : Seat (Gathered E) (Outbox E)) (reader writer : E) → g.guest ≡ Some stream → h.guest ≡ None → h.to_come ≡ g.to_come → h.most ≡ g.most
-      → h.came ≡ g.came + 1 → h.gone ≡ g.gone → g.came < g.gone + g.most → are_ends stream reader writer → seat.reader.inner.inner ≡ reader → seat.writer.inner.inner ≡ writer → IsUntouched seat
+      → h.came ≡ g.came + 1 → h.gone ≡ g.gone → g.came < g.gone + g.most → are_ends stream reader writer → seat.reader.inner.inner ≡ reader → seat.writer.inner.inner ≡ writer → IsNew seat → IsUntouched seat
       → ((log : List (Event S E)) → told g.listener log → told h.listener (log ++ opened reader writer ∷ [])) → Passes told are_ends g h (seat ∷ []) []
-  comes_in g h stream seat reader writer waits free to_come most came gone may ends reads writes untouched tells = record {
+  comes_in g h stream seat reader writer waits free to_come most came gone may ends reads writes new untouched tells = record {
     events = opened seat.reader.inner.inner seat.writer.inner.inner ∷ [];
     refused = 0;
     tells = λ log is.
@@ -128,7 +122,7 @@ module _ {L S E : Type 0} (told : L → List (Event S E) → Type 0) (are_ends :
     admits = λ before cs gs n is counted left.
         let at : Admits are_ends g.most before (Some stream) cs gs n = subst (λ w. Admits are_ends g.most before w cs gs n) waits is in
         let both : are_ends stream seat.reader.inner.inner seat.writer.inner.inner = subst (λ r. are_ends stream r seat.writer.inner.inner) (sym reads) (subst (are_ends stream reader) (sym writes) ends) in
-        let now = accepting.comes before stream cs gs n seat at (omega (arith, may, counted, left)) both untouched in
+        let now = accepting.comes before stream cs gs n seat at (omega (arith, may, counted, left)) both new untouched in
         let log : List (Event S E) = before ++ opened seat.reader.inner.inner seat.writer.inner.inner ∷ [] in
         subst (λ w. Admits are_ends g.most log w (cs ++ seat ∷ []) (gs ++ []) (n + 0)) (sym free)
         (subst (λ l. Admits are_ends g.most log None (cs ++ seat ∷ []) l (n + 0)) (sym (append-nil gs))
@@ -140,16 +134,16 @@ module _ {L S E : Type 0} (told : L → List (Event S E) → Type 0) (are_ends :
   }
 
   -- one goes
-  pub goes_out : (g h : Gate L S) (seat : Seat (Gathered E) (Outbox E)) → h.guest ≡ g.guest → h.to_come ≡ g.to_come → h.most ≡ g.most → h.came ≡ g.came → h.gone ≡ g.gone + 1
+  pub goes_out : (g h : Gate L S) (seat : Seat (Gathered E) (Outbox E)) → h.guest ≡ g.guest → h.to_come ≡ g.to_come → h.most ≡ g.most → h.came ≡ g.came → h.gone ≡ g.gone + 1 → IsSettled seat
       → ((log : List (Event S E)) → told g.listener log → told h.listener (log ++ closed seat ∷ [])) → Passes told are_ends g h [] (seat ∷ [])
-  goes_out g h seat guest to_come most came gone tells = record {
+  goes_out g h seat guest to_come most came gone settled tells = record {
     events = closed seat ∷ [];
     refused = 0;
     tells = tells;
     admits = λ before cs gs n is _ _.
         let at : Admits are_ends g.most before h.guest cs gs n = subst (λ w. Admits are_ends g.most before w cs gs n) (sym guest) is in
         subst (λ l. Admits are_ends g.most (before ++ closed seat ∷ []) h.guest l (gs ++ seat ∷ []) (n + 0)) (sym (append-nil cs))
-        (subst (λ k. Admits are_ends g.most (before ++ closed seat ∷ []) h.guest cs (gs ++ seat ∷ []) k) (the (n ≡ n + 0) (omega arith)) (accepting.goes before h.guest cs gs n seat at));
+        (subst (λ k. Admits are_ends g.most (before ++ closed seat ∷ []) h.guest cs (gs ++ seat ∷ []) k) (the (n ≡ n + 0) (omega arith)) (accepting.goes before h.guest cs gs n seat at settled));
     most = most;
     to_come = omega (arith, to_come, ap (λ w. length (those_of w)) guest);
     counted = omega (arith, came);

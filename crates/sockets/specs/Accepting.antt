@@ -1,16 +1,18 @@
 -- Connections that a listener accepted: they came, were served in turn, and went.
-use Rattle.std.specs.Prelude.{◌≡◌, ◌<◌, ◌≤◌, ◌+◌, ◌++◌, ◌∷◌, zero, suc, ℕ, List, [], None, Option, Some, length, true}
+use Rattle.std.specs.Prelude.{◌≡◌, ◌<◌, ◌≤◌, ◌+◌, ◌++◌, ◌∷◌, ◌⊎◌, zero, suc, ℕ, List, [], None, Option, Some, length, true}
+use Rattle.std.specs.declared.io.Error.{Error}
 use Rattle.boxes.specs.State.{State}
 use Rattle.keeper.specs.declared.keep.Keeper.{Ghosts}
 use Rattle.office.specs.Crowds.{ServesCrowd, slot_at, those_of}
 use Rattle.office.specs.Premise.{IsLeft, WasKept}
+use Rattle.office.specs.Seats.{IsNew}
 use Rattle.office.specs.declared.connections.seat.Seat.{Seat}
 use Rattle.wire.specs.Feeds.{ahead_of}
 use Rattle.wire.specs.Gathering.{ahead_in}
-use Rattle.wire.specs.Outgoing.{NoneFailed, waits_out}
+use Rattle.wire.specs.Outgoing.{NoneFailed, WriteFailed, waits_out}
 use Rattle.wire.specs.declared.gathered.Gathered.{Gathered}
 use Rattle.wire.specs.declared.outbox.Outbox.{Outbox}
-use Rattle.sockets.specs.Listening.{Event, accepted, closed, missed, opened, unready}
+use Rattle.sockets.specs.Listening.{Event, IsWant, accepted, closed, missed, opened, unready}
 use Rattle.sockets.specs.declared.serving.Outcome.{Outcome}
 
 -- nothing was read of a connection, or written to it, and no read or write of it has failed
@@ -21,6 +23,10 @@ pub record IsUntouched {E : Type 0} (seat : Seat (Gathered E) (Outbox E)) : Type
   pub reads : seat.reader.inner.fault ≡ None
   pub writes : NoneFailed seat.writer.inner
 
+-- all that was written to it was sent, or a write of that failed
+abbrev pub IsSettled : {E : Type 0} → Seat (Gathered E) (Outbox E) → Type 0
+IsSettled seat = (waits_out seat.writer.inner ≡ []) ⊎ WriteFailed seat.writer.inner
+
 -- What a listener did, one thing after another, and what became of its connections: which one was accepted and waits, which came,
 -- as they came, which went, as they were then, and how many were refused. are_ends: what the ends of a connection are; most: how
 -- many may be open at a time.
@@ -30,26 +36,26 @@ pub data Admits {S E : Type 0} (are_ends : S → E → E → Type 0) (most : ℕ
   -- none waits, and one is accepted: it waits
   accepts : (events : List (Event S E)) (came gone : List (Seat (Gathered E) (Outbox E))) (refused : ℕ) (stream : S) → Admits are_ends most events None came gone refused
       → Admits are_ends most (events ++ accepted stream ∷ []) (Some stream) came gone refused
-  -- none can be accepted now: one may be later
-  misses : (events : List (Event S E)) (waits : Option S) (came gone : List (Seat (Gathered E) (Outbox E))) (refused : ℕ) → Admits are_ends most events waits came gone refused
-      → Admits are_ends most (events ++ missed ∷ []) waits came gone refused
-  -- one can't be accepted: it is refused
-  refuses : (events : List (Event S E)) (waits : Option S) (came gone : List (Seat (Gathered E) (Outbox E))) (refused : ℕ) → Admits are_ends most events waits came gone refused
-      → Admits are_ends most (events ++ missed ∷ []) waits came gone (refused + 1)
-  -- the one that waits comes, as it was accepted: its reader and its writer are its two ends, and it is untouched
+  -- none can be accepted now, for a want: one may be later
+  misses : (events : List (Event S E)) (waits : Option S) (came gone : List (Seat (Gathered E) (Outbox E))) (refused : ℕ) (e : Error) → Admits are_ends most events waits came gone refused
+      → IsWant e → Admits are_ends most (events ++ missed e ∷ []) waits came gone refused
+  -- one can't be accepted, for no want: it is refused
+  refuses : (events : List (Event S E)) (waits : Option S) (came gone : List (Seat (Gathered E) (Outbox E))) (refused : ℕ) (e : Error) → Admits are_ends most events waits came gone refused
+      → (IsWant e → ⊥) → Admits are_ends most (events ++ missed e ∷ []) waits came gone (refused + 1)
+  -- the one that waits comes, as a new one: its reader and its writer are its two ends, and it is untouched
   comes : (events : List (Event S E)) (stream : S) (came gone : List (Seat (Gathered E) (Outbox E))) (refused : ℕ) (seat : Seat (Gathered E) (Outbox E))
       → Admits are_ends most events (Some stream) came gone refused → length came < length gone + most
-      → are_ends stream seat.reader.inner.inner seat.writer.inner.inner → IsUntouched seat
+      → are_ends stream seat.reader.inner.inner seat.writer.inner.inner → IsNew seat → IsUntouched seat
       → Admits are_ends most (events ++ opened seat.reader.inner.inner seat.writer.inner.inner ∷ []) None (came ++ seat ∷ []) gone refused
-  -- its ends can't be made now, and it waits on
-  waits_on : (events : List (Event S E)) (stream : S) (came gone : List (Seat (Gathered E) (Outbox E))) (refused : ℕ) → Admits are_ends most events (Some stream) came gone refused
-      → Admits are_ends most (events ++ unready ∷ []) (Some stream) came gone refused
-  -- its ends can't be made: it is refused
-  turns_away : (events : List (Event S E)) (stream : S) (came gone : List (Seat (Gathered E) (Outbox E))) (refused : ℕ) → Admits are_ends most events (Some stream) came gone refused
-      → Admits are_ends most (events ++ unready ∷ []) None came gone (refused + 1)
-  -- one goes: it is given back
+  -- its ends can't be made now, for a want, and it is handed back: it waits on
+  waits_on : (events : List (Event S E)) (stream : S) (came gone : List (Seat (Gathered E) (Outbox E))) (refused : ℕ) (e : Error) → Admits are_ends most events (Some stream) came gone refused
+      → IsWant e → Admits are_ends most (events ++ unready (Some stream) e ∷ []) (Some stream) came gone refused
+  -- its ends can't be made, for no want, or it is not there any more: it is refused
+  turns_away : (events : List (Event S E)) (stream : S) (came gone : List (Seat (Gathered E) (Outbox E))) (refused : ℕ) (back : Option S) (e : Error)
+      → Admits are_ends most events (Some stream) came gone refused → (back ≡ None) ⊎ (IsWant e → ⊥) → Admits are_ends most (events ++ unready back e ∷ []) None came gone (refused + 1)
+  -- one goes, to which all was sent, or a write to it failed: it is given back
   goes : (events : List (Event S E)) (waits : Option S) (came gone : List (Seat (Gathered E) (Outbox E))) (refused : ℕ) (seat : Seat (Gathered E) (Outbox E))
-      → Admits are_ends most events waits came gone refused → Admits are_ends most (events ++ closed seat ∷ []) waits came (gone ++ seat ∷ []) refused
+      → Admits are_ends most events waits came gone refused → IsSettled seat → Admits are_ends most (events ++ closed seat ∷ []) waits came (gone ++ seat ∷ []) refused
 
 -- how many may be open at a time, where this is asked for: one at the least
 abbrev pub at_least_one : ℕ → ℕ
@@ -57,8 +63,8 @@ at_least_one zero = 1
 at_least_one (suc n) = suc n
 
 -- Of a listener's connections these came, and those went; the outcome tells how many came, and how many were refused. With one that
--- may wait still they are as many at the most as were to come. It was not broken off exactly where as many came or were refused as
--- were to come, and no slot is taken; then all have gone. before, after: what the listener tells that it did, before and after.
+-- may wait still they are as many at the most as were to come. It tells that it was not broken off exactly where as many came or were
+-- refused as were to come, all that came have gone, and no slot is taken. before, after: what the listener tells, before and after.
 pub record Accepts {S E : Type 0} (before after : List (Event S E) → Type 0) (are_ends : S → E → E → Type 0) (connections most : ℕ)
     (came gone : List (Seat (Gathered E) (Outbox E))) (slots : List (Option (Seat (Gathered E) (Outbox E)))) (outcome : Outcome) : Type 0 where
   pub events : List (Event S E)

@@ -12,8 +12,8 @@ use Rattle.sockets.specs.declared.deeds.Deed.TheVariants as deed
 use Rattle.sockets.specs.declared.deeds.Report.{Report}
 use Rattle.sockets.specs.declared.deeds.Report.TheVariants as report
 
--- It did this deed to the connection in the slot at p, and reports what came of it. Or nothing was done: there is no such slot, or one
--- more that goes could not be counted. remaining, contents: what the ends of a connection have left, and hold; left, given: the
+-- It did this deed to the connection in the slot at p, and reports what came of it. One that was to go stays where something waits for
+-- its peer. Or nothing was done: there is no such slot, or one more that goes could not be counted. remaining, contents: what the ends of a connection have left, and hold; left, given: the
 -- same of its reader and its writer.
 abbrev pub Does : {E : Type 0} → (E → Option (List ℕ)) → (E → Option (List ℕ)) → (Gathered E → Option (List ℕ)) → (Outbox E → Option (List ℕ)) → Deed → Report
     → List (Option (Seat (Gathered E) (Outbox E))) → List (Option (Seat (Gathered E) (Outbox E))) → ℕ → Type 0
@@ -28,4 +28,6 @@ Does remaining contents left given (deed.Fail kind) report.Failing old new p = D
 Does remaining contents left given deed.Send (report.Sent outcome) old new p =
     SentAt given (λ a b. SendsOn contents a b outcome) (outcome ≡ sending.Sent) old new p
 Does remaining contents left given deed.Free report.Freed old new p = new ≡ slice_set old p None
+Does remaining contents left given deed.Free (report.Sent outcome) old new p =
+    (outcome ≡ sending.Waits) × SentAt given (λ a b. SendsOn contents a b outcome) ⊥ old new p
 Does remaining contents left given one other old new p = ⊥

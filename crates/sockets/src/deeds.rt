@@ -25,7 +25,7 @@ pub(crate) enum Deed {
     Fail(ErrorKind),
     /// What waits for its peer is sent on.
     Send,
-    /// It goes.
+    /// It goes, once all was sent that waits for its peer.
     Free,
 }
 
@@ -81,12 +81,32 @@ impl<L: Listener> Gate<L, L::Stream> {
                 Report::Failing
             }
             Deed::Send => Report::Sent(send_slot(slots, index)),
-            Deed::Free => {
-                if self.free(slots, index) {
-                    Report::Freed
-                } else {
-                    Report::Nothing
-                }
+            Deed::Free => self.let_go(slots, index),
+        }
+    }
+}
+
+impl<L: Listener> Gate<L, L::Stream> {
+    ghost use Rattle.sockets.specs.Doing.{Does};
+    ghost use Rattle.sockets.specs.Moving.{Moves};
+
+    // Makes the slot free, if nothing waits for its peer any more, or a write to it failed. Else what waits is sent on.
+    fn let_go(&mut self, slots: &mut [Option<Held<L::End>>], index: usize) -> Report
+        requires { index < length slots.old }
+        ensures moves { Moves L.told L.are_ends ⟦<Gathered<L::End> as Read>⟧.remaining
+            ⟦<Outbox<L::End> as Write>⟧.contents self.old self.new slots.old slots.new }
+        ensures does { Does ⟦<L::End as Read>⟧.remaining ⟦<L::End as Write>⟧.contents
+            ⟦<Gathered<L::End> as Read>⟧.remaining ⟦<Outbox<L::End> as Write>⟧.contents
+            Deed.Free result slots.old slots.new index }
+    {
+        if !self.may_go() {
+            return Report::Nothing;
+        }
+        match send_slot(slots, index) {
+            Sending::Waits => Report::Sent(Sending::Waits),
+            Sending::Sent | Sending::Failed => {
+                self.free(slots, index);
+                Report::Freed
             }
         }
     }

@@ -1,7 +1,9 @@
 //! The gate: which connections are accepted, which of them come into a slot, and which go from one.
-ghost use Rattle.std.specs.Prelude.{◌≡◌, ◌<◌, ◌⊎◌, ◌∷◌, ◌+◌, ℕ, [], is_some, length, slice_set, false, true, None};
+ghost use Rattle.std.specs.Prelude.{◌≡◌, ◌<◌, ◌⊎◌, ◌∷◌, ◌+◌, ℕ, [], is_some, length, slice_set, true, IfSome, None, Some, ⊥};
 ghost use Rattle.office.specs.Crowds.{Changes, slot_at};
 ghost use Rattle.office.specs.Seats.{IsNew};
+ghost use Rattle.sockets.specs.Accepting.{IsSettled};
+ghost use Rattle.sockets.specs.Listening.{IsWant};
 
 use crate::held::{Held, new_seat};
 use crate::socket::{Listener, Unready};
@@ -10,9 +12,6 @@ use std::alloc::Global;
 use std::io;
 use std::io::{ErrorKind, Read, Write};
 use wire::{Gathered, Outbox};
-
-/// The system's numbers for a want: of memory, of descriptors in it and in this process, and of buffers.
-const WANTS: [i32; 4] = [12, 23, 24, 105];
 
 /// What came of asking for a connection.
 #[derive(Clone, Copy, Debug, PartialEq, Eq)]
@@ -119,12 +118,10 @@ impl<L: Listener> Gate<L, L::Stream> {
                 Call::Came
             }
             Ok(None) => Call::None,
-            Err(error) => {
-                let call = missed(error);
-                if call == Call::Refused {
-                    self.to_come -= 1;
-                }
-                call
+            Err(error) if is_want(error) => Call::Wanting,
+            Err(_) => {
+                self.to_come -= 1;
+                Call::Refused
             }
         }
     }
@@ -150,40 +147,51 @@ impl<L: Listener> Gate<L, L::Stream> {
                 self.came = came;
                 Entry::In(index)
             }
-            Err(Unready { stream, error }) => {
-                self.guest = kept(stream, error);
-                if self.guest.is_some() {
-                    Entry::Wanting
-                } else {
-                    Entry::Away
-                }
-            }
+            Err(Unready { stream, error }) => self.put_off(stream, error),
         }
     }
 
-    // Whether less are open than may be.
+    // The ends of the one that waited can't be made for this error. It waits on, if it is there still and the want may end.
+    fn put_off(&mut self, stream: Option<L::Stream>, error: io::Error) -> Entry
+        ensures still { (same : L.Stream) → stream ≡ Some same → IsWant error → self.new.guest ≡ Some same }
+        ensures away { (stream ≡ None) ⊎ (IsWant error → ⊥) → self.new.guest ≡ self.old.guest }
+        ensures others { (self.new.listener ≡ self.old.listener) × (self.new.to_come ≡ self.old.to_come)
+            × (self.new.most ≡ self.old.most) × (self.new.came ≡ self.old.came) × (self.new.gone ≡ self.old.gone) }
+    {
+        if stream.is_none() || !is_want(error) {
+            return Entry::Away;
+        }
+        self.guest = stream;
+        Entry::Wanting
+    }
+
+    // Whether fewer are open than may be.
     fn may_open(&self) -> bool
         ensures { result ≡ true → self.now.came < self.now.gone + self.now.most }
     {
         self.came.saturating_sub(self.gone) < self.most as u64
     }
 
-    /// Makes the slot free: its connection is given back to the listener, which closes it. Whether it did.
-    pub(crate) fn free(&mut self, slots: &mut [Option<Held<L::End>>], index: usize) -> bool
-        requires { index < length slots.old }
+    /// Whether one more that goes can be counted.
+    pub(crate) fn may_go(&self) -> bool
+        ensures { result ≡ true → self.now.gone < 18446744073709551615 }
+    {
+        self.gone < u64::MAX
+    }
+
+    /// Makes the slot free: its connection is given back to the listener, which closes it.
+    pub(crate) fn free(&mut self, slots: &mut [Option<Held<L::End>>], index: usize)
+        requires within { index < length slots.old }
+        requires counted { self.old.gone < 18446744073709551615 }
+        requires settled { IfSome (slot_at slots.old index) (λ seat. IsSettled seat) }
         ensures moves { Moves L.told L.are_ends ⟦<Gathered<L::End> as Read>⟧.remaining
             ⟦<Outbox<L::End> as Write>⟧.contents self.old self.new slots.old slots.new }
-        ensures freed { result ≡ true → slots.new ≡ slice_set slots.old index None }
-        ensures not { result ≡ false → slots.new ≡ slots.old }
+        ensures freed { slots.new ≡ slice_set slots.old index None }
     {
-        let Some(gone) = self.gone.checked_add(1) else {
-            return false;
-        };
         if let Some(seat) = free_slot(slots, index) {
-            self.gone = gone;
+            self.gone += 1;
             self.listener.close(seat);
         }
-        true
     }
 }
 
@@ -212,26 +220,15 @@ fn seat_in<S: Read + Write + Drop>(slots: &mut [Option<Held<S>>], seat: Held<S>)
     }
 }
 
-// What an `accept` that failed so means.
-fn missed(error: io::Error) -> Call {
-    if is_want(error) {
-        Call::Wanting
-    } else {
-        Call::Refused
-    }
-}
-
-// The connection whose ends could not be made for this error, if it is kept for later: where the error is a want that may end.
-fn kept<S: Drop>(stream: Option<S>, error: io::Error) -> Option<S>
-    ensures { (result ≡ None) ⊎ (result ≡ stream) }
+// Whether it tells of a want that may end: of memory (12, or no number), of descriptors in the system (23) or in this process
+// (24), or of buffers (105).
+fn is_want(error: io::Error) -> bool
+    ensures told { result ≡ true → IsWant error }
+    ensures all { IsWant error → result ≡ true }
 {
-    if is_want(error) { stream } else { None }
-}
-
-// Whether it tells a want that may end.
-fn is_want(error: io::Error) -> bool {
     match error.raw_os_error() {
-        Some(number) => WANTS.contains(&number),
+        Some(12 | 23 | 24 | 105) => true,
+        Some(_) => false,
         None => error.kind() == ErrorKind::OutOfMemory,
     }
 }

@@ -47,8 +47,8 @@ impl<R: time::Clock, L: Listener> Book<'_, R, L> {
     // Reads once, and keeps nothing of it.
     fn read_last(&mut self, slots: &[Option<Held<L::End>>], index: usize) -> io::Result<usize> {
         match seat_at(slots, index) {
-            Some(seat) => seat.reader.inner.inner.throw_away(&mut self.buf),
-            None => Ok(0),
+            Some(seat) if seat.end().is_some() => L::End::throw_away(seat, &mut self.buf),
+            _ => Ok(0),
         }
     }
 

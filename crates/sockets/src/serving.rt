@@ -24,7 +24,7 @@ use wire::{Gathered, Outbox};
 /// What is allowed to connections.
 #[derive(Clone, Copy, Debug, PartialEq, Eq)]
 pub struct Limits {
-    /// How many are accepted in all.
+    /// How many are accepted in all at the most, with those that can't be.
     pub connections: u64,
     /// How long a peer may keep one waiting; without it there is no bound.
     pub patience: Option<Duration>,
@@ -37,12 +37,12 @@ pub struct Limits {
 pub struct Outcome {
     /// How many connections came.
     pub came: u64,
-    /// How many could not be accepted.
+    /// How many could not be accepted, or whose ends could not be made.
     pub refused: u64,
-    /// How many of those that came ended by a read or a write that failed.
+    /// How many of those that came ended by a read or a write that failed, also since the peer was too slow.
     pub faulty: u64,
-    /// Whether all that were to come have come, or could not be accepted, and have gone. They have, unless 2^64 - 1 steps or turns
-    /// were taken before.
+    /// Whether all that were to come have come, or were refused, and have gone. So it is, unless the loop took 2^64 - 1 steps or
+    /// turns.
     pub is_whole: bool,
 }
 
@@ -54,15 +54,15 @@ pub struct Served<L, E> {
     /// The slots, with the connections that have not gone. None is left where the service was not broken off.
     pub slots: Vec<Option<Seat<Gathered<E>, Outbox<E>>>>,
     /// What came of it. The error is that memory was refused, or that the system can't tell which sockets are ready, or what time it
-    /// is. Nothing was accepted then.
+    /// is. The office, the clock and the listener are as they were then.
     pub outcome: io::Result<Outcome>,
 }
 
 /// Accepts so many connections of a listener and serves them in turn, a message at a time, in one loop that waits for none of
-/// them. It ends once all have come, or could not be accepted, and have gone. There is one order of all messages, in which the
-/// machine leads from the state before to the state after; each connection's answers, and its end, are those of its own
-/// messages; and over all of them an upload acts once. The listener tells which connections it accepted: each of these came, once
-/// and in their order, or was refused and is counted so. Each that went is given back to it, as it was when it went.
+/// them. It ends once all have come, or were refused, and have gone. There is one order of all messages, in which the machine leads
+/// from the state before to the state after; each connection's answers, and its end, are those of its own messages; and over all of
+/// them an upload acts once. The listener tells what it did: each connection that it accepted came, once and in order, or was
+/// refused, or waits still; and each that went was given back to it, as it was when it went, behind its last answer.
 pub fn serve<K: Keeper, C: Clock, L: Listener, R: Net + time::Clock>(
     rt: &R,
     office: &mut Office<K>,

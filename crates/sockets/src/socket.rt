@@ -1,5 +1,5 @@
 //! What is asked of a listener, and of the ends of the connections that it brings.
-ghost use Rattle.std.specs.Prelude.{◌≡◌, ◌++◌, ◌∷◌, [], IfErr, IfOk, IfSome, List, map};
+ghost use Rattle.std.specs.Prelude.{◌≡◌, ◌++◌, ◌∷◌, [], IfErr, IfOk, IfSome, List, is_some, map, true};
 ghost use Rattle.office.specs.Crowds.{those_of};
 ghost use Rattle.sockets.specs.Listening.{Event, accepted, closed, missed, opened, unready};
 
@@ -24,13 +24,14 @@ pub trait End: Read + Write + Drop {
     /// The connection is there no more.
     fn shutdown(&self, how: Shutdown) -> io::Result<()>;
 
-    /// Reads once by way of the buffer, and keeps nothing of it: how many bytes came, or 0 at the end. It is for connections whose
-    /// session has ended.
+    /// Reads once of a connection whose session has ended, by way of the buffer, and keeps nothing of it: how many bytes came, or 0
+    /// at the end.
     ///
     /// # Errors
     ///
     /// The read failed; `WouldBlock` tells that nothing is there now.
-    fn throw_away(&self, buf: &mut [u8]) -> io::Result<usize>;
+    fn throw_away(seat: &Seat<Gathered<Self>, Outbox<Self>>, buf: &mut [u8]) -> io::Result<usize>
+        requires { is_some seat.now.end ≡ true };
 }
 
 /// A connection whose ends could not be made.
@@ -72,7 +73,7 @@ pub trait Listener: AsRawFd + Drop {
         ensures came { IfOk result (λ found. (log : List (Event Self.Stream Self.End))
             → told self.old log → told self.new (log ++ map accepted (those_of found))) }
         ensures missed { IfErr result (λ e. (log : List (Event Self.Stream Self.End))
-            → told self.old log → told self.new (log ++ missed ∷ [])) };
+            → told self.old log → told self.new (log ++ missed e ∷ [])) };
 
     /// Hands out the ends of a connection. From now on its reads and writes do not wait, and what is written goes out at once.
     ///
@@ -89,7 +90,7 @@ pub trait Listener: AsRawFd + Drop {
             → told self.old log → told self.new (log ++ opened ends.0 ends.1 ∷ [])) }
         ensures back { IfErr result (λ e. IfSome e.stream (λ same. same ≡ stream)) }
         ensures unready { IfErr result (λ e. (log : List (Event Self.Stream Self.End))
-            → told self.old log → told self.new (log ++ unready ∷ [])) };
+            → told self.old log → told self.new (log ++ unready e.stream e.error ∷ [])) };
 
     /// Takes back a connection, and closes it.
     fn close(&mut self, seat: Seat<Gathered<Self::End>, Outbox<Self::End>>)
@@ -149,8 +150,11 @@ impl End for TcpEnd {
         self.stream.shutdown(how)
     }
 
-    fn throw_away(&self, buf: &mut [u8]) -> io::Result<usize> {
-        let mut stream: &TcpStream = &self.stream;
+    fn throw_away(
+        seat: &Seat<Gathered<TcpEnd>, Outbox<TcpEnd>>,
+        buf: &mut [u8],
+    ) -> io::Result<usize> {
+        let mut stream: &TcpStream = &seat.reader.inner.inner.stream;
         stream.read(buf)
     }
 }

@@ -1,4 +1,3 @@
-use Rattle.std.proofs.Common.{inl}
 use Rattle.sockets.proofs.Moved.{moves_none, moves_still}
 use Rattle.sockets.proofs.deeds.Gate+L+L+Stream.work.Goals as goal
 
@@ -32,8 +31,5 @@ returns-in-Send-clause-moves g c = moves_still _ _ _ _ c.args.self.now c.args.sl
 pub returns-in-Send-clause-does : goal.returns-in-Send-clause-does
 returns-in-Send-clause-does g c = rw c.in-Send.is c.send_slot.ensures.done
 
-pub returns-then-free-clause-does : goal.returns-then-free-clause-does
-returns-then-free-clause-does g c = rw c.in-Free.is (c.free.ensures.freed c.if-free.true)
-
-pub returns-else-free-clause-does : goal.returns-else-free-clause-does
-returns-else-free-clause-does g c = (c.free.ensures.not c.if-free.false, inl c.in-Free.is)
+pub returns-in-Free-clause-does : goal.returns-in-Free-clause-does
+returns-in-Free-clause-does g c = rw c.in-Free.is c.let_go.ensures.does
