@@ -1,6 +1,14 @@
--- Slots that are free.
-use Rattle.std.proofs.Common.{◌≡◌, ◌<◌, ◌+◌, ◌++◌, ℕ, suc, zero, List, [], ◌∷◌, Option, None, refl, arith}
-use Rattle.office.specs.Crowds.{slot_at}
+-- Slots that are free, or become so.
+use Rattle.std.proofs.Common.{◌≡◌, ◌<◌, ◌+◌, ◌++◌, ◌⊎◌, ◌∙◌, ap, inl, inr, length, slice_set, subst, sym, Some, ℕ, suc, zero, List, [], ◌∷◌, Option, None, refl, arith}
+use Rattle.std.specs.Prelude.{IfSome}
+use Rattle.office.specs.Crowds.{SentAt, slot_at}
+use Rattle.office.specs.Slots.{SendsOn}
+use Rattle.office.specs.declared.connections.seat.Seat.{Seat}
+use Rattle.wire.specs.declared.gathered.Gathered.{Gathered}
+use Rattle.wire.specs.declared.outbox.Outbox.{Outbox}
+use Rattle.wire.specs.declared.outbox.Sending.{Sending}
+use Rattle.wire.specs.declared.outbox.Sending.TheVariants as sending
+use Rattle.sockets.specs.Accepting.{IsSettled}
 
 -- one more is free
 pub free_more : {X : Type 0} (slots : List (Option X)) → ((p : ℕ) → slot_at slots p ≡ None) → (p : ℕ) → slot_at (slots ++ None ∷ []) p ≡ None
@@ -15,3 +23,53 @@ up_to P zero all last zero lt = last
 up_to P zero all last (suc p) lt = absurd (omega (arith, lt))
 up_to P (suc n) all last zero lt = all zero (omega arith)
 up_to P (suc n) all last (suc p) lt = up_to (λ q. P (suc q)) n (λ q l. all (suc q) (omega (arith, l))) last p (omega (arith, lt))
+
+module _ {X : Type 0} where
+  -- what was put there stands there
+  pub set_there : (slots : List (Option X)) (p : ℕ) (x : Option X) → p < length slots → slot_at (slice_set slots p x) p ≡ x
+  set_there [] p x lt = absurd (omega (arith, lt))
+  set_there (y ∷ slots) zero x lt = refl
+  set_there (y ∷ slots) (suc p) x lt = set_there slots p x (omega (arith, lt))
+
+  -- what is put there last, stands
+  pub set_again : (slots : List (Option X)) (p : ℕ) (x y : Option X) → slice_set (slice_set slots p x) p y ≡ slice_set slots p y
+  set_again [] p x y = refl
+  set_again (z ∷ slots) zero x y = refl
+  set_again (z ∷ slots) (suc p) x y = ap (λ l. z ∷ l) (set_again slots p x y)
+
+  pub set_length : (slots : List (Option X)) (p : ℕ) (x : Option X) → length (slice_set slots p x) ≡ length slots
+  set_length [] p x = refl
+  set_length (y ∷ slots) zero x = refl
+  set_length (y ∷ slots) (suc p) x = omega (arith, set_length slots p x)
+
+module _ {E : Type 0} (given : Outbox E → Option (List ℕ)) (contents : E → Option (List ℕ)) (outcome : Sending) (told : Type 0) (old new : List (Option (Seat (Gathered E) (Outbox E)))) (p : ℕ)
+    (sent : SentAt given (λ a b. SendsOn contents a b outcome) told old new p) where
+  -- the slots are as many
+  pub sent_length : length new ≡ length old
+  sent_length = elim sent [
+    | inl x ↦ ap length x.5 ∙ set_length old p (Some x.2)
+    | inr x ↦ ap length x.1
+  ]
+
+  -- the slot is freed as if nothing had been sent
+  pub sent_free : (free : List (Option (Seat (Gathered E) (Outbox E)))) → free ≡ slice_set new p None → free ≡ slice_set old p None
+  sent_free free is = elim sent [
+    | inl x ↦ is ∙ (ap (λ l. slice_set l p None) x.5 ∙ set_again old p (Some x.2) None)
+    | inr x ↦ is ∙ ap (λ l. slice_set l p None) x.1
+  ]
+
+  -- where nothing waits any more, or a write failed, the connection there is settled
+  pub sent_settled : (outcome ≡ sending.Sent) ⊎ (outcome ≡ sending.Failed) → p < length old → IfSome (slot_at new p) (λ seat. IsSettled seat)
+  sent_settled is lt = elim sent [
+    | inl x ↦
+        let at : slot_at new p ≡ Some x.2 = ap (λ l. slot_at l p) x.5 ∙ set_there old p (Some x.2) lt in
+        let settled : IsSettled x.2 = elim is [ inl e ↦ inl ((x.4.sent.0 e).0) | inr e ↦ inr (x.4.failed.0 e) ] in
+        subst (λ o. IfSome o (λ seat. IsSettled seat)) (sym at) settled
+    | inr x ↦ subst (λ o. IfSome o (λ seat. IsSettled seat)) (sym (ap (λ l. slot_at l p) x.1 ∙ x.0)) tt
+  ]
+
+-- where something waits still, a connection is there
+pub sent_waits : {E : Type 0} (given : Outbox E → Option (List ℕ)) (contents : E → Option (List ℕ)) (outcome : Sending) (old new : List (Option (Seat (Gathered E) (Outbox E)))) (p : ℕ)
+    → outcome ≡ sending.Waits → SentAt given (λ a b. SendsOn contents a b outcome) (outcome ≡ sending.Sent) old new p → SentAt given (λ a b. SendsOn contents a b sending.Waits) ⊥ old new p
+sent_waits given contents outcome old new p is (inl x) = inl (x.0, x.1, x.2, x.3, subst (λ o. SendsOn contents x.0 x.2 o) is x.4, x.5)
+sent_waits given contents outcome old new p is (inr x) = absurd (cc (is, x.2))

@@ -1,2 +1,3 @@
 pub mod Freed
 pub mod Moved
+pub mod Returned

@@ -1,5 +1,5 @@
 -- What went on at the gate and in the slots, one thing after another.
-use Rattle.std.proofs.Common.{◌≡◌, ◌<◌, ◌∙◌, ◌+◌, ◌++◌, ◌⊎◌, ℕ, inl, inr, true, false, List, [], ◌∷◌, Option, None, Some, length, ap, append_assoc, refl, sym, subst, arith}
+use Rattle.std.proofs.Common.{◌≡◌, ◌<◌, ◌∙◌, ◌+◌, ◌++◌, ◌⊎◌, ℕ, inl, inr, Bool, true, false, List, [], ◌∷◌, Option, None, Some, length, ap, append_assoc, refl, sym, subst, arith}
 use Rattle.std.specs.Prelude.{IfSome, cond, is_some}
 use Rattle.std.specs.declared.io.Error.{Error}
 use Rattle.std.proofs.lemmas.List.{append-nil, length-append}
@@ -15,10 +15,35 @@ use Rattle.sockets.specs.Listening.{Event, IsWant, accepted, closed, missed, ope
 use Rattle.sockets.specs.Moving.{HasPassed, Moves, Passes}
 use Rattle.sockets.specs.declared.gate.Gate.{Gate}
 
+plus_none : (n : ℕ) → n ≡ n + 0
+plus_none n = omega arith
+
+plus_both : (n a b : ℕ) → (n + a) + b ≡ n + (a + b)
+plus_both n a b = omega arith
+
+pub none_is : {S : Type 0} (x : Option S) → is_some x ≡ false → x ≡ None
+none_is None is = refl
+none_is (Some x) is = absurd cc
+
+abbrev ones : Bool → ℕ
+ones b = cond b 1 0
+
 -- how many wait: one, or none
-pub waits_one : {S : Type 0} (waits : Option S) → length (those_of waits) ≡ cond (is_some waits) 1 0
-waits_one None = refl
-waits_one (Some x) = refl
+pub waits_one : {S : Type 0} (waits : Option S) (does : Bool) → does ≡ is_some waits → length (those_of waits) ≡ cond does 1 0
+waits_one None does is = ap ones (sym is)
+waits_one (Some x) does is = ap ones (sym is)
+
+-- the one that was taken from its slot, went
+pub went_one : {R W : Type 0} {remaining : R → Option (List ℕ)} {contents : W → Option (List ℕ)} {old new : List (Option (Seat R W))} (o : Option (Seat R W)) (seat : Seat R W) → o ≡ Some seat
+    → Changes remaining contents old new [] (those_of o) → Changes remaining contents old new [] (seat ∷ [])
+went_one {remaining = remaining} {contents = contents} {old = old} {new = new} o seat is changes = subst (λ x. Changes remaining contents old new [] (those_of x)) is changes
+
+pub went_none : {R W : Type 0} {remaining : R → Option (List ℕ)} {contents : W → Option (List ℕ)} {old new : List (Option (Seat R W))} (o : Option (Seat R W)) → o ≡ None
+    → Changes remaining contents old new [] (those_of o) → Changes remaining contents old new [] []
+went_none {remaining = remaining} {contents = contents} {old = old} {new = new} o is changes = subst (λ x. Changes remaining contents old new [] (those_of x)) is changes
+
+pub settled_of : {E : Type 0} (o : Option (Seat (Gathered E) (Outbox E))) (seat : Seat (Gathered E) (Outbox E)) → o ≡ Some seat → IfSome o (λ x. IsSettled x) → IsSettled seat
+settled_of o seat is settled = subst (λ o. IfSome o (λ x. IsSettled x)) is settled
 
 module _ {L S E : Type 0} (told : L → List (Event S E) → Type 0) (are_ends : S → E → E → Type 0) where
   -- nothing passed, and the listener tells the same
@@ -32,7 +57,7 @@ module _ {L S E : Type 0} (told : L → List (Event S E) → Type 0) (are_ends :
         subst (λ l. Admits are_ends g.most l h.guest (cs ++ []) (gs ++ []) (n + 0)) (sym (append-nil before))
         (subst (λ l. Admits are_ends g.most before h.guest l (gs ++ []) (n + 0)) (sym (append-nil cs))
         (subst (λ l. Admits are_ends g.most before h.guest cs l (n + 0)) (sym (append-nil gs))
-        (subst (λ k. Admits are_ends g.most before h.guest cs gs k) (the (n ≡ n + 0) (omega arith))
+        (subst (λ k. Admits are_ends g.most before h.guest cs gs k) (plus_none n)
         (subst (λ w. Admits are_ends g.most before w cs gs n) (sym guest) is))));
     most = most;
     to_come = omega (arith, to_come, ap (λ w. length (those_of w)) guest);
@@ -67,7 +92,7 @@ module _ {L S E : Type 0} (told : L → List (Event S E) → Type 0) (are_ends :
       → ((log : List (Event S E)) → told g.listener log → told h.listener (log ++ accepted stream ∷ [])) → Passes told are_ends g h [] []
   accepts_one g h stream free waits to_come most came gone tells = passes_by g h (accepted stream) 0
       (λ before cs gs n is.
-      subst (λ k. Admits are_ends g.most (before ++ accepted stream ∷ []) h.guest cs gs k) (the (n ≡ n + 0) (omega arith))
+      subst (λ k. Admits are_ends g.most (before ++ accepted stream ∷ []) h.guest cs gs k) (plus_none n)
       (subst (λ w. Admits are_ends g.most (before ++ accepted stream ∷ []) w cs gs n) (sym waits)
       (accepting.accepts before cs gs n stream (subst (λ w. Admits are_ends g.most before w cs gs n) free is))))
       (omega (arith, to_come, ap (λ w. length (those_of w)) free, ap (λ w. length (those_of w)) waits)) most came gone tells
@@ -77,7 +102,7 @@ module _ {L S E : Type 0} (told : L → List (Event S E) → Type 0) (are_ends :
       → ((log : List (Event S E)) → told g.listener log → told h.listener (log ++ missed e ∷ [])) → Passes told are_ends g h [] []
   misses_one g h e waits to_come most came gone want tells = passes_by g h (missed e) 0
       (λ before cs gs n is.
-      subst (λ k. Admits are_ends g.most (before ++ missed e ∷ []) h.guest cs gs k) (the (n ≡ n + 0) (omega arith))
+      subst (λ k. Admits are_ends g.most (before ++ missed e ∷ []) h.guest cs gs k) (plus_none n)
       (accepting.misses before h.guest cs gs n e (subst (λ w. Admits are_ends g.most before w cs gs n) (sym waits) is) want))
       (omega (arith, to_come, ap (λ w. length (those_of w)) waits)) most came gone tells
 
@@ -92,10 +117,10 @@ module _ {L S E : Type 0} (told : L → List (Event S E) → Type 0) (are_ends :
   pub waits_on : (g h : Gate L S) (stream : S) (back : Option S) (e : Error) → g.guest ≡ Some stream → h.guest ≡ Some stream → h.to_come ≡ g.to_come → h.most ≡ g.most → h.came ≡ g.came
       → h.gone ≡ g.gone → back ≡ Some stream → IsWant e
       → ((log : List (Event S E)) → told g.listener log → told h.listener (log ++ unready back e ∷ [])) → Passes told are_ends g h [] []
-  waits_on g h stream back e waits still to_come most came gone same want tells = passes_by g h (unready back e) 0
+  waits_on g h stream back e waits still to_come most came gone it want tells = passes_by g h (unready back e) 0
       (λ before cs gs n is.
-      subst (λ k. Admits are_ends g.most (before ++ unready back e ∷ []) h.guest cs gs k) (the (n ≡ n + 0) (omega arith))
-      (subst (λ b. Admits are_ends g.most (before ++ unready b e ∷ []) h.guest cs gs n) (sym same)
+      subst (λ k. Admits are_ends g.most (before ++ unready back e ∷ []) h.guest cs gs k) (plus_none n)
+      (subst (λ b. Admits are_ends g.most (before ++ unready b e ∷ []) h.guest cs gs n) (sym it)
       (subst (λ w. Admits are_ends g.most (before ++ unready (Some stream) e ∷ []) w cs gs n) (sym still)
       (accepting.waits_on before stream cs gs n e (subst (λ w. Admits are_ends g.most before w cs gs n) waits is) want))))
       (omega (arith, to_come, ap (λ w. length (those_of w)) waits, ap (λ w. length (those_of w)) still)) most came gone tells
@@ -109,6 +134,16 @@ module _ {L S E : Type 0} (told : L → List (Event S E) → Type 0) (are_ends :
       subst (λ w. Admits are_ends g.most (before ++ unready back e ∷ []) w cs gs (n + 1)) (sym free)
       (accepting.turns_away before stream cs gs n back e (subst (λ w. Admits are_ends g.most before w cs gs n) waits is) lost))
       (omega (arith, to_come, ap (λ w. length (those_of w)) waits, ap (λ w. length (those_of w)) free)) most came gone tells
+
+  -- the ends of the one that waits can't be made: it waits on, or is turned away
+  pub puts_off : (g h : Gate L S) (stream : S) (back free : Option S) (e : Error) → g.guest ≡ Some stream → IfSome back (λ x. x ≡ stream)
+      → ((x : S) × (back ≡ Some x) × IsWant e × (h.guest ≡ Some x)) ⊎ (((back ≡ None) ⊎ (IsWant e → ⊥)) × (h.guest ≡ free)) → free ≡ None
+      → h.to_come ≡ g.to_come → h.most ≡ g.most → h.came ≡ g.came → h.gone ≡ g.gone
+      → ((log : List (Event S E)) → told g.listener log → told h.listener (log ++ unready back e ∷ [])) → Passes told are_ends g h [] []
+  puts_off g h stream back free e waits is (inl x) none to_come most came gone tells =
+      let it : x.0 ≡ stream = subst (λ o. IfSome o (λ y. y ≡ stream)) x.1 is in
+      waits_on g h stream back e waits (x.3 ∙ ap Some it) to_come most came gone (x.1 ∙ ap Some it) x.2 tells
+  puts_off g h stream back free e waits is (inr x) none to_come most came gone tells = turns_away g h stream back e waits (x.1 ∙ none) to_come most came gone x.0 tells
 
   -- the one that waits comes
   pub comes_in : (g h : Gate L S) (stream : S) (seat : Seat (Gathered E) (Outbox E)) (reader writer : E) → g.guest ≡ Some stream → h.guest ≡ None → h.to_come ≡ g.to_come → h.most ≡ g.most
@@ -126,7 +161,7 @@ module _ {L S E : Type 0} (told : L → List (Event S E) → Type 0) (are_ends :
         let log : List (Event S E) = before ++ opened seat.reader.inner.inner seat.writer.inner.inner ∷ [] in
         subst (λ w. Admits are_ends g.most log w (cs ++ seat ∷ []) (gs ++ []) (n + 0)) (sym free)
         (subst (λ l. Admits are_ends g.most log None (cs ++ seat ∷ []) l (n + 0)) (sym (append-nil gs))
-        (subst (λ k. Admits are_ends g.most log None (cs ++ seat ∷ []) gs k) (the (n ≡ n + 0) (omega arith)) now));
+        (subst (λ k. Admits are_ends g.most log None (cs ++ seat ∷ []) gs k) (plus_none n) now));
     most = most;
     to_come = omega (arith, to_come, ap (λ w. length (those_of w)) waits, ap (λ w. length (those_of w)) free);
     counted = omega (arith, came);
@@ -143,7 +178,7 @@ module _ {L S E : Type 0} (told : L → List (Event S E) → Type 0) (are_ends :
     admits = λ before cs gs n is _ _.
         let at : Admits are_ends g.most before h.guest cs gs n = subst (λ w. Admits are_ends g.most before w cs gs n) (sym guest) is in
         subst (λ l. Admits are_ends g.most (before ++ closed seat ∷ []) h.guest l (gs ++ seat ∷ []) (n + 0)) (sym (append-nil cs))
-        (subst (λ k. Admits are_ends g.most (before ++ closed seat ∷ []) h.guest cs (gs ++ seat ∷ []) k) (the (n ≡ n + 0) (omega arith)) (accepting.goes before h.guest cs gs n seat at settled));
+        (subst (λ k. Admits are_ends g.most (before ++ closed seat ∷ []) h.guest cs (gs ++ seat ∷ []) k) (plus_none n) (accepting.goes before h.guest cs gs n seat at settled));
     most = most;
     to_come = omega (arith, to_come, ap (λ w. length (those_of w)) guest);
     counted = omega (arith, came);
@@ -167,7 +202,7 @@ module _ {L S E : Type 0} (told : L → List (Event S E) → Type 0) (are_ends :
         (subst (λ l. Admits are_ends g.most ((before ++ x.events) ++ y.events) h.guest l (gs ++ (gone ++ went)) (n + (x.refused + y.refused))) (append_assoc cs came more)
         (subst (λ l. Admits are_ends g.most ((before ++ x.events) ++ y.events) h.guest ((cs ++ came) ++ more) l (n + (x.refused + y.refused))) (append_assoc gs gone went)
         (subst (λ k. Admits are_ends g.most ((before ++ x.events) ++ y.events) h.guest ((cs ++ came) ++ more) ((gs ++ gone) ++ went) k)
-        (the ((n + x.refused) + y.refused ≡ n + (x.refused + y.refused)) (omega arith)) then))));
+        (plus_both n x.refused y.refused) then))));
     most = y.most ∙ x.most;
     to_come = omega (arith, x.to_come, y.to_come, length-append came more);
     counted = omega (arith, x.counted, y.counted, length-append came more);

@@ -1,5 +1,5 @@
 //! The gate: which connections are accepted, which of them come into a slot, and which go from one.
-ghost use Rattle.std.specs.Prelude.{◌≡◌, ◌<◌, ◌⊎◌, ◌∷◌, ◌+◌, ℕ, [], is_some, length, slice_set, true, IfSome, None, Some, ⊥};
+ghost use Rattle.std.specs.Prelude.{◌≡◌, ◌<◌, ◌⊎◌, ◌∷◌, ◌+◌, ℕ, [], is_some, length, slice_set, true, IfSome, None, Some};
 ghost use Rattle.office.specs.Crowds.{Changes, slot_at};
 ghost use Rattle.office.specs.Seats.{IsNew};
 ghost use Rattle.sockets.specs.Accepting.{IsSettled};
@@ -153,15 +153,18 @@ impl<L: Listener> Gate<L, L::Stream> {
 
     // The ends of the one that waited can't be made for this error. It waits on, if it is there still and the want may end.
     fn put_off(&mut self, stream: Option<L::Stream>, error: io::Error) -> Entry
-        ensures still { (same : L.Stream) → stream ≡ Some same → IsWant error → self.new.guest ≡ Some same }
-        ensures away { (stream ≡ None) ⊎ (IsWant error → ⊥) → self.new.guest ≡ self.old.guest }
+        ensures guest { ((same : L.Stream) × (stream ≡ Some same) × IsWant error × (self.new.guest ≡ Some same))
+            ⊎ (((stream ≡ None) ⊎ (IsWant error → ⊥)) × (self.new.guest ≡ self.old.guest)) }
         ensures others { (self.new.listener ≡ self.old.listener) × (self.new.to_come ≡ self.old.to_come)
             × (self.new.most ≡ self.old.most) × (self.new.came ≡ self.old.came) × (self.new.gone ≡ self.old.gone) }
     {
-        if stream.is_none() || !is_want(error) {
+        let Some(stream) = stream else {
+            return Entry::Away;
+        };
+        if !is_want(error) {
             return Entry::Away;
         }
-        self.guest = stream;
+        self.guest = Some(stream);
         Entry::Wanting
     }
 

@@ -94,7 +94,7 @@ pub trait Listener: AsRawFd + Drop {
 
     /// Takes back a connection, and closes it.
     fn close(&mut self, seat: Seat<Gathered<Self::End>, Outbox<Self::End>>)
-        ensures { (log : List (Event Self.Stream Self.End))
+        ensures closed { (log : List (Event Self.Stream Self.End))
             → told self.old log → told self.new (log ++ closed seat ∷ []) };
 }
 
@@ -185,7 +185,8 @@ impl Listener for TcpListener {
 
     type End = TcpEnd;
 
-    ghost use Rattle.std.specs.Prelude.{◌≡◌, ⊤};
+    ghost use Rattle.std.specs.Prelude.{◌≡◌, List, ⊤};
+    ghost use Rattle.sockets.specs.Listening.{Event};
 
     ghost told = { λ _ _. ⊤ };
 
@@ -221,5 +222,9 @@ impl Listener for TcpListener {
         }
     }
 
-    fn close(&mut self, _seat: Seat<Gathered<TcpEnd>, Outbox<TcpEnd>>) {}
+    fn close(&mut self, seat: Seat<Gathered<TcpEnd>, Outbox<TcpEnd>>)
+        ensures closed { (log : List (Event TcpStream TcpEnd)) → ⊤ → ⊤ }
+    {
+        drop(seat);
+    }
 }

@@ -1,5 +1,4 @@
-use Rattle.std.proofs.Common.{[], zero, ◌++◌, ◌∙◌, ap, subst, sym, arith}
-use Rattle.std.specs.Prelude.{cond}
+use Rattle.std.proofs.Common.{[], zero, ◌++◌, ◌∙◌, subst, sym, arith}
 use Rattle.sockets.specs.Accepting.{Admits}
 use Rattle.sockets.specs.Moving.{HasPassed}
 use Rattle.sockets.proofs.Moved.{passed_none, waits_one}
@@ -20,7 +19,7 @@ returns-clause-serves g c =
     let bounded = subst (λ n. HasPassed had c.args.connections n told ends c.serve_crowd-faulty.new.crowd.gate all.0 all.1) (sym c.requires.most) numbered in
     let passed = subst (λ x. HasPassed had c.args.connections c.args.most told ends x all.0 all.1) (sym c.into_gate-gate.ensures) bounded in
     let close = c.close-listener.ensures in
-    let refused = c.refused_of-refused.ensures passed.refused (omega (arith, passed.to_come, close.to_come, passed.counted, waits_one gate.guest, ap (λ b. cond b 1 0) close.waits)) in
+    let refused = c.refused_of-refused.ensures passed.refused (omega (arith, passed.to_come, close.to_come, passed.counted, waits_one gate.guest c.close-listener.result.2 close.waits)) in
     record {
       came = all.0;
       gone = all.1;

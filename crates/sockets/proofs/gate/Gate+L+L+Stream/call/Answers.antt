@@ -1,21 +1,33 @@
-use Rattle.std.proofs.Common.{refl, sym, ◌∙◌, arith}
+use Rattle.std.proofs.Common.{◌++◌, ◌∙◌, map, refl, subst, sym, arith}
+use Rattle.std.proofs.lemmas.List.{append-nil}
+use Rattle.office.specs.Crowds.{those_of}
+use Rattle.sockets.specs.Listening.{accepted}
 use Rattle.sockets.proofs.Moved.{accepts_one, misses_one, none_is, passes_none, passes_still, refuses_one}
 use Rattle.sockets.proofs.gate.Gate+L+L+Stream.call.Goals as goal
 
-pub returns-then-is_some-clause-passes : goal.returns-then-is_some-clause-passes
-returns-then-is_some-clause-passes g c = passes_none _ _ c.args.self.now
+pub returns-then-is_some : goal.returns-then-is_some
+returns-then-is_some g c = record { passes = passes_none _ _ c.args.self.now }
 
-pub returns-then-self-eq0-clause-passes : goal.returns-then-self-eq0-clause-passes
-returns-then-self-eq0-clause-passes g c = passes_none _ _ c.args.self.now
+pub returns-then-self-eq0 : goal.returns-then-self-eq0
+returns-then-self-eq0 g c = record { passes = passes_none _ _ c.args.self.now }
 
-pub returns-in-Some-clause-passes : goal.returns-in-Some-clause-passes
-returns-in-Some-clause-passes g c = ?
+pub returns-in-Ok-Some : goal.returns-in-Ok-Some
+returns-in-Ok-Some g c =
+    let told = g.L.Listener.told c.accept.new.self in
+    let free = none_is c.args.self.now.guest (sym c.is_some.ensures ∙ c.if-is_some.false) in
+    record { passes = accepts_one _ _ c.args.self.now _ c.in-Ok-Some.stream free refl (omega (arith, c.if-self-eq0.false)) refl refl refl (λ log is. subst (λ o. told (log ++ map accepted (those_of o))) c.in-Ok-Some.field-0-is (c.in-Ok-Some.ensures.came log is)) }
 
-pub returns-in-None-clause-passes : goal.returns-in-None-clause-passes
-returns-in-None-clause-passes g c = ?
+pub returns-in-Ok-None : goal.returns-in-Ok-None
+returns-in-Ok-None g c =
+    let told = g.L.Listener.told c.accept.new.self in
+    record {
+      passes = passes_still _ _ c.args.self.now _ refl refl refl refl refl
+          (λ log is. subst told (append-nil log) (subst (λ o. told (log ++ map accepted (those_of o))) c.in-Ok-None.field-0-is (c.in-Ok-None.ensures.came log is)));
+    }
 
-pub returns-then-eq-clause-passes : goal.returns-then-eq-clause-passes
-returns-then-eq-clause-passes g c = refuses_one _ _ c.args.self.now _ refl (omega (arith, c.if-self-eq0.false)) refl refl refl c.in-Err.ensures.missed
+pub returns-in-Err : goal.returns-in-Err
+returns-in-Err g c = record { passes = misses_one _ _ c.args.self.now _ c.in-Err.error refl refl refl refl refl (c.is_want.ensures.told c.if-is_want.true) c.in-Err.ensures.missed }
 
-pub returns-else-eq-clause-passes : goal.returns-else-eq-clause-passes
-returns-else-eq-clause-passes g c = misses_one _ _ c.args.self.now _ refl refl refl refl refl c.in-Err.ensures.missed
+pub returns-in-Err-2 : goal.returns-in-Err-2
+returns-in-Err-2 g c =
+    record { passes = refuses_one _ _ c.args.self.now _ c.in-Err.error refl (omega (arith, c.if-self-eq0.false)) refl refl refl (λ want. absurd (cc (c.is_want.ensures.all want, c.if-is_want.false))) c.in-Err.ensures.missed }

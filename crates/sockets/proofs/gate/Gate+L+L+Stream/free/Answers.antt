@@ -1,6 +1,16 @@
-use Rattle.std.proofs.Common.{[], ◌∷◌, ◌∙◌, refl, sym, arith}
-use Rattle.sockets.proofs.Moved.{goes_out, moves_none}
+use Rattle.std.proofs.Common.{[], ◌∷◌, ◌∙◌, refl, sym}
+use Rattle.sockets.proofs.Moved.{goes_out, passes_none, settled_of, went_none, went_one}
 use Rattle.sockets.proofs.gate.Gate+L+L+Stream.free.Goals as goal
 
 pub returns-in-Some-clause-moves : goal.returns-in-Some-clause-moves
-returns-in-Some-clause-moves g c = ?
+returns-in-Some-clause-moves g c =
+    let seat = c.in-Some.seat in
+    let settled = settled_of _ seat (sym c.free_slot.ensures.given ∙ c.in-Some.is) c.requires.settled in (
+      [],
+      seat ∷ [],
+      goes_out _ _ c.args.self.now _ seat refl refl refl refl refl settled c.close.ensures.closed,
+      went_one c.free_slot.result seat c.in-Some.is c.free_slot.ensures.changes,
+    )
+
+pub returns-in_default-clause-moves : goal.returns-in_default-clause-moves
+returns-in_default-clause-moves g c = ([], [], passes_none _ _ c.args.self.now, went_none c.free_slot.result c.in_default.is c.free_slot.ensures.changes)

@@ -1,12 +1,35 @@
-use Rattle.std.proofs.Common.{[], ◌∷◌, ◌∙◌, ap, length, refl, sym, arith}
-use Rattle.sockets.specs.declared.gate.Gate.{Gate}
-use Rattle.sockets.proofs.Moved.{admits_one, kept_is, lets_in, moves_called, moves_none, none_is, passes_still, turns_away}
+use Rattle.std.proofs.Common.{[], ◌++◌, ◌∷◌, ◌∙◌, refl, subst, sym, arith}
+use Rattle.sockets.specs.Listening.{unready}
+use Rattle.sockets.proofs.Moved.{comes_in, moves_called, moves_none, passes_still, puts_off}
 use Rattle.sockets.proofs.gate.Gate+L+L+Stream.let_in.Goals as goal
 
 pub returns-in_default : goal.returns-in_default
 returns-in_default g c = record { moves = moves_none _ _ _ _ c.args.self.now c.args.slots.now }
 
+pub returns-then-not-may_open : goal.returns-then-not-may_open
+returns-then-not-may_open g c = record { moves = moves_none _ _ _ _ c.args.self.now c.args.slots.now }
+
 pub returns-in_default-take : goal.returns-in_default-take
 returns-in_default-take g c =
-    let stays = passes_still _ _ c.args.self.now _ 0 (c.take.ensures.after ∙ (sym c.in_default-take.is ∙ c.take.ensures.value)) (omega arith) refl refl (λ log is. is) in
+    let stays = passes_still _ _ c.args.self.now _ (c.take.ensures.after ∙ (sym c.in_default-take.is ∙ c.take.ensures.value)) refl refl refl refl (λ log is. is) in
     record { moves = moves_called _ _ _ _ c.args.self.now _ c.args.slots.now stays }
+
+pub returns-in-Ok : goal.returns-in-Ok
+returns-in-Ok g c =
+    let seat = c.new_seat.result in
+    let new = c.new_seat.ensures in
+    let waits = sym c.take.ensures.value ∙ c.in-Some-take.is in
+    let comes = comes_in _ _ c.args.self.now _ c.in-Some-take.stream seat c.in-Ok.reader c.in-Ok.writer waits c.take.ensures.after refl refl (omega (arith, c.in-Some.ensures)) refl
+    (c.may_open.ensures c.if-not-may_open.false) c.in-Ok.ensures.ends new.reader new.writer new.new new.untouched c.in-Ok.ensures.opened in
+    record { moves = (seat ∷ [], [], comes, c.seat_in-index.ensures) }
+
+pub returns-in-Err : goal.returns-in-Err
+returns-in-Err g c =
+    let told = g.L.Listener.told in
+    let back = c.in-Err.field-0.stream in
+    let error = c.in-Err.field-0.error in
+    let others = c.put_off.ensures.others in
+    let waits = sym c.take.ensures.value ∙ c.in-Some-take.is in
+    let passes = puts_off _ _ c.args.self.now c.put_off.new.self c.in-Some-take.stream back c.take.new.self error waits c.in-Err.ensures.back c.put_off.ensures.guest c.take.ensures.after others.1 others.2
+    others.3 others.4 (λ log is. subst (λ l. told l (log ++ unready back error ∷ [])) (sym others.0) (c.in-Err.ensures.unready log is)) in
+    record { moves = moves_called _ _ _ _ c.args.self.now c.put_off.new.self c.args.slots.now passes }

@@ -3,8 +3,8 @@ use Rattle.sockets.proofs.sockets.Sockets.accept.Goals as goal
 
 pub returns-in-Came-clause-moves : goal.returns-in-Came-clause-moves
 returns-in-Came-clause-moves g c =
-    let called = moves_called _ _ _ _ c.args.self.now.gate c.call.new.self c.args.slots.now c.call.ensures in
+    let called = moves_called _ _ _ _ c.args.self.now.gate c.call.new.self c.args.slots.now c.call.ensures.passes in
     moves_then _ _ _ _ c.args.self.now.gate c.call.new.self c.let_in.new.self.gate c.args.slots.now c.args.slots.now c.let_in.new.slots called c.let_in.ensures.moves
 
 pub returns-in_default-clause-moves : goal.returns-in_default-clause-moves
-returns-in_default-clause-moves g c = moves_called _ _ _ _ c.args.self.now.gate c.call.new.self c.args.slots.now c.call.ensures
+returns-in_default-clause-moves g c = moves_called _ _ _ _ c.args.self.now.gate c.call.new.self c.args.slots.now c.call.ensures.passes

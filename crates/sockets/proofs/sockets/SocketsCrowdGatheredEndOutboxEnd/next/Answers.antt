@@ -8,12 +8,12 @@ steps-init g c = (moves_none _ _ _ _ c.args.self.now.gate c.args.slots.now, refl
 pub returns-in-Turn-clause-changes : goal.returns-in-Turn-clause-changes
 returns-in-Turn-clause-changes g c came gone met =
     let all = moves_then _ _ _ _ c.args.self.now.gate c.steps.self.gate c.go.new.self.gate c.args.slots.now c.steps.slots c.go.new.slots c.steps.invariant.0 c.go.ensures.moves in
-    let x = moves_met _ _ _ _ _ _ c.args.self.now.gate c.go.new.self.gate c.args.slots.now c.go.new.slots all came gone met in (x.0, x.1, x.2, x.3, λ numbers given gave. tt)
+    let x = moves_met _ _ _ _ _ _ _ c.args.self.now.gate c.go.new.self.gate c.args.slots.now c.go.new.slots all came gone met in (x.0, x.1, x.2, x.3, λ numbers given gave. tt)
 
 pub returns-in-Over-clause-changes : goal.returns-in-Over-clause-changes
 returns-in-Over-clause-changes g c came gone met =
     let all = moves_then _ _ _ _ c.args.self.now.gate c.steps.self.gate c.go.new.self.gate c.args.slots.now c.steps.slots c.go.new.slots c.steps.invariant.0 c.go.ensures.moves in
-    let x = moves_met _ _ _ _ _ _ c.args.self.now.gate c.go.new.self.gate c.args.slots.now c.go.new.slots all came gone met in (x.0, x.1, x.2, x.3, λ numbers given gave. tt)
+    let x = moves_met _ _ _ _ _ _ _ c.args.self.now.gate c.go.new.self.gate c.args.slots.now c.go.new.slots all came gone met in (x.0, x.1, x.2, x.3, λ numbers given gave. tt)
 
 pub steps-preserved : goal.steps-preserved
 steps-preserved g c = (
@@ -23,4 +23,4 @@ steps-preserved g c = (
 
 pub returns-clause-changes : goal.returns-clause-changes
 returns-clause-changes g c came gone met =
-    let x = moves_met _ _ _ _ _ _ c.args.self.now.gate c.steps.self.gate c.args.slots.now c.steps.slots c.steps.invariant.0 came gone met in (x.0, x.1, x.2, x.3, λ numbers given gave. tt)
+    let x = moves_met _ _ _ _ _ _ _ c.args.self.now.gate c.steps.self.gate c.args.slots.now c.steps.slots c.steps.invariant.0 came gone met in (x.0, x.1, x.2, x.3, λ numbers given gave. tt)

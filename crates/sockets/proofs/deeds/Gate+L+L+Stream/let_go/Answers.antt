@@ -1,0 +1,30 @@
+use Rattle.std.proofs.Common.{refl, arith}
+use Rattle.sockets.proofs.Freed.{sent_free, sent_length, sent_settled, sent_waits}
+use Rattle.sockets.proofs.Moved.{moves_none, moves_still, moves_then}
+use Rattle.sockets.proofs.deeds.Gate+L+L+Stream.let_go.Goals as goal
+
+pub returns-then-not-may_go-clause-moves : goal.returns-then-not-may_go-clause-moves
+returns-then-not-may_go-clause-moves g c = moves_none _ _ _ _ c.args.self.now c.args.slots.now
+
+pub free-requires : goal.free-requires
+free-requires g c =
+    let done = c.send_slot.ensures.done in
+    record {
+      within = omega (arith, c.requires, sent_length _ _ _ _ c.args.slots.now c.send_slot.new.slots c.args.index done);
+      counted = c.may_go.ensures c.if-not-may_go.false;
+      settled = sent_settled _ _ _ _ c.args.slots.now c.send_slot.new.slots c.args.index done c.in-Sent.is c.requires;
+    }
+
+pub returns-in-Waits-clause-moves : goal.returns-in-Waits-clause-moves
+returns-in-Waits-clause-moves g c = moves_still _ _ _ _ c.args.self.now c.args.slots.now c.send_slot.new.slots c.send_slot.ensures.changes
+
+pub returns-in-Waits-clause-does : goal.returns-in-Waits-clause-does
+returns-in-Waits-clause-does g c = (refl, sent_waits _ _ c.send_slot.result c.args.slots.now c.send_slot.new.slots c.args.index c.in-Waits.is c.send_slot.ensures.done)
+
+pub returns-in-Sent : goal.returns-in-Sent
+returns-in-Sent g c =
+    let sent = moves_still _ _ _ _ c.args.self.now c.args.slots.now c.send_slot.new.slots c.send_slot.ensures.changes in
+    record {
+      moves = moves_then _ _ _ _ c.args.self.now c.args.self.now c.free.new.self c.args.slots.now c.send_slot.new.slots c.free.new.slots sent c.free.ensures.moves;
+      does = sent_free _ _ _ _ c.args.slots.now c.send_slot.new.slots c.args.index c.send_slot.ensures.done c.free.new.slots c.free.ensures.freed;
+    }
