@@ -15,7 +15,7 @@ use Rattle.wire.specs.declared.outbox.Outbox.{Outbox}
 use Rattle.sockets.specs.Listening.{Event, IsWant, accepted, closed, missed, opened, unready}
 use Rattle.sockets.specs.declared.serving.Outcome.{Outcome}
 
--- nothing was read of a connection, or written to it, and no read or write of it has failed
+-- nothing of it is ahead or waits, and no read or write of it has failed
 pub record IsUntouched {E : Type 0} (seat : Seat (Gathered E) (Outbox E)) : Type 0 where
   pub untaken : ahead_of seat.standing ≡ []
   pub unread : ahead_in seat.reader.inner ≡ []
@@ -62,7 +62,8 @@ abbrev pub at_least_one : ℕ → ℕ
 at_least_one zero = 1
 at_least_one (suc n) = suc n
 
--- Of a listener's connections these came, and those went; the outcome tells how many came, and how many were refused. With one that
+-- Of a listener's connections these came, and those went; there are as many slots as may be open at a time; the outcome tells how many
+-- came, and how many were refused. With one that
 -- may wait still they are as many at the most as were to come. It tells that it was not broken off exactly where as many came or were
 -- refused as were to come, all that came have gone, and no slot is taken. before, after: what the listener tells, before and after.
 pub record Accepts {S E : Type 0} (before after : List (Event S E) → Type 0) (are_ends : S → E → E → Type 0) (connections most : ℕ)
@@ -71,6 +72,7 @@ pub record Accepts {S E : Type 0} (before after : List (Event S E) → Type 0) (
   pub waits : Option S
   pub tells : (log : List (Event S E)) → before log → after (log ++ events)
   pub admits : Admits are_ends most events waits came gone outcome.refused
+  pub room : length slots ≡ most
   pub counted : outcome.came ≡ length came
   pub within : length came + outcome.refused + length (those_of waits) ≤ connections
   pub all : outcome.is_whole ≡ true → outcome.came + outcome.refused ≡ connections

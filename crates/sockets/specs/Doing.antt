@@ -13,8 +13,8 @@ use Rattle.sockets.specs.declared.deeds.Report.{Report}
 use Rattle.sockets.specs.declared.deeds.Report.TheVariants as report
 
 -- It did this deed to the connection in the slot at p, and reports what came of it. One that was to go stays where something waits for
--- its peer. Or nothing was done: there is no such slot, or one more that goes could not be counted. remaining, contents: what the ends of a connection have left, and hold; left, given: the
--- same of its reader and its writer.
+-- its peer. Or nothing was done: there is no such slot, or it was to go and does not. remaining, contents: what the ends of a connection
+-- have left, and hold; left, given: the same of its reader and its writer.
 abbrev pub Does : {E : Type 0} → (E → Option (List ℕ)) → (E → Option (List ℕ)) → (Gathered E → Option (List ℕ)) → (Outbox E → Option (List ℕ)) → Deed → Report
     → List (Option (Seat (Gathered E) (Outbox E))) → List (Option (Seat (Gathered E) (Outbox E))) → ℕ → Type 0
 Does remaining contents left given one report.Nothing old new p = (new ≡ old) × ((one ≡ deed.Free) ⊎ (length old ≤ p))

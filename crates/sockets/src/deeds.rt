@@ -90,7 +90,7 @@ impl<L: Listener> Gate<L, L::Stream> {
     ghost use Rattle.sockets.specs.Doing.{Does};
     ghost use Rattle.sockets.specs.Moving.{Moves};
 
-    // Makes the slot free, if nothing waits for its peer any more, or a write to it failed. Else what waits is sent on.
+    // Sends on what waits. Where nothing waits any more, or a write failed, it makes the slot free.
     fn let_go(&mut self, slots: &mut [Option<Held<L::End>>], index: usize) -> Report
         requires { index < length slots.old }
         ensures moves { Moves L.told L.are_ends ⟦<Gathered<L::End> as Read>⟧.remaining

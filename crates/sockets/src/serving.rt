@@ -1,5 +1,5 @@
 //! A listener's connections, served by an office in turn.
-ghost use Rattle.std.specs.Prelude.{◌≡◌, ◌≤◌, ◌+◌, ℕ, List, cond, IfErr, IfOk, None, true};
+ghost use Rattle.std.specs.Prelude.{◌≡◌, ◌≤◌, ◌+◌, ℕ, List, cond, length, IfErr, IfOk, None, true};
 ghost use Rattle.office.specs.Crowds.{slot_at};
 ghost use Rattle.office.specs.Premise.{StaysUnstaged};
 ghost use Rattle.sockets.specs.Accepting.{ServesMany, at_least_one};
@@ -39,7 +39,8 @@ pub struct Outcome {
     pub came: u64,
     /// How many could not be accepted, or whose ends could not be made.
     pub refused: u64,
-    /// How many of those that came ended by a read or a write that failed, also since the peer was too slow.
+    /// How many of those that came ended by a failed read or write, also where the loop made it fail, of a peer that was too slow. One
+    /// whose session had ended, and whose answers could not be sent, is not among them.
     pub faulty: u64,
     /// Whether all that were to come have come, or were refused, and have gone. So it is, unless the loop took 2^64 - 1 steps or
     /// turns.
@@ -62,7 +63,8 @@ pub struct Served<L, E> {
 /// them. It ends once all have come, or were refused, and have gone. There is one order of all messages, in which the machine leads
 /// from the state before to the state after; each connection's answers, and its end, are those of its own messages; and over all of
 /// them an upload acts once. The listener tells what it did: each connection that it accepted came, once and in order, or was
-/// refused, or waits still; and each that went was given back to it, as it was when it went, behind its last answer.
+/// refused, or waited when the loop broke off; and each that went was given back to it, as it was when it went, once all that was
+/// written to it was sent, or a write of that failed.
 pub fn serve<K: Keeper, C: Clock, L: Listener, R: Net + time::Clock>(
     rt: &R,
     office: &mut Office<K>,
@@ -117,7 +119,8 @@ fn prepare<'a, L: Listener, R: Net + time::Clock>(
     listener: &L,
     limits: Limits,
 ) -> io::Result<(Book<'a, R, L>, Vec<Option<Held<L::End>>>)>
-    ensures { IfOk result (λ prepared. (p : ℕ) → slot_at prepared.1.items p ≡ None) }
+    ensures free { IfOk result (λ prepared. (p : ℕ) → slot_at prepared.1.items p ≡ None) }
+    ensures room { IfOk result (λ prepared. length prepared.1.items ≡ limits.«open») }
 {
     let book = Book::new(rt, alloc, listener, limits)?;
     let slots = free_slots(alloc, limits.open)?;
@@ -135,6 +138,7 @@ fn serve_through<K: Keeper, C: Clock, L: Listener, R: time::Clock, S: Start<L::S
     clock: &mut C,
 ) -> (L, Outcome)
     requires free { (p : ℕ) → slot_at slots.old p ≡ None }
+    requires room { length slots.old ≡ most }
     requires told { (log : List (Event L.Stream L.End)) → S.told log → L.told listener log }
     requires connections { connections ≡ S.connections }
     requires most { most ≡ S.most }
@@ -211,10 +215,11 @@ fn are_as_many(came: u64, gone: u64) -> bool
 
 // So many slots, all of them free.
 fn free_slots<S: Drop>(alloc: Global, n: usize) -> Result<Vec<Option<Held<S>>>, AllocError>
-    ensures { IfOk result (λ slots. (p : ℕ) → slot_at slots.items p ≡ None) }
+    ensures free { IfOk result (λ slots. (p : ℕ) → slot_at slots.items p ≡ None) }
+    ensures room { IfOk result (λ slots. length slots.items ≡ n) }
 {
     let mut slots = Vec::with_capacity(alloc, n)?;
-    'slots: for _ in 0..n {
+    'slots: for _index in 0..n {
         slots.push(None)?;
     }
     Ok(slots)

@@ -29,6 +29,7 @@ returns-clause-serves g c =
         waits = gate.guest;
         tells = λ log is. subst (λ l. told l (log ++ passed.events)) (sym close.listener) (passed.tells log is);
         admits = subst (λ n. Admits ends c.args.most passed.events gate.guest all.0 all.1 n) (sym refused) passed.admits;
+        room = c.serve_crowd-faulty.auto.slots ∙ c.requires.room;
         counted = passed.counted;
         within = omega (arith, passed.to_come, refused);
         all = λ whole. c.have_come-have_all_come.ensures.told ((c.are_all.ensures.each whole).0);
