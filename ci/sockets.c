@@ -1,18 +1,21 @@
-// Tells how sockets are set, for a test: of each setting that is one number, and was taken, a line `LEVEL NAME NUMBER` goes to
-// the file descriptor that SETTINGS_TOLD_TO names. It is loaded before the C library (LD_PRELOAD), into the proved program as it
-// was built (ci/serve.py). The toolchain has no headers of the C library, so what is called of it is declared here.
+// Tells how sockets send, for a test: of each socket that bytes are sent on, a line goes to the file descriptor that
+// SENDS_TOLD_TO names, 1 where it sends at once (TCP_NODELAY) by what the system tells, else 0. It is loaded before the C library
+// (LD_PRELOAD), into the proved program as it was built (ci/serve.py). The toolchain has no headers of the C library, so what is
+// called of it is declared here.
 extern char *getenv(const char *);
 extern long strtol(const char *, char **, int);
-extern long syscall(long, ...);
+extern int getsockopt(int, int, int, void *, unsigned int *);
+extern long sendto(int, const void *, unsigned long, int, const void *, unsigned int);
 extern int dprintf(int, const char *, ...);
 
-// The system's call setsockopt, on x86-64.
-enum { SETSOCKOPT = 54 };
+// The system's numbers of TCP's settings, and of this one.
+enum { IPPROTO_TCP = 6, TCP_NODELAY = 1 };
 
-int setsockopt(int socket, int level, int name, const void *value, unsigned int size)
+long send(int socket, const void *bytes, unsigned long size, int flags)
 {
-    int result = (int)syscall(SETSOCKOPT, socket, level, name, value, size);
-    if (result == 0 && size == sizeof(int))
-        dprintf((int)strtol(getenv("SETTINGS_TOLD_TO"), 0, 10), "%d %d %d\n", level, name, *(const int *)value);
-    return result;
+    int is_set = 0;
+    unsigned int length = sizeof(is_set);
+    getsockopt(socket, IPPROTO_TCP, TCP_NODELAY, &is_set, &length);
+    dprintf((int)strtol(getenv("SENDS_TOLD_TO"), 0, 10), "%d\n", is_set != 0);
+    return sendto(socket, bytes, size, flags, 0, 0);
 }

@@ -3,7 +3,7 @@ use crate::faults::Fault;
 use crate::opening::{OfficeWork, Purpose, work_over};
 use keeper::Keeper;
 use office::{MachineClock, Office};
-use sockets::{Limits, serve};
+use sockets::{Limits, send_at_once, serve};
 use std::io::Write;
 use std::net::{SocketAddr, SocketAddrV4, TcpListener};
 use std::time::Duration;
@@ -87,6 +87,9 @@ fn serve_at<'a, K: Keeper>(
     let Ok(listener) = TcpListener::bind(rt, SocketAddr::V4(service.address)) else {
         return Err(Fault::CannotListen);
     };
+    if send_at_once(&listener).is_err() {
+        return Err(Fault::CannotListen);
+    }
     if writeln!(out, "listening on {}", service.listen).is_err() || out.flush().is_err() {
         return Err(Fault::CannotWrite);
     }

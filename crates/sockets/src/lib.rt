@@ -21,4 +21,4 @@ mod stages;
 mod start;
 
 pub use serving::{Limits, Outcome, Served, serve};
-pub use socket::{End, Listener, TcpEnd, Unready};
+pub use socket::{End, Listener, TcpEnd, Unready, send_at_once};

@@ -6,7 +6,7 @@ use std::alloc::{AllocError, Global};
 use std::io;
 use std::io::{ErrorKind, Read, Write};
 use std::net::{Shutdown, TcpListener, TcpStream};
-use std::os::fd::{AsRawFd, RawFd};
+use std::os::fd::{AsRawFd, OwnedFd, RawFd};
 use std::rc::Rc;
 
 /// One end of a connection: what the peer sends is read from it, or what is written to it goes to the peer. Neither waits.
@@ -71,7 +71,7 @@ pub trait Listener: AsRawFd + Drop {
         ensures none { IfErr result (λ e. (log : Log Self.Stream Self.End)
             → told self.old log → told self.new log) };
 
-    /// Hands out the ends of a connection. From now on its reads and writes do not wait, and what is written goes out at once.
+    /// Hands out the ends of a connection. From now on its reads and writes do not wait.
     ///
     /// # Errors
     ///
@@ -152,10 +152,15 @@ impl End for TcpEnd {
     }
 }
 
-// From now on reads and writes of the stream do not wait, and what is written goes out at once.
-fn set_up(stream: &TcpStream) -> io::Result<()> {
-    stream.set_nonblocking(true)?;
-    stream.set_nodelay(true)
+/// Has the connections of the listener send at once what is written to them: those that come from now on.
+///
+/// # Errors
+///
+/// The system refused it, or descriptors are wanting.
+pub fn send_at_once(listener: &TcpListener) -> io::Result<()> {
+    // Of a listener on Linux a socket that is accepted takes the setting over.
+    let same = TcpStream::from(OwnedFd::from(listener.try_clone()?));
+    same.set_nodelay(true)
 }
 
 // Both ends of the stream, by which it is owned; or the stream, where memory is refused.
@@ -198,7 +203,7 @@ impl Listener for TcpListener {
         alloc: Global,
         stream: TcpStream,
     ) -> Result<(TcpEnd, TcpEnd), Unready<TcpStream>> {
-        if let Err(error) = set_up(&stream) {
+        if let Err(error) = stream.set_nonblocking(true) {
             let stream = Some(stream);
             return Err(Unready { stream, error });
         }
