@@ -94,8 +94,11 @@ impl<R: time::Clock, L: Listener> Book<'_, R, L> {
     /// Judges what is ahead between two turns, nothing, a part of a message, or a whole one; and reads on where more is to come.
     pub(crate) fn judge(&mut self, slots: &[Option<Held<L::End>>], index: usize) -> Option<Deed> {
         let ahead = seat_at(slots, index)?.reader.inner.ahead();
+        if ahead.is_empty() {
+            self.enter(index, Phase::Silent);
+            return self.read(slots, index);
+        }
         match message_len(ahead) {
-            _ if ahead.is_empty() => self.enter(index, Phase::Silent),
             Some(len) if len <= ahead.len() => return self.make_due(index),
             Some(len) => return self.ask_room(slots, index, len),
             None if self.phase(index) == Phase::Head => {}

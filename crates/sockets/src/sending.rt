@@ -7,13 +7,13 @@ use crate::socket::{End, Listener};
 use mio::unix::SourceFd;
 use mio::{Interest, Token};
 use office::SessionEnd;
-use std::io::{ErrorKind, Write};
+use std::io::ErrorKind;
 use std::net::Shutdown;
 use std::{io, time};
 use wire::{Room, Sending};
 
 impl<R: time::Clock, L: Listener> Book<'_, R, L> {
-    /// Its feed let go of this room. Behind a turn what was written is sent.
+    /// Its feed let go of this room. Behind a turn what was written and waits is sent.
     pub(crate) fn settled(
         &mut self,
         slots: &[Option<Held<L::End>>],
@@ -30,7 +30,7 @@ impl<R: time::Clock, L: Listener> Book<'_, R, L> {
             self.give_room_back(index);
         }
         self.enter(index, Phase::Silent);
-        if is_over(slots, index) {
+        if waiting_len(slots, index) == 0 {
             return self.go_on(slots, index);
         }
         Some(Deed::Send)
@@ -125,14 +125,6 @@ impl<R: time::Clock, L: Listener> Book<'_, R, L> {
         let stream = &seat_at(slots, index)?.reader.inner.inner;
         let _ = stream.shutdown(Shutdown::Both);
         Some(Deed::Send)
-    }
-}
-
-// Whether its session has ended, and nothing is to be sent any more.
-fn is_over<S: Write>(slots: &[Option<Held<S>>], index: usize) -> bool {
-    match seat_at(slots, index) {
-        Some(seat) => seat.end().is_some() && seat.writer.inner.waiting().is_empty(),
-        None => false,
     }
 }
 
