@@ -5,6 +5,7 @@ use crate::held::{Held, ahead_len, seat_at};
 use crate::peer::{BODY_STEP, Phase};
 use crate::rooms::OWN_ROOM;
 use crate::socket::Listener;
+use memchr::memchr_iter;
 use std::alloc::AllocError;
 use std::io::ErrorKind;
 use std::time;
@@ -98,6 +99,9 @@ impl<R: time::Clock, L: Listener> Book<'_, R, L> {
             self.enter(index, Phase::Silent);
             return self.read(slots, index);
         }
+        if has_only_heads(ahead) {
+            return self.make_due(index);
+        }
         match message_len(ahead) {
             Some(len) if len <= ahead.len() => return self.make_due(index),
             Some(len) => return self.ask_room(slots, index, len),
@@ -164,4 +168,14 @@ impl<R: time::Clock, L: Listener> Book<'_, R, L> {
             Err(_) => self.give_up(slots, index, ErrorKind::OutOfMemory),
         }
     }
+}
+
+// Whether the bytes end as a head does, and no field in them has a name that begins with C. Then none announces a body
+// (Content-Length), and the first message is whole: its length is not looked for.
+fn has_only_heads(bytes: &[u8]) -> bool {
+    bytes.ends_with(b"\r\n\r\n")
+        && !memchr_iter(b'\n', bytes).any(|at| matches!(
+            bytes.get(at.saturating_add(1)),
+            Some(b'C' | b'c')
+        ))
 }
