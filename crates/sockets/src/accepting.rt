@@ -1,11 +1,16 @@
 //! Connections that come.
-use crate::book::Book;
+use crate::book::{Book, LISTENER};
 use crate::gate::{Call, Entry};
 use crate::held::Held;
 use crate::peer::{Peer, Phase};
 use crate::socket::Listener;
 use crate::stages::{Stage, Step, Task};
-use std::time;
+use mio::Interest;
+use mio::unix::SourceFd;
+use std::{io, time};
+
+/// How many sockets told something in a round, and how many turns are due in the next, at the most, where it is calm.
+const FEW: usize = 2;
 
 impl<R: time::Clock, L: Listener> Book<'_, R, L> {
     /// What is done next for one to come, where one may: one that waits is let in, or the listener is asked. Where no slot is free
@@ -17,10 +22,10 @@ impl<R: time::Clock, L: Listener> Book<'_, R, L> {
             }
             return Some(Step::Go(Some(self.make_way()?)));
         }
-        if self.door.is_open() {
-            return Some(Step::Accept);
+        if !self.door.is_open() || self.rests_when_calm() {
+            return None;
         }
-        None
+        Some(Step::Accept)
     }
 
     /// Whether a slot is free.
@@ -84,6 +89,7 @@ impl<R: time::Clock, L: Listener> Book<'_, R, L> {
     // A connection has come into this slot. What is there is read at once: only one of which nothing is may go for others.
     fn opened(&mut self, slots: &[Option<Held<L::End>>], index: usize) -> Option<Task> {
         self.taken = self.taken.saturating_add(1);
+        self.door.let_in();
         if let Some(peer) = self.peers.get_mut(index) {
             *peer = Peer::free(self.now);
             peer.phase = Phase::Silent;
@@ -91,5 +97,23 @@ impl<R: time::Clock, L: Listener> Book<'_, R, L> {
         }
         let deed = self.read(slots, index)?;
         Some(Task { index, deed })
+    }
+
+    // Whether no other connection is asked for in this round: one came, and the next round comes soon. The wait between them tells
+    // whether another is there. That costs less than an `accept` that finds none, for which the system makes a socket and throws it
+    // away.
+    fn rests_when_calm(&mut self) -> bool {
+        let is_calm = self.ready.len() <= FEW && self.rounds.due_later() <= FEW;
+        if !self.door.has_let_in() || !is_calm || self.hear_of_others().is_err() {
+            return false;
+        }
+        self.door.rest();
+        true
+    }
+
+    // Has the next wait tell whether a connection is there.
+    fn hear_of_others(&self) -> io::Result<()> {
+        let registry = self.poll.registry();
+        registry.reregister(&mut SourceFd(&self.listener), LISTENER, Interest::READABLE)
     }
 }

@@ -15,7 +15,7 @@ use std::alloc::{AllocError, Global};
 use std::io::ErrorKind;
 use std::marker::PhantomData;
 use std::net::Net;
-use std::os::fd::AsRawFd;
+use std::os::fd::{AsRawFd, RawFd};
 use std::time::{Duration, Instant};
 use std::{io, mem, time};
 use wire::Room;
@@ -33,6 +33,8 @@ pub(crate) struct Book<'a, R, L: Listener> {
     pub(crate) alloc: Global,
     pub(crate) patience: Option<Duration>,
     pub(crate) poll: Poll,
+    /// The number by which the system knows the listener's socket.
+    pub(crate) listener: RawFd,
     pub(crate) events: Events,
     /// What the last wait told.
     pub(crate) ready: Vec<Event>,
@@ -86,6 +88,7 @@ impl<'a, R: Net + time::Clock, L: Listener> Book<'a, R, L> {
             alloc,
             patience: limits.patience,
             poll,
+            listener: fd,
             events: Events::with_capacity(alloc, sources)?,
             ready: Vec::with_capacity(alloc, sources)?,
             buf: vec![in alloc; 0; MOST_READ]?,

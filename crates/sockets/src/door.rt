@@ -12,6 +12,8 @@ pub(crate) struct Door {
     coming: Coming,
     // Whether connections may be there: an event comes once, and holds until an `accept` would wait.
     is_ready: bool,
+    // Whether one came in since then.
+    has_let_in: bool,
     // From when on none is accepted for want of descriptors.
     paused: Option<Instant>,
 }
@@ -25,6 +27,7 @@ impl Door {
                 is_last: false,
             },
             is_ready: true,
+            has_let_in: false,
             paused: None,
         }
     }
@@ -39,9 +42,20 @@ impl Door {
         self.is_ready = true;
     }
 
-    /// None is there.
+    /// None is there, or an event comes for one that is.
     pub(crate) fn rest(&mut self) {
         self.is_ready = false;
+        self.has_let_in = false;
+    }
+
+    /// One came in.
+    pub(crate) fn let_in(&mut self) {
+        self.has_let_in = true;
+    }
+
+    /// Whether one came in since connections may be there.
+    pub(crate) fn has_let_in(&self) -> bool {
+        self.has_let_in
     }
 
     /// Whether no connection is to come any more.

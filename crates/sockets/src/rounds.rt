@@ -47,6 +47,11 @@ impl Rounds {
         self.later.is_empty()
     }
 
+    /// How many the next round has.
+    pub(crate) fn due_later(&self) -> usize {
+        self.later.len()
+    }
+
     /// Begins the next round.
     pub(crate) fn begin(&mut self) {
         self.now.clear();
