@@ -2,6 +2,7 @@
 use Rattle.std.proofs.Common.{◌≡◌, ◌<◌, ◌≤◌, ◌+◌, ◌-◌, ℕ, suc, Bool, true, false, List, [], ◌∷◌, ◌++◌, length, Option, Some, None, ◌⊎◌, inl, inr, refl, sym, ap, subst, ◌∙◌, append_assoc, arith}
 use Rattle.std.proofs.lemmas.List.{append-nil}
 use Rattle.std.specs.Io.KnownBytes.{Appends, Consumes, IsAtEnd, prepend_known}
+use Rattle.sigtext.specs.declared.field.Field.{Field}
 use Rattle.sigtext.specs.declared.refusal.Refusal.{Refusal}
 use Rattle.sigtext.specs.declared.refusal.Refusal.TheVariants as rule
 use Rattle.sigtext.specs.Request.{Request}
@@ -79,8 +80,8 @@ is_stream None Holds o = tt
 is_stream (Some p) Holds o = sym o.is
 
 -- what was told of what came, and of what broke off
-pub brought_by : (text : List ℕ) (old new reader : Option (List ℕ)) (p : Place) (x y : Came) → x ≡ y → Brings x text old new reader p → Brings y text old new reader p
-brought_by text old new reader p x y is h = subst (λ (z : Came). Brings z text old new reader p) is h
+pub brought_by : (fields : List Field) (old new reader : Option (List ℕ)) (p : Place) (x y : Came) → x ≡ y → Brings x fields old new reader p → Brings y fields old new reader p
+brought_by fields old new reader p x y is h = subst (λ (z : Came). Brings z fields old new reader p) is h
 
 pub broke_off_by : (p : Place) (old reader : Option (List ℕ)) (x y : WireFault) → x ≡ y → BreaksOff x p old reader → BreaksOff y p old reader
 broke_off_by p old reader x y is h = subst (λ (z : WireFault). BreaksOff z p old reader) is h

@@ -1,9 +1,8 @@
 //! Rows of `wire`: heads of messages, and answers.
 use crate::row::{Line, Row, RowFault};
 use crate::texts::refusal_named;
-use sigtext::Field;
 use std::alloc::Global;
-use wire::{Answer, Counted, Reply, head_end, put_answer, read_head};
+use wire::{Answer, Counted, MOST_FIELDS, NO_FIELD, Reply, head_end, put_answer, read_head};
 
 /// Whether the row is one of these calls; then it is answered.
 pub(crate) fn answer(alloc: Global, row: &Row<'_>, line: &mut Line) -> Result<bool, RowFault> {
@@ -31,14 +30,9 @@ fn end_of_head(alloc: Global, row: &Row<'_>, line: &mut Line) -> Result<(), RowF
     Ok(())
 }
 
-const NO_FIELD: Field<'static> = Field {
-    name: b"",
-    value: b"",
-};
-
 /// Bytes: the method, the target and the fields of the head that they are, or `none`.
 fn read(row: &Row<'_>, line: &mut Line) -> Result<(), RowFault> {
-    let mut fields = [NO_FIELD; 64];
+    let mut fields = [NO_FIELD; MOST_FIELDS];
     let Some(head) = read_head(row.word(0)?, &mut fields) else {
         return Ok(line.put(b"none")?);
     };

@@ -1,5 +1,5 @@
 //! The parameters of a target in canonical order.
-ghost use Rattle.std.specs.Prelude.{◌≡◌, ◌≢◌, ◌∷◌, [], ℕ, List, IfOk, IfErr, IfSome, IfNone, map};
+ghost use Rattle.std.specs.Prelude.{◌≡◌, ◌≢◌, ◌∷◌, [], ℕ, List, IfOk, IfErr, IfSome, IfNone, IsTrue, map};
 ghost use Rattle.percent_encoding.specs.Percent as percent;
 ghost use Rattle.sigtext.specs.declared.encode.Slash.TheVariants as slash;
 ghost use Rattle.sigtext.specs.Spelling.{Spells};
@@ -87,11 +87,22 @@ fn encoded_rank(byte: u8) -> (bool, u8)
     (!is_escaped, byte)
 }
 
+// Whether the text has nothing to be decoded or encoded.
+fn is_plain(text: &[u8]) -> bool
+    ensures { IsTrue result → uri_encoded slash.Encoded (percent.percent_decode text.now) ≡ text.now }
+{
+    let set = escaped(Slash::Encoded);
+    !text.iter().any(|byte| set.should_percent_encode(*byte))
+}
+
 // The order of the two raw names once they are decoded and encoded.
 fn compare_names(a: &[u8], b: &[u8]) -> Ordering
     ensures { result ≡ bytes_cmp (uri_encoded slash.Encoded (percent.percent_decode a.now))
         (uri_encoded slash.Encoded (percent.percent_decode b.now)) }
 {
+    if is_plain(a) && is_plain(b) {
+        return a.cmp(b);
+    }
     percent_decode(a)
         .map(encoded_rank)
         .cmp(percent_decode(b).map(encoded_rank))

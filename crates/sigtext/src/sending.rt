@@ -6,6 +6,7 @@ ghost use Rattle.sigtext.specs.Sinks.{TakesBeginning};
 ghost use Rattle.sigtext.specs.UriEncode.{uri_encoded};
 
 use crate::encode::{Slash, escaped};
+use crate::escapes::has_no_escape;
 use crate::sink::ByteSink;
 use percent_encoding::{percent_decode, percent_encode};
 use std::alloc::AllocError;
@@ -41,6 +42,9 @@ pub(crate) fn send_recoded<S: ByteSink>(
         (uri_encoded slash (percent.percent_decode raw.now)) sink.new) }
     ensures sure { S.never_fails ≡ true → IsOk result }
 {
+    if has_no_escape(raw) {
+        return send_encoded(raw, slash, sink);
+    }
     for byte in percent_decode(raw) {
         send_encoded(&[byte], slash, sink)?;
     }

@@ -1,10 +1,11 @@
 //! Feeds over streams that are cut, slow, or break off or a rule.
 use sigtext::Refusal;
 use std::alloc::Global;
+use std::io::Read;
 use std::test::Fail;
 use trials::fakes::Source;
 use trials::staged::body;
-use wire::{Counted, Feed, Piece, Step, WireFault};
+use wire::{Counted, Feed, MOST_FIELDS, MOST_HEAD, NO_FIELD, Piece, Step, WireFault};
 
 pub(crate) const GET: &[u8] = b"GET /b HTTP/1.1\r\n\r\n";
 
@@ -40,6 +41,32 @@ pub(crate) fn many_fields(alloc: Global, count: usize) -> Result<Vec<u8>, Fail> 
     Ok(head)
 }
 
+// What was told of a head.
+#[derive(Clone, Copy, Debug)]
+struct Told {
+    // Whether it is the whole text of `GET`.
+    is_get: bool,
+    has_length: bool,
+    length: usize,
+}
+
+// What a feed tells next.
+fn next<R: Read>(feed: &mut Feed<'_, R>) -> Result<Step<Told>, WireFault> {
+    let mut text = [0; MOST_HEAD];
+    let mut fields = [NO_FIELD; MOST_FIELDS];
+    match feed.next(&mut text, &mut fields) {
+        Ok(Step::Head(opening)) => Ok(Step::Head(Told {
+            is_get: opening.text == GET && opening.head.method == b"GET",
+            has_length: opening.has_length,
+            length: opening.length,
+        })),
+        Ok(Step::Refused(refusal)) => Ok(Step::Refused(refusal)),
+        Ok(Step::End) => Ok(Step::End),
+        Ok(Step::Truncated) => Ok(Step::Truncated),
+        Err(fault) => Err(fault),
+    }
+}
+
 // The pieces of the body that is open, joined, and the length of the longest.
 fn joined(alloc: Global, feed: &mut Feed<'_, Source<'_>>) -> Result<(Vec<u8>, usize), Fail> {
     let mut bytes = Vec::new(alloc);
@@ -66,11 +93,13 @@ fn is_fed(alloc: Global, stream: &[u8], size: usize, at_once: usize) -> Result<b
         fails: false,
     });
     let mut feed = Feed::new(alloc, &mut reader);
-    let put = matches!(feed.next(), Ok(Step::Head(head)) if head.length == size && head.has_length);
+    let put =
+        matches!(next(&mut feed), Ok(Step::Head(head)) if head.length == size && head.has_length);
     let (bytes, longest) = joined(alloc, &mut feed)?;
-    let get = matches!(feed.next(), Ok(Step::Head(head)) if head.text == GET && !head.has_length);
+    let get = matches!(next(&mut feed), Ok(Step::Head(head)) if head.is_get && !head.has_length);
     let (none, _) = joined(alloc, &mut feed)?;
-    let ended = matches!(feed.next(), Ok(Step::End)) && matches!(feed.next(), Ok(Step::End));
+    let ended = matches!(next(&mut feed), Ok(Step::End))
+        && matches!(next(&mut feed), Ok(Step::End));
     let whole = bytes.as_slice() == body(alloc, size)?.as_slice();
     Ok(put && whole && longest <= 65536 && get && none.is_empty() && ended)
 }
@@ -105,7 +134,7 @@ fn refusal_of(alloc: Global, stream: &[u8], at_once: usize) -> Option<Refusal> {
         fails: false,
     });
     let mut feed = Feed::new(alloc, &mut reader);
-    match feed.next() {
+    match next(&mut feed) {
         Ok(Step::Refused(refusal)) => Some(refusal),
         _ => None,
     }
@@ -167,8 +196,8 @@ fn heads_have_edges(rt: HostRuntime) -> Result<(), Fail> {
 fn a_refusal_ends_the_feed(rt: HostRuntime) {
     let mut reader = Counted::new(Source::whole(b"GET /a\r\n\r\nGET /b HTTP/1.1\r\n\r\n"));
     let mut feed = Feed::new(rt.alloc(), &mut reader);
-    assert!(rt; matches!(feed.next(), Ok(Step::Refused(Refusal::HeadMalformed))));
-    assert!(rt; matches!(feed.next(), Ok(Step::End)));
+    assert!(rt; matches!(next(&mut feed), Ok(Step::Refused(Refusal::HeadMalformed))));
+    assert!(rt; matches!(next(&mut feed), Ok(Step::End)));
     assert!(rt; matches!(feed.piece(), Ok(Piece::Done)));
 }
 
@@ -176,11 +205,11 @@ fn a_refusal_ends_the_feed(rt: HostRuntime) {
 fn a_body_that_lacks_is_refused(rt: HostRuntime) {
     let mut reader = Counted::new(Source::whole(b"PUT /a HTTP/1.1\r\nContent-Length: 3\r\n\r\nab"));
     let mut feed = Feed::new(rt.alloc(), &mut reader);
-    assert!(rt; matches!(feed.next(), Ok(Step::Head(_))));
+    assert!(rt; matches!(next(&mut feed), Ok(Step::Head(_))));
     assert!(rt; matches!(feed.piece(), Ok(Piece::Bytes(b"ab"))));
     assert!(rt; matches!(feed.piece(), Ok(Piece::Refused(Refusal::BodyIncomplete))));
     assert!(rt; matches!(feed.piece(), Ok(Piece::Done)));
-    assert!(rt; matches!(feed.next(), Ok(Step::End)));
+    assert!(rt; matches!(next(&mut feed), Ok(Step::End)));
 }
 
 #[test]
@@ -188,10 +217,10 @@ fn a_next_before_the_body_is_done_ends_the_feed(rt: HostRuntime) -> Result<(), F
     let stream = two_messages(rt.alloc(), 5)?;
     let mut reader = Counted::new(Source::whole(&stream));
     let mut feed = Feed::new(rt.alloc(), &mut reader);
-    assert!(rt; matches!(feed.next(), Ok(Step::Head(_))));
-    assert!(rt; matches!(feed.next(), Ok(Step::End)));
+    assert!(rt; matches!(next(&mut feed), Ok(Step::Head(_))));
+    assert!(rt; matches!(next(&mut feed), Ok(Step::End)));
     assert!(rt; matches!(feed.piece(), Ok(Piece::Done)));
-    assert!(rt; matches!(feed.next(), Ok(Step::End)));
+    assert!(rt; matches!(next(&mut feed), Ok(Step::End)));
     Ok(())
 }
 
@@ -204,12 +233,12 @@ fn a_failed_read_comes_behind_what_was_read(rt: HostRuntime) -> Result<(), Fail>
         fails: true,
     });
     let mut feed = Feed::new(rt.alloc(), &mut reader);
-    assert!(rt; matches!(feed.next(), Ok(Step::Head(_))));
+    assert!(rt; matches!(next(&mut feed), Ok(Step::Head(_))));
     assert_eq!(rt; joined(rt.alloc(), &mut feed)?.0.len(), 5);
-    assert!(rt; matches!(feed.next(), Ok(Step::Head(_))));
+    assert!(rt; matches!(next(&mut feed), Ok(Step::Head(_))));
     assert_eq!(rt; joined(rt.alloc(), &mut feed)?.0.len(), 0);
-    assert!(rt; matches!(feed.next(), Err(WireFault::Read)));
-    assert!(rt; matches!(feed.next(), Ok(Step::End)));
+    assert!(rt; matches!(next(&mut feed), Err(WireFault::Read)));
+    assert!(rt; matches!(next(&mut feed), Ok(Step::End)));
     assert_eq!(rt; feed.into_reader().faults(), 1);
     Ok(())
 }

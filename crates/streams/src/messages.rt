@@ -1,14 +1,18 @@
 //! Heads of streams that are cut, slow, or break off or a rule, and bodies that nobody keeps.
-ghost use Rattle.std.specs.Prelude.{IfOk, IsTrue};
+ghost use Rattle.std.specs.Prelude.{◌≡◌, IfOk, IsTrue};
 ghost use Rattle.wire.specs.Feeds.{place_of};
 ghost use Rattle.wire.specs.Whole.{MayBegin};
+ghost use Rattle.wire.specs.declared.feed.Place.TheVariants as stands;
 
 use crate::feeds::{GET, long_head, many_fields, two_messages};
 use sigtext::Refusal;
 use std::alloc::Global;
 use std::test::Fail;
 use trials::fakes::{FailsOnce, Source};
-use wire::{Came, Counted, Ending, Feed, MOST_HEAD, WireFault, read_opening, skip_body};
+use wire::{
+    Came, Counted, Ending, Feed, MOST_FIELDS, MOST_HEAD, NO_FIELD, Opening, WireFault,
+    read_opening, skip_body,
+};
 
 // What reading a stream to its end gave.
 #[derive(Debug, Drop)]
@@ -21,36 +25,39 @@ struct Outcome {
     messages: usize,
     lengths: usize,
     // What came in place of the next message; for a body that lacks this is refusal 6.
-    end: Result<Came, WireFault>,
+    end: Result<Came<'static>, WireFault>,
     faults: u64,
 }
 
 impl Outcome {
     // Reads a message, of whose body nothing is kept; tells whether another may follow.
-    fn read_one(
-        &mut self,
-        feed: &mut Feed<'_, Source<'_>>,
-        head: &mut [u8; MOST_HEAD],
-    ) -> Result<bool, Fail>
+    fn read_one(&mut self, feed: &mut Feed<'_, Source<'_>>) -> Result<bool, Fail>
         requires { MayBegin (place_of feed.old) }
         ensures { IfOk result (λ goes_on. IsTrue goes_on → MayBegin (place_of feed.new)) }
     {
-        let (size, has_length, length) = match read_opening(feed, head) {
-            Ok(
-                Came::Head {
-                    size,
-                    has_length,
-                    length,
-                },
-            ) => (size, has_length, length),
-            end => {
-                self.end = end;
-                return Ok(false);
-            }
+        let mut text = [0; MOST_HEAD];
+        let mut fields = [NO_FIELD; MOST_FIELDS];
+        self.end = match read_opening(feed, &mut text, &mut fields) {
+            Ok(Came::Head(opening)) => return self.read_body(feed, &opening),
+            Ok(Came::Refused(refusal)) => Ok(Came::Refused(refusal)),
+            Ok(Came::End) => Ok(Came::End),
+            Ok(Came::Truncated) => Ok(Came::Truncated),
+            Err(fault) => Err(fault),
         };
-        self.text
-            .extend_from_slice(head.get(..size).unwrap_or(b""))?;
-        match skip_body(feed, length) {
+        Ok(false)
+    }
+
+    // Reads the body of a message that was opened.
+    fn read_body(
+        &mut self,
+        feed: &mut Feed<'_, Source<'_>>,
+        opening: &Opening<'_>,
+    ) -> Result<bool, Fail>
+        requires { place_of feed.old ≡ stands.Body opening.now.length }
+        ensures { IfOk result (λ goes_on. IsTrue goes_on → MayBegin (place_of feed.new)) }
+    {
+        self.text.extend_from_slice(opening.text)?;
+        match skip_body(feed, opening.length) {
             Ok(Ending::Whole) => {}
             Ok(Ending::Lacking) => {
                 self.end = Ok(Came::Refused(Refusal::BodyIncomplete));
@@ -61,9 +68,11 @@ impl Outcome {
                 return Ok(false);
             }
         }
-        self.skipped = self.skipped.saturating_add(length);
+        self.skipped = self.skipped.saturating_add(opening.length);
         self.messages = self.messages.saturating_add(1);
-        self.lengths = self.lengths.saturating_add(if has_length { 1 } else { 0 });
+        self.lengths = self
+            .lengths
+            .saturating_add(if opening.has_length { 1 } else { 0 });
         Ok(true)
     }
 }
@@ -72,7 +81,6 @@ impl Outcome {
 fn read_all(alloc: Global, reader: Source<'_>) -> Result<Outcome, Fail> {
     let mut reader = Counted::new(reader);
     let mut feed = Feed::new(alloc, &mut reader);
-    let mut head = [0; MOST_HEAD];
     let mut got = Outcome {
         text: Vec::new(alloc),
         skipped: 0,
@@ -82,7 +90,7 @@ fn read_all(alloc: Global, reader: Source<'_>) -> Result<Outcome, Fail> {
         faults: 0,
     };
     'messages: for _ in 0..9 {
-        if !got.read_one(&mut feed, &mut head)? {
+        if !got.read_one(&mut feed)? {
             break;
         }
     }
@@ -238,8 +246,9 @@ fn a_broken_rule_is_told_behind_a_message(rt: HostRuntime) -> Result<(), Fail> {
 fn a_read_that_fails_once_is_not_tried_again(rt: HostRuntime) {
     let mut reader = Counted::new(FailsOnce { calls: 0 });
     let mut feed = Feed::new(rt.alloc(), &mut reader);
-    let mut head = [0; MOST_HEAD];
-    assert_eq!(rt; read_opening(&mut feed, &mut head), Err(WireFault::Read));
+    let (mut text, mut fields) = ([0; MOST_HEAD], [NO_FIELD; MOST_FIELDS]);
+    let came = read_opening(&mut feed, &mut text, &mut fields);
+    assert_eq!(rt; came, Err(WireFault::Read));
     let reader = feed.into_reader();
     assert_eq!(rt; (reader.inner.calls, reader.faults()), (1, 1));
 }

@@ -4,7 +4,8 @@ use std::io;
 use std::io::{ErrorKind, Read, Write};
 use std::test::Fail;
 use wire::{
-    Counted, Feed, Gathered, Gathering, Outbox, Room, Sending, Standing, Step, message_len,
+    Counted, Feed, Gathered, Gathering, MOST_FIELDS, MOST_HEAD, NO_FIELD, Outbox, Room, Sending,
+    Standing, Step, message_len,
 };
 
 const TEXT: &[u8] = b"GET /a HTTP/1.1\r\n\r\nGET /b HTTP/1.1\r\n\r\n";
@@ -49,7 +50,9 @@ fn what_a_feed_leaves_is_put_back(rt: HostRuntime) -> Result<(), Fail> {
     reader.inner.fail(io::Error::from(ErrorKind::TimedOut));
     let (standing, room) = (Standing::new(rt.alloc()), Room::new(rt.alloc())?);
     let mut feed = Feed::resume(standing, room, &mut reader);
-    assert!(rt; matches!(feed.next(), Ok(Step::Head(head)) if head.text == &TEXT[..19]));
+    let (mut text, mut fields) = ([0; MOST_HEAD], [NO_FIELD; MOST_FIELDS]);
+    let came = feed.next(&mut text, &mut fields);
+    assert!(rt; matches!(came, Ok(Step::Head(head)) if head.text == &TEXT[..19]));
     let (mut standing, _) = feed.set_aside();
     drop(feed);
     assert_eq!(rt; standing.ahead(), &TEXT[19..]);

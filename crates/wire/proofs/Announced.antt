@@ -1,6 +1,5 @@
 -- What fields announce, and why they announce nothing.
-use Rattle.std.proofs.Common.{◌≡◌, ℕ, Bool, true, false, List, [], ◌∷◌, codes, sym, ap, subst, ◌∙◌, Result, Ok, Err}
-use Rattle.std.specs.Prelude.{IfErr}
+use Rattle.std.proofs.Common.{◌≡◌, ℕ, Bool, true, false, List, [], ◌∷◌, codes, sym, ap, subst, ◌∙◌}
 use Rattle.httparse.specs.Grammar.{RequestHead}
 use Rattle.sigtext.specs.declared.refusal.Refusal.{Refusal}
 use Rattle.sigtext.specs.SignedHeaders.{Header, named}
@@ -25,17 +24,12 @@ pub no_form : (headers : List Header) (h : Header) → named (codes "content-len
 no_form headers h one bad has_length n (framing.nothing none) = apart h (sym one ∙ none)
 no_form headers h one bad has_length n (framing.given k _ single is) = bad n (subst (λ (x : Header). IsLength x.value n) (same k h (sym single ∙ one)) is)
 
-fields_break : (text : List ℕ) (head : RequestHead) (headers : List Header) (r : Refusal) → IsHead text head → headers ≡ headers_of head → FieldsBreak headers r → Breaks text r
+pub fields_break : (text : List ℕ) (head : RequestHead) (headers : List Header) (r : Refusal) → IsHead text head → headers ≡ headers_of head → FieldsBreak headers r → Breaks text r
 fields_break text head headers r h e (breaks.by_coding coded) = breaks.coded head h (subst framing.IsCoded e coded)
 fields_break text head headers r h e (breaks.by_form uncoded none) =
     breaks.no_length head h (ap (named (codes "transfer-encoding")) (sym e) ∙ uncoded) (λ has_length n a. none has_length n (subst (λ (hs : List Header). Announces hs has_length n) (sym e) a))
 fields_break text head headers r h e (breaks.by_size n uncoded announces large) =
     breaks.too_large head n (record { is_head = h; uncoded = ap (named (codes "transfer-encoding")) (sym e) ∙ uncoded; announces = subst (λ (hs : List Header). Announces hs true n) e announces }) large
-
-pub result_breaks : {T : Type 0} (result : Result T Refusal) (text : List ℕ) (head : RequestHead) (headers : List Header) → IsHead text head → headers ≡ headers_of head
-    → IfErr result (FieldsBreak headers) → IfErr result (Breaks text)
-result_breaks (Ok body) text head headers h e breaks = tt
-result_breaks (Err r) text head headers h e breaks = fields_break text head headers r h e breaks
 
 pub different : (b : Bool) → b ≡ true → b ≡ false → ⊥
 different b p q = cc

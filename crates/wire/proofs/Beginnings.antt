@@ -4,6 +4,8 @@ use Rattle.wire.specs.declared.fault.WireFault.{WireFault}
 use Rattle.wire.specs.declared.feed.Place.{Place}
 use Rattle.wire.specs.declared.feed.Place.TheVariants as place
 use Rattle.wire.specs.Feeding.{StepTold, Opened, Finds, GivesStep, told}
+use Rattle.sigtext.specs.declared.field.Field.{Field}
+use Rattle.wire.specs.Openings.{ArePartsOf, OpensWith}
 use Rattle.wire.specs.Whole.{MayBegin}
 use Rattle.wire.specs.declared.feed.Opening.{Opening}
 use Rattle.wire.specs.declared.feed.Step.{Step}
@@ -54,3 +56,6 @@ pub placed_by : (p q : Place) (known reader : Option (List ℕ)) (waits : List �
     → GivesStep p known (told result) q waits reader → q ≡ place.Body h.length
 placed_by p q known reader waits result h is m s =
     placed_there p q known reader h.text.now waits h.has_length h.length m (subst (λ (r : Result (Step Opening) WireFault). GivesStep p known (told r) q waits reader) is s)
+
+pub parts_by : (fields : List Field) (result : Result (Step Opening) WireFault) (h : Opening) → result ≡ Ok (Head h) → OpensWith fields result → ArePartsOf h.text.now h.head fields
+parts_by fields result h is o = subst (OpensWith fields) is o

@@ -3,10 +3,8 @@ use Rattle.std.proofs.Common.{◌≡◌, ◌<◌, ◌≤◌, ◌-◌, ℕ, Bool,
 use Rattle.std.specs.Prelude.{IfSome}
 use Rattle.std.specs.Io.KnownBytes.{Consumes}
 use Rattle.std.proofs.KnownBytes.{Consumes-trans}
-use Rattle.wire.specs.Whole.{IsOpening}
 use Rattle.wire.proofs.NextMessages.{IsNextMessage}
 use Rattle.std.proofs.lemmas.List.{length-take-le}
-use Rattle.std.proofs.Math.Seq.{take-append_seam}
 use Rattle.httparse.specs.Grammar.{RequestHead}
 use Rattle.sigtext.specs.declared.refusal.Refusal.TheVariants as rule
 use Rattle.wire.specs.Framing.{IsFront, HasHead, Announces, Next, Message, Refused, request_of, headers_of}
@@ -100,9 +98,3 @@ lacking_joined (Some stream) mid text has_length n o (rest, front, e) some few =
       is = refl;
       holds = lacking stream o.head has_length n [] n rest start (subst (λ (m : Option (List ℕ)). IfSome m (λ rest. length rest < n)) e few);
     }
-
--- the text was copied to the front of an array
-pub copied : (new text rest : List ℕ) (has_length : Bool) (n : ℕ) (known after : Option (List ℕ)) → new ≡ text → IsOpening text has_length n known after
-    → IsOpening (take (length text) (new ++ rest)) has_length n known after
-copied new text rest has_length n known after e h =
-    subst (λ (t : List ℕ). IsOpening t has_length n known after) (sym (ap (λ (t : List ℕ). take (length text) (t ++ rest)) e ∙ take-append_seam text rest)) h

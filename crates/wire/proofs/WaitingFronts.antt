@@ -3,7 +3,7 @@ use Rattle.std.proofs.Common.{◌≡◌, ◌<◌, ◌≤◌, ◌+◌, ◌-◌, �
 use Rattle.std.specs.Prelude.{IfSome}
 use Rattle.std.specs.Io.KnownBytes.{IsAtEnd, Keeps, prepend_known}
 use Rattle.std.proofs.lemmas.List.{length-take, length-take-le, take-take, take_all, take-append-le, append-nil}
-use Rattle.std.proofs.Math.Seq.{take-append-add}
+use Rattle.std.proofs.Math.Seq.{take-append-add, take-append_seam}
 use Rattle.sigtext.specs.Refusals.{number_of}
 use Rattle.sigtext.specs.declared.refusal.Refusal.{Refusal}
 use Rattle.sigtext.specs.declared.refusal.Refusal.TheVariants as rule
@@ -98,6 +98,14 @@ front_further text more f = record { whole = refl; ends = f.ends; short = f.shor
 
 pub text_alone : (waits text : List ℕ) (n : ℕ) → IsHeadEnd (take 8192 waits) n → text ≡ take n waits → IsFront text text []
 text_alone waits text n h t = front_alone (waits ++ []) text (drop n waits ++ []) (front_of waits [] text (drop n waits) n h t refl)
+
+-- the text was copied to the front of an array
+pub text_copied : (waits text new behind : List ℕ) (n : ℕ) → IsHeadEnd (take 8192 waits) n → new ≡ text → text ≡ take n waits → take n (new ++ behind) ≡ take n waits
+text_copied waits text new behind n h e t =
+    let within : n ≤ length waits = omega (arith, h.within, length-take 8192 waits) in
+    let is : new ≡ take n waits = e ∙ t in
+    let size : length new ≡ n = ap length is ∙ length-take-le n waits within in
+    ap (λ (k : ℕ). take k (new ++ behind)) (sym size) ∙ take-append_seam new behind ∙ is
 
 pub opened : (known reader : Option (List ℕ)) (waits text after : List ℕ) (n : ℕ) → IsHeadEnd (take 8192 waits) n → text ≡ take n waits → after ≡ drop n waits
     → Keeps known (prepend_known waits reader) → IfSome known (λ stream. (rest : List ℕ) × IsFront stream text rest × (prepend_known after reader ≡ Some rest))

@@ -9,7 +9,7 @@ use Rattle.wire.specs.declared.gathered.Gathering.TheVariants as gathering
 abbrev pub ahead_in : {S : Type 0} → Gathered S → List ℕ
 ahead_in g = drop g.start g.bytes.items
 
--- a read failed as it gathered
+-- a read of it failed, or was made to fail
 abbrev pub HasFailed : {S : Type 0} → Gathered S → Type 0
 HasFailed g = IsSome g.fault
 

@@ -1,11 +1,12 @@
 -- Whole messages, and what was read where none came.
-use Rattle.std.specs.Prelude.{◌≡◌, ℕ, ◌<◌, ◌≤◌, ◌⊎◌, Bool, List, [], length, take, Option, Some, IfSome}
+use Rattle.std.specs.Prelude.{◌≡◌, ℕ, ◌<◌, ◌≤◌, ◌⊎◌, Bool, List, [], length, Option, Some, IfSome}
 use Rattle.std.specs.Io.KnownBytes.{Consumes, IsAtEnd}
-use Rattle.sigtext.specs.Limits.{most_head}
+use Rattle.sigtext.specs.declared.field.Field.{Field}
 use Rattle.sigtext.specs.Refusals.{number_of}
 use Rattle.wire.specs.Framing.{IsFront, Next, Message, request_of}
 use Rattle.wire.specs.Framing as framing
 use Rattle.wire.specs.Feeding.{AwaitsHead, OfStream, Opens}
+use Rattle.wire.specs.Openings.{ArePartsOf}
 use Rattle.wire.specs.Feeds.{left, place_of, reader_of}
 use Rattle.wire.specs.declared.feed.Feed.{Feed}
 use Rattle.wire.specs.declared.fault.WireFault.{WireFault}
@@ -25,15 +26,15 @@ pub record IsOpening (text : List ℕ) (has_length : Bool) (n : ℕ) (old new : 
   pub opens : Opens text has_length n
   pub front : IfSome old (λ stream. (rest : List ℕ) × IsFront stream text rest × (new ≡ Some rest))
 
--- What was read. text: the array that a head was put into; old and new: what was left of the stream; reader: what the reader
--- has now; p: where the feed stands now.
-abbrev pub Brings : Came → List ℕ → Option (List ℕ) → Option (List ℕ) → Option (List ℕ) → Place → Type 0
-Brings (came.Head size has_length n) text old new reader p =
-    (size ≤ most_head) × (p ≡ place.Body n) × IsOpening (take size text) has_length n old new
-Brings (came.Refused r) text old new reader p =
+-- What was read. fields: the array that the fields of a head were put into; old and new: what was left of the stream; reader:
+-- what the reader has now; p: where the feed stands now.
+abbrev pub Brings : Came → List Field → Option (List ℕ) → Option (List ℕ) → Option (List ℕ) → Place → Type 0
+Brings (came.Head h) fields old new reader p =
+    (p ≡ place.Body h.length) × IsOpening h.text.now h.has_length h.length old new × ArePartsOf h.text.now h.head fields
+Brings (came.Refused r) fields old new reader p =
     (p ≡ place.Over) × (0 < number_of r) × (number_of r ≤ 5) × OfStream old (λ stream. Next stream (framing.Refused r) [])
-Brings came.End text old new reader p = (p ≡ place.Over) × IsAtEnd reader × OfStream old (λ stream. Next stream framing.Ended [])
-Brings came.Truncated text old new reader p = (p ≡ place.Over) × IsAtEnd reader × OfStream old (λ stream. Next stream framing.Truncated [])
+Brings came.End fields old new reader p = (p ≡ place.Over) × IsAtEnd reader × OfStream old (λ stream. Next stream framing.Ended [])
+Brings came.Truncated fields old new reader p = (p ≡ place.Over) × IsAtEnd reader × OfStream old (λ stream. Next stream framing.Truncated [])
 
 -- What all the bytes that came hold where no head was read. At a failed read they don't tell the step yet. Where memory was
 -- refused, nothing was read. old: what was left of the stream; reader: what the reader has now; p: where the feed stood before.

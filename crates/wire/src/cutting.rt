@@ -3,36 +3,42 @@ ghost use Rattle.std.specs.Prelude.{◌≡◌, ◌≤◌, ◌<◌, [], ◌++◌,
 ghost use Rattle.std.specs.Io.KnownBytes.{Consumes, IsAtEnd, Keeps, prepend_known};
 ghost use Rattle.sigtext.specs.Counts.{CountsErrors};
 ghost use Rattle.wire.specs.Waiting.{taken, waiting};
-ghost use Rattle.wire.specs.Feeding.{Finds};
-ghost use Rattle.wire.specs.Cutting.{found_in, size_of};
+ghost use Rattle.wire.specs.Feeding.{Finds, told};
+ghost use Rattle.wire.specs.Openings.{OpensWith};
 
-use crate::announce::{Announced, read_announcement};
-use crate::backlog::{Backlog, ROOM};
+use crate::announce::read_announcement;
+use crate::backlog::{Backlog, MOST_HEAD, ROOM};
 use crate::counted::Counted;
 use crate::fault::WireFault;
-use crate::feed::Step;
+use crate::feed::{Opening, Step};
+use crate::head::MOST_FIELDS;
+use sigtext::Field;
 use std::io::Read;
 
 /// The most bytes of a piece.
 pub const MOST_PIECE: usize = 65_536;
 
-/// Finds what comes next on the stream. Of a head, so many bytes were taken; it announces that body.
-pub fn find<R: Read>(
+/// Finds what comes next on the stream. The text of a head is put to the front of the one array, and its fields to that of the
+/// other.
+pub fn find<'t, R: Read>(
     backlog: &mut Backlog,
     reader: &mut Counted<R>,
-) -> Result<Step<(usize, Announced)>, WireFault>
+    text: &'t mut [u8; MOST_HEAD],
+    fields: &mut [Field<'t>; MOST_FIELDS],
+) -> Result<Step<Opening<'t>>, WireFault>
     requires { vec_len backlog.old.bytes ≡ ROOM }
     ensures finds { Finds (prepend_known (waiting backlog.old) (R.remaining reader.old.inner))
-        (found_in backlog.new result) (waiting backlog.new) (R.remaining reader.new.inner) }
-    ensures size { size_of result ≤ backlog.new.start }
+        (told result) (waiting backlog.new) (R.remaining reader.new.inner) }
+    ensures parts { OpensWith fields.new result }
     ensures room { vec_len backlog.new.bytes ≡ ROOM }
     ensures count { CountsErrors reader.old.faults reader.new.faults result }
 {
     match backlog.read_head(reader) {
         Ok(Step::Head(size)) => {
             backlog.take(size);
-            match read_announcement(backlog.taken(size)) {
-                Ok(body) => Ok(Step::Head((size, body))),
+            text[..size].copy_from_slice(backlog.taken(size));
+            match read_announcement(&text[..size], fields) {
+                Ok(opening) => Ok(Step::Head(opening)),
                 Err(refusal) => Ok(Step::Refused(refusal)),
             }
         }

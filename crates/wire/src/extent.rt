@@ -6,7 +6,7 @@ ghost use Rattle.wire.specs.Heads.{HasNoHeadEnd};
 
 use crate::announce::read_announcement;
 use crate::backlog::MOST_HEAD;
-use crate::head::head_end;
+use crate::head::{MOST_FIELDS, NO_FIELD, head_end};
 
 /// How many bytes the message takes that the bytes begin with, its head and its body, as its head tells; `None` while more
 /// bytes are needed for its head. Of a head that breaks a rule it is the head alone, and `MOST_HEAD` where no head ends in so
@@ -30,8 +30,8 @@ fn len_with_body(head: &[u8]) -> usize
     requires { length head.now ≤ most_head }
     ensures { HeadTakes head.now result }
 {
-    match read_announcement(head) {
-        Ok(body) => head.len() + body.length,
+    match read_announcement(head, &mut [NO_FIELD; MOST_FIELDS]) {
+        Ok(opening) => head.len() + opening.length,
         Err(_) => head.len(),
     }
 }

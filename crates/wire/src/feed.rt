@@ -8,27 +8,29 @@ ghost use Rattle.wire.specs.Framing.{IsFront, Next, Message, Refused, request_of
 ghost use Rattle.wire.specs.Judging.{HeadAnnounces};
 ghost use Rattle.wire.specs.Feeding.{CountsReads, GivesPiece, GivesStep, Halfway, part, told};
 ghost use Rattle.wire.specs.Waiting.{waiting};
-ghost use Rattle.wire.specs.Cutting.{found_in, piece_size, size_of, taken_from};
+ghost use Rattle.wire.specs.Cutting.{piece_size, taken_from};
+ghost use Rattle.wire.specs.Openings.{OpensWith};
 ghost use Rattle.wire.specs.declared.feed.Place.TheVariants as stands;
 ghost use mir.Syntax.{named};
 
-use crate::announce::Announced;
-use crate::backlog::Backlog;
+use crate::backlog::{Backlog, MOST_HEAD};
 use crate::counted::Counted;
 use crate::cutting::{cut_piece, find};
 use crate::fault::WireFault;
+use crate::head::{Head, MOST_FIELDS};
 use crate::standing::{Room, Standing};
-use sigtext::Refusal;
+use sigtext::{Field, Refusal};
 use std::alloc::Global;
 use std::io::Read;
 use std::mem;
 
-/// The head of a message. Its text is lent from the feed's buffer until the feed's next call: what is
-/// needed longer is copied out, and `read_head` reads its parts.
-#[derive(Clone, Copy, Debug)]
+/// The head of a message.
+#[derive(Clone, Copy, Debug, PartialEq, Eq)]
 pub struct Opening<'a> {
     /// The whole head, through CR LF CR LF: at most 8192 bytes.
     pub text: &'a [u8],
+    /// Its parts.
+    pub head: Head<'a>,
     /// Whether a Content-Length was given.
     pub has_length: bool,
     /// How many bytes the body has.
@@ -143,31 +145,44 @@ impl<'r, R: Read> Feed<'r, R> {
         self.reader
     }
 
-    /// The next head, or what stands in its place. Where a body is open, and where the feed has ended, it
-    /// is the end. After anything but a head the feed has ended.
+    /// The next head, or what stands in its place. Its text is put to the front of the one array, and its fields to that of the
+    /// other. Where a body is open, and where the feed has ended, it is the end. After anything but a head the feed has ended.
     ///
     /// # Errors
     ///
     /// `Read` where a read failed, and `Memory` where memory was refused for the buffer, which is asked for once, in the first
     /// call. The feed has then ended.
-    pub fn next(&mut self) -> Result<Step<Opening<'_>>, WireFault>
-        ensures* after { sem 𝓛
-            (Rests (the_row (record { mir = named 1; lft = [] }) R.row) self.entry (λ new.
-            SameReader self.old new
-            × GivesStep (place_of self.old) (left R.remaining self.old) (told result)
-            (place_of new) (waits_in new) (R.remaining (reader_of new).inner)
-            × CountsReads result (reader_of self.old).faults (reader_of new).faults)) }
+    pub fn next<'t>(
+        &mut self,
+        text: &'t mut [u8; MOST_HEAD],
+        fields: &mut [Field<'t>; MOST_FIELDS],
+    ) -> Result<Step<Opening<'t>>, WireFault>
+        ensures same { SameReader self.old self.new }
+        ensures step { GivesStep (place_of self.old) (left R.remaining self.old)
+            (told result) (place_of self.new) (waits_in self.new)
+            (R.remaining (reader_of self.new).inner) }
+        ensures parts { OpensWith fields.new result }
+        ensures count { CountsReads result (reader_of self.old).faults (reader_of self.new).faults }
     {
-        Ok(match self.advance()? {
-            Step::Head((size, body)) => Step::Head(Opening {
-                text: self.backlog.taken(size),
-                has_length: body.has_length,
-                length: body.length,
-            }),
-            Step::Refused(refusal) => Step::Refused(refusal),
-            Step::End => Step::End,
-            Step::Truncated => Step::Truncated,
-        })
+        match self.place {
+            Place::Fresh => {
+                if self.backlog.make_room(self.alloc).is_err() {
+                    self.place = Place::Over;
+                    return Err(WireFault::Memory);
+                }
+            }
+            Place::Between => {}
+            Place::Body(_) | Place::Over => {
+                self.place = Place::Over;
+                return Ok(Step::End);
+            }
+        }
+        let found = find(&mut self.backlog, self.reader, text, fields);
+        self.place = match found {
+            Ok(Step::Head(opening)) => Place::Body(opening.length),
+            _ => Place::Over,
+        };
+        found
     }
 
     /// The next piece of the body that is open, of 1 to 65536 bytes. Where none is, it is done.
@@ -188,36 +203,6 @@ impl<'r, R: Read> Feed<'r, R> {
             Piece::Done => Piece::Done,
             Piece::Refused(refusal) => Piece::Refused(refusal),
         })
-    }
-
-    // Takes the next head, and says how long it is.
-    fn advance(&mut self) -> Result<Step<(usize, Announced)>, WireFault>
-        ensures same { SameReader self.old self.new }
-        ensures step { GivesStep (place_of self.old) (left R.remaining self.old)
-            (found_in self.new.backlog result) (place_of self.new) (waits_in self.new)
-            (R.remaining (reader_of self.new).inner) }
-        ensures size { size_of result ≤ self.new.backlog.start }
-        ensures count { CountsReads result (reader_of self.old).faults (reader_of self.new).faults }
-    {
-        match self.place {
-            Place::Fresh => {
-                if self.backlog.make_room(self.alloc).is_err() {
-                    self.place = Place::Over;
-                    return Err(WireFault::Memory);
-                }
-            }
-            Place::Between => {}
-            Place::Body(_) | Place::Over => {
-                self.place = Place::Over;
-                return Ok(Step::End);
-            }
-        }
-        let found = find(&mut self.backlog, self.reader);
-        self.place = match found {
-            Ok(Step::Head((_, body))) => Place::Body(body.length),
-            _ => Place::Over,
-        };
-        found
     }
 
     // Takes the next piece, and says how long it is.

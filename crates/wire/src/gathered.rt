@@ -1,15 +1,16 @@
 //! Readers whose bytes are read ahead, without waiting for any.
-ghost use Rattle.std.specs.Prelude.{◌≡◌, ◌≢◌, ◌<◌, ◌≤◌, ◌++◌, [], length, take, vec_capacity, vec_len, IsErr, IsFalse, IsOk, IsTrue, None, OnOk};
+ghost use Rattle.std.specs.Prelude.{◌≡◌, ◌≢◌, ◌↔◌, ◌⊎◌, ◌<◌, ◌≤◌, ◌++◌, [], length, take, vec_capacity, vec_len, IfErr, IsErr, IsFalse, IsOk, IsTrue, None, OnOk, Some};
 ghost use Rattle.std.specs.Io.{ReadsAtMost};
 ghost use Rattle.std.specs.Io.KnownBytes.{Keeps, ReadConsumes, prepend_known};
+ghost use Rattle.std.specs.IoError.{error_kind};
 
 use crate::shifting::drop_front;
 use std::alloc::{AllocError, Global};
 use std::io;
 use std::io::{ErrorKind, Read};
 
-/// Gives the bytes that were read ahead, and then those of its reader. Where a read ahead failed, each read behind those bytes
-/// fails so.
+/// Gives the bytes that were read ahead, and then those of its reader. Where a read failed, each read behind those bytes fails
+/// so. A read that would only wait has not failed.
 #[derive(Drop)]
 pub struct Gathered<S> {
     /// The reader. What it gives comes behind the bytes that were read ahead.
@@ -91,9 +92,17 @@ impl<S: Read> Gathered<S> {
         }
     }
 
+    /// Whether a read failed, or was made to fail: each read behind the bytes that are ahead fails so.
+    pub fn has_failed(&self) -> bool
+        ensures { IsTrue result ↔ HasFailed self.now }
+    {
+        self.fault.is_some()
+    }
+
     /// From now on each read behind the bytes that are ahead fails so, if it did not fail before: the first error stays.
     pub fn fail(&mut self, error: io::Error)
         ensures failed { HasFailed self.new }
+        ensures told { ¬ HasFailed self.old → self.new.fault ≡ Some error }
         ensures first { HasFailed self.old → self.new.fault ≡ self.old.fault }
         ensures ahead { ahead_in self.new ≡ ahead_in self.old }
         ensures inner { self.new.inner ≡ self.old.inner }
@@ -116,6 +125,18 @@ impl<S: Read> Gathered<S> {
     {
         self.move_to_front();
         self.bytes.reserve(n)
+    }
+
+    // Keeps the error of a failed read, unless the read would only wait.
+    fn keep(&mut self, error: io::Error)
+        ensures kept { HasFailed self.new ⊎ (error_kind error ≡ ErrorKind.WouldBlock) }
+        ensures failed { HasFailed self.old → HasFailed self.new }
+        ensures ahead { ahead_in self.new ≡ ahead_in self.old }
+        ensures inner { self.new.inner ≡ self.old.inner }
+    {
+        if error.kind() != ErrorKind::WouldBlock {
+            self.fail(error);
+        }
     }
 
     // Moves the bytes that were not given to the front.
@@ -185,13 +206,18 @@ impl<S: Read> Read for Gathered<S> {
         ensures first { ahead_in self.old ≢ [] → IsOk result }
         ensures then { ahead_in self.old ≡ [] → HasFailed self.old → IsErr result }
         ensures failed { HasFailed self.old → HasFailed self.new }
+        ensures kept { IfErr result (λ e. HasFailed self.new ⊎ (error_kind e ≡ ErrorKind.WouldBlock)) }
     {
         if !self.ahead().is_empty() {
             return Ok(self.give(buf));
         }
-        match self.fault {
-            Some(error) => Err(error),
-            None => self.inner.read(buf),
+        if let Some(error) = self.fault {
+            return Err(error);
         }
+        let read = self.inner.read(buf);
+        if let Err(error) = read {
+            self.keep(error);
+        }
+        read
     }
 }

@@ -6,22 +6,16 @@ ghost use Rattle.wire.specs.Whole.{BreaksOff, BreaksOffBody, Brings, LacksBody, 
 
 use crate::backlog::MOST_HEAD;
 use crate::fault::WireFault;
-use crate::feed::{Feed, Piece, Place, Step};
-use sigtext::Refusal;
+use crate::feed::{Feed, Opening, Piece, Place, Step};
+use crate::head::MOST_FIELDS;
+use sigtext::{Field, Refusal};
 use std::io::Read;
 
 /// What came where a message may begin.
 #[derive(Clone, Copy, Debug, PartialEq, Eq)]
-pub enum Came {
+pub enum Came<'a> {
     /// A head. Its body follows.
-    Head {
-        /// How many bytes the text of the head has, through CR LF CR LF.
-        size: usize,
-        /// Whether a Content-Length was given.
-        has_length: bool,
-        /// How many bytes the body has.
-        length: usize,
-    },
+    Head(Opening<'a>),
     /// The stream breaks a rule of framing, 1 to 5.
     Refused(Refusal),
     /// The stream ended.
@@ -39,16 +33,17 @@ pub enum Ending {
     Lacking,
 }
 
-/// Reads the head of a message: its text, of at most 8192 bytes, to the front of the array. Where a read failed, more bytes
-/// were needed to tell what comes. Where memory was refused, it was for the feed's buffer, before anything was read.
-pub fn read_opening<R: Read>(
+/// Reads the head of a message: its text to the front of the one array, and its fields to that of the other. Where a read failed,
+/// more bytes were needed to tell what comes. Where memory was refused, it was for the feed's buffer, before anything was read.
+pub fn read_opening<'t, R: Read>(
     feed: &mut Feed<'_, R>,
-    text: &mut [u8; MOST_HEAD],
-) -> Result<Came, WireFault>
+    text: &'t mut [u8; MOST_HEAD],
+    fields: &mut [Field<'t>; MOST_FIELDS],
+) -> Result<Came<'t>, WireFault>
     requires { MayBegin (place_of feed.old) }
     ensures same { SameReader feed.old feed.new }
     ensures brings { IfOk result
-        (λ came. Brings came text.new (left R.remaining feed.old)
+        (λ came. Brings came fields.new (left R.remaining feed.old)
         (left R.remaining feed.new)
         (R.remaining (reader_of feed.new).inner) (place_of feed.new)) }
     ensures fault { IfErr result
@@ -56,16 +51,8 @@ pub fn read_opening<R: Read>(
         (R.remaining (reader_of feed.new).inner)) }
     ensures count { CountsReads result (reader_of feed.old).faults (reader_of feed.new).faults }
 {
-    match feed.next() {
-        Ok(Step::Head(head)) => {
-            let size = head.text.len();
-            text[..size].copy_from_slice(head.text);
-            Ok(Came::Head {
-                size,
-                has_length: head.has_length,
-                length: head.length,
-            })
-        }
+    match feed.next(text, fields) {
+        Ok(Step::Head(opening)) => Ok(Came::Head(opening)),
         Ok(Step::Refused(refusal)) => Ok(Came::Refused(refusal)),
         Ok(Step::End) => Ok(Came::End),
         Ok(Step::Truncated) => Ok(Came::Truncated),

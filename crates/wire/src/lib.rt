@@ -27,7 +27,7 @@ pub use fault::WireFault;
 pub use feed::{Feed, Opening, Piece, Step};
 pub use found::hex_digits;
 pub use gathered::{Gathered, Gathering};
-pub use head::{Head, MOST_FIELDS, Message, head_end, read_head};
+pub use head::{Head, MOST_FIELDS, Message, NO_FIELD, head_end, read_head};
 pub use joining::{Came, Ending, read_opening, skip_body};
 pub use outbox::{Outbox, Sending};
 pub use sending::send;

@@ -15,7 +15,7 @@ use keeper::Keeper;
 use sigtext::{Field, Refusal};
 use std::io::{Read, Write};
 use wire::{
-    Answer, Came, Counted, Feed, MOST_FIELDS, MOST_HEAD, WireFault, put_answer, read_head,
+    Answer, Came, Counted, Feed, MOST_FIELDS, MOST_HEAD, NO_FIELD, Opening, WireFault, put_answer,
     read_opening,
 };
 
@@ -37,8 +37,8 @@ impl<K: Keeper> Office<K> {
     ghost use Rattle.sigtext.specs.Counts.{Rose};
     ghost use Rattle.sigtext.specs.Request.{Request};
     ghost use Rattle.boxes.specs.State.{State};
-    ghost use Rattle.wire.specs.Feeding.{Opens};
     ghost use Rattle.wire.specs.Feeds.{SameReader, left, place_of, reader_of};
+    ghost use Rattle.wire.specs.Openings.{ArePartsOf};
     ghost use Rattle.wire.specs.Whole.{IsOpening, MayBegin};
     ghost use Rattle.wire.specs.declared.feed.Place.{Place};
     ghost use Rattle.wire.specs.declared.feed.Place.TheVariants as stands;
@@ -153,19 +153,19 @@ impl<K: Keeper> Office<K> {
     fn serve_head<R: Read, W: Write, C: Clock>(
         &mut self,
         feed: &mut Feed<'_, R>,
-        text: &[u8],
-        has_length: bool,
-        size: usize,
+        opening: &Opening<'_>,
+        fields: &[Field<'_>; MOST_FIELDS],
         writer: &mut Counted<W>,
         clock: &mut C,
     ) -> Option<SessionEnd>
-        requires open { place_of feed.old ≡ stands.Body size }
-        requires head { Opens text.now has_length size }
+        requires open { place_of feed.old ≡ stands.Body opening.now.length }
+        requires parts { ArePartsOf opening.now.text.now opening.now.head fields.now }
         ensures same { SameReader feed.old feed.new }
         ensures goes_on { IfNone result (place_of feed.new ≡ stands.Between) }
         ensures steps { (s : State) (p : Place) (known : Option (List ℕ))
             → WasKept K.Keeper self.old.keeper self.new.keeper s
-            → IsOpening text.now has_length size known (left R.remaining feed.old)
+            → IsOpening opening.now.text.now opening.now.has_length opening.now.length
+            known (left R.remaining feed.old)
             → Steps C.now_gives p known (left R.remaining feed.new)
             (R.remaining (reader_of feed.new).inner)
             (W.contents writer.old.inner) (W.contents writer.new.inner) clock.old clock.new
@@ -176,26 +176,19 @@ impl<K: Keeper> Office<K> {
         ensures rest { HoldsUnless K.Keeper self.old.keeper self.new.keeper
             (IsSomeAnd result (MayGiveUp K.Keeper self.old.keeper self.new.keeper)) }
     {
-        let mut fields = [Field {
-            name: &[],
-            value: &[],
-        }; MOST_FIELDS];
-        let Some(head) = read_head(text, &mut fields) else {
-            unreachable!()
-        };
         let message = Announced {
-            method: head.method,
-            target: head.target,
-            fields: &fields[..head.count],
-            has_length,
-            length: size,
+            method: opening.head.method,
+            target: opening.head.target,
+            fields: &fields[..opening.head.count],
+            has_length: opening.has_length,
+            length: opening.length,
         };
         let foreseen = self.foresee(&message);
         if is_given_up(&foreseen) {
             return Some(close(Refusal::TryAgain, writer));
         }
         let to_head = asks_head(&message);
-        self.serve_body(feed, foreseen, to_head, size, writer, clock)
+        self.serve_body(feed, foreseen, to_head, opening.length, writer, clock)
     }
 
     // Reads the next message of a feed and answers it; or tells how the session ended.
@@ -220,14 +213,9 @@ impl<K: Keeper> Office<K> {
             (IsSomeAnd result (MayGiveUp K.Keeper self.old.keeper self.new.keeper)) }
     {
         let mut text = [0; MOST_HEAD];
-        match read_opening(feed, &mut text) {
-            Ok(
-                Came::Head {
-                    size,
-                    has_length,
-                    length,
-                },
-            ) => self.serve_head(feed, &text[..size], has_length, length, writer, clock),
+        let mut fields = [NO_FIELD; MOST_FIELDS];
+        match read_opening(feed, &mut text, &mut fields) {
+            Ok(Came::Head(opening)) => self.serve_head(feed, &opening, &fields, writer, clock),
             Ok(Came::Refused(refusal)) => Some(close(refusal, writer)),
             Ok(Came::End) => Some(SessionEnd::Ended),
             Ok(Came::Truncated) => Some(SessionEnd::Truncated),

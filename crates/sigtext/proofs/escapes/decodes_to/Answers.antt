@@ -10,7 +10,7 @@ use Rattle.sigtext.proofs.escapes.decodes_to.Goals as goal
 pub returns : goal.returns
 returns c =
     let answer =
-    eq_from_yields_list c.copied.result c.eq.result c.eq.ensures.ran
+    eq_from_yields_list c.copied.result c.eq-2.result c.eq-2.ensures.ran
     (YieldsList-from_first (λ x. x) decoded_bytes _ c.percent_decode.ensures.bytes)
     (YieldsList-from_copied (YieldsList-from_slice c.args.bytes.now cc)) in
     let decides = bytes_eq-Decides (percent_decode c.args.text.now) c.args.bytes.now in

@@ -10,7 +10,7 @@ pub returns : goal.returns
 returns c =
     let small_a = subst (All (λ b. b < 256)) c.percent_decode.ensures.bytes c.percent_decode.ensures.small in
     let small_b = subst (All (λ b. b < 256)) c.percent_decode-2.ensures.bytes c.percent_decode-2.ensures.small in
-    cmp_from_yields_List (λ x y. y ≡ x) _ rank_cmp _ c.cmp.ensures.ran
+    cmp_from_yields_List (λ x y. y ≡ x) _ rank_cmp _ c.cmp-2.ensures.ran
     (YieldsList-from_map _ rank (YieldsList-at c.map.ensures.source (YieldsList-from_first (λ x. x) decoded_bytes _ c.percent_decode.ensures.bytes)) c.map.ensures.closure (λ x r q k. search rules))
     (λ it e. YieldsList-at e (YieldsList-from_map _ rank (YieldsList-at c.map-2.ensures.source (YieldsList-from_first (λ x. x) decoded_bytes _ c.percent_decode-2.ensures.bytes)) c.map-2.ensures.closure (λ x r q k. search rules)))
     (λ x y. refl)

@@ -1,11 +1,11 @@
 use Rattle.wire.specs.Judging.{malformed}
-use Rattle.wire.proofs.Announced.{result_breaks}
+use Rattle.wire.proofs.Announced.{fields_break}
 use Rattle.wire.proofs.announce.read_announcement.Goals as goal
 
-pub returns-in-Some-clause-err : goal.returns-in-Some-clause-err
-returns-in-Some-clause-err c =
+pub returns-in-Err-clause-err : goal.returns-in-Err-clause-err
+returns-in-Err-clause-err c =
     let (head, is_head, method, target, few, same) = c.in-Some.ensures.found in
-    result_breaks c.body_of.result _ head _ is_head same c.body_of.ensures.err
+    fields_break c.args.text.now head _ c.in-Err.refusal is_head same c.in-Err.ensures.err
 
-pub returns-in-None-clause-err : goal.returns-in-None-clause-err
-returns-in-None-clause-err c = malformed c.in-None.ensures.none
+pub returns-in_default-clause-err : goal.returns-in_default-clause-err
+returns-in_default-clause-err c = malformed c.in_default.ensures.none

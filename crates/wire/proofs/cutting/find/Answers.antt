@@ -1,12 +1,12 @@
-use Rattle.std.proofs.Common.{◌≡◌, ℕ, List, [], Option, Ok, subst, ◌∙◌, arith, lit<, lit≤}
-use Rattle.std.proofs.lemmas.List.{length-take}
+use Rattle.std.proofs.Common.{◌≡◌, ℕ, List, [], length, take, Option, Ok, sym, ap, subst, ◌∙◌, arith, lit<, lit≤}
+use Rattle.std.proofs.lemmas.List.{length-take, length-take-le}
 use Rattle.sigtext.specs.declared.refusal.Refusal.TheVariants as rule
 use Rattle.wire.specs.Framing.{IsFront, Next, Refused, Ended, Truncated}
 use Rattle.wire.specs.Framing as next
 use Rattle.wire.specs.Judging.{HeadAnnounces}
 use Rattle.wire.specs.Waiting.{Shows, waiting}
 use Rattle.wire.specs.declared.feed.Step.{Step}
-use Rattle.wire.proofs.WaitingFronts.{of_whole, of_end, awaits_head, text_alone, opened, barred, next_too_long, next_truncated, breaks_early}
+use Rattle.wire.proofs.WaitingFronts.{of_whole, of_end, awaits_head, text_alone, text_copied, opened, barred, next_too_long, next_truncated, breaks_early}
 use Rattle.wire.proofs.cutting.find.Goals as goal
 
 -- what shows of the step that it is
@@ -16,27 +16,42 @@ shown bytes reader is shows = subst (λ (step : Step ℕ). Shows (Ok step) bytes
 pub take-requires : goal.take-requires
 take-requires g c = let shows = shown _ _ c.in-Ok-Head.field-0-is c.in-Ok-Head.ensures.shows in omega (arith, shows.within, length-take 8192 (waiting c.read_head.new.self))
 
+pub slice_bounds-copy_from_slice-end : goal.slice_bounds-copy_from_slice-end
+slice_bounds-copy_from_slice-end g c = let shows = shown _ _ c.in-Ok-Head.field-0-is c.in-Ok-Head.ensures.shows in omega (arith, shows.within, length-take 8192 (waiting c.read_head.new.self))
+
+pub copy_from_slice-requires : goal.copy_from_slice-requires
+copy_from_slice-requires g c =
+    let shows = shown _ _ c.in-Ok-Head.field-0-is c.in-Ok-Head.ensures.shows in
+    let within = shows.within in
+    let most = length-take 8192 (waiting c.read_head.new.self) in
+    let long = ap length (c.taken.ensures ∙ c.take.ensures.taken) ∙ length-take-le c.in-Ok-Head.size (waiting c.read_head.new.self) (omega (arith, within, most)) in
+    length-take-le c.in-Ok-Head.size c.args.text.now (omega (arith, within, most, c.told-text)) ∙ sym long
+
 pub returns-in-Ok-clause-finds : goal.returns-in-Ok-clause-finds
 returns-in-Ok-clause-finds g c =
+    let waits = waiting c.read_head.new.self in
     let shows = shown _ _ c.in-Ok-Head.field-0-is c.in-Ok-Head.ensures.shows in
-    let text = c.take.ensures.taken in
+    let text : c.in-Ok.opening.text.now ≡ take c.in-Ok-Head.size waits =
+    c.in-Ok.ensures.text ∙ text_copied waits _ _ _ c.in-Ok-Head.size shows c.copy_from_slice.ensures.after (c.taken.ensures ∙ c.take.ensures.taken) in
     let (small, head, tells) = c.in-Ok.ensures.ok in (
       record {
-        is_front = text_alone (waiting c.read_head.new.self) _ c.in-Ok-Head.size shows text;
+        is_front = text_alone waits _ c.in-Ok-Head.size shows text;
         small = small;
         head = head;
-        tells = subst (λ (t : List ℕ). HeadAnnounces t head c.in-Ok.body.has_length c.in-Ok.body.length) c.taken.ensures tells;
+        tells = subst (λ (t : List ℕ). HeadAnnounces t head c.in-Ok.opening.has_length c.in-Ok.opening.length) (sym c.in-Ok.ensures.text) tells;
       },
-      opened _ _ (waiting c.read_head.new.self) _ _ c.in-Ok-Head.size shows text c.take.ensures.rest c.in-Ok-Head.ensures.kept,
+      opened _ _ waits _ _ c.in-Ok-Head.size shows text c.take.ensures.rest c.in-Ok-Head.ensures.kept,
     )
 
 pub returns-in-Err-read_announcement-clause-finds : goal.returns-in-Err-read_announcement-clause-finds
 returns-in-Err-read_announcement-clause-finds g c =
+    let waits = waiting c.read_head.new.self in
     let shows = shown _ _ c.in-Ok-Head.field-0-is c.in-Ok-Head.ensures.shows in
+    let text = text_copied waits _ _ _ c.in-Ok-Head.size shows c.copy_from_slice.ensures.after (c.taken.ensures ∙ c.take.ensures.taken) in
     let breaks = c.in-Err-read_announcement.ensures.err in (
       (breaks_early _ c.in-Err-read_announcement.refusal breaks).0,
       (breaks_early _ c.in-Err-read_announcement.refusal breaks).1,
-      barred _ _ (waiting c.read_head.new.self) c.taken.result.now _ c.in-Ok-Head.size c.in-Err-read_announcement.refusal shows (c.taken.ensures ∙ c.take.ensures.taken) c.take.ensures.rest c.in-Ok-Head.ensures.kept breaks,
+      barred _ _ waits _ _ c.in-Ok-Head.size c.in-Err-read_announcement.refusal shows text c.take.ensures.rest c.in-Ok-Head.ensures.kept breaks,
     )
 
 pub returns-in-Ok-Refused-clause-finds : goal.returns-in-Ok-Refused-clause-finds

@@ -19,37 +19,37 @@ use Rattle.office.proofs.office.Office.serve_head.Goals as goal
 
 pub returns-then-is_given_up-clause-steps : goal.returns-then-is_given_up-clause-steps
 returns-then-is_given_up-clause-steps g c s p known kept x =
-    let f = c.in-Some.ensures.found in
+    let f = c.requires.parts in
     let foreseen = c.foresee-foreseen.ensures in
-    let method = c.in-Some.head.method.now in
-    let target = c.in-Some.head.target.now in
-    let headers = map header_of (take c.in-Some.head.count c.read_head.new.fields) in
-    let message : Request = record { method = method; target = target; headers = headers; has_length = c.args.has_length; body = [] } in
-    let same : message ≡ request_of x.opens.head c.args.has_length [] =
-    same_request c.args.text.now f.0 x.opens.head method target headers c.args.has_length [] f.1 x.opens.tells.is_head f.2 f.3 f.5 in
+    let method = c.args.opening.now.head.method.now in
+    let target = c.args.opening.now.head.target.now in
+    let headers = map header_of (take c.args.opening.now.head.count c.args.fields.now) in
+    let message : Request = record { method = method; target = target; headers = headers; has_length = c.args.opening.now.has_length; body = [] } in
+    let same : message ≡ request_of x.opens.head c.args.opening.now.has_length [] =
+    same_request c.args.opening.now.text.now f.0 x.opens.head method target headers c.args.opening.now.has_length [] f.1 x.opens.tells.is_head f.2 f.3 f.5 in
     let quiet : Quiet g.K.Keeper c.args.self.now.keeper c.foresee-foreseen.new.self.keeper (IsGivenUp c.foresee-foreseen.result) = record { means = foreseen.same; crash = foreseen.crash; rest = foreseen.rest } in
     head_given_up_step g.R.Read.remaining c.args.feed.now g.C.Clock.now_gives p known (g.W.Write.contents c.args.writer.now.inner) (g.W.Write.contents c.close.new.writer.inner) c.args.clock.now
-    g.K.Keeper c.args.self.now.keeper c.foresee-foreseen.new.self.keeper s c.args.text.now c.args.has_length c.args.size x c.close.result (IsGivenUp c.foresee-foreseen.result) quiet kept
+    g.K.Keeper c.args.self.now.keeper c.foresee-foreseen.new.self.keeper s c.args.opening.now.text.now c.args.opening.now.has_length c.args.opening.now.length x c.close.result (IsGivenUp c.foresee-foreseen.result) quiet kept
     (subst IsReadable same (read_given_up message c.foresee-foreseen.result (c.is_given_up.ensures.0 c.if-is_given_up.true) (foreseen.readable []))) c.close.ensures.closed
 
 pub returns-clause-steps : goal.returns-clause-steps
 returns-clause-steps g c s p known kept x =
-    let f = c.in-Some.ensures.found in
+    let f = c.requires.parts in
     let foreseen = c.foresee-foreseen.ensures in
     let result = c.foresee-foreseen.result in
     let mid = c.foresee-foreseen.new.self.keeper in
-    let method = c.in-Some.head.method.now in
-    let target = c.in-Some.head.target.now in
-    let headers = map header_of (take c.in-Some.head.count c.read_head.new.fields) in
-    let message : List ℕ → Request = λ body. record { method = method; target = target; headers = headers; has_length = c.args.has_length; body = body } in
-    let same : (body : List ℕ) → message body ≡ request_of x.opens.head c.args.has_length body =
-    λ body. same_request c.args.text.now f.0 x.opens.head method target headers c.args.has_length body f.1 x.opens.tells.is_head f.2 f.3 f.5 in
+    let method = c.args.opening.now.head.method.now in
+    let target = c.args.opening.now.head.target.now in
+    let headers = map header_of (take c.args.opening.now.head.count c.args.fields.now) in
+    let message : List ℕ → Request = λ body. record { method = method; target = target; headers = headers; has_length = c.args.opening.now.has_length; body = body } in
+    let same : (body : List ℕ) → message body ≡ request_of x.opens.head c.args.opening.now.has_length body =
+    λ body. same_request c.args.opening.now.text.now f.0 x.opens.head method target headers c.args.opening.now.has_length body f.1 x.opens.tells.is_head f.2 f.3 f.5 in
     let quiet : Quiet g.K.Keeper c.args.self.now.keeper mid (IsGivenUp result) = record { means = foreseen.same; crash = foreseen.crash; rest = foreseen.rest } in
     let other : IsGivenUp result → ⊥ = λ is. both_ways c.is_given_up.result c.if-is_given_up.false (c.is_given_up.ensures.1 is) in
     let honest = c.serve_body.ensures.rest.honest kept.is_honest in
-    let expected : IsExpected s c.args.size known (left g.R.Read.remaining c.args.feed.now) result c.asks_head-to_head.result = record {
-      text = c.args.text.now;
-      has_length = c.args.has_length;
+    let expected : IsExpected s c.args.opening.now.length known (left g.R.Read.remaining c.args.feed.now) result c.asks_head-to_head.result = record {
+      text = c.args.opening.now.text.now;
+      has_length = c.args.opening.now.has_length;
       opening = x;
       foresees = λ body len. subst (λ (r : Request). Foresees s r result) (same body) (foreseen.foresees s body (record { means = kept.means; is_honest = honest; sound = kept.sound }) len);
       tells = other;

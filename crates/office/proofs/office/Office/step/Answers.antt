@@ -8,13 +8,13 @@ use Rattle.office.proofs.office.Office.step.Goals as goal
 
 pub returns-in-Ok-Head-clause-steps : goal.returns-in-Ok-Head-clause-steps
 returns-in-Ok-Head-clause-steps g c s kept =
-    let b = brought_by c.read_opening.new.text (left g.R.Read.remaining c.args.feed.now) (left g.R.Read.remaining c.read_opening.new.feed) (g.R.Read.remaining (reader_of c.read_opening.new.feed).inner)
-    (place_of c.read_opening.new.feed) c.in-Ok-Head.field-0 (came.Head c.in-Ok-Head.size c.in-Ok-Head.has_length c.in-Ok-Head.length) c.in-Ok-Head.field-0-is c.in-Ok-Head.ensures.brings in
-    c.serve_head.ensures.steps s (place_of c.args.feed.now) (left g.R.Read.remaining c.args.feed.now) kept b.2
+    let b = brought_by c.read_opening.new.fields (left g.R.Read.remaining c.args.feed.now) (left g.R.Read.remaining c.read_opening.new.feed) (g.R.Read.remaining (reader_of c.read_opening.new.feed).inner)
+    (place_of c.read_opening.new.feed) c.in-Ok-Head.field-0 (came.Head c.in-Ok-Head.opening) c.in-Ok-Head.field-0-is c.in-Ok-Head.ensures.brings in
+    c.serve_head.ensures.steps s (place_of c.args.feed.now) (left g.R.Read.remaining c.args.feed.now) kept b.1
 
 pub returns-in-Ok-Refused-clause-steps : goal.returns-in-Ok-Refused-clause-steps
 returns-in-Ok-Refused-clause-steps g c s kept =
-    let b = brought_by c.read_opening.new.text (left g.R.Read.remaining c.args.feed.now) (left g.R.Read.remaining c.read_opening.new.feed) (g.R.Read.remaining (reader_of c.read_opening.new.feed).inner)
+    let b = brought_by c.read_opening.new.fields (left g.R.Read.remaining c.args.feed.now) (left g.R.Read.remaining c.read_opening.new.feed) (g.R.Read.remaining (reader_of c.read_opening.new.feed).inner)
     (place_of c.read_opening.new.feed) c.in-Ok-Refused.field-0 (came.Refused c.in-Ok-Refused.refusal) c.in-Ok-Refused.field-0-is c.in-Ok-Refused.ensures.brings in
     closed_step g.C.Clock.now_gives (place_of c.args.feed.now) (left g.R.Read.remaining c.args.feed.now) (left g.R.Read.remaining c.read_opening.new.feed)
     (g.R.Read.remaining (reader_of c.read_opening.new.feed).inner) (g.W.Write.contents c.args.writer.now.inner) (g.W.Write.contents c.close.new.writer.inner)
@@ -22,7 +22,7 @@ returns-in-Ok-Refused-clause-steps g c s kept =
 
 pub returns-in-Ok-End-clause-steps : goal.returns-in-Ok-End-clause-steps
 returns-in-Ok-End-clause-steps g c s kept =
-    let b = brought_by c.read_opening.new.text (left g.R.Read.remaining c.args.feed.now) (left g.R.Read.remaining c.read_opening.new.feed) (g.R.Read.remaining (reader_of c.read_opening.new.feed).inner)
+    let b = brought_by c.read_opening.new.fields (left g.R.Read.remaining c.args.feed.now) (left g.R.Read.remaining c.read_opening.new.feed) (g.R.Read.remaining (reader_of c.read_opening.new.feed).inner)
     (place_of c.read_opening.new.feed) c.in-Ok-End.field-0 came.End c.in-Ok-End.field-0-is c.in-Ok-End.ensures.brings in
     ended_step g.C.Clock.now_gives (place_of c.args.feed.now) (left g.R.Read.remaining c.args.feed.now) (left g.R.Read.remaining c.read_opening.new.feed)
     (g.R.Read.remaining (reader_of c.read_opening.new.feed).inner) (g.W.Write.contents c.args.writer.now.inner)
@@ -30,7 +30,7 @@ returns-in-Ok-End-clause-steps g c s kept =
 
 pub returns-in-Ok-Truncated-clause-steps : goal.returns-in-Ok-Truncated-clause-steps
 returns-in-Ok-Truncated-clause-steps g c s kept =
-    let b = brought_by c.read_opening.new.text (left g.R.Read.remaining c.args.feed.now) (left g.R.Read.remaining c.read_opening.new.feed) (g.R.Read.remaining (reader_of c.read_opening.new.feed).inner)
+    let b = brought_by c.read_opening.new.fields (left g.R.Read.remaining c.args.feed.now) (left g.R.Read.remaining c.read_opening.new.feed) (g.R.Read.remaining (reader_of c.read_opening.new.feed).inner)
     (place_of c.read_opening.new.feed) c.in-Ok-Truncated.field-0 came.Truncated c.in-Ok-Truncated.field-0-is c.in-Ok-Truncated.ensures.brings in
     truncated_step g.C.Clock.now_gives (place_of c.args.feed.now) (left g.R.Read.remaining c.args.feed.now) (left g.R.Read.remaining c.read_opening.new.feed)
     (g.R.Read.remaining (reader_of c.read_opening.new.feed).inner) (g.W.Write.contents c.args.writer.now.inner)
