@@ -2,6 +2,7 @@
 use crate::faults::Fault;
 use crate::opening::{OfficeWork, Purpose, work_over};
 use keeper::Keeper;
+use mio::Poll;
 use office::{MachineClock, Office};
 use sockets::{Limits, send_at_once, serve};
 use std::io::Write;
@@ -90,11 +91,14 @@ fn serve_at<'a, K: Keeper>(
     if send_at_once(&listener).is_err() {
         return Err(Fault::CannotListen);
     }
+    let Ok(poll) = Poll::new(rt) else {
+        return Err(Fault::CannotListen);
+    };
     if writeln!(out, "listening on {}", service.listen).is_err() || out.flush().is_err() {
         return Err(Fault::CannotWrite);
     }
     let mut clock = MachineClock::new(rt);
-    let served = serve(rt, office, listener, service.limits, &mut clock);
+    let served = serve(rt, poll, office, listener, service.limits, &mut clock);
     let Ok(outcome) = served.outcome else {
         return Err(Fault::CannotListen);
     };

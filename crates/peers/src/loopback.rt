@@ -1,4 +1,5 @@
 //! Peers over loopback. They send all that they send before they are served.
+use mio::Poll;
 use office::{FixedClock, Seat};
 use sigv4::Moment;
 use sockets::{End, Limits, Listener, Outcome, TcpEnd, serve};
@@ -24,7 +25,8 @@ fn served(
         open,
     };
     let mut clock = FixedClock::new(moment);
-    Ok(serve(rt, &mut office, listener, limits, &mut clock).outcome?)
+    let poll = Poll::new(rt)?;
+    Ok(serve(rt, poll, &mut office, listener, limits, &mut clock).outcome?)
 }
 
 // The two ends of a connection that is there.
@@ -56,6 +58,7 @@ fn two_requests_in_one_piece(rt: HostRuntime) -> Result<(), Fail> {
             came: 1,
             refused: 0,
             faulty: 0,
+            unsent: 0,
             is_whole: true
         }
     );
@@ -80,6 +83,7 @@ fn one_that_says_nothing_holds_nobody(rt: HostRuntime) -> Result<(), Fail> {
             came: 2,
             refused: 0,
             faulty: 1,
+            unsent: 0,
             is_whole: true
         }
     );
@@ -102,6 +106,7 @@ fn at_the_bound_the_silent_one_goes(rt: HostRuntime) -> Result<(), Fail> {
             came: 2,
             refused: 0,
             faulty: 0,
+            unsent: 0,
             is_whole: true
         }
     );
@@ -120,6 +125,7 @@ fn nobody_comes(rt: HostRuntime) -> Result<(), Fail> {
             came: 0,
             refused: 0,
             faulty: 0,
+            unsent: 0,
             is_whole: true
         }
     );

@@ -2,13 +2,17 @@
 use Rattle.std.proofs.Common.{◌≡◌, ◌<◌, ◌+◌, ◌++◌, ◌⊎◌, ◌∙◌, ap, inl, inr, length, slice_set, subst, sym, Some, ℕ, suc, zero, List, [], ◌∷◌, Option, None, refl, arith}
 use Rattle.std.specs.Prelude.{IfSome}
 use Rattle.office.specs.Crowds.{SentAt, slot_at}
+use Rattle.office.specs.Seats.{Sends}
 use Rattle.office.specs.Slots.{SendsOn}
+use Rattle.wire.specs.Feeds.{ahead_of}
+use Rattle.wire.specs.Gathering.{HasFailed, ahead_in}
+use Rattle.wire.specs.Outgoing.{waits_out}
 use Rattle.office.specs.declared.connections.seat.Seat.{Seat}
 use Rattle.wire.specs.declared.gathered.Gathered.{Gathered}
 use Rattle.wire.specs.declared.outbox.Outbox.{Outbox}
 use Rattle.wire.specs.declared.outbox.Sending.{Sending}
 use Rattle.wire.specs.declared.outbox.Sending.TheVariants as sending
-use Rattle.sockets.specs.Accepting.{IsSettled}
+use Rattle.sockets.specs.Accepting.{IsSettled, IsThrough, MayGo}
 
 -- one more is free
 pub free_more : {X : Type 0} (slots : List (Option X)) → ((p : ℕ) → slot_at slots p ≡ None) → (p : ℕ) → slot_at (slots ++ None ∷ []) p ≡ None
@@ -42,6 +46,26 @@ module _ {X : Type 0} where
   set_length (y ∷ slots) zero x = refl
   set_length (y ∷ slots) (suc p) x = omega (arith, set_length slots p x)
 
+-- nothing is left of nothing
+nothing_left : (xs ys : List ℕ) → [] ≡ xs ++ ys → ys ≡ []
+nothing_left [] ys is = sym is
+nothing_left (x ∷ xs) ys is = absurd cc
+
+-- one that was through is so still once bytes were sent on
+still_through : {E : Type 0} (given : Outbox E → Option (List ℕ)) (contents : E → Option (List ℕ)) (outcome : Sending) (a b : Seat (Gathered E) (Outbox E)) → Sends given a b → SendsOn contents a b outcome
+    → IsThrough a → IsThrough b
+still_through given contents outcome a b sends on was = record {
+  idle = λ is_open.
+      let idle = was.idle (sym sends.end ∙ is_open) in
+      record {
+        untaken = subst (λ s. ahead_of s ≡ []) (sym sends.standing) idle.untaken;
+        unread = subst (λ r. ahead_in r.inner ≡ []) (sym sends.reader) idle.unread;
+        unsent = nothing_left on.takes.0 (waits_out b.writer.inner) (sym idle.unsent ∙ on.takes.1);
+        reads = λ failed. idle.reads (subst (λ r. HasFailed r.inner) sends.reader failed);
+      };
+  failed = λ is. subst (λ r. HasFailed r.inner) (sym sends.reader) (was.failed (sym sends.end ∙ is));
+}
+
 module _ {E : Type 0} (given : Outbox E → Option (List ℕ)) (contents : E → Option (List ℕ)) (outcome : Sending) (told : Type 0) (old new : List (Option (Seat (Gathered E) (Outbox E)))) (p : ℕ)
     (sent : SentAt given (λ a b. SendsOn contents a b outcome) told old new p) where
   -- the slots are as many
@@ -58,14 +82,15 @@ module _ {E : Type 0} (given : Outbox E → Option (List ℕ)) (contents : E →
     | inr x ↦ is ∙ ap (λ l. slice_set l p None) x.1
   ]
 
-  -- where nothing waits any more, or a write failed, the connection there is settled
-  pub sent_settled : (outcome ≡ sending.Sent) ⊎ (outcome ≡ sending.Failed) → p < length old → IfSome (slot_at new p) (λ seat. IsSettled seat)
-  sent_settled is lt = elim sent [
+  -- Where nothing waits any more, or a write failed, the connection there may go, if it was through.
+  pub sent_may_go : (outcome ≡ sending.Sent) ⊎ (outcome ≡ sending.Failed) → p < length old → IfSome (slot_at old p) (λ seat. IsThrough seat) → IfSome (slot_at new p) (λ seat. MayGo seat)
+  sent_may_go is lt through = elim sent [
     | inl x ↦
         let at : slot_at new p ≡ Some x.2 = ap (λ l. slot_at l p) x.5 ∙ set_there old p (Some x.2) lt in
         let settled : IsSettled x.2 = elim is [ inl e ↦ inl ((x.4.sent.0 e).0) | inr e ↦ inr (x.4.failed.0 e) ] in
-        subst (λ o. IfSome o (λ seat. IsSettled seat)) (sym at) settled
-    | inr x ↦ subst (λ o. IfSome o (λ seat. IsSettled seat)) (sym (ap (λ l. slot_at l p) x.1 ∙ x.0)) tt
+        let was : IsThrough x.0 = subst (λ o. IfSome o (λ seat. IsThrough seat)) x.1 through in
+        subst (λ o. IfSome o (λ seat. MayGo seat)) (sym at) (record { settled = settled; through = still_through given contents outcome x.0 x.2 x.3 x.4 was })
+    | inr x ↦ subst (λ o. IfSome o (λ seat. MayGo seat)) (sym (ap (λ l. slot_at l p) x.1 ∙ x.0)) tt
   ]
 
 -- where something waits still, a connection is there

@@ -1,15 +1,17 @@
 -- What went on at the gate and in the slots, one thing after another.
 use Rattle.std.proofs.Common.{◌≡◌, ◌<◌, ◌∙◌, ◌+◌, ◌++◌, ◌⊎◌, ℕ, inl, inr, Bool, true, false, List, [], ◌∷◌, Option, None, Some, length, ap, append_assoc, refl, sym, subst, arith}
 use Rattle.std.specs.Prelude.{IfSome, cond, is_some}
+use Rattle.std.specs.List.{count_by}
 use Rattle.std.specs.declared.io.Error.{Error}
 use Rattle.std.proofs.lemmas.List.{append-nil, length-append}
+use Rattle.std.proofs.lemmas.List.Sums.{sum_by-append}
 use Rattle.office.specs.Crowds.{Changes, same, those_of}
 use Rattle.office.specs.declared.connections.seat.Seat.{Seat}
 use Rattle.office.specs.Seats.{IsNew}
 use Rattle.office.proofs.Changing.{changes_then}
 use Rattle.wire.specs.declared.gathered.Gathered.{Gathered}
 use Rattle.wire.specs.declared.outbox.Outbox.{Outbox}
-use Rattle.sockets.specs.Accepting.{Admits, IsSettled, IsUntouched}
+use Rattle.sockets.specs.Accepting.{Admits, IsUntouched, MayGo, lacks_answers}
 use Rattle.sockets.specs.Accepting as accepting
 use Rattle.sockets.specs.Listening.{Event, IsWant, accepted, closed, missed, opened, unready}
 use Rattle.sockets.specs.Moving.{HasPassed, Moves, Passes}
@@ -42,14 +44,24 @@ pub went_none : {R W : Type 0} {remaining : R → Option (List ℕ)} {contents :
     → Changes remaining contents old new [] (those_of o) → Changes remaining contents old new [] []
 went_none {remaining = remaining} {contents = contents} {old = old} {new = new} o is changes = subst (λ x. Changes remaining contents old new [] (those_of x)) is changes
 
-pub settled_of : {E : Type 0} (o : Option (Seat (Gathered E) (Outbox E))) (seat : Seat (Gathered E) (Outbox E)) → o ≡ Some seat → IfSome o (λ x. IsSettled x) → IsSettled seat
-settled_of o seat is settled = subst (λ o. IfSome o (λ x. IsSettled x)) is settled
+pub may_of : {E : Type 0} (o : Option (Seat (Gathered E) (Outbox E))) (seat : Seat (Gathered E) (Outbox E)) → o ≡ Some seat → IfSome o (λ x. MayGo x) → MayGo seat
+may_of o seat is may = subst (λ o. IfSome o (λ x. MayGo x)) is may
+
+-- how many of them lack answers
+abbrev lack : {E : Type 0} → List (Seat (Gathered E) (Outbox E)) → ℕ
+lack gone = count_by lacks_answers gone
+
+none_lack : {E : Type 0} {n m : ℕ} → m ≡ n → m ≡ n + lack {E} []
+none_lack {n = n} is = is ∙ plus_none n
+
+both_lack : {E : Type 0} (gone went : List (Seat (Gathered E) (Outbox E))) → lack (gone ++ went) ≡ lack gone + lack went
+both_lack gone went = sum_by-append (λ seat. cond (lacks_answers seat) 1 0) gone went
 
 module _ {L S E : Type 0} (told : L → List (Event S E) → Type 0) (are_ends : S → E → E → Type 0) where
   -- nothing passed, and the listener tells the same
-  pub passes_still : (g h : Gate L S) → h.guest ≡ g.guest → h.to_come ≡ g.to_come → h.most ≡ g.most → h.came ≡ g.came → h.gone ≡ g.gone
+  pub passes_still : (g h : Gate L S) → h.guest ≡ g.guest → h.to_come ≡ g.to_come → h.most ≡ g.most → h.came ≡ g.came → h.gone ≡ g.gone → h.unsent ≡ g.unsent
       → ((log : List (Event S E)) → told g.listener log → told h.listener log) → Passes told are_ends g h [] []
-  passes_still g h guest to_come most came gone tells = record {
+  passes_still g h guest to_come most came gone unsent tells = record {
     events = [];
     refused = 0;
     tells = λ log is. subst (told h.listener) (sym (append-nil log)) (tells log is);
@@ -63,18 +75,19 @@ module _ {L S E : Type 0} (told : L → List (Event S E) → Type 0) (are_ends :
     to_come = omega (arith, to_come, ap (λ w. length (those_of w)) guest);
     counted = omega (arith, came);
     left = omega (arith, gone);
+    unsent = none_lack {E} unsent;
   }
 
   pub passes_none : (g : Gate L S) → Passes told are_ends g g [] []
-  passes_none g = passes_still g g refl refl refl refl refl (λ log is. is)
+  passes_none g = passes_still g g refl refl refl refl refl refl (λ log is. is)
 
   -- one event, by which nobody comes or goes
   module _ (g h : Gate L S) (event : Event S E) (refused : ℕ)
       (step : (before : List (Event S E)) (cs gs : List (Seat (Gathered E) (Outbox E))) (n : ℕ) → Admits are_ends g.most before g.guest cs gs n
       → Admits are_ends g.most (before ++ event ∷ []) h.guest cs gs (n + refused)) where
-    pub passes_by : g.to_come + length (those_of g.guest) ≡ h.to_come + length (those_of h.guest) + refused → h.most ≡ g.most → h.came ≡ g.came → h.gone ≡ g.gone
+    pub passes_by : g.to_come + length (those_of g.guest) ≡ h.to_come + length (those_of h.guest) + refused → h.most ≡ g.most → h.came ≡ g.came → h.gone ≡ g.gone → h.unsent ≡ g.unsent
         → ((log : List (Event S E)) → told g.listener log → told h.listener (log ++ event ∷ [])) → Passes told are_ends g h [] []
-    passes_by to_come most came gone tells = record {
+    passes_by to_come most came gone unsent tells = record {
       events = event ∷ [];
       refused = refused;
       tells = tells;
@@ -85,71 +98,72 @@ module _ {L S E : Type 0} (told : L → List (Event S E) → Type 0) (are_ends :
       to_come = omega (arith, to_come);
       counted = omega (arith, came);
       left = omega (arith, gone);
+      unsent = none_lack {E} unsent;
     }
 
   -- one is accepted, and waits
-  pub accepts_one : (g h : Gate L S) (stream : S) → g.guest ≡ None → h.guest ≡ Some stream → g.to_come ≡ h.to_come + 1 → h.most ≡ g.most → h.came ≡ g.came → h.gone ≡ g.gone
+  pub accepts_one : (g h : Gate L S) (stream : S) → g.guest ≡ None → h.guest ≡ Some stream → g.to_come ≡ h.to_come + 1 → h.most ≡ g.most → h.came ≡ g.came → h.gone ≡ g.gone → h.unsent ≡ g.unsent
       → ((log : List (Event S E)) → told g.listener log → told h.listener (log ++ accepted stream ∷ [])) → Passes told are_ends g h [] []
-  accepts_one g h stream free waits to_come most came gone tells = passes_by g h (accepted stream) 0
+  accepts_one g h stream free waits to_come most came gone unsent tells = passes_by g h (accepted stream) 0
       (λ before cs gs n is.
       subst (λ k. Admits are_ends g.most (before ++ accepted stream ∷ []) h.guest cs gs k) (plus_none n)
       (subst (λ w. Admits are_ends g.most (before ++ accepted stream ∷ []) w cs gs n) (sym waits)
       (accepting.accepts before cs gs n stream (subst (λ w. Admits are_ends g.most before w cs gs n) free is))))
-      (omega (arith, to_come, ap (λ w. length (those_of w)) free, ap (λ w. length (those_of w)) waits)) most came gone tells
+      (omega (arith, to_come, ap (λ w. length (those_of w)) free, ap (λ w. length (those_of w)) waits)) most came gone unsent tells
 
   -- none can be accepted now, for a want
-  pub misses_one : (g h : Gate L S) (e : Error) → h.guest ≡ g.guest → h.to_come ≡ g.to_come → h.most ≡ g.most → h.came ≡ g.came → h.gone ≡ g.gone → IsWant e
+  pub misses_one : (g h : Gate L S) (e : Error) → h.guest ≡ g.guest → h.to_come ≡ g.to_come → h.most ≡ g.most → h.came ≡ g.came → h.gone ≡ g.gone → h.unsent ≡ g.unsent → IsWant e
       → ((log : List (Event S E)) → told g.listener log → told h.listener (log ++ missed e ∷ [])) → Passes told are_ends g h [] []
-  misses_one g h e waits to_come most came gone want tells = passes_by g h (missed e) 0
+  misses_one g h e waits to_come most came gone unsent want tells = passes_by g h (missed e) 0
       (λ before cs gs n is.
       subst (λ k. Admits are_ends g.most (before ++ missed e ∷ []) h.guest cs gs k) (plus_none n)
       (accepting.misses before h.guest cs gs n e (subst (λ w. Admits are_ends g.most before w cs gs n) (sym waits) is) want))
-      (omega (arith, to_come, ap (λ w. length (those_of w)) waits)) most came gone tells
+      (omega (arith, to_come, ap (λ w. length (those_of w)) waits)) most came gone unsent tells
 
   -- one can't be accepted, for no want
-  pub refuses_one : (g h : Gate L S) (e : Error) → h.guest ≡ g.guest → g.to_come ≡ h.to_come + 1 → h.most ≡ g.most → h.came ≡ g.came → h.gone ≡ g.gone → (IsWant e → ⊥)
+  pub refuses_one : (g h : Gate L S) (e : Error) → h.guest ≡ g.guest → g.to_come ≡ h.to_come + 1 → h.most ≡ g.most → h.came ≡ g.came → h.gone ≡ g.gone → h.unsent ≡ g.unsent → (IsWant e → ⊥)
       → ((log : List (Event S E)) → told g.listener log → told h.listener (log ++ missed e ∷ [])) → Passes told are_ends g h [] []
-  refuses_one g h e waits to_come most came gone lasts tells = passes_by g h (missed e) 1
+  refuses_one g h e waits to_come most came gone unsent lasts tells = passes_by g h (missed e) 1
       (λ before cs gs n is. accepting.refuses before h.guest cs gs n e (subst (λ w. Admits are_ends g.most before w cs gs n) (sym waits) is) lasts)
-      (omega (arith, to_come, ap (λ w. length (those_of w)) waits)) most came gone tells
+      (omega (arith, to_come, ap (λ w. length (those_of w)) waits)) most came gone unsent tells
 
   -- the ends of the one that waits can't be made now, for a want
   pub waits_on : (g h : Gate L S) (stream : S) (back : Option S) (e : Error) → g.guest ≡ Some stream → h.guest ≡ Some stream → h.to_come ≡ g.to_come → h.most ≡ g.most → h.came ≡ g.came
-      → h.gone ≡ g.gone → back ≡ Some stream → IsWant e
+      → h.gone ≡ g.gone → h.unsent ≡ g.unsent → back ≡ Some stream → IsWant e
       → ((log : List (Event S E)) → told g.listener log → told h.listener (log ++ unready back e ∷ [])) → Passes told are_ends g h [] []
-  waits_on g h stream back e waits still to_come most came gone it want tells = passes_by g h (unready back e) 0
+  waits_on g h stream back e waits still to_come most came gone unsent it want tells = passes_by g h (unready back e) 0
       (λ before cs gs n is.
       subst (λ k. Admits are_ends g.most (before ++ unready back e ∷ []) h.guest cs gs k) (plus_none n)
       (subst (λ b. Admits are_ends g.most (before ++ unready b e ∷ []) h.guest cs gs n) (sym it)
       (subst (λ w. Admits are_ends g.most (before ++ unready (Some stream) e ∷ []) w cs gs n) (sym still)
       (accepting.waits_on before stream cs gs n e (subst (λ w. Admits are_ends g.most before w cs gs n) waits is) want))))
-      (omega (arith, to_come, ap (λ w. length (those_of w)) waits, ap (λ w. length (those_of w)) still)) most came gone tells
+      (omega (arith, to_come, ap (λ w. length (those_of w)) waits, ap (λ w. length (those_of w)) still)) most came gone unsent tells
 
   -- the ends of the one that waits can't be made
   pub turns_away : (g h : Gate L S) (stream : S) (back : Option S) (e : Error) → g.guest ≡ Some stream → h.guest ≡ None → h.to_come ≡ g.to_come → h.most ≡ g.most → h.came ≡ g.came
-      → h.gone ≡ g.gone → (back ≡ None) ⊎ (IsWant e → ⊥)
+      → h.gone ≡ g.gone → h.unsent ≡ g.unsent → (back ≡ None) ⊎ (IsWant e → ⊥)
       → ((log : List (Event S E)) → told g.listener log → told h.listener (log ++ unready back e ∷ [])) → Passes told are_ends g h [] []
-  turns_away g h stream back e waits free to_come most came gone lost tells = passes_by g h (unready back e) 1
+  turns_away g h stream back e waits free to_come most came gone unsent lost tells = passes_by g h (unready back e) 1
       (λ before cs gs n is.
       subst (λ w. Admits are_ends g.most (before ++ unready back e ∷ []) w cs gs (n + 1)) (sym free)
       (accepting.turns_away before stream cs gs n back e (subst (λ w. Admits are_ends g.most before w cs gs n) waits is) lost))
-      (omega (arith, to_come, ap (λ w. length (those_of w)) waits, ap (λ w. length (those_of w)) free)) most came gone tells
+      (omega (arith, to_come, ap (λ w. length (those_of w)) waits, ap (λ w. length (those_of w)) free)) most came gone unsent tells
 
   -- the ends of the one that waits can't be made: it waits on, or is turned away
   pub puts_off : (g h : Gate L S) (stream : S) (back free : Option S) (e : Error) → g.guest ≡ Some stream → IfSome back (λ x. x ≡ stream)
       → ((x : S) × (back ≡ Some x) × IsWant e × (h.guest ≡ Some x)) ⊎ (((back ≡ None) ⊎ (IsWant e → ⊥)) × (h.guest ≡ free)) → free ≡ None
-      → h.to_come ≡ g.to_come → h.most ≡ g.most → h.came ≡ g.came → h.gone ≡ g.gone
+      → h.to_come ≡ g.to_come → h.most ≡ g.most → h.came ≡ g.came → h.gone ≡ g.gone → h.unsent ≡ g.unsent
       → ((log : List (Event S E)) → told g.listener log → told h.listener (log ++ unready back e ∷ [])) → Passes told are_ends g h [] []
-  puts_off g h stream back free e waits is (inl x) none to_come most came gone tells =
+  puts_off g h stream back free e waits is (inl x) none to_come most came gone unsent tells =
       let it : x.0 ≡ stream = subst (λ o. IfSome o (λ y. y ≡ stream)) x.1 is in
-      waits_on g h stream back e waits (x.3 ∙ ap Some it) to_come most came gone (x.1 ∙ ap Some it) x.2 tells
-  puts_off g h stream back free e waits is (inr x) none to_come most came gone tells = turns_away g h stream back e waits (x.1 ∙ none) to_come most came gone x.0 tells
+      waits_on g h stream back e waits (x.3 ∙ ap Some it) to_come most came gone unsent (x.1 ∙ ap Some it) x.2 tells
+  puts_off g h stream back free e waits is (inr x) none to_come most came gone unsent tells = turns_away g h stream back e waits (x.1 ∙ none) to_come most came gone unsent x.0 tells
 
   -- the one that waits comes
   pub comes_in : (g h : Gate L S) (stream : S) (seat : Seat (Gathered E) (Outbox E)) (reader writer : E) → g.guest ≡ Some stream → h.guest ≡ None → h.to_come ≡ g.to_come → h.most ≡ g.most
-      → h.came ≡ g.came + 1 → h.gone ≡ g.gone → g.came < g.gone + g.most → are_ends stream reader writer → seat.reader.inner.inner ≡ reader → seat.writer.inner.inner ≡ writer → IsNew seat → IsUntouched seat
+      → h.came ≡ g.came + 1 → h.gone ≡ g.gone → h.unsent ≡ g.unsent → g.came < g.gone + g.most → are_ends stream reader writer → seat.reader.inner.inner ≡ reader → seat.writer.inner.inner ≡ writer → IsNew seat → IsUntouched seat
       → ((log : List (Event S E)) → told g.listener log → told h.listener (log ++ opened reader writer ∷ [])) → Passes told are_ends g h (seat ∷ []) []
-  comes_in g h stream seat reader writer waits free to_come most came gone may ends reads writes new untouched tells = record {
+  comes_in g h stream seat reader writer waits free to_come most came gone unsent may ends reads writes new untouched tells = record {
     events = opened seat.reader.inner.inner seat.writer.inner.inner ∷ [];
     refused = 0;
     tells = λ log is.
@@ -166,23 +180,25 @@ module _ {L S E : Type 0} (told : L → List (Event S E) → Type 0) (are_ends :
     to_come = omega (arith, to_come, ap (λ w. length (those_of w)) waits, ap (λ w. length (those_of w)) free);
     counted = omega (arith, came);
     left = omega (arith, gone);
+    unsent = none_lack {E} unsent;
   }
 
   -- one goes
-  pub goes_out : (g h : Gate L S) (seat : Seat (Gathered E) (Outbox E)) → h.guest ≡ g.guest → h.to_come ≡ g.to_come → h.most ≡ g.most → h.came ≡ g.came → h.gone ≡ g.gone + 1 → IsSettled seat
+  pub goes_out : (g h : Gate L S) (seat : Seat (Gathered E) (Outbox E)) → h.guest ≡ g.guest → h.to_come ≡ g.to_come → h.most ≡ g.most → h.came ≡ g.came → h.gone ≡ g.gone + 1 → h.unsent ≡ g.unsent + count_by lacks_answers (seat ∷ []) → MayGo seat
       → ((log : List (Event S E)) → told g.listener log → told h.listener (log ++ closed seat ∷ [])) → Passes told are_ends g h [] (seat ∷ [])
-  goes_out g h seat guest to_come most came gone settled tells = record {
+  goes_out g h seat guest to_come most came gone unsent may tells = record {
     events = closed seat ∷ [];
     refused = 0;
     tells = tells;
     admits = λ before cs gs n is _ _.
         let at : Admits are_ends g.most before h.guest cs gs n = subst (λ w. Admits are_ends g.most before w cs gs n) (sym guest) is in
         subst (λ l. Admits are_ends g.most (before ++ closed seat ∷ []) h.guest l (gs ++ seat ∷ []) (n + 0)) (sym (append-nil cs))
-        (subst (λ k. Admits are_ends g.most (before ++ closed seat ∷ []) h.guest cs (gs ++ seat ∷ []) k) (plus_none n) (accepting.goes before h.guest cs gs n seat at settled));
+        (subst (λ k. Admits are_ends g.most (before ++ closed seat ∷ []) h.guest cs (gs ++ seat ∷ []) k) (plus_none n) (accepting.goes before h.guest cs gs n seat at may));
     most = most;
     to_come = omega (arith, to_come, ap (λ w. length (those_of w)) guest);
     counted = omega (arith, came);
     left = omega (arith, gone);
+    unsent = unsent;
   }
 
   -- this passed, and then that
@@ -207,6 +223,7 @@ module _ {L S E : Type 0} (told : L → List (Event S E) → Type 0) (are_ends :
     to_come = omega (arith, x.to_come, y.to_come, length-append came more);
     counted = omega (arith, x.counted, y.counted, length-append came more);
     left = omega (arith, x.left, y.left, length-append gone went);
+    unsent = omega (arith, x.unsent, y.unsent, both_lack gone went);
   }
 
   -- what passed since the gate began, and then this
@@ -223,12 +240,13 @@ module _ {L S E : Type 0} (told : L → List (Event S E) → Type 0) (are_ends :
     to_come = omega (arith, x.to_come, y.to_come, length-append came more);
     counted = omega (arith, x.counted, y.counted, length-append came more);
     left = omega (arith, x.left, y.left, length-append gone went);
+    unsent = omega (arith, x.unsent, y.unsent, both_lack gone went);
   }
 
   -- a gate that begins
   pub passed_none : (had : List (Event S E) → Type 0) (connections most : ℕ) (g : Gate L S) → ((log : List (Event S E)) → had log → told g.listener log) → g.guest ≡ None
-      → connections ≡ g.to_come → g.most ≡ most → g.came ≡ 0 → g.gone ≡ 0 → HasPassed had connections most told are_ends g [] []
-  passed_none had connections most g tells guest to_come bound came gone = record {
+      → connections ≡ g.to_come → g.most ≡ most → g.came ≡ 0 → g.gone ≡ 0 → g.unsent ≡ 0 → HasPassed had connections most told are_ends g [] []
+  passed_none had connections most g tells guest to_come bound came gone unsent = record {
     events = [];
     refused = 0;
     tells = λ log is. subst (told g.listener) (sym (append-nil log)) (tells log is);
@@ -237,6 +255,7 @@ module _ {L S E : Type 0} (told : L → List (Event S E) → Type 0) (are_ends :
     to_come = omega (arith, to_come, ap (λ w. length (those_of w)) guest);
     counted = omega (arith, came);
     left = omega (arith, gone);
+    unsent = none_lack {E} unsent;
   }
 
   module _ (remaining : Gathered E → Option (List ℕ)) (contents : Outbox E → Option (List ℕ)) where

@@ -1,5 +1,6 @@
 -- Connections that a listener accepted: they came, were served in turn, and went.
-use Rattle.std.specs.Prelude.{◌≡◌, ◌<◌, ◌≤◌, ◌+◌, ◌++◌, ◌∷◌, ◌⊎◌, zero, suc, ℕ, List, [], None, Option, Some, length, true}
+use Rattle.std.specs.Prelude.{◌≡◌, ◌<◌, ◌≤◌, ◌+◌, ◌++◌, ◌∷◌, ◌⊎◌, zero, suc, ℕ, Bool, List, [], is_some, None, Option, Some, length, true}
+use Rattle.std.specs.List.{count_by}
 use Rattle.std.specs.declared.io.Error.{Error}
 use Rattle.boxes.specs.State.{State}
 use Rattle.keeper.specs.declared.keep.Keeper.{Ghosts}
@@ -7,25 +8,44 @@ use Rattle.office.specs.Crowds.{ServesCrowd, slot_at, those_of}
 use Rattle.office.specs.Premise.{IsLeft, WasKept}
 use Rattle.office.specs.Seats.{IsNew}
 use Rattle.office.specs.declared.connections.seat.Seat.{Seat}
+use Rattle.office.specs.declared.connections.session.SessionEnd.TheVariants.{ReadFault}
 use Rattle.wire.specs.Feeds.{ahead_of}
-use Rattle.wire.specs.Gathering.{ahead_in}
+use Rattle.wire.specs.Gathering.{HasFailed, ahead_in}
 use Rattle.wire.specs.Outgoing.{NoneFailed, WriteFailed, waits_out}
 use Rattle.wire.specs.declared.gathered.Gathered.{Gathered}
 use Rattle.wire.specs.declared.outbox.Outbox.{Outbox}
 use Rattle.sockets.specs.Listening.{Event, IsWant, accepted, closed, missed, opened, unready}
 use Rattle.sockets.specs.declared.serving.Outcome.{Outcome}
 
--- nothing of it is ahead or waits, and no read or write of it has failed
-pub record IsUntouched {E : Type 0} (seat : Seat (Gathered E) (Outbox E)) : Type 0 where
+-- nothing of it is ahead or waits, and no read of it has failed
+pub record IsIdle {E : Type 0} (seat : Seat (Gathered E) (Outbox E)) : Type 0 where
   pub untaken : ahead_of seat.standing ≡ []
   pub unread : ahead_in seat.reader.inner ≡ []
   pub unsent : waits_out seat.writer.inner ≡ []
-  pub reads : seat.reader.inner.fault ≡ None
+  pub reads : HasFailed seat.reader.inner → ⊥
+
+-- the same, and no write of it has failed
+pub record IsUntouched {E : Type 0} (seat : Seat (Gathered E) (Outbox E)) : Type 0 where
+  pub idle : IsIdle seat
   pub writes : NoneFailed seat.writer.inner
 
 -- all that was written to it was sent, or a write of that failed
 abbrev pub IsSettled : {E : Type 0} → Seat (Gathered E) (Outbox E) → Type 0
 IsSettled seat = (waits_out seat.writer.inner ≡ []) ⊎ WriteFailed seat.writer.inner
+
+-- One that is open is idle. One that ended by a failed read had one: its reader failed, or was made to fail.
+pub record IsThrough {E : Type 0} (seat : Seat (Gathered E) (Outbox E)) : Type 0 where
+  pub idle : seat.end ≡ None → IsIdle seat
+  pub failed : seat.end ≡ Some ReadFault → HasFailed seat.reader.inner
+
+-- It may go.
+pub record MayGo {E : Type 0} (seat : Seat (Gathered E) (Outbox E)) : Type 0 where
+  pub settled : IsSettled seat
+  pub through : IsThrough seat
+
+-- a write of it failed, and what waited then was not sent
+abbrev pub lacks_answers : {E : Type 0} → Seat (Gathered E) (Outbox E) → Bool
+lacks_answers seat = is_some seat.writer.inner.fault
 
 -- What a listener did, one thing after another, and what became of its connections: which one was accepted and waits, which came,
 -- as they came, which went, as they were then, and how many were refused. are_ends: what the ends of a connection are; most: how
@@ -53,9 +73,9 @@ pub data Admits {S E : Type 0} (are_ends : S → E → E → Type 0) (most : ℕ
   -- its ends can't be made, for no want, or it is not there any more: it is refused
   turns_away : (events : List (Event S E)) (stream : S) (came gone : List (Seat (Gathered E) (Outbox E))) (refused : ℕ) (back : Option S) (e : Error)
       → Admits are_ends most events (Some stream) came gone refused → (back ≡ None) ⊎ (IsWant e → ⊥) → Admits are_ends most (events ++ unready back e ∷ []) None came gone (refused + 1)
-  -- one goes, to which all was sent, or a write to it failed: it is given back
+  -- one goes that may: it is given back
   goes : (events : List (Event S E)) (waits : Option S) (came gone : List (Seat (Gathered E) (Outbox E))) (refused : ℕ) (seat : Seat (Gathered E) (Outbox E))
-      → Admits are_ends most events waits came gone refused → IsSettled seat → Admits are_ends most (events ++ closed seat ∷ []) waits came (gone ++ seat ∷ []) refused
+      → Admits are_ends most events waits came gone refused → MayGo seat → Admits are_ends most (events ++ closed seat ∷ []) waits came (gone ++ seat ∷ []) refused
 
 -- how many may be open at a time, where this is asked for: one at the least
 abbrev pub at_least_one : ℕ → ℕ
@@ -63,9 +83,9 @@ at_least_one zero = 1
 at_least_one (suc n) = suc n
 
 -- Of a listener's connections these came, and those went; there are as many slots as may be open at a time; the outcome tells how many
--- came, and how many were refused. With one that
--- may wait still they are as many at the most as were to come. It tells that it was not broken off exactly where as many came or were
--- refused as were to come, all that came have gone, and no slot is taken. before, after: what the listener tells, before and after.
+-- came, how many were refused, and how many of those that went lack answers. With one that may wait still those that came or were
+-- refused are as many at the most as were to come. It tells that it was not broken off exactly where as many came or were refused as
+-- were to come, all that came have gone, and no slot is taken. before, after: what the listener tells, before and after.
 pub record Accepts {S E : Type 0} (before after : List (Event S E) → Type 0) (are_ends : S → E → E → Type 0) (connections most : ℕ)
     (came gone : List (Seat (Gathered E) (Outbox E))) (slots : List (Option (Seat (Gathered E) (Outbox E)))) (outcome : Outcome) : Type 0 where
   pub events : List (Event S E)
@@ -74,6 +94,7 @@ pub record Accepts {S E : Type 0} (before after : List (Event S E) → Type 0) (
   pub admits : Admits are_ends most events waits came gone outcome.refused
   pub room : length slots ≡ most
   pub counted : outcome.came ≡ length came
+  pub unsent : outcome.unsent ≡ count_by lacks_answers gone
   pub within : length came + outcome.refused + length (those_of waits) ≤ connections
   pub all : outcome.is_whole ≡ true → outcome.came + outcome.refused ≡ connections
   pub left : outcome.is_whole ≡ true → (length gone ≡ length came) × ((p : ℕ) → slot_at slots p ≡ None)

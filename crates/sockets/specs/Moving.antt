@@ -1,10 +1,11 @@
 -- What went on at the gate and in the slots, and what was counted of it.
 use Rattle.std.specs.Prelude.{◌≡◌, ◌+◌, ◌++◌, ℕ, List, Option, length}
+use Rattle.std.specs.List.{count_by}
 use Rattle.office.specs.Crowds.{Changes, those_of}
 use Rattle.office.specs.declared.connections.seat.Seat.{Seat}
 use Rattle.wire.specs.declared.gathered.Gathered.{Gathered}
 use Rattle.wire.specs.declared.outbox.Outbox.{Outbox}
-use Rattle.sockets.specs.Accepting.{Admits}
+use Rattle.sockets.specs.Accepting.{Admits, lacks_answers}
 use Rattle.sockets.specs.Listening.{Event}
 use Rattle.sockets.specs.declared.gate.Gate.{Gate}
 
@@ -21,6 +22,7 @@ pub record Passes {L S E : Type 0} (told : L → List (Event S E) → Type 0) (a
   pub to_come : old.to_come + length (those_of old.guest) ≡ new.to_come + length (those_of new.guest) + length more + refused
   pub counted : new.came ≡ old.came + length more
   pub left : new.gone ≡ old.gone + length went
+  pub unsent : new.unsent ≡ old.unsent + count_by lacks_answers went
 
 -- the same, and what may go on in slots
 abbrev pub Moves : {L S E : Type 0} → (L → List (Event S E) → Type 0) → (S → E → E → Type 0) → (Gathered E → Option (List ℕ)) → (Outbox E → Option (List ℕ)) → Gate L S → Gate L S
@@ -39,3 +41,4 @@ pub record HasPassed {L S E : Type 0} (had : List (Event S E) → Type 0) (conne
   pub to_come : connections ≡ gate.to_come + length (those_of gate.guest) + length came + refused
   pub counted : gate.came ≡ length came
   pub left : gate.gone ≡ length gone
+  pub unsent : gate.unsent ≡ count_by lacks_answers gone

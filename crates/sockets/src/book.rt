@@ -14,7 +14,6 @@ use mio::{Events, Interest, Poll, Token};
 use std::alloc::{AllocError, Global};
 use std::io::ErrorKind;
 use std::marker::PhantomData;
-use std::net::Net;
 use std::os::fd::AsRawFd;
 use std::time::{Duration, Instant};
 use std::{io, mem, time};
@@ -62,19 +61,19 @@ pub(crate) struct Book<'a, R, L: Listener> {
     of: PhantomData<L>,
 }
 
-impl<'a, R: Net + time::Clock, L: Listener> Book<'a, R, L> {
+impl<'a, R: time::Clock, L: Listener> Book<'a, R, L> {
     /// No connection has come.
     ///
     /// # Errors
     ///
-    /// Memory was refused, or the system can't tell which sockets are ready, or what time it is.
+    /// Memory was refused, or the poll does not take the listener, or the system can't tell what time it is.
     pub(crate) fn new(
         rt: &'a R,
+        poll: Poll,
         alloc: Global,
         listener: &L,
         limits: Limits,
     ) -> io::Result<Book<'a, R, L>> {
-        let poll = Poll::new(rt)?;
         listener.set_nonblocking(true)?;
         let fd = listener.as_raw_fd();
         poll.registry()
@@ -125,7 +124,7 @@ impl<R: time::Clock, L: Listener> Book<'_, R, L> {
         }
     }
 
-    /// A turn is due. The connection goes where memory is refused for that.
+    /// A turn is due. Where memory is refused for that, it is looked at again in the next round.
     pub(crate) fn make_due(&mut self, index: usize) -> Option<Deed> {
         if self.phase(index) == Phase::Due {
             return None;
@@ -135,7 +134,10 @@ impl<R: time::Clock, L: Listener> Book<'_, R, L> {
                 self.enter(index, Phase::Due);
                 None
             }
-            Err(_) => self.release(index),
+            Err(_) => {
+                self.is_behind = true;
+                None
+            }
         }
     }
 

@@ -1,10 +1,12 @@
 //! What is done to the connections in their slots.
-ghost use Rattle.std.specs.Prelude.{◌≡◌, ◌<◌, [], length, Ok};
-ghost use Rattle.office.specs.Crowds.{Changes, DoneAt};
+ghost use Rattle.std.specs.Prelude.{◌≡◌, ◌<◌, [], length, IfSome, IsFalse, IsTrue, Ok};
+ghost use Rattle.office.specs.Crowds.{Changes, DoneAt, slot_at};
 ghost use Rattle.office.specs.Slots.{ReadsAhead};
+ghost use Rattle.sockets.specs.Accepting.{IsThrough};
+ghost use Rattle.sockets.specs.Doing.{IsBusyAt};
 
 use crate::gate::Gate;
-use crate::held::{Held, ahead_len};
+use crate::held::{Held, ahead_len, is_through};
 use crate::socket::Listener;
 use office::{fail_slot, gather_slot, make_room_in_slot, send_slot, settle_slot};
 use std::alloc::AllocError;
@@ -62,7 +64,7 @@ impl<L: Listener> Gate<L, L::Stream> {
     ) -> Report
         ensures moves { Moves L.told L.are_ends ⟦<Gathered<L::End> as Read>⟧.remaining
             ⟦<Outbox<L::End> as Write>⟧.contents self.old self.new slots.old slots.new }
-        ensures does { Does ⟦<L::End as Read>⟧.remaining ⟦<L::End as Write>⟧.contents
+        ensures does { Does self.old.gone ⟦<L::End as Read>⟧.remaining ⟦<L::End as Write>⟧.contents
             ⟦<Gathered<L::End> as Read>⟧.remaining ⟦<Outbox<L::End> as Write>⟧.contents
             deed result slots.old slots.new index }
     {
@@ -90,16 +92,17 @@ impl<L: Listener> Gate<L, L::Stream> {
     ghost use Rattle.sockets.specs.Doing.{Does};
     ghost use Rattle.sockets.specs.Moving.{Moves};
 
-    // Sends on what waits. Where nothing waits any more, or a write failed, it makes the slot free.
+    // Where the connection is through, sends on what waits. Where nothing waits any more then, or a write failed, it makes the slot
+    // free.
     fn let_go(&mut self, slots: &mut [Option<Held<L::End>>], index: usize) -> Report
         requires { index < length slots.old }
         ensures moves { Moves L.told L.are_ends ⟦<Gathered<L::End> as Read>⟧.remaining
             ⟦<Outbox<L::End> as Write>⟧.contents self.old self.new slots.old slots.new }
-        ensures does { Does ⟦<L::End as Read>⟧.remaining ⟦<L::End as Write>⟧.contents
+        ensures does { Does self.old.gone ⟦<L::End as Read>⟧.remaining ⟦<L::End as Write>⟧.contents
             ⟦<Gathered<L::End> as Read>⟧.remaining ⟦<Outbox<L::End> as Write>⟧.contents
             Deed.Free result slots.old slots.new index }
     {
-        if !self.may_go() {
+        if !self.may_go() || !is_through_at(slots, index) {
             return Report::Nothing;
         }
         match send_slot(slots, index) {
@@ -109,6 +112,18 @@ impl<L: Listener> Gate<L, L::Stream> {
                 Report::Freed
             }
         }
+    }
+}
+
+// Whether the connection in the slot is through, if there is one.
+fn is_through_at<S: Read + Write>(slots: &[Option<Held<S>>], index: usize) -> bool
+    requires { index < length slots.now }
+    ensures told { IsTrue result → IfSome (slot_at slots.now index) (λ seat. IsThrough seat) }
+    ensures busy { IsFalse result → IsBusyAt slots.now index }
+{
+    match &slots[index] {
+        Some(seat) => is_through(seat),
+        None => true,
     }
 }
 

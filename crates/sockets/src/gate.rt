@@ -1,11 +1,11 @@
 //! The gate: which connections are accepted, which of them come into a slot, and which go from one.
-ghost use Rattle.std.specs.Prelude.{◌≡◌, ◌<◌, ◌⊎◌, ◌∷◌, ◌+◌, ℕ, [], is_some, length, slice_set, true, IfSome, None, Some};
+ghost use Rattle.std.specs.Prelude.{◌≡◌, ◌<◌, ◌≤◌, ◌⊎◌, ◌↔◌, ◌∷◌, ◌+◌, ℕ, [], is_some, length, slice_set, true, IfSome, None, Some};
 ghost use Rattle.office.specs.Crowds.{Changes, slot_at};
 ghost use Rattle.office.specs.Seats.{IsNew};
-ghost use Rattle.sockets.specs.Accepting.{IsSettled};
+ghost use Rattle.sockets.specs.Accepting.{MayGo};
 ghost use Rattle.sockets.specs.Listening.{IsWant};
 
-use crate::held::{Held, new_seat};
+use crate::held::{Held, lacking, new_seat};
 use crate::socket::{Listener, Unready};
 use office::{free_slot, open_slot};
 use std::alloc::Global;
@@ -59,6 +59,9 @@ pub(crate) struct Gate<L, S> {
     pub(crate) came: u64,
     // How many went from one.
     pub(crate) gone: u64,
+    // How many of them lack answers.
+    pub(crate) unsent: u64,
+    ghost lacking: { unsent ≤ gone },
 }
 
 impl<L: Listener> Gate<L, L::Stream> {
@@ -72,6 +75,7 @@ impl<L: Listener> Gate<L, L::Stream> {
         ensures most { result.most ≡ most }
         ensures came { result.came ≡ 0 }
         ensures gone { result.gone ≡ 0 }
+        ensures unsent { result.unsent ≡ 0 }
     {
         Gate {
             listener,
@@ -80,6 +84,7 @@ impl<L: Listener> Gate<L, L::Stream> {
             most,
             came: 0,
             gone: 0,
+            unsent: 0,
         }
     }
 
@@ -156,7 +161,8 @@ impl<L: Listener> Gate<L, L::Stream> {
         ensures guest { ((same : L.Stream) × (stream ≡ Some same) × IsWant error × (self.new.guest ≡ Some same))
             ⊎ (((stream ≡ None) ⊎ (IsWant error → ⊥)) × (self.new.guest ≡ self.old.guest)) }
         ensures others { (self.new.listener ≡ self.old.listener) × (self.new.to_come ≡ self.old.to_come)
-            × (self.new.most ≡ self.old.most) × (self.new.came ≡ self.old.came) × (self.new.gone ≡ self.old.gone) }
+            × (self.new.most ≡ self.old.most) × (self.new.came ≡ self.old.came) × (self.new.gone ≡ self.old.gone)
+            × (self.new.unsent ≡ self.old.unsent) }
     {
         let Some(stream) = stream else {
             return Entry::Away;
@@ -177,7 +183,7 @@ impl<L: Listener> Gate<L, L::Stream> {
 
     /// Whether one more that goes can be counted.
     pub(crate) fn may_go(&self) -> bool
-        ensures { result ≡ true → self.now.gone < 18446744073709551615 }
+        ensures { result ≡ true ↔ (self.now.gone < 18446744073709551615) }
     {
         self.gone < u64::MAX
     }
@@ -186,13 +192,14 @@ impl<L: Listener> Gate<L, L::Stream> {
     pub(crate) fn free(&mut self, slots: &mut [Option<Held<L::End>>], index: usize)
         requires within { index < length slots.old }
         requires counted { self.old.gone < 18446744073709551615 }
-        requires settled { IfSome (slot_at slots.old index) (λ seat. IsSettled seat) }
+        requires may { IfSome (slot_at slots.old index) (λ seat. MayGo seat) }
         ensures moves { Moves L.told L.are_ends ⟦<Gathered<L::End> as Read>⟧.remaining
             ⟦<Outbox<L::End> as Write>⟧.contents self.old self.new slots.old slots.new }
         ensures freed { slots.new ≡ slice_set slots.old index None }
     {
         if let Some(seat) = free_slot(slots, index) {
             self.gone += 1;
+            self.unsent += lacking(&seat);
             self.listener.close(seat);
         }
     }

@@ -1,9 +1,10 @@
 //! The connections in their slots, as the loop looks at them.
-ghost use Rattle.std.specs.Prelude.{◌≡◌};
+ghost use Rattle.std.specs.Prelude.{◌≡◌, ◌↔◌, ◌∷◌, [], IsTrue};
+ghost use Rattle.std.specs.List.{count_by};
 ghost use Rattle.office.specs.Seats.{IsNew};
-ghost use Rattle.sockets.specs.Accepting.{IsUntouched};
+ghost use Rattle.sockets.specs.Accepting.{IsIdle, IsThrough, IsUntouched, lacks_answers};
 
-use office::Seat;
+use office::{Seat, SessionEnd};
 use std::alloc::Global;
 use std::io::{Read, Write};
 use wire::{Gathered, Outbox};
@@ -33,6 +34,33 @@ pub(crate) fn waiting_len<S: Write>(slots: &[Option<Held<S>>], index: usize) -> 
         Some(seat) => seat.writer.inner.waiting().len(),
         None => 0,
     }
+}
+
+// Whether nothing of it is ahead or waits, and no read of it has failed.
+fn is_idle<S: Read + Write>(seat: &Held<S>) -> bool
+    ensures { IsTrue result ↔ IsIdle seat.now }
+{
+    let reader = &seat.reader.inner;
+    let is_read = seat.ahead().is_empty() && reader.ahead().is_empty() && !reader.has_failed();
+    is_read && seat.writer.inner.waiting().is_empty()
+}
+
+/// Whether it is idle or has ended; where it ended by a failed read, its reader failed.
+pub(crate) fn is_through<S: Read + Write>(seat: &Held<S>) -> bool
+    ensures { IsTrue result ↔ IsThrough seat.now }
+{
+    match seat.end() {
+        None => is_idle(seat),
+        Some(SessionEnd::ReadFault) => seat.reader.inner.has_failed(),
+        Some(_) => true,
+    }
+}
+
+/// 1 of a connection that lacks answers, and else 0.
+pub(crate) fn lacking<S: Read + Write>(seat: &Held<S>) -> u64
+    ensures { result ≡ count_by lacks_answers (seat.now ∷ []) }
+{
+    if seat.writer.inner.has_failed() { 1 } else { 0 }
 }
 
 /// A connection of which these are the ends. Nothing was read of it, or written to it.

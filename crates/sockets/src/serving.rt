@@ -12,11 +12,11 @@ use crate::socket::Listener;
 use crate::sockets::Sockets;
 use crate::start::Start;
 use keeper::Keeper;
+use mio::Poll;
 use office::{Clock, Office, Seat};
 use std::alloc::{AllocError, Global};
 use std::io::{Read, Write};
 use std::marker::Brand;
-use std::net::Net;
 use std::time::Duration;
 use std::{io, time};
 use wire::{Gathered, Outbox};
@@ -39,9 +39,11 @@ pub struct Outcome {
     pub came: u64,
     /// How many could not be accepted, or whose ends could not be made.
     pub refused: u64,
-    /// How many of those that came ended by a failed read or write, also where the loop made it fail, of a peer that was too slow. One
-    /// whose session had ended, and whose answers could not be sent, is not among them.
+    /// How many of those that came ended by a failed read or write, also where the loop made it fail, of a peer that was too slow.
     pub faulty: u64,
+    /// How many of those that went lack answers: a write of such a one failed, and what waited for its peer then was not sent. Its
+    /// session may have ended well before.
+    pub unsent: u64,
     /// Whether all that were to come have come, or were refused, and have gone. So it is, unless the loop took 2^64 - 1 steps or
     /// turns.
     pub is_whole: bool,
@@ -60,13 +62,14 @@ pub struct Served<L, E> {
 }
 
 /// Accepts so many connections of a listener and serves them in turn, a message at a time, in one loop that waits for none of
-/// them. It ends once all have come, or were refused, and have gone. There is one order of all messages, in which the machine leads
+/// them. The poll, of which nothing is asked yet, tells which sockets are ready. It ends once all have come, or were refused, and have gone. There is one order of all messages, in which the machine leads
 /// from the state before to the state after; each connection's answers, and its end, are those of its own messages; and over all of
 /// them an upload acts once. The listener tells what it did: each connection that it accepted came, once and in order, or was
 /// refused, or waited when the loop broke off; and each that went was given back to it, as it was when it went, once all that was
 /// written to it was sent, or a write of that failed.
-pub fn serve<K: Keeper, C: Clock, L: Listener, R: Net + time::Clock>(
+pub fn serve<K: Keeper, C: Clock, L: Listener, R: time::Clock>(
     rt: &R,
+    poll: Poll,
     office: &mut Office<K>,
     listener: L,
     limits: Limits,
@@ -86,7 +89,8 @@ pub fn serve<K: Keeper, C: Clock, L: Listener, R: Net + time::Clock>(
 {
     let connections = limits.connections;
     let open = at_least_one(limits.open);
-    let (book, mut slots) = match prepare(rt, office.alloc, &listener, Limits { open, ..limits }) {
+    let limits = Limits { open, ..limits };
+    let (book, mut slots) = match prepare(rt, poll, office.alloc, &listener, limits) {
         Ok(prepared) => prepared,
         Err(error) => {
             return Served {
@@ -113,8 +117,9 @@ pub fn serve<K: Keeper, C: Clock, L: Listener, R: Net + time::Clock>(
 }
 
 // What the loop keeps, and free slots.
-fn prepare<'a, L: Listener, R: Net + time::Clock>(
+fn prepare<'a, L: Listener, R: time::Clock>(
     rt: &'a R,
+    poll: Poll,
     alloc: Global,
     listener: &L,
     limits: Limits,
@@ -122,7 +127,7 @@ fn prepare<'a, L: Listener, R: Net + time::Clock>(
     ensures free { IfOk result (λ prepared. (p : ℕ) → slot_at prepared.1.items p ≡ None) }
     ensures room { IfOk result (λ prepared. length prepared.1.items ≡ limits.«open») }
 {
-    let book = Book::new(rt, alloc, listener, limits)?;
+    let book = Book::new(rt, poll, alloc, listener, limits)?;
     let slots = free_slots(alloc, limits.open)?;
     Ok((book, slots))
 }
@@ -158,6 +163,7 @@ fn serve_through<K: Keeper, C: Clock, L: Listener, R: time::Clock, S: Start<L::S
     let gate = sockets.into_gate();
     let came = gate.came;
     let gone = gate.gone;
+    let unsent = gate.unsent;
     let (listener, to_come, waits) = gate.close();
     let refused = refused_of(connections, to_come, came, waits);
     let have_all_come = have_come(came, refused, connections);
@@ -166,6 +172,7 @@ fn serve_through<K: Keeper, C: Clock, L: Listener, R: time::Clock, S: Start<L::S
         came,
         refused,
         faulty,
+        unsent,
         is_whole: are_all(have_all_come, have_all_gone, are_free(slots)),
     };
     (listener, outcome)

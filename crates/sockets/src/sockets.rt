@@ -149,7 +149,8 @@ impl<R: time::Clock, L: Listener, S: Start<L::Stream, L::End>> Crowd<
                     self.turns -= 1;
                     return Some(due);
                 }
-                Next::Turn(due) => task = Some(Task::go(due.index)),
+                Next::Turn(due) if self.turns > 0 => task = Some(Task::go(due.index)),
+                Next::Turn(_) => return None,
                 Next::Over => return None,
             }
         }

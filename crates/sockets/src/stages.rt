@@ -112,10 +112,17 @@ impl<R: time::Clock, L: Listener> Book<'_, R, L> {
             return Step::Go(None);
         }
         let Some(room) = self.take_room() else {
-            return Step::Go(Some(Task::go(index)));
+            return self.put_off(index);
         };
         self.turned = Some(index);
         Step::Turn(Due { index, room })
+    }
+
+    // Its turn comes in a later round: there is no memory for its room now.
+    fn put_off(&mut self, index: usize) -> Step {
+        self.enter(index, Phase::Silent);
+        self.make_due(index);
+        Step::Go(None)
     }
 
     // The room for a turn, if memory is found.

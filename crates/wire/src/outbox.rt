@@ -62,6 +62,13 @@ impl<S: Write> Outbox<S> {
         &self.bytes[self.start..]
     }
 
+    /// Whether a write failed, or took none of some bytes: what waits is not sent any more.
+    pub fn has_failed(&self) -> bool
+        ensures { IsTrue result ↔ WriteFailed self.now }
+    {
+        self.fault.is_some()
+    }
+
     /// Hands what waits to the writer once, if anything does. Where nothing waits any more, it lets go of its memory.
     pub fn send(&mut self) -> Sending
         ensures sent { result ≡ Sending.Sent ↔ ((waits_out self.new ≡ []) × NoneFailed self.new) }

@@ -11,7 +11,7 @@ returns-clause-serves g c =
     let had = g.S.Start.told in
     let start = c.new.ensures in
     let first = passed_none told ends had g.S.Start.connections g.S.Start.most c.new.result (λ log is. subst (λ l. told l log) (sym start.listener) (c.requires.told log is))
-    start.guest (sym c.requires.connections ∙ sym start.to_come) (start.most ∙ c.requires.most) start.came start.gone in
+    start.guest (sym c.requires.connections ∙ sym start.to_come) (start.most ∙ c.requires.most) start.came start.gone start.unsent in
     let begun = subst (λ x. HasPassed had g.S.Start.connections g.S.Start.most told ends x [] []) (sym c.new-sockets.ensures.gate) first in
     let all = c.serve_crowd-faulty.ensures.serves [] [] begun (λ p. zero) [] tt in
     let gate = c.into_gate-gate.result in
@@ -31,6 +31,7 @@ returns-clause-serves g c =
         admits = subst (λ n. Admits ends c.args.most passed.events gate.guest all.0 all.1 n) (sym refused) passed.admits;
         room = c.serve_crowd-faulty.auto.slots ∙ c.requires.room;
         counted = passed.counted;
+        unsent = passed.unsent;
         within = omega (arith, passed.to_come, refused);
         all = λ whole. c.have_come-have_all_come.ensures.told ((c.are_all.ensures.each whole).0);
         left = λ whole. (

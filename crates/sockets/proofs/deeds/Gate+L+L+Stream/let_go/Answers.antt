@@ -1,5 +1,5 @@
 use Rattle.std.proofs.Common.{refl, arith}
-use Rattle.sockets.proofs.Freed.{sent_free, sent_length, sent_settled, sent_waits}
+use Rattle.sockets.proofs.Freed.{sent_free, sent_length, sent_may_go, sent_waits}
 use Rattle.sockets.proofs.Moved.{moves_none, moves_still, moves_then}
 use Rattle.sockets.proofs.deeds.Gate+L+L+Stream.let_go.Goals as goal
 
@@ -11,8 +11,8 @@ free-requires g c =
     let done = c.send_slot.ensures.done in
     record {
       within = omega (arith, c.requires, sent_length _ _ _ _ c.args.slots.now c.send_slot.new.slots c.args.index done);
-      counted = c.may_go.ensures c.if-not-may_go.false;
-      settled = sent_settled _ _ _ _ c.args.slots.now c.send_slot.new.slots c.args.index done c.in-Sent.is c.requires;
+      counted = c.may_go.ensures.0 c.if-not-may_go.false;
+      may = sent_may_go _ _ _ _ c.args.slots.now c.send_slot.new.slots c.args.index done c.in-Sent.is c.requires (c.is_through_at.ensures.told c.if-is_through_at.true);
     }
 
 pub returns-in-Waits-clause-moves : goal.returns-in-Waits-clause-moves

@@ -1,14 +1,14 @@
-use Rattle.std.proofs.Common.{[], ◌∷◌, ◌∙◌, refl, sym}
-use Rattle.sockets.proofs.Moved.{goes_out, passes_none, settled_of, went_none, went_one}
+use Rattle.std.proofs.Common.{[], ◌∷◌, ◌∙◌, ◌+◌, ap, refl, sym}
+use Rattle.sockets.proofs.Moved.{goes_out, passes_none, may_of, went_none, went_one}
 use Rattle.sockets.proofs.gate.Gate+L+L+Stream.free.Goals as goal
 
 pub returns-in-Some-clause-moves : goal.returns-in-Some-clause-moves
 returns-in-Some-clause-moves g c =
     let seat = c.in-Some.seat in
-    let settled = settled_of _ seat (sym c.free_slot.ensures.given ∙ c.in-Some.is) c.requires.settled in (
+    let may = may_of _ seat (sym c.free_slot.ensures.given ∙ c.in-Some.is) c.requires.may in (
       [],
       seat ∷ [],
-      goes_out _ _ c.args.self.now _ seat refl refl refl refl refl settled c.close.ensures.closed,
+      goes_out _ _ c.args.self.now _ seat refl refl refl refl refl (ap (λ n. c.args.self.now.unsent + n) c.lacking.ensures) may c.close.ensures.closed,
       went_one c.free_slot.result seat c.in-Some.is c.free_slot.ensures.changes,
     )
 

@@ -11,7 +11,7 @@ returns-then-not-may_open g c = record { moves = moves_none _ _ _ _ c.args.self.
 
 pub returns-in_default-take : goal.returns-in_default-take
 returns-in_default-take g c =
-    let stays = passes_still _ _ c.args.self.now _ (c.take.ensures.after ∙ (sym c.in_default-take.is ∙ c.take.ensures.value)) refl refl refl refl (λ log is. is) in
+    let stays = passes_still _ _ c.args.self.now _ (c.take.ensures.after ∙ (sym c.in_default-take.is ∙ c.take.ensures.value)) refl refl refl refl refl (λ log is. is) in
     record { moves = moves_called _ _ _ _ c.args.self.now _ c.args.slots.now stays }
 
 pub returns-in-Ok : goal.returns-in-Ok
@@ -19,7 +19,7 @@ returns-in-Ok g c =
     let seat = c.new_seat.result in
     let new = c.new_seat.ensures in
     let waits = sym c.take.ensures.value ∙ c.in-Some-take.is in
-    let comes = comes_in _ _ c.args.self.now _ c.in-Some-take.stream seat c.in-Ok.reader c.in-Ok.writer waits c.take.ensures.after refl refl (omega (arith, c.in-Some.ensures)) refl
+    let comes = comes_in _ _ c.args.self.now _ c.in-Some-take.stream seat c.in-Ok.reader c.in-Ok.writer waits c.take.ensures.after refl refl (omega (arith, c.in-Some.ensures)) refl refl
     (c.may_open.ensures c.if-not-may_open.false) c.in-Ok.ensures.ends new.reader new.writer new.new new.untouched c.in-Ok.ensures.opened in
     record { moves = (seat ∷ [], [], comes, c.seat_in-index.ensures) }
 
@@ -31,5 +31,5 @@ returns-in-Err g c =
     let others = c.put_off.ensures.others in
     let waits = sym c.take.ensures.value ∙ c.in-Some-take.is in
     let passes = puts_off _ _ c.args.self.now c.put_off.new.self c.in-Some-take.stream back c.take.new.self error waits c.in-Err.ensures.back c.put_off.ensures.guest c.take.ensures.after others.1 others.2
-    others.3 others.4 (λ log is. subst (λ l. told l (log ++ unready back error ∷ [])) (sym others.0) (c.in-Err.ensures.unready log is)) in
+    others.3 others.4 others.5 (λ log is. subst (λ l. told l (log ++ unready back error ∷ [])) (sym others.0) (c.in-Err.ensures.unready log is)) in
     record { moves = moves_called _ _ _ _ c.args.self.now c.put_off.new.self c.args.slots.now passes }
