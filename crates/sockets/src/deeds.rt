@@ -86,11 +86,6 @@ impl<L: Listener> Gate<L, L::Stream> {
             Deed::Free => self.let_go(slots, index),
         }
     }
-}
-
-impl<L: Listener> Gate<L, L::Stream> {
-    ghost use Rattle.sockets.specs.Doing.{Does};
-    ghost use Rattle.sockets.specs.Moving.{Moves};
 
     // Where the connection is through, sends on what waits. Where nothing waits any more then, or a write failed, it makes the slot
     // free.
