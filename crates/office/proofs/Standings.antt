@@ -18,14 +18,14 @@ module _ {X : Type 0} where
       let m = set l i x in
       let long = length-set l i x in
       let before : swap m i j ≡ set (set l i (get_or m j x)) j x =
-          sym (swap_is m i j x (omega (arith, long, lt)) (omega (arith, long, lt'))) ∙ ap (λ (y : X). set (set m i (get_or m j x)) j y) (get_or-set_same l i x x lt) ∙ ap (λ (k : List X). set k j x) (set-set l i x (get_or m j x)) in
+      sym (swap_is m i j x (omega (arith, long, lt)) (omega (arith, long, lt'))) ∙ ap (λ (y : X). set (set m i (get_or m j x)) j y) (get_or-set_same l i x x lt) ∙ ap (λ (k : List X). set k j x) (set-set l i x (get_or m j x)) in
       let behind : set (swap l i j) j x ≡ set (set l i (get_or l j x)) j x =
-          ap (λ (k : List X). set k j x) (sym (swap_is l i j x lt lt')) ∙ set-set (set l i (get_or l j x)) j (get_or l i x) x in
+      ap (λ (k : List X). set k j x) (sym (swap_is l i j x lt lt')) ∙ set-set (set l i (get_or l j x)) j (get_or l i x) x in
       let between : set (set l i (get_or m j x)) j x ≡ set (set l i (get_or l j x)) j x =
-          ⊎_elim
-          (λ (e : j ≡ i). subst (λ (k : ℕ). set (set l i (get_or m j x)) k x ≡ set (set l i (get_or l j x)) k x) (sym e) (set-set l i (get_or m j x) x ∙ sym (set-set l i (get_or l j x) x)))
-          (λ (ne : j ≡ i → ⊥). ap (λ (y : X). set (set l i y) j x) (get_or-set_other l i j x x ne))
-          (cases_eq j i) in
+      ⊎_elim
+      (λ (e : j ≡ i). subst (λ (k : ℕ). set (set l i (get_or m j x)) k x ≡ set (set l i (get_or l j x)) k x) (sym e) (set-set l i (get_or m j x) x ∙ sym (set-set l i (get_or l j x) x)))
+      (λ (ne : j ≡ i → ⊥). ap (λ (y : X). set (set l i y) j x) (get_or-set_other l i j x x ne))
+      (cases_eq j i) in
       before ∙ between ∙ sym behind
 
   swap_flips : (l : List X) (i j : ℕ) (d : X) → (i ≡ j → ⊥) → i < length l → j < length l → swap l i j ≡ swap l j i
@@ -55,7 +55,7 @@ module _ {X : Type 0} where
         let long = length-set l i (get_or l j old) in
         let whole = length-swap l i j in
         let last : get_or (swap l i j) j old ≡ get_or l i old =
-            ap (λ (m : List X). get_or m j old) (sym (swap_is l i j old lt lt')) ∙ get_or-set_same (set l i (get_or l j old)) j (get_or l i old) old (omega (arith, long, lt')) in (
+        ap (λ (m : List X). get_or m j old) (sym (swap_is l i j old lt lt')) ∙ get_or-set_same (set l i (get_or l j old)) j (get_or l i old) old (omega (arith, long, lt')) in (
           j,
           omega (arith, whole, lt'),
           is ∙ ap (λ (n : ℕ). get_or l n old) e ∙ sym last,
@@ -69,7 +69,7 @@ module _ {X : Type 0} where
     stands_other l i j k lt lt' ni nj within is so =
         let whole = length-swap l i j in
         let there : get_or (swap l i j) k old ≡ get_or l k old =
-            ap (λ (m : List X). get_or m k old) (sym (swap_is l i j old lt lt')) ∙ get_or-set_other (set l i (get_or l j old)) j k (get_or l i old) old nj ∙ get_or-set_other l i k (get_or l j old) old ni in (
+        ap (λ (m : List X). get_or m k old) (sym (swap_is l i j old lt lt')) ∙ get_or-set_other (set l i (get_or l j old)) j k (get_or l i old) old nj ∙ get_or-set_other l i k (get_or l j old) old ni in (
           k,
           omega (arith, whole, within),
           is ∙ sym there,
@@ -150,6 +150,6 @@ module _ {X : Type 0} where
         let rest = remove seats n in
         let free = standing_in (set slots p None) in
         let same : IsPermutation (old ∷ rest) (old ∷ gone ++ free) =
-            IsPermutation-trans _ _ _ (IsPermutation-sym _ _ (IsPermutation-remove seats n old fits is)) (IsPermutation-trans _ _ _ all (between_both gone (standing_in slots) free old (slot_goes slots p old lt at))) in
+        IsPermutation-trans _ _ _ (IsPermutation-sym _ _ (IsPermutation-remove seats n old fits is)) (IsPermutation-trans _ _ _ all (between_both gone (standing_in slots) free old (slot_goes slots p old lt at))) in
         IsPermutation-trans _ _ _ (set_parts seats n new fits)
         (IsPermutation-trans _ _ _ (another_first old rest (gone ++ free) same new) (IsPermutation-sym _ _ (between_both gone _ free new (slot_parts slots p new lt))))
