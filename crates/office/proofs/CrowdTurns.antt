@@ -1,13 +1,13 @@
 -- Connections that come, are served in turn, and go: what each change, and each turn, makes of them.
-use Rattle.std.proofs.Common.{◌≡◌, ◌<◌, ◌+◌, ℕ, zero, suc, Bool, true, false, cond, List, [], ◌∷◌, ◌++◌, length, get_or, map, set, Option, Some, None, refl, sym, ap, subst, ◌∙◌, append_assoc, arith}
+use Rattle.std.proofs.Common.{◌≡◌, ◌<◌, ◌+◌, ℕ, zero, suc, Bool, true, false, cond, List, [], ◌∷◌, ◌++◌, IsPermutation, length, get_or, map, set, Option, Some, None, refl, sym, ap, subst, ◌∙◌, append_assoc, arith}
 use Rattle.std.specs.Prelude.{is_some, not, slice_get}
 use Rattle.std.specs.List.{count_by}
-use Rattle.std.proofs.lemmas.List.{append-nil, length-append, length-map, length_push, map_push}
+use Rattle.std.proofs.lemmas.List.{append-nil, length-append, length-map, map_push}
 use Rattle.std.proofs.lemmas.List.Sums.{sum_by-cons, sum_by-set, sum_by_push}
 use Rattle.std.proofs.lemmas.Option.{slice_get_within}
 use Rattle.keeper.specs.declared.keep.Keeper.{Ghosts}
 use Rattle.boxes.specs.State.{State}
-use Rattle.office.specs.Crowds.{Changes, IsOpenAt, ServesCrowd, TurnsSlot, fails_now, is_fault_end, number_of, numbers_after, slot_at, taken_slots}
+use Rattle.office.specs.Crowds.{Changes, IsOpenAt, ServesCrowd, TurnsSlot, fails_now, is_fault_end, number_of, numbers_after, slot_at, standing_in}
 use Rattle.office.specs.Crowds as crowd
 use Rattle.office.specs.Interleaved.{Thread, Turn}
 use Rattle.office.specs.Premise.{IsLeft}
@@ -16,7 +16,8 @@ use Rattle.office.specs.declared.connections.seat.Seat.{Seat}
 use Rattle.office.specs.declared.connections.session.SessionEnd.{SessionEnd}
 use Rattle.office.proofs.RunSoFar.{MeansOne}
 use Rattle.office.proofs.SeatTurns.{AllTell, TurnsMore, as_many, gathered_seat, gathers_tell, seat_comes, sent_seat, tell_comes, tell_more, tell_sent, turns_more, weaves_last}
-use Rattle.office.proofs.Ties.{AreNumbered, Ties, gone_among, no_other_stands, none_is, numbered_comes, numbered_goes, numbered_none, numbered_set, some_is, ties_comes, ties_goes, ties_none, ties_set}
+use Rattle.office.proofs.Standings.{all_comes, all_goes, all_none, all_set}
+use Rattle.office.proofs.Ties.{AreNumbered, Ties, none_is, numbered_comes, numbered_goes, numbered_none, numbered_set, some_is, ties_comes, ties_goes, ties_none, ties_set}
 use Rattle.office.proofs.Weaving.{starts}
 
 -- ---- how many ended by a fault
@@ -64,38 +65,6 @@ module _ {R W : Type 0} where
       let same : one_if c.end ≡ one_if n.end = ap one_if are.0 in
       omega (arith, rest, same, faults_first n ns, threads_first c cs)
 
--- ---- how many slots are taken
-
-module _ {X : Type 0} where
-  abbrev one_in : Option X → ℕ
-  one_in o = cond (is_some o) 1 0
-
-  taken_set : (slots : List (Option X)) (p : ℕ) (old new : Option X) → p < length slots → slot_at slots p ≡ old → taken_slots (set slots p new) + one_in old ≡ taken_slots slots + one_in new
-  taken_set slots p old new lt at =
-      subst (λ (o : Option X). taken_slots (set slots p new) + one_in o ≡ taken_slots slots + one_in new) at (sum_by-set one_in slots p new None lt)
-
-  taken_comes : (slots : List (Option X)) (p : ℕ) (new : X) → p < length slots → slot_at slots p ≡ None → taken_slots (set slots p (Some new)) ≡ taken_slots slots + 1
-  taken_comes slots p new lt free =
-      let all : taken_slots (set slots p (Some new)) + 0 ≡ taken_slots slots + 1 = taken_set slots p None (Some new) lt free in
-      omega (arith, all)
-
-  taken_stays : (slots : List (Option X)) (p : ℕ) (old new : X) → p < length slots → slot_at slots p ≡ Some old → taken_slots (set slots p (Some new)) ≡ taken_slots slots
-  taken_stays slots p old new lt at =
-      let all : taken_slots (set slots p (Some new)) + 1 ≡ taken_slots slots + 1 = taken_set slots p (Some old) (Some new) lt at in
-      omega (arith, all)
-
-  taken_goes : (slots : List (Option X)) (p : ℕ) (old : X) → p < length slots → slot_at slots p ≡ Some old → taken_slots (set slots p None) + 1 ≡ taken_slots slots
-  taken_goes slots p old lt at =
-      let all : taken_slots (set slots p None) + 1 ≡ taken_slots slots + 0 = taken_set slots p (Some old) None lt at in
-      omega (arith, all)
-
-  none_taken : (slots : List (Option X)) → ((p : ℕ) → slot_at slots p ≡ None) → taken_slots slots ≡ 0
-  none_taken [] free = refl
-  none_taken (o ∷ slots) free =
-      let first : one_in o ≡ 0 = ap one_in (free 0) in
-      let rest = none_taken slots (λ p. free (suc p)) in
-      omega (arith, sum_by-cons one_in o slots, first, rest)
-
 -- ---- one that has a slot
 
 stands : {X : Type 0} (l : List X) (n : ℕ) (x : X) → slice_get l n ≡ Some x → get_or l n x ≡ x
@@ -115,9 +84,9 @@ module _ {R W : Type 0} (remaining : R → Option (List ℕ)) (contents : W → 
       (clock clock' : C) (keeper keeper' : K) (faults : ℕ) (s mid : State) : Type 0 where
     pub seats : List (Seat R W)
     pub number : ℕ → ℕ
-    pub ties : Ties slots number seats gone
+    pub ties : Ties slots number seats
     pub numbered : AreNumbered slots numbers first number
-    pub in_all : length came ≡ length gone + taken_slots slots
+    pub all : IsPermutation seats (gone ++ standing_in slots)
     pub whose : List ℕ
     pub turned : TurnsMore remaining contents gives k came seats whose clock clock' keeper keeper' s mid
     pub are_given : map (λ n. first + n) whose ≡ given
@@ -139,9 +108,9 @@ module _ {R W : Type 0} (remaining : R → Option (List ℕ)) (contents : W → 
       comes_more slots numbers came gone p n new lt free is before t = record {
         seats = t.seats ++ new ∷ [];
         number = number_of p (length t.seats) t.number;
-        ties = ties_comes slots t.number t.seats gone t.ties p lt new free;
-        numbered = numbered_comes slots t.number t.seats gone t.ties p lt new free numbers first n (omega (arith, before, as_many came t.seats t.tell)) t.numbered;
-        in_all = let more = taken_comes slots p new lt free in omega (arith, t.in_all, more, length_push came new);
+        ties = ties_comes slots t.number t.seats t.ties p lt new;
+        numbered = numbered_comes slots t.number t.seats t.ties p lt new numbers first n (omega (arith, before, as_many came t.seats t.tell)) t.numbered;
+        all = all_comes t.seats gone slots t.all p lt new free;
         whose = t.whose;
         turned = seat_comes remaining contents gives k came t.seats clock clock' keeper keeper' s mid new is t.turned;
         are_given = t.are_given;
@@ -161,9 +130,9 @@ module _ {R W : Type 0} (remaining : R → Option (List ℕ)) (contents : W → 
           record {
             seats = set t.seats n new;
             number = t.number;
-            ties = ties_set slots t.number t.seats gone t.ties p lt old new at;
-            numbered = numbered_set slots t.number t.seats gone t.ties p lt old new at numbers first t.numbered;
-            in_all = t.in_all ∙ ap (λ n. length gone + n) (sym (taken_stays slots p old new lt at));
+            ties = ties_set slots t.number t.seats t.ties p lt old new at;
+            numbered = numbered_set slots t.number t.seats t.ties p lt old new at numbers first t.numbered;
+            all = all_set t.seats gone slots t.all p lt n old new fits is at;
             whose = t.whose;
             turned = gathered_seat remaining contents gives k came t.seats clock clock' keeper keeper' s mid n old new fits open_there (subst (λ (x : Seat R W). Gathers remaining x new) is g) t.turned;
             are_given = t.are_given;
@@ -182,9 +151,9 @@ module _ {R W : Type 0} (remaining : R → Option (List ℕ)) (contents : W → 
           record {
             seats = set t.seats n new;
             number = t.number;
-            ties = ties_set slots t.number t.seats gone t.ties p lt old new at;
-            numbered = numbered_set slots t.number t.seats gone t.ties p lt old new at numbers first t.numbered;
-            in_all = t.in_all ∙ ap (λ n. length gone + n) (sym (taken_stays slots p old new lt at));
+            ties = ties_set slots t.number t.seats t.ties p lt old new at;
+            numbered = numbered_set slots t.number t.seats t.ties p lt old new at numbers first t.numbered;
+            all = all_set t.seats gone slots t.all p lt n old new fits is at;
             whose = t.whose;
             turned = sent_seat remaining contents gives k came t.seats clock clock' keeper keeper' s mid n old new fits there t.turned;
             are_given = t.are_given;
@@ -197,9 +166,9 @@ module _ {R W : Type 0} (remaining : R → Option (List ℕ)) (contents : W → 
       goes_more slots numbers came gone p seat lt at t = record {
         seats = t.seats;
         number = t.number;
-        ties = ties_goes slots t.number t.seats gone t.ties p lt seat at;
-        numbered = numbered_goes slots t.number t.seats gone t.ties p lt seat at numbers first t.numbered;
-        in_all = let fewer = taken_goes slots p seat lt at in omega (arith, t.in_all, fewer, length_push gone seat);
+        ties = ties_goes slots t.number t.seats t.ties p lt;
+        numbered = numbered_goes slots t.number t.seats t.ties p lt numbers first t.numbered;
+        all = all_goes t.seats gone slots t.all p lt seat at;
         whose = t.whose;
         turned = t.turned;
         are_given = t.are_given;
@@ -240,9 +209,9 @@ module _ {R W : Type 0} (remaining : R → Option (List ℕ)) (contents : W → 
           record {
             seats = set t.seats n new;
             number = t.number;
-            ties = ties_set slots t.number t.seats gone t.ties p lt old new at;
-            numbered = numbered_set slots t.number t.seats gone t.ties p lt old new at numbers first t.numbered;
-            in_all = t.in_all ∙ ap (λ n. length gone + n) (sym (taken_stays slots p old new lt at));
+            ties = ties_set slots t.number t.seats t.ties p lt old new at;
+            numbered = numbered_set slots t.number t.seats t.ties p lt old new at numbers first t.numbered;
+            all = all_set t.seats gone slots t.all p lt n old new fits is at;
             whose = t.whose ++ n ∷ [];
             turned = turns_more remaining contents gives k came t.seats clock clock' clock'' keeper keeper' keeper'' s mid after n old new fits open_there
                 (subst (λ (x : Seat R W). TakesTurn gives remaining contents x new clock' clock'' k keeper' keeper'' mid after) is turn) t.turned;
@@ -276,10 +245,7 @@ module _ {R W : Type 0} (remaining : R → Option (List ℕ)) (contents : W → 
         let are : map (λ (u : Turn). first + u.which) w.run.turns ≡ given = whose_are first w.run.turns ∙ ap (map (λ n. first + n)) w.in_order ∙ t.are_given in
         record {
           seats = t.seats;
-          went = gone_among slots t.number t.seats gone t.ties;
-          stand = λ p seat at. (t.number p, t.ties.each p seat at);
-          no_other = no_other_stands slots t.number t.seats gone t.ties;
-          in_all = t.in_all;
+          all = t.all;
           taken = ap length (sym are) ∙ length-map w.run.turns (λ (u : Turn). first + u.which) ∙ w.all;
           threads = w.threads;
           moments = w.moments;
@@ -304,7 +270,7 @@ module _ {R W : Type 0} (remaining : R → Option (List ℕ)) (contents : W → 
       number = λ p. p;
       ties = ties_none slots free;
       numbered = numbered_none slots numbers first free;
-      in_all = let none = none_taken slots free in omega (arith, none);
+      all = all_none slots free;
       whose = [];
       turned = record { sittings = []; are = tt; so_far = starts gives k clock keeper s };
       are_given = refl;

@@ -24,6 +24,7 @@ pub mod Once
 pub mod RepeatEdges
 pub mod Repeats
 pub mod Standing
+pub mod Standings
 pub mod Placing
 pub mod Begun
 pub mod BodySteps

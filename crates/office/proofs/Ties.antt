@@ -1,10 +1,10 @@
--- Connections that have a slot among all that came: which of them they are, and which went.
-use Rattle.std.proofs.Common.{⊎_elim, ◌≡◌, ◌<◌, ◌+◌, ◌⊎◌, ℕ, zero, suc, true, false, cond, List, [], ◌∷◌, ◌++◌, length, set, Option, Some, None, refl, sym, ap, ◌∙◌, arith, inl, inr}
+-- Connections that have a slot among all that came: which of them they are.
+use Rattle.std.proofs.Common.{⊎_elim, ◌≡◌, ◌<◌, ◌+◌, ℕ, zero, suc, true, false, cond, List, [], ◌∷◌, ◌++◌, length, set, Option, Some, None, refl, sym, ap, ◌∙◌, arith}
 use Rattle.std.specs.Prelude.{nat_eq, slice_get}
 use Rattle.std.specs.List.{AllByRecursion}
 use Rattle.std.proofs.lemmas.Bool.{cases_eq}
 use Rattle.std.proofs.lemmas.List.{get_or-set_other, get_or-set_same}
-use Rattle.office.specs.Crowds.{IsAmong, StandsIn, number_of, slot_at}
+use Rattle.office.specs.Crowds.{number_of, slot_at}
 
 -- ---- numbers
 
@@ -57,39 +57,22 @@ module _ {X : Type 0} where
       last [] = refl
       last (y ∷ l) = last l
 
-  -- one that stands in the list with one more at its end
-  got_more : (l : List X) (x y : X) (i : ℕ) → slice_get (l ++ x ∷ []) i ≡ Some y → (slice_get l i ≡ Some y) ⊎ ((i ≡ length l) × (x ≡ y))
-  got_more [] x y zero is = inr (refl, some_is x y is)
-  got_more [] x y (suc i) is = absurd (none_is y is)
-  got_more (z ∷ l) x y zero is = inl is
-  got_more (z ∷ l) x y (suc i) is = ⊎_elim (λ was. inl was) (λ new. inr (ap suc new.0, new.1)) (got_more l x y i is)
-
   pub all_more : (P : X → Type 0) (xs : List X) (x : X) → AllByRecursion P xs → P x → AllByRecursion P (xs ++ x ∷ [])
   all_more P [] x h new = (new, tt)
   all_more P (y ∷ xs) x h new = (h.0, all_more P xs x h.1 new)
 
-  pub all_so : (P Q : X → Type 0) → ((x : X) → P x → Q x) → (xs : List X) → AllByRecursion P xs → AllByRecursion Q xs
-  all_so P Q so [] h = tt
-  all_so P Q so (x ∷ xs) h = (so x h.0, all_so P Q so xs h.1)
-
   -- ---- the ties
 
-  -- it is one of all, and has no slot
-  abbrev pub HasGone : List (Option X) → (ℕ → ℕ) → List X → X → Type 0
-  HasGone slots number all x = (i : ℕ) × (slice_get all i ≡ Some x) × ((p : ℕ) (y : X) → slot_at slots p ≡ Some y → number p ≡ i → ⊥)
-
-  -- Each in a slot is the one of its number; those that went are among all, and have no slot; and there is no other.
-  pub record Ties (slots : List (Option X)) (number : ℕ → ℕ) (all gone : List X) : Type 0 where
+  -- Each in a slot is the one of its number, and each has a number of its own.
+  pub record Ties (slots : List (Option X)) (number : ℕ → ℕ) (all : List X) : Type 0 where
     pub each : (p : ℕ) (x : X) → slot_at slots p ≡ Some x → slice_get all (number p) ≡ Some x
     pub apart : (p q : ℕ) (a b : X) → slot_at slots p ≡ Some a → slot_at slots q ≡ Some b → number p ≡ number q → p ≡ q
-    pub went : AllByRecursion (HasGone slots number all) gone
-    pub no_other : (i : ℕ) (x : X) → slice_get all i ≡ Some x → IsAmong x gone ⊎ ((p : ℕ) × (number p ≡ i) × (slot_at slots p ≡ Some x))
 
   -- each in a slot has the number of the slot; in all it is as many less as came before them all
   abbrev pub AreNumbered : List (Option X) → (ℕ → ℕ) → ℕ → (ℕ → ℕ) → Type 0
   AreNumbered slots numbers first number = (p : ℕ) (x : X) → slot_at slots p ≡ Some x → numbers p ≡ first + number p
 
-  module _ (slots : List (Option X)) (number : ℕ → ℕ) (all gone : List X) (t : Ties slots number all gone) (p : ℕ) (lt : p < length slots) where
+  module _ (slots : List (Option X)) (number : ℕ → ℕ) (all : List X) (t : Ties slots number all) (p : ℕ) (lt : p < length slots) where
     here : (v : Option X) (q : ℕ) → q ≡ p → slot_at (set slots p v) q ≡ v
     here v q e = ap (slot_at (set slots p v)) e ∙ get_or-set_same slots p v None lt
 
@@ -113,39 +96,17 @@ module _ {X : Type 0} where
           got_other all (number p) (number q) new (λ e. ne (t.apart q p a old was at e)) ∙ t.each q a was)
           (cases_eq q p)
 
-      gone_set : (x : X) → HasGone slots number all x → HasGone (set slots p (Some new)) number (set all (number p) new) x
-      gone_set x g = (
-        g.0,
-        got_other all (number p) g.0 new (λ e. g.2 p old at (sym e)) ∙ g.1,
-        λ q y now is. let was = had q y now in g.2 q was.0 was.1 is,
-      )
-
-      no_other_set : (i : ℕ) (x : X) → slice_get (set all (number p) new) i ≡ Some x → IsAmong x gone ⊎ ((q : ℕ) × (number q ≡ i) × (slot_at (set slots p (Some new)) q ≡ Some x))
-      no_other_set i x is =
-          ⊎_elim
-          (λ (e : i ≡ number p). inr (p, sym e, here (Some new) p refl ∙ sym (got_set all (number p) i new e fits) ∙ is))
-          (λ (ne : i ≡ number p → ⊥). ⊎_elim
-          (λ among. inl among)
-          (λ stood. inr (stood.0, stood.1, there (Some new) stood.0 (λ e. ne (sym stood.1 ∙ ap number e)) ∙ stood.2))
-          (t.no_other i x (sym (got_other all (number p) i new ne) ∙ is)))
-          (cases_eq i (number p))
-
-      pub ties_set : Ties (set slots p (Some new)) number (set all (number p) new) gone
+      pub ties_set : Ties (set slots p (Some new)) number (set all (number p) new)
       ties_set = record {
         each = each_set;
         apart = λ q r a b at_q at_r same. let x = had q a at_q in let z = had r b at_r in t.apart q r x.0 z.0 x.1 z.1 same;
-        went = all_so (HasGone slots number all) (HasGone (set slots p (Some new)) number (set all (number p) new)) gone_set gone t.went;
-        no_other = no_other_set;
       }
 
       pub numbered_set : (numbers : ℕ → ℕ) (first : ℕ) → AreNumbered slots numbers first number → AreNumbered (set slots p (Some new)) numbers first number
       numbered_set numbers first h = λ q a now. let was = had q a now in h q was.0 was.1
 
     -- one more comes there
-    module _ (new : X) (free : slot_at slots p ≡ None) where
-      taken : (q : ℕ) (a : X) → slot_at slots q ≡ Some a → q ≡ p → ⊥
-      taken q a was e = none_is a (sym free ∙ ap (slot_at slots) (sym e) ∙ was)
-
+    module _ (new : X) where
       each_comes : (q : ℕ) (a : X) → slot_at (set slots p (Some new)) q ≡ Some a → slice_get (all ++ new ∷ []) (number_of p (length all) number q) ≡ Some a
       each_comes q a now =
           ⊎_elim
@@ -174,36 +135,10 @@ module _ {X : Type 0} where
           (cases_eq r p))
           (cases_eq q p)
 
-      gone_comes : (x : X) → HasGone slots number all x → HasGone (set slots p (Some new)) (number_of p (length all) number) (all ++ new ∷ []) x
-      gone_comes x g =
-          let within = got_within all g.0 x g.1 in (
-            g.0,
-            got_left all (new ∷ []) g.0 within ∙ g.1,
-            λ q y now is. ⊎_elim
-                (λ (e : q ≡ p). omega (arith, number_here p (length all) number q e, is, within))
-                (λ (ne : q ≡ p → ⊥). g.2 q y (sym (there (Some new) q ne) ∙ now) (sym (number_there p (length all) number q ne) ∙ is))
-                (cases_eq q p),
-          )
-
-      no_other_comes : (i : ℕ) (x : X) → slice_get (all ++ new ∷ []) i ≡ Some x
-          → IsAmong x gone ⊎ ((q : ℕ) × (number_of p (length all) number q ≡ i) × (slot_at (set slots p (Some new)) q ≡ Some x))
-      no_other_comes i x is =
-          ⊎_elim
-          (λ was. ⊎_elim
-          (λ among. inl among)
-          (λ stood.
-          let ne = taken stood.0 x stood.2 in
-          inr (stood.0, number_there p (length all) number stood.0 ne ∙ stood.1, there (Some new) stood.0 ne ∙ stood.2))
-          (t.no_other i x was))
-          (λ last. inr (p, number_here p (length all) number p refl ∙ sym last.0, here (Some new) p refl ∙ ap Some last.1))
-          (got_more all new x i is)
-
-      pub ties_comes : Ties (set slots p (Some new)) (number_of p (length all) number) (all ++ new ∷ []) gone
+      pub ties_comes : Ties (set slots p (Some new)) (number_of p (length all) number) (all ++ new ∷ [])
       ties_comes = record {
         each = each_comes;
         apart = apart_comes;
-        went = all_so (HasGone slots number all) (HasGone (set slots p (Some new)) (number_of p (length all) number) (all ++ new ∷ [])) gone_comes gone t.went;
-        no_other = no_other_comes;
       }
 
       pub numbered_comes : (numbers : ℕ → ℕ) (first n : ℕ) → n ≡ first + length all → AreNumbered slots numbers first number
@@ -217,58 +152,29 @@ module _ {X : Type 0} where
           (cases_eq q p)
 
     -- the one there goes
-    module _ (old : X) (at : slot_at slots p ≡ Some old) where
-      apart_from : (q : ℕ) (a : X) → slot_at (set slots p None) q ≡ Some a → q ≡ p → ⊥
-      apart_from q a now e = none_is a (sym (here None q e) ∙ now)
+    apart_from : (q : ℕ) (a : X) → slot_at (set slots p None) q ≡ Some a → q ≡ p → ⊥
+    apart_from q a now e = none_is a (sym (here None q e) ∙ now)
 
-      was_there : (q : ℕ) (a : X) → slot_at (set slots p None) q ≡ Some a → slot_at slots q ≡ Some a
-      was_there q a now = sym (there None q (apart_from q a now)) ∙ now
+    was_there : (q : ℕ) (a : X) → slot_at (set slots p None) q ≡ Some a → slot_at slots q ≡ Some a
+    was_there q a now = sym (there None q (apart_from q a now)) ∙ now
 
-      among_more : (x : X) → IsAmong x gone → IsAmong x (gone ++ old ∷ [])
-      among_more x among = (among.0, got_left gone (old ∷ []) among.0 (got_within gone among.0 x among.1) ∙ among.1)
+    pub ties_goes : Ties (set slots p None) number all
+    ties_goes = record {
+      each = λ q a now. t.each q a (was_there q a now);
+      apart = λ q r a b at_q at_r same. t.apart q r a b (was_there q a at_q) (was_there r b at_r) same;
+    }
 
-      gone_goes : (x : X) → HasGone slots number all x → HasGone (set slots p None) number all x
-      gone_goes x g = (g.0, g.1, λ q y now. g.2 q y (was_there q y now))
-
-      pub ties_goes : Ties (set slots p None) number all (gone ++ old ∷ [])
-      ties_goes = record {
-        each = λ q a now. t.each q a (was_there q a now);
-        apart = λ q r a b at_q at_r same. t.apart q r a b (was_there q a at_q) (was_there r b at_r) same;
-        went = all_more (HasGone (set slots p None) number all) gone old (all_so (HasGone slots number all) (HasGone (set slots p None) number all) gone_goes gone t.went) (
-          number p,
-          t.each p old at,
-          λ q y now same. apart_from q y now (t.apart q p y old (was_there q y now) at same),
-        );
-        no_other = λ i x is. ⊎_elim
-            (λ among. inl (among_more x among))
-            (λ stood. ⊎_elim
-            (λ (e : stood.0 ≡ p).
-            let same : old ≡ x = some_is old x (sym at ∙ ap (slot_at slots) (sym e) ∙ stood.2) in
-            inl (length gone, got_last gone old (length gone) refl ∙ ap Some same))
-            (λ (ne : stood.0 ≡ p → ⊥). inr (stood.0, stood.1, there None stood.0 ne ∙ stood.2))
-            (cases_eq stood.0 p))
-            (t.no_other i x is);
-      }
-
-      pub numbered_goes : (numbers : ℕ → ℕ) (first : ℕ) → AreNumbered slots numbers first number → AreNumbered (set slots p None) numbers first number
-      numbered_goes numbers first h = λ q a now. h q a (was_there q a now)
+    pub numbered_goes : (numbers : ℕ → ℕ) (first : ℕ) → AreNumbered slots numbers first number → AreNumbered (set slots p None) numbers first number
+    numbered_goes numbers first h = λ q a now. h q a (was_there q a now)
 
   -- ---- the ends
 
   -- none has a slot, and none came
-  pub ties_none : (slots : List (Option X)) → ((p : ℕ) → slot_at slots p ≡ None) → Ties slots (λ p. p) [] []
+  pub ties_none : (slots : List (Option X)) → ((p : ℕ) → slot_at slots p ≡ None) → Ties slots (λ p. p) []
   ties_none slots free = record {
     each = λ p x at. absurd (none_is x (sym (free p) ∙ at));
     apart = λ p q a b at_p at_q same. same;
-    went = tt;
-    no_other = λ i x is. absurd (none_is x is);
   }
 
   pub numbered_none : (slots : List (Option X)) (numbers : ℕ → ℕ) (first : ℕ) → ((p : ℕ) → slot_at slots p ≡ None) → AreNumbered slots numbers first (λ p. p)
   numbered_none slots numbers first free = λ p x at. absurd (none_is x (sym (free p) ∙ at))
-
-  pub gone_among : (slots : List (Option X)) (number : ℕ → ℕ) (all gone : List X) → Ties slots number all gone → AllByRecursion (λ x. IsAmong x all) gone
-  gone_among slots number all gone t = all_so (HasGone slots number all) (λ x. IsAmong x all) (λ x g. (g.0, g.1)) gone t.went
-
-  pub no_other_stands : (slots : List (Option X)) (number : ℕ → ℕ) (all gone : List X) → Ties slots number all gone → (i : ℕ) (x : X) → slice_get all i ≡ Some x → IsAmong x gone ⊎ StandsIn x slots
-  no_other_stands slots number all gone t i x is = ⊎_elim (λ among. inl among) (λ stood. inr (stood.0, stood.2)) (t.no_other i x is)

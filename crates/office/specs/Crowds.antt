@@ -1,6 +1,6 @@
 -- Connections that come, are served in turn, and go: each has a slot while it is there.
-use Rattle.std.specs.Prelude.{◌≡◌, ◌≢◌, ◌<◌, ◌+◌, ◌⊎◌, ℕ, Bool, false, cond, nat_eq, List, [], ◌∷◌, ◌++◌, is_some, length, map, slice_get, slice_set, slice_index_or, Option, Some, None}
-use Rattle.std.specs.List.{AllByRecursion, count_by, sum_by}
+use Rattle.std.specs.Prelude.{◌≡◌, ◌≢◌, ◌<◌, ◌+◌, ◌⊎◌, ℕ, Bool, false, cond, nat_eq, List, [], ◌∷◌, ◌++◌, IsPermutation, length, map, slice_set, slice_index_or, Option, Some, None}
+use Rattle.std.specs.List.{AllByRecursion, count_by, flat_map, sum_by}
 use Rattle.boxes.specs.State.{State}
 use Rattle.keeper.specs.declared.keep.Keeper.{Ghosts}
 use Rattle.office.specs.declared.connections.crowding.Due.{Due}
@@ -19,10 +19,6 @@ slot_at slots p = slice_index_or slots p None
 -- none of the first n slots is free
 abbrev pub NoneIsFree : {X : Type 0} → List (Option X) → ℕ → Type 0
 NoneIsFree slots n = (p : ℕ) → p < n → slot_at slots p ≢ None
-
--- how many of the slots are taken
-abbrev pub taken_slots : {X : Type 0} → List (Option X) → ℕ
-taken_slots slots = count_by is_some slots
 
 -- What may go on in the slots between two turns, one thing after another: which connections came, as they came, and which went,
 -- as they were then. remaining: what a reader has left; contents: what a writer holds.
@@ -46,6 +42,10 @@ pub data Changes {R W : Type 0} (remaining : R → Option (List ℕ)) (contents 
 abbrev pub those_of : {X : Type 0} → Option X → List X
 those_of None = []
 those_of (Some x) = x ∷ []
+
+-- those of each slot, in the order of the slots
+abbrev pub standing_in : {X : Type 0} → List (Option X) → List X
+standing_in slots = flat_map those_of slots
 
 -- The number of a connection is how many came before it. These are the numbers of slots, of each that of the one that came into it
 -- last; and n is that of the one in the slot at p.
@@ -114,14 +114,6 @@ pub data TurnsSlot {C K R W : Type 0} (gives : C → ℕ → C → Type 0) (rema
   taken : (old new : Seat R W) → TakesTurn gives remaining contents old new clock clock' k keeper keeper' s after → TellsTurn old new
       → TurnsSlot gives remaining contents clock clock' k keeper keeper' s after (Some old) (Some new) (fails_now old.end new.end)
 
--- it is one of them
-abbrev pub IsAmong : {X : Type 0} → X → List X → Type 0
-IsAmong x xs = (i : ℕ) × (slice_get xs i ≡ Some x)
-
--- it stands in a slot
-abbrev pub StandsIn : {X : Type 0} → X → List (Option X) → Type 0
-StandsIn x slots = (p : ℕ) × (slot_at slots p ≡ Some x)
-
 -- These connections came, as they came, and were served in turn; of them those went, as they were then, and the others stand in
 -- the slots: whose turns were taken, the moments, each connection, the state after, how the keeper held up, what outlasts a
 -- crash, and how many ended by a fault; and an upload acts once over all of them. first: how many came before them all; given: of
@@ -130,11 +122,8 @@ pub record ServesCrowd {C K R W : Type 0} (gives : C → ℕ → C → Type 0) (
     (clock clock' : C) (k : Ghosts K) (keeper keeper' : K) (first : ℕ) (given : List ℕ) (faults : ℕ) (s after : State) : Type 0 where
   -- each of those that came as it was at last
   pub seats : List (Seat R W)
-  pub went : AllByRecursion (λ seat. IsAmong seat seats) gone
-  pub stand : (p : ℕ) (seat : Seat R W) → slot_at slots p ≡ Some seat → IsAmong seat seats
-  pub no_other : (i : ℕ) (seat : Seat R W) → slice_get seats i ≡ Some seat → IsAmong seat gone ⊎ StandsIn seat slots
-  -- as many came as went and stand in slots
-  pub in_all : length came ≡ length gone + taken_slots slots
+  -- each of those that came, as it was at last, went or stands in a slot, and no other: of each as many
+  pub all : IsPermutation seats (gone ++ standing_in slots)
   -- each turn was taken
   pub taken : length given ≡ sum_by turns_of seats
   pub threads : List Thread

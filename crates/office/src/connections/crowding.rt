@@ -131,7 +131,8 @@ impl<K: Keeper> Office<K> {
     /// open, and where no connection gave up, what is kept is that one state and no other. What was changed outlasts a crash,
     /// whatever was given up: one that follows leaves the state after, or that with one request more. The turns that the crowd
     /// gives are taken, each by its own connection and in their order, and no other is; and each tells one moment at most. The
-    /// turn in which a connection ends answers no message whole. As many came as went and stand in slots.
+    /// turn in which a connection ends answers no message whole. Each that came went, or stands in a slot, as it was at last, and
+    /// of each as many.
     pub fn serve_crowd<R: Read, W: Write, G: Crowd<R, W>, C: Clock>(
         &mut self,
         crowd: &mut G,
