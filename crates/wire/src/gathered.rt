@@ -1,5 +1,5 @@
 //! Readers whose bytes are read ahead, without waiting for any.
-ghost use Rattle.std.specs.Prelude.{◌≡◌, ◌≢◌, ◌↔◌, ◌⊎◌, ◌<◌, ◌≤◌, ◌++◌, [], length, take, vec_capacity, vec_len, IfErr, IsErr, IsFalse, IsOk, IsTrue, None, OnOk, Some};
+ghost use Rattle.std.specs.Prelude.{◌≡◌, ◌≢◌, ◌↔◌, ◌⊎◌, ◌<◌, ◌≤◌, ◌+◌, ◌++◌, [], length, take, vec_capacity, vec_len, IfErr, IsErr, IsFalse, IsOk, IsTrue, None, OnOk, Some};
 ghost use Rattle.std.specs.Io.{ReadsAtMost};
 ghost use Rattle.std.specs.Io.KnownBytes.{Keeps, ReadConsumes, prepend_known};
 ghost use Rattle.std.specs.IoError.{error_kind};
@@ -37,7 +37,7 @@ pub enum Gathering {
 }
 
 impl<S: Read> Gathered<S> {
-    ghost use Rattle.wire.specs.Gathering.{Gathers, HasFailed, HasRoomFor, ahead_in};
+    ghost use Rattle.wire.specs.Gathering.{Gathers, HasFailed, HasRoomFor, KeepsFault, ahead_in};
 
     /// Nothing was read ahead, and no memory is taken.
     pub fn new(alloc: Global, inner: S) -> Gathered<S>
@@ -71,6 +71,7 @@ impl<S: Read> Gathered<S> {
         ensures gathers { Gathers S.remaining self.old self.new result }
         ensures room { HasRoomFor (length buf.old) self.old → IsOk result }
         ensures failed { HasFailed self.old → HasFailed self.new }
+        ensures most { length (ahead_in self.new) ≤ length (ahead_in self.old) + length buf.old }
     {
         if self.fault.is_some() {
             return Ok(Gathering::Failed);
@@ -130,6 +131,8 @@ impl<S: Read> Gathered<S> {
     // Keeps the error of a failed read, unless the read would only wait.
     fn keep(&mut self, error: io::Error)
         ensures kept { HasFailed self.new ⊎ (error_kind error ≡ ErrorKind.WouldBlock) }
+        ensures waits { error_kind error ≡ ErrorKind.WouldBlock → KeepsFault self.old self.new }
+        ensures told { ¬ HasFailed self.old → HasFailed self.new → self.new.fault ≡ Some error }
         ensures failed { HasFailed self.old → HasFailed self.new }
         ensures ahead { ahead_in self.new ≡ ahead_in self.old }
         ensures inner { self.new.inner ≡ self.old.inner }
@@ -195,7 +198,7 @@ impl<S: Read> Gathered<S> {
 }
 
 impl<S: Read> Read for Gathered<S> {
-    ghost use Rattle.wire.specs.Gathering.{HasFailed, ahead_in};
+    ghost use Rattle.wire.specs.Gathering.{HasFailed, KeepsFault, ahead_in};
 
     ghost remaining = { λ gathered. prepend_known (ahead_in gathered) (S.remaining gathered.inner) };
 
@@ -207,6 +210,9 @@ impl<S: Read> Read for Gathered<S> {
         ensures then { ahead_in self.old ≡ [] → HasFailed self.old → IsErr result }
         ensures failed { HasFailed self.old → HasFailed self.new }
         ensures kept { IfErr result (λ e. HasFailed self.new ⊎ (error_kind e ≡ ErrorKind.WouldBlock)) }
+        ensures waits { IfErr result (λ e. error_kind e ≡ ErrorKind.WouldBlock → KeepsFault self.old self.new) }
+        ensures hale { IsOk result → KeepsFault self.old self.new }
+        ensures same { IfErr result (λ e. HasFailed self.new → self.new.fault ≡ Some e) }
     {
         if !self.ahead().is_empty() {
             return Ok(self.give(buf));
