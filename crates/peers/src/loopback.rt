@@ -145,7 +145,7 @@ fn both_ends_are_one_socket(rt: HostRuntime) -> Result<(), Fail> {
     assert_eq!(rt; reader.read(&mut buf)?, 5);
     assert!(rt; buf.starts_with(b"asked"));
     assert_eq!(rt; writer.write(b"told")?, 4);
-    writer.shutdown(Shutdown::Write)?;
+    writer.end_writes()?;
     assert_eq!(rt; taken(&rt, &mut peer)?.as_slice(), b"told".as_slice());
     Ok(())
 }

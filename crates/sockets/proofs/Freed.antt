@@ -1,6 +1,7 @@
 -- Slots that are free, or become so.
-use Rattle.std.proofs.Common.{◌≡◌, ◌<◌, ◌+◌, ◌++◌, ◌⊎◌, ◌∙◌, ap, inl, inr, length, slice_set, subst, sym, Some, ℕ, suc, zero, List, [], ◌∷◌, Option, None, refl, arith}
+use Rattle.std.proofs.Common.{⊎_elim, ◌≡◌, ◌≤◌, ◌↔◌, Bool, true, false, ◌<◌, ◌+◌, ◌++◌, ◌⊎◌, ◌∙◌, ap, inl, inr, length, slice_set, subst, sym, Some, ℕ, suc, zero, List, [], ◌∷◌, Option, None, refl, arith}
 use Rattle.std.specs.Prelude.{IfSome}
+use Rattle.std.proofs.lemmas.Bool.{cases_lt}
 use Rattle.office.specs.Crowds.{SentAt, slot_at}
 use Rattle.office.specs.Seats.{Sends}
 use Rattle.office.specs.Slots.{SendsOn}
@@ -13,6 +14,10 @@ use Rattle.wire.specs.declared.outbox.Outbox.{Outbox}
 use Rattle.wire.specs.declared.outbox.Sending.{Sending}
 use Rattle.wire.specs.declared.outbox.Sending.TheVariants as sending
 use Rattle.sockets.specs.Accepting.{IsSettled, IsThrough, MayGo}
+
+-- where it is false that one more may be counted, none may
+pub no_more : (n : ℕ) (may : Bool) → may ≡ true ↔ (n < 18446744073709551615) → may ≡ false → 18446744073709551615 ≤ n
+no_more n may tells is = ⊎_elim (λ (lt : n < 18446744073709551615). absurd (cc (tells.1 lt, is))) (λ (le : 18446744073709551615 ≤ n). le) (cases_lt n 18446744073709551615)
 
 -- one more is free
 pub free_more : {X : Type 0} (slots : List (Option X)) → ((p : ℕ) → slot_at slots p ≡ None) → (p : ℕ) → slot_at (slots ++ None ∷ []) p ≡ None

@@ -51,8 +51,8 @@ may_of o seat is may = subst (λ o. IfSome o (λ x. MayGo x)) is may
 abbrev lack : {E : Type 0} → List (Seat (Gathered E) (Outbox E)) → ℕ
 lack gone = count_by lacks_answers gone
 
-none_lack : {E : Type 0} {n m : ℕ} → m ≡ n → m ≡ n + lack {E} []
-none_lack {n = n} is = is ∙ plus_none n
+none_lack : (E : Type 0) {n m : ℕ} → m ≡ n → m ≡ n + lack {E = E} []
+none_lack E {n = n} is = is ∙ plus_none n
 
 both_lack : {E : Type 0} (gone went : List (Seat (Gathered E) (Outbox E))) → lack (gone ++ went) ≡ lack gone + lack went
 both_lack gone went = sum_by-append (λ seat. cond (lacks_answers seat) 1 0) gone went
@@ -75,7 +75,7 @@ module _ {L S E : Type 0} (told : L → List (Event S E) → Type 0) (are_ends :
     to_come = omega (arith, to_come, ap (λ w. length (those_of w)) guest);
     counted = omega (arith, came);
     left = omega (arith, gone);
-    unsent = none_lack {E} unsent;
+    unsent = none_lack E unsent;
   }
 
   pub passes_none : (g : Gate L S) → Passes told are_ends g g [] []
@@ -98,7 +98,7 @@ module _ {L S E : Type 0} (told : L → List (Event S E) → Type 0) (are_ends :
       to_come = omega (arith, to_come);
       counted = omega (arith, came);
       left = omega (arith, gone);
-      unsent = none_lack {E} unsent;
+      unsent = none_lack E unsent;
     }
 
   -- one is accepted, and waits
@@ -180,7 +180,7 @@ module _ {L S E : Type 0} (told : L → List (Event S E) → Type 0) (are_ends :
     to_come = omega (arith, to_come, ap (λ w. length (those_of w)) waits, ap (λ w. length (those_of w)) free);
     counted = omega (arith, came);
     left = omega (arith, gone);
-    unsent = none_lack {E} unsent;
+    unsent = none_lack E unsent;
   }
 
   -- one goes
@@ -255,7 +255,7 @@ module _ {L S E : Type 0} (told : L → List (Event S E) → Type 0) (are_ends :
     to_come = omega (arith, to_come, ap (λ w. length (those_of w)) guest);
     counted = omega (arith, came);
     left = omega (arith, gone);
-    unsent = none_lack {E} unsent;
+    unsent = none_lack E unsent;
   }
 
   module _ (remaining : Gathered E → Option (List ℕ)) (contents : Outbox E → Option (List ℕ)) where

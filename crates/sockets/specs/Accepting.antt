@@ -1,5 +1,5 @@
 -- Connections that a listener accepted: they came, were served in turn, and went.
-use Rattle.std.specs.Prelude.{◌≡◌, ◌<◌, ◌≤◌, ◌+◌, ◌++◌, ◌∷◌, ◌⊎◌, zero, suc, ℕ, Bool, List, [], is_some, None, Option, Some, length, true}
+use Rattle.std.specs.Prelude.{◌≡◌, ◌<◌, ◌≤◌, ◌+◌, ◌++◌, ◌∷◌, ◌⊎◌, ◌||◌, zero, suc, ℕ, Bool, List, [], is_some, None, Option, Some, length, true, false}
 use Rattle.std.specs.List.{count_by}
 use Rattle.std.specs.declared.io.Error.{Error}
 use Rattle.boxes.specs.State.{State}
@@ -8,7 +8,8 @@ use Rattle.office.specs.Crowds.{ServesCrowd, slot_at, those_of}
 use Rattle.office.specs.Premise.{IsLeft, WasKept}
 use Rattle.office.specs.Seats.{IsNew}
 use Rattle.office.specs.declared.connections.seat.Seat.{Seat}
-use Rattle.office.specs.declared.connections.session.SessionEnd.TheVariants.{ReadFault}
+use Rattle.office.specs.declared.connections.session.SessionEnd.{SessionEnd}
+use Rattle.office.specs.declared.connections.session.SessionEnd.TheVariants.{Ended, Truncated, Refused, Limit, ReadFault, WriteFault}
 use Rattle.wire.specs.Feeds.{ahead_of}
 use Rattle.wire.specs.Gathering.{HasFailed, ahead_in}
 use Rattle.wire.specs.Outgoing.{NoneFailed, WriteFailed, waits_out}
@@ -33,7 +34,7 @@ pub record IsUntouched {E : Type 0} (seat : Seat (Gathered E) (Outbox E)) : Type
 abbrev pub IsSettled : {E : Type 0} → Seat (Gathered E) (Outbox E) → Type 0
 IsSettled seat = (waits_out seat.writer.inner ≡ []) ⊎ WriteFailed seat.writer.inner
 
--- One that is open is idle. One that ended by a failed read had one: its reader failed, or was made to fail.
+-- One that is open is idle. The reader of one that ended by a failed read has a fault: that of a read, or one that it was given.
 pub record IsThrough {E : Type 0} (seat : Seat (Gathered E) (Outbox E)) : Type 0 where
   pub idle : seat.end ≡ None → IsIdle seat
   pub failed : seat.end ≡ Some ReadFault → HasFailed seat.reader.inner
@@ -43,9 +44,19 @@ pub record MayGo {E : Type 0} (seat : Seat (Gathered E) (Outbox E)) : Type 0 whe
   pub settled : IsSettled seat
   pub through : IsThrough seat
 
--- a write of it failed, and what waited then was not sent
+-- it ended by a write that failed
+abbrev pub is_write_fault : Option SessionEnd → Bool
+is_write_fault None = false
+is_write_fault (Some WriteFault) = true
+is_write_fault (Some ReadFault) = false
+is_write_fault (Some Ended) = false
+is_write_fault (Some Truncated) = false
+is_write_fault (Some (Refused number)) = false
+is_write_fault (Some Limit) = false
+
+-- a write of it failed, so that an answer was not sent whole
 abbrev pub lacks_answers : {E : Type 0} → Seat (Gathered E) (Outbox E) → Bool
-lacks_answers seat = is_some seat.writer.inner.fault
+lacks_answers seat = is_some seat.writer.inner.fault || is_write_fault seat.end
 
 -- What a listener did, one thing after another, and what became of its connections: which one was accepted and waits, which came,
 -- as they came, which went, as they were then, and how many were refused. are_ends: what the ends of a connection are; most: how

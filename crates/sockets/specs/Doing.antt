@@ -23,7 +23,7 @@ IsBusyAt {E} slots p = (seat : Seat (Gathered E) (Outbox E)) × (slot_at slots p
 -- its writer.
 abbrev pub Does : {E : Type 0} → ℕ → (E → Option (List ℕ)) → (E → Option (List ℕ)) → (Gathered E → Option (List ℕ)) → (Outbox E → Option (List ℕ)) → Deed → Report
     → List (Option (Seat (Gathered E) (Outbox E))) → List (Option (Seat (Gathered E) (Outbox E))) → ℕ → Type 0
-Does gone remaining contents left given one report.Nothing old new p = (new ≡ old) × ((length old ≤ p) ⊎ ((one ≡ deed.Free) × (IsBusyAt old p ⊎ (gone ≡ 18446744073709551615))))
+Does gone remaining contents left given one report.Nothing old new p = (new ≡ old) × ((length old ≤ p) ⊎ ((one ≡ deed.Free) × (IsBusyAt old p ⊎ (18446744073709551615 ≤ gone))))
 Does gone remaining contents left given (deed.Gather n) (report.Gathered outcome is_full) old new p =
     DoneAt left (λ a b. ReadsAhead remaining a b outcome) (outcome ≡ Ok gathering.Ended) old new p
 Does gone remaining contents left given (deed.Reserve n) (report.Reserved outcome) old new p =

@@ -124,7 +124,7 @@ impl<R: time::Clock, L: Listener> Book<'_, R, L> {
         }
     }
 
-    /// A turn is due. Where memory is refused for that, it is looked at again in the next round.
+    /// A turn is due.
     pub(crate) fn make_due(&mut self, index: usize) -> Option<Deed> {
         if self.phase(index) == Phase::Due {
             return None;
@@ -141,14 +141,16 @@ impl<R: time::Clock, L: Listener> Book<'_, R, L> {
         }
     }
 
-    // The slot has its turn in the next round. One that was just accepted has its first in this one.
+    // The slot has its turn in the next round, for which there is memory. One that was just accepted has its first in this one, if
+    // there is memory for that.
     fn push(&mut self, index: usize) -> Result<(), AllocError> {
         let is_first = match self.peers.get_mut(index) {
             Some(peer) => mem::take(&mut peer.is_new),
             None => false,
         };
-        if is_first && matches!(self.stage, Stage::Accept(_)) {
-            return self.rounds.push_now(index);
+        let is_now = is_first && matches!(self.stage, Stage::Accept(_));
+        if is_now && self.rounds.push_now(index).is_ok() {
+            return Ok(());
         }
         self.rounds.push(index)
     }

@@ -1,8 +1,8 @@
 //! The connections in their slots, as the loop looks at them.
-ghost use Rattle.std.specs.Prelude.{◌≡◌, ◌↔◌, ◌∷◌, [], IsTrue};
+ghost use Rattle.std.specs.Prelude.{◌≡◌, ◌≤◌, ◌↔◌, ◌∷◌, [], IsTrue};
 ghost use Rattle.std.specs.List.{count_by};
 ghost use Rattle.office.specs.Seats.{IsNew};
-ghost use Rattle.sockets.specs.Accepting.{IsIdle, IsThrough, IsUntouched, lacks_answers};
+ghost use Rattle.sockets.specs.Accepting.{IsIdle, IsThrough, IsUntouched, is_write_fault, lacks_answers};
 
 use office::{Seat, SessionEnd};
 use std::alloc::Global;
@@ -56,11 +56,26 @@ pub(crate) fn is_through<S: Read + Write>(seat: &Held<S>) -> bool
     }
 }
 
+// Whether it ended by a write that failed.
+fn is_write_fault(end: Option<SessionEnd>) -> bool
+    ensures { result ≡ is_write_fault end }
+{
+    matches!(end, Some(SessionEnd::WriteFault))
+}
+
+// Whether a write of it failed, so that an answer was not sent whole.
+fn lacks_answers<S: Read + Write>(seat: &Held<S>) -> bool
+    ensures { result ≡ lacks_answers seat.now }
+{
+    seat.writer.inner.has_failed() || is_write_fault(seat.end())
+}
+
 /// 1 of a connection that lacks answers, and else 0.
 pub(crate) fn lacking<S: Read + Write>(seat: &Held<S>) -> u64
-    ensures { result ≡ count_by lacks_answers (seat.now ∷ []) }
+    ensures count { result ≡ count_by lacks_answers (seat.now ∷ []) }
+    ensures most { result ≤ 1 }
 {
-    if seat.writer.inner.has_failed() { 1 } else { 0 }
+    if lacks_answers(seat) { 1 } else { 0 }
 }
 
 /// A connection of which these are the ends. Nothing was read of it, or written to it.

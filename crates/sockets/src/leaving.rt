@@ -6,7 +6,6 @@ use crate::held::{Held, seat_at};
 use crate::peer::Phase;
 use crate::socket::{End, Listener};
 use std::io::ErrorKind;
-use std::net::Shutdown;
 use std::{io, time};
 
 /// How many bytes are thrown away at the most.
@@ -19,7 +18,7 @@ impl<R: time::Clock, L: Listener> Book<'_, R, L> {
     /// Begins to leave a connection whose session has ended, and for which nothing waits.
     pub(crate) fn leave(&mut self, slots: &[Option<Held<L::End>>], index: usize) -> Option<Deed> {
         let stream = &seat_at(slots, index)?.reader.inner.inner;
-        if stream.shutdown(Shutdown::Write).is_err() {
+        if stream.end_writes().is_err() {
             return self.release(index);
         }
         self.enter(index, Phase::Leaving { taken: 0 });

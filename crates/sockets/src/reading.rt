@@ -91,9 +91,14 @@ impl<R: time::Clock, L: Listener> Book<'_, R, L> {
         self.read(slots, index)
     }
 
-    /// Judges what is ahead between two turns, nothing, a part of a message, or a whole one; and reads on where more is to come.
+    /// Judges what is ahead between two turns, nothing, a part of a message, or a whole one; and reads on where more is to come. Where
+    /// the reader has failed, a turn tells it.
     pub(crate) fn judge(&mut self, slots: &[Option<Held<L::End>>], index: usize) -> Option<Deed> {
-        let ahead = seat_at(slots, index)?.reader.inner.ahead();
+        let reader = &seat_at(slots, index)?.reader.inner;
+        if reader.has_failed() {
+            return self.make_due(index);
+        }
+        let ahead = reader.ahead();
         if ahead.is_empty() {
             self.enter(index, Phase::Silent);
             return self.read(slots, index);
@@ -134,6 +139,7 @@ impl<R: time::Clock, L: Listener> Book<'_, R, L> {
         index: usize,
         len: usize,
     ) -> Option<Deed> {
+        self.give_room_back(index);
         if let Some(peer) = self.peers.get_mut(index) {
             peer.room = len;
         }

@@ -8,7 +8,6 @@ use mio::unix::SourceFd;
 use mio::{Interest, Token};
 use office::SessionEnd;
 use std::io::ErrorKind;
-use std::net::Shutdown;
 use std::{io, time};
 use wire::{Room, Sending};
 
@@ -123,7 +122,7 @@ impl<R: time::Clock, L: Listener> Book<'_, R, L> {
     /// Cuts a connection whose peer takes no answer: its writes fail from now on.
     pub(crate) fn cut(&mut self, slots: &[Option<Held<L::End>>], index: usize) -> Option<Deed> {
         let stream = &seat_at(slots, index)?.reader.inner.inner;
-        let _ = stream.shutdown(Shutdown::Both);
+        let _ = stream.end_writes();
         Some(Deed::Send)
     }
 }

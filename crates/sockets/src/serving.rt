@@ -39,13 +39,13 @@ pub struct Outcome {
     pub came: u64,
     /// How many could not be accepted, or whose ends could not be made.
     pub refused: u64,
-    /// How many of those that came ended by a failed read or write, also where the loop made it fail, of a peer that was too slow.
+    /// How many of those that came ended by a failed read or write, also where the loop made it fail: of a peer that was too slow, or for want of memory.
     pub faulty: u64,
-    /// How many of those that went lack answers: a write of such a one failed, and what waited for its peer then was not sent. Its
-    /// session may have ended well before.
+    /// How many of those that went lack answers: a write of such a one failed, so that an answer was not sent whole. Its session may
+    /// have ended well before. What the system took and the peer never got is not told.
     pub unsent: u64,
-    /// Whether all that were to come have come, or were refused, and have gone. So it is, unless the loop took 2^64 - 1 steps or
-    /// turns.
+    /// Whether all that were to come have come, or were refused, and have gone. The loop is made so that it is, unless it took
+    /// 2^64 - 1 steps or turns.
     pub is_whole: bool,
 }
 

@@ -17,12 +17,12 @@ pub trait End: Read + Write + Drop {
     /// The number by which the system knows its socket.
     fn raw_fd(&self) -> RawFd;
 
-    /// Ends a way of the connection, or both.
+    /// Tells the peer that no more is written. Each later write fails.
     ///
     /// # Errors
     ///
     /// The connection is there no more.
-    fn shutdown(&self, how: Shutdown) -> io::Result<()>;
+    fn end_writes(&self) -> io::Result<()>;
 
     /// Reads once of a connection whose session has ended, by way of the buffer, and keeps nothing of it: how many bytes came, or 0
     /// at the end.
@@ -146,8 +146,8 @@ impl End for TcpEnd {
         self.stream.as_raw_fd()
     }
 
-    fn shutdown(&self, how: Shutdown) -> io::Result<()> {
-        self.stream.shutdown(how)
+    fn end_writes(&self) -> io::Result<()> {
+        self.stream.shutdown(Shutdown::Write)
     }
 
     fn throw_away(

@@ -320,7 +320,15 @@ impl<R: time::Clock, L: Listener> Book<'_, R, L> {
                 self.freed(index);
                 None
             }
-            Report::Nothing => None,
+            Report::Nothing => self.look_again(slots, index),
+        }
+    }
+
+    // What was to go, and is not through, is judged again if it is open.
+    fn look_again(&mut self, slots: &[Option<Held<L::End>>], index: usize) -> Option<Deed> {
+        match seat_at(slots, index)?.end() {
+            None => self.judge(slots, index),
+            Some(_) => None,
         }
     }
 }

@@ -1,10 +1,18 @@
-use Rattle.std.proofs.Common.{refl, arith}
+use Rattle.std.proofs.Common.{inl, inr, refl, arith}
+use Rattle.sockets.proofs.Freed.{no_more}
 use Rattle.sockets.proofs.Freed.{sent_free, sent_length, sent_may_go, sent_waits}
 use Rattle.sockets.proofs.Moved.{moves_none, moves_still, moves_then}
 use Rattle.sockets.proofs.deeds.Gate+L+L+Stream.let_go.Goals as goal
+use Rattle.sockets.proofs.deeds.Gate+L+L+Stream.let_go.Goals.{then-not-may_go-via-then-not-may_go, then-not-may_go-via-else-not-may_go+then-not-is_through_at}
 
 pub returns-then-not-may_go-clause-moves : goal.returns-then-not-may_go-clause-moves
 returns-then-not-may_go-clause-moves g c = moves_none _ _ _ _ c.args.self.now c.args.slots.now
+
+pub returns-then-not-may_go-clause-does : goal.returns-then-not-may_go-clause-does
+returns-then-not-may_go-clause-does g c = elim c.then-not-may_go.branch [
+  | then-not-may_go-via-then-not-may_go w ↦ (refl, inr (refl, inr (no_more c.args.self.now.gone c.may_go.result c.may_go.ensures w.if-not-may_go.true)))
+  | then-not-may_go-via-else-not-may_go+then-not-is_through_at w ↦ (refl, inr (refl, inl (w.is_through_at.ensures.busy w.if-not-is_through_at.true)))
+]
 
 pub free-requires : goal.free-requires
 free-requires g c =
@@ -12,7 +20,7 @@ free-requires g c =
     record {
       within = omega (arith, c.requires, sent_length _ _ _ _ c.args.slots.now c.send_slot.new.slots c.args.index done);
       counted = c.may_go.ensures.0 c.if-not-may_go.false;
-      may = sent_may_go _ _ _ _ c.args.slots.now c.send_slot.new.slots c.args.index done c.in-Sent.is c.requires (c.is_through_at.ensures.told c.if-is_through_at.true);
+      may = sent_may_go _ _ _ _ c.args.slots.now c.send_slot.new.slots c.args.index done c.in-Sent.is c.requires (c.is_through_at.ensures.told c.if-not-is_through_at.false);
     }
 
 pub returns-in-Waits-clause-moves : goal.returns-in-Waits-clause-moves

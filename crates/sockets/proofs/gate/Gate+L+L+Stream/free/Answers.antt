@@ -1,4 +1,4 @@
-use Rattle.std.proofs.Common.{[], ◌∷◌, ◌∙◌, ◌+◌, ap, refl, sym}
+use Rattle.std.proofs.Common.{[], ◌∷◌, ◌∙◌, ◌+◌, ap, refl, sym, arith}
 use Rattle.sockets.proofs.Moved.{goes_out, passes_none, may_of, went_none, went_one}
 use Rattle.sockets.proofs.gate.Gate+L+L+Stream.free.Goals as goal
 
@@ -8,9 +8,15 @@ returns-in-Some-clause-moves g c =
     let may = may_of _ seat (sym c.free_slot.ensures.given ∙ c.in-Some.is) c.requires.may in (
       [],
       seat ∷ [],
-      goes_out _ _ c.args.self.now _ seat refl refl refl refl refl (ap (λ n. c.args.self.now.unsent + n) c.lacking.ensures) may c.close.ensures.closed,
+      goes_out _ _ c.args.self.now _ seat refl refl refl refl refl (ap (λ n. c.args.self.now.unsent + n) c.lacking.ensures.count) may c.close.ensures.closed,
       went_one c.free_slot.result seat c.in-Some.is c.free_slot.ensures.changes,
     )
 
 pub returns-in_default-clause-moves : goal.returns-in_default-clause-moves
 returns-in_default-clause-moves g c = ([], [], passes_none _ _ c.args.self.now, went_none c.free_slot.result c.in_default.is c.free_slot.ensures.changes)
+
+pub overflow_add-self-in-Some : goal.overflow_add-self-in-Some
+overflow_add-self-in-Some g c = omega (arith, c.args.self.now.lacking, c.requires.counted, c.lacking.ensures.most)
+
+pub invariant_of-self : goal.invariant_of-self
+invariant_of-self g c = record { lacking = omega (arith, c.args.self.now.lacking, c.lacking.ensures.most) }

@@ -15,6 +15,11 @@ returns-in-Over-clause-changes g c came gone met =
     let all = moves_then _ _ _ _ c.args.self.now.gate c.steps.self.gate c.go.new.self.gate c.args.slots.now c.steps.slots c.go.new.slots c.steps.invariant.0 c.go.ensures.moves in
     let x = moves_met _ _ _ _ _ _ _ c.args.self.now.gate c.go.new.self.gate c.args.slots.now c.go.new.slots all came gone met in (x.0, x.1, x.2, x.3, λ numbers given gave. tt)
 
+pub returns-in-Turn-3-clause-changes : goal.returns-in-Turn-3-clause-changes
+returns-in-Turn-3-clause-changes g c came gone met =
+    let all = moves_then _ _ _ _ c.args.self.now.gate c.steps.self.gate c.go.new.self.gate c.args.slots.now c.steps.slots c.go.new.slots c.steps.invariant.0 c.go.ensures.moves in
+    let x = moves_met _ _ _ _ _ _ _ c.args.self.now.gate c.go.new.self.gate c.args.slots.now c.go.new.slots all came gone met in (x.0, x.1, x.2, x.3, λ numbers given gave. tt)
+
 pub steps-preserved : goal.steps-preserved
 steps-preserved g c = (
   moves_then _ _ _ _ c.args.self.now.gate c.steps.self.gate c.go.new.self.gate c.args.slots.now c.steps.slots c.go.new.slots c.steps.invariant.0 c.go.ensures.moves,
