@@ -1,5 +1,9 @@
-//! Tests over sockets: peers and the loop that serves them, in one process. The crate gives nothing.
+//! Tests over sockets: peers and the loop that serves them, in one process. It gives a listener that counts, by which they tell what
+//! went on.
 #![tactic(auto)]
 
+mod counting;
 #[cfg(test)]
 mod loopback;
+
+pub use counting::{Counting, serve_counted};

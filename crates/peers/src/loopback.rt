@@ -1,4 +1,5 @@
 //! Peers over loopback. They send all that they send before they are served.
+use crate::counting::{Counting, serve_counted};
 use mio::Poll;
 use office::{FixedClock, Seat};
 use sigv4::Moment;
@@ -10,7 +11,16 @@ use std::time::Duration;
 use trials::published::{DATE, NO_BOX, REQUEST, make_office};
 use wire::{Gathered, Outbox};
 
-// So many connections at a listener, of which so many may be open at a time, within a second of patience.
+// So many connections, of which so many may be open at a time, within a second of patience.
+fn limits(connections: u64, open: usize) -> Limits {
+    Limits {
+        connections,
+        patience: Some(Duration::from_secs(1)),
+        open,
+    }
+}
+
+// So many connections at a listener, of which so many may be open at a time.
 fn served(
     rt: &HostRuntime,
     listener: TcpListener,
@@ -19,14 +29,26 @@ fn served(
 ) -> Result<Outcome, Fail> {
     let moment = Moment::read(DATE).ok_or("no moment")?;
     let mut office = make_office(rt.alloc())?;
-    let limits = Limits {
-        connections,
-        patience: Some(Duration::from_secs(1)),
-        open,
-    };
     let mut clock = FixedClock::new(moment);
     let poll = Poll::new(rt)?;
+    let limits = limits(connections, open);
     Ok(serve(rt, poll, &mut office, listener, limits, &mut clock).outcome?)
+}
+
+// The same of a listener that counts.
+fn counted(
+    rt: &HostRuntime,
+    listener: TcpListener,
+    connections: u64,
+    open: usize,
+) -> Result<(Outcome, Counting<TcpListener>), Fail> {
+    let moment = Moment::read(DATE).ok_or("no moment")?;
+    let mut office = make_office(rt.alloc())?;
+    let mut clock = FixedClock::new(moment);
+    let poll = Poll::new(rt)?;
+    let limits = limits(connections, open);
+    let served = serve_counted(rt, poll, &mut office, listener, limits, &mut clock);
+    Ok((served.outcome?, served.listener))
 }
 
 // The two ends of a connection that is there.
@@ -175,5 +197,31 @@ fn one_that_is_given_back_is_closed(rt: HostRuntime) -> Result<(), Fail> {
     let writer = Outbox::new(rt.alloc(), writer);
     Listener::close(&mut listener, Seat::new(rt.alloc(), reader, writer));
     assert_eq!(rt; taken(&rt, &mut peer)?.as_slice(), b"told".as_slice());
+    Ok(())
+}
+
+#[test]
+fn each_that_came_was_opened_and_given_back(rt: HostRuntime) -> Result<(), Fail> {
+    let listener = TcpListener::bind(&rt, "127.0.0.1:0")?;
+    let _silent = TcpStream::connect(&rt, listener.local_addr()?)?;
+    let mut peer = TcpStream::connect(&rt, listener.local_addr()?)?;
+    peer.write_all(REQUEST)?;
+    peer.shutdown(Shutdown::Write)?;
+    let (outcome, listener) = counted(&rt, listener, 2, 1)?;
+    assert_eq!(rt; outcome.came, 2);
+    assert!(rt; outcome.is_whole);
+    assert_eq!(rt; listener.opened, 2);
+    assert_eq!(rt; listener.closed, 2);
+    Ok(())
+}
+
+#[test]
+fn nobody_is_counted(rt: HostRuntime) -> Result<(), Fail> {
+    let listener = TcpListener::bind(&rt, "127.0.0.1:0")?;
+    let (outcome, listener) = counted(&rt, listener, 0, 8)?;
+    assert_eq!(rt; outcome.came, 0);
+    assert!(rt; outcome.is_whole);
+    assert_eq!(rt; listener.opened, 0);
+    assert_eq!(rt; listener.closed, 0);
     Ok(())
 }

@@ -56,7 +56,7 @@ fn next<R: Read>(feed: &mut Feed<'_, R>) -> Result<Step<Told>, WireFault> {
     let mut fields = [NO_FIELD; MOST_FIELDS];
     match feed.next(&mut text, &mut fields) {
         Ok(Step::Head(opening)) => Ok(Step::Head(Told {
-            is_get: opening.text == GET && opening.head.method == b"GET",
+            is_get: opening.text == GET && opening.head.method == b"GET".as_slice(),
             has_length: opening.has_length,
             length: opening.length,
         })),
