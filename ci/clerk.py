@@ -1,0 +1,743 @@
+"""Drives page/clerk.html in Debian's chromium, headless, over the proved program `drop serve`, as ci/page.py drives the pages
+for strangers.
+
+What is owed comes from the links that `drop link` and `drop links` write over a copy of the office file, the rows of its
+tables, the table of refusals in docs/RULES.md, and the words below, in both languages. `--shots FOLDER` keeps pictures. The last
+line is `N passed, M failed`.
+"""
+
+import csv
+import datetime
+import io
+import os
+import pathlib
+import re
+import shutil
+import tempfile
+
+import expected
+import kit
+import tables
+from browser import Browser, until
+from expected import SECRET
+from front import PAGE, Front, Office
+from office import Drop
+from page import ENTER, SPACE, TAB, complains_of_nothing, labels, loads_its_own, looks, reaches_nothing_else, tabbed
+from replays import ID
+from serve import asked
+from shown import Case, is_not, lacks, options, run_tests
+
+WORD = SECRET.decode()
+EAST = 60
+ZONE = "Asia/Kolkata"  # of the browser, ahead of the office by four hours and a half
+BOXES = [tables.Box("in", max_files=1000), tables.Box("closed", closes=1)]
+KINDS = ("keyed", "done", "refused", "lost", "stopped", "away", "strange", "barred", "links")
+COMMANDS = ["add_box", "close_box", "add_key", "revoke_key", "drop_file"]
+NAMES = ["a b.txt", "Ä ö ß €.pdf", "100%", "%2F", "it's", "a//b", "/c", "d/", "~'()*!.txt", "a+b=c&d?#", ",\"quoted\"", " blanks ", "😀"]
+DOTS = ["..", "../in/a", "a/../b", "./x", "a/."]
+
+FILL = """
+const [form, values] = arguments;
+const task = document.getElementById("task_" + form);
+if (task) task.open = true;
+for (const [name, value] of Object.entries(values)) {
+  const field = document.getElementById(form + "_" + name);
+  if (typeof value === "boolean") field.checked = value; else field.value = value;
+  field.dispatchEvent(new Event("input", {bubbles: true}));
+}
+"""
+FAULTS = """
+const bad = Array.from(document.querySelectorAll("[id$=_bad]")).filter((it) => it.textContent);
+return [Object.fromEntries(bad.map((it) => [it.id.slice(0, -4), it.textContent])), document.activeElement.id,
+        document.getElementById("live").textContent, Array.from(document.querySelectorAll("[aria-invalid=true]"), (it) => it.id)];
+"""
+HIDDEN = "return arguments[0].map((it) => document.getElementById(it).closest('[hidden]') !== null)"
+
+
+# ---- what a test does
+
+
+def fill(case, form, **values):
+    case.browser.js(FILL, form, values)
+
+
+def send(case, form, **values):
+    """Fills the form in and sends it; the result, in the words of the page."""
+    fill(case, form, **values)
+    case.browser.js("document.getElementById('result').hidden = true")
+    case.click(f"#{form}_go")
+    return case.result(*KINDS)
+
+
+def again(case):
+    case.browser.js("document.getElementById('result').dataset.kind = ''")
+    case.click("#again")
+    return case.result(*KINDS)
+
+
+def opened(case, preset="east=60", host=None):
+    """The page, opened anew."""
+    case.open("clerk", preset, host)
+    case.browser.wait_for("return !document.getElementById('languages').hidden")
+
+
+def use_key(case, key=ID, secret=WORD, **more):
+    return send(case, "use_key", id=key, secret=secret, **more)
+
+
+def begin(case, **key):
+    """The page with a key that the office knows as a clerk's."""
+    opened(case)
+    found = use_key(case, **key)
+    assert found["kind"] == "keyed", found
+    return found
+
+
+def rows(case, query, *values):
+    """What stands in the office's tables; it is stopped for it."""
+    case.office.kill()
+    found = tables.rows(case.office.file, query, *values)
+    case.office.start()
+    return found
+
+
+def spoken(case, language, words):
+    """What the result lacks of these words in a language."""
+    case.speak(language)
+    found = case.result_now()
+    return lacks(found["title"] + "\n" + found["text"], *words)
+
+
+def both(case, count, name, english, german):
+    count.add(name, spoken(case, "en", english))
+    count.add(f"{name}, German", spoken(case, "de", german))
+    case.speak("en")
+
+
+def said_refusal(case, count, name, number, english, german):
+    """The result is this refusal, with its number, its line and the words."""
+    found = case.result_now()
+    told = found["kind"], found["title"], found["facts"].get("office_says"), found["focus"]
+    count.add(name, is_not(told, ("refused", f"Refused: number {number}", expected.refusal(number)[1].strip(), "result_title"))
+              or lacks(found["live"], f"Refused: number {number}. {found['what']}"))
+    both(case, count, f"{name}, words", ["What to do: ", *english], [f"Abgelehnt: Nummer {number}", "Was Sie tun können: ", *german])
+
+
+# ---- the key
+
+
+KEY_FAULTS = [
+    ({"id": ""}, "use_key_id", "An id has 1 to 64 letters"), ({"id": "a b"}, "use_key_id", "An id has 1 to 64 letters"),
+    ({"secret": ""}, "use_key_secret", "A secret has 1 to 128"), ({"secret": "ö"}, "use_key_secret", "A secret has 1 to 128"),
+    ({"clock": "1"}, "use_key_clock", "Write it like +01:00"), ({"clock": "+14:01"}, "use_key_clock", "Write it like +01:00"),
+    ({"host": "Files.example"}, "use_key_host", "no host as browsers send it"),
+    ({"host": "files.example:80"}, "use_key_host", "no host as browsers send it"),
+    ({"host": "a/b"}, "use_key_host", "no host as browsers send it"), ({"region": "EU"}, "use_key_region", "A region has 1 to 32"),
+]
+
+
+def field_fault(case, count, name, field, words, focus=None):
+    """This field alone is said to be wrong, beside it and to a screen reader, and has the focus."""
+    bad, active, live, invalid = case.browser.js(FAULTS)
+    well = is_not((list(bad), active), ([field], focus or field)) or lacks(bad[field], words)
+    count.add(name, well or lacks(live, words) or is_not(invalid, [] if focus else [field]))
+
+
+def test_fields_of_key(case, count):
+    """A field that is wrong is told, and nothing is sent."""
+    opened(case)
+    before = len(case.front.passed)
+    for values, field, words in KEY_FAULTS:
+        good = {"id": ID, "secret": WORD, "clock": "+01:00", "host": case.front.host, "region": "us-east-1"}
+        fill(case, "use_key", **good | values)
+        case.browser.js("document.getElementById('use_key').requestSubmit()")
+        case.browser.wait_for(f"return document.getElementById('{field}_bad').textContent")
+        field_fault(case, count, f"the key, {values}", field, words)
+    fill(case, "use_key", id=ID, region="us-east-1", clock="\u22123:30")
+    for name, data, typed, words in [("two lines", b"one\ntwo\n", "", "does not hold one line"), ("empty", b"", "", "does not hold one"),
+                                     ("long", b"s" * 200, "", "does not hold one"), ("both", b"one\n", "two", "not both")]:
+        fill(case, "use_key", secret=typed, clock="-03:30")
+        case.browser.find("#use_key_file").type(case.file(f"secret {name}", data))
+        case.click("#use_key_go")
+        case.browser.wait_for("return document.getElementById('use_key_file_bad').textContent")
+        field_fault(case, count, f"a file with a secret, {name}", "use_key_file", words)
+        case.speak("de")
+        said = case.browser.js(FAULTS)[0]["use_key_file"]
+        count.add(f"a file with a secret, {name}, German", None if re.search("genau eine Zeile|nicht beides", said) else said)
+        case.speak("en")
+    count.add("nothing was sent", is_not(len(case.front.passed), before))
+
+
+def test_key(case, count):
+    """A key that is right: from the keyboard and from a file. Its secret goes nowhere, and is gone with the page."""
+    begun = len(case.front.passed)
+    found = begin(case)
+    count.add("a clerk’s key", is_not((found["title"], found["focus"]), ("The key is right", "result_title"))
+              or lacks(found["live"], "The key is right. The office knows this key as a clerk’s."))
+    both(case, count, "its words", ["The office knows this key as a clerk’s."], ["Der Schlüssel stimmt", "Schlüssel der Verwaltung"])
+    shown = case.browser.js("return document.getElementById('key_facts').innerText")
+    count.add("what is said of it", lacks(shown, ID, "clerk: signs links, and gives commands", "(UTC+01:00)", case.front.host))
+    hidden = case.browser.js(HIDDEN, ["use_key", "forget", "task_links", "task_add_box", "insecure"])
+    count.add("what is offered", is_not(hidden, [True, False, False, False, True]))
+    case.shot("clerk-start")
+    kept = case.browser.js("""return [localStorage.length, sessionStorage.length, document.cookie, document.body.innerHTML,
+        Array.from(document.querySelectorAll("input"), (it) => it.value)]""")
+    count.add("nothing is stored", is_not(kept[:3], [0, 0, ""]))
+    count.add("nothing is shown", "it is there" if WORD in kept[3] or WORD in kept[4] else None)
+    sent = case.front.passed[begun:]
+    hits = [it for it in sent if WORD in it[1] or expected.quoted(WORD).decode() in it[1]]
+    count.add("it is not sent", is_not((hits, [it[0] for it in sent]), ([], ["POST"])))
+    case.click("#forget")
+    hidden = case.browser.js(HIDDEN, ["use_key", "forget", "work", "result"])
+    count.add("it is forgotten", is_not((hidden, case.browser.active()), ([False, True, True, True], "key_title")))
+    case.browser.find("#use_key_file").type(case.file("secret", SECRET + b"\r\n"))
+    count.add("a secret from a file", is_not(use_key(case, secret="")["kind"], "keyed"))
+    case.browser.ask("POST", "/url", {"url": f"http://{case.front.host}/get.html"})
+    case.browser.ask("POST", "/back", {})
+    case.browser.wait_for("return document.getElementById('languages') && !document.getElementById('languages').hidden")
+    hidden = case.browser.js(HIDDEN, ["use_key", "work"])
+    count.add("it is gone with the page", is_not(hidden, [False, True]))
+
+
+LATE = "const now = Date.now; Date.now = () => now() + arguments[0]"
+
+
+def test_wrong_keys(case, count):
+    """Keys and clocks that are wrong, each in words."""
+    opened(case)
+    use_key(case, secret="another")
+    said_refusal(case, count, "a wrong secret", 21, ["the secret is not the one of this key", "give the right secret"],
+                 ["Das Geheimnis ist nicht das dieses Schlüssels", "das richtige Geheimnis"])
+    case.shot("clerk-refused")
+    count.add("it is asked again", is_not(case.browser.js(HIDDEN, ["use_key", "work"]), [False, True]))
+    use_key(case, key="nobody")
+    said_refusal(case, count, "an unknown key", 19, ["no key of this id", "Look at the id"], ["keinen Schlüssel mit dieser Kennung"])
+    use_key(case, key="revoked", secret="s3cr3t")
+    said_refusal(case, count, "a revoked key", 20, ["has revoked this key", "use another one"], ["Schlüssel widerrufen", "einen anderen"])
+    use_key(case, key="partner", secret="s3cr3t")
+    said_refusal(case, count, "a key of role link", 24, ["may give no commands", "use a clerk’s key"], ["darf keine Befehle erteilen"])
+    offered = ["use_key", "task_links", *(f"task_{it}" for it in COMMANDS), "key_note"]
+    count.add("links alone are offered", is_not(case.browser.js(HIDDEN, offered), [True, False, *[True] * 5, False]))
+    for number, shift, english, german in [
+        (22, 3600, "this device’s clock is ahead of the office’s", "geht gegenüber der Uhr der Stelle vor"),
+        (23, -3600, "this device’s clock is behind the office’s", "geht gegenüber der Uhr der Stelle nach"),
+    ]:
+        opened(case)
+        case.browser.js(LATE, 1000 * shift)
+        use_key(case)
+        said_refusal(case, count, f"a clock {shift} s ahead", number, [english, "Set the clock of this device right"],
+                     [german, "Stellen Sie die Uhr dieses Geräts richtig"])
+        case.browser.js(LATE, -1000 * shift)
+        count.add(f"the clock set right, {shift}", is_not(again(case)["kind"], "keyed"))
+
+
+# ---- commands
+
+
+def field_of(moment, zone=datetime.timezone(datetime.timedelta(minutes=EAST))):
+    """What stands in a field for date and time, by the office's clock."""
+    return moment.astimezone(zone).strftime("%Y-%m-%dT%H:%M")
+
+
+def utc(*parts):
+    return datetime.datetime(*parts, tzinfo=datetime.timezone.utc)
+
+
+OPENS, CLOSES = utc(2026, 1, 31, 23, 30), utc(2039, 12, 31, 22, 59)
+BOX = {"box": "tender-7", "opens": field_of(OPENS), "closes": field_of(CLOSES), "day_5": False, "day_6": False, "from": "08:00",
+       "to": "24:00", "quota": "250", "files": "120", "replace": True, "ends": True, "rule": ".pdf, .zip"}
+
+
+def test_box(case, count):
+    """A box is opened, extended and closed; the clocks stand beside each other."""
+    begin(case)
+    fill(case, "add_box", **BOX)
+    hints = case.browser.js("return ['opens', 'closes', 'to'].map((it) => document.getElementById(`add_box_${it}_hint`).textContent)")
+    count.add("the local clock, opens", lacks(hints[0], "By this device’s clock: Feb 1, 2026, 5:00:00", "20260131T233000Z"))
+    count.add("the local clock, closes", lacks(hints[1], "Jan 1, 2040, 4:29:00", "20391231T225900Z"))
+    count.add("the local clock, hours", is_not(hints[2].replace("\u202f", " "), "By this device’s clock, on the first day: Sun 12:30 PM to Mon 04:30 AM."))
+    found = send(case, "add_box")
+    count.add("a box is opened", is_not((found["kind"], found["title"], found["lead"]), ("done", "Done", "The box “tender-7” is there.")))
+    count.add("its beginning by both clocks", lacks(found["facts"].get("opens"), "Feb 1, 2026, 12:30", "(UTC+01:00)", "Feb 1, 2026, 5:00:00"))
+    both(case, count, "its words", ["The box “tender-7” is there."], ["Erledigt", "Das Fach „tender-7“ ist angelegt."])
+    case.shot("clerk-box")
+    row = (int(OPENS.timestamp()), int(CLOSES.timestamp()), "1111100", 480, 1440, 250 * 10**6, 120, 1, 1, ".pdf,.zip")
+    query = "SELECT opens, closes, days, from_minute, to_minute, quota, max_files, mode, rule_kind, rule_text FROM boxes WHERE name = ?"
+    count.add("its row", is_not(rows(case, query, "tender-7"), [row]))
+    send(case, "add_box")
+    said_refusal(case, count, "the same box", 36, ["has a box of this name already", "take another name"], ["schon ein Fach dieses Namens"])
+    found = send(case, "add_box", box="plain", any=True, keep=True, **{"from": "0:00", "quota": "0", "files": "0", "begins": False})
+    count.add("a box with few words", is_not(found["kind"], "done"))
+    found = send(case, "add_box", box="begins", begins=True, rule="offer-", closes="2039-01-01T00:00")
+    count.add("a box of a beginning", is_not(found["kind"], "done"))
+    found = rows(case, "SELECT name, quota, max_files, mode, rule_kind, rule_text FROM boxes WHERE name IN ('plain', 'begins') ORDER BY name")
+    count.add("their rows", is_not(found, [("begins", 0, 0, 0, 2, "offer-"), ("plain", 0, 0, 0, 0, "")]))
+    for name, moment in [("extended", utc(2040, 6, 1)), ("closed", utc(2026, 2, 1))]:
+        found = send(case, "close_box", box="tender-7", moment=field_of(moment))
+        well = is_not((found["kind"], found["lead"]), ("done", "The box “tender-7” has its new end."))
+        count.add(f"a box is {name}", well or lacks(found["facts"].get("new_end"), "(UTC+01:00)"))
+        count.add(f"{name}, its row", is_not(rows(case, query, "tender-7")[0][1], int(moment.timestamp())))
+    both(case, count, "closed, its words", ["has its new end"], ["Das Fach „tender-7“ hat ein neues Ende."])
+    send(case, "close_box", box="nowhere")
+    said_refusal(case, count, "no box", 36, ["no box of this name", "Look at the name"], ["kein Fach dieses Namens"])
+
+
+BOX_FAULTS = [
+    ({"box": "Tender"}, "box", "A box has a name of 1 to 63 small letters"), ({"opens": ""}, "opens", "Give date and time."),
+    ({"closes": BOX["opens"]}, "closes", "The end must lie behind the beginning."), ({"from": "25:00"}, "from", "Write it like 08:00"),
+    ({"from": "12:00", "to": "12:00"}, "to", "The end must lie behind the beginning."), ({"quota": "1,5"}, "quota", "A whole number"),
+    ({"quota": "1000001"}, "quota", "A whole number"), ({"files": "-1"}, "files", "A whole number"),
+    ({"rule": ".a,,.b"}, "rule", "1 to 8 endings"), ({"rule": "a b"}, "rule", "1 to 8 endings"),
+    ({"rule": "ö" * 17}, "rule", "1 to 8 endings"), ({"begins": True, "rule": "a,b"}, "rule", "A beginning of 1 to 64 bytes"),
+]
+
+
+def test_fields(case, count):
+    """Fields of the commands and of the links that are wrong: nothing is sent."""
+    begin(case)
+    before = len(case.front.passed)
+
+    def tried(form, good, values, field, words, focus=None):
+        fill(case, form, **good | values)
+        case.click(f"#{form}_go")
+        field_fault(case, count, f"{form}, {str(values)[:50]}", f"{form}_{field}", words, focus)
+
+    for values, field, words in BOX_FAULTS:
+        tried("add_box", BOX, values, field, words)
+    no_day = {f"day_{at}": False for at in range(7)}
+    tried("add_box", BOX, no_day, "days", "Choose one day at least.", "add_box_day_0")
+    case.speak("de")
+    count.add("no day, German", lacks(case.browser.js(FAULTS)[0].get("add_box_days"), "Wählen Sie mindestens einen Tag aus."))
+    case.speak("en")
+    tried("add_key", {}, {"id": "é"}, "id", "An id has 1 to 64")
+    tried("drop_file", {"box": "in"}, {"name": ""}, "name", "A name has 1 to 1024 bytes")
+    tried("drop_file", {"box": "in"}, {"name": "ä" * 513}, "name", "an umlaut has two")
+    tried("drop_file", {"box": "in"}, {"name": "a\tb"}, "name", "such as a tab")
+    links = {"box": "in", "names": "a", "start": "2026-01-01T00:00", "end": "2026-01-02T00:00"}
+    for values, field, words in [
+        ({"box": ""}, "box", "A box has a name"), ({"names": "\n\n"}, "names", "Write at least one name."),
+        ({"names": "a\n\nb\tc"}, "names", "Line 3 is no name"), ({"names": "a\n" + "ä" * 513}, "names", "Line 2 is no name"),
+        ({"end": "2026-01-08T00:01"}, "end", "for 7 days at most"), ({"end": "2026-01-01T00:00"}, "end", "must lie behind"),
+    ]:
+        tried("links", links, values, field, words)
+    count.add("nothing was sent", is_not(len(case.front.passed), before))
+
+
+def test_keys(case, count):
+    """A key is added with a secret that is made there, used, and revoked."""
+    begin(case)
+    found = send(case, "add_key", id="tender-2")
+    secret = found["facts"].get("secret") or ""
+    count.add("a key is added", is_not((found["kind"], found["lead"]), ("done", "The office has the key “tender-2”."))
+              or (None if re.fullmatch("[0-9a-f]{64}", secret) else secret))
+    both(case, count, "its words", ["shown here alone, this once"], ["Die Stelle hat den Schlüssel „tender-2“.", "nur dieses eine Mal"])
+    case.shot("clerk-secret")
+    before = set(os.listdir(case.browser.downloads))
+    case.click("#keep")
+    file = case.browser.downloaded(before)
+    count.add("its secret is saved", is_not((file.name, file.read_text()), ("secret-tender-2.txt", secret + "\n")))
+    copied(case, count, "#copy_secret", secret)
+    found = rows(case, "SELECT role, CAST(secret AS TEXT), revoked FROM keys WHERE id = 'tender-2'")
+    count.add("its row", is_not(found, [(0, secret, 0)]))
+    found = send(case, "add_key", id="second", clerk=True)
+    count.add("another secret", None if found["facts"]["secret"] != secret else "it is the same")
+    count.add("a clerk’s key", is_not(rows(case, "SELECT role FROM keys WHERE id = 'second'"), [(1,)]))
+    send(case, "add_key", id="tender-2")
+    said_refusal(case, count, "an id twice", 36, ["gives no id twice"], ["vergibt keine Kennung zweimal"])
+    count.add("no secret of it", is_not(case.result_now()["facts"].get("secret"), None))
+    [link] = owed_links(case, "PUT", "in", ["by key"], "tender-2")
+    count.add("its link is good", is_not(asked(link, "PUT", b"by key")[0], 200))
+    found = send(case, "revoke_key", id="tender-2")
+    count.add("a key is revoked", is_not((found["kind"], found["lead"]), ("done", "The key “tender-2” is revoked.")))
+    both(case, count, "revoked, its words", ["is revoked"], ["Der Schlüssel „tender-2“ ist widerrufen."])
+    count.add("its link is refused", is_not(asked(link, "PUT", b"by key")[::2], (403, expected.refusal(20)[1].encode())))
+    send(case, "revoke_key", id="tender-2")
+    said_refusal(case, count, "revoked twice", 36, ["is revoked already"], ["schon widerrufen"])
+    send(case, "revoke_key", id=ID)
+    send(case, "revoke_key", id="second")
+    said_refusal(case, count, "the own key revoked", 20, ["has revoked this key"], ["Schlüssel widerrufen"])
+    case.office.kill()
+    with tables.opened(case.office.file) as db:
+        db.execute("UPDATE keys SET revoked = 0 WHERE id = ?", [ID])
+    case.office.start()
+
+
+def test_drop(case, count):
+    """Files are taken out of their box, whatever their names are."""
+    for name in ["a/../b", "Ä ö ' % // .pdf"]:
+        [link] = owed_links(case, "PUT", "in", [name])
+        count.add(f"{name} is put", is_not(asked(link, "PUT", b"x")[0], 200))
+    begin(case)
+    for name in ["a/../b", "Ä ö ' % // .pdf"]:
+        found = send(case, "drop_file", box="in", name=name)
+        count.add(f"{name} is dropped", is_not((found["kind"], found["lead"]), ("done", f"“{name}” is taken out of the box “in”.")))
+        count.add(f"{name} is gone", is_not(rows(case, "SELECT COUNT(*) FROM files WHERE name = ?", name), [(0,)]))
+    both(case, count, "its words", ["is taken out of the box “in”"], ["ist aus dem Fach „in“ genommen"])
+    send(case, "drop_file", box="in", name="a/../b")
+    said_refusal(case, count, "dropped twice", 36, ["no file of this name", "Else look at box and name"], ["keine Datei dieses Namens"])
+
+
+def test_faults(case, count):
+    """What is lost on the way is told, with a warning, and "try again" sends the same command again."""
+    begin(case)
+    fill(case, "add_key", id="unsure")
+    secret = None
+    for mode, kind, english, german in [
+        ("lost", "lost", "The connection was lost", "Die Verbindung ist abgebrochen"),
+        (expected.answer(40), "refused", "Refused: number 40", "Abgelehnt: Nummer 40"),
+        (b"HTTP/1.1 302 Found\r\nLocation: /put.html\r\nContent-Length: 0\r\n\r\n", "strange", "none of the office’s", "nicht von der Stelle"),
+        (b"HTTP/1.1 403 Forbidden\r\nContent-Length: 0\r\n\r\n", "barred", "Not allowed from here", "Von hier nicht erlaubt"),
+        ("gone", "away", "The office does not answer just now", "Die Stelle antwortet gerade nicht"),
+        ("swallowed", "lost", "The connection was lost", "Die Verbindung ist abgebrochen"),
+    ]:
+        if mode == "gone":
+            case.office.kill()
+        case.front.mode = "through" if mode == "gone" else mode
+        found = again(case) if secret else send(case, "add_key")
+        secret = secret or found["facts"].get("secret")
+        name = f"a command, {mode if isinstance(mode, str) else kind}"
+        count.add(name, is_not((found["kind"], found["again"], found["focus"]), (kind, "Try again", "result_title"))
+                  or lacks(found["live"], found["title"]))
+        unsure = kind in ("lost", "strange", "away")
+        both(case, count, f"{name}, words", [english, *["Perhaps it was done, perhaps not."] * unsure],
+             [german, *["Vielleicht wurde es getan, vielleicht nicht."] * unsure])
+        if kind != "barred":
+            count.add(f"{name}, the same secret", is_not(found["facts"].get("secret"), secret))
+        if mode == "gone":
+            case.shot("clerk-away")
+            case.office.start()
+    case.front.mode = "through"
+    again(case)
+    said_refusal(case, count, "it was done the first time", 36, ["the first was done, with the secret that was shown then"],
+                 ["beim ersten Mal getan, mit dem Geheimnis"])
+    found = rows(case, "SELECT CAST(secret AS TEXT) FROM keys WHERE id = 'unsure'")
+    count.add("the secret that was shown", is_not(found, [(secret,)]))
+    opened(case)
+    case.office.kill()
+    found = use_key(case)
+    count.add("the key, gone", is_not((found["kind"], found["again"]), ("away", "Try again")) or lacks(found["text"], "status 502"))
+    case.office.start()
+    count.add("the key, tried again", is_not(again(case)["kind"], "keyed"))
+
+
+# ---- links
+
+
+START = "20260130T233000Z"
+HELD = {"start": field_of(utc(2026, 1, 30, 23, 30)), "end": field_of(utc(2026, 2, 6, 23, 30))}
+
+
+def copy_of(case):
+    """A copy of the office file, which the server keeps to itself."""
+    copy = case.drop.path("copy")
+    for ending in ["", "-wal"]:
+        pathlib.Path(f"{copy}{ending}").unlink(missing_ok=True)
+    case.office.kill()
+    for ending in ["", "-wal"]:
+        if os.path.exists(f"{case.office.file}{ending}"):
+            shutil.copy(f"{case.office.file}{ending}", f"{copy}{ending}")
+    case.office.start()
+    return copy
+
+
+def owed_links(case, method, box, names, key=ID, start=None, expires=3600):
+    """What `drop links` writes of these names."""
+    start = start or datetime.datetime.now(datetime.timezone.utc).strftime("%Y%m%dT%H%M00Z")
+    out = io.StringIO()
+    csv.writer(out, lineterminator="\n").writerows([["method", "box", "name", "start", "expires"],
+                                                    *([method, box, name, start, expires] for name in names)])
+    words = ["--key", key, "--host", case.front.host, "--region", "us-east-1"]
+    ran = case.drop.run("links", copy_of(case), *words, given=out.getvalue().encode())
+    assert ran.status == 0, ran
+    return [row["link"] for row in csv.DictReader(io.StringIO(ran.out.decode()))]
+
+
+def saved(case):
+    """The rows of the CSV file that the page lets one save, and its text."""
+    before = set(os.listdir(case.browser.downloads))
+    case.click("#keep")
+    text = case.browser.downloaded(before).read_bytes().decode()
+    return list(csv.DictReader(io.StringIO(text, newline=""))), text
+
+
+def copied(case, count, button, owed):
+    """What is copied by this button, and that it is said."""
+    case.browser.js("navigator.clipboard.writeText = async (it) => { window.copy = it; }")
+    case.click(button)
+    case.browser.wait_for("return document.getElementById('copied').textContent")
+    said = case.browser.js("return ['copied', 'live'].map((it) => document.getElementById(it).textContent)")
+    count.add(f"copied by {button}", is_not((case.browser.js("return window.copy"), said), (owed, ["Copied.", "Copied."])))
+
+
+def page_of(case, method, link):
+    return f"http://{case.front.host}/{method.lower()}.html#{link}"
+
+
+def test_one_link(case, count):
+    """One link for each odd name: that of `drop link`; and the address of the page for it, where a browser can send it."""
+    begin(case)
+    copy = copy_of(case)
+    for method in ["PUT", "GET"]:
+        for name in [*NAMES, *DOTS, "ä" * 512]:
+            found = send(case, "links", box="in", names=name, **{method.lower(): True}, **HELD)
+            ran = case.drop.link(copy, method, f"in/{name}", host=case.front.host, start=START, expires="604800")
+            [row], text = saved(case)
+            link = ran.out.decode().removesuffix("\n")
+            title = is_not((found["kind"], found["title"]), ("links", "One link"))
+            count.add(f"{method} {name[:20]!r}", title or is_not(row["link"], link))
+            page = "" if name in DOTS else page_of(case, method, link)
+            shown = case.browser.js("return document.querySelector('#made code').textContent")
+            count.add(f"{method} {name[:20]!r}, the page’s address", is_not((row["page"], shown), (page, page or link)))
+            if name in DOTS:
+                both(case, count, f"{method} {name!r} is told", ["No browser can send this name", "curl --path-as-is"],
+                     ["Diesen Namen kann kein Browser senden", "curl --path-as-is"])
+    case.shot("clerk-dots")
+    copied(case, count, "#copy_0", page)
+    case.browser.js("navigator.clipboard.writeText = async () => { throw new DOMException('no'); }")
+    case.click("#copy_0")
+    case.browser.wait_for("return document.getElementById('copied').textContent.includes('by the keyboard')")
+    count.add("it is selected", is_not(case.browser.js("return String(getSelection())"), page))
+
+
+def test_many_links(case, count):
+    """120 links of each method: what `drop links` writes, row by row; how many are made is shown and said."""
+    names = [f"{number:03} {NAMES[number % len(NAMES)].strip()}" for number in range(120)]
+    begin(case)
+    for method in ["PUT", "GET"]:
+        case.browser.js("""window.said = []; window.bars = [];
+            const seen = (id, act) => new MutationObserver(act).observe(document.getElementById(id),
+              {attributes: true, childList: true, characterData: true, subtree: true});
+            seen("live", () => window.said.push(document.getElementById("live").textContent));
+            seen("progress", () => window.bars.push([document.getElementById("progress").hidden, document.getElementById("bar").value,
+              document.getElementById("so_far").textContent]));""")
+        found = send(case, "links", box="in", names="\n".join(names) + "\n\n", **{method.lower(): True}, **HELD)
+        count.add(f"120 links, {method}", is_not((found["kind"], found["title"]), ("links", "120 links"))
+                  or lacks(found["facts"].get("holds_to"), "Feb 7, 2026, 12:30", "(UTC+01:00)", "Feb 7, 2026, 5:00:00"))
+        made, text = saved(case)
+        owed = owed_links(case, method, "in", names, start=START, expires=604800)
+        count.add(f"120 links, {method}, as drop links", is_not([it["link"] for it in made], owed))
+        count.add(f"120 links, {method}, names", is_not([it["name"] for it in made], names))
+        count.add(f"120 links, {method}, rows", is_not({(it["method"], it["box"], it["start"], it["expires"]) for it in made},
+                                                       {(method, "in", START, "604800")}))
+        pages = [page_of(case, method, it) for it in owed]
+        count.add(f"120 links, {method}, addresses", is_not([it["page"] for it in made], pages))
+        copied(case, count, "#copy_all", "".join(f"{it}\n" for it in pages))
+        bars = case.browser.js("return window.bars")
+        count.add(f"the bar, {method}", is_not((bars[0][0], bars[-1][0]), (False, True))
+                  or (None if [False, 50, "60 of 120 links"] in bars else f"{bars}"))
+        said = case.browser.js("return window.said")
+        count.add(f"it is said, {method}", None if said[0] == "The links are being made" and "60 of 120 links" in said else said)
+    ran = case.drop.run("links", copy_of(case), "--key", ID, "--host", case.front.host, "--region", "us-east-1",
+                        given="".join(f"{it.rpartition(',http')[0].rpartition(',http')[0]}\n" for it in
+                                      ["method,box,name,start,expires,http,http", *text.splitlines()[1:]]).encode())
+    count.add("the file as drop links", is_not("".join(f"{it.rpartition(',')[0]}\n" for it in text.splitlines()), ran.out.decode()))
+    case.shot("clerk-links")
+
+
+def test_many_more(case, count):
+    """Links that are stopped, and more than are shown."""
+    begin(case)
+    fill(case, "links", box="in", names="\n".join(map(str, range(5000))), **HELD)
+    case.click("#links_go")
+    case.browser.wait_for("return document.activeElement.id === 'stop'")
+    case.browser.press(ENTER)
+    found = case.result("stopped")
+    both(case, count, "stopped", ["Stopped", "No links were kept."], ["Angehalten", "Es wurden keine Links behalten."])
+    found = send(case, "links", names="\n".join(map(str, range(1000))))
+    count.add("a thousand", is_not(found["title"], "1,000 links") or lacks(found["text"], "The first 200 are shown."))
+    made, _ = saved(case)
+    shown = case.browser.js("return document.querySelectorAll('#made li').length")
+    count.add("all are saved", is_not((len(made), shown), (1000, 200)))
+
+
+def test_whole_way(case, count):
+    """A clerk's link, used on the strangers' pages: sent, fetched, and refused behind the closing."""
+    begin(case)
+    now = datetime.datetime.now(datetime.timezone.utc)
+    held = {"start": field_of(now), "end": field_of(now + datetime.timedelta(hours=1))}
+    box = {"opens": field_of(now), "closes": held["end"], "from": "00:00", "to": "24:00"}
+    count.add("a box for it", is_not(send(case, "add_box", box="way", **box)["kind"], "done"))
+    pages = {}
+    for method in ["PUT", "GET"]:
+        send(case, "links", box="way", names="Ä ' %/x.txt\nlate", **{method.lower(): True}, **held)
+        pages[method] = [it["page"] for it in saved(case)[0]]
+    send(case, "close_box", box="way", moment=field_of(now - datetime.timedelta(minutes=1)))
+    found = case.put(pages["PUT"][1].partition("#")[2], "late", b"late")
+    count.add("too late", is_not(found["title"], "Refused: number 30"))
+    begin(case)
+    count.add("it is extended", is_not(send(case, "close_box", box="way", moment=box["closes"])["kind"], "done"))
+    found = case.put(pages["PUT"][0].partition("#")[2], "mine", b"mine")
+    count.add("it is sent", is_not((found["kind"], found["facts"].get("name")), ("receipt", "Ä ' %/x.txt")))
+    found = case.fetch(pages["GET"][0].partition("#")[2])
+    count.add("it is fetched", is_not(found["kind"], "fetched"))
+
+
+# ---- keys alone, screen readers, a telephone
+
+
+def test_keyboard(case, count):
+    """Tab, Enter and Space alone: the key, a link, and a command."""
+    opened(case, f"east=60&key={ID}")
+    order = [it for it in tabbed(case, 7)]
+    count.add("the order", is_not(order, ["de", "en", "use_key_id", "use_key_secret", "use_key_file", "use_key_clock", ""]))
+    case.browser.press(TAB)
+    count.add("the button", is_not(case.browser.active(), "use_key_go"))
+    case.browser.js("document.getElementById('use_key_secret').focus()")
+    case.browser.press(*WORD, ENTER)
+    count.add("the key by keys", is_not(case.result(*KINDS)["kind"], "keyed"))
+    case.browser.js("document.querySelector('#task_links summary').focus()")
+    case.browser.press(ENTER)
+    count.add("it is opened", is_not(case.browser.js("return document.getElementById('task_links').open"), True))
+    count.add("its fields", is_not(tabbed(case, 3), ["links_put", "links_box", "links_names"]))
+    case.browser.js("document.getElementById('links_box').focus()")
+    case.browser.press(*"in", TAB, *"by keys", TAB)
+    reached = [case.browser.active()]
+    while reached[-1] != "links_go" and len(reached) < 20:
+        reached += tabbed(case, 1)
+    count.add("the fields behind them", is_not(list(dict.fromkeys(reached)), ["links_start", "links_end", "links_go"]))
+    case.browser.press(ENTER)
+    found = case.result("links")
+    count.add("a link by keys", is_not((found["title"], found["focus"]), ("One link", "result_title")))
+    count.add("what comes behind it", is_not(tabbed(case, 3), ["copy_all", "keep", "copy_0"]))
+    outline = "return getComputedStyle(document.activeElement).outlineStyle"
+    count.add("the focus is seen", is_not(case.browser.js(outline), "solid"))
+    case.browser.js("document.querySelector('#task_add_key summary').focus()")
+    case.browser.press(ENTER, TAB, *"by-keys", TAB, TAB, ENTER)
+    until("the key", lambda: (it := case.result_now()) and it["kind"] == "done")
+    count.add("a command by keys", lacks(case.result_now()["lead"], "by-keys"))
+
+
+def test_reader(case, count):
+    """Each control has a name; hints and faults belong to their fields; results stand in regions that have names."""
+    opened(case)
+    owed = {"de": ("button", "Deutsch"), "en": ("button", "English"), "use_key_id": ("textbox", "Id of the key"),
+            "use_key_secret": ("textbox", "Secret"), "use_key_clock": ("textbox", "The office’s clock, ahead of UTC by"),
+            "use_key_go": ("button", "Use this key")}
+    found = labels(case)
+    count.add("names, the key", is_not({it: found.get(it) for it in owed}, owed))
+    count.add("a file’s name", lacks(found["use_key_file"][1], "Or a file with the secret"))
+    begin(case)
+    case.browser.js("for (const it of document.querySelectorAll('details')) it.open = true")
+    for language in ["en", "de"]:
+        case.speak(language)
+        nameless = [name for name, (_, label) in labels(case).items() if not label.strip()]
+        count.add(f"each control has a name, {language}", is_not(nameless, []))
+    first = {"en": "Monday", "de": "Montag"}
+    case.speak("de")
+    count.add("days, German", is_not(case.browser.find("#add_box_day_0").label(), first["de"]))
+    page = "return [document.documentElement.lang, document.title]"
+    count.add("the page’s language", is_not(case.browser.js(page), ["de", "Verwaltung der Stelle"]))
+    case.speak("en")
+    count.add("days", is_not(case.browser.find("#add_box_day_0").label(), first["en"]))
+    described = case.browser.js("""return Array.from(document.querySelectorAll("form [aria-describedby]"), (it) =>
+        it.getAttribute("aria-describedby").split(" ").every((id) => document.getElementById(id)))""")
+    count.add("what describes fields is there", None if described and all(described) else f"{described}")
+    ids = case.browser.js("return Array.from(document.querySelectorAll('[id]'), (it) => it.id)")
+    count.add("ids stand once", is_not(len(ids), len(set(ids))))
+    send(case, "close_box", box="nowhere")
+    region = case.browser.find("#result")
+    count.add("the result’s region", is_not((region.role(), region.label()), ("region", "Refused: number 36")))
+    send(case, "links", box="in", names="one", **HELD)
+    count.add("the copy button’s name", is_not(case.browser.find("#copy_0").label(), "Copy the address for one"))
+    live = case.browser.find("#live")
+    count.add("the live region", is_not(live.role(), "status"))
+
+
+def test_looks(case, count):
+    """Narrow, wide, light and dark."""
+    def all_open():
+        begin(case)
+        case.browser.js("for (const it of document.querySelectorAll('details')) it.open = true")
+
+    def wrong():
+        all_open()
+        send_nothing = "for (const it of ['add_box', 'links', 'drop_file']) document.getElementById(it).requestSubmit()"
+        case.browser.js(send_nothing)
+
+    def many():
+        begin(case)
+        send(case, "links", box="in", names="\n".join(["ä" * 300, "a/../b", *NAMES]), **HELD)
+
+    def secret():
+        begin(case)
+        send(case, "add_key", id=f"looks-{len(case.front.passed)}")
+
+    looks(case, count, [("the key", lambda: opened(case)), ("all forms", all_open), ("wrong fields", wrong), ("links", many),
+                        ("a secret", secret)])
+
+
+def test_insecure(case, count):
+    """Over plain http from another host: it says why it can't sign, and offers nothing."""
+    opened(case, host=f"files.example:{case.front.port}")
+    shown = case.browser.js("return document.getElementById('insecure').innerText")
+    hidden = case.browser.js(HIDDEN, ["insecure", "key", "work"])
+    count.add("it says why", is_not(hidden, [False, True, True]) or lacks(shown, "http, not https", "drop link and drop desk"))
+    case.shot("clerk-insecure")
+    case.speak("de")
+    shown = case.browser.js("return document.getElementById('insecure').innerText")
+    count.add("it says why, German", lacks(shown, "http statt https", "drop link und drop desk"))
+
+
+def test_texts(case, count):
+    """Both languages have the same texts, each is translated and used; and each refusal that a form can get has words."""
+    opened(case)
+    texts = case.browser.js("return CLERK_TEXTS")
+    marks = re.compile(r"\{\w+\}")
+    keys = {language: {key: set(marks.findall(value)) for key, value in texts[language].items()} for language in texts}
+    count.add("the same texts", is_not(keys["de"], keys["en"]))
+    same = {key for key in texts["en"] if texts["en"][key] == texts["de"][key]}
+    count.add("each is translated", is_not(same, {"link_host", "region"}))
+    code = "".join((PAGE / name).read_text(encoding="utf-8") for name in ["clerk.js", "desk.js", "clerk.html"])
+    named = {*re.findall(r'"(\w+)"', code)}
+    made = {f"done_{form}" for form in COMMANDS} | {"bad_ends", "bad_begins", "lost_desk", "strange_desk", "barred_desk", "barred_desk_title"}
+    unused = {key for key in texts["en"] if not key.startswith("desk_")} - named - made
+    count.add("each is used", is_not(unused, set()))
+    owed = {f"desk_{number}" for number in [19, 20, 21, 22, 23, 24, 35, 40]} | {f"desk_36_{form}" for form in COMMANDS}
+    found = {key for key in texts["en"] if key.startswith("desk_") and not key.endswith("_do")}
+    count.add("refusals", is_not(found, owed))
+    remedies = {key.removesuffix("_do") for key in texts["en"] if key.endswith("_do")}
+    count.add("remedies", is_not(remedies, owed | {"desk_other"}))
+
+
+def test_own_origin(case, count):
+    """Nothing is loaded from elsewhere, and nothing could be."""
+    case.browser.ask("POST", "/se/log", {"type": "browser"})
+    begin(case)
+    send(case, "links", box="in", names="a", **HELD)
+    case.click("#de")
+    loads_its_own(case, count, "clerk")
+    log = [it["message"] for it in case.browser.ask("POST", "/se/log", {"type": "browser"}) if "400 (Bad Request)" not in it["message"]]
+    count.add("the browser complains of nothing but the empty command", is_not(log, []))
+    reaches_nothing_else(case, count)
+
+
+TESTS = [test_texts, test_fields_of_key, test_key, test_wrong_keys, test_box, test_fields, test_keys, test_drop, test_faults,
+         test_one_link, test_many_links, test_many_more, test_whole_way, test_keyboard, test_reader, test_looks, test_insecure,
+         test_own_origin]
+
+
+def main():
+    chosen = options(__doc__)
+    count = kit.Count()
+    with tempfile.TemporaryDirectory(prefix="drop-clerk-", ignore_cleanup_errors=True) as name:
+        folder = pathlib.Path(name)
+        drop = Drop(kit.built("drop"), folder)
+        file = drop.office("office", "--east", str(EAST))
+        for box in BOXES:
+            tables.add_box(file, box)
+        tables.add_key(file, "partner", b"s3cr3t")
+        tables.add_key(file, "revoked", b"s3cr3t", revoked=1)
+        office = Office(drop, file)
+        front = Front(office)
+        office.start()
+        try:
+            with Browser(folder) as browser:
+                browser.cdp("Emulation.setTimezoneOverride", timezoneId=ZONE)
+                run_tests(TESTS, Case(drop, office, front, browser, {}, chosen.shots), count, chosen.times)
+        finally:
+            office.kill()
+    count.end()
+
+
+if __name__ == "__main__":
+    main()
