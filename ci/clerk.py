@@ -22,7 +22,7 @@ from browser import Browser, until
 from expected import SECRET
 from front import PAGE, Front, Office
 from office import Drop
-from page import ENTER, SPACE, TAB, complains_of_nothing, labels, loads_its_own, looks, reaches_nothing_else, tabbed
+from page import ENTER, TAB, labels, loads_its_own, looks, reaches_nothing_else, tabbed
 from replays import ID
 from serve import asked
 from shown import Case, is_not, lacks, options, run_tests
@@ -258,7 +258,7 @@ def test_box(case, count):
     count.add("the local clock, hours", is_not(hints[2].replace("\u202f", " "), "By this device’s clock, on the first day: Sun 12:30 PM to Mon 04:30 AM."))
     found = send(case, "add_box")
     count.add("a box is opened", is_not((found["kind"], found["title"], found["lead"]), ("done", "Done", "The box “tender-7” is there.")))
-    count.add("its beginning by both clocks", lacks(found["facts"].get("opens"), "Feb 1, 2026, 12:30", "(UTC+01:00)", "Feb 1, 2026, 5:00:00"))
+    count.add("its beginning by both clocks", lacks(found["facts"].get("from_then"), "Feb 1, 2026, 12:30", "(UTC+01:00)", "Feb 1, 2026, 5:00:00"))
     both(case, count, "its words", ["The box “tender-7” is there."], ["Erledigt", "Das Fach „tender-7“ ist angelegt."])
     case.shot("clerk-box")
     row = (int(OPENS.timestamp()), int(CLOSES.timestamp()), "1111100", 480, 1440, 250 * 10**6, 120, 1, 1, ".pdf,.zip")
@@ -275,7 +275,7 @@ def test_box(case, count):
     for name, moment in [("extended", utc(2040, 6, 1)), ("closed", utc(2026, 2, 1))]:
         found = send(case, "close_box", box="tender-7", moment=field_of(moment))
         well = is_not((found["kind"], found["lead"]), ("done", "The box “tender-7” has its new end."))
-        count.add(f"a box is {name}", well or lacks(found["facts"].get("new_end"), "(UTC+01:00)"))
+        count.add(f"a box is {name}", well or lacks(found["facts"].get("until_then"), "(UTC+01:00)"))
         count.add(f"{name}, its row", is_not(rows(case, query, "tender-7")[0][1], int(moment.timestamp())))
     both(case, count, "closed, its words", ["has its new end"], ["Das Fach „tender-7“ hat ein neues Ende."])
     send(case, "close_box", box="nowhere")
@@ -288,7 +288,7 @@ BOX_FAULTS = [
     ({"from": "12:00", "to": "12:00"}, "to", "The end must lie behind the beginning."), ({"quota": "1,5"}, "quota", "A whole number"),
     ({"quota": "1000001"}, "quota", "A whole number"), ({"files": "-1"}, "files", "A whole number"),
     ({"rule": ".a,,.b"}, "rule", "1 to 8 endings"), ({"rule": "a b"}, "rule", "1 to 8 endings"),
-    ({"rule": "ö" * 17}, "rule", "1 to 8 endings"), ({"begins": True, "rule": "a,b"}, "rule", "A beginning of 1 to 64 bytes"),
+    ({"rule": "ö" * 17}, "rule", "1 to 8 endings"), ({"ends": False, "begins": True, "rule": "a,b"}, "rule", "A beginning of 1 to 64 bytes"),
 ]
 
 
@@ -473,30 +473,47 @@ def page_of(case, method, link):
     return f"http://{case.front.host}/{method.lower()}.html#{link}"
 
 
+def link_of_drop(case, copy, method, name):
+    """What `drop link` prints for this name."""
+    ran = case.drop.link(copy, method, f"in/{name}", host=case.front.host, start=START, expires="604800")
+    assert ran.status == 0, ran
+    return ran.out.decode().removesuffix("\n")
+
+
 def test_one_link(case, count):
-    """One link for each odd name: that of `drop link`; and the address of the page for it, where a browser can send it."""
+    """A link is that of `drop link`; beside it stands the address of the page for it, where a browser can send it."""
     begin(case)
     copy = copy_of(case)
-    for method in ["PUT", "GET"]:
-        for name in [*NAMES, *DOTS, "ä" * 512]:
-            found = send(case, "links", box="in", names=name, **{method.lower(): True}, **HELD)
-            ran = case.drop.link(copy, method, f"in/{name}", host=case.front.host, start=START, expires="604800")
-            [row], text = saved(case)
-            link = ran.out.decode().removesuffix("\n")
-            title = is_not((found["kind"], found["title"]), ("links", "One link"))
-            count.add(f"{method} {name[:20]!r}", title or is_not(row["link"], link))
-            page = "" if name in DOTS else page_of(case, method, link)
-            shown = case.browser.js("return document.querySelector('#made code').textContent")
-            count.add(f"{method} {name[:20]!r}, the page’s address", is_not((row["page"], shown), (page, page or link)))
-            if name in DOTS:
-                both(case, count, f"{method} {name!r} is told", ["No browser can send this name", "curl --path-as-is"],
-                     ["Diesen Namen kann kein Browser senden", "curl --path-as-is"])
+    for method, name in [("PUT", NAMES[1]), ("GET", "ä" * 512), ("PUT", DOTS[0])]:
+        found = send(case, "links", box="in", names=name, **{method.lower(): True}, **HELD)
+        link = link_of_drop(case, copy, method, name)
+        [row], _ = saved(case)
+        count.add(f"{method} {name[:20]!r}", is_not((found["title"], row["link"]), ("One link", link)))
+        page = "" if name in DOTS else page_of(case, method, link)
+        shown = case.browser.js("return document.querySelector('#made code').textContent")
+        count.add(f"{method} {name[:20]!r}, the page’s address", is_not((row["page"], shown), (page, page or link)))
+    both(case, count, "a name that no browser sends", ["No browser can send this name", "curl --path-as-is"],
+         ["Diesen Namen kann kein Browser senden", "curl --path-as-is"])
     case.shot("clerk-dots")
-    copied(case, count, "#copy_0", page)
+    copied(case, count, "#copy_0", link)
     case.browser.js("navigator.clipboard.writeText = async () => { throw new DOMException('no'); }")
     case.click("#copy_0")
     case.browser.wait_for("return document.getElementById('copied').textContent.includes('by the keyboard')")
-    count.add("it is selected", is_not(case.browser.js("return String(getSelection())"), page))
+    count.add("it is selected", is_not(case.browser.js("return String(getSelection())"), link))
+
+
+def test_odd_names(case, count):
+    """Links for odd names are those of `drop link`."""
+    begin(case)
+    copy = copy_of(case)
+    for method in ["PUT", "GET"]:
+        send(case, "links", box="in", names="\n".join([*NAMES, *DOTS]), **{method.lower(): True}, **HELD)
+        made, _ = saved(case)
+        count.add(f"names, {method}", is_not([it["name"] for it in made], [*NAMES, *DOTS]))
+        for row in made:
+            link = link_of_drop(case, copy, method, row["name"])
+            page = "" if row["name"] in DOTS else page_of(case, method, link)
+            count.add(f"{method} {row['name']!r}", is_not((row["link"], row["page"]), (link, page)))
 
 
 def test_many_links(case, count):
@@ -512,7 +529,7 @@ def test_many_links(case, count):
               document.getElementById("so_far").textContent]));""")
         found = send(case, "links", box="in", names="\n".join(names) + "\n\n", **{method.lower(): True}, **HELD)
         count.add(f"120 links, {method}", is_not((found["kind"], found["title"]), ("links", "120 links"))
-                  or lacks(found["facts"].get("holds_to"), "Feb 7, 2026, 12:30", "(UTC+01:00)", "Feb 7, 2026, 5:00:00"))
+                  or lacks(found["facts"].get("until_then"), "Feb 7, 2026, 12:30", "(UTC+01:00)", "Feb 7, 2026, 5:00:00"))
         made, text = saved(case)
         owed = owed_links(case, method, "in", names, start=START, expires=604800)
         count.add(f"120 links, {method}, as drop links", is_not([it["link"] for it in made], owed))
@@ -618,17 +635,14 @@ def test_reader(case, count):
     count.add("a file’s name", lacks(found["use_key_file"][1], "Or a file with the secret"))
     begin(case)
     case.browser.js("for (const it of document.querySelectorAll('details')) it.open = true")
-    for language in ["en", "de"]:
-        case.speak(language)
-        nameless = [name for name, (_, label) in labels(case).items() if not label.strip()]
-        count.add(f"each control has a name, {language}", is_not(nameless, []))
-    first = {"en": "Monday", "de": "Montag"}
     case.speak("de")
-    count.add("days, German", is_not(case.browser.find("#add_box_day_0").label(), first["de"]))
+    nameless = [name for name, (_, label) in labels(case).items() if not label.strip()]
+    count.add("each control has a name", is_not(nameless, []))
+    count.add("days, German", is_not(case.browser.find("#add_box_day_0").label(), "Montag"))
     page = "return [document.documentElement.lang, document.title]"
     count.add("the page’s language", is_not(case.browser.js(page), ["de", "Verwaltung der Stelle"]))
     case.speak("en")
-    count.add("days", is_not(case.browser.find("#add_box_day_0").label(), first["en"]))
+    count.add("days", is_not(case.browser.find("#add_box_day_0").label(), "Monday"))
     described = case.browser.js("""return Array.from(document.querySelectorAll("form [aria-describedby]"), (it) =>
         it.getAttribute("aria-describedby").split(" ").every((id) => document.getElementById(id)))""")
     count.add("what describes fields is there", None if described and all(described) else f"{described}")
@@ -712,7 +726,7 @@ def test_own_origin(case, count):
 
 
 TESTS = [test_texts, test_fields_of_key, test_key, test_wrong_keys, test_box, test_fields, test_keys, test_drop, test_faults,
-         test_one_link, test_many_links, test_many_more, test_whole_way, test_keyboard, test_reader, test_looks, test_insecure,
+         test_one_link, test_odd_names, test_many_links, test_many_more, test_whole_way, test_keyboard, test_reader, test_looks, test_insecure,
          test_own_origin]
 
 

@@ -109,13 +109,14 @@
     return text("by_office", { moment: words, clock: Desk.clockText(state.east) });
   }
 
-  function byDevice(moment) {
-    return told(moment, { dateStyle: "medium", timeStyle: "long" });
+  /** A moment by both clocks. */
+  function byBoth(moment) {
+    return `${byOffice(moment)}\n${text("by_device", { moment: told(moment) })}`;
   }
 
   function momentHint(raw) {
     const moment = Desk.moment(state.east)(raw);
-    return isBad(moment) ? "" : text("moment_hint", { here: byDevice(moment), utc: Sign.moment(moment) });
+    return isBad(moment) ? "" : text("moment_hint", { here: told(moment), utc: Sign.moment(moment) });
   }
 
   function clockHint(raw) {
@@ -318,9 +319,9 @@
   /** What was done, with its moments by both clocks. */
   function showDone(result) {
     const { form, values } = result.order;
-    const moments = form === "add_box" ? [["opens", values.opens], ["closes", values.closes]]
-      : form === "close_box" ? [["new_end", values.moment]] : [];
-    const rows = moments.map(([key, moment]) => [key, `${byOffice(moment)}\n${byDevice(moment)}`]);
+    const { opens, closes = values.moment } = values;
+    const moments = [["from_then", opens], ["until_then", closes]].filter(([, moment]) => moment);
+    const rows = moments.map(([key, moment]) => [key, byBoth(moment)]);
     const words = text(`done_${form}`, values);
     return ["good", text("done"), [node("p", words, { id: "lead" }), ...(rows.length ? [list(rows)] : []), ...newSecret(result)]];
   }
@@ -333,7 +334,7 @@
   function showRefused(result) {
     const { number, line, order } = result;
     const key = [`desk_${number}_${order.form}`, `desk_${number}`].find(has);
-    const here = byDevice(new Date());
+    const here = told(new Date());
     const [what, remedy] = key ? [text(key), text(`${key}_do`, { here })] : [refusal(number)[0], text("desk_other_do")];
     return ["bad", text("refused", { number }), [
       ...explained(what, remedy), ...officeSays(line), ...(number === 40 ? newSecret(result) : []), ...again(result, number),
@@ -377,10 +378,9 @@
     const all = node("ol", rows.slice(0, SHOWN).map(linkItem), { class: "links", id: "made" });
     const addresses = rows.map(({ page, link }) => `${page || link}\n`).join("");
     const more = rows.length > SHOWN ? [node("p", text("links_shown", { shown: count(SHOWN) }), { class: "note" })] : [];
-    const held = (moment) => `${byOffice(moment)}\n${byDevice(moment)}`;
     const lead = text(method === "PUT" ? "links_put_lead" : "links_get_lead");
     return ["good", rows.length === 1 ? text("one_link") : text("some_links", { count: count(rows.length) }), [
-      node("p", lead, { id: "lead" }), list([["box", box], ["holds_from", held(start)], ["holds_to", held(end)]]),
+      node("p", lead, { id: "lead" }), list([["box", box], ["from_then", byBoth(start)], ["until_then", byBoth(end)]]),
       acts(button("copy_all", "copy_all", () => copy(addresses, all)),
         button("keep", "save_links", () => save(text("links_name"), linksTable(result), "text/csv"))),
       copied(), ...more, all,
@@ -412,7 +412,7 @@
     $("forget").hidden = !state.role;
     $("key_note").hidden = state.role !== "link";
     facts($("key_facts"), state.role ? [
-      ["key_id", state.by.id], ["role", text(`role_${state.role}`)], ["office_clock", byOffice(new Date())], ["link_host", state.host],
+      ["key_id", state.by.id], ["role", text(`role_${state.role}`)], ["its_clock", byOffice(new Date())], ["link_host", state.host],
     ] : []);
   }
 
