@@ -277,7 +277,7 @@ def test_box(case, count):
         well = is_not((found["kind"], found["lead"]), ("done", "The box “tender-7” has its new end."))
         count.add(f"a box is {name}", well or lacks(found["facts"].get("until_then"), "(UTC+01:00)"))
         count.add(f"{name}, its row", is_not(rows(case, query, "tender-7")[0][1], int(moment.timestamp())))
-    both(case, count, "closed, its words", ["has its new end"], ["Das Fach „tender-7“ hat ein neues Ende."])
+    both(case, count, "closed, its words", ["has its new end"], ["Für das Fach „tender-7“ ist ein neues Ende festgelegt."])
     send(case, "close_box", box="nowhere")
     said_refusal(case, count, "no box", 36, ["no box of this name", "Look at the name"], ["kein Fach dieses Namens"])
 
@@ -503,13 +503,15 @@ def test_one_link(case, count):
 
 
 def test_odd_names(case, count):
-    """Links for odd names are those of `drop link`."""
+    """Links for odd names are those of `drop link`; and what one may not have meant is told."""
     begin(case)
-    copy = copy_of(case)
+    copy, names = copy_of(case), [*NAMES, *DOTS, NAMES[0]]
     for method in ["PUT", "GET"]:
-        send(case, "links", box="in", names="\n".join([*NAMES, *DOTS]), **{method.lower(): True}, **HELD)
+        send(case, "links", box="in", names="\n".join(names), **{method.lower(): True}, **HELD)
+        both(case, count, f"notes, {method}", ["begins or ends with a space", "stands more than once"],
+             ["beginnt oder endet mit einem Leerzeichen", "steht mehr als einmal da"])
         made, _ = saved(case)
-        count.add(f"names, {method}", is_not([it["name"] for it in made], [*NAMES, *DOTS]))
+        count.add(f"names, {method}", is_not([it["name"] for it in made], names))
         for row in made:
             link = link_of_drop(case, copy, method, row["name"])
             page = "" if row["name"] in DOTS else page_of(case, method, link)
@@ -559,7 +561,7 @@ def test_many_more(case, count):
     case.browser.wait_for("return document.activeElement.id === 'stop'")
     case.browser.press(ENTER)
     found = case.result("stopped")
-    both(case, count, "stopped", ["Stopped", "No links were kept."], ["Angehalten", "Es wurden keine Links behalten."])
+    both(case, count, "stopped", ["Stopped", "No links were kept."], ["Angehalten", "Die Links wurden verworfen."])
     found = send(case, "links", names="\n".join(map(str, range(1000))))
     count.add("a thousand", is_not(found["title"], "1,000 links") or lacks(found["text"], "The first 200 are shown."))
     made, _ = saved(case)

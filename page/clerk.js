@@ -367,6 +367,17 @@
     return node("li", [node("strong", name), ...note, shown, copies]);
   }
 
+  /** What one may not have meant of names, and that not all are shown. */
+  function linkNotes(rows) {
+    const names = rows.map(({ name }) => name);
+    const keys = [
+      ...(names.some((name) => name !== name.trim()) ? ["blanks_note"] : []),
+      ...(new Set(names).size < names.length ? ["twice_note"] : []),
+      ...(rows.length > SHOWN ? ["links_shown"] : []),
+    ];
+    return keys.map((key) => node("p", text(key, { shown: count(SHOWN) }), { class: "note" }));
+  }
+
   function linksTable({ rows, method, box, start, expires }) {
     const head = ["method", "box", "name", "start", "expires", "link", "page"];
     const date = Sign.moment(start);
@@ -376,14 +387,13 @@
   function showLinks(result) {
     const { rows, method, box, start, end } = result;
     const all = node("ol", rows.slice(0, SHOWN).map(linkItem), { class: "links", id: "made" });
-    const addresses = rows.map(({ page, link }) => `${page || link}\n`).join("");
-    const more = rows.length > SHOWN ? [node("p", text("links_shown", { shown: count(SHOWN) }), { class: "note" })] : [];
+    const addresses = () => rows.map(({ page, link }) => `${page || link}\n`).join("");
     const lead = text(method === "PUT" ? "links_put_lead" : "links_get_lead");
     return ["good", rows.length === 1 ? text("one_link") : text("some_links", { count: count(rows.length) }), [
       node("p", lead, { id: "lead" }), list([["box", box], ["from_then", byBoth(start)], ["until_then", byBoth(end)]]),
-      acts(button("copy_all", "copy_all", () => copy(addresses, all)),
+      acts(button("copy_all", "copy_all", () => copy(addresses(), all)),
         button("keep", "save_links", () => save(text("links_name"), linksTable(result), "text/csv"))),
-      copied(), ...more, all,
+      copied(), ...linkNotes(rows), all,
     ]];
   }
 
