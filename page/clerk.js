@@ -220,7 +220,8 @@
     const { host } = location;
     const desk = { method: "POST", path: "/", desk: line, host, region: state.region, start, expires: HOLDS };
     try {
-      const how = { method: "POST", cache: "no-store", credentials: "omit", redirect: "manual", signal: AbortSignal.timeout(ANSWERED) };
+      const signal = AbortSignal.timeout(ANSWERED);
+      const how = { method: "POST", cache: "no-store", credentials: "omit", redirect: "manual", signal };
       const answer = await fetch(location.origin + (await Sign.target(state.by, desk)), how);
       const { status } = answer;
       const said = await answer.text();
