@@ -21,10 +21,10 @@ from clerking import (EAST, FAULTS, HIDDEN, KINDS, WORD, again, begin, both, cop
 from expected import SECRET
 from front import PAGE, Front, Office
 from office import Drop
-from page import ENTER, TAB, labels, loads_its_own, looks, reaches_nothing_else, tabbed
+from page import ENTER, TAB, labels, loads_its_own, looks, reaches_nothing_else, receipts, tabbed
 from replays import ID
 from serve import asked
-from shown import Case, is_not, lacks, options, run_tests
+from shown import Case, digest, is_not, lacks, options, run_tests
 
 ZONE = "Asia/Kolkata"  # of the browser, ahead of the office by four hours and a half
 BOXES = [tables.Box("in", max_files=1000), tables.Box("closed", closes=1)]
@@ -57,7 +57,7 @@ def test_fields_of_key(case, count):
         case.browser.js("document.getElementById('use_key').requestSubmit()")
         case.browser.wait_for(f"return document.getElementById('{field}_bad').textContent")
         field_fault(case, count, f"the key, {values}", field, words)
-    fill(case, "use_key", id=ID, region="us-east-1", clock="\u22123:30")
+    fill(case, "use_key", id=ID, region="us-east-1")
     for name, data, typed, words in [
         ("two lines", b"one\ntwo\n", "", "does not hold one line"), ("empty", b"", "", "does not hold one line"),
         ("long", b"s" * 200, "", "does not hold one line"), ("both", b"one\n", "two", "not both"),
@@ -72,6 +72,10 @@ def test_fields_of_key(case, count):
         count.add(f"a file with a secret, {name}, German", None if re.search("genau eine Zeile|nicht beides", said) else said)
         case.speak("en")
     count.add("nothing was sent", is_not(len(case.front.passed), before))
+    opened(case, "key=k-1&east=-210&host=office.example&region=eu-1&secret=never")
+    found = case.browser.js("const value = (it) => document.getElementById(`use_key_${it}`).value;"
+                            "return ['id', 'secret', 'clock', 'host', 'region'].map(value)")
+    count.add("what the address presets", is_not(found, ["k-1", "", "-03:30", "office.example", "eu-1"]))
 
 
 def test_key(case, count):
@@ -181,7 +185,8 @@ def test_box(case, count):
     count.add("a box with few words", is_not(found["kind"], "done"))
     found = send(case, "add_box", box="begins", begins=True, rule="offer-", closes="2039-01-01T00:00")
     count.add("a box of a beginning", is_not(found["kind"], "done"))
-    count.add("their rows", is_not([row_of(case, it)[5:] for it in ["plain", "begins"]], [(0, 0, 0, 0, ""), (0, 0, 0, 2, "offer-")]))
+    found = [row_of(case, it)[5:] for it in ["plain", "begins"]]
+    count.add("their rows", is_not(found, [(0, 0, 0, 0, ""), (0, 0, 0, 2, "offer-")]))
     for name, moment in [("extended", utc(2040, 6, 1)), ("closed", utc(2026, 2, 1))]:
         found = send(case, "close_box", box="tender-7", moment=field_of(moment))
         well = is_not((found["kind"], found["lead"]), ("done", "The box “tender-7” has its new end."))
@@ -348,9 +353,9 @@ START = "20260130T233000Z"
 HELD = {"start": field_of(utc(2026, 1, 30, 23, 30)), "end": field_of(utc(2026, 2, 6, 23, 30))}
 
 
-def link_of_drop(case, copy, method, name):
+def link_of_drop(case, copy, method, name, **where):
     """What `drop link` prints for this name."""
-    ran = case.drop.link(copy, method, f"in/{name}", host=case.front.host, start=START, expires="604800")
+    ran = case.drop.link(copy, method, f"in/{name}", **{"host": case.front.host, "start": START, "expires": "604800"} | where)
     assert ran.status == 0, ran
     return ran.out.decode().removesuffix("\n")
 
@@ -375,6 +380,12 @@ def test_one_link(case, count):
     case.click("#copy_0")
     case.browser.wait_for("return document.getElementById('copied').textContent.includes('by the keyboard')")
     count.add("it is selected", is_not(case.browser.js("return String(getSelection())"), link))
+    opened(case)
+    use_key(case, host="files.example", region="eu-1")
+    send(case, "links", box="in", names="a.txt", **HELD)
+    [row], _ = saved(case)
+    link = link_of_drop(case, copy, "PUT", "a.txt", host="files.example", region="eu-1")
+    count.add("another host", is_not((row["link"], row["page"]), (link, f"http://files.example/put.html#{link}")))
 
 
 def test_odd_names(case, count):
@@ -431,7 +442,7 @@ def test_many_links(case, count):
 def test_many_more(case, count):
     """Links that are stopped, and more than are shown."""
     begin(case)
-    fill(case, "links", box="in", names="\n".join(map(str, range(5000))), **HELD)
+    fill(case, "links", box="in", names="\n".join(map(str, range(20000))), **HELD)
     case.click("#links_go")
     case.browser.wait_for("return document.activeElement.id === 'stop'")
     case.browser.press(ENTER)
@@ -444,26 +455,47 @@ def test_many_more(case, count):
     count.add("all are saved", is_not((len(made), shown), (1000, 200)))
 
 
-def test_whole_way(case, count):
-    """A clerk's link, used on the strangers' pages: sent, fetched, and refused behind the closing."""
-    begin(case)
+def sent_by(row):
+    """What a stranger sends by the link of this row, and how it is answered."""
+    data = row["name"].encode() * 9
+    status, _, body = asked(row["link"], "PUT", data)
+    return data, (status, body.decode())
+
+
+def test_tender(case, count):
+    """A whole tender, over which the office is never stopped: the clerk's page opens a box and makes 120 links, strangers send by
+    put.html and by a program of their own, the page closes the box, and who is late is refused; then the clerk fetches all."""
+    before = len(receipts(case))
+    serves = case.office.process
     now = datetime.datetime.now(datetime.timezone.utc)
     held = {"start": field_of(now), "end": field_of(now + datetime.timedelta(hours=1))}
-    box = {"opens": field_of(now), "closes": held["end"], "from": "00:00", "to": "24:00"}
-    count.add("a box for it", is_not(send(case, "add_box", box="way", **box)["kind"], "done"))
-    pages = {}
-    for method in ["PUT", "GET"]:
-        send(case, "links", box="way", names="Ä ' %/x.txt\nlate", **{method.lower(): True}, **held)
-        pages[method] = [it["page"] for it in saved(case)[0]]
-    send(case, "close_box", box="way", moment=field_of(now - datetime.timedelta(minutes=1)))
-    found = case.put(pages["PUT"][1].partition("#")[2], "late", b"late")
-    count.add("too late", is_not(found["title"], "Refused: number 30"))
+    names = [f"offer {number:03}/Ä ' %.pdf" for number in range(120)]
     begin(case)
-    count.add("it is extended", is_not(send(case, "close_box", box="way", moment=box["closes"])["kind"], "done"))
-    found = case.put(pages["PUT"][0].partition("#")[2], "mine", b"mine")
-    count.add("it is sent", is_not((found["kind"], found["facts"].get("name")), ("receipt", "Ä ' %/x.txt")))
-    found = case.fetch(pages["GET"][0].partition("#")[2])
-    count.add("it is fetched", is_not(found["kind"], "fetched"))
+    found = send(case, "add_box", box="tender", opens=held["start"], closes=held["end"], quota="1", files="120")
+    count.add("tender: a box", is_not(found["kind"], "done"))
+    made = {}
+    for method in ["PUT", "GET"]:
+        send(case, "links", box="tender", names="\n".join(names), **{method.lower(): True}, **held)
+        made[method] = saved(case)[0]
+    sent = [sent_by(row) for row in made["PUT"][2:-1]]
+    owed = [(200, f"receipt {before + at} {len(data)} {digest(data)}\n") for at, (data, _) in enumerate(sent, 1)]
+    count.add("tender: a program’s uploads", is_not([answer for _, answer in sent], owed))
+    for row in made["PUT"][:2]:
+        found = case.put(row["page"].partition("#")[2], "mine.pdf", row["name"].encode() * 9)
+        count.add("tender: put.html", is_not((found["kind"], found["facts"].get("name")), ("receipt", row["name"])))
+    begin(case)
+    found = send(case, "close_box", box="tender", moment=field_of(now - datetime.timedelta(minutes=1)))
+    count.add("tender: closed", is_not(found["kind"], "done"))
+    count.add("tender: who is late", is_not(sent_by(made["PUT"][-1])[1], (403, expected.refusal(30)[1])))
+    found = case.put(made["PUT"][-1]["page"].partition("#")[2], "late.pdf", b"late")
+    count.add("tender: who is late, put.html", is_not(found["title"], "Refused: number 30"))
+    fetched = [asked(row["link"], "GET")[::2] for row in made["GET"][:-1]]
+    count.add("tender: all is fetched", is_not(fetched, [(200, name.encode() * 9) for name in names[:-1]]))
+    found = case.fetch(made["GET"][0]["page"].partition("#")[2])
+    count.add("tender: get.html", is_not(found["kind"], "fetched"))
+    count.add("tender: the office was never stopped", is_not((case.office.process, serves.poll()), (serves, None)))
+    listed = [it.split(",", 3)[1:3] for it in receipts(case)[before:]]
+    count.add("tender: the manifest", is_not(sorted(listed), sorted(["tender", name] for name in names[:-1])))
 
 
 # ---- keys alone, screen readers, a telephone
@@ -605,7 +637,7 @@ def test_own_origin(case, count):
 
 
 TESTS = [test_texts, test_fields_of_key, test_key, test_wrong_keys, test_box, test_fields, test_keys, test_drop, test_faults,
-         test_one_link, test_odd_names, test_many_links, test_many_more, test_whole_way, test_keyboard, test_reader, test_looks,
+         test_one_link, test_odd_names, test_many_links, test_many_more, test_tender, test_keyboard, test_reader, test_looks,
          test_insecure, test_own_origin]
 
 
