@@ -334,8 +334,13 @@ def test_faults(case, count):
             case.office.start()
     case.front.mode = "through"
     again(case)
-    said_refusal(case, count, "it was done the first time", 36, ["the first was done, with the secret that was shown then"],
+    said_refusal(case, count, "it was done the first time", 36, ["the first was done, with the secret that was shown"],
                  ["beim ersten Mal getan, mit dem Geheimnis"])
+    count.add("its secret is still there", is_not(case.result_now()["facts"].get("secret"), secret))
+    case.front.mode = "lost"
+    found = send(case, "drop_file", box="in", name="a")
+    both(case, count, "a file that is perhaps dropped", ["look first whether another file has come"], ["Sehen Sie aber zuerst nach"])
+    case.front.mode = "through"
     found = rows(case, "SELECT CAST(secret AS TEXT) FROM keys WHERE id = 'unsure'")
     count.add("the secret that was shown", is_not(found, [(secret,)]))
     opened(case)

@@ -205,9 +205,10 @@
     ask({ form, values: order, line: Desk.command[form](order) });
   }
 
-  /** Asks the office one command, signed at this moment. */
+  /** Asks the office one command, signed at this moment; `times` counts how often it was asked. */
   async function ask(order) {
     const asked = { order };
+    order.times = (order.times || 0) + 1;
     Object.assign(state, { busy: asked, result: null });
     draw();
     announce(text("asking"));
@@ -336,9 +337,10 @@
     const { number, line, order } = result;
     const key = [`desk_${number}_${order.form}`, `desk_${number}`].find(has);
     const here = told(new Date());
+    const maybeDone = number === 40 || (number === 36 && order.times > 1);
     const [what, remedy] = key ? [text(key), text(`${key}_do`, { here })] : [refusal(number)[0], text("desk_other_do")];
     return ["bad", text("refused", { number }), [
-      ...explained(what, remedy), ...officeSays(line), ...(number === 40 ? newSecret(result) : []), ...again(result, number),
+      ...explained(what, remedy), ...officeSays(line), ...(maybeDone ? newSecret(result) : []), ...again(result, number),
     ]];
   }
 
@@ -348,8 +350,12 @@
     const unsure = order.form !== "use_key" && kind !== "barred";
     return ["bad", text(has(`${kind}_desk_title`) ? `${kind}_desk_title` : `${kind}_title`), [
       node("p", text(key, { status }), { id: "what" }),
-      ...(unsure ? [node("p", text("unsure"), { class: "note", id: "unsure" }), ...newSecret(result)] : []), ...again(result),
+      ...(unsure ? [node("p", unsureWords(order), { class: "note", id: "unsure" }), ...newSecret(result)] : []), ...again(result),
     ]];
+  }
+
+  function unsureWords({ form }) {
+    return [text("unsure"), ...(form === "drop_file" ? [text("unsure_drop")] : [])].join(" ");
   }
 
   function again({ order }, number) {

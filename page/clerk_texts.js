@@ -158,7 +158,7 @@ const CLERK_TEXTS = {
     desk_36_close_box: "The office has no box of this name.",
     desk_36_close_box_do: "Look at the name.",
     desk_36_add_key: "The office has had a key of this id already, and gives no id twice.",
-    desk_36_add_key_do: "If you sent this twice, the first was done, with the secret that was shown then. Else take another id.",
+    desk_36_add_key_do: "If you sent this twice, the first was done, with the secret that was shown. Else take another id.",
     desk_36_revoke_key: "The office has no such key, or it is revoked already, or it is the last clerk’s.",
     desk_36_revoke_key_do: "If you sent this twice, the first was done. Else look at the id. Before the last clerk’s key is " +
       "revoked, another one must be added.",
@@ -168,8 +168,8 @@ const CLERK_TEXTS = {
     desk_40_do: "Look whether it was done all the same, and then try again.",
     desk_other_do: "This points to something between this page and the office. Try again; if it stays so, tell who keeps the " +
       "machine the number.",
-    unsure: "Perhaps it was done, perhaps not. If you try again and get number 36, it was done the first time. Before you drop " +
-      "a file again, look whether another has come under its name.",
+    unsure: "Perhaps it was done, perhaps not. If you try again and get number 36, it was done the first time.",
+    unsure_drop: "But look first whether another file has come under its name: that one would be dropped.",
     lost_desk: "No answer came. Check your connection.",
     strange_desk: "Something between this page and the office answered (status {status}). If it stays so, tell who keeps the " +
       "machine this status.",
@@ -335,8 +335,8 @@ const CLERK_TEXTS = {
     desk_36_close_box: "Die Stelle hat kein Fach dieses Namens.",
     desk_36_close_box_do: "Prüfen Sie den Namen.",
     desk_36_add_key: "Einen Schlüssel mit dieser Kennung hatte die Stelle schon, und sie vergibt keine Kennung zweimal.",
-    desk_36_add_key_do: "Haben Sie dies zweimal gesendet, so wurde es beim ersten Mal getan, mit dem Geheimnis, das dann " +
-      "gezeigt wurde. Nehmen Sie sonst eine andere Kennung.",
+    desk_36_add_key_do: "Haben Sie dies zweimal gesendet, so wurde es beim ersten Mal getan, mit dem Geheimnis, das gezeigt " +
+      "wurde. Nehmen Sie sonst eine andere Kennung.",
     desk_36_revoke_key: "Die Stelle hat keinen solchen Schlüssel, oder er ist schon widerrufen, oder er ist der letzte der " +
       "Verwaltung.",
     desk_36_revoke_key_do: "Haben Sie dies zweimal gesendet, so wurde es beim ersten Mal getan. Prüfen Sie sonst die Kennung. " +
@@ -347,8 +347,9 @@ const CLERK_TEXTS = {
     desk_40_do: "Sehen Sie nach, ob es trotzdem getan wurde, und versuchen Sie es dann erneut.",
     desk_other_do: "Das deutet auf etwas zwischen dieser Seite und der Stelle hin. Versuchen Sie es erneut; bleibt es so, nennen " +
       "Sie der Person, die den Rechner betreut, die Nummer.",
-    unsure: "Vielleicht wurde es getan, vielleicht nicht. Bekommen Sie beim nächsten Versuch die Nummer 36, wurde es beim ersten " +
-      "Mal getan. Bevor Sie eine Datei noch einmal herausnehmen, sehen Sie nach, ob unter ihrem Namen eine andere gekommen ist.",
+    unsure: "Vielleicht wurde es getan, vielleicht nicht. Bekommen Sie beim nächsten Versuch die Nummer 36, so wurde es beim " +
+      "ersten Mal getan.",
+    unsure_drop: "Sehen Sie aber zuerst nach, ob unter ihrem Namen eine andere Datei gekommen ist: Diese würde herausgenommen.",
     lost_desk: "Es kam keine Antwort. Prüfen Sie Ihre Verbindung.",
     strange_desk: "Etwas zwischen dieser Seite und der Stelle hat geantwortet (Status {status}). Bleibt es so, nennen Sie " +
       "der Person, die den Rechner betreut, diesen Status.",
