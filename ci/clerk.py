@@ -19,11 +19,10 @@ from browser import Browser, until
 from clerking import (EAST, FAULTS, HIDDEN, KINDS, WORD, again, begin, both, copied, copy_of, field_fault, field_of, fill,
                       opened, owed_links, page_of, rows, said_refusal, saved, send, use_key, utc)
 from expected import SECRET
-from front import PAGE, Front, Office
+from front import PAGE, Front, Office, asked
 from office import Drop
 from page import ENTER, TAB, labels, loads_its_own, looks, reaches_nothing_else, receipts, tabbed
 from replays import ID
-from serve import asked
 from shown import Case, digest, is_not, lacks, options, run_tests
 
 ZONE = "Asia/Kolkata"  # of the browser, ahead of the office by four hours and a half

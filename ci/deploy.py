@@ -22,10 +22,11 @@ import tables
 from browser import Browser, until
 from clerking import begin, saved, send
 from expected import refusal
+from front import asked
 from nginx import HOST, PAGE, SECONDS, Front, Office, answered, certificate, paths_of, replaced
 from office import CANNOT_OPEN, difference, receipt, run_all
 from replays import ID
-from serve import asked, boto_client, open_office
+from serve import boto_client, open_office
 from shown import Case, lacks, of, receipt_facts
 
 DEPLOY = kit.ROOT / "deploy"

@@ -127,10 +127,8 @@ page() {
 }
 
 clerk() {
-    local python
     with_browser || return 1
-    python=$(with_boto3) || return 1
-    "$python" -B ci/clerk.py --shots "$work/shots"
+    python3 -B ci/clerk.py --shots "$work/shots"
 }
 
 interop() {
