@@ -1,5 +1,5 @@
 -- What the calls on a slot do to the connection there, beside what they leave of its stream and its answers (`Gathers` and `Sends`).
-use Rattle.std.specs.Prelude.{◌≡◌, ◌↔◌, ℕ, List, [], ◌++◌, IsSome, OnOk, Option, Result}
+use Rattle.std.specs.Prelude.{◌≡◌, ◌≤◌, ◌↔◌, ℕ, ◌+◌, List, [], ◌++◌, length, IsOk, IsSome, OnOk, Option, Result}
 use Rattle.std.specs.Io.KnownBytes.{Appends}
 use Rattle.wire.specs.Feeds.{ahead_of}
 use Rattle.wire.specs.Gathering.{HasFailed, HasRoomFor, KeepsFault, ahead_in}
@@ -12,9 +12,12 @@ use Rattle.wire.specs.declared.outbox.Sending.{Sending}
 use Rattle.wire.specs.declared.outbox.Sending.TheVariants as sending
 use Rattle.office.specs.declared.connections.seat.Seat.{Seat}
 
--- one read ahead told this, and its feed stands as it stood
-abbrev pub ReadsAhead : {S W E : Type 0} → (S → Option (List ℕ)) → Seat (Gathered S) W → Seat (Gathered S) W → Result Gathering E → Type 0
-ReadsAhead remaining a b result = (b.standing ≡ a.standing) × gathering.Gathers remaining a.reader.inner b.reader.inner result
+-- One read ahead of n bytes at the most told this, and its feed stands as it stood. No memory was refused where there was room.
+pub record ReadsAhead {S W E : Type 0} (remaining : S → Option (List ℕ)) (n : ℕ) (a b : Seat (Gathered S) W) (result : Result Gathering E) : Type 0 where
+  pub standing : b.standing ≡ a.standing
+  pub told : gathering.Gathers remaining a.reader.inner b.reader.inner result
+  pub most : length (ahead_in b.reader.inner) ≤ length (ahead_in a.reader.inner) + n
+  pub room : HasRoomFor n a.reader.inner → IsOk result
 
 -- What its feed read and did not take was put back, if a buffer is handed over, and no byte of it is lost. Its fault stays.
 abbrev pub PutsBack : {S W T : Type 0} → Seat (Gathered S) W → Seat (Gathered S) W → Option T → Type 0

@@ -5,5 +5,7 @@
 mod counting;
 #[cfg(test)]
 mod loopback;
+#[cfg(test)]
+mod wanting;
 
 pub use counting::{Counting, serve_counted};

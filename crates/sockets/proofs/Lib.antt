@@ -1,3 +1,4 @@
 pub mod Freed
 pub mod Moved
 pub mod Returned
+pub mod Told

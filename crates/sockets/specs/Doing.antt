@@ -1,9 +1,11 @@
 -- What a deed does to the connection in a slot, and what is reported of it.
-use Rattle.std.specs.Prelude.{◌≡◌, ◌≤◌, ◌⊎◌, ℕ, List, Option, Ok, Some, None, IsNone, IsOk, length, slice_set, ⊤}
+use Rattle.std.specs.Prelude.{◌≡◌, ◌≤◌, ◌↔◌, ◌⊎◌, ◌+◌, ℕ, Bool, true, List, Option, Result, Ok, Some, None, IsNone, IsOk, length, min, slice_set, ⊤}
 use Rattle.office.specs.Crowds.{DoneAt, SentAt, slot_at}
 use Rattle.office.specs.Slots.{Fails, MakesRoom, PutsBack, ReadsAhead, SendsOn}
 use Rattle.office.specs.declared.connections.seat.Seat.{Seat}
 use Rattle.wire.specs.declared.gathered.Gathered.{Gathered}
+use Rattle.wire.specs.Gathering.{ahead_in}
+use Rattle.wire.specs.declared.gathered.Gathering.{Gathering}
 use Rattle.wire.specs.declared.gathered.Gathering.TheVariants as gathering
 use Rattle.wire.specs.declared.outbox.Outbox.{Outbox}
 use Rattle.wire.specs.declared.outbox.Sending.TheVariants as sending
@@ -17,23 +19,28 @@ use Rattle.sockets.specs.declared.deeds.Report.TheVariants as report
 abbrev pub IsBusyAt : {E : Type 0} → List (Option (Seat (Gathered E) (Outbox E))) → ℕ → Type 0
 IsBusyAt {E} slots p = (seat : Seat (Gathered E) (Outbox E)) × (slot_at slots p ≡ Some seat) × (IsThrough seat → ⊥)
 
+-- One read ahead of n bytes at the most told this, and whether as many came is told.
+pub record ReadsAsMuch {S W E : Type 0} (remaining : S → Option (List ℕ)) (n : ℕ) (a b : Seat (Gathered S) W) (result : Result Gathering E) (is_full : Bool) : Type 0 where
+  pub reads : ReadsAhead remaining n a b result
+  pub full : is_full ≡ true ↔ (length (ahead_in b.reader.inner) ≡ length (ahead_in a.reader.inner) + n)
+
 -- It did this deed to the connection in the slot at p, and reports what came of it. One that was to go stays where something waits for
 -- its peer. Or nothing was done: there is no such slot; or it was to go and is not through, or one more that goes could not be counted.
--- gone: how many went; remaining, contents: what the ends of a connection have left, and hold; left, given: the same of its reader and
+-- gone: how many went; most: how many bytes one read takes at the most; remaining, contents: what the ends of a connection have left, and hold; left, given: the same of its reader and
 -- its writer.
-abbrev pub Does : {E : Type 0} → ℕ → (E → Option (List ℕ)) → (E → Option (List ℕ)) → (Gathered E → Option (List ℕ)) → (Outbox E → Option (List ℕ)) → Deed → Report
+abbrev pub Does : {E : Type 0} → ℕ → ℕ → (E → Option (List ℕ)) → (E → Option (List ℕ)) → (Gathered E → Option (List ℕ)) → (Outbox E → Option (List ℕ)) → Deed → Report
     → List (Option (Seat (Gathered E) (Outbox E))) → List (Option (Seat (Gathered E) (Outbox E))) → ℕ → Type 0
-Does gone remaining contents left given one report.Nothing old new p = (new ≡ old) × ((length old ≤ p) ⊎ ((one ≡ deed.Free) × (IsBusyAt old p ⊎ (18446744073709551615 ≤ gone))))
-Does gone remaining contents left given (deed.Gather n) (report.Gathered outcome is_full) old new p =
-    DoneAt left (λ a b. ReadsAhead remaining a b outcome) (outcome ≡ Ok gathering.Ended) old new p
-Does gone remaining contents left given (deed.Reserve n) (report.Reserved outcome) old new p =
+Does gone most remaining contents left given one report.Nothing old new p = (new ≡ old) × ((length old ≤ p) ⊎ ((one ≡ deed.Free) × (IsBusyAt old p ⊎ (18446744073709551615 ≤ gone))))
+Does gone most remaining contents left given (deed.Gather n) (report.Gathered outcome is_full) old new p =
+    DoneAt left (λ a b. ReadsAsMuch remaining (min n most) a b outcome is_full) (outcome ≡ Ok gathering.Ended) old new p
+Does gone most remaining contents left given (deed.Reserve n) (report.Reserved outcome) old new p =
     DoneAt left (λ a b. MakesRoom n a b outcome) (IsOk outcome) old new p
-Does gone remaining contents left given deed.Settle (report.Settled room) old new p =
+Does gone most remaining contents left given deed.Settle (report.Settled room) old new p =
     DoneAt left (λ a b. PutsBack a b room) (IsNone room) old new p
-Does gone remaining contents left given (deed.Fail kind) report.Failing old new p = DoneAt left (λ a b. Fails a b) ⊤ old new p
-Does gone remaining contents left given deed.Send (report.Sent outcome) old new p =
+Does gone most remaining contents left given (deed.Fail kind) report.Failing old new p = DoneAt left (λ a b. Fails a b) ⊤ old new p
+Does gone most remaining contents left given deed.Send (report.Sent outcome) old new p =
     SentAt given (λ a b. SendsOn contents a b outcome) (outcome ≡ sending.Sent) old new p
-Does gone remaining contents left given deed.Free report.Freed old new p = new ≡ slice_set old p None
-Does gone remaining contents left given deed.Free (report.Sent outcome) old new p =
+Does gone most remaining contents left given deed.Free report.Freed old new p = new ≡ slice_set old p None
+Does gone most remaining contents left given deed.Free (report.Sent outcome) old new p =
     (outcome ≡ sending.Waits) × SentAt given (λ a b. SendsOn contents a b outcome) ⊥ old new p
-Does gone remaining contents left given one other old new p = ⊥
+Does gone most remaining contents left given one other old new p = ⊥

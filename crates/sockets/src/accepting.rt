@@ -52,15 +52,26 @@ impl<R: time::Clock, L: Listener> Book<'_, R, L> {
         Some(Task { index, deed })
     }
 
+    // Memory or descriptors are wanting: none comes for a while, and one goes for that, unless the last one that went was of no help.
+    fn want(&mut self) -> Option<Task> {
+        self.door.pause(self.now);
+        if self.door.is_relieved(self.now) {
+            self.stage = Stage::Rooms;
+            return None;
+        }
+        let way = self.make_way();
+        if way.is_some() {
+            self.door.relieve(self.now);
+        }
+        way
+    }
+
     /// The listener was asked, and no connection is let in at once.
     pub(crate) fn called(&mut self, call: Call) -> Option<Task> {
         match call {
             Call::Came => self.make_way(),
             Call::Refused => None,
-            Call::Wanting => {
-                self.door.pause(self.now);
-                self.make_way()
-            }
+            Call::Wanting => self.want(),
             Call::None => {
                 self.door.rest();
                 self.stage = Stage::Rooms;
@@ -74,15 +85,13 @@ impl<R: time::Clock, L: Listener> Book<'_, R, L> {
         match entry {
             Entry::In(index) => self.opened(slots, index),
             Entry::Away => None,
-            Entry::Wanting => {
-                self.door.pause(self.now);
-                self.make_way()
-            }
+            Entry::Wanting => self.want(),
         }
     }
 
     // A connection has come into this slot. What is there is read at once: only one of which nothing is may go for others.
     fn opened(&mut self, slots: &[Option<Held<L::End>>], index: usize) -> Option<Task> {
+        self.door.enter();
         self.taken = self.taken.saturating_add(1);
         if let Some(peer) = self.peers.get_mut(index) {
             *peer = Peer::free(self.now);

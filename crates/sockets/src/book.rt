@@ -94,7 +94,7 @@ impl<'a, R: time::Clock, L: Listener> Book<'a, R, L> {
             rooms: Rooms::beside(alloc, limits.open)?,
             door: Door::new(),
             stage: Stage::Turns,
-            room: None,
+            room: Some(Room::new(alloc)?),
             turned: None,
             now,
             looked: now,

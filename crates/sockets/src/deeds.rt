@@ -1,9 +1,8 @@
 //! What is done to the connections in their slots.
-ghost use Rattle.std.specs.Prelude.{◌≡◌, ◌<◌, [], length, IfSome, IsFalse, IsTrue, Ok};
+ghost use Rattle.std.specs.Prelude.{◌≡◌, ◌<◌, ◌≤◌, ◌↔◌, ℕ, [], length, min, true, IfSome, IsFalse, IsTrue, Ok};
 ghost use Rattle.office.specs.Crowds.{Changes, DoneAt, slot_at};
-ghost use Rattle.office.specs.Slots.{ReadsAhead};
 ghost use Rattle.sockets.specs.Accepting.{IsThrough};
-ghost use Rattle.sockets.specs.Doing.{IsBusyAt};
+ghost use Rattle.sockets.specs.Doing.{IsBusyAt, ReadsAsMuch};
 
 use crate::gate::Gate;
 use crate::held::{Held, ahead_len, is_through};
@@ -53,6 +52,7 @@ pub(crate) enum Report {
 impl<L: Listener> Gate<L, L::Stream> {
     ghost use Rattle.sockets.specs.Doing.{Does};
     ghost use Rattle.sockets.specs.Moving.{Moves};
+    ghost use Rattle.sockets.specs.Telling.{Stays};
 
     /// Does this to the connection in the slot. What is read comes by way of the buffer.
     pub(crate) fn work(
@@ -64,9 +64,10 @@ impl<L: Listener> Gate<L, L::Stream> {
     ) -> Report
         ensures moves { Moves L.told L.are_ends ⟦<Gathered<L::End> as Read>⟧.remaining
             ⟦<Outbox<L::End> as Write>⟧.contents self.old self.new slots.old slots.new }
-        ensures does { Does self.old.gone ⟦<L::End as Read>⟧.remaining ⟦<L::End as Write>⟧.contents
+        ensures does { Does self.old.gone (length buf.old) ⟦<L::End as Read>⟧.remaining ⟦<L::End as Write>⟧.contents
             ⟦<Gathered<L::End> as Read>⟧.remaining ⟦<Outbox<L::End> as Write>⟧.contents
             deed result slots.old slots.new index }
+        ensures stays { Stays self.old self.new }
     {
         if index >= slots.len() {
             return Report::Nothing;
@@ -93,9 +94,10 @@ impl<L: Listener> Gate<L, L::Stream> {
         requires { index < length slots.old }
         ensures moves { Moves L.told L.are_ends ⟦<Gathered<L::End> as Read>⟧.remaining
             ⟦<Outbox<L::End> as Write>⟧.contents self.old self.new slots.old slots.new }
-        ensures does { Does self.old.gone ⟦<L::End as Read>⟧.remaining ⟦<L::End as Write>⟧.contents
+        ensures does { (most : ℕ) → Does self.old.gone most ⟦<L::End as Read>⟧.remaining ⟦<L::End as Write>⟧.contents
             ⟦<Gathered<L::End> as Read>⟧.remaining ⟦<Outbox<L::End> as Write>⟧.contents
             Deed.Free result slots.old slots.new index }
+        ensures stays { Stays self.old self.new }
     {
         if !self.may_go() || !is_through_at(slots, index) {
             return Report::Nothing;
@@ -122,8 +124,8 @@ fn is_through_at<S: Read + Write>(slots: &[Option<Held<S>>], index: usize) -> bo
     }
 }
 
-// Reads once ahead of the connection in the slot, so many bytes at the most: what was there, and whether the read took as much as
-// it might.
+// Reads once ahead of the connection in the slot, so many bytes at the most, and no more than the buffer has room for: what was
+// there, and whether the read took as much as it might.
 fn gather<S: Read + Write>(
     slots: &mut [Option<Held<S>>],
     index: usize,
@@ -132,12 +134,20 @@ fn gather<S: Read + Write>(
 ) -> (Result<Gathering, AllocError>, bool)
     requires { index < length slots.old }
     ensures changes { Changes ⟦<Gathered<S> as Read>⟧.remaining ⟦<Outbox<S> as Write>⟧.contents slots.old slots.new [] [] }
-    ensures done { DoneAt ⟦<Gathered<S> as Read>⟧.remaining (λ a b. ReadsAhead S.remaining a b result.0)
+    ensures done { DoneAt ⟦<Gathered<S> as Read>⟧.remaining
+        (λ a b. ReadsAsMuch S.remaining (min size (length buf.old)) a b result.0 result.1)
         (result.0 ≡ Ok Gathering.Ended) slots.old slots.new index }
 {
     let before = ahead_len(slots, index);
     let size = size.min(buf.len());
     let outcome = gather_slot(slots, index, &mut buf[..size]);
-    let taken = ahead_len(slots, index).saturating_sub(before);
-    (outcome, taken >= size)
+    let came = ahead_len(slots, index).saturating_sub(before);
+    (outcome, is_as_much(came, size))
+}
+
+// Whether as many bytes came as might.
+fn is_as_much(came: usize, most: usize) -> bool
+    ensures { result ≡ true ↔ (most ≤ came) }
+{
+    came >= most
 }

@@ -2,7 +2,7 @@
 use crate::gate::Coming;
 use std::time::{Duration, Instant};
 
-/// How many milliseconds no connection is accepted once the system had no descriptor, if none is closed before.
+/// How many milliseconds no connection is accepted once memory or descriptors were wanting, if none is closed before.
 const PAUSE_MILLIS: u64 = 100;
 
 /// Whether the listener may be asked for connections, and one that waits be let in.
@@ -12,8 +12,10 @@ pub(crate) struct Door {
     coming: Coming,
     // Whether connections may be there: an event comes once, and holds until an `accept` would wait.
     is_ready: bool,
-    // From when on none is accepted for want of descriptors.
+    // From when on none is accepted for want of memory or descriptors.
     paused: Option<Instant>,
+    // When one went for such a want, which has not ended since.
+    relieved: Option<Instant>,
 }
 
 impl Door {
@@ -26,6 +28,7 @@ impl Door {
             },
             is_ready: true,
             paused: None,
+            relieved: None,
         }
     }
 
@@ -49,7 +52,7 @@ impl Door {
         self.coming.is_last && !self.coming.has_guest
     }
 
-    /// Whether it lets none come now for want of descriptors.
+    /// Whether it lets none come now for want of memory or descriptors.
     pub(crate) fn is_paused(&self) -> bool {
         self.paused.is_some()
     }
@@ -69,6 +72,21 @@ impl Door {
         self.paused = Some(now);
     }
 
+    /// One goes, for a want.
+    pub(crate) fn relieve(&mut self, now: Instant) {
+        self.relieved = Some(now);
+    }
+
+    /// Whether one has just gone for a want that has not ended since.
+    pub(crate) fn is_relieved(&self, now: Instant) -> bool {
+        lasts(self.relieved, now)
+    }
+
+    /// A connection came in: the want has ended.
+    pub(crate) fn enter(&mut self) {
+        self.relieved = None;
+    }
+
     /// Ends a pause: a descriptor was closed.
     pub(crate) fn end_pause(&mut self) {
         self.paused = None;
@@ -76,10 +94,16 @@ impl Door {
 
     /// Ends a pause that has lasted long enough.
     pub(crate) fn look(&mut self, now: Instant) {
-        if let Some(since) = self.paused {
-            if now.duration_since(since) >= Duration::from_millis(PAUSE_MILLIS) {
-                self.paused = None;
-            }
+        if !lasts(self.paused, now) {
+            self.paused = None;
         }
+    }
+}
+
+// Whether the while that began then, if one did, lasts still.
+fn lasts(since: Option<Instant>, now: Instant) -> bool {
+    match since {
+        Some(since) => now.duration_since(since) < Duration::from_millis(PAUSE_MILLIS),
+        None => false,
     }
 }

@@ -1,5 +1,5 @@
 //! The gate: which connections are accepted, which of them come into a slot, and which go from one.
-ghost use Rattle.std.specs.Prelude.{◌≡◌, ◌<◌, ◌≤◌, ◌⊎◌, ◌↔◌, ◌∷◌, ◌+◌, ℕ, [], is_some, length, slice_set, true, IfSome, None, Some};
+ghost use Rattle.std.specs.Prelude.{◌≡◌, ◌<◌, ◌≤◌, ◌⊎◌, ◌↔◌, ◌∷◌, ◌+◌, ◌-◌, ℕ, [], is_some, length, slice_set, false, true, IfSome, None, Some};
 ghost use Rattle.office.specs.Crowds.{Changes, slot_at};
 ghost use Rattle.office.specs.Seats.{IsNew};
 ghost use Rattle.sockets.specs.Accepting.{MayGo};
@@ -7,7 +7,7 @@ ghost use Rattle.sockets.specs.Listening.{IsWant};
 
 use crate::held::{Held, lacking, new_seat};
 use crate::socket::{Listener, Unready};
-use office::{free_slot, open_slot};
+use office::{first_free, free_slot, open_slot};
 use std::alloc::Global;
 use std::io;
 use std::io::{ErrorKind, Read, Write};
@@ -22,7 +22,7 @@ pub(crate) enum Call {
     Refused,
     /// It can't be accepted now: memory or descriptors are wanting.
     Wanting,
-    /// None is there.
+    /// None is there, or one waits, or none is to come.
     None,
 }
 
@@ -66,6 +66,7 @@ pub(crate) struct Gate<L, S> {
 
 impl<L: Listener> Gate<L, L::Stream> {
     ghost use Rattle.sockets.specs.Moving.{Moves, Passes};
+    ghost use Rattle.sockets.specs.Telling.{Calls, Enters, Stays};
 
     /// So many are to come, and so many may be open at a time.
     pub(crate) fn new(listener: L, connections: u64, most: usize) -> Gate<L, L::Stream>
@@ -99,7 +100,10 @@ impl<L: Listener> Gate<L, L::Stream> {
     }
 
     /// Who may come still.
-    pub(crate) fn coming(&self) -> Coming {
+    pub(crate) fn coming(&self) -> Coming
+        ensures guest { result.has_guest ≡ is_some self.now.guest }
+        ensures last { result.is_last ≡ true ↔ (self.now.to_come ≡ 0) }
+    {
         Coming {
             has_guest: self.guest.is_some(),
             is_last: self.to_come == 0,
@@ -109,11 +113,9 @@ impl<L: Listener> Gate<L, L::Stream> {
     /// Asks the listener for a connection, where none waits and one is to come.
     pub(crate) fn call(&mut self) -> Call
         ensures passes { Passes L.told L.are_ends self.old self.new [] [] }
+        ensures told { Calls L.told result self.old self.new }
     {
-        if self.guest.is_some() {
-            return Call::None;
-        }
-        if self.to_come == 0 {
+        if self.guest.is_some() || self.to_come == 0 {
             return Call::None;
         }
         match self.listener.accept() {
@@ -136,11 +138,12 @@ impl<L: Listener> Gate<L, L::Stream> {
     pub(crate) fn let_in(&mut self, slots: &mut [Option<Held<L::End>>], alloc: Global) -> Entry
         ensures moves { Moves L.told L.are_ends ⟦<Gathered<L::End> as Read>⟧.remaining
             ⟦<Outbox<L::End> as Write>⟧.contents self.old self.new slots.old slots.new }
+        ensures told { Enters L.told result self.old self.new slots.old slots.new }
     {
         let Some(came) = self.came.checked_add(1) else {
             return Entry::Wanting;
         };
-        if !self.may_open() || !has_free(slots) {
+        if !self.may_open() || first_free(slots).is_none() {
             return Entry::Wanting;
         }
         let Some(stream) = self.guest.take() else {
@@ -158,8 +161,8 @@ impl<L: Listener> Gate<L, L::Stream> {
 
     // The ends of the one that waited can't be made for this error. It waits on, if it is there still and the want may end.
     fn put_off(&mut self, stream: Option<L::Stream>, error: io::Error) -> Entry
-        ensures guest { ((same : L.Stream) × (stream ≡ Some same) × IsWant error × (self.new.guest ≡ Some same))
-            ⊎ (((stream ≡ None) ⊎ (IsWant error → ⊥)) × (self.new.guest ≡ self.old.guest)) }
+        ensures told { ((result ≡ Entry.Wanting) × (same : L.Stream) × (stream ≡ Some same) × IsWant error × (self.new.guest ≡ Some same))
+            ⊎ ((result ≡ Entry.Away) × ((stream ≡ None) ⊎ (IsWant error → ⊥)) × (self.new.guest ≡ self.old.guest)) }
         ensures others { (self.new.listener ≡ self.old.listener) × (self.new.to_come ≡ self.old.to_come)
             × (self.new.most ≡ self.old.most) × (self.new.came ≡ self.old.came) × (self.new.gone ≡ self.old.gone)
             × (self.new.unsent ≡ self.old.unsent) }
@@ -176,7 +179,8 @@ impl<L: Listener> Gate<L, L::Stream> {
 
     // Whether fewer are open than may be.
     fn may_open(&self) -> bool
-        ensures { result ≡ true → self.now.came < self.now.gone + self.now.most }
+        ensures few { result ≡ true → self.now.came < self.now.gone + self.now.most }
+        ensures all { result ≡ false → self.now.most ≤ self.now.came - self.now.gone }
     {
         self.came.saturating_sub(self.gone) < self.most as u64
     }
@@ -196,6 +200,7 @@ impl<L: Listener> Gate<L, L::Stream> {
         ensures moves { Moves L.told L.are_ends ⟦<Gathered<L::End> as Read>⟧.remaining
             ⟦<Outbox<L::End> as Write>⟧.contents self.old self.new slots.old slots.new }
         ensures freed { slots.new ≡ slice_set slots.old index None }
+        ensures stays { Stays self.old self.new }
     {
         if let Some(seat) = free_slot(slots, index) {
             self.gone += 1;
@@ -205,23 +210,14 @@ impl<L: Listener> Gate<L, L::Stream> {
     }
 }
 
-// Whether a slot is free.
-fn has_free<S>(slots: &[Option<Held<S>>]) -> bool
-    ensures { result ≡ true → (p : ℕ) × (p < length slots.now) × (slot_at slots.now p ≡ None) }
-{
-    'slots: for index in 0..slots.len() {
-        if slots[index].is_none() {
-            return true;
-        }
-    }
-    false
-}
-
 // Puts a new connection into a slot that is free, as one is, and answers its index.
 fn seat_in<S: Read + Write + Drop>(slots: &mut [Option<Held<S>>], seat: Held<S>) -> usize
     requires new { IsNew seat }
     requires free { (p : ℕ) × (p < length slots.old) × (slot_at slots.old p ≡ None) }
-    ensures { Changes ⟦<Gathered<S> as Read>⟧.remaining ⟦<Outbox<S> as Write>⟧.contents
+    ensures within { result < length slots.old }
+    ensures free { slot_at slots.old result ≡ None }
+    ensures seated { slots.new ≡ slice_set slots.old result (Some seat) }
+    ensures changes { Changes ⟦<Gathered<S> as Read>⟧.remaining ⟦<Outbox<S> as Write>⟧.contents
         slots.old slots.new (seat ∷ []) [] }
 {
     match open_slot(slots, seat) {

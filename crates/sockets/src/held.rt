@@ -1,7 +1,9 @@
 //! The connections in their slots, as the loop looks at them.
-ghost use Rattle.std.specs.Prelude.{◌≡◌, ◌≤◌, ◌↔◌, ◌∷◌, [], IsTrue};
+ghost use Rattle.std.specs.Prelude.{◌≡◌, ◌≤◌, ◌↔◌, ◌∷◌, [], length, IfSome, IsSomeAnd, IsTrue};
 ghost use Rattle.std.specs.List.{count_by};
+ghost use Rattle.office.specs.Crowds.{slot_at};
 ghost use Rattle.office.specs.Seats.{IsNew};
+ghost use Rattle.wire.specs.Gathering.{ahead_in};
 ghost use Rattle.sockets.specs.Accepting.{IsIdle, IsThrough, IsUntouched, is_write_fault, lacks_answers};
 
 use office::{Seat, SessionEnd};
@@ -13,7 +15,9 @@ use wire::{Gathered, Outbox};
 pub(crate) type Held<S> = Seat<Gathered<S>, Outbox<S>>;
 
 /// The connection in the slot, if there is one.
-pub(crate) fn seat_at<S>(slots: &[Option<Held<S>>], index: usize) -> Option<&Held<S>> {
+pub(crate) fn seat_at<S>(slots: &[Option<Held<S>>], index: usize) -> Option<&Held<S>>
+    ensures { IfSome (slot_at slots.now index) (λ seat. IsSomeAnd result (λ found. found.now ≡ seat)) }
+{
     match slots.get(index) {
         Some(Some(seat)) => Some(seat),
         _ => None,
@@ -21,7 +25,9 @@ pub(crate) fn seat_at<S>(slots: &[Option<Held<S>>], index: usize) -> Option<&Hel
 }
 
 /// How many bytes are ahead of the connection in the slot.
-pub(crate) fn ahead_len<S: Read>(slots: &[Option<Held<S>>], index: usize) -> usize {
+pub(crate) fn ahead_len<S: Read>(slots: &[Option<Held<S>>], index: usize) -> usize
+    ensures { IfSome (slot_at slots.now index) (λ seat. result ≡ length (ahead_in seat.reader.inner)) }
+{
     match seat_at(slots, index) {
         Some(seat) => seat.reader.inner.ahead().len(),
         None => 0,

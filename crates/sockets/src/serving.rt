@@ -39,7 +39,8 @@ pub struct Outcome {
     pub came: u64,
     /// How many could not be accepted, or whose ends could not be made.
     pub refused: u64,
-    /// How many of those that came ended by a failed read or write, also where the loop made it fail: of a peer that was too slow, or for want of memory.
+    /// How many of those that came ended by a failed read or write, also where the loop made it fail: of a peer that was too slow, or
+    /// for want of memory.
     pub faulty: u64,
     /// How many of those that went lack answers: a write of such a one failed, so that an answer was not sent whole. Its session may
     /// have ended well before. What the system took and the peer never got is not told.
@@ -62,9 +63,9 @@ pub struct Served<L, E> {
 }
 
 /// Accepts so many connections of a listener and serves them in turn, a message at a time, in one loop that waits for none of
-/// them. The poll, of which nothing is asked yet, tells which sockets are ready. It ends once all have come, or were refused, and have gone. There is one order of all messages, in which the machine leads
-/// from the state before to the state after; each connection's answers, and its end, are those of its own messages; and over all of
-/// them an upload acts once. The listener tells what it did: each connection that it accepted came, once and in order, or was
+/// them. The poll, of which nothing is asked yet, tells which sockets are ready. It ends once all have come, or were refused, and
+/// have gone. There is one order of all messages, in which the machine leads from the state before to the state after; each
+/// connection's answers, and its end, are those of its own messages; and over all of them an upload acts once. The listener tells what it did: each connection that it accepted came, once and in order, or was
 /// refused, or waited when the loop broke off; and each that went was given back to it, as it was when it went, once all that was
 /// written to it was sent, or a write of that failed.
 pub fn serve<K: Keeper, C: Clock, L: Listener, R: time::Clock>(

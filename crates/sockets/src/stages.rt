@@ -326,9 +326,13 @@ impl<R: time::Clock, L: Listener> Book<'_, R, L> {
 
     // What was to go, and is not through, is judged again if it is open.
     fn look_again(&mut self, slots: &[Option<Held<L::End>>], index: usize) -> Option<Deed> {
-        match seat_at(slots, index)?.end() {
-            None => self.judge(slots, index),
-            Some(_) => None,
+        let seat = seat_at(slots, index)?;
+        if seat.end().is_some() {
+            return None;
         }
+        if !seat.ahead().is_empty() {
+            return self.make_due(index);
+        }
+        self.judge(slots, index)
     }
 }

@@ -92,6 +92,14 @@ impl Standing {
         if !reader.put_back(self.backlog.waiting()) {
             return None;
         }
+        self.let_go()
+    }
+
+    /// Lets go of the bytes that were read and not taken, and hands the buffer back, if it has one.
+    pub fn let_go(&mut self) -> Option<Room>
+        ensures place { stood_at self.new ≡ stood_at self.old }
+        ensures ahead { ahead_of self.new ≡ [] }
+    {
         let mut backlog = mem::replace(&mut self.backlog, Backlog::new(self.alloc));
         backlog.take_all();
         Room::of(backlog)

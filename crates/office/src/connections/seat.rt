@@ -69,7 +69,7 @@ impl<R, W> Seat<R, W> {
 }
 
 impl<S: Read, W> Seat<Gathered<S>, W> {
-    ghost use Rattle.std.specs.Prelude.{◌++◌, IsSome, OnOk};
+    ghost use Rattle.std.specs.Prelude.{◌+◌, ◌++◌, length, IsOk, IsSome, OnOk};
     ghost use Rattle.wire.specs.Gathering.{Gathers as ReadsAhead, HasFailed, HasRoomFor, KeepsFault, ahead_in};
     ghost use Rattle.wire.specs.Feeds.{ahead_of};
     ghost use Rattle.office.specs.Seats.{Gathers};
@@ -79,6 +79,9 @@ impl<S: Read, W> Seat<Gathered<S>, W> {
         ensures gathers { Gathers ⟦<Gathered<S> as Read>⟧.remaining self.old self.new }
         ensures standing { self.new.standing ≡ self.old.standing }
         ensures told { ReadsAhead S.remaining self.old.reader.inner self.new.reader.inner result }
+        ensures most { length (ahead_in self.new.reader.inner)
+            ≤ length (ahead_in self.old.reader.inner) + length buf.old }
+        ensures room { HasRoomFor (length buf.old) self.old.reader.inner → IsOk result }
     {
         self.reader.inner.gather(buf)
     }

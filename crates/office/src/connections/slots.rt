@@ -10,8 +10,8 @@ use std::io;
 use std::io::{Read, Write};
 use wire::{Gathered, Gathering, Outbox, Room, Sending};
 
-// The index of the first slot that is free.
-fn first_free<R, W>(slots: &[Option<Seat<R, W>>]) -> Option<usize>
+/// The index of the first slot that is free.
+pub fn first_free<R, W>(slots: &[Option<Seat<R, W>>]) -> Option<usize>
     ensures some { IfSome result (λ index. (index < length slots.now)
         × (slot_at slots.now index ≡ None)) }
     ensures none { IfNone result (NoneIsFree slots.now (length slots.now)) }
@@ -67,7 +67,7 @@ pub fn gather_slot<S: Read, W: Write>(
 ) -> Result<Gathering, AllocError>
     requires { index < length slots.old }
     ensures changes { Changes ⟦<Gathered<S> as Read>⟧.remaining W.contents slots.old slots.new [] [] }
-    ensures done { DoneAt ⟦<Gathered<S> as Read>⟧.remaining (λ a b. ReadsAhead S.remaining a b result)
+    ensures done { DoneAt ⟦<Gathered<S> as Read>⟧.remaining (λ a b. ReadsAhead S.remaining (length buf.old) a b result)
         (result ≡ Ok Gathering.Ended) slots.old slots.new index }
 {
     match &mut slots[index] {

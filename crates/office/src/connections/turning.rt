@@ -67,10 +67,10 @@ impl<K: Keeper> Office<K> {
         }
     }
 
-    /// Gives the connection a turn: reads its next message and answers it, by way of the room, which is handed back where no
-    /// byte waits in it. A connection that has ended is left as it is. What was read, which moment was told, what was
-    /// written, how it ended and the state after are those of the next message of its session, whatever was done for other
-    /// connections since the one before.
+    /// Gives the connection a turn: reads its next message and answers it, by way of the room. The room is handed back where no
+    /// byte waits in it, and where the connection ends: then what was read of it and not taken is let go of. A connection that
+    /// has ended is left as it is. What was read, which moment was told, what was written, how it ended and the state after are
+    /// those of the next message of its session, whatever was done for other connections since the one before.
     pub fn take_turn<R: Read, W: Write, C: Clock>(
         &mut self,
         seat: &mut Seat<R, W>,
@@ -91,15 +91,21 @@ impl<K: Keeper> Office<K> {
         }
         if seat.served >= MOST_MESSAGES {
             seat.end = Some(SessionEnd::Limit);
+            seat.standing.let_go();
             return Some(room);
         }
         let standing = mem::replace(&mut seat.standing, Standing::new(self.alloc));
         let aside = self.step_aside(standing, room, &mut seat.reader, &mut seat.writer, clock);
         seat.standing = aside.standing;
         match aside.end {
-            None => seat.served += 1,
-            Some(end) => seat.end = Some(end),
+            None => {
+                seat.served += 1;
+                aside.room
+            }
+            Some(end) => {
+                seat.end = Some(end);
+                aside.room.or(seat.standing.let_go())
+            }
         }
-        aside.room
     }
 }

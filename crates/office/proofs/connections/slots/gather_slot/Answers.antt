@@ -5,7 +5,7 @@ use Rattle.office.proofs.connections.slots.gather_slot.Goals as goal
 pub returns-in-Some-clause-done : goal.returns-in-Some-clause-done
 returns-in-Some-clause-done g c =
     done_there _ _ _ c.args.slots.now c.args.index c.index-slots-index.result c.requires c.in-Some.seat c.in-Some.is c.end.result c.end.ensures c.if-is_none.ensures c.gather.new.self
-    c.gather.ensures.gathers (c.gather.ensures.standing, c.gather.ensures.told)
+    c.gather.ensures.gathers (record { standing = c.gather.ensures.standing; told = c.gather.ensures.told; most = c.gather.ensures.most; room = c.gather.ensures.room })
 
 pub returns-in-Some-clause-changes : goal.returns-in-Some-clause-changes
 returns-in-Some-clause-changes g c = by_done _ _ _ _ _ _ c.args.index c.requires (returns-in-Some-clause-done g c)

@@ -9,7 +9,7 @@ pub returns-then-not-may_go-clause-moves : goal.returns-then-not-may_go-clause-m
 returns-then-not-may_go-clause-moves g c = moves_none _ _ _ _ c.args.self.now c.args.slots.now
 
 pub returns-then-not-may_go-clause-does : goal.returns-then-not-may_go-clause-does
-returns-then-not-may_go-clause-does g c = elim c.then-not-may_go.branch [
+returns-then-not-may_go-clause-does g c most = elim c.then-not-may_go.branch [
   | then-not-may_go-via-then-not-may_go w ↦ (refl, inr (refl, inr (no_more c.args.self.now.gone c.may_go.result c.may_go.ensures w.if-not-may_go.true)))
   | then-not-may_go-via-else-not-may_go+then-not-is_through_at w ↦ (refl, inr (refl, inl (w.is_through_at.ensures.busy w.if-not-is_through_at.true)))
 ]
@@ -27,12 +27,13 @@ pub returns-in-Waits-clause-moves : goal.returns-in-Waits-clause-moves
 returns-in-Waits-clause-moves g c = moves_still _ _ _ _ c.args.self.now c.args.slots.now c.send_slot.new.slots c.send_slot.ensures.changes
 
 pub returns-in-Waits-clause-does : goal.returns-in-Waits-clause-does
-returns-in-Waits-clause-does g c = (refl, sent_waits _ _ c.send_slot.result c.args.slots.now c.send_slot.new.slots c.args.index c.in-Waits.is c.send_slot.ensures.done)
+returns-in-Waits-clause-does g c most = (refl, sent_waits _ _ c.send_slot.result c.args.slots.now c.send_slot.new.slots c.args.index c.in-Waits.is c.send_slot.ensures.done)
 
 pub returns-in-Sent : goal.returns-in-Sent
 returns-in-Sent g c =
     let sent = moves_still _ _ _ _ c.args.self.now c.args.slots.now c.send_slot.new.slots c.send_slot.ensures.changes in
     record {
       moves = moves_then _ _ _ _ c.args.self.now c.args.self.now c.free.new.self c.args.slots.now c.send_slot.new.slots c.free.new.slots sent c.free.ensures.moves;
-      does = sent_free _ _ _ _ c.args.slots.now c.send_slot.new.slots c.args.index c.send_slot.ensures.done c.free.new.slots c.free.ensures.freed;
+      does = λ most. sent_free _ _ _ _ c.args.slots.now c.send_slot.new.slots c.args.index c.send_slot.ensures.done c.free.new.slots c.free.ensures.freed;
+      stays = c.free.ensures.stays;
     }

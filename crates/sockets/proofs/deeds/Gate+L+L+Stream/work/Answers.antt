@@ -1,3 +1,4 @@
+use Rattle.std.specs.Prelude.{length}
 use Rattle.sockets.proofs.Moved.{moves_none, moves_still}
 use Rattle.sockets.proofs.deeds.Gate+L+L+Stream.work.Goals as goal
 
@@ -32,4 +33,4 @@ pub returns-in-Send-clause-does : goal.returns-in-Send-clause-does
 returns-in-Send-clause-does g c = rw c.in-Send.is c.send_slot.ensures.done
 
 pub returns-in-Free-clause-does : goal.returns-in-Free-clause-does
-returns-in-Free-clause-does g c = rw c.in-Free.is c.let_go.ensures.does
+returns-in-Free-clause-does g c = rw c.in-Free.is (c.let_go.ensures.does (length c.args.buf.now))

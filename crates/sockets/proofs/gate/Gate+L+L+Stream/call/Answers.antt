@@ -6,16 +6,13 @@ use Rattle.sockets.proofs.Moved.{accepts_one, misses_one, none_is, passes_none, 
 use Rattle.sockets.proofs.gate.Gate+L+L+Stream.call.Goals as goal
 
 pub returns-then-is_some : goal.returns-then-is_some
-returns-then-is_some g c = record { passes = passes_none _ _ c.args.self.now }
-
-pub returns-then-self-eq0 : goal.returns-then-self-eq0
-returns-then-self-eq0 g c = record { passes = passes_none _ _ c.args.self.now }
+returns-then-is_some g c = record { passes = passes_none _ _ c.args.self.now; told = (refl, refl, λ log is. subst (g.L.Listener.told c.args.self.now.listener) (sym (append-nil log)) is) }
 
 pub returns-in-Ok-Some : goal.returns-in-Ok-Some
 returns-in-Ok-Some g c =
     let told = g.L.Listener.told c.accept.new.self in
     let free = none_is c.args.self.now.guest (sym c.is_some.ensures ∙ c.if-is_some.false) in
-    record { passes = accepts_one _ _ c.args.self.now _ c.in-Ok-Some.stream free refl (omega (arith, c.if-self-eq0.false)) refl refl refl refl (λ log is. subst (λ o. told (log ++ map accepted (those_of o))) c.in-Ok-Some.field-0-is (c.in-Ok-Some.ensures.came log is)) }
+    record { passes = accepts_one _ _ c.args.self.now _ c.in-Ok-Some.stream free refl (omega (arith, c.if-self-eq0.false)) refl refl refl refl (λ log is. subst (λ o. told (log ++ map accepted (those_of o))) c.in-Ok-Some.field-0-is (c.in-Ok-Some.ensures.came log is)); told = (free, c.in-Ok-Some.stream, refl, omega (arith, c.if-self-eq0.false), λ log is. subst (λ o. told (log ++ map accepted (those_of o))) c.in-Ok-Some.field-0-is (c.in-Ok-Some.ensures.came log is)) }
 
 pub returns-in-Ok-None : goal.returns-in-Ok-None
 returns-in-Ok-None g c =
@@ -23,11 +20,12 @@ returns-in-Ok-None g c =
     record {
       passes = passes_still _ _ c.args.self.now _ refl refl refl refl refl refl
           (λ log is. subst told (append-nil log) (subst (λ o. told (log ++ map accepted (those_of o))) c.in-Ok-None.field-0-is (c.in-Ok-None.ensures.came log is)));
+      told = (refl, refl, λ log is. subst (λ o. told (log ++ map accepted (those_of o))) c.in-Ok-None.field-0-is (c.in-Ok-None.ensures.came log is));
     }
 
 pub returns-in-Err : goal.returns-in-Err
-returns-in-Err g c = record { passes = misses_one _ _ c.args.self.now _ c.in-Err.error refl refl refl refl refl refl (c.is_want.ensures.told c.if-is_want.true) c.in-Err.ensures.missed }
+returns-in-Err g c = record { passes = misses_one _ _ c.args.self.now _ c.in-Err.error refl refl refl refl refl refl (c.is_want.ensures.told c.if-is_want.true) c.in-Err.ensures.missed; told = (refl, refl, c.in-Err.error, c.is_want.ensures.told c.if-is_want.true, c.in-Err.ensures.missed) }
 
 pub returns-in-Err-2 : goal.returns-in-Err-2
 returns-in-Err-2 g c =
-    record { passes = refuses_one _ _ c.args.self.now _ c.in-Err.error refl (omega (arith, c.if-self-eq0.false)) refl refl refl refl (λ want. absurd (cc (c.is_want.ensures.all want, c.if-is_want.false))) c.in-Err.ensures.missed }
+    record { passes = refuses_one _ _ c.args.self.now _ c.in-Err.error refl (omega (arith, c.if-self-eq0.false)) refl refl refl refl (λ want. absurd (cc (c.is_want.ensures.all want, c.if-is_want.false))) c.in-Err.ensures.missed; told = (refl, omega (arith, c.if-self-eq0.false), c.in-Err.error, λ want. absurd (cc (c.is_want.ensures.all want, c.if-is_want.false)), c.in-Err.ensures.missed) }
