@@ -19,8 +19,8 @@ import tables
 from expected import SECRET, quoted
 from listed import LINK_HEAD, RECEIPT_HEAD, STATE_HEAD, WISH_HEAD, read, receipts, standing, states, written
 from office import (
-    CANNOT_OPEN, OBEYED, UNKNOWN, VERSION, answered, difference, malformed, not_offices, post, put, python_link, receipt, run_all,
-    sent,
+    CANNOT_OPEN, CANNOT_READ_SECRET, LINK, OBEYED, UNKNOWN, VERSION, answered, difference, malformed, not_offices, post, put,
+    python_link, receipt, run_all, sent,
 )
 from orders import BotocoreOrder
 from replays import ID, MOMENT, closed_pipe, fault, full_disk
@@ -288,6 +288,42 @@ def test_used_links(drop, count):
     count.add("their receipts", unlike(drop.run("manifest", file), list(receipts(file))))
 
 
+def test_secret_links(drop, count):
+    """`key:SECRETFILE` in the place of an office file: botocore's own links, by each key, and no office is there."""
+    those = list(wishes(random.Random(6)))[:200]
+    for number, (key, secret) in enumerate(KEYS.items()):
+        file = drop.path(f"secret-{number}")
+        file.write_bytes(secret + b"\n")
+        found = linked(drop, f"key:{file}", written(wished(those)), key=key)
+        count.add(f"links by a secret, {key}", unlike(found, owed_links(those, key=key)))
+        for method, target in [("PUT", "in/a b.txt"), ("GET", "out.1-2/ü"), ("HEAD", "in/x"), ("POST", "key revoke k2")]:
+            office = drop.link(begun(drop, f"beside-{number}-{method}"), method, target, key=key)
+            count.add(f"{method} by a secret, {key}", difference(drop.link(f"key:{file}", method, target, key=key), office))
+    found = drop.link(f"key:{drop.path('secret-0')}", "PUT", "in/a", key="unknown")
+    count.add("a key of any id", None if found.status == 0 else found)
+    options = [f"--{name}={value}" for name, value in LINK.items()]
+    given = drop.run("link", "key:/dev/stdin", "PUT", "in/a", *options, given=SECRET + b"\n")
+    count.add("key:/dev/stdin", difference(given, kit.Run(0, python_link("PUT", "in/a"), b"")))
+
+
+def test_bad_secrets(drop, count):
+    """Secrets that can't be read or are none, ids that are none, and an office file whose name begins so."""
+    for name in ["", drop.folder, drop.path("gone")]:
+        found = drop.link(f"key:{name}", "PUT", "in/a")
+        count.add(f"the secret in {name!r}", difference(found, CANNOT_READ_SECRET))
+    for name, data in [("two lines", b"one\ntwo\n"), ("nothing", b""), ("a space", b"two words\n"), ("129 bytes", b"s" * 129)]:
+        file = drop.path(f"no secret, {name}")
+        file.write_bytes(data)
+        for found in [drop.link(f"key:{file}", "PUT", "in/a"), linked(drop, f"key:{file}", written([WISH_HEAD]))]:
+            count.add(f"no secret: {name}", difference(found, malformed("secret")))
+    file = drop.path("good")
+    file.write_bytes(SECRET)
+    for key in ["", "a b", "k" * 65, "é"]:
+        count.add(f"the id {key!r}", difference(drop.link(f"key:{file}", "PUT", "in/a", key=key), malformed("key")))
+    drop.office("key:office")
+    count.add("./key:office", difference(drop.link("./key:office", "PUT", "in/a"), kit.Run(0, python_link("PUT", "in/a"), b"")))
+
+
 # ---- faults
 
 
@@ -513,7 +549,7 @@ def test_great_fields(drop, count):
     count.add("compare, quotes without end", shortened(drop.run("compare", file, given=endless), refused(2, states(file, rows))))
 
 
-TESTS = [test_manifest, test_compare, test_altered, test_links, test_used_links, test_bad_links, test_bad_manifests, test_faults,
+TESTS = [test_manifest, test_compare, test_altered, test_links, test_used_links, test_secret_links, test_bad_secrets, test_bad_links, test_bad_manifests, test_faults,
          test_streams, test_words, test_examples, test_great_fields]
 
 

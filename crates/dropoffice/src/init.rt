@@ -3,22 +3,20 @@ ghost use Rattle.std.specs.Prelude.{pos, ◌≤ℤ◌, IfSome};
 
 use crate::faults::Fault;
 use crate::opening::{Purpose, connect, disconnect};
+use crate::secrets::{check_secret, read_secret_file};
 use boxes::OfficeRow;
-use sigv4::{Allowance, is_key_id, is_secret};
+use sigv4::{Allowance, is_key_id};
 use sqlite::{Alter, Connection};
 use sqlkeeper::{OpenFault, SqlKeeper};
 use std::alloc::Global;
 use std::fs;
 use std::fs::{Files, OpenFile, OpenOptions, Permissions};
-use std::io::{Error, ErrorKind};
+use std::io::ErrorKind;
 use std::os::unix::fs::{OpenOptionsExt, PermissionsExt};
-use tasks::{Init, Secret, read_line};
+use tasks::{Init, Secret};
 
 /// Readable and writable by its owner alone.
 const OWNERS: u32 = 0o600;
-
-/// The most bytes of a secret.
-const LONGEST_SECRET: u16 = 128;
 
 /// Makes an office file: of a file that is not there, or of one without a byte. Where the words name a file with the secret,
 /// that is read before.
@@ -60,33 +58,11 @@ fn read_office(words: &Init<'_>) -> Result<OfficeRow, Fault<'static>> {
     })
 }
 
-fn check_secret(secret: &[u8]) -> Result<(), Fault<'static>> {
-    if is_secret(secret) {
-        Ok(())
-    } else {
-        Err(Fault::MalformedValue("secret"))
-    }
-}
-
-// The secret that the words give: one of them, or the line of the file that they name, where that has its form.
+// The secret that the words give: one of them, or the line of the file that they name.
 fn read_secret(rt: &HostRuntime, secret: Secret<'_>) -> Result<Vec<u8>, Fault<'static>> {
-    let name = match secret {
-        Secret::Given(text) => return Ok(Vec::from_slice(rt.alloc(), text.as_bytes())?),
-        Secret::InFile(name) => name,
-    };
-    let file = fs::open(rt, name).map_err(unread)?;
-    let Some(line) = read_line(rt.alloc(), file, LONGEST_SECRET).map_err(unread)? else {
-        return Err(Fault::MalformedValue("secret"));
-    };
-    check_secret(line.as_slice())?;
-    Ok(line)
-}
-
-// Why the file with the secret could not be read.
-fn unread(error: Error) -> Fault<'static> {
-    match error.kind() {
-        ErrorKind::OutOfMemory => Fault::OutOfMemory,
-        _ => Fault::CannotReadSecret,
+    match secret {
+        Secret::Given(text) => Ok(Vec::from_slice(rt.alloc(), text.as_bytes())?),
+        Secret::InFile(name) => read_secret_file(rt, name),
     }
 }
 

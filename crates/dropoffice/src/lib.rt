@@ -11,6 +11,8 @@ mod migrating;
 mod opening;
 mod program;
 mod replaying;
+mod secrets;
+mod signing;
 
 pub use office::{
     Answer, Clock, Counted, DeskFault, FixedClock, ListedClock, MachineClock, Message, Office,

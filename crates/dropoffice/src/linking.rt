@@ -1,11 +1,10 @@
-//! `drop link`: a link is written, signed by a key of the office.
+//! `drop link`: a link is written, signed by a key.
 use crate::faults::Fault;
-use crate::opening::{OfficeWork, Purpose, work_over};
+use crate::signing::{KeyWork, sign_by};
 use boxes::{Command, has_form};
 use desk::read_command;
-use keeper::Keeper;
 use links::{LinkFault, LinkKey, LinkOrder, Method, OrderParam, is_host, read_moment, write_link};
-use office::{DESK, Office};
+use office::DESK;
 use sigtext::cut;
 use sigv4::{Moment, is_region};
 use std::alloc::Global;
@@ -19,12 +18,7 @@ pub(crate) fn do_link(
     out: &mut impl Write,
 ) -> Result<(), Fault<'static>> {
     let order = read_order(rt.alloc(), words)?;
-    work_over(
-        rt,
-        words.file,
-        Purpose::Look,
-        LinkWork { order, words, out },
-    )
+    sign_by(rt, words.file, words.key, LinkWork { order, words, out })
 }
 
 // A link that is written, and where to.
@@ -35,9 +29,9 @@ struct LinkWork<'w, W: Drop> {
     out: W,
 }
 
-impl<'a, W: Write + Drop> OfficeWork<'a> for LinkWork<'_, W> {
-    fn run<K: Keeper>(mut self, rt: &HostRuntime, office: &mut Office<K>) -> Result<(), Fault<'a>> {
-        let line = line_of(rt.alloc(), &mut office.keeper, &self.order, self.words)?;
+impl<'a, W: Write + Drop> KeyWork<'a> for LinkWork<'_, W> {
+    fn run(mut self, alloc: Global, key: &LinkKey<'_>) -> Result<(), Fault<'a>> {
+        let line = line_of(alloc, key, &self.order, self.words)?;
         let Ok(()) = self.out.write_all(&line) else {
             return Err(Fault::CannotWrite);
         };
@@ -96,20 +90,13 @@ fn is_target(alloc: Global, method: Method, target: &[u8]) -> Result<bool, Fault
     }
 }
 
-// The line of an order's link, signed by the key that the words name.
-fn line_of<K: Keeper>(
+// The line of an order's link, signed by the key.
+fn line_of(
     alloc: Global,
-    keeper: &mut K,
+    key: &LinkKey<'_>,
     order: &Order,
     words: &Link<'_>,
 ) -> Result<Vec<u8>, Fault<'static>> {
-    let Some(row) = keeper.key(words.key.as_bytes())? else {
-        return Err(Fault::UnknownKey);
-    };
-    let key = LinkKey {
-        id: words.key.as_bytes(),
-        secret: row.secret.as_slice(),
-    };
     let to_desk = order.method == Method::Post;
     let path = format!(in alloc; "/{}", if to_desk { "" } else { words.target })?;
     let command = [OrderParam {
@@ -127,7 +114,7 @@ fn line_of<K: Keeper>(
     let (host, region) = (words.host.as_bytes(), words.region.as_bytes());
     let mut line = Vec::from_slice(alloc, b"http://")?;
     line.extend_from_slice(host)?;
-    write_link(alloc, &order, &key, host, region, &mut line).map_err(unwritten)?;
+    write_link(alloc, &order, key, host, region, &mut line).map_err(unwritten)?;
     line.extend_from_slice(b"\n")?;
     Ok(line)
 }

@@ -2,6 +2,7 @@
 use crate::faults::Fault;
 use crate::linking::check_place;
 use crate::opening::{OfficeWork, Purpose, work_over};
+use crate::signing::{KeyWork, sign_by};
 use desk::{ListFault, compare, links_from, manifest};
 use keeper::Keeper;
 use links::LinkKey;
@@ -19,19 +20,11 @@ struct LinksWork<'w, R: Drop, W: Drop> {
     out: W,
 }
 
-impl<'a, R: Read + Drop, W: Write + Drop> OfficeWork<'a> for LinksWork<'_, R, W> {
-    fn run<K: Keeper>(self, rt: &HostRuntime, office: &mut Office<K>) -> Result<(), Fault<'a>> {
-        let words = self.words;
-        let Some(row) = office.keeper.key(words.key.as_bytes())? else {
-            return Err(Fault::UnknownKey);
-        };
-        let key = LinkKey {
-            id: words.key.as_bytes(),
-            secret: row.secret.as_slice(),
-        };
-        let (host, region) = (words.host.as_bytes(), words.region.as_bytes());
-        let mut writer = buffered(rt.alloc(), self.out)?;
-        let written = links_from(rt.alloc(), self.input, &mut writer, &key, host, region);
+impl<'a, R: Read + Drop, W: Write + Drop> KeyWork<'a> for LinksWork<'_, R, W> {
+    fn run(self, alloc: Global, key: &LinkKey<'_>) -> Result<(), Fault<'a>> {
+        let (host, region) = (self.words.host.as_bytes(), self.words.region.as_bytes());
+        let mut writer = buffered(alloc, self.out)?;
+        let written = links_from(alloc, self.input, &mut writer, key, host, region);
         told(written.end, &mut writer)
     }
 }
@@ -44,12 +37,8 @@ pub(crate) fn do_links<'a>(
     out: impl Write + Drop,
 ) -> Result<(), Fault<'a>> {
     check_place(words.host.as_bytes(), words.region.as_bytes())?;
-    work_over(
-        rt,
-        words.file,
-        Purpose::Look,
-        LinksWork { words, input, out },
-    )
+    let work = LinksWork { words, input, out };
+    sign_by(rt, words.file, words.key, work)
 }
 
 // A manifest, and where it is written to.

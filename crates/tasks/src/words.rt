@@ -12,6 +12,10 @@ use std::alloc::{AllocError, Global};
 const INIT_USAGE: &str =
     "drop init [OPTIONS] --clerk <ID> <--secret <SECRET>|--secret-file <SECRETFILE>> <FILE>";
 
+// What FILE may be for `link` and `links`.
+const SIGNER: &str =
+    "The office file; or key:SECRETFILE, a file with the secret of the key, where no office is opened";
+
 // What stands below the help of `desk`: the forms of its commands, each with an example.
 const DESK_FORMS: &str = "\
 The commands. One space stands between two words. Each example is a LINE, in quotes, as it stands:
@@ -232,7 +236,7 @@ fn target_command<'a>(alloc: Global) -> Result<Command<'a>, AllocError>
 {
     Command::new(alloc, "link")
         .about("Writes a link to a file of an office, or to its desk, signed by one of its keys")
-        .arg(word(alloc, "file", "FILE", "The office file"))?
+        .arg(word(alloc, "file", "FILE", SIGNER))?
         .arg(word(
             alloc,
             "method",
@@ -255,7 +259,7 @@ fn links_command<'a>(alloc: Global) -> Result<Command<'a>, AllocError>
     Command::new(alloc, "links")
         .about("Reads a list of links that are wanted, and writes it with the links")
         .after_help(LINK_ROWS)
-        .arg(word(alloc, "file", "FILE", "The office file"))?
+        .arg(word(alloc, "file", "FILE", SIGNER))?
         .arg(key_option(alloc))?
         .arg(host_option(alloc))?
         .arg(region_option(alloc))

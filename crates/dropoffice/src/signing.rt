@@ -1,0 +1,58 @@
+//! What is signed by a key, whose secret an office keeps or a file holds.
+use crate::faults::Fault;
+use crate::opening::{OfficeWork, Purpose, work_over};
+use crate::secrets::read_secret_file;
+use keeper::Keeper;
+use links::LinkKey;
+use office::Office;
+use sigv4::is_key_id;
+use std::alloc::Global;
+
+/// What is done with a key that signs.
+pub(crate) trait KeyWork<'a> {
+    /// Does it.
+    fn run(self, alloc: Global, key: &LinkKey<'_>) -> Result<(), Fault<'a>>;
+}
+
+// The same over an office: the key of this id is asked for.
+#[derive(Drop)]
+struct OfficeKey<'w, W: Drop> {
+    id: &'w [u8],
+    work: W,
+}
+
+impl<'a, W: KeyWork<'a> + Drop> OfficeWork<'a> for OfficeKey<'_, W> {
+    fn run<K: Keeper>(self, rt: &HostRuntime, office: &mut Office<K>) -> Result<(), Fault<'a>> {
+        let Some(row) = office.keeper.key(self.id)? else {
+            return Err(Fault::UnknownKey);
+        };
+        let key = LinkKey {
+            id: self.id,
+            secret: row.secret.as_slice(),
+        };
+        self.work.run(rt.alloc(), &key)
+    }
+}
+
+/// Does the work with the key of this id. Its secret is the office's in the file; or of `key:SECRETFILE`, where no office is
+/// opened, the line of that file.
+pub(crate) fn sign_by<'a, W: KeyWork<'a> + Drop>(
+    rt: &HostRuntime,
+    file: &str,
+    id: &str,
+    work: W,
+) -> Result<(), Fault<'a>> {
+    let id = id.as_bytes();
+    let Some(name) = file.strip_prefix("key:") else {
+        return work_over(rt, file, Purpose::Look, OfficeKey { id, work });
+    };
+    if !is_key_id(id) {
+        return Err(Fault::MalformedValue("key"));
+    }
+    let secret = read_secret_file(rt, name)?;
+    let key = LinkKey {
+        id,
+        secret: secret.as_slice(),
+    };
+    work.run(rt.alloc(), &key)
+}
