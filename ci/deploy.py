@@ -20,18 +20,21 @@ import time
 import kit
 import tables
 from browser import Browser, until
+from clerking import begin, saved, send
 from expected import refusal
+from front import asked
 from nginx import HOST, PAGE, SECONDS, Front, Office, answered, certificate, paths_of, replaced
 from office import CANNOT_OPEN, difference, receipt, run_all
 from replays import ID
-from serve import asked, boto_client, open_office
+from serve import boto_client, open_office
 from shown import Case, lacks, of, receipt_facts
 
 DEPLOY = kit.ROOT / "deploy"
 UNIT = DEPLOY / "drop.service"
 # What is served beside the office, and as what.
-PAGES = {"put.html": "text/html; charset=utf-8", "get.html": "text/html; charset=utf-8",
-         "drop.js": "application/javascript; charset=utf-8", "texts.js": "application/javascript; charset=utf-8",
+PAGES = {**{f"{it}.html": "text/html; charset=utf-8" for it in ["put", "get", "clerk"]},
+         **{f"{it}.js": "application/javascript; charset=utf-8"
+            for it in ["drop", "shared", "texts", "clerk", "clerk_texts", "desk", "sign"]},
          "drop.css": "text/css", "drop.svg": "image/svg+xml"}
 # What comes with each answer of the front.
 FIELDS = {"Cache-Control": "no-store", "Referrer-Policy": "no-referrer", "X-Content-Type-Options": "nosniff",
@@ -271,6 +274,35 @@ def test_browser(drop, front, office, count):
         count.add("get.html, digests", lacks(found["checked"], "Checked: length and SHA-256"))
         case.click("#save")
         count.add("what is saved", difference(browser.downloaded(set()).read_bytes(), data))
+        begin(case)
+        found = send(case, "drop_file", box="in", name="dir/a stranger's file")
+        count.add("clerk.html, a command", difference(found["kind"], "done"))
+        count.add("clerk.html, it was done", difference(front.said("GET", targets["GET"]), owed_refusal(34)))
+        send(case, "links", box="in", names="a.txt", get=True)
+        address = saved(case)[0][0]["page"]
+        page, _, link = address.partition("#")
+        where = page, link.partition("?")[0]
+        count.add("clerk.html, an address", difference(where, (f"https://{front.host}/get.html", f"http://{front.host}/in/a.txt")))
+        count.add("clerk.html, its link", difference(case.fetch(link)["kind"], "fetched"))
+
+
+def test_network(front, post, count):
+    """The clerk's page and the commands of the desk, kept to a network by the lines of the page; all else is served as before."""
+    lines = re.search(r"drop-clerk\.conf <<'END'\n(.*?)^END$", PAGE.read_text(), re.MULTILINE | re.DOTALL)[1]
+    target, snippet = front.link("GET", "a.txt"), front.folder / "drop-clerk.conf"
+
+    def found():
+        front.restart()
+        asks = [("GET", "/clerk.html"), ("HEAD", "/clerk.html"), ("POST", post), ("GET", target), ("GET", "/put.html")]
+        return [front.said(method, path)[0] for method, path in asks]
+
+    snippet.write_text(replaced(lines, [("allow 127.0.0.1;", "allow 192.0.2.1;")]))
+    count.add("from elsewhere", difference(found(), [403, 403, 403, 200, 200]))
+    count.add("from elsewhere, an upload", difference(front.said("PUT", front.link("PUT", "network"), b"network")[0], 200))
+    snippet.write_text(lines)
+    count.add("from the own network", difference(found(), [200] * 5))
+    snippet.unlink()
+    count.add("from anywhere", difference(found(), [200, 200, 400, 200, 200]))
 
 
 # ---- an office that is away
@@ -329,14 +361,14 @@ def test_front(drop, count):
     file = open_office(drop, "office")
     certificate(drop.folder)
     with Office(UNIT, drop.folder, paths_of(drop, file)) as office, Front(drop.folder, office.port) as front:
-        folders = ["/etc/letsencrypt/live/HOST", "/var/log/nginx", "/var/www"]
+        folders = ["/etc/letsencrypt/live/HOST", "/etc/nginx/snippets", "/var/log/nginx", "/var/www"]
         places = [*((it, drop.folder) for it in folders), ("HOST", HOST)]
         words = front.configure(DEPLOY / "nginx.conf", places, drop.folder / "fullchain.pem")
         ran = kit.run([*words, "-t"])
         count.add("nginx takes the file", None if ran.status == 0 and b"warn" not in ran.err else f"{ran}")
         plain = {method: target_of(drop, front, file, method, "out.1-2/p q%") for method in ["PUT", "GET"]}
         secret = b"s3cr3t-of-a-key"
-        post = target_of(drop, front, file, "POST", f"key add k9 link {secret.decode()}")
+        post, late = [target_of(drop, front, file, "POST", f"key add {it} link {secret.decode()}") for it in ["k9", "k8"]]
         count.add("the office starts", office.start())
         front.start()
         test_names(front, count)
@@ -350,6 +382,7 @@ def test_front(drop, count):
         test_slow(front, count)
         test_pages(front, count)
         test_browser(drop, front, office, count)
+        test_network(front, late, count)
         test_away(front, office, count)
         test_log(front, count, secret)
     count.add("integrity", difference(tables.rows(file, "PRAGMA integrity_check"), [("ok",)]))
@@ -453,7 +486,7 @@ class Machine:
         self.drop, self.count, self.root = drop, count, drop.folder
         self.stack, self.office, self.front = contextlib.ExitStack(), None, None
         for name in ["bin", "tmp", "copy", "root", "usr/local/bin", "etc/systemd/system", "etc/nginx/sites-available",
-                     "etc/nginx/sites-enabled", "var/log/nginx", "var/www/html", "var/lib", "var/backups"]:
+                     "etc/nginx/sites-enabled", "etc/nginx/snippets", "var/log/nginx", "var/www/html", "var/lib", "var/backups"]:
             (self.root / name).mkdir(parents=True)
         (self.root / "etc/nginx/sites-enabled/default").touch()
         for name in ["crates", "deploy", "page"]:
@@ -524,7 +557,7 @@ class Machine:
             return f"{sites}"
         self.front = self.stack.enter_context(Front(self.root, self.office.port))
         chain = self.path(f"/etc/letsencrypt/live/{HOST}/fullchain.pem")
-        places = [(it, self.here(it)) for it in ["/etc/letsencrypt/", "/var/log/", "/var/www/"]]
+        places = [(it, self.here(it)) for it in ["/etc/letsencrypt/", "/etc/nginx/snippets/", "/var/log/", "/var/www/"]]
         words = self.front.configure(sites[0], places, chain)
         lines = ["silent", f"cacert = {chain}", f"connect-to = {HOST}:443:127.0.0.1:{self.front.port}"]
         (self.root / ".curlrc").write_text("\n".join(lines))

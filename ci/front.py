@@ -7,6 +7,8 @@ import socket
 import struct
 import subprocess
 import threading
+import urllib.error
+import urllib.request
 
 import kit
 
@@ -21,6 +23,16 @@ def free_port():
     """A port that nobody listens at."""
     with socket.create_server(("127.0.0.1", 0)) as server:
         return server.getsockname()[1]
+
+
+def asked(url, method, data=None):
+    """The status, the fields and the body that Python's own client gets."""
+    request = urllib.request.Request(url, data=data, method=method)
+    try:
+        with urllib.request.urlopen(request, timeout=SECONDS) as it:
+            return it.status, dict(it.headers), it.read()
+    except urllib.error.HTTPError as error:
+        return error.code, dict(error.headers), error.read()
 
 
 class Office:
@@ -66,7 +78,7 @@ class Front:
 
     def serve(self, peer):
         with contextlib.suppress(OSError), peer, peer.makefile("rb") as stream:
-            while head := b"".join(iter(stream.readline, b"\r\n")):
+            while head := self.head(stream):
                 method, target, _ = head.split(b"\r\n")[0].decode().split(" ")
                 fields = dict(line.lower().split(b": ", 1) for line in head.split(b"\r\n")[1:-1])
                 self.hosts.add(fields[b"host"].decode())
@@ -88,6 +100,16 @@ class Front:
                     peer.close()
                     return
                 peer.sendall(answer)
+
+    @staticmethod
+    def head(stream):
+        """The lines of the next head, without the empty one at its end; nothing where the peer has gone."""
+        lines = []
+        while (line := stream.readline()) != b"\r\n":
+            if not line:
+                return b""
+            lines.append(line)
+        return b"".join(lines)
 
     @staticmethod
     def static(file):

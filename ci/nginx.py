@@ -160,13 +160,21 @@ class Front:
         self.process = subprocess.Popen(self.words, stdin=subprocess.DEVNULL)
         until("nginx", lambda: listens(self.port))
 
+    def restart(self):
+        """Another start, which reads the site anew."""
+        self.stop()
+        self.start()
+
+    def stop(self):
+        if self.process:
+            self.process.terminate()
+            self.process.wait()
+
     def __enter__(self):
         return self
 
     def __exit__(self, *_):
-        if self.process:
-            self.process.terminate()
-            self.process.wait()
+        self.stop()
 
     def connect(self, buffer=None):
         plain = socket.socket()

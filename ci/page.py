@@ -6,12 +6,10 @@ What is owed comes from Python's `hashlib`, the table of refusals in docs/RULES.
 languages. `--shots FOLDER` keeps pictures. The last line is `N passed, M failed`.
 """
 
-import argparse
 import os
 import pathlib
 import re
 import shlex
-import sys
 import tempfile
 import time
 
@@ -21,7 +19,7 @@ import tables
 from browser import Browser, Element, until
 from front import PAGE, Front, Office
 from office import Drop
-from shown import RESULT, Case, digest, is_not, lacks, of, receipt_facts
+from shown import RESULT, Case, digest, is_not, lacks, of, options, receipt_facts, run_tests
 
 LIMIT = 8 << 20
 TAB, ENTER, SPACE = "\ue004", "\ue007", " "
@@ -186,7 +184,7 @@ def test_table(case, count):
     count.add("the same texts", is_not(keys["de"], keys["en"]))
     same = {key for key in texts["en"] if texts["en"][key] == texts["de"][key]}
     count.add("each is translated", is_not(same, {"digest", "paste"}))
-    code = "".join((PAGE / name).read_text(encoding="utf-8") for name in ["drop.js", "put.html", "get.html"])
+    code = "".join((PAGE / name).read_text(encoding="utf-8") for name in ["drop.js", "shared.js", "put.html", "get.html"])
     def bare(keys):
         return {re.sub("_(get|put|title)$", "", key) for key in keys if not key.startswith("remedy_")}
     unused = bare(texts["en"]) - bare(re.findall(r'"(\w+)"', code)) - {"refusals"}
@@ -583,20 +581,9 @@ def test_hints(case, count):
             count.add(line, None if well else f"{ran}")
 
 
-def test_looks(case, count):
-    """No scrolling to the side on a telephone; enough contrast, light and dark; nothing moves where that is not wanted."""
-    def opened(page, link):
-        case.open(page, link)
-        if page == "put" and link == "put a":
-            case.shot("start")
-
-    def stopped():
-        case.put("put dragged", "stopped", b"x" * 100)
-
-    states = [("a start", lambda: opened("put", "put a")), ("a receipt", lambda: case.put("put a", "n" * 60, DATA)),
-              ("a refusal", lambda: case.put("put closed", "a", b"abc")), ("other bytes", stopped),
-              ("a file", lambda: case.fetch("get odd")), ("no link", lambda: opened("put", "")),
-              ("a long name", lambda: opened("put", "put long")), ("dots", lambda: opened("get", case.links["put dots"]))]
+def looks(case, count, states):
+    """Of each state: no scrolling to the side on a telephone; enough contrast, light and dark; nothing moves where that is not
+    wanted."""
     for name, reach in states:
         reach()
         case.browser.width(320)
@@ -604,7 +591,7 @@ def test_looks(case, count):
             case.speak(language)
             wide = case.browser.js("return [innerWidth, document.documentElement.scrollWidth]")
             count.add(f"320 pixels, {name}, {language}", is_not(wide, [320, 320]))
-        small = case.browser.js("const all = document.querySelectorAll('button, .button');"
+        small = case.browser.js("const all = document.querySelectorAll('button, .button, summary, .choice');"
                                 "return Array.from(all, (it) => it.offsetHeight).filter((it) => it && it < 44)")
         count.add(f"large enough for a finger, {name}", is_not(small, []))
         case.browser.width(1280)
@@ -622,13 +609,45 @@ def test_looks(case, count):
     case.browser.media()
 
 
+def test_looks(case, count):
+    def opened(page, link):
+        case.open(page, link)
+        if page == "put" and link == "put a":
+            case.shot("start")
+
+    def stopped():
+        case.put("put dragged", "stopped", b"x" * 100)
+
+    states = [("a start", lambda: opened("put", "put a")), ("a receipt", lambda: case.put("put a", "n" * 60, DATA)),
+              ("a refusal", lambda: case.put("put closed", "a", b"abc")), ("other bytes", stopped),
+              ("a file", lambda: case.fetch("get odd")), ("no link", lambda: opened("put", "")),
+              ("a long name", lambda: opened("put", "put long")), ("dots", lambda: opened("get", case.links["put dots"]))]
+    looks(case, count, states)
+
+
 def test_own_origin(case, count):
     """Nothing is loaded from elsewhere, and nothing could be."""
     for page, link in [("put", "put a"), ("get", "get a")]:
         _ = case.put(link, "a", DATA) if page == "put" else case.fetch(link)
-        names = case.browser.js("return performance.getEntriesByType('resource').map((it) => it.name)")
-        far = [it for it in names if not it.startswith(f"http://{case.front.host}/")]
-        count.add(f"{page} loads from its own origin", is_not((far, len(names) >= 4), ([], True)))
+        loads_its_own(case, count, page)
+    reaches_nothing_else(case, count)
+    case.browser.ask("POST", "/se/log", {"type": "browser"})
+    case.put("put a", "a", DATA)
+    case.click("#de")
+    complains_of_nothing(case, count)
+    owed = {case.front.host, f"files.example:{case.front.port}"}
+    count.add("hosts that were asked", is_not(case.front.hosts <= owed, True))
+
+
+def loads_its_own(case, count, page):
+    """All that the page has loaded is from its own origin."""
+    names = case.browser.js("return performance.getEntriesByType('resource').map((it) => it.name)")
+    far = [it for it in names if not it.startswith(f"http://{case.front.host}/")]
+    count.add(f"{page} loads from its own origin", is_not((far, len(names) >= 4), ([], True)))
+
+
+def reaches_nothing_else(case, count):
+    """Nothing could be loaded from elsewhere."""
     elsewhere = f"http://files.example:{case.front.port}/put.html"
     for what, script in [
         ("fetch", "fetch(url, {mode: 'no-cors'}).then(() => done('loaded'), () => done('barred'))"),
@@ -640,13 +659,12 @@ def test_own_origin(case, count):
         whole = f"const [url, done] = arguments; {script}"
         found = case.browser.ask("POST", "/execute/async", {"script": whole, "args": [elsewhere]})
         count.add(f"{what} is barred", is_not(found, "barred"))
-    case.browser.ask("POST", "/se/log", {"type": "browser"})
-    case.put("put a", "a", DATA)
-    case.click("#de")
+
+
+def complains_of_nothing(case, count):
+    """Since its log was read last."""
     log = [it["message"] for it in case.browser.ask("POST", "/se/log", {"type": "browser"})]
     count.add("the browser complains of nothing", is_not(log, []))
-    owed = {case.front.host, f"files.example:{case.front.port}"}
-    count.add("hosts that were asked", is_not(case.front.hosts <= owed, True))
 
 
 TESTS = [test_put, test_receipt_file, test_refusals, test_table, test_too_large, test_faults, test_faults_of_get,
@@ -686,12 +704,7 @@ def write_links(drop, file, front):
 
 
 def main():
-    parser = argparse.ArgumentParser(description=__doc__)
-    parser.add_argument("--shots", type=pathlib.Path, help="a folder for pictures")
-    parser.add_argument("--times", action="store_true", help="tell how long each test takes")
-    chosen = parser.parse_args()
-    if chosen.shots:
-        chosen.shots.mkdir(parents=True, exist_ok=True)
+    chosen = options(__doc__)
     count = kit.Count()
     with tempfile.TemporaryDirectory(prefix="drop-page-", ignore_cleanup_errors=True) as name:
         folder = pathlib.Path(name)
@@ -707,17 +720,7 @@ def main():
         office.start()
         try:
             with Browser(folder) as browser:
-                case = Case(drop, office, front, browser, links, chosen.shots)
-                for test in TESTS:
-                    begun = time.monotonic()
-                    if not office.process:  # a test that failed left it so
-                        office.start()
-                    try:
-                        test(case, count)
-                    except (AssertionError, KeyError, OSError) as error:
-                        count.add(test.__name__, f"{type(error).__name__}: {error}")
-                    if chosen.times:
-                        print(f"{test.__name__} {time.monotonic() - begun:.1f} s", file=sys.stderr)
+                run_tests(TESTS, Case(drop, office, front, browser, links, chosen.shots), count, chosen.times)
         finally:
             office.kill()
     count.end()

@@ -1,6 +1,10 @@
 """What a test of page/ does in a browser and what it finds there, and what is owed of a receipt."""
 
+import argparse
 import hashlib
+import pathlib
+import sys
+import time
 
 from browser import until
 
@@ -85,6 +89,31 @@ class Case:
         self.click("#en")
         self.browser.media()
         self.browser.width(1280)
+
+
+def options(about):
+    """The words of a program that tests a page."""
+    parser = argparse.ArgumentParser(description=about)
+    parser.add_argument("--shots", type=pathlib.Path, help="a folder for pictures")
+    parser.add_argument("--times", action="store_true", help="tell how long each test takes")
+    chosen = parser.parse_args()
+    if chosen.shots:
+        chosen.shots.mkdir(parents=True, exist_ok=True)
+    return chosen
+
+
+def run_tests(tests, case, count, times):
+    """Runs these tests, one after another."""
+    for test in tests:
+        begun = time.monotonic()
+        if not case.office.process:  # a test that failed left it so
+            case.office.start()
+        try:
+            test(case, count)
+        except (AssertionError, KeyError, OSError) as error:
+            count.add(test.__name__, f"{type(error).__name__}: {error}")
+        if times:
+            print(f"{test.__name__} {time.monotonic() - begun:.1f} s", file=sys.stderr)
 
 
 def digest(data):

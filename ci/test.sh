@@ -126,6 +126,11 @@ page() {
     python3 -B ci/page.py --shots "$work/shots"
 }
 
+clerk() {
+    with_browser || return 1
+    python3 -B ci/clerk.py --shots "$work/shots"
+}
+
 interop() {
     local python
     python=$(with_boto3) || return 1
@@ -165,6 +170,7 @@ count kills kills
 count crowd crowd
 count stops python3 -B ci/stops.py
 count page page
+count clerk clerk
 count memory python3 -B ci/memory.py
 count interop interop
 count deploy deploy

@@ -6,50 +6,19 @@
 (() => {
   const PUT = document.documentElement.dataset.page === "put";
   const LIMIT = 8388608;
+  const {
+    $, text, has, count, told, node, button, acts, facts, list, announce, save, unsendable, refused, foreign, refusal, explained,
+    officeSays, drawResult, goToResult, translate, speaks,
+  } = Page;
   const state = { link: null, file: null, missing: false, busy: null, result: null, url: null };
   const given = new Set(); // the receipts that were told since the page was loaded
-  let language = /^de\b/i.test(navigator.language) ? "de" : "en";
   let request = null;
 
-  // ---- texts and nodes
-
-  const $ = (id) => document.getElementById(id);
-
-  function text(key, values = {}) {
-    return TEXTS[language][key].replace(/\{(\w+)\}/g, (_, name) => values[name]);
-  }
+  // ---- texts
 
   /** A text that has a form of its own for fetching. */
   function either(key, values) {
     return text(PUT ? key : `${key}_get`, values);
-  }
-
-  function count(number) {
-    return number.toLocaleString(language);
-  }
-
-  function node(name, content, more = {}) {
-    const made = document.createElement(name);
-    made.append(...[content].flat());
-    for (const [key, value] of Object.entries(more)) made.setAttribute(key, value);
-    return made;
-  }
-
-  function button(id, key, act) {
-    const made = node("button", text(key), { type: "button", id });
-    made.addEventListener("click", act);
-    return made;
-  }
-
-  /** Fills a list of facts: each has the key of its name, its value, and the class of this. */
-  function facts(list, rows) {
-    list.replaceChildren(...rows.flatMap(([key, value, kind]) => [
-      node("dt", text(key)), node("dd", value, { "data-fact": key, ...(kind && { class: kind }) }),
-    ]));
-  }
-
-  function announce(words) {
-    $("live").textContent = words;
   }
 
   // ---- the link
@@ -77,8 +46,7 @@
 
   /**
    * The link behind the #, a whole URL or its path and query; or the address of such a page, as the office hands it out. It
-   * is of use only where the browser sends path and query as they stand: it takes parts out of a path that are `.` or `..`,
-   * and respells some characters.
+   * is of use only where the browser sends path and query as they stand.
    */
   function readLink() {
     const [, page, raw] = /^(?:https?:\/\/([^/?#]+)\/(?:put|get)\.html#)?(.*)$/is.exec(location.hash.slice(1));
@@ -86,11 +54,8 @@
     const parts = /^(?:https?:\/\/([^/?#]+))?(\/[^#]*)$/i.exec(raw);
     if (!parts) return { fault: "form" };
     const [, host = page, target] = parts;
-    const sent = new URL(location.origin + target);
-    if (sent.pathname + sent.search !== target) {
-      const dots = /\/(\.|%2e){1,2}(\/|$)/i.test(target.split("?")[0]);
-      return { fault: dots ? "dots" : "respelled" };
-    }
+    const fault = unsendable(target);
+    if (fault) return { fault };
     const other = host && host.toLowerCase() !== location.host ? host : null;
     return { target, other, place: place(target), term: term(target) };
   }
@@ -203,14 +168,13 @@
     }
   }
 
-  /** What an answer means: its first line tells, and no other word is believed. */
   async function answered(asked) {
     const { status } = asked;
     const bytes = asked.response || new ArrayBuffer(0);
     const said = bytes.byteLength < 200 ? new TextDecoder().decode(bytes) : "";
-    const refused = status >= 400 && /^[A-Za-z]+ ([1-9]\d?) [ -~]+\n$/.exec(said);
+    const refusedBy = refused(status, said);
     const moment = new Date();
-    if (refused) return finish({ kind: "refused", number: Number(refused[1]), line: said.trim() });
+    if (refusedBy) return finish(refusedBy);
     if (status === 200 && PUT) {
       const told = /^receipt ([1-9]\d*) (\d+) ([0-9a-f]{64})\n$/.exec(said);
       if (told) {
@@ -227,7 +191,7 @@
       return state.link === link ? fetched({ number, digest, length, bytes, moment, own }) : undefined;
     }
     if (status === 413) return finish({ kind: "refused", number: 5 });
-    return finish({ kind: [502, 503, 504].includes(status) ? "away" : "strange", status });
+    return finish(foreign(status));
   }
 
   function check(own, digest, lengths) {
@@ -253,8 +217,7 @@
   function finish(result) {
     Object.assign(state, { busy: null, result });
     draw();
-    announce(`${$("result_title").textContent}. ${$("result_body").firstElementChild.textContent}`);
-    $("result_title").focus();
+    goToResult();
   }
 
   // ---- what is shown of a result
@@ -268,10 +231,6 @@
     ];
   }
 
-  function told(moment) {
-    return moment.toLocaleString(language, { dateStyle: "medium", timeStyle: "long" });
-  }
-
   /** The receipt as text. */
   function receiptText(result) {
     const rows = [...receiptRows(result), ["answer", result.line]];
@@ -281,9 +240,7 @@
   }
 
   function keepReceipt() {
-    const url = URL.createObjectURL(new Blob([receiptText(state.result)], { type: "text/plain;charset=utf-8" }));
-    node("a", "", { href: url, download: text("receipt_file", state.result) }).click();
-    setTimeout(() => URL.revokeObjectURL(url), 60000);
+    save(text("receipt_file", state.result), receiptText(state.result));
   }
 
   function checkWords(result) {
@@ -294,18 +251,8 @@
     return { equal: "good", differs: "bad", unchecked: "note" }[result.checked];
   }
 
-  function list(rows) {
-    const made = node("dl", []);
-    facts(made, rows);
-    return made;
-  }
-
   function checked(result) {
     return node("p", checkWords(result), { id: "checked", class: tone(result) });
-  }
-
-  function acts(...buttons) {
-    return node("div", buttons, { class: "acts" });
   }
 
   /** The part of the name behind its last slash, for a file that is saved. */
@@ -330,23 +277,22 @@
       return ["bad", text("differs_get_title"), [checked(result), rows, acts(button("again", "again", go))]];
     }
     const file = fileName();
-    const save = { id: "save", class: "button main", href: state.url, download: file };
+    const more = { id: "save", class: "button main", href: state.url, download: file };
     return [tone(result), text("fetched"), [
-      checked(result), list(receiptRows(result)), acts(node("a", text("save", { file }), save)),
+      checked(result), list(receiptRows(result)), acts(node("a", text("save", { file }), more)),
     ]];
   }
 
   function showRefused({ number, line, early }) {
-    const [what, remedy] = TEXTS[language].refusals[number] || [text("unknown"), "page"];
+    const [what, remedy] = refusal(number);
     const key = `remedy_${remedy}`;
-    const words = key in TEXTS[language] ? text(key) : text(`${key}_${PUT ? "put" : "get"}`);
+    const words = has(key) ? text(key) : text(`${key}_${PUT ? "put" : "get"}`);
     const { other } = state.link;
     const elsewhere = other && number === 21 && text("other_host", { host: other, here: location.host });
     return ["bad", text(early ? "not_sent" : "refused", { number }), [
-      node("p", what, { id: "what" }),
-      node("p", [node("strong", `${text("what_to_do")}: `), words], { id: "remedy" }),
+      ...explained(what, words),
       ...(elsewhere ? [node("p", elsewhere, { class: "note" })] : []),
-      ...(line ? [list([["office_says", line, "code"]])] : []),
+      ...officeSays(line),
       ...([6, 40].includes(number) ? harmless() : []),
       ...(RETRY.includes(number) ? [acts(button("again", "again", go))] : []),
     ]];
@@ -415,38 +361,17 @@
     ] : missing);
   }
 
-  function drawResult() {
-    const { result } = state;
-    $("result").hidden = !result;
-    if (!result) return;
-    const show = { receipt: showReceipt, fetched: showFetched, refused: showRefused };
-    const [kind, title, body] = (show[result.kind] || showFault)(result);
-    $("result").className = `is-${kind}`;
-    $("result").dataset.kind = result.kind;
-    $("result_title").textContent = title;
-    $("result_body").replaceChildren(...body);
-  }
-
   function draw() {
-    document.documentElement.lang = language;
-    document.title = text(PUT ? "put_title" : "get_title");
-    for (const each of document.querySelectorAll("[data-text]")) each.textContent = text(each.dataset.text);
-    for (const each of document.querySelectorAll("[data-label]")) each.setAttribute("aria-label", text(each.dataset.label));
-    for (const each of ["de", "en"]) $(each).setAttribute("aria-pressed", String(each === language));
+    const show = { receipt: showReceipt, fetched: showFetched, refused: showRefused };
+    translate(PUT ? "put_title" : "get_title");
     drawLink();
     drawFile();
     drawProgress();
-    drawResult();
+    drawResult(state.result, (result) => (show[result.kind] || showFault)(result));
     $("go").setAttribute("aria-disabled", String(Boolean(state.busy)));
   }
 
   // ---- what the user does
-
-  function speak(chosen) {
-    language = chosen;
-    announce("");
-    draw();
-  }
 
   function drops() {
     const zone = $("zone");
@@ -462,8 +387,7 @@
     });
   }
 
-  $("de").addEventListener("click", () => speak("de"));
-  $("en").addEventListener("click", () => speak("en"));
+  speaks(draw);
   $("go").addEventListener("click", go);
   $("stop").addEventListener("click", () => request && request.abort());
   $("paste").addEventListener("submit", (event) => {
@@ -480,6 +404,5 @@
     drops();
   }
   window.addEventListener("hashchange", takeLink);
-  $("languages").hidden = false;
   takeLink();
 })();

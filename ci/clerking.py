@@ -1,0 +1,170 @@
+"""What a test of page/clerk.html does in a browser and what it finds there, and the links that `drop links` owes."""
+
+import csv
+import datetime
+import io
+import os
+import pathlib
+import shutil
+
+import expected
+import tables
+from expected import SECRET
+from replays import ID
+from shown import is_not, lacks
+
+WORD = SECRET.decode()
+EAST = 60
+KINDS = ("keyed", "done", "refused", "lost", "stopped", "away", "strange", "barred", "links")
+
+FILL = """
+const [form, values] = arguments;
+const task = document.getElementById("task_" + form);
+if (task) task.open = true;
+for (const [name, value] of Object.entries(values)) {
+  const field = document.getElementById(form + "_" + name);
+  if (typeof value === "boolean") field.checked = value; else field.value = value;
+  field.dispatchEvent(new Event("input", {bubbles: true}));
+}
+"""
+FAULTS = """
+const bad = Array.from(document.querySelectorAll("[id$=_bad]")).filter((it) => it.textContent);
+return [Object.fromEntries(bad.map((it) => [it.id.slice(0, -4), it.textContent])), document.activeElement.id,
+        document.getElementById("live").textContent, Array.from(document.querySelectorAll("[aria-invalid=true]"), (it) => it.id)];
+"""
+HIDDEN = "return arguments[0].map((it) => document.getElementById(it).closest('[hidden]') !== null)"
+
+
+def fill(case, form, **values):
+    case.browser.js(FILL, form, values)
+
+
+def send(case, form, **values):
+    """Fills the form in and sends it; the result, in the words of the page."""
+    fill(case, form, **values)
+    case.browser.js("document.getElementById('result').hidden = true")
+    case.click(f"#{form}_go")
+    return case.result(*KINDS)
+
+
+def again(case):
+    case.browser.js("document.getElementById('result').dataset.kind = ''")
+    case.click("#again")
+    return case.result(*KINDS)
+
+
+def opened(case, preset="east=60", host=None):
+    """The page, opened anew."""
+    case.open("clerk", preset, host)
+    case.browser.wait_for("return !document.getElementById('languages').hidden")
+
+
+def use_key(case, key=ID, secret=WORD, **more):
+    return send(case, "use_key", id=key, secret=secret, **more)
+
+
+def begin(case, **key):
+    """The page with a key that the office knows as a clerk's."""
+    opened(case)
+    found = use_key(case, **key)
+    assert found["kind"] == "keyed", found
+    return found
+
+
+def rows(case, query, *values):
+    """What stands in the office's tables; it is stopped for it."""
+    case.office.kill()
+    found = tables.rows(case.office.file, query, *values)
+    case.office.start()
+    return found
+
+
+def spoken(case, language, words):
+    """What the result lacks of these words in a language."""
+    case.speak(language)
+    found = case.result_now()
+    return lacks(found["title"] + "\n" + found["text"], *words)
+
+
+def both(case, count, name, english, german):
+    count.add(name, spoken(case, "en", english))
+    count.add(f"{name}, German", spoken(case, "de", german))
+    case.speak("en")
+
+
+def said_refusal(case, count, name, number, english, german):
+    """The result is this refusal, with its number, its line and the words."""
+    found = case.result_now()
+    told = found["kind"], found["title"], found["facts"].get("office_says"), found["focus"]
+    count.add(name, is_not(told, ("refused", f"Refused: number {number}", expected.refusal(number)[1].strip(), "result_title"))
+              or lacks(found["live"], f"Refused: number {number}. {found['what']}"))
+    both(case, count, f"{name}, words", ["What to do: ", *english],
+         [f"Abgelehnt: Nummer {number}", "Was Sie tun können: ", *german])
+
+
+def field_fault(case, count, name, field, words, focus=None):
+    """This field alone is said to be wrong, beside it and to a screen reader, and has the focus."""
+    bad, active, live, invalid = case.browser.js(FAULTS)
+    well = is_not((list(bad), active), ([field], focus or field)) or lacks(bad[field], words)
+    count.add(name, well or lacks(live, words) or is_not(invalid, [] if focus else [field]))
+
+
+# ---- moments
+
+
+def field_of(moment, zone=datetime.timezone(datetime.timedelta(minutes=EAST))):
+    """What stands in a field for date and time, by the office's clock."""
+    return moment.astimezone(zone).strftime("%Y-%m-%dT%H:%M")
+
+
+def utc(*parts):
+    return datetime.datetime(*parts, tzinfo=datetime.timezone.utc)
+
+
+# ---- links
+
+
+def copy_of(case):
+    """A copy of the office file, which the server keeps to itself."""
+    copy = case.drop.path("copy")
+    for ending in ["", "-wal"]:
+        pathlib.Path(f"{copy}{ending}").unlink(missing_ok=True)
+    case.office.kill()
+    for ending in ["", "-wal"]:
+        if os.path.exists(f"{case.office.file}{ending}"):
+            shutil.copy(f"{case.office.file}{ending}", f"{copy}{ending}")
+    case.office.start()
+    return copy
+
+
+def owed_links(case, method, box, names, key=ID, start=None, expires=3600):
+    """What `drop links` writes of these names."""
+    start = start or datetime.datetime.now(datetime.timezone.utc).strftime("%Y%m%dT%H%M00Z")
+    out = io.StringIO()
+    csv.writer(out, lineterminator="\n").writerows([["method", "box", "name", "start", "expires"],
+                                                    *([method, box, name, start, expires] for name in names)])
+    words = ["--key", key, "--host", case.front.host, "--region", "us-east-1"]
+    ran = case.drop.run("links", copy_of(case), *words, given=out.getvalue().encode())
+    assert ran.status == 0, ran
+    return [row["link"] for row in csv.DictReader(io.StringIO(ran.out.decode()))]
+
+
+def saved(case):
+    """The rows of the CSV file that the page lets one save, and its text."""
+    before = set(os.listdir(case.browser.downloads))
+    case.click("#keep")
+    text = case.browser.downloaded(before).read_bytes().decode()
+    return list(csv.DictReader(io.StringIO(text, newline=""))), text
+
+
+def copied(case, count, button, owed):
+    """What is copied by this button, and that it is said."""
+    case.browser.js("navigator.clipboard.writeText = async (it) => { window.copy = it; }")
+    case.click(button)
+    case.browser.wait_for("return document.getElementById('copied').textContent")
+    said = case.browser.js("return ['copied', 'live'].map((it) => document.getElementById(it).textContent)")
+    count.add(f"copied by {button}", is_not((case.browser.js("return window.copy"), said), (owed, ["Copied.", "Copied."])))
+
+
+def page_of(case, method, link):
+    return f"http://{case.front.host}/{method.lower()}.html#{link}"

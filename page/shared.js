@@ -1,0 +1,156 @@
+"use strict";
+
+// What the pages have in common: the language, texts and nodes, what a screen reader is told, and what an answer means.
+
+const Page = (() => {
+  let language = /^de\b/i.test(navigator.language) ? "de" : "en";
+
+  // ---- texts and nodes
+
+  const $ = (id) => document.getElementById(id);
+
+  function text(key, values = {}) {
+    return TEXTS[language][key].replace(/\{(\w+)\}/g, (_, name) => values[name]);
+  }
+
+  function has(key) {
+    return key in TEXTS[language];
+  }
+
+  function count(number) {
+    return number.toLocaleString(language);
+  }
+
+  function told(moment, how = { dateStyle: "medium", timeStyle: "long" }) {
+    return moment.toLocaleString(language, how);
+  }
+
+  function node(name, content, more = {}) {
+    const made = document.createElement(name);
+    made.append(...[content].flat());
+    for (const [key, value] of Object.entries(more)) made.setAttribute(key, value);
+    return made;
+  }
+
+  function button(id, key, act) {
+    const made = node("button", text(key), { type: "button", id });
+    made.addEventListener("click", act);
+    return made;
+  }
+
+  function acts(...buttons) {
+    return node("div", buttons, { class: "acts" });
+  }
+
+  /** Fills a list of facts: each has the key of its name, its value, and the class of this. */
+  function facts(list, rows) {
+    list.replaceChildren(...rows.flatMap(([key, value, kind]) => [
+      node("dt", text(key)), node("dd", value, { "data-fact": key, ...(kind && { class: kind }) }),
+    ]));
+  }
+
+  function list(rows) {
+    const made = node("dl", []);
+    facts(made, rows);
+    return made;
+  }
+
+  function announce(words) {
+    $("live").textContent = words;
+  }
+
+  /** Lets the user save this text as a file. */
+  function save(name, content, type = "text/plain") {
+    const url = URL.createObjectURL(new Blob([content], { type: `${type};charset=utf-8` }));
+    node("a", "", { href: url, download: name }).click();
+    setTimeout(() => URL.revokeObjectURL(url), 60000);
+  }
+
+  // ---- links and answers
+
+  /**
+   * Why a browser can't send this path and query as they stand, or null: it takes parts out of a path that are `.` or `..`,
+   * and respells some characters.
+   */
+  function unsendable(target) {
+    const sent = new URL(location.origin + target);
+    if (sent.pathname + sent.search === target) return null;
+    return /\/(\.|%2e){1,2}(\/|$)/i.test(target.split("?")[0]) ? "dots" : "respelled";
+  }
+
+  /** A refusal in the office's words, or null: the first line of an answer tells, and no other word is believed. */
+  function refused(status, said) {
+    const found = status >= 400 && /^[A-Za-z]+ ([1-9]\d?) [ -~]+\n$/.exec(said);
+    return found ? { kind: "refused", number: Number(found[1]), line: said.trim() } : null;
+  }
+
+  /** What an answer is that is none of the office's. */
+  function foreign(status) {
+    return { kind: [502, 503, 504].includes(status) ? "away" : "strange", status };
+  }
+
+  /** What happened, by the number of a refusal, and the name of its remedy. */
+  function refusal(number) {
+    return TEXTS[language].refusals[number] || [text("unknown"), "page"];
+  }
+
+  /** What happened, and what to do. */
+  function explained(what, remedy) {
+    return [
+      node("p", what, { id: "what" }),
+      node("p", [node("strong", `${text("what_to_do")}: `), remedy], { id: "remedy" }),
+    ];
+  }
+
+  function officeSays(line) {
+    return line ? [list([["office_says", line, "code"]])] : [];
+  }
+
+  // ---- drawing
+
+  /** Draws a result, or none: `show` gives its tone, its title, and what stands below. */
+  function drawResult(result, show) {
+    $("result").hidden = !result;
+    if (!result) {
+      $("result_body").replaceChildren();
+      return;
+    }
+    const [kind, title, body] = show(result);
+    $("result").className = `is-${kind}`;
+    $("result").dataset.kind = result.kind;
+    $("result_title").textContent = title;
+    $("result_body").replaceChildren(...body);
+  }
+
+  /** Says the result that was drawn, and goes there. */
+  function goToResult() {
+    announce(`${$("result_title").textContent}. ${$("result_body").firstElementChild.textContent}`);
+    $("result_title").focus();
+  }
+
+  /** Draws all that changes with the language alone. */
+  function translate(title) {
+    document.documentElement.lang = language;
+    document.title = text(title);
+    for (const each of document.querySelectorAll("[data-text]")) each.textContent = text(each.dataset.text);
+    for (const each of document.querySelectorAll("[data-label]")) each.setAttribute("aria-label", text(each.dataset.label));
+    for (const each of ["de", "en"]) $(each).setAttribute("aria-pressed", String(each === language));
+  }
+
+  /** Has both buttons speak their language: all is drawn anew then. */
+  function speaks(draw) {
+    for (const each of ["de", "en"]) {
+      $(each).addEventListener("click", () => {
+        language = each;
+        announce("");
+        draw();
+      });
+    }
+    $("languages").hidden = false;
+  }
+
+  return {
+    $, text, has, count, told, node, button, acts, facts, list, announce, save, unsendable, refused, foreign, refusal, explained,
+    officeSays, drawResult, goToResult, translate, speaks,
+  };
+})();
