@@ -531,7 +531,7 @@ def test_front(drop, count):
     certificate(drop.folder)
     paths = [*paths_of(drop, file), ("--connections 1000000", "--connections 100")]
     with Office(DEPLOY / "drop.service", drop.folder, paths) as office, Front(drop.folder, office.port) as front:
-        folders = ["/etc/letsencrypt/live/HOST", "/var/log/nginx", "/var/www"]
+        folders = ["/etc/letsencrypt/live/HOST", "/etc/nginx/snippets", "/var/log/nginx", "/var/www"]
         places = [*((it, drop.folder) for it in folders), ("HOST", HOST)]
         ran = kit.run([*front.configure(DEPLOY / "nginx.conf", places, drop.folder / "fullchain.pem"), "-t"])
         count.add("nginx takes the file", None if ran.status == 0 else f"{ran}")

@@ -13,15 +13,13 @@ import signal
 import socket
 import subprocess
 import time
-import urllib.error
 import urllib.parse
-import urllib.request
 
 import kit
 import s3
 import tables
 from expected import SECRET, answer
-from front import BREAK, free_port
+from front import BREAK, asked, free_port
 from office import CANNOT_OPEN, FAILED, difference, fetched, malformed, receipt, run_all
 from replays import ID, fault
 
@@ -199,16 +197,6 @@ def test_curl(drop, count):
 
 def boto_client(server):
     return s3.client(f"http://{server.address}", ID, SECRET.decode())
-
-
-def asked(url, method, data=None):
-    """The status, the fields and the body that Python's own client gets."""
-    request = urllib.request.Request(url, data=data, method=method)
-    try:
-        with urllib.request.urlopen(request, timeout=SECONDS) as it:
-            return it.status, dict(it.headers), it.read()
-    except urllib.error.HTTPError as error:
-        return error.code, dict(error.headers), error.read()
 
 
 def test_boto3(drop, count):
