@@ -12,7 +12,7 @@ use std::io::Write;
 use wire::{Counted, send};
 
 /// Writes the line of a record to memory.
-pub(crate) fn write_line(fields: &[&[u8]], writer: &mut Writer<Vec<u8>>) -> Result<(), ListFault>
+pub fn write_line(fields: &[&[u8]], writer: &mut Writer<Vec<u8>>) -> Result<(), ListFault>
     requires { IsClean writer.old }
     ensures clean { OnOk result (IsClean writer.new) }
     ensures written { OnOk result (Appends (written_by writer.old) (written_by writer.new)
@@ -26,7 +26,7 @@ pub(crate) fn write_line(fields: &[&[u8]], writer: &mut Writer<Vec<u8>>) -> Resu
 }
 
 /// What was written to memory.
-pub(crate) fn text_of(writer: Writer<Vec<u8>>) -> Result<Vec<u8>, ListFault>
+pub fn text_of(writer: Writer<Vec<u8>>) -> Result<Vec<u8>, ListFault>
     ensures text { IfOk result (λ text. Some text.items ≡ written_by writer) }
     ensures memory { IfErr result (λ f. f ≡ ListFault.Memory) }
 {
@@ -37,7 +37,7 @@ pub(crate) fn text_of(writer: Writer<Vec<u8>>) -> Result<Vec<u8>, ListFault>
 }
 
 /// The line of a record.
-pub(crate) fn line_of(alloc: Global, fields: &[&[u8]]) -> Result<Vec<u8>, ListFault>
+pub fn line_of(alloc: Global, fields: &[&[u8]]) -> Result<Vec<u8>, ListFault>
     ensures line { IfOk result (λ text. text.items ≡ line (map (λ f. f.now) fields.now)) }
     ensures memory { IfErr result (λ f. f ≡ ListFault.Memory) }
 {
@@ -47,7 +47,7 @@ pub(crate) fn line_of(alloc: Global, fields: &[&[u8]]) -> Result<Vec<u8>, ListFa
 }
 
 /// Writes a text, or a beginning of it.
-pub(crate) fn send_text<W: Write>(text: &[u8], out: &mut Counted<W>) -> Result<(), ListFault>
+pub fn send_text<W: Write>(text: &[u8], out: &mut Counted<W>) -> Result<(), ListFault>
     ensures sent { Sends text.now (W.contents out.old.inner) (W.contents out.new.inner) result }
     ensures count { CountsErrors out.old.faults out.new.faults (by_writer result) }
     ensures fault { IfErr result (λ f. f ≡ ListFault.Write) }
@@ -59,7 +59,7 @@ pub(crate) fn send_text<W: Write>(text: &[u8], out: &mut Counted<W>) -> Result<(
 }
 
 /// Writes the line of a record, or a beginning of it.
-pub(crate) fn send_line<W: Write>(
+pub fn send_line<W: Write>(
     alloc: Global,
     fields: &[&[u8]],
     out: &mut Counted<W>,

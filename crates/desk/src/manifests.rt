@@ -33,8 +33,8 @@ const PORTION: u16 = 256;
 /// The text of the last moment there is.
 const LAST_MOMENT: &[u8; 16] = b"99991231T235959Z";
 
-// The text of a moment: of one past the last, the last.
-fn moment_text(seconds: u64) -> [u8; 16]
+/// The text of a moment, in seconds since 1970-01-01T00:00:00Z: of one past the last, the last.
+pub fn moment_text(seconds: u64) -> [u8; 16]
     ensures { IsMoment seconds → WritesMoment result seconds }
 {
     match Moment::new(seconds) {
