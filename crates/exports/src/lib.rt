@@ -1,0 +1,2 @@
+//! The files of an office, as files of a folder: under which names, and the lists of them.
+#![tactic(auto)]
