@@ -86,9 +86,9 @@ class Edit:
 
 
 def sum_of_tools():
-    """A sum of the programs that try the edits, of what the toolchain says that it is, and of the crates' list."""
+    """A sum of the programs that try the edits, and of what the toolchain says that it is."""
     told, tools = hashlib.sha256(), kit.toolchain()
-    for file in [*(tools / "bin" / name for name in ["rattle", "rt", "rtlib.py"]), tools / "WHAT", kit.ROOT / "crates.txt"]:
+    for file in [*(tools / "bin" / name for name in ["rattle", "rt", "rtlib.py"]), tools / "WHAT"]:
         told.update(repr((file.name, file.read_bytes())).encode())
     return told.hexdigest()
 
