@@ -23,5 +23,5 @@ pub use lines::{line_of, send_line, send_text, text_of, write_line};
 pub use link_lists::links_from;
 pub use list_end::ListEnd;
 pub use list_fault::ListFault;
-pub use manifests::{manifest, moment_text};
+pub use manifests::{manifest, moment_text, receipts_text};
 pub use reading::read_command;

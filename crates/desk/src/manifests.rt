@@ -66,8 +66,12 @@ fn write_receipt(receipt: &ReceiptRow, writer: &mut Writer<Vec<u8>>) -> Result<(
     write_line(&fields, writer)
 }
 
-// The lines of receipts.
-fn receipts_text(alloc: Global, receipts: &[ReceiptRow]) -> Result<Vec<u8>, ListFault>
+/// The lines of these receipts in a manifest, without its head.
+///
+/// # Errors
+///
+/// `Memory` where memory was refused.
+pub fn receipts_text(alloc: Global, receipts: &[ReceiptRow]) -> Result<Vec<u8>, ListFault>
     ensures lines { AllByRecursion HasMoment (map numbered_receipt receipts.now)
         → IfOk result (λ text. AreLines IsReceiptLine (map numbered_receipt receipts.now) text.items) }
     ensures memory { IfErr result (λ f. f ≡ ListFault.Memory) }
