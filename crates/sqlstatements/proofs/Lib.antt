@@ -25,3 +25,6 @@ pub mod LimitRows
 pub mod StagedRows
 pub mod Compared
 pub mod Held
+pub mod FollowingTexts
+pub mod FirstBehind
+pub mod FollowingRows

@@ -1,2 +1,3 @@
 pub mod BoxRows
+pub mod Following
 pub mod Pieces

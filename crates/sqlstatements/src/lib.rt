@@ -4,6 +4,7 @@
 mod box_rows;
 pub mod changes;
 mod comparing;
+pub mod following;
 pub mod making;
 pub mod pieces;
 pub mod questions;

@@ -29,7 +29,7 @@ use std::alloc::Global;
 use std::collections::BTreeSet;
 
 /// The last of the rows that a query of the office's own tables shows, if it shows one.
-fn select_row<S: Alter>(
+pub(crate) fn select_row<S: Alter>(
     tx: &mut Transaction<'_, S>,
     sql: &str,
     params: &[ValueRef<'_>],

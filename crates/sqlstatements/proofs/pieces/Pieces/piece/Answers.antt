@@ -1,7 +1,6 @@
-use Rattle.std.proofs.Common.{◌≡◌, ℕ, ◌-◌, ◌*◌, ◌<◌, ◌≤◌, List, length, min, take, drop, Some, None, arith, rules, refl, sym, ap, ◌∙◌}
+use Rattle.std.proofs.Common.{◌≡◌, ℕ, ◌-◌, ◌*◌, ◌<◌, ◌≤◌, List, length, min, take, drop, Some, arith, rules, refl, sym, ap, ◌∙◌}
 use Rattle.std.proofs.lemmas.Bool.{lt-ltb}
 use Rattle.std.proofs.lemmas.List.{length-drop, take_all, take_min}
-use Rattle.sqltables.specs.Tables.{piece_of}
 use Rattle.sqltables.proofs.Gathering.{no_piece}
 use Rattle.sqlstatements.proofs.pieces.Pieces.piece.Goals as goal
 
