@@ -8,17 +8,17 @@ use Rattle.clap.specs.Faults.{fault_of, is_simple_and_free, level_fault}
 use Rattle.clap.specs.Walk.{Row, Text, answers_to, nothing_held, rows_after}
 use Rattle.clap.specs.Words.{App, subcommand_of}
 use Rattle.clap.proofs.OnLiterals.{clap_on_literals}
-use Rattle.tasks.specs.Tasks.{HasDesk, HasInit, HasLink, HasLinks, HasOneSecret, HasReplay, HasServe, HasValue, NamesOneSecret, NamesTask, allowance_rule, at_rule, clerk_rule, compare_app, connections_rule, desk_app, drop_app, east_rule, expires_rule, file_rule, host_rule, init_app, key_rule, line_rule, link_app, links_app, listen_rule, manifest_app, method_rule, migrate_app, open_rule, patience_rule, region_rule, replay_app, secret_file_rule, secret_rule, serve_app, start_rule, streams_rule, target_app, target_rule, west_rule}
+use Rattle.tasks.specs.Tasks.{HasDesk, HasExport, HasInit, HasLink, HasLinks, HasListing, HasOneSecret, HasReplay, HasServe, HasValue, NamesOneSecret, NamesTask, allowance_rule, at_rule, box_rule, clerk_rule, compare_app, connections_rule, desk_app, dir_rule, drop_app, east_rule, expires_rule, export_app, file_rule, host_rule, init_app, key_rule, line_rule, link_app, links_app, list_app, listen_rule, manifest_app, manifest_rule, method_rule, migrate_app, open_rule, patience_rule, region_rule, replay_app, secret_file_rule, secret_rule, serve_app, start_rule, streams_rule, target_app, target_rule, west_rule, what_rule}
 use Rattle.tasks.proofs.FullRows.{fills}
 use Rattle.tasks.proofs.Defaulted.{all_given, default_value, has_default}
 use Rattle.tasks.proofs.FaultFree.{Enters, enters, needed_value, needs}
 
 pub simple : is_simple drop_app ≡ true
-unfolding drop_app init_app desk_app link_app target_app links_app manifest_app compare_app replay_app serve_app migrate_app file_rule line_rule streams_rule at_rule method_rule target_rule clerk_rule secret_rule secret_file_rule key_rule host_rule region_rule start_rule expires_rule east_rule west_rule allowance_rule listen_rule connections_rule patience_rule open_rule clap_on_literals
+unfolding drop_app init_app desk_app link_app target_app links_app manifest_app compare_app list_app export_app replay_app serve_app migrate_app file_rule line_rule what_rule dir_rule box_rule streams_rule at_rule method_rule target_rule clerk_rule secret_rule secret_file_rule key_rule host_rule region_rule start_rule expires_rule east_rule west_rule allowance_rule listen_rule connections_rule patience_rule open_rule manifest_rule clap_on_literals
 simple = refl
 
 pub simple_and_free : is_simple_and_free drop_app ≡ true
-unfolding drop_app init_app desk_app link_app target_app links_app manifest_app compare_app replay_app serve_app migrate_app file_rule line_rule streams_rule at_rule method_rule target_rule clerk_rule secret_rule secret_file_rule key_rule host_rule region_rule start_rule expires_rule east_rule west_rule allowance_rule listen_rule connections_rule patience_rule open_rule clap_on_literals
+unfolding drop_app init_app desk_app link_app target_app links_app manifest_app compare_app list_app export_app replay_app serve_app migrate_app file_rule line_rule what_rule dir_rule box_rule streams_rule at_rule method_rule target_rule clerk_rule secret_rule secret_file_rule key_rule host_rule region_rule start_rule expires_rule east_rule west_rule allowance_rule listen_rule connections_rule patience_rule open_rule manifest_rule clap_on_literals
 simple_and_free = refl
 
 -- ---- the commands as clap builds them
@@ -46,6 +46,12 @@ manifest_built = built_leaf (inherited settings manifest_app.top)
 compare_built : Shape
 compare_built = built_leaf (inherited settings compare_app.top)
 
+list_built : Shape
+list_built = built_leaf (inherited settings list_app.top)
+
+export_built : Shape
+export_built = built_leaf (inherited settings export_app.top)
+
 replay_built : Shape
 replay_built = built_leaf (inherited settings replay_app.top)
 
@@ -58,8 +64,8 @@ migrate_built = built_leaf (inherited settings migrate_app.top)
 help_built : Shape
 help_built = built_leaf help_shape
 
-commands : (built drop_app).subs ≡ init_built ∷ desk_built ∷ link_built ∷ links_built ∷ manifest_built ∷ compare_built ∷ replay_built ∷ serve_built ∷ migrate_built ∷ help_built ∷ []
-unfolding drop_app settings init_built desk_built link_built links_built manifest_built compare_built replay_built serve_built migrate_built help_built
+commands : (built drop_app).subs ≡ init_built ∷ desk_built ∷ link_built ∷ links_built ∷ manifest_built ∷ compare_built ∷ list_built ∷ export_built ∷ replay_built ∷ serve_built ∷ migrate_built ∷ help_built ∷ []
+unfolding drop_app settings init_built desk_built link_built links_built manifest_built compare_built list_built export_built replay_built serve_built migrate_built help_built
 commands = refl
 
 has_help : (built drop_app).top.disable_help_subcommand ≡ false
@@ -282,6 +288,58 @@ compare_needs_file = refl
 compare_values : (words : List Text) → level_fault compare_built [] nothing_held words false [] ≡ [] → HasValue (codes "file") (rows_after compare_built.rules [] words)
 compare_values words free = needed_value compare_built words compare_fills compare_asks free (codes "file") compare_needs_file
 
+-- ---- list
+
+list_name : list_built.name ≡ codes "list"
+unfolding list_built settings drop_app list_app
+list_name = refl
+
+list_fills : list_all fills list_built.rules ≡ true
+unfolding list_built settings drop_app list_app file_rule what_rule
+list_fills = refl
+
+list_asks : list_built.subcommand_negates_reqs ≡ false
+unfolding list_built settings drop_app list_app
+list_asks = refl
+
+list_needs_file : needs (codes "file") list_built.rules ≡ true
+unfolding list_built settings drop_app list_app file_rule what_rule
+list_needs_file = refl
+
+list_needs_what : needs (codes "what") list_built.rules ≡ true
+unfolding list_built settings drop_app list_app file_rule what_rule
+list_needs_what = refl
+
+list_values : (words : List Text) → level_fault list_built [] nothing_held words false [] ≡ [] → HasListing (rows_after list_built.rules [] words)
+list_values words free =
+    let given = needed_value list_built words list_fills list_asks free in (given (codes "file") list_needs_file, given (codes "what") list_needs_what)
+
+-- ---- export
+
+export_name : export_built.name ≡ codes "export"
+unfolding export_built settings drop_app export_app
+export_name = refl
+
+export_fills : list_all fills export_built.rules ≡ true
+unfolding export_built settings drop_app export_app file_rule dir_rule box_rule
+export_fills = refl
+
+export_asks : export_built.subcommand_negates_reqs ≡ false
+unfolding export_built settings drop_app export_app
+export_asks = refl
+
+export_needs_file : needs (codes "file") export_built.rules ≡ true
+unfolding export_built settings drop_app export_app file_rule dir_rule box_rule
+export_needs_file = refl
+
+export_needs_dir : needs (codes "dir") export_built.rules ≡ true
+unfolding export_built settings drop_app export_app file_rule dir_rule box_rule
+export_needs_dir = refl
+
+export_values : (words : List Text) → level_fault export_built [] nothing_held words false [] ≡ [] → HasExport (rows_after export_built.rules [] words)
+export_values words free =
+    let given = needed_value export_built words export_fills export_asks free in (given (codes "file") export_needs_file, given (codes "dir") export_needs_dir)
+
 -- ---- replay
 
 replay_name : replay_built.name ≡ codes "replay"
@@ -323,7 +381,7 @@ unfolding serve_built settings drop_app serve_app
 serve_name = refl
 
 serve_fills : list_all fills serve_built.rules ≡ true
-unfolding serve_built settings drop_app serve_app file_rule listen_rule connections_rule patience_rule open_rule
+unfolding serve_built settings drop_app serve_app file_rule listen_rule connections_rule patience_rule open_rule manifest_rule
 serve_fills = refl
 
 serve_asks : serve_built.subcommand_negates_reqs ≡ false
@@ -331,23 +389,23 @@ unfolding serve_built settings drop_app serve_app
 serve_asks = refl
 
 serve_needs_file : needs (codes "file") serve_built.rules ≡ true
-unfolding serve_built settings drop_app serve_app file_rule listen_rule connections_rule patience_rule open_rule
+unfolding serve_built settings drop_app serve_app file_rule listen_rule connections_rule patience_rule open_rule manifest_rule
 serve_needs_file = refl
 
 serve_needs_listen : needs (codes "listen") serve_built.rules ≡ true
-unfolding serve_built settings drop_app serve_app file_rule listen_rule connections_rule patience_rule open_rule
+unfolding serve_built settings drop_app serve_app file_rule listen_rule connections_rule patience_rule open_rule manifest_rule
 serve_needs_listen = refl
 
 serve_needs_connections : needs (codes "connections") serve_built.rules ≡ true
-unfolding serve_built settings drop_app serve_app file_rule listen_rule connections_rule patience_rule open_rule
+unfolding serve_built settings drop_app serve_app file_rule listen_rule connections_rule patience_rule open_rule manifest_rule
 serve_needs_connections = refl
 
 serve_has_patience : has_default (codes "patience") serve_built.rules ≡ true
-unfolding serve_built settings drop_app serve_app file_rule listen_rule connections_rule patience_rule open_rule
+unfolding serve_built settings drop_app serve_app file_rule listen_rule connections_rule patience_rule open_rule manifest_rule
 serve_has_patience = refl
 
 serve_has_open : has_default (codes "open") serve_built.rules ≡ true
-unfolding serve_built settings drop_app serve_app file_rule listen_rule connections_rule patience_rule open_rule
+unfolding serve_built settings drop_app serve_app file_rule listen_rule connections_rule patience_rule open_rule manifest_rule
 serve_has_open = refl
 
 serve_values : (words : List Text) → level_fault serve_built [] nothing_held words false [] ≡ [] → HasServe (rows_after serve_built.rules [] words)
@@ -395,26 +453,28 @@ help_named name elsewhere = go (bytes_eq (codes "help") name) (bytes_eq-Decides 
         absurd bad
 
 found_task : (name : Text) (s : Shape) → bytes_eq name (codes "help") ≡ false
-    → find (λ x. answers_to name (label_of x)) (init_built ∷ desk_built ∷ link_built ∷ links_built ∷ manifest_built ∷ compare_built ∷ replay_built ∷ serve_built ∷ migrate_built ∷ help_built ∷ []) ≡ Some s
-    → (init_built ≡ s) ⊎ ((desk_built ≡ s) ⊎ ((link_built ≡ s) ⊎ (((links_built ≡ s) ⊎ ((manifest_built ≡ s) ⊎ (compare_built ≡ s))) ⊎ ((replay_built ≡ s) ⊎ ((serve_built ≡ s) ⊎ (migrate_built ≡ s))))))
+    → find (λ x. answers_to name (label_of x)) (init_built ∷ desk_built ∷ link_built ∷ links_built ∷ manifest_built ∷ compare_built ∷ list_built ∷ export_built ∷ replay_built ∷ serve_built ∷ migrate_built ∷ help_built ∷ []) ≡ Some s
+    → (init_built ≡ s) ⊎ ((desk_built ≡ s) ⊎ ((link_built ≡ s) ⊎ ((((links_built ≡ s) ⊎ ((manifest_built ≡ s) ⊎ ((compare_built ≡ s) ⊎ (list_built ≡ s)))) ⊎ (export_built ≡ s)) ⊎ ((replay_built ≡ s) ⊎ ((serve_built ≡ s) ⊎ (migrate_built ≡ s))))))
 found_task name s elsewhere found =
-    go (answers_to name (label_of init_built)) (answers_to name (label_of desk_built)) (answers_to name (label_of link_built)) (answers_to name (label_of links_built)) (answers_to name (label_of manifest_built)) (answers_to name (label_of compare_built)) (answers_to name (label_of replay_built)) (answers_to name (label_of serve_built)) (answers_to name (label_of migrate_built))
+    go (answers_to name (label_of init_built)) (answers_to name (label_of desk_built)) (answers_to name (label_of link_built)) (answers_to name (label_of links_built)) (answers_to name (label_of manifest_built)) (answers_to name (label_of compare_built)) (answers_to name (label_of list_built)) (answers_to name (label_of export_built)) (answers_to name (label_of replay_built)) (answers_to name (label_of serve_built)) (answers_to name (label_of migrate_built))
     (answers_to name (label_of help_built)) (help_named name elsewhere) found
   where
-    go : (a b c d e f g h m k : Bool) → k ≡ false
-        → cond a (Some init_built) (cond b (Some desk_built) (cond c (Some link_built) (cond d (Some links_built) (cond e (Some manifest_built) (cond f (Some compare_built) (cond g (Some replay_built) (cond h (Some serve_built) (cond m (Some migrate_built) (cond k (Some help_built) None))))))))) ≡ Some s
-        → (init_built ≡ s) ⊎ ((desk_built ≡ s) ⊎ ((link_built ≡ s) ⊎ (((links_built ≡ s) ⊎ ((manifest_built ≡ s) ⊎ (compare_built ≡ s))) ⊎ ((replay_built ≡ s) ⊎ ((serve_built ≡ s) ⊎ (migrate_built ≡ s))))))
-    go true b c d e f g h m k z at = inl cc
-    go false true c d e f g h m k z at = inr (inl cc)
-    go false false true d e f g h m k z at = inr (inr (inl cc))
-    go false false false true e f g h m k z at = inr (inr (inr (inl (inl cc))))
-    go false false false false true f g h m k z at = inr (inr (inr (inl (inr (inl cc)))))
-    go false false false false false true g h m k z at = inr (inr (inr (inl (inr (inr cc)))))
-    go false false false false false false true h m k z at = inr (inr (inr (inr (inl cc))))
-    go false false false false false false false true m k z at = inr (inr (inr (inr (inr (inl cc)))))
-    go false false false false false false false false true k z at = inr (inr (inr (inr (inr (inr cc)))))
-    go false false false false false false false false false true z at = let bad : ⊥ = cc in absurd bad
-    go false false false false false false false false false false z at = let bad : ⊥ = cc in absurd bad
+    go : (a b c d e f g h i j m k : Bool) → k ≡ false
+        → cond a (Some init_built) (cond b (Some desk_built) (cond c (Some link_built) (cond d (Some links_built) (cond e (Some manifest_built) (cond f (Some compare_built) (cond g (Some list_built) (cond h (Some export_built) (cond i (Some replay_built) (cond j (Some serve_built) (cond m (Some migrate_built) (cond k (Some help_built) None))))))))))) ≡ Some s
+        → (init_built ≡ s) ⊎ ((desk_built ≡ s) ⊎ ((link_built ≡ s) ⊎ ((((links_built ≡ s) ⊎ ((manifest_built ≡ s) ⊎ ((compare_built ≡ s) ⊎ (list_built ≡ s)))) ⊎ (export_built ≡ s)) ⊎ ((replay_built ≡ s) ⊎ ((serve_built ≡ s) ⊎ (migrate_built ≡ s))))))
+    go true b c d e f g h i j m k z at = inl cc
+    go false true c d e f g h i j m k z at = inr (inl cc)
+    go false false true d e f g h i j m k z at = inr (inr (inl cc))
+    go false false false true e f g h i j m k z at = inr (inr (inr (inl (inl (inl cc)))))
+    go false false false false true f g h i j m k z at = inr (inr (inr (inl (inl (inr (inl cc))))))
+    go false false false false false true g h i j m k z at = inr (inr (inr (inl (inl (inr (inr (inl cc)))))))
+    go false false false false false false true h i j m k z at = inr (inr (inr (inl (inl (inr (inr (inr cc)))))))
+    go false false false false false false false true i j m k z at = inr (inr (inr (inl (inr cc))))
+    go false false false false false false false false true j m k z at = inr (inr (inr (inr (inl cc))))
+    go false false false false false false false false false true m k z at = inr (inr (inr (inr (inr (inl cc)))))
+    go false false false false false false false false false false true k z at = inr (inr (inr (inr (inr (inr cc)))))
+    go false false false false false false false false false false false true z at = let bad : ⊥ = cc in absurd bad
+    go false false false false false false false false false false false false z at = let bad : ⊥ = cc in absurd bad
 
 -- the words name the command of this shape, and have no fault in it
 module _ (words : List Text) (e : Enters (built drop_app) (argument_words drop_app words)) (s : Shape) (is : s ≡ e.shape) where
@@ -427,7 +487,7 @@ module _ (words : List Text) (e : Enters (built drop_app) (argument_words drop_a
 pub task_named : (words : List Text) → fault_of drop_app words ≡ [] → NamesOneSecret (subcommand_of drop_app words) → NamesTask (subcommand_of drop_app words)
 task_named words free one =
     let e = enters (built drop_app) (argument_words drop_app words) has_help needs_command free in
-    let found : find (λ s. answers_to e.name (label_of s)) (init_built ∷ desk_built ∷ link_built ∷ links_built ∷ manifest_built ∷ compare_built ∷ replay_built ∷ serve_built ∷ migrate_built ∷ help_built ∷ []) ≡ Some e.shape =
+    let found : find (λ s. answers_to e.name (label_of s)) (init_built ∷ desk_built ∷ link_built ∷ links_built ∷ manifest_built ∷ compare_built ∷ list_built ∷ export_built ∷ replay_built ∷ serve_built ∷ migrate_built ∷ help_built ∷ []) ≡ Some e.shape =
     ap (find (λ s. answers_to e.name (label_of s))) (sym commands) ∙ e.found in
     elim (found_task e.name e.shape e.not_help found) [
       | inl is ↦
@@ -435,9 +495,11 @@ task_named words free one =
           inl (rows_after init_built.rules [] e.rest, named, init_values e.rest (free_here words e init_built is) (one (rows_after init_built.rules [] e.rest) named))
       | inr (inl is) ↦ inr (inl (rows_after desk_built.rules [] e.rest, rows_named words e desk_built is (codes "desk") desk_name, desk_values e.rest (free_here words e desk_built is)))
       | inr (inr (inl is)) ↦ inr (inr (inl (rows_after link_built.rules [] e.rest, rows_named words e link_built is (codes "link") link_name, link_values e.rest (free_here words e link_built is))))
-      | inr (inr (inr (inl (inl is)))) ↦ inr (inr (inr (inl (inl (rows_after links_built.rules [] e.rest, rows_named words e links_built is (codes "links") links_name, links_values e.rest (free_here words e links_built is))))))
-      | inr (inr (inr (inl (inr (inl is))))) ↦ inr (inr (inr (inl (inr (inl (rows_after manifest_built.rules [] e.rest, rows_named words e manifest_built is (codes "manifest") manifest_name, manifest_values e.rest (free_here words e manifest_built is)))))))
-      | inr (inr (inr (inl (inr (inr is))))) ↦ inr (inr (inr (inl (inr (inr (rows_after compare_built.rules [] e.rest, rows_named words e compare_built is (codes "compare") compare_name, compare_values e.rest (free_here words e compare_built is)))))))
+      | inr (inr (inr (inl (inl (inl is))))) ↦ inr (inr (inr (inl (inl (inl (rows_after links_built.rules [] e.rest, rows_named words e links_built is (codes "links") links_name, links_values e.rest (free_here words e links_built is)))))))
+      | inr (inr (inr (inl (inl (inr (inl is)))))) ↦ inr (inr (inr (inl (inl (inr (inl (rows_after manifest_built.rules [] e.rest, rows_named words e manifest_built is (codes "manifest") manifest_name, manifest_values e.rest (free_here words e manifest_built is))))))))
+      | inr (inr (inr (inl (inl (inr (inr (inl is))))))) ↦ inr (inr (inr (inl (inl (inr (inr (inl (rows_after compare_built.rules [] e.rest, rows_named words e compare_built is (codes "compare") compare_name, compare_values e.rest (free_here words e compare_built is)))))))))
+      | inr (inr (inr (inl (inl (inr (inr (inr is))))))) ↦ inr (inr (inr (inl (inl (inr (inr (inr (rows_after list_built.rules [] e.rest, rows_named words e list_built is (codes "list") list_name, list_values e.rest (free_here words e list_built is)))))))))
+      | inr (inr (inr (inl (inr is)))) ↦ inr (inr (inr (inl (inr (rows_after export_built.rules [] e.rest, rows_named words e export_built is (codes "export") export_name, export_values e.rest (free_here words e export_built is))))))
       | inr (inr (inr (inr (inl is)))) ↦ inr (inr (inr (inr (inl (rows_after replay_built.rules [] e.rest, rows_named words e replay_built is (codes "replay") replay_name, replay_values e.rest (free_here words e replay_built is))))))
       | inr (inr (inr (inr (inr (inl is))))) ↦ inr (inr (inr (inr (inr (inl (rows_after serve_built.rules [] e.rest, rows_named words e serve_built is (codes "serve") serve_name, serve_values e.rest (free_here words e serve_built is)))))))
       | inr (inr (inr (inr (inr (inr is))))) ↦ inr (inr (inr (inr (inr (inr (rows_after migrate_built.rules [] e.rest, rows_named words e migrate_built is (codes "migrate") migrate_name, migrate_values e.rest (free_here words e migrate_built is)))))))

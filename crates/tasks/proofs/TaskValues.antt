@@ -1,5 +1,5 @@
 -- The texts that the getters of the matches give, by the rows of the matches.
-use Rattle.std.proofs.Common.{rules, ◌≡◌, ◌∙◌, ap, subst, sym, false, true, List, map, Option, Some, None, is_some, Bor}
+use Rattle.std.proofs.Common.{rules, ◌≡◌, ◌∙◌, ap, refl, subst, sym, false, true, List, map, Option, Some, None, is_some, Bor}
 use Rattle.std.specs.Prelude.{option_map, IfSome, IsSome}
 use Rattle.clap.specs.Words.{Text, all_of, first_of, first_value, matched_of, raw_values, rows_of}
 use Rattle.clap.specs.declared.parser.matches.Found.{Found}
@@ -19,6 +19,11 @@ some_given name f (Some v) text has = search rules
 
 pub none_given : (name : Text) (f : Found) (given : Option (Bor Text)) → option_map (λ s. s.now) given ≡ first_value f name → given ≡ None → first_of name (rows_of f) ≡ None
 none_given name f given text none = sym (first_value-rows f name) ∙ sym text ∙ ap (option_map (λ s. s.now)) none
+
+pub given_or_none : (name : Text) (f : Found) (given : Option (Bor Text)) → IfSome given (λ s. first_of name (rows_of f) ≡ Some s.now)
+    → (given ≡ None → first_of name (rows_of f) ≡ None) → first_of name (rows_of f) ≡ option_map (λ s. s.now) given
+given_or_none name f None some none = none refl
+given_or_none name f (Some v) some none = some
 
 abbrev Texts : Type 0
 Texts = Bor (List (Bor Text))

@@ -1,5 +1,5 @@
 -- The command line of the program, as clap reads it, and the task that its words name.
-use Rattle.std.specs.Prelude.{◌≡◌, ◌⊎◌, [], ◌∷◌, List, codes, map, Option, Some, None, is_some, true}
+use Rattle.std.specs.Prelude.{◌≡◌, ◌⊎◌, [], ◌∷◌, List, codes, map, option_map, Option, Some, None, is_some, true}
 use Rattle.clap.specs.Lexer.{usize_max}
 use Rattle.clap.specs.Words.{App, IsAmong, Row, Rule, Text, all_of, fault_of, first_of, new_app, new_rule, subcommand_of, with_rule, with_subcommand}
 use Rattle.clap.specs.Simple.{on_top}
@@ -7,9 +7,11 @@ use Rattle.clap.specs.declared.builder.value_parser.ValueParser.TheVariants.{Uns
 use Rattle.clap.specs.declared.error.kind.ErrorKind.{ErrorKind}
 use Rattle.clap.specs.declared.error.kind.ErrorKind.TheVariants.{ArgumentConflict, MissingRequiredArgument}
 use Rattle.tasks.specs.declared.task.Desk.{Desk}
+use Rattle.tasks.specs.declared.task.Export.{Export}
 use Rattle.tasks.specs.declared.task.Init.{Init}
 use Rattle.tasks.specs.declared.task.Link.{Link}
 use Rattle.tasks.specs.declared.task.Links.{Links}
+use Rattle.tasks.specs.declared.task.Listing.{Listing}
 use Rattle.tasks.specs.declared.task.OfficeFile.{OfficeFile}
 use Rattle.tasks.specs.declared.task.Replay.{Replay}
 use Rattle.tasks.specs.declared.task.Secret.{Secret}
@@ -55,6 +57,17 @@ method_rule = word_rule (codes "method")
 unfoldable pub target_rule : Rule
 target_rule = word_rule (codes "target")
 
+-- WHAT, DIR
+unfoldable pub what_rule : Rule
+what_rule = word_rule (codes "what")
+
+unfoldable pub dir_rule : Rule
+dir_rule = word_rule (codes "dir")
+
+-- --box NAME, which may be left out
+unfoldable pub box_rule : Rule
+box_rule = optional_rule (codes "box")
+
 -- --clerk ID, --key ID, --host H, --region R, --start MOMENT
 unfoldable pub clerk_rule : Rule
 clerk_rule = option_rule (codes "clerk")
@@ -97,6 +110,10 @@ patience_rule = record (new_rule (codes "patience")) { long = Some (codes "patie
 -- --open N, a whole number from 1 to 4096, and 512 where it is left out
 unfoldable pub open_rule : Rule
 open_rule = record (new_rule (codes "open")) { long = Some (codes "open"); value_names = 1; defaults = codes "512" ∷ []; parser = Some (Unsigned 1 4096) }
+
+-- --manifest OUT, which may be left out
+unfoldable pub manifest_rule : Rule
+manifest_rule = optional_rule (codes "manifest")
 
 -- --east M and --west M, whole numbers from 0 to 840, and 0 where they are left out
 abbrev pub minutes_rule : Text → Rule
@@ -144,25 +161,36 @@ manifest_app = with_rule (new_app (codes "manifest")) file_rule
 unfoldable pub compare_app : App
 compare_app = with_rule (new_app (codes "compare")) file_rule
 
+-- list FILE WHAT
+unfoldable pub list_app : App
+list_app = with_rule (with_rule (new_app (codes "list")) file_rule) what_rule
+
+-- export FILE DIR --box NAME
+unfoldable pub export_app : App
+export_app = with_rule (with_rule (with_rule (new_app (codes "export")) file_rule) dir_rule) box_rule
+
 -- replay FILE STREAM.. --at MOMENT
 unfoldable pub replay_app : App
 replay_app = with_rule (with_rule (with_rule (new_app (codes "replay")) file_rule) streams_rule) at_rule
 
--- serve FILE --listen ADDR --connections N --patience SECONDS --open N
+-- serve FILE --listen ADDR --connections N --patience SECONDS --open N --manifest OUT
 unfoldable pub serve_app : App
-serve_app = with_rule (with_rule (with_rule (with_rule (with_rule (new_app (codes "serve")) file_rule) listen_rule) connections_rule) patience_rule) open_rule
+serve_app =
+    let with_bounds = with_rule (with_rule (with_rule (new_app (codes "serve")) file_rule) listen_rule) connections_rule in
+    with_rule (with_rule (with_rule with_bounds patience_rule) open_rule) manifest_rule
 
 -- migrate FILE
 unfoldable pub migrate_app : App
 migrate_app = with_rule (new_app (codes "migrate")) file_rule
 
--- drop COMMAND, which answers with help where no word follows
+-- drop COMMAND, which answers with help where no word follows, and tells its version
 unfoldable pub drop_app : App
 drop_app =
-    let needs_command = on_top (λ s. record s { subcommand_required = true; arg_required_else_help = true }) (new_app (codes "drop")) in
+    let needs_command = on_top (λ s. record s { subcommand_required = true; arg_required_else_help = true; has_version = true }) (new_app (codes "drop")) in
     let with_desk = with_subcommand (with_subcommand needs_command init_app.top) desk_app.top in
     let with_lists = with_subcommand (with_subcommand (with_subcommand (with_subcommand with_desk link_app.top) links_app.top) manifest_app.top) compare_app.top in
-    with_subcommand (with_subcommand (with_subcommand with_lists replay_app.top) serve_app.top) migrate_app.top
+    let with_files = with_subcommand (with_subcommand with_lists list_app.top) export_app.top in
+    with_subcommand (with_subcommand (with_subcommand with_files replay_app.top) serve_app.top) migrate_app.top
 
 -- ---- the values that the matches give
 
@@ -207,6 +235,18 @@ IsLinksIn rows l =
 abbrev pub IsOfficeIn : List Row → OfficeFile → Type 0
 IsOfficeIn rows o = first_of (codes "file") rows ≡ Some o.file.now
 
+abbrev pub IsListingIn : List Row → Listing → Type 0
+IsListingIn rows l =
+    (first_of (codes "file") rows ≡ Some l.file.now)
+    × (first_of (codes "what") rows ≡ Some l.what.now)
+
+-- what is not named has no value
+abbrev pub IsExportIn : List Row → Export → Type 0
+IsExportIn rows e =
+    (first_of (codes "file") rows ≡ Some e.file.now)
+    × (first_of (codes "dir") rows ≡ Some e.folder.now)
+    × (first_of (codes "box") rows ≡ option_map (λ b. b.now) e.in_box)
+
 abbrev pub IsReplayOf : List Row → Replay → Type 0
 IsReplayOf rows r =
     (first_of (codes "file") rows ≡ Some r.file.now)
@@ -220,6 +260,7 @@ IsServeIn rows s =
     × (first_of (codes "connections") rows ≡ Some s.connections.now)
     × (first_of (codes "patience") rows ≡ Some s.patience.now)
     × (first_of (codes "open") rows ≡ Some s.open.now)
+    × (first_of (codes "manifest") rows ≡ option_map (λ m. m.now) s.manifest)
 
 -- the matches give this argument a value
 abbrev pub HasValue : Text → List Row → Type 0
@@ -248,6 +289,12 @@ abbrev pub HasLinks : List Row → Type 0
 HasLinks rows =
     HasValue (codes "file") rows × HasValue (codes "key") rows × HasValue (codes "host") rows × HasValue (codes "region") rows
 
+abbrev pub HasListing : List Row → Type 0
+HasListing rows = HasValue (codes "file") rows × HasValue (codes "what") rows
+
+abbrev pub HasExport : List Row → Type 0
+HasExport rows = HasValue (codes "file") rows × HasValue (codes "dir") rows
+
 abbrev pub HasReplay : List Row → Type 0
 HasReplay rows =
     HasValue (codes "file") rows × HasValue (codes "at") rows × (is_some (all_of (codes "stream") rows) ≡ true)
@@ -267,6 +314,8 @@ IsTaskIn named (task.Link l) = (rows : List Row) × (named ≡ Some (codes "link
 IsTaskIn named (task.Links l) = (rows : List Row) × (named ≡ Some (codes "links", rows)) × IsLinksIn rows l
 IsTaskIn named (task.Manifest o) = (rows : List Row) × (named ≡ Some (codes "manifest", rows)) × IsOfficeIn rows o
 IsTaskIn named (task.Compare o) = (rows : List Row) × (named ≡ Some (codes "compare", rows)) × IsOfficeIn rows o
+IsTaskIn named (task.List l) = (rows : List Row) × (named ≡ Some (codes "list", rows)) × IsListingIn rows l
+IsTaskIn named (task.Export e) = (rows : List Row) × (named ≡ Some (codes "export", rows)) × IsExportIn rows e
 IsTaskIn named (task.Replay r) = (rows : List Row) × (named ≡ Some (codes "replay", rows)) × IsReplayOf rows r
 IsTaskIn named (task.Serve s) = (rows : List Row) × (named ≡ Some (codes "serve", rows)) × IsServeIn rows s
 IsTaskIn named (task.Migrate o) = (rows : List Row) × (named ≡ Some (codes "migrate", rows)) × IsOfficeIn rows o
@@ -289,9 +338,19 @@ NamesManifest named = (rows : List Row) × (named ≡ Some (codes "manifest", ro
 abbrev pub NamesCompare : Option (Text × List Row) → Type 0
 NamesCompare named = (rows : List Row) × (named ≡ Some (codes "compare", rows)) × HasValue (codes "file") rows
 
+abbrev pub NamesListing : Option (Text × List Row) → Type 0
+NamesListing named = (rows : List Row) × (named ≡ Some (codes "list", rows)) × HasListing rows
+
 -- a list that is read or written
 abbrev pub NamesList : Option (Text × List Row) → Type 0
-NamesList named = NamesLinks named ⊎ (NamesManifest named ⊎ NamesCompare named)
+NamesList named = NamesLinks named ⊎ (NamesManifest named ⊎ (NamesCompare named ⊎ NamesListing named))
+
+abbrev pub NamesExport : Option (Text × List Row) → Type 0
+NamesExport named = (rows : List Row) × (named ≡ Some (codes "export", rows)) × HasExport rows
+
+-- a list, or files that are exported
+abbrev pub NamesStock : Option (Text × List Row) → Type 0
+NamesStock named = NamesList named ⊎ NamesExport named
 
 abbrev pub NamesReplay : Option (Text × List Row) → Type 0
 NamesReplay named = (rows : List Row) × (named ≡ Some (codes "replay", rows)) × HasReplay rows
@@ -305,7 +364,7 @@ NamesMigrate named = (rows : List Row) × (named ≡ Some (codes "migrate", rows
 -- the command that the words name, with its matches, is a task
 abbrev pub NamesTask : Option (Text × List Row) → Type 0
 NamesTask named =
-    NamesInit named ⊎ (NamesDesk named ⊎ (NamesLink named ⊎ (NamesList named ⊎ (NamesReplay named ⊎ (NamesServe named ⊎ NamesMigrate named)))))
+    NamesInit named ⊎ (NamesDesk named ⊎ (NamesLink named ⊎ (NamesStock named ⊎ (NamesReplay named ⊎ (NamesServe named ⊎ NamesMigrate named)))))
 
 -- ---- the secret of init
 

@@ -6,4 +6,4 @@ pub mod task;
 mod words;
 
 pub use lines::{line_in, read_line};
-pub use task::{Desk, Init, Link, Links, OfficeFile, Replay, Secret, Serve, Task};
+pub use task::{Desk, Export, Init, Link, Links, Listing, OfficeFile, Replay, Secret, Serve, Task};

@@ -1,7 +1,7 @@
 //! What the program's words ask for.
 ghost use Rattle.std.specs.Prelude.{◌≡◌, ◌⊎◌, [], IfOk, IfErr, IfSome, IsErrAnd, IsSome, MatchResult, None, Some, codes, is_some, true, map};
 ghost use Rattle.clap.specs.Words.{all_of, fault_of, first_of, found_of, kind_of, rows_of, subcommand_of, subcommand_rows_of, takes};
-ghost use Rattle.tasks.specs.Tasks.{drop_app, HasDesk, HasInit, HasLink, HasLinks, HasOneSecret, HasReplay, HasServe, HasValue, IsDeskIn, IsFaultOf, IsInitOf, IsLinkIn, IsLinksIn, IsOfficeIn, IsReplayOf, IsSecretFault, IsSecretIn, IsServeIn, IsTaskIn, IsTaskOf, NamesCompare, NamesDesk, NamesInit, NamesLink, NamesLinks, NamesList, NamesManifest, NamesMigrate, NamesOneSecret, NamesReplay, NamesServe, NamesTask};
+ghost use Rattle.tasks.specs.Tasks.{drop_app, HasDesk, HasExport, HasInit, HasLink, HasLinks, HasListing, HasOneSecret, HasReplay, HasServe, HasValue, IsDeskIn, IsExportIn, IsFaultOf, IsInitOf, IsLinkIn, IsLinksIn, IsListingIn, IsOfficeIn, IsReplayOf, IsSecretFault, IsSecretIn, IsServeIn, IsTaskIn, IsTaskOf, NamesCompare, NamesDesk, NamesExport, NamesInit, NamesLink, NamesLinks, NamesList, NamesListing, NamesManifest, NamesMigrate, NamesOneSecret, NamesReplay, NamesServe, NamesStock, NamesTask};
 
 use crate::words::{command_line, init_command};
 use clap::error::ErrorKind;
@@ -23,6 +23,10 @@ pub enum Task<'a> {
     Manifest(OfficeFile<'a>),
     /// Tell what stands of a manifest.
     Compare(OfficeFile<'a>),
+    /// List what the office keeps.
+    List(Listing<'a>),
+    /// Write the files into a folder.
+    Export(Export<'a>),
     /// Answer recorded connections.
     Replay(Replay<'a>),
     /// Serve connections over a socket.
@@ -111,6 +115,26 @@ pub struct OfficeFile<'a> {
     pub file: &'a str,
 }
 
+/// The words of `drop list FILE WHAT`, each as it was given: no form is asked of them here.
+#[derive(Clone, Copy)]
+pub struct Listing<'a> {
+    /// The office file.
+    pub file: &'a str,
+    /// What is listed.
+    pub what: &'a str,
+}
+
+/// The words of `drop export FILE DIR --box NAME`, each as it was given: no form is asked of them here.
+#[derive(Clone, Copy)]
+pub struct Export<'a> {
+    /// The office file.
+    pub file: &'a str,
+    /// The folder to make.
+    pub folder: &'a str,
+    /// The box whose files are written alone, if one is named.
+    pub in_box: Option<&'a str>,
+}
+
 /// The words of `drop replay FILE STREAM.. --at MOMENT`, each as it was given: no form is asked of them here.
 #[derive(Drop)]
 pub struct Replay<'a> {
@@ -122,7 +146,7 @@ pub struct Replay<'a> {
     pub streams: Vec<&'a str>,
 }
 
-/// The words of `drop serve FILE --listen ADDR --connections N --patience SECONDS --open N`, each as it was given, and the
+/// The words of `drop serve FILE --listen ADDR --connections N --patience SECONDS --open N --manifest OUT`, each as it was given, and the
 /// seconds `30` and the open connections `512` where they were left out. The connections are from 1 to 1000000, SECONDS from 0
 /// to 3600, and the open ones from 1 to 4096; of the others no form is asked here.
 #[derive(Debug, Clone, Copy)]
@@ -137,6 +161,8 @@ pub struct Serve<'a> {
     pub patience: &'a str,
     /// How many connections may be open at a time.
     pub open: &'a str,
+    /// The file that is kept to be the manifest, if one is named.
+    pub manifest: Option<&'a str>,
 }
 
 impl<'a> Task<'a> {
@@ -187,7 +213,7 @@ impl<'a> Task<'a> {
         if let Some(task) = Task::link_in(matches) {
             return Ok(Some(task));
         }
-        if let Some(task) = Task::list_in(matches) {
+        if let Some(task) = Task::stock_in(matches) {
             return Ok(Some(task));
         }
         if let Some(task) = Task::serve_in(matches) {
@@ -223,6 +249,17 @@ impl<'a> Task<'a> {
         Some(Task::Link(Link::of_matches(values)?))
     }
 
+    // A list, or files that are exported.
+    fn stock_in(matches: &ArgMatches<'a>) -> Option<Task<'a>>
+        ensures task { IfSome result (IsTaskIn (subcommand_rows_of matches.now)) }
+        ensures named { NamesStock (subcommand_rows_of matches.now) → IsSome result }
+    {
+        if let Some(task) = Task::list_in(matches) {
+            return Some(task);
+        }
+        Task::export_in(matches)
+    }
+
     // A list that is read or written.
     fn list_in(matches: &ArgMatches<'a>) -> Option<Task<'a>>
         ensures task { IfSome result (IsTaskIn (subcommand_rows_of matches.now)) }
@@ -234,7 +271,10 @@ impl<'a> Task<'a> {
         if let Some(task) = Task::manifest_in(matches) {
             return Some(task);
         }
-        Task::compare_in(matches)
+        if let Some(task) = Task::compare_in(matches) {
+            return Some(task);
+        }
+        Task::listing_in(matches)
     }
 
     fn links_in(matches: &ArgMatches<'a>) -> Option<Task<'a>>
@@ -259,6 +299,22 @@ impl<'a> Task<'a> {
     {
         let values = matches.subcommand_matches("compare")?;
         Some(Task::Compare(OfficeFile::of_matches(values)?))
+    }
+
+    fn listing_in(matches: &ArgMatches<'a>) -> Option<Task<'a>>
+        ensures task { IfSome result (IsTaskIn (subcommand_rows_of matches.now)) }
+        ensures named { NamesListing (subcommand_rows_of matches.now) → IsSome result }
+    {
+        let values = matches.subcommand_matches("list")?;
+        Some(Task::List(Listing::of_matches(values)?))
+    }
+
+    fn export_in(matches: &ArgMatches<'a>) -> Option<Task<'a>>
+        ensures task { IfSome result (IsTaskIn (subcommand_rows_of matches.now)) }
+        ensures named { NamesExport (subcommand_rows_of matches.now) → IsSome result }
+    {
+        let values = matches.subcommand_matches("export")?;
+        Some(Task::Export(Export::of_matches(values)?))
     }
 
     fn serve_in(matches: &ArgMatches<'a>) -> Option<Task<'a>>
@@ -378,6 +434,31 @@ impl<'a> OfficeFile<'a> {
     }
 }
 
+impl<'a> Listing<'a> {
+    fn of_matches(values: &ArgMatches<'a>) -> Option<Listing<'a>>
+        ensures values { IfSome result (IsListingIn (rows_of (found_of values.now))) }
+        ensures given { HasListing (rows_of (found_of values.now)) → IsSome result }
+    {
+        Some(Listing {
+            file: value_of(values, "file")?,
+            what: value_of(values, "what")?,
+        })
+    }
+}
+
+impl<'a> Export<'a> {
+    fn of_matches(values: &ArgMatches<'a>) -> Option<Export<'a>>
+        ensures values { IfSome result (IsExportIn (rows_of (found_of values.now))) }
+        ensures given { HasExport (rows_of (found_of values.now)) → IsSome result }
+    {
+        Some(Export {
+            file: value_of(values, "file")?,
+            folder: value_of(values, "dir")?,
+            in_box: value_of(values, "box"),
+        })
+    }
+}
+
 impl<'a> Serve<'a> {
     fn of_matches(values: &ArgMatches<'a>) -> Option<Serve<'a>>
         ensures values { IfSome result (IsServeIn (rows_of (found_of values.now))) }
@@ -389,6 +470,7 @@ impl<'a> Serve<'a> {
             connections: value_of(values, "connections")?,
             patience: value_of(values, "patience")?,
             open: value_of(values, "open")?,
+            manifest: value_of(values, "manifest"),
         })
     }
 }

@@ -2,11 +2,14 @@
 ghost use Rattle.std.specs.Prelude.{◌≡◌, IfOk, false};
 ghost use Rattle.clap.specs.Words.{app_of, rule_of};
 ghost use Rattle.clap.specs.declared.builder.command.Command.TheViews.{out-Command};
-ghost use Rattle.tasks.specs.Tasks.{compare_app, desk_app, drop_app, init_app, link_app, links_app, manifest_app, migrate_app, replay_app, serve_app, target_app, allowance_rule, connections_rule, expires_rule, host_rule, key_rule, minutes_rule, open_rule, option_rule, optional_rule, patience_rule, region_rule, streams_rule, word_rule};
+ghost use Rattle.tasks.specs.Tasks.{compare_app, desk_app, drop_app, export_app, init_app, link_app, links_app, list_app, manifest_app, migrate_app, replay_app, serve_app, target_app, allowance_rule, connections_rule, expires_rule, host_rule, key_rule, minutes_rule, open_rule, option_rule, optional_rule, patience_rule, region_rule, streams_rule, word_rule};
 
 use clap::builder::ValueParser;
 use clap::{Arg, Command};
 use std::alloc::{AllocError, Global};
+
+// The version of the program.
+const VERSION: &str = "1.0.0";
 
 // The words of `init`: that one of its two secrets is given clap can't tell.
 const INIT_USAGE: &str =
@@ -123,6 +126,41 @@ head being row 1. The rows before it have been answered.
 For an office file called office:
   drop compare office <manifest.csv";
 
+// What stands below the help of `list`: the rows that it writes.
+const LISTED_ROWS: &str = "\
+The list is CSV. Its first row is the head. The rows are in the order of ids, of boxes, or of boxes and then names.
+
+keys: one row for each key, also for a revoked one. Its secret is never written.
+  key,role,revoked,boxes
+  boxes    the boxes that the key is limited to, with a space between two; none where it may use every box
+
+boxes: one row for each box.
+  box,opens,closes,days,from,to,quota,files,mode,rule,used,count
+  quota, files  the most bytes and the most files that it may hold
+  used, count   the bytes and the files that it holds
+
+files: one row for each file that stands in a box.
+  box,name,length,sha256,receipt,moment,key
+  receipt  the number of its receipt
+  moment   when it was put, in UTC: 20261203T101500Z
+  key      the id of the key whose link carried it
+
+For an office file called office:
+  drop list office boxes >boxes.csv";
+
+// What stands below the help of `export`: what it makes.
+const EXPORTED: &str = "\
+DIR is made; it must not be there. Each file is DIR/BOX/NUMBER-NAME: NUMBER is that of its receipt, and NAME is the
+last part of its name, in which a character that some file system does not take is an underscore. Two lists lie beside
+the boxes:
+
+  files.csv   which box, name, receipt, length, SHA-256, moment and key each path has:
+              path,box,name,receipt,length,sha256,moment,key
+  SHA256SUMS  the SHA-256 of each path. In DIR, sha256sum --check SHA256SUMS tests them all
+
+For an office file called office:
+  drop export office files";
+
 // What stands below the help of `migrate`: what has to be done before it.
 const UPGRADE: &str = "\
 Before it the server is stopped, and the file is copied. All that the office keeps stays as it is: keys, boxes, files and
@@ -136,6 +174,7 @@ pub(crate) fn command_line<'a>(alloc: Global) -> Result<Command<'a>, AllocError>
     ensures { IfOk result (λ c. app_of c ≡ drop_app) }
 {
     Command::new(alloc, "drop")
+        .version(VERSION)
         .about(
             "A file drop for offices: makes an office, runs its desk, writes links to its files, answers requests that carry them, and lists what came",
         )
@@ -147,6 +186,8 @@ pub(crate) fn command_line<'a>(alloc: Global) -> Result<Command<'a>, AllocError>
         .subcommand(links_command(alloc)?)?
         .subcommand(manifest_command(alloc)?)?
         .subcommand(compare_command(alloc)?)?
+        .subcommand(list_command(alloc)?)?
+        .subcommand(export_command(alloc)?)?
         .subcommand(replay_command(alloc)?)?
         .subcommand(serve_command(alloc)?)?
         .subcommand(migrate_command(alloc)?)
@@ -287,6 +328,41 @@ fn compare_command<'a>(alloc: Global) -> Result<Command<'a>, AllocError>
         .arg(word(alloc, "file", "FILE", "The office file"))
 }
 
+// `list FILE WHAT`.
+fn list_command<'a>(alloc: Global) -> Result<Command<'a>, AllocError>
+    ensures app { IfOk result (λ c. app_of c ≡ list_app) }
+    ensures local { IfOk result (λ c. (out-Command c).has_globals ≡ false) }
+{
+    Command::new(alloc, "list")
+        .about("Lists the keys, the boxes or the files of an office")
+        .after_help(LISTED_ROWS)
+        .arg(word(alloc, "file", "FILE", "The office file"))?
+        .arg(word(
+            alloc,
+            "what",
+            "WHAT",
+            "What is listed: keys, boxes or files",
+        ))
+}
+
+// `export FILE DIR --box NAME`.
+fn export_command<'a>(alloc: Global) -> Result<Command<'a>, AllocError>
+    ensures app { IfOk result (λ c. app_of c ≡ export_app) }
+    ensures local { IfOk result (λ c. (out-Command c).has_globals ≡ false) }
+{
+    Command::new(alloc, "export")
+        .about("Writes the files of an office into a folder, with lists of them")
+        .after_help(EXPORTED)
+        .arg(word(alloc, "file", "FILE", "The office file"))?
+        .arg(word(alloc, "dir", "DIR", "The folder to make"))?
+        .arg(optional(
+            alloc,
+            "box",
+            "NAME",
+            "The box whose files are written alone",
+        ))
+}
+
 // `replay FILE STREAM.. --at MOMENT`.
 fn replay_command<'a>(alloc: Global) -> Result<Command<'a>, AllocError>
     ensures app { IfOk result (λ c. app_of c ≡ replay_app) }
@@ -309,7 +385,7 @@ fn replay_command<'a>(alloc: Global) -> Result<Command<'a>, AllocError>
         ))
 }
 
-// `serve FILE --listen ADDR --connections N --patience SECONDS --open N`.
+// `serve FILE --listen ADDR --connections N --patience SECONDS --open N --manifest OUT`.
 fn serve_command<'a>(alloc: Global) -> Result<Command<'a>, AllocError>
     ensures app { IfOk result (λ c. app_of c ≡ serve_app) }
     ensures local { IfOk result (λ c. (out-Command c).has_globals ≡ false) }
@@ -325,7 +401,13 @@ fn serve_command<'a>(alloc: Global) -> Result<Command<'a>, AllocError>
         ))?
         .arg(connections_option(alloc))?
         .arg(patience_option(alloc))?
-        .arg(open_option(alloc))
+        .arg(open_option(alloc))?
+        .arg(optional(
+            alloc,
+            "manifest",
+            "OUT",
+            "The file that is kept to be the office's manifest while it is served",
+        ))
 }
 
 // `migrate FILE`.
