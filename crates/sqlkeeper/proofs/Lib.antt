@@ -8,3 +8,4 @@ pub mod Migrated
 pub mod Asked
 pub mod Emptied
 pub mod Reopened
+pub mod NextTexts

@@ -20,6 +20,8 @@ ghost use Rattle.sqlkeeper.specs.Emptying.{EmptiesStaged, HasNoneStaged};
 ghost use Rattle.sqlkeeper.specs.OneText.{one_text};
 ghost use Rattle.sqlkeeper.specs.Versions.{IsOfficeFile, IsRefusedFile};
 
+mod rolling;
+
 use crate::applying::apply_change;
 use crate::asking;
 use crate::creating::create;

@@ -6,6 +6,7 @@ mod asking;
 mod creating;
 mod emptying;
 mod file_keeper;
+mod following;
 mod upgrading;
 
 pub use file_keeper::{OpenFault, SqlKeeper};

@@ -1,0 +1,63 @@
+//! An office file is walked through: the keeper tells what comes next.
+
+ghost use Rattle.std.specs.Prelude.{◌≡◌, IfOk, IfErr, IsUtf8};
+ghost use Rattle.sigtext.specs.Counts.{CountsErrors};
+
+use super::{SqlKeeper, counted};
+use crate::following;
+use keeper::KeepFault;
+use rolls::Rolls;
+use sqlite::Alter;
+use std::str;
+
+// A text that a question gives. Bytes that are no UTF-8 are a fault, which is counted: the file has none.
+fn counted_text<'a>(faults: &mut u64, bytes: &'a [u8]) -> Result<&'a str, KeepFault>
+    ensures value { IfOk result (λ text. text.now ≡ bytes.now) }
+    ensures fault { IfErr result (λ f. IsUtf8 bytes.now → ⊥) }
+    ensures store { IfErr result (λ f. f ≡ KeepFault.Store) }
+    ensures count { CountsErrors faults.old faults.new result }
+{
+    match str::from_utf8(bytes) {
+        Ok(text) => Ok(text),
+        Err(_) => {
+            *faults = faults.saturating_add(1);
+            Err(KeepFault::Store)
+        }
+    }
+}
+
+impl<S: Alter> Rolls for SqlKeeper<S> {
+    fn key_after(&mut self, after: &[u8]) -> Result<Option<Vec<u8>>, KeepFault> {
+        let after = counted_text(&mut self.faults, after)?;
+        counted(
+            &mut self.faults,
+            following::key_after(&mut self.conn, after),
+        )
+    }
+
+    fn box_after(&mut self, after: &[u8]) -> Result<Option<Vec<u8>>, KeepFault> {
+        let after = counted_text(&mut self.faults, after)?;
+        counted(
+            &mut self.faults,
+            following::box_after(&mut self.conn, after),
+        )
+    }
+
+    fn file_after(&mut self, in_box: &[u8], after: &[u8]) -> Result<Option<Vec<u8>>, KeepFault> {
+        let in_box = counted_text(&mut self.faults, in_box)?;
+        let after = counted_text(&mut self.faults, after)?;
+        counted(
+            &mut self.faults,
+            following::file_after(&mut self.conn, in_box, after),
+        )
+    }
+
+    fn limit_after(&mut self, id: &[u8], after: &[u8]) -> Result<Option<Vec<u8>>, KeepFault> {
+        let id = counted_text(&mut self.faults, id)?;
+        let after = counted_text(&mut self.faults, after)?;
+        counted(
+            &mut self.faults,
+            following::limit_after(&mut self.conn, id, after),
+        )
+    }
+}
