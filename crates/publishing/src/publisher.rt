@@ -1,0 +1,165 @@
+//! A keeper that adds each receipt to a manifest.
+ghost use Rattle.std.specs.Prelude.{◌≡◌, ℕ, List, [], ◌∷◌, Some, IfOk, OnOk, IsTrue, false};
+ghost use Rattle.boxes.specs.Changes.{MayChange};
+ghost use Rattle.boxes.specs.Rows.{numbered_receipt};
+ghost use Rattle.boxes.specs.Sound.{IsMoment, IsSound};
+ghost use Rattle.boxes.specs.State.{State};
+ghost use Rattle.keeper.specs.Shelves.{set_receipt};
+ghost use Rattle.desk.specs.Lists.{AreLines};
+ghost use Rattle.desk.specs.Manifests.{IsReceiptLine};
+ghost use Rattle.publishing.specs.Published.{AddsAll, IsBlank, IsPublished};
+
+use crate::sheet::Sheet;
+use boxes::{Change, NewFile, ReceiptRow};
+use desk::{ListFault, manifest, receipts_text};
+use keeper::Keeper;
+use std::alloc::{AllocError, Global};
+use std::io::Write;
+use wire::Counted;
+
+/// Hands each call on to a keeper, and adds each receipt that an upload makes to a manifest that stands on a sheet. Where that
+/// fails a line on `err` says so, once, and the keeper goes on without it.
+#[derive(Drop)]
+pub struct Publisher<'k, K, S: Drop, E: Drop> {
+    pub(crate) keeper: &'k mut K,
+    pub(crate) sheet: S,
+    pub(crate) err: E,
+    // Whether the manifest on the sheet is whole so far.
+    pub(crate) is_whole: bool,
+    pub(crate) alloc: Global,
+}
+
+impl<'k, K: Keeper, S: Sheet + Drop, E: Write + Drop> Publisher<'k, K, S, E> {
+    /// Puts the manifest of what is kept on a sheet where nothing stands. It is in memory as a whole meanwhile.
+    pub fn begin(alloc: Global, keeper: &'k mut K, sheet: S, err: E) -> Publisher<'k, K, S, E>
+        ensures keeper { result.keeper.ghost_name ≡ keeper.entry.ghost_name }
+        ensures means { (s : State) → K.means keeper.entry.now s → IsBlank (S.text sheet)
+            → ⟦<Publisher<'k, K, S, E> as Keeper>⟧.means result s }
+        ensures honest { ⟦<Publisher<'k, K, S, E> as Keeper>⟧.is_honest result
+            → K.is_honest keeper.entry.now }
+        ensures opened { K.is_open keeper.entry.now → IsTrue result.is_whole
+            → K.is_honest result.keeper.now
+            → ⟦<Publisher<'k, K, S, E> as Keeper>⟧.is_open result }
+    {
+        let text = manifest_text(alloc, keeper);
+        let mut publisher = Publisher {
+            keeper,
+            sheet,
+            err,
+            is_whole: true,
+            alloc,
+        };
+        match text {
+            Ok(text) => publisher.put(&text),
+            Err(_) => publisher.give_up(),
+        }
+        publisher
+    }
+
+    /// Whether the manifest on the sheet is that of what is kept.
+    pub fn is_whole(&self) -> bool
+        ensures { result ≡ self.now.is_whole }
+    {
+        self.is_whole
+    }
+
+    /// What the manifest stands on.
+    pub fn into_sheet(self) -> S
+        ensures { result ≡ self.entry.sheet }
+    {
+        self.sheet
+    }
+}
+
+// The manifest of what is kept.
+fn manifest_text<K: Keeper>(alloc: Global, keeper: &mut K) -> Result<Vec<u8>, ListFault>
+    ensures text { (s : State) → K.means keeper.old s → IsSound s → K.is_honest keeper.new
+        → IfOk result (λ text. IsPublished s (Some text.items)) }
+    ensures same { (s : State) → K.means keeper.old s → K.means keeper.new s }
+    ensures honest { K.is_honest keeper.new → K.is_honest keeper.old }
+    ensures opened { K.is_honest keeper.new → K.is_open keeper.old → OnOk result (K.is_open keeper.new) }
+{
+    let mut writer = Counted::new(Vec::new(alloc));
+    manifest(alloc, keeper, &mut writer)?;
+    Ok(writer.inner)
+}
+
+// The line of a file's receipt.
+fn receipt_text(alloc: Global, file: &NewFile<'_>) -> Result<Vec<u8>, ListFault>
+    ensures { IsMoment file.now.moment → IfOk result
+        (λ text. AreLines IsReceiptLine (set_receipt file.now ∷ []) text.items) }
+{
+    match new_receipt(alloc, file) {
+        Ok(receipt) => receipts_text(alloc, &[receipt]),
+        Err(_) => Err(ListFault::Memory),
+    }
+}
+
+// The receipt of a file that is set.
+fn new_receipt(alloc: Global, file: &NewFile<'_>) -> Result<ReceiptRow, AllocError>
+    ensures { IfOk result (λ r. numbered_receipt r ≡ set_receipt file.now) }
+{
+    Ok(ReceiptRow {
+        number: file.number,
+        in_box: Vec::from_slice(alloc, file.in_box)?,
+        name: Vec::from_slice(alloc, file.name)?,
+        size: file.size,
+        digest: file.digest,
+        moment: file.moment,
+        key: Vec::from_slice(alloc, file.key)?,
+    })
+}
+
+impl<K, S: Sheet + Drop, E: Write + Drop> Publisher<'_, K, S, E> {
+    /// Nothing is added any more, which is told.
+    pub fn give_up(&mut self)
+        ensures none { self.new.is_whole ≡ false }
+        ensures keeper { self.new.keeper ≡ self.old.keeper }
+    {
+        self.is_whole = false;
+        let _ = writeln!(self.err, "drop: cannot write the manifest");
+    }
+
+    // Puts a text on the sheet.
+    fn put(&mut self, text: &[u8])
+        ensures keeper { self.new.keeper ≡ self.old.keeper }
+        ensures whole { IsTrue self.new.is_whole → IsTrue self.old.is_whole }
+        ensures added { IsTrue self.new.is_whole
+            → AddsAll text.now (S.text self.old.sheet) (S.text self.new.sheet) }
+    {
+        if self.sheet.add(text).is_err() {
+            self.give_up();
+        }
+    }
+
+    // Adds the line of the receipt that a change made, if it made one.
+    pub(crate) fn note(&mut self, change: &Change<'_>)
+        ensures keeper { self.new.keeper ≡ self.old.keeper }
+        ensures whole { IsTrue self.new.is_whole → IsTrue self.old.is_whole }
+        ensures published { (s after : State) → MayChange s change.now after
+            → IsPublished s (S.text self.old.sheet) → IsTrue self.new.is_whole
+            → IsPublished after (S.text self.new.sheet) }
+    {
+        match change {
+            Change::SetFile(file) => self.add(file),
+            Change::Desk(_) => {}
+        }
+    }
+
+    // Adds the line of a file's receipt.
+    fn add(&mut self, file: &NewFile<'_>)
+        ensures keeper { self.new.keeper ≡ self.old.keeper }
+        ensures whole { IsTrue self.new.is_whole → IsTrue self.old.is_whole }
+        ensures added { IsMoment file.now.moment → IsTrue self.new.is_whole → (text : List ℕ)
+            × AreLines IsReceiptLine (set_receipt file.now ∷ []) text
+            × AddsAll text (S.text self.old.sheet) (S.text self.new.sheet) }
+    {
+        if !self.is_whole {
+            return;
+        }
+        match receipt_text(self.alloc, file) {
+            Ok(text) => self.put(&text),
+            Err(_) => self.give_up(),
+        }
+    }
+}
