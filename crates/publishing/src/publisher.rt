@@ -30,7 +30,8 @@ pub struct Publisher<'k, K, S: Drop, E: Drop> {
 }
 
 impl<'k, K: Keeper, S: Sheet + Drop, E: Write + Drop> Publisher<'k, K, S, E> {
-    /// Puts the manifest of what is kept on a sheet where nothing stands. It is in memory as a whole meanwhile.
+    /// Puts the manifest of what is kept on a sheet where nothing stands. It is in memory as a whole meanwhile. Where the keeper
+    /// or the sheet fails, or memory is refused, that is told, and the manifest is not whole.
     pub fn begin(alloc: Global, keeper: &'k mut K, sheet: S, err: E) -> Publisher<'k, K, S, E>
         ensures keeper { result.keeper.ghost_name ≡ keeper.entry.ghost_name }
         ensures means { (s : State) → K.means keeper.entry.now s → IsBlank (S.text sheet)
@@ -61,13 +62,6 @@ impl<'k, K: Keeper, S: Sheet + Drop, E: Write + Drop> Publisher<'k, K, S, E> {
         ensures { result ≡ self.now.is_whole }
     {
         self.is_whole
-    }
-
-    /// What the manifest stands on.
-    pub fn into_sheet(self) -> S
-        ensures { result ≡ self.entry.sheet }
-    {
-        self.sheet
     }
 }
 
