@@ -1,8 +1,8 @@
 //! `drop desk`: one command of the desk is done.
 use crate::faults::Fault;
 use crate::opening::{OfficeWork, Purpose, require_file, work_over};
-use keeper::Keeper;
 use office::{DeskFault, Office};
+use rolls::Rolls;
 use std::alloc::Global;
 use std::io::{Error, ErrorKind, Read, Write};
 use tasks::{Desk, read_line};
@@ -18,7 +18,7 @@ struct DeskWork<W: Drop> {
 }
 
 impl<'a, W: Write + Drop> OfficeWork<'a> for DeskWork<W> {
-    fn run<K: Keeper>(self, _rt: &HostRuntime, office: &mut Office<K>) -> Result<(), Fault<'a>> {
+    fn run<K: Rolls>(self, _rt: &HostRuntime, office: &mut Office<K>) -> Result<(), Fault<'a>> {
         let DeskWork { command, mut out } = self;
         let Some(line) = command else {
             return Err(Fault::Desk(DeskFault::Malformed));

@@ -45,6 +45,15 @@ pub(crate) enum Fault<'a> {
     /// Nobody can listen at the address.
     #[error("cannot listen")]
     CannotListen,
+    /// The manifest beside the office could not be written. That is told at once, and the office goes on.
+    #[error("cannot write the manifest")]
+    CannotPublish,
+    /// The folder to export to is there, or cannot be made.
+    #[error("cannot make the folder")]
+    CannotMakeFolder,
+    /// A file of an export could not be written. So many are whole in the folder.
+    #[error("cannot write to the folder: files that are whole: {0}")]
+    CannotExport(u64),
     /// Memory was refused.
     #[error("out of memory")]
     OutOfMemory,

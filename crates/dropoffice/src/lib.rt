@@ -2,6 +2,7 @@
 #![tactic(auto)]
 
 mod desking;
+mod exporting;
 mod faults;
 mod init;
 mod linking;
@@ -10,6 +11,7 @@ mod listing;
 mod migrating;
 mod opening;
 mod program;
+mod publishing;
 mod replaying;
 mod secrets;
 mod signing;
@@ -21,4 +23,6 @@ pub use office::{
 };
 pub use program::perform;
 pub use sockets::{Limits, Outcome, Served, serve};
-pub use tasks::{Desk, Init, Link, Links, OfficeFile, Replay, Secret, Serve, Task};
+pub use tasks::{
+    Desk, Export, Init, Link, Links, Listing, OfficeFile, Replay, Secret, Serve, Task,
+};

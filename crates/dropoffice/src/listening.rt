@@ -1,34 +1,47 @@
 //! `drop serve`: an office is served at an address.
 use crate::faults::Fault;
 use crate::opening::{OfficeWork, Purpose, work_over};
+use crate::publishing::serve_published;
 use keeper::Keeper;
 use mio::Poll;
 use office::{MachineClock, Office};
+use rolls::Rolls;
 use sockets::{Limits, send_at_once, serve};
 use std::io::Write;
 use std::net::{SocketAddr, SocketAddrV4, TcpListener};
 use std::time::Duration;
 use tasks::Serve;
 
-// What the words of a service ask for.
+/// What the words of a service ask for.
 #[derive(Clone, Copy, Debug)]
-struct Service<'a> {
+pub(crate) struct Service<'a> {
     listen: &'a str,
     address: SocketAddrV4,
     limits: Limits,
 }
 
-// A service, and where it is told that it listens.
+// A service, where it is told that it listens, and where that its manifest can't be written; and the manifest's file, if there is
+// to be one.
 #[derive(Drop)]
-struct ServeWork<'w, W: Drop> {
+struct ServeWork<'w, W: Drop, E: Drop> {
     service: Service<'w>,
+    manifest: Option<&'w str>,
     out: W,
+    err: E,
 }
 
-impl<'a, W: Write + Drop> OfficeWork<'a> for ServeWork<'_, W> {
-    fn run<K: Keeper>(self, rt: &HostRuntime, office: &mut Office<K>) -> Result<(), Fault<'a>> {
-        let ServeWork { service, mut out } = self;
-        serve_at(rt, office, &service, &mut out)
+impl<'a, W: Write + Drop, E: Write + Drop> OfficeWork<'a> for ServeWork<'_, W, E> {
+    fn run<K: Rolls>(self, rt: &HostRuntime, office: &mut Office<K>) -> Result<(), Fault<'a>> {
+        let ServeWork {
+            service,
+            manifest,
+            mut out,
+            err,
+        } = self;
+        match manifest {
+            Some(file) => serve_published(rt, office, &service, file, &mut out, err),
+            None => serve_at(rt, office, &service, &mut out),
+        }
     }
 }
 
@@ -37,9 +50,15 @@ pub(crate) fn do_serve<'a>(
     rt: &HostRuntime,
     words: &Serve<'_>,
     out: &mut impl Write,
+    err: &mut impl Write,
 ) -> Result<(), Fault<'a>> {
-    let service = read_service(words)?;
-    work_over(rt, words.file, Purpose::Serve, ServeWork { service, out })
+    let work = ServeWork {
+        service: read_service(words)?,
+        manifest: words.manifest,
+        out,
+        err,
+    };
+    work_over(rt, words.file, Purpose::Serve, work)
 }
 
 // The service of the words, where each value of theirs has its form.
@@ -78,8 +97,8 @@ fn read_address(text: &str) -> Option<SocketAddrV4> {
     SocketAddrV4::parse_ascii(text.as_bytes()).ok()
 }
 
-// Listens at the address, says so on `out`, and serves the connections that come.
-fn serve_at<'a, K: Keeper>(
+/// Listens at the address, says so on `out`, and serves the connections that come.
+pub(crate) fn serve_at<'a, K: Keeper>(
     rt: &HostRuntime,
     office: &mut Office<K>,
     service: &Service<'_>,

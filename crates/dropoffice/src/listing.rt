@@ -1,15 +1,16 @@
-//! `drop links`, `drop manifest` and `drop compare`: lists in CSV.
+//! `drop links`, `drop manifest`, `drop compare` and `drop list`: lists in CSV.
 use crate::faults::Fault;
 use crate::linking::check_place;
 use crate::opening::{OfficeWork, Purpose, work_over};
 use crate::signing::{KeyWork, sign_by};
 use desk::{ListFault, compare, links_from, manifest};
-use keeper::Keeper;
 use links::LinkKey;
+use lists::{list_boxes, list_files, list_keys};
 use office::Office;
+use rolls::Rolls;
 use std::alloc::Global;
 use std::io::{BufWriter, Read, Write};
-use tasks::{Links, OfficeFile};
+use tasks::{Links, Listing, OfficeFile};
 use wire::Counted;
 
 // A list of links: what is wanted of it, and the streams.
@@ -48,7 +49,7 @@ struct ManifestWork<W: Drop> {
 }
 
 impl<'a, W: Write + Drop> OfficeWork<'a> for ManifestWork<W> {
-    fn run<K: Keeper>(self, rt: &HostRuntime, office: &mut Office<K>) -> Result<(), Fault<'a>> {
+    fn run<K: Rolls>(self, rt: &HostRuntime, office: &mut Office<K>) -> Result<(), Fault<'a>> {
         let mut writer = buffered(rt.alloc(), self.out)?;
         let written = manifest(rt.alloc(), &mut office.keeper, &mut writer);
         told(written, &mut writer)
@@ -72,7 +73,7 @@ struct CompareWork<R: Drop, W: Drop> {
 }
 
 impl<'a, R: Read + Drop, W: Write + Drop> OfficeWork<'a> for CompareWork<R, W> {
-    fn run<K: Keeper>(self, rt: &HostRuntime, office: &mut Office<K>) -> Result<(), Fault<'a>> {
+    fn run<K: Rolls>(self, rt: &HostRuntime, office: &mut Office<K>) -> Result<(), Fault<'a>> {
         let mut writer = buffered(rt.alloc(), self.out)?;
         let compared = compare(rt.alloc(), self.input, &mut office.keeper, &mut writer);
         told(compared.end, &mut writer)
@@ -89,8 +90,60 @@ pub(crate) fn do_compare<'a>(
     work_over(rt, words.file, Purpose::Look, CompareWork { input, out })
 }
 
-// A writer that hands on several rows at a time.
-fn buffered<'a, W: Write + Drop>(
+// What of an office is listed.
+#[derive(Clone, Copy, Debug, PartialEq, Eq)]
+enum Stock {
+    Keys,
+    Boxes,
+    Files,
+}
+
+impl Stock {
+    // What the word names.
+    fn named(word: &str) -> Option<Stock> {
+        match word {
+            "keys" => Some(Stock::Keys),
+            "boxes" => Some(Stock::Boxes),
+            "files" => Some(Stock::Files),
+            _ => None,
+        }
+    }
+}
+
+// A list of what an office keeps, and where it is written to.
+#[derive(Drop)]
+struct ListWork<W: Drop> {
+    stock: Stock,
+    out: W,
+}
+
+impl<'a, W: Write + Drop> OfficeWork<'a> for ListWork<W> {
+    fn run<K: Rolls>(self, rt: &HostRuntime, office: &mut Office<K>) -> Result<(), Fault<'a>> {
+        let mut writer = buffered(rt.alloc(), self.out)?;
+        let keeper = &mut office.keeper;
+        let written = match self.stock {
+            Stock::Keys => list_keys(rt.alloc(), keeper, &mut writer),
+            Stock::Boxes => list_boxes(rt.alloc(), keeper, &mut writer),
+            Stock::Files => list_files(rt.alloc(), keeper, &mut writer),
+        };
+        told(written, &mut writer)
+    }
+}
+
+/// Lists what the words name: the keys, the boxes or the files of the office.
+pub(crate) fn do_list<'a>(
+    rt: &HostRuntime,
+    words: &Listing<'_>,
+    out: impl Write + Drop,
+) -> Result<(), Fault<'a>> {
+    let Some(stock) = Stock::named(words.what) else {
+        return Err(Fault::MalformedValue("what"));
+    };
+    work_over(rt, words.file, Purpose::Look, ListWork { stock, out })
+}
+
+/// A writer that hands on several rows at a time.
+pub(crate) fn buffered<'a, W: Write + Drop>(
     alloc: Global,
     out: W,
 ) -> Result<Counted<BufWriter<W>>, Fault<'a>> {

@@ -1,7 +1,7 @@
 //! The office file of a command: its connection, the keeper over it, and what is done over its office.
 use crate::faults::Fault;
-use keeper::Keeper;
 use office::Office;
+use rolls::Rolls;
 use sqlite::{Alter, Connection, Error, ErrorCode, File, FileStore, Options, Unknown};
 use sqlite_std_file::OpenError;
 use sqlkeeper::{OpenFault, SqlKeeper};
@@ -71,7 +71,7 @@ fn unclosed(error: Error) -> Fault<'static> {
 /// each function that does is twenty times as dear as one over any keeper.
 pub(crate) trait OfficeWork<'a> {
     /// Does it.
-    fn run<K: Keeper>(self, rt: &HostRuntime, office: &mut Office<K>) -> Result<(), Fault<'a>>;
+    fn run<K: Rolls>(self, rt: &HostRuntime, office: &mut Office<K>) -> Result<(), Fault<'a>>;
 }
 
 /// What an office file is opened for.

@@ -4,9 +4,9 @@ ghost use Rattle.sigv4.specs.Credential.{IsKeyId, IsSecret};
 
 use crate::faults::Fault;
 use crate::opening::{OfficeWork, Purpose, work_over};
-use keeper::Keeper;
 use links::read_moment;
 use office::{Office, replay_in_memory, replay_over};
+use rolls::Rolls;
 use sigv4::{Moment, is_key_id, is_secret};
 use std::fs::Files;
 use std::io::Write;
@@ -57,7 +57,7 @@ struct ReplayWork<'w, 'a, W: Drop> {
 }
 
 impl<'a, W: Write + Drop> OfficeWork<'a> for ReplayWork<'_, 'a, W> {
-    fn run<K: Keeper>(self, rt: &HostRuntime, office: &mut Office<K>) -> Result<(), Fault<'a>> {
+    fn run<K: Rolls>(self, rt: &HostRuntime, office: &mut Office<K>) -> Result<(), Fault<'a>> {
         let mut writer = Counted::new(self.out);
         let served = replay_over(rt, office, self.streams, self.moment, &mut writer);
         told(served, writer.flush().is_ok())

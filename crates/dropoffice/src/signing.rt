@@ -2,9 +2,9 @@
 use crate::faults::Fault;
 use crate::opening::{OfficeWork, Purpose, work_over};
 use crate::secrets::read_secret_file;
-use keeper::Keeper;
 use links::LinkKey;
 use office::Office;
+use rolls::Rolls;
 use sigv4::is_key_id;
 use std::alloc::Global;
 
@@ -22,7 +22,7 @@ struct OfficeKey<'w, W: Drop> {
 }
 
 impl<'a, W: KeyWork<'a> + Drop> OfficeWork<'a> for OfficeKey<'_, W> {
-    fn run<K: Keeper>(self, rt: &HostRuntime, office: &mut Office<K>) -> Result<(), Fault<'a>> {
+    fn run<K: Rolls>(self, rt: &HostRuntime, office: &mut Office<K>) -> Result<(), Fault<'a>> {
         let Some(row) = office.keeper.key(self.id)? else {
             return Err(Fault::UnknownKey);
         };

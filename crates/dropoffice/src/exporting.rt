@@ -1,0 +1,182 @@
+//! `drop export`: the files of an office are written into a folder.
+use crate::faults::Fault;
+use crate::opening::{OfficeWork, Purpose, work_over};
+use exports::{ExportFault, Folder, PutFault, export};
+use office::Office;
+use rolls::Rolls;
+use std::alloc::Global;
+use std::fs;
+use std::fs::{DirBuilder, Files, OpenOptions, Permissions};
+use std::io::{BufWriter, Error, ErrorKind, Write};
+use std::os::unix::fs::{DirBuilderExt, OpenOptionsExt, PermissionsExt};
+use std::str;
+use tasks::Export;
+use wire::Counted;
+
+/// Readable and writable by its owner alone.
+const OWNERS_FILE: u32 = 0o600;
+
+/// Open to its owner alone.
+const OWNERS_FOLDER: u32 = 0o700;
+
+// What is exported, and where to.
+#[derive(Drop)]
+struct ExportWork<'w> {
+    words: &'w Export<'w>,
+}
+
+impl<'a> OfficeWork<'a> for ExportWork<'_> {
+    fn run<K: Rolls>(self, rt: &HostRuntime, office: &mut Office<K>) -> Result<(), Fault<'a>> {
+        if make_folder(rt, self.words.folder).is_err() {
+            return Err(Fault::CannotMakeFolder);
+        }
+        let mut folder = ExportFolder {
+            rt,
+            alloc: rt.alloc(),
+            root: self.words.folder,
+            made: Vec::new(rt.alloc()),
+            whole: 0,
+        };
+        match export_into(rt, &mut office.keeper, self.words, &mut folder) {
+            Ok(()) => Ok(()),
+            Err(fault) => Err(told(fault, folder.whole)),
+        }
+    }
+}
+
+/// Makes the folder that the words name, and writes the files of the office into it, or those of the box that they name.
+pub(crate) fn do_export<'a>(rt: &HostRuntime, words: &Export<'_>) -> Result<(), Fault<'a>> {
+    work_over(rt, words.file, Purpose::Look, ExportWork { words })
+}
+
+// Exports into the folder, beside whose folders the two lists lie. What is held back of them is written also where it breaks off.
+fn export_into<K: Rolls, R: Files>(
+    rt: &R,
+    keeper: &mut K,
+    words: &Export<'_>,
+    folder: &mut ExportFolder<'_, R>,
+) -> Result<(), ExportFault> {
+    let alloc = folder.alloc;
+    let mut files = list_in(rt, alloc, words.folder, "files.csv", ExportFault::Files)?;
+    let mut sums = list_in(rt, alloc, words.folder, "SHA256SUMS", ExportFault::Sums)?;
+    let in_box = words.in_box.map(|name| name.as_bytes());
+    let exported = export(alloc, keeper, in_box, folder, &mut files, &mut sums);
+    let are_flushed = (files.flush().is_ok(), sums.flush().is_ok());
+    exported?;
+    match are_flushed {
+        (true, true) => Ok(()),
+        (false, _) => Err(ExportFault::Files),
+        (true, false) => Err(ExportFault::Sums),
+    }
+}
+
+// A list in the folder, which hands on several rows at a time.
+fn list_in<R: Files>(
+    rt: &R,
+    alloc: Global,
+    folder: &str,
+    name: &str,
+    fault: ExportFault,
+) -> Result<Counted<BufWriter<R::File>>, ExportFault> {
+    let Ok(path) = format!(in alloc; "{}/{}", folder, name) else {
+        return Err(ExportFault::Memory);
+    };
+    let Ok(file) = new_file(rt, path.as_str()) else {
+        return Err(fault);
+    };
+    match BufWriter::new(alloc, file) {
+        Ok(writer) => Ok(Counted::new(writer)),
+        Err(_) => Err(ExportFault::Memory),
+    }
+}
+
+// The fault of an export that broke off when so many files were whole.
+fn told<'a>(fault: ExportFault, whole: u64) -> Fault<'a> {
+    match fault {
+        ExportFault::Keep(fault) => Fault::from(fault),
+        ExportFault::Memory | ExportFault::Put(PutFault::Memory) => Fault::OutOfMemory,
+        ExportFault::Put(_) | ExportFault::Files | ExportFault::Sums => Fault::CannotExport(whole),
+    }
+}
+
+// The folder that files are exported to.
+#[derive(Drop)]
+struct ExportFolder<'r, R> {
+    rt: &'r R,
+    alloc: Global,
+    root: &'r str,
+    // The folder in it that was made last. Those of a box come one behind another.
+    made: Vec<u8>,
+    // How many files are whole.
+    whole: u64,
+}
+
+impl<R: Files> ExportFolder<'_, R> {
+    // Makes the folder of this path, where it is not the one that was made last.
+    fn enter(&mut self, folder: &[u8], path: &str) -> Result<(), PutFault> {
+        if self.made.as_slice() == folder {
+            return Ok(());
+        }
+        make_folder(self.rt, path).map_err(put_fault)?;
+        match Vec::from_slice(self.alloc, folder) {
+            Ok(made) => {
+                self.made = made;
+                Ok(())
+            }
+            Err(_) => Err(PutFault::Memory),
+        }
+    }
+
+    // Writes a file that is not there yet.
+    fn write(&self, path: &str, bytes: &[u8]) -> Result<(), PutFault> {
+        let mut file = new_file(self.rt, path).map_err(put_fault)?;
+        file.write_all(bytes).map_err(put_fault)
+    }
+}
+
+impl<R: Files> Folder for ExportFolder<'_, R> {
+    fn put(&mut self, folder: &[u8], name: &[u8], bytes: &[u8]) -> Result<(), PutFault> {
+        let Ok(folder_text) = str::from_utf8(folder) else {
+            return Err(PutFault::Write);
+        };
+        let Ok(name) = str::from_utf8(name) else {
+            return Err(PutFault::Write);
+        };
+        let Ok(inner) = format!(in self.alloc; "{}/{}", self.root, folder_text) else {
+            return Err(PutFault::Memory);
+        };
+        let Ok(path) = format!(in self.alloc; "{}/{}", inner, name) else {
+            return Err(PutFault::Memory);
+        };
+        self.enter(folder, inner.as_str())?;
+        self.write(path.as_str(), bytes)?;
+        self.whole = self.whole.saturating_add(1);
+        Ok(())
+    }
+}
+
+// Why something was not put.
+fn put_fault(error: Error) -> PutFault {
+    match error.kind() {
+        ErrorKind::AlreadyExists => PutFault::There,
+        ErrorKind::OutOfMemory => PutFault::Memory,
+        _ => PutFault::Write,
+    }
+}
+
+// Makes a folder that is not there yet. The umask may have taken away what its owner needs.
+fn make_folder<R: Files>(rt: &R, path: &str) -> Result<(), Error> {
+    let mut how = DirBuilder::new();
+    how.mode(OWNERS_FOLDER);
+    how.create(rt, path)?;
+    fs::set_permissions(rt, path, Permissions::from_mode(OWNERS_FOLDER))
+}
+
+// Makes a file that is not there yet.
+fn new_file<R: Files>(rt: &R, path: &str) -> Result<R::File, Error> {
+    let mut how = OpenOptions::new();
+    how.write(true).create_new(true).mode(OWNERS_FILE);
+    let file = how.open(rt, path)?;
+    fs::set_permissions(rt, path, Permissions::from_mode(OWNERS_FILE))?;
+    Ok(file)
+}
