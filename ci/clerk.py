@@ -6,6 +6,7 @@ tables, the table of refusals in docs/RULES.md, and the words below, in both lan
 line is `N passed, M failed`.
 """
 
+import csv
 import datetime
 import os
 import pathlib
@@ -482,7 +483,8 @@ def sent_by(row):
 
 def test_tender(case, count):
     """A whole tender, over which the office is never stopped: the clerk's page opens a box and makes 120 links, strangers send by
-    put.html and by a program of their own, the page closes the box, and who is late is refused; then the clerk fetches all."""
+    put.html and by a program of their own, and find their receipts in the manifest that is published; the page closes the box,
+    and who is late is refused; then the clerk fetches all."""
     before = len(receipts(case))
     serves = case.office.process
     now = datetime.datetime.now(datetime.timezone.utc)
@@ -498,6 +500,10 @@ def test_tender(case, count):
     sent = [sent_by(row) for row in made["PUT"][2:-1]]
     owed = [(200, f"receipt {before + at} {len(data)} {digest(data)}\n") for at, (data, _) in enumerate(sent, 1)]
     count.add("tender: a program’s uploads", is_not([answer for _, answer in sent], owed))
+    known = [[str(before + at), "tender", name, str(len(data)), digest(data)]
+             for at, ((data, _), name) in enumerate(zip(sent, names[2:]), 1)]
+    found = until("the receipts are published", lambda: (it := published(case)[-len(known):]) and it[-1][2] == names[-2] and it)
+    count.add("tender: the receipts are published", is_not([row[:5] for row in found], known))
     for row in made["PUT"][:2]:
         found = case.put(row["page"].partition("#")[2], "mine.pdf", row["name"].encode() * 9)
         count.add("tender: put.html", is_not((found["kind"], found["facts"].get("name")), ("receipt", row["name"])))
@@ -514,6 +520,65 @@ def test_tender(case, count):
     count.add("tender: the office was never stopped", is_not((case.office.process, serves.poll()), (serves, None)))
     listed = [it.split(",", 3)[1:3] for it in receipts(case)[before:]]
     count.add("tender: the manifest", is_not(sorted(listed), sorted(["tender", name] for name in names[:-1])))
+
+
+def published(case):
+    """The rows of the manifest that is kept beside the office."""
+    with open(case.office.published[1], encoding="utf-8", newline="") as reader:
+        return list(csv.reader(reader))
+
+
+def test_end(case, count):
+    """The office ends. What was published is its manifest, which is stamped; each file is exported, and its sums are right."""
+    folder = case.drop.folder
+    case.office.kill()
+    manifest = case.drop.run("manifest", case.office.file)
+    kept = pathlib.Path(case.office.published[1])
+    count.add("end: the manifest", is_not((manifest.status, kept.read_bytes()), (0, manifest.out)))
+    exported = case.drop.run("export", case.office.file, folder / "files")
+    count.add("end: the export", is_not(exported, kit.Run(0, b"", b"")))
+    sums = kit.run(["sha256sum", "--check", "--strict", "--quiet", "SHA256SUMS"], cwd=folder / "files")
+    count.add("end: the sums", is_not(sums, kit.Run(0, b"", b"")))
+    with open(folder / "files" / "files.csv", encoding="utf-8", newline="") as reader:
+        rows = list(csv.DictReader(reader))
+    there = {row[0]: row[4] for row in published(case)[1:]}
+    count.add("end: each file has the digest of its receipt", is_not([it for it in rows if there[it["receipt"]] != it["sha256"]], []))
+    tender = [(folder / "files" / it["path"]).read_bytes() == it["name"].encode() * 9 for it in rows if it["box"] == "tender"]
+    count.add("end: the tender’s files", is_not(tender, [True] * 119))
+    for name, (status, line) in stamped(folder, kept).items():
+        owed = (0, "Verification: OK") if name == "of the manifest" else (1, "Verification: FAILED")
+        count.add(f"end: a stamp, {name}", is_not((status, line), owed))
+
+
+AUTHORITY = """[tsa]
+default_tsa = trial
+[trial]
+serial = authority.serial
+default_policy = 1.2.3.4
+digests = sha256
+signer_digest = sha256
+ess_cert_id_alg = sha256
+"""
+
+
+def stamped(folder, manifest):
+    """Has a trial authority of openssl stamp the manifest: what comes of trying the stamp with it, and with another."""
+    def openssl(*words):
+        return kit.run(["openssl", *words], cwd=folder)
+
+    (folder / "authority.cnf").write_text(AUTHORITY)
+    (folder / "authority.serial").write_text("01\n")
+    openssl("req", "-x509", "-newkey", "ec", "-pkeyopt", "ec_paramgen_curve:prime256v1", "-nodes", "-days", "30", "-subj", "/CN=A trial",
+            "-addext", "extendedKeyUsage=critical,timeStamping", "-keyout", "authority.key", "-out", "authority.pem")
+    openssl("ts", "-query", "-data", manifest, "-sha256", "-cert", "-out", "manifest.tsq")
+    openssl("ts", "-reply", "-config", "authority.cnf", "-queryfile", "manifest.tsq", "-signer", "authority.pem", "-inkey",
+            "authority.key", "-out", "manifest.tsr")
+    (folder / "other.csv").write_bytes(manifest.read_bytes().replace(b"offer 000", b"offer 900"))
+    found = {}
+    for name, data in [("of the manifest", manifest), ("of another", "other.csv")]:
+        tried = openssl("ts", "-verify", "-data", data, "-in", "manifest.tsr", "-CAfile", "authority.pem")
+        found[name] = tried.status, tried.out.decode().strip().splitlines()[-1]
+    return found
 
 
 # ---- keys alone, screen readers, a telephone
@@ -656,7 +721,7 @@ def test_own_origin(case, count):
 
 TESTS = [test_texts, test_fields_of_key, test_key, test_wrong_keys, test_box, test_fields, test_keys, test_drop, test_faults,
          test_one_link, test_odd_names, test_many_links, test_many_more, test_tender, test_keyboard, test_reader, test_looks,
-         test_insecure, test_own_origin]
+         test_insecure, test_own_origin, test_end]
 
 
 def main():
@@ -670,7 +735,7 @@ def main():
             tables.add_box(file, box)
         tables.add_key(file, "partner", b"s3cr3t")
         tables.add_key(file, "revoked", b"s3cr3t", revoked=1)
-        office = Office(drop, file)
+        office = Office(drop, file, folder / "published.csv")
         front = Front(office)
         office.start()
         try:

@@ -36,14 +36,15 @@ def asked(url, method, data=None):
 
 
 class Office:
-    """A `drop serve` that can be killed and started again at its port."""
+    """A `drop serve` that can be killed and started again at its port. With a file for it, the manifest is kept there."""
 
-    def __init__(self, drop, file):
+    def __init__(self, drop, file, manifest=None):
         self.drop, self.file, self.port, self.process = drop, file, free_port(), None
+        self.published = ["--manifest", manifest] if manifest else []
 
     def start(self):
         words = [self.drop.program, "serve", self.file, "--listen", f"127.0.0.1:{self.port}", "--connections", "100000"]
-        self.process = subprocess.Popen([*words, "--patience", "5"], stdin=subprocess.DEVNULL, stdout=subprocess.PIPE)
+        self.process = subprocess.Popen([*words, "--patience", "5", *self.published], stdin=subprocess.DEVNULL, stdout=subprocess.PIPE)
         line = self.process.stdout.readline()
         assert line == f"listening on 127.0.0.1:{self.port}\n".encode(), line
 

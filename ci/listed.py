@@ -1,4 +1,4 @@
-"""Lists that are owed, of an office file's tables: its manifest and what stands of one, by Python's `sqlite3`, `hashlib` and
+"""Lists that are owed, of an office file's tables: its manifest, what stands of one, and what is kept, by Python's `sqlite3`, `hashlib` and
 `csv`.
 """
 
@@ -10,6 +10,9 @@ import io
 import tables
 
 RECEIPT_HEAD = ["receipt", "box", "name", "length", "sha256", "moment", "key"]
+KEY_HEAD = ["key", "role", "revoked", "boxes"]
+BOX_HEAD = ["box", "opens", "closes", "days", "from", "to", "quota", "files", "mode", "rule", "used", "count"]
+FILE_HEAD = ["box", "name", "length", "sha256", "receipt", "moment", "key"]
 STATE_HEAD = ["receipt", "box", "name", "state"]
 WISH_HEAD = ["method", "box", "name", "start", "expires"]
 LINK_HEAD = [*WISH_HEAD, "link"]
@@ -64,3 +67,45 @@ def states(file, rows):
     """What is owed for the rows of a manifest, its head among them."""
     files = standing(file)
     return [STATE_HEAD, *([*row[:3], state(files, row)] for row in rows[1:])]
+
+
+# ---- what is kept
+
+
+def clock(minute):
+    return f"{minute // 60:02}{minute % 60:02}"
+
+
+def kept_keys(file):
+    """Every key, ascending by id, with the boxes that it is limited to, and never its secret."""
+    yield KEY_HEAD
+    limits = tables.rows(file, "SELECT key_id, box FROM key_box ORDER BY key_id, box")
+    for name, role, revoked in sorted(tables.rows(file, "SELECT id, role, revoked FROM keys"), key=lambda it: it[0].encode()):
+        boxes = " ".join(sorted(box for key, box in limits if key == name))
+        yield [name, ["link", "clerk"][role], ["no", "yes"][revoked], boxes]
+
+
+def kept_boxes(file):
+    columns = "name, opens, closes, days, from_minute, to_minute, quota, max_files, mode, rule_kind, rule_text, used, count"
+    yield BOX_HEAD
+    for name, opens, closes, days, since, until, quota, files, mode, kind, text, used, count in sorted(
+            tables.rows(file, f"SELECT {columns} FROM boxes"), key=lambda it: it[0].encode()):
+        rule = ["any", f"ends {text}", f"begins {text}"][kind]
+        yield [name, moment_text(opens), moment_text(closes), days, clock(since), clock(until), str(quota), str(files),
+               ["keep", "replace"][mode], rule, str(used), str(count)]
+
+
+def ascending(file):
+    """The place, the receipt and the bytes of each file that stands, by the bytes of box and name."""
+    return sorted(((*place, *held) for place, held in standing(file).items()), key=lambda it: (it[0].encode(), it[1].encode()))
+
+
+def kept_files(file):
+    given = {number: (moment_text(moment), key) for number, moment, key in tables.rows(file, "SELECT number, moment, key_id FROM receipts")}
+    yield FILE_HEAD
+    for in_box, name, number, data in ascending(file):
+        yield [in_box, name, str(len(data)), hashlib.sha256(data).hexdigest(), str(number), *given[number]]
+
+
+# The lists of what an office keeps, by the word that asks for each.
+KEPT = {"keys": kept_keys, "boxes": kept_boxes, "files": kept_files}

@@ -32,7 +32,7 @@ STREAM = "data/row1.http"
 DROP = kit.ROOT / "crates" / "drop"
 TRY_AGAIN = kit.Run(0, answer(40), b"")
 OUT_OF_MEMORY = fault("out of memory")
-HELPED = ["init", "desk", "link", "links", "manifest", "compare", "replay", "serve", "migrate"]
+HELPED = ["init", "desk", "link", "links", "manifest", "compare", "list", "export", "replay", "serve", "migrate"]
 # What a program says whose table cannot be read; nothing was answered then.
 UNREAD = kit.Run(1, b"", b"Error: Kind(OutOfMemory)\n")
 LEAST_REFUSALS = 2000  # of all sessions
@@ -391,7 +391,8 @@ def broken_off(right):
 
 
 def test_lists(program, folder, count):
-    """`manifest`, `compare` and `links` change no file, and where memory is refused they write a beginning of the list."""
+    """`manifest`, `compare`, `list`, `export` and `links` change no office file, and where memory is refused they write a beginning
+    of the list."""
     file, whole = folder / "lists", folder / "whole-lists"
     made = kit.run([program, "init", whole, "--clerk", ID, "--secret", SECRET.decode()])
     if made != kit.Run(0, b"", b""):
@@ -404,6 +405,7 @@ def test_lists(program, folder, count):
     def copied():
         for it in folder.glob("lists*"):
             it.unlink()
+        shutil.rmtree(folder / "exported", ignore_errors=True)
         shutil.copy(whole, file)
         before = tables.dump(file)
         return lambda _: None if tables.dump(file) == before else "the tables were changed"
@@ -415,9 +417,12 @@ def test_lists(program, folder, count):
     for words, given, owed in [
         (["manifest", file], [], receipts), (["compare", file], receipts, listed.states(whole, receipts)),
         (["links", file, *(f"--{name}={value}" for name, value in place.items())], [listed.WISH_HEAD, *wishes], [listed.LINK_HEAD, *links]),
+        *((["list", file, what], [], owed(whole)) for what, owed in listed.KEPT.items()),
+        (["export", file, folder / "exported"], [], []),
     ]:
         right = kit.Run(0, listed.written(owed), b"")
-        each_office(program, f"drop {words[0]}", words, copied, right, broken_off(right), count, given=listed.written(given))
+        named = " ".join(it for it in words if isinstance(it, str) and not it.startswith("--"))
+        each_office(program, f"drop {named}", words, copied, right, broken_off(right), count, given=listed.written(given))
 
 
 def rows():

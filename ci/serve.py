@@ -357,6 +357,51 @@ def test_closed(drop, count):
     count.add("the receipt", difference(tables.rows(file, "SELECT number, box, name, length FROM receipts"), [(1, "in", "a", 3)]))
 
 
+# ---- a manifest beside the office
+
+
+def published(drop, file, name, count, uploads=3):
+    """Serves so many uploads with this file for the manifest, which is read behind each answer: the end, and what stood there."""
+    server = Server(drop, file, uploads)
+    puts = [server.message("PUT", f"in/{name}-{number}", b"x" * number) for number in range(uploads)]
+    server.words += ["--manifest", drop.path(name)]
+    stood = []
+    with server:
+        for number, put in enumerate(puts):
+            answer = server.ask(put)
+            count.add(f"{name}: PUT {number}", None if answer.startswith(b"HTTP/1.1 200 OK\r\n") else f"{answer}")
+            stood.append(drop.path(name).read_bytes() if drop.path(name).is_file() else None)
+        return server.end(), server.owed_end(False), stood
+
+
+def test_manifest(drop, count):
+    """The manifest has each receipt once its upload was answered. A file or a link that is there is replaced."""
+    file = open_office(drop, "published")
+    other = drop.path("other")
+    other.write_bytes(b"as it was")
+    drop.path("link.csv").symlink_to(other)
+    drop.path("there.csv").write_bytes(b"older")
+    for name in ["new.csv", "there.csv", "link.csv"]:
+        found, owed, stood = published(drop, file, name, count)
+        manifest = drop.run("manifest", file).out
+        count.add(f"{name}: the end", difference(found, owed))
+        lines = manifest.splitlines(True)
+        count.add(f"{name}: behind each answer", difference(stood, [b"".join(lines[:number]) for number in [-2, -1, None]]))
+        count.add(f"{name}: nothing beside it", "there is a part" if drop.path(f"{name}.part").exists() else None)
+    count.add("what a link led to", difference(other.read_bytes(), b"as it was"))
+
+
+def test_lost_manifest(drop, count):
+    """Where the manifest can't be written the office goes on. It is told once, and by the status."""
+    file = open_office(drop, "lost")
+    drop.path("folder.csv").mkdir()
+    drop.path("full.csv.part").symlink_to("/dev/full")
+    for name in ["none/here.csv", "folder.csv", "full.csv"]:
+        found, owed, _ = published(drop, file, name, count, uploads=2)
+        count.add(f"{name}: the end", difference(found, kit.Run(1, owed.out, fault("cannot write the manifest").err)))
+    count.add("the folder stays", None if not list(drop.path("folder.csv").iterdir()) else "something lies in it")
+
+
 def test_settings(drop, count):
     """Each connection's socket is set to send at once (TCP_NODELAY) where its answer is sent, by what ci/sockets.c hears."""
     library = kit.library(drop.folder, "ci/sockets.c")
@@ -375,7 +420,7 @@ def test_settings(drop, count):
 
 
 TESTS = [test_words, test_faults, test_curl, test_boto3, test_bytes, test_nonsense, test_broken, test_patience,
-         test_killed, test_closed, test_settings]
+         test_killed, test_closed, test_manifest, test_lost_manifest, test_settings]
 
 
 if __name__ == "__main__":

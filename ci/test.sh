@@ -102,6 +102,12 @@ lists() {
     "$python" -B ci/lists.py
 }
 
+exports() {
+    local python
+    python=$(with_boto3) || return 1
+    "$python" -B ci/exports.py
+}
+
 kills() {
     local python
     with_command sqlite3 || return 1
@@ -127,7 +133,7 @@ page() {
 }
 
 clerk() {
-    with_browser || return 1
+    with_command openssl && with_browser || return 1
     python3 -B ci/clerk.py --shots "$work/shots"
 }
 
@@ -166,6 +172,7 @@ count serve serve
 count desk desk
 count respelled python3 -B ci/respelled.py
 count lists lists
+count exports exports
 count kills kills
 count crowd crowd
 count stops python3 -B ci/stops.py

@@ -1,5 +1,7 @@
 #!/usr/bin/env python3
-"""peer.py manifest|compare OFFICE: what `drop manifest` and `drop compare` do, by Python's `sqlite3`, `csv` and `hashlib`.
+"""peer.py manifest|compare|list OFFICE: what `drop manifest`, `drop compare` and `drop list OFFICE files` do, by Python's
+`sqlite3`, `csv` and `hashlib`.
+peer.py export OFFICE DIR: what `drop export` does, by the same.
 peer.py links OFFICE ID HOST REGION: what `drop links` does, by `sqlite3`, `csv` and botocore's own signer.
 
 A list is read from standard input, and one is written to standard output. README.md beside this says more.
@@ -8,6 +10,7 @@ A list is read from standard input, and one is written to standard output. READM
 import csv
 import datetime
 import hashlib
+import os
 import pathlib
 import re
 import sqlite3
@@ -16,9 +19,12 @@ import time
 import urllib.parse
 
 MANIFEST_HEAD = ["receipt", "box", "name", "length", "sha256", "moment", "key"]
+FILES_HEAD = ["box", "name", "length", "sha256", "receipt", "moment", "key"]
 FINDINGS_HEAD = ["receipt", "box", "name", "state"]
 LINKS_HEAD = ["method", "box", "name", "start", "expires"]
 RECEIPTS = "SELECT number, box, name, length, digest, moment, key_id FROM receipts ORDER BY number"
+FILES = """SELECT files.box, files.name, length, digest, number, moment, key_id
+    FROM files JOIN receipts ON number = receipt ORDER BY files.box, files.name"""
 FILE = """SELECT files.receipt, pieces.bytes FROM files LEFT JOIN pieces USING (box, name)
     WHERE files.box = ? AND files.name = ? ORDER BY pieces.part"""
 NUMBER = re.compile(r"[1-9][0-9]{0,9}")
@@ -34,7 +40,7 @@ MOMENT = "%Y%m%dT%H%M%SZ"
 def manifest(db, _, out):
     out.writerow(MANIFEST_HEAD)
     for number, box, name, length, digest, moment, key in db.execute(RECEIPTS):
-        out.writerow([number, box, name, length, digest.hex(), time.strftime(MOMENT, time.gmtime(moment)), key])
+        out.writerow([number, box, name, length, digest.hex(), moment_text(moment), key])
 
 
 def state(db, number, box, name, length, digest):
@@ -54,6 +60,40 @@ def compare(db, given, out):
         if not (NUMBER.fullmatch(number) and LENGTH.fullmatch(length) and DIGEST.fullmatch(digest)):
             raise SystemExit(f"receipt {number} is malformed")
         out.writerow([number, box, name, state(db, number, box, name, length, digest)])
+
+
+def moment_text(moment):
+    return time.strftime(MOMENT, time.gmtime(moment))
+
+
+def list_files(db, _, out):
+    out.writerow(FILES_HEAD)
+    for box, name, length, digest, number, moment, key in db.execute(FILES):
+        out.writerow([box, name, length, digest.hex(), number, moment_text(moment), key])
+
+
+def part_of(name):
+    """What is left of a name in that of an exported file."""
+    part = name.rpartition("/")[2].encode()[:200].decode(errors="ignore")
+    part = re.sub(r"^\.+", lambda dots: "_" * len(dots[0]), re.sub(r'[\x00-\x1f\x7f/\\:*?"<>|]', "_", part))
+    return re.sub(r"[. ]$", "_", part) or "_"
+
+
+def export(db, _, out, folder):
+    folder = pathlib.Path(folder)
+    folder.mkdir(mode=0o700)
+    with open(folder / "files.csv", "w", encoding="utf-8", newline="") as table, open(folder / "SHA256SUMS", "wb") as sums:
+        rows = csv.writer(table, lineterminator="\n")
+        rows.writerow(["path", "box", "name", "receipt", "length", "sha256", "moment", "key"])
+        for box, name, _, _, number, moment, key in db.execute(FILES):
+            data = b"".join(piece or b"" for _, piece in db.execute(FILE, (box, name)))
+            path = f"{box}/{number}-{part_of(name)}"
+            (folder / box).mkdir(mode=0o700, exist_ok=True)
+            with open(os.open(folder / path, os.O_WRONLY | os.O_CREAT | os.O_EXCL, 0o600), "wb") as file:
+                file.write(data)
+            digest = hashlib.sha256(data).hexdigest()
+            rows.writerow([path, box, name, number, len(data), digest, moment_text(moment), key])
+            sums.write(f"{digest}  {path}\n".encode())
 
 
 def is_wish(method, box, name, expires):
@@ -94,7 +134,7 @@ def main():
     reader = open(0, encoding="utf-8", newline="")
     with open(1, "w", encoding="utf-8", newline="") as writer:
         given, out = csv.reader(reader, strict=True), csv.writer(writer, lineterminator="\n")
-        {"manifest": manifest, "compare": compare, "links": links}[task](db, given, out, *more)
+        {"manifest": manifest, "compare": compare, "list": list_files, "export": export, "links": links}[task](db, given, out, *more)
     db.close()
 
 

@@ -1,6 +1,6 @@
 #!/usr/bin/env python3
-"""What lists cost: `drop manifest`, `drop compare` and `drop links`, and beside them, in the same rounds, a peer in Python
-(peer.py) that does the same from the same office file. Prints tables in Markdown. README.md beside this says more.
+"""What lists cost: `drop manifest`, `drop compare`, `drop list`, `drop export` and `drop links`, and beside them, in the same
+rounds, a peer in Python (peer.py) that does the same from the same office file. Prints tables in Markdown. README.md beside this says more.
 """
 
 import argparse
@@ -12,6 +12,7 @@ import importlib.util
 import itertools
 import os
 import pathlib
+import shutil
 import statistics
 import subprocess
 import sys
@@ -136,13 +137,13 @@ class Step:
     file: pathlib.Path
     given: pathlib.Path
 
-    def words(self, program):
-        more = ["--key", ID, "--host", HOST, "--region", REGION] if self.task == "links" else []
-        return [program, self.task, self.file, *more]
+    def words(self, program, folder):
+        more = {"links": ["--key", ID, "--host", HOST, "--region", REGION], "list": ["files"], "export": [folder]}
+        return [program, self.task, self.file, *more.get(self.task, [])]
 
-    def peer_words(self):
-        more = [ID, HOST, REGION] if self.task == "links" else []
-        return [sys.executable, "-B", HERE / "peer.py", self.task, self.file, *more]
+    def peer_words(self, folder):
+        more = {"links": [ID, HOST, REGION], "export": [folder]}
+        return [sys.executable, "-B", HERE / "peer.py", self.task, self.file, *more.get(self.task, [])]
 
 
 def rows_of(file):
@@ -168,6 +169,13 @@ def check(step, ours, theirs):
         raise Wrong(f"{step.task}: {count} rows and not {step.rows}, or others than are owed")
 
 
+def take_exported(folder, out):
+    """The rows of an export, whose sums are right; then its folder goes."""
+    subprocess.run(["sha256sum", "--check", "--quiet", "--strict", "SHA256SUMS"], cwd=folder, check=True)
+    shutil.copyfile(folder / "files.csv", out)
+    shutil.rmtree(folder)
+
+
 @dataclasses.dataclass(frozen=True)
 class Bench:
     program: pathlib.Path
@@ -180,8 +188,11 @@ class Bench:
         ours, theirs = self.folder / "ours.csv", self.folder / "theirs.csv"
         pair = {}
         for is_peer in [not is_first, is_first]:
-            words = step.peer_words() if is_peer else step.words(self.program)
-            pair[is_peer] = timed(words, step.given, theirs if is_peer else ours)
+            exported, out = self.folder / ("theirs" if is_peer else "ours"), theirs if is_peer else ours
+            words = step.peer_words(exported) if is_peer else step.words(self.program, exported)
+            pair[is_peer] = timed(words, step.given, out)
+            if step.task == "export":
+                take_exported(exported, out)
         check(step, ours, theirs)
         self.runs.setdefault(step, []).append((pair[False], pair[True]))
 
@@ -192,12 +203,14 @@ class Bench:
 
 
 def steps_of(file, receipts, folder):
-    """The opening of an office, its manifest, and a comparison with it."""
+    """The opening of an office, its manifest, and a comparison with it; the list of its files, and the files."""
     head = write_list(folder / "head.csv", MANIFEST_HEAD, [])
     told = write_list(folder / f"told-{receipts}.csv", MANIFEST_HEAD, map(told_row, range(1, receipts + 1)))
     nothing = pathlib.Path(os.devnull)
+    standing = sum(stands(number, receipts) for number in range(1, receipts + 1))
     return [Step("compare", receipts, 0, file, head), Step("manifest", receipts, receipts, file, nothing),
-            Step("compare", receipts, receipts, file, told)]
+            Step("compare", receipts, receipts, file, told), Step("list", receipts, standing, file, nothing),
+            Step("export", receipts, standing, file, nothing)]
 
 
 def link_steps(file, rows, folder):

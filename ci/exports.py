@@ -1,0 +1,241 @@
+"""Runs `drop list` and `drop export` of the proved program over an office of two thousand receipts, limited and revoked keys,
+and names of every kind.
+
+What is owed comes from the tables as `sqlite3` reads them and from Python's `csv` and `hashlib`; that the sums are right also
+from `sha256sum --check`. The last line is `N passed, M failed`.
+"""
+
+import functools
+import hashlib
+import pathlib
+import random
+import resource
+import stat
+import tempfile
+
+import kit
+import tables
+from expected import SECRET
+from listed import BOX_HEAD, FILE_HEAD, KEY_HEAD, KEPT, ascending, kept_files
+from lists import BOXES, KEYS, change, filled, few, help_lines, unlike
+from office import CANNOT_OPEN, VERSION, Drop, difference, malformed, not_offices
+from replays import ID, closed_pipe, fault, full_disk
+
+PATH_HEAD = ["path", "box", "name", "receipt", "length", "sha256", "moment", "key"]
+WHATS = ["keys", "boxes", "files"]
+CANNOT_WRITE = fault("cannot write")
+# What some file system does not take in a name.
+NOT_TAKEN = set('/\\:*?"<>|') | {chr(code) for code in [*range(32), 127]}
+NAMES = ["..", ".", "a/..", "a/../b", "../../etc/passwd", "/etc/passwd", ".hidden", "...x", "x.", "x. ", "x .", " ", "  ", "a/b/c",
+         "a//", "/", "aux", "CON", "a:b", "a\\b", "*?", '"<>|', "\u00fc", "u\u0308", "\U0001f4c4.pdf", "n" * 1024, "\u00e9" * 512,
+         "x" * 199 + "\u00e9", "x" * 198 + "\u00e9", "-rf", "~", "$HOME", "`id`", "a b", "a,b", "files.csv", "SHA256SUMS", "a\u2028b"]
+
+
+# ---- what is owed
+
+
+def part_of(name):
+    """What is left of a name: the characters of its last part that every file system takes, at most 200 bytes of them."""
+    last = name.rsplit("/", 1)[-1]
+    front = len(last) - len(last.lstrip("."))
+    text = "".join("_" if letter in NOT_TAKEN or at < front else letter for at, letter in enumerate(last))
+    text = text.encode()[:200].decode(errors="ignore")
+    if text[-1:] in (".", " "):
+        text = f"{text[:-1]}_"
+    return text or "_"
+
+
+def path_of(in_box, name, number):
+    return f"{part_of(in_box)}/{number}-{part_of(name)}"
+
+
+def owed_paths(file, only=None):
+    """The rows of files.csv, and the bytes under each path."""
+    rows, data_of = [PATH_HEAD], {}
+    for (in_box, name, length, digest, number, *rest), (*_, data) in zip(list(kept_files(file))[1:], ascending(file)):
+        if only in (None, in_box):
+            path = path_of(in_box, name, number)
+            rows.append([path, in_box, name, number, length, digest, *rest])
+            data_of[path] = data
+    return rows, data_of
+
+
+# ---- lists
+
+
+def limit_keys(file):
+    """Two keys that are limited, one of them to every box."""
+    for key, boxes in [("k2", BOXES[:1]), ("-_" * 32, BOXES)]:
+        for in_box in boxes:
+            tables.limit_key(file, key, in_box)
+
+
+def listed(drop, file, what, **how):
+    return drop.run("list", file, what, **how)
+
+
+def test_lists(drop, count):
+    """Each list as the tables have it: of an office that begins, of one of every kind of box, of many files, and behind changes."""
+    empty, whole, many = drop.office("empty"), drop.filled("whole"), filled(drop, "many")
+    limit_keys(many)
+    for file in [empty, whole, many]:
+        for what in WHATS:
+            count.add(f"{what} of {file.name}", unlike(listed(drop, file, what), list(KEPT[what](file))))
+    count.add("changes", change(drop, many, random.Random(7)))
+    before = tables.dump(many)
+    for what in WHATS:
+        count.add(f"{what} behind changes", unlike(listed(drop, many, what), list(KEPT[what](many))))
+    for secret in [SECRET, *KEYS.values()]:
+        told = [what for what in WHATS if secret in listed(drop, many, what).out]
+        count.add("no list tells a secret", f"it stands in {told}" if told else None)
+    count.add("the office stays", None if tables.dump(many) == before else "it was changed")
+
+
+def test_list_faults(drop, count):
+    """What is listed comes before the file; a list that cannot be written."""
+    gone, file = drop.path("gone"), few(drop, "faults")
+    for what in ["", "key", "Keys", "secrets", "keys boxes"]:
+        count.add(f"list {what!r}", difference(listed(drop, gone, what), malformed("what")))
+    for what in WHATS:
+        count.add(f"list {what}, no file", difference(listed(drop, gone, what), CANNOT_OPEN))
+        for failing in [full_disk, closed_pipe]:
+            with failing() as out:
+                count.add(f"{what} to a {failing.__name__}", difference(listed(drop, file, what, out=out), CANNOT_WRITE))
+    version = few(drop, "version")
+    tables.run(version, ["UPDATE office SET version = 7"])
+    for other, owed in [*not_offices(drop), (version, VERSION)]:
+        count.add(f"files of {other.name}", difference(listed(drop, other, "files"), owed))
+        count.add(f"{other.name} exported", difference(exported(drop, other, "none"), owed))
+        count.add("no folder is made", "there is one" if drop.path("none").exists() else None)
+    with tables.opened(file) as db:
+        db.execute("BEGIN EXCLUSIVE")
+        count.add("a file that is held", difference(listed(drop, file, "boxes"), CANNOT_OPEN))
+        count.add("a file that is held, exported", difference(exported(drop, file, "none"), CANNOT_OPEN))
+
+
+# ---- exports
+
+
+def exported(drop, file, folder, *more, **how):
+    return drop.run("export", file, folder, *more, **how)
+
+
+def files_below(folder):
+    return {str(it.relative_to(folder)): it.read_bytes() for it in sorted(folder.rglob("*")) if it.is_file()}
+
+
+def wrong_modes(folder):
+    """What others may read or write, or is neither a folder nor a file."""
+    for it in [folder, *folder.rglob("*")]:
+        mode = it.lstat().st_mode
+        owed = 0o700 if stat.S_ISDIR(mode) else 0o600
+        if stat.S_IMODE(mode) != owed or not (stat.S_ISDIR(mode) or stat.S_ISREG(mode)):
+            return f"{it} has {mode:o}"
+    return None
+
+
+def unlike_folder(folder, file, only=None):
+    """Why the folder does not hold these files, their lists and nothing else."""
+    rows, data_of = owed_paths(file, only)
+    found = files_below(folder)
+    table, sums = found.pop("files.csv", b""), found.pop("SHA256SUMS", b"")
+    if found != data_of:
+        return f"{sorted(found.keys() ^ data_of.keys())[:4]}, or other bytes"
+    owed = "".join(f"{row[5]}  {row[0]}\n" for row in rows[1:]).encode()
+    checked = kit.run(["sha256sum", "--check", "--strict", "--quiet", "SHA256SUMS"], cwd=folder) if owed else None
+    return (unlike(kit.Run(0, table, b""), rows) or (None if sums == owed else "other sums")
+            or (f"sha256sum: {checked}" if checked and checked.status else None) or wrong_modes(folder))
+
+
+def test_exports(drop, count):
+    """Offices of every kind, whole and box by box."""
+    empty, whole, many = drop.office("none-yet"), drop.filled("every"), filled(drop, "thousands")
+    count.add("changes", change(drop, many, random.Random(9)))
+    odd = few(drop, "odd")
+    for in_box in [".", "..", "...a", "a.", "a"]:
+        tables.add_box(odd, tables.Box(in_box))
+        tables.add_file(odd, in_box, "same", in_box.encode(), ID)
+    for name in NAMES:
+        tables.add_file(odd, "in", name, name.encode() * 3, ID)
+    for file in [empty, whole, many, odd]:
+        before = tables.dump(file)
+        folder = drop.path(f"{file.name}-out")
+        count.add(f"{file.name} exported", difference(exported(drop, file, folder), kit.Run(0, b"", b"")))
+        count.add(f"what was exported of {file.name}", unlike_folder(folder, file))
+        count.add(f"{file.name} stays", None if tables.dump(file) == before else "it was changed")
+    for in_box in [*BOXES, "no-such-box"]:
+        folder = drop.path(f"only-{in_box}")
+        count.add(f"box {in_box} exported", difference(exported(drop, many, folder, "--box", in_box), kit.Run(0, b"", b"")))
+        count.add(f"what was exported of box {in_box}", unlike_folder(folder, many, in_box))
+
+
+def test_names(drop, count):
+    """Each name by itself: one component below its box, which no other file has."""
+    file, folder = few(drop, "names"), drop.path("names-out")
+    for name in NAMES:
+        tables.add_file(file, BOXES[1], name, b"x", ID)
+    exported(drop, file, folder)
+    below = [it.name for it in (folder / BOXES[1]).iterdir()]
+    for name, number in tables.rows(file, "SELECT name, receipt FROM files WHERE box = ?", BOXES[1]):
+        owed = f"{number}-{part_of(name)}"
+        taken = not set(owed) & NOT_TAKEN and len(owed.encode()) <= 255 and owed[-1] not in ". "
+        count.add(f"name {name[:40]!r}", None if below.count(owed) == 1 and taken else f"{owed} is not there")
+
+
+def test_export_faults(drop, count):
+    """A folder that is there, or cannot be made; a disk that fills."""
+    file = few(drop, "export-faults")
+    tables.add_file(file, "in", "large", b"x" * 3_000_000, ID)
+    there, link, plain = drop.path("there"), drop.path("link"), drop.path("plain")
+    there.mkdir()
+    link.symlink_to(drop.path("nowhere"))
+    plain.write_bytes(b"as it was")
+    for folder in [there, link, plain, drop.path("no/such/folder"), "", "x" * 300]:
+        count.add(f"a folder {str(folder)[-20:]!r}", difference(exported(drop, file, folder), fault("cannot make the folder")))
+    count.add("they stay", None if plain.read_bytes() == b"as it was" and not list(there.iterdir()) else "they were changed")
+    small = drop.path("small")
+    found = exported(drop, file, small, preexec_fn=functools.partial(resource.setrlimit, resource.RLIMIT_FSIZE, (1_000_000, 1_000_000)))
+    whole = [path for path, data in owed_paths(file)[1].items() if len(data) < 1_000_000 and (small / path).read_bytes() == data]
+    count.add("a file that is too large for the disk", difference(found, full_fault(len(whole))))
+
+
+def full_fault(whole):
+    """The line that tells how many files are whole in the folder."""
+    return fault(f"cannot write to the folder: files that are whole: {whole}")
+
+
+# ---- words
+
+
+def test_words(drop, count):
+    """The version, help, and words that name no task."""
+    found = drop.run("--version")
+    count.add("the version", None if found.status == 0 and found.out.startswith(b"drop ") and not found.err else f"{found}")
+    count.add("-V", difference(drop.run("-V"), found))
+    missing = "error: the following required arguments were not provided:"
+    for words in [["list"], ["list", "office"], ["export"], ["export", "office"]]:
+        ran = drop.run(*words)
+        well = ran.status == 2 and not ran.out and ran.err.decode().splitlines()[0] == missing
+        count.add(f"drop {words}", None if well else f"{ran}")
+    for command in ["list", "export"]:
+        owed = kit.Run(0, (kit.ROOT / "ci" / f"{command}.help").read_bytes(), b"")
+        for words in [[command, "--help"], ["help", command]]:
+            count.add(f"drop {words}", difference(drop.run(*words), owed))
+    for head in [KEY_HEAD, BOX_HEAD, FILE_HEAD]:
+        count.add(f"the head {head[0]}", None if ",".join(head) in help_lines("list") else "it is not shown")
+    count.add("the head of files.csv", None if ",".join(PATH_HEAD) in help_lines("export") else "it is not shown")
+
+
+def main():
+    count = kit.Count()
+    with tempfile.TemporaryDirectory() as folder:
+        drop = Drop(kit.built("drop"), pathlib.Path(folder))
+        for test in [test_lists, test_list_faults, test_exports, test_names, test_export_faults, test_words]:
+            place = pathlib.Path(folder) / test.__name__
+            place.mkdir()
+            test(Drop(drop.program, place), count)
+    count.end()
+
+
+if __name__ == "__main__":
+    main()
