@@ -1,2 +1,13 @@
 //! Lists of what an office keeps, in CSV: its keys, its boxes and its files.
 #![tactic(auto)]
+
+mod box_list;
+mod file_list;
+mod key_list;
+mod places;
+mod words;
+
+pub use box_list::list_boxes;
+pub use file_list::list_files;
+pub use key_list::list_keys;
+pub use places::{FilePlace, next_file};

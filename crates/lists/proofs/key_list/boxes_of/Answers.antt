@@ -1,0 +1,31 @@
+use Rattle.std.proofs.Common.{◌∙◌, List, ℕ, map, ap, subst}
+use Rattle.desk.specs.Asking.{stays_joined, stays_ok, stays_unasked}
+use Rattle.desk.proofs.ReceiptLines.{map_push}
+use Rattle.lists.specs.Keys.{IsLast}
+use Rattle.lists.proofs.LimitedBoxes.{told_all, told_first, told_next}
+use Rattle.lists.proofs.key_list.boxes_of.Goals as goal
+
+pub boxes-init : goal.boxes-init
+boxes-init g c = record {
+  stays = stays_unasked _;
+  told = λ s (means, sound, honest) last is. told_first s c.args.id.now last _ sound (ap (map (λ b. b.items)) c.new-boxes.ensures.items) is;
+}
+
+pub returns-in-Ok-None-clause-value : goal.returns-in-Ok-None-clause-value
+returns-in-Ok-None-clause-value g c = λ s (means, sound, honest).
+    let boxes = map (λ b. b.items) c.boxes.boxes.items in
+    let last = subst (λ ts. IsLast (map (λ b. b.items) ts) c.last_of.result.now) c.deref.ensures.value c.last_of.ensures in
+    let told = c.boxes.invariant.told s (means, sound, c.limit_after.ensures.rest.honest honest) c.last_of.result.now last in
+    told_all s c.args.id.now c.last_of.result.now boxes told (c.in-Ok-None.ensures.value s (c.boxes.invariant.stays.same s means) sound honest)
+
+pub boxes-preserved : goal.boxes-preserved
+boxes-preserved g c = record {
+  stays = stays_joined _ _ _ _ c.boxes.invariant.stays (stays_ok _ _ _ c.in-Ok-Some.ensures.rest);
+  told = λ s (means, sound, honest) last is.
+      let boxes = map (λ b. b.items) c.boxes.boxes.items in
+      let before = subst (λ ts. IsLast (map (λ b. b.items) ts) c.last_of.result.now) c.deref.ensures.value c.last_of.ensures in
+      let told = c.boxes.invariant.told s (means, sound, c.limit_after.ensures.rest.honest honest) c.last_of.result.now before in
+      let next = c.in-Ok-Some.ensures.value s (c.boxes.invariant.stays.same s means) sound honest in
+      told_next s c.args.id.now c.last_of.result.now c.in-Ok-Some.next.items last boxes _ told next
+      (ap (map (λ b. b.items)) c.in-Ok-push.ensures.items ∙ map_push (λ b. b.items) c.boxes.boxes.items c.in-Ok-Some.next) is;
+}

@@ -1,0 +1,37 @@
+use Rattle.std.proofs.Common.{[], Some, None, subst}
+use Rattle.sigtext.specs.Bytes.{bytes_cmp}
+use Rattle.rolls.specs.Next.{IsBox, IsFileIn, IsNext}
+use Rattle.desk.specs.Asking.{stays_joined, stays_ok}
+use Rattle.lists.proofs.NextFiles.{past_ends, past_found, past_moves}
+use Rattle.lists.proofs.places.file_past.Goals as goal
+
+pub returns-in-Ok-None-clause-value : goal.returns-in-Ok-None-clause-value
+returns-in-Ok-None-clause-value g c = λ s (means, sound, honest).
+    let past = c.boxes.invariant.past s (means, sound, c.box_after.ensures.rest.honest honest) in
+    let next = c.in-Ok-None.ensures.value s (c.boxes.invariant.stays.same s means) sound honest in
+    past_ends s c.args.in_box.now c.boxes.after.items sound past (subst (λ t. IsNext bytes_cmp (IsBox s) t None) c.deref.ensures.value next)
+
+pub returns-in-Ok-Some-file_after-clause-value : goal.returns-in-Ok-Some-file_after-clause-value
+returns-in-Ok-Some-file_after-clause-value g c = λ s (means, sound, honest).
+    let asked = c.file_after.ensures.rest.honest honest in
+    let past = c.boxes.invariant.past s (means, sound, c.box_after.ensures.rest.honest asked) in
+    let known = c.boxes.invariant.stays.same s means in
+    let next = c.in-Ok-Some.ensures.value s known sound asked in
+    let file = c.in-Ok-Some-file_after.ensures.value s (c.box_after.ensures.rest.same s known) sound honest in
+    past_found s c.args.in_box.now c.boxes.after.items c.in-Ok-Some.next.items c.in-Ok-Some-file_after.name.items sound past
+    (subst (λ t. IsNext bytes_cmp (IsBox s) t (Some c.in-Ok-Some.next.items)) c.deref.ensures.value next)
+    (subst (λ t. IsNext bytes_cmp (IsFileIn s t) [] (Some c.in-Ok-Some-file_after.name.items)) c.deref-in-boxes.ensures.value file)
+
+pub boxes-preserved : goal.boxes-preserved
+boxes-preserved g c = record {
+  stays = stays_joined _ _ _ _ (stays_joined _ _ _ _ c.boxes.invariant.stays (stays_ok _ _ _ c.in-Ok-Some.ensures.rest)) (stays_ok _ _ _ c.in-Ok-None-file_after.ensures.rest);
+  past = λ s (means, sound, honest).
+      let asked = c.file_after.ensures.rest.honest honest in
+      let past = c.boxes.invariant.past s (means, sound, c.box_after.ensures.rest.honest asked) in
+      let known = c.boxes.invariant.stays.same s means in
+      let next = c.in-Ok-Some.ensures.value s known sound asked in
+      let none = c.in-Ok-None-file_after.ensures.value s (c.box_after.ensures.rest.same s known) sound honest in
+      past_moves s c.args.in_box.now c.boxes.after.items c.in-Ok-Some.next.items sound past
+      (subst (λ t. IsNext bytes_cmp (IsBox s) t (Some c.in-Ok-Some.next.items)) c.deref.ensures.value next)
+      (subst (λ t. IsNext bytes_cmp (IsFileIn s t) [] None) c.deref-in-boxes.ensures.value none);
+}

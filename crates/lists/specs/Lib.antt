@@ -1,0 +1,5 @@
+pub mod Written
+pub mod Places
+pub mod Keys
+pub mod Boxes
+pub mod Files
