@@ -13,11 +13,10 @@ use Rattle.sigtext.specs.Bytes.{bytes_cmp}
 use Rattle.boxes.specs.Limits.{IsLimitedTo}
 use Rattle.boxes.specs.Sound.{IsSound}
 use Rattle.boxes.specs.State.{State}
-use Rattle.boxes.proofs.FileBoxes.{there_is}
 use Rattle.boxes.proofs.Lookups.{bytes_same, bytes_total}
 use Rattle.rolls.specs.Next.{IsLimit, IsNext}
 use Rattle.lists.specs.Keys.{AreLimits, IsLast}
-use Rattle.lists.proofs.NextFiles.{empty_first}
+use Rattle.lists.proofs.NextFiles.{box_behind}
 use Rattle.lists.proofs.Orders.{not_itself, turned}
 
 module _ {K : Type 0} (R : K → K → Ordering) where
@@ -110,8 +109,7 @@ last_of_more told k last (inr (front, is)) = ends_alike told front k last is
 
 pub limit_behind : (s : State) (id box : List ℕ) → IsSound s → IsLimit s id box → bytes_cmp [] box ≡ Less
 limit_behind s id box sound limit =
-    let (b, is) = there_is _ (sound.limits id box limit).box_there in
-    empty_first box (sound.boxes box b is).0.some
+    box_behind s box sound (sound.limits id box limit).box_there
 
 pub told_all : (s : State) (id after : List ℕ) (boxes : List (List ℕ)) → Told bytes_cmp (IsLimit s id) boxes after
     → IsNext bytes_cmp (IsLimit s id) after None → AreLimits s id boxes

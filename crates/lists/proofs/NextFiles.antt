@@ -12,7 +12,7 @@ use Rattle.boxes.specs.State.{Place, place_cmp, State}
 use Rattle.boxes.proofs.FileBoxes.{file_in_box, there_is}
 use Rattle.boxes.proofs.Lookups.{bytes_same, bytes_total}
 use Rattle.boxes.proofs.NoBox.{all_at}
-use Rattle.rolls.specs.Next.{IsBox, IsFile, IsFileIn, IsNext}
+use Rattle.rolls.specs.Next.{IsBox, IsFile, IsFileIn, IsKey, IsNext}
 use Rattle.lists.specs.Places.{IsFirstPast}
 use Rattle.lists.proofs.Orders.{not_itself, turned}
 
@@ -35,7 +35,7 @@ by_name box a b less = ap (λ r. ordering_then r (bytes_cmp a b)) (tied_itself b
 parts : (a b : Place) → place_cmp a b ≡ Less → (bytes_cmp a.box b.box ≡ Less) ⊎ ((a.box ≡ b.box) × (bytes_cmp a.name b.name ≡ Less))
 parts a b less =
     elim (bytes_cmp a.box b.box) as (λ r. bytes_cmp a.box b.box ≡ r → ordering_then r (bytes_cmp a.name b.name) ≡ Less
-        → (bytes_cmp a.box b.box ≡ Less) ⊎ ((a.box ≡ b.box) × (bytes_cmp a.name b.name ≡ Less))) [
+    → (bytes_cmp a.box b.box ≡ Less) ⊎ ((a.box ≡ b.box) × (bytes_cmp a.name b.name ≡ Less))) [
       | Less ↦ λ is name. inl is
       | Equal ↦ λ is name. inr (bytes_same a.box b.box is, name)
       | Greater ↦ λ is name. absurd (other name)
@@ -52,6 +52,12 @@ name_there s place sound there =
     let it = sound.files place f is in
     let r = all_at (IsReceipt s) s.receipts it.listed.place it.receipt sound.receipts it.listed.listed in
     subst (λ (n : List ℕ). 0 < length n) it.name r.name.some
+
+pub key_behind : (s : State) (id : List ℕ) → IsSound s → IsKey s id → bytes_cmp [] id ≡ Less
+key_behind s id sound there = let (k, is) = there_is _ there in empty_first id (sound.keys id k is).0.some
+
+pub box_behind : (s : State) (name : List ℕ) → IsSound s → IsBox s name → bytes_cmp [] name ≡ Less
+box_behind s name sound there = let (b, is) = there_is _ there in empty_first name (sound.boxes name b is).0.some
 
 pub place_behind : (s : State) (place : Place) → IsSound s → IsFile s place → place_cmp (at [] []) place ≡ Less
 place_behind s place sound there = go (bytes_cmp [] place.box) refl

@@ -15,8 +15,20 @@ use Rattle.boxes.specs.declared.rows.KeyRow.{KeyRow}
 use Rattle.boxes.specs.declared.rows.ReceiptRow.{ReceiptRow}
 use Rattle.boxes.specs.declared.totals.Totals.{Totals}
 use Rattle.boxes.proofs.NoBox.{all_at}
+use Rattle.std.specs.List.{join_with_byte}
+use Rattle.desk.specs.Lists.{line}
+use Rattle.desk.specs.Texts.{role_word}
+use Rattle.lists.specs.Keys.{answer_word, AreLimits, IsKeyLine}
 use Rattle.lists.specs.Boxes.{IsBoxLine, IsBoxRecord, IsTotalsLine}
 use Rattle.lists.specs.Files.{IsFileLine, IsPlacedLine}
+
+-- ---- keys
+
+pub key_line_told : (s : State) (id : List ℕ) (row : KeyRow) (boxes : List (List ℕ)) (k : Key) (text : List ℕ) → Some (key_of row) ≡ get s.keys id → AreLimits s id boxes
+    → text ≡ line (id ∷ role_word row.role ∷ answer_word row.revoked ∷ join_with_byte 32 boxes ∷ []) → get s.keys id ≡ Some k → IsKeyLine s (id, k) text
+key_line_told s id row boxes k text told are is there =
+    let same : key_of row ≡ k = same_Some (key_of row) k (told ∙ there) in
+    (boxes, are, is ∙ (λ i. line (id ∷ role_word (same i).role ∷ answer_word (same i).revoked ∷ join_with_byte 32 boxes ∷ [])))
 
 -- ---- boxes
 

@@ -8,11 +8,36 @@ use Rattle.std.specs.FinMap.{FinMap, get, entries, entries_sorted, find, get-ent
 use Rattle.std.specs.FinMap.Entries.{below_all}
 use Rattle.wire.specs.Sending.{Sends}
 use Rattle.wire.proofs.Written.{sends_both}
-use Rattle.desk.specs.Lists.{AreLines}
-use Rattle.desk.proofs.AnsweredLists.{lines_none, lines_push, sends_err, sends_nothing, sends_whole}
+use Rattle.desk.specs.Lists.{line, AreLines, IsTable}
+use Rattle.desk.proofs.AnsweredLists.{lines_none, lines_push, none_table, sends_err, sends_nothing, sends_whole}
 use Rattle.rolls.specs.Next.{IsNext}
-use Rattle.lists.specs.Written.{AreFirst, SendsLines}
+use Rattle.lists.specs.Written.{AreFirst, SendsLines, WritesList}
 use Rattle.lists.proofs.Walk.{Cut, begins, ends, moves}
+
+-- ---- the head, and the lines behind it
+
+-- the head broke off
+pub head_breaks : {A T U E F : Type 0} (head : List (List ℕ)) (IsLine : A → List ℕ → Type 0) (all : List A) (old new : Option (List ℕ)) (e : E) (f : F)
+    → Sends {T = T} (line head) old new (Err e) → WritesList {T = U} head IsLine all old new (Err f)
+head_breaks head IsLine all old new e f sent = record {
+  first = [];
+  are_first = record { rest = all; cut = refl; whole = tt };
+  text = line head;
+  table = none_table head IsLine;
+  sent = sends_err e f sent;
+}
+
+pub head_then : {A T E : Type 0} (head : List (List ℕ)) (IsLine : A → List ℕ → Type 0) (all : List A) (old mid new : Option (List ℕ)) (u : T) (result : Result T E)
+    → Sends {E = E} (line head) old mid (Ok u) → SendsLines IsLine all mid new result → WritesList head IsLine all old new result
+head_then head IsLine all old mid new u result sent it = record {
+  first = it.first;
+  are_first = it.are_first;
+  text = line head ++ it.text;
+  table = record { lines = it.text; are = it.lines; is = refl };
+  sent = sends_both (line head) it.text old mid new u result sent it.sent;
+}
+
+-- ---- the lines of entries
 
 module _ {K X : Type 0} {R : K → K → Ordering} (m : FinMap R X) (IsLine : K × X → List ℕ → Type 0) where
   -- the lines of the entries up to this key were written

@@ -16,7 +16,8 @@ returns-in-Ok-None-clause-value g c = λ s (means, sound, honest).
     let boxes = map (λ b. b.items) c.boxes.boxes.items in
     let last = subst (λ ts. IsLast (map (λ b. b.items) ts) c.last_of.result.now) c.deref.ensures.value c.last_of.ensures in
     let told = c.boxes.invariant.told s (means, sound, c.limit_after.ensures.rest.honest honest) c.last_of.result.now last in
-    told_all s c.args.id.now c.last_of.result.now boxes told (c.in-Ok-None.ensures.value s (c.boxes.invariant.stays.same s means) sound honest)
+    told_all s c.args.id.now c.last_of.result.now boxes told
+    (rw c.in-Ok-None.field-0-is at c.in-Ok-None.ensures.value s (c.boxes.invariant.stays.same s means) sound honest)
 
 pub boxes-preserved : goal.boxes-preserved
 boxes-preserved g c = record {
@@ -25,7 +26,7 @@ boxes-preserved g c = record {
       let boxes = map (λ b. b.items) c.boxes.boxes.items in
       let before = subst (λ ts. IsLast (map (λ b. b.items) ts) c.last_of.result.now) c.deref.ensures.value c.last_of.ensures in
       let told = c.boxes.invariant.told s (means, sound, c.limit_after.ensures.rest.honest honest) c.last_of.result.now before in
-      let next = c.in-Ok-Some.ensures.value s (c.boxes.invariant.stays.same s means) sound honest in
+      let next = rw c.in-Ok-Some.field-0-is at c.in-Ok-Some.ensures.value s (c.boxes.invariant.stays.same s means) sound honest in
       told_next s c.args.id.now c.last_of.result.now c.in-Ok-Some.next.items last boxes _ told next
-      (ap (map (λ b. b.items)) c.in-Ok-push.ensures.items ∙ map_push (λ b. b.items) c.boxes.boxes.items c.in-Ok-Some.next) is;
+      (ap (map (λ b. b.items)) c.in-Ok.ensures.items ∙ map_push (λ b. b.items) c.boxes.boxes.items c.in-Ok-Some.next) is;
 }

@@ -8,7 +8,7 @@ use Rattle.lists.proofs.places.file_past.Goals as goal
 pub returns-in-Ok-None-clause-value : goal.returns-in-Ok-None-clause-value
 returns-in-Ok-None-clause-value g c = λ s (means, sound, honest).
     let past = c.boxes.invariant.past s (means, sound, c.box_after.ensures.rest.honest honest) in
-    let next = c.in-Ok-None.ensures.value s (c.boxes.invariant.stays.same s means) sound honest in
+    let next = rw c.in-Ok-None.field-0-is at c.in-Ok-None.ensures.value s (c.boxes.invariant.stays.same s means) sound honest in
     past_ends s c.args.in_box.now c.boxes.after.items sound past (subst (λ t. IsNext bytes_cmp (IsBox s) t None) c.deref.ensures.value next)
 
 pub returns-in-Ok-Some-file_after-clause-value : goal.returns-in-Ok-Some-file_after-clause-value
@@ -16,8 +16,8 @@ returns-in-Ok-Some-file_after-clause-value g c = λ s (means, sound, honest).
     let asked = c.file_after.ensures.rest.honest honest in
     let past = c.boxes.invariant.past s (means, sound, c.box_after.ensures.rest.honest asked) in
     let known = c.boxes.invariant.stays.same s means in
-    let next = c.in-Ok-Some.ensures.value s known sound asked in
-    let file = c.in-Ok-Some-file_after.ensures.value s (c.box_after.ensures.rest.same s known) sound honest in
+    let next = rw c.in-Ok-Some.field-0-is at c.in-Ok-Some.ensures.value s known sound asked in
+    let file = rw c.in-Ok-Some-file_after.field-0-is at c.in-Ok-Some-file_after.ensures.value s (c.box_after.ensures.rest.same s known) sound honest in
     past_found s c.args.in_box.now c.boxes.after.items c.in-Ok-Some.next.items c.in-Ok-Some-file_after.name.items sound past
     (subst (λ t. IsNext bytes_cmp (IsBox s) t (Some c.in-Ok-Some.next.items)) c.deref.ensures.value next)
     (subst (λ t. IsNext bytes_cmp (IsFileIn s t) [] (Some c.in-Ok-Some-file_after.name.items)) c.deref-in-boxes.ensures.value file)
@@ -29,8 +29,8 @@ boxes-preserved g c = record {
       let asked = c.file_after.ensures.rest.honest honest in
       let past = c.boxes.invariant.past s (means, sound, c.box_after.ensures.rest.honest asked) in
       let known = c.boxes.invariant.stays.same s means in
-      let next = c.in-Ok-Some.ensures.value s known sound asked in
-      let none = c.in-Ok-None-file_after.ensures.value s (c.box_after.ensures.rest.same s known) sound honest in
+      let next = rw c.in-Ok-Some.field-0-is at c.in-Ok-Some.ensures.value s known sound asked in
+      let none = rw c.in-Ok-None-file_after.field-0-is at c.in-Ok-None-file_after.ensures.value s (c.box_after.ensures.rest.same s known) sound honest in
       past_moves s c.args.in_box.now c.boxes.after.items c.in-Ok-Some.next.items sound past
       (subst (λ t. IsNext bytes_cmp (IsBox s) t (Some c.in-Ok-Some.next.items)) c.deref.ensures.value next)
       (subst (λ t. IsNext bytes_cmp (IsFileIn s t) [] None) c.deref-in-boxes.ensures.value none);

@@ -8,13 +8,13 @@ use Rattle.lists.proofs.places.next_file.Goals as goal
 
 pub returns-in-Ok-clause-value : goal.returns-in-Ok-clause-value
 returns-in-Ok-clause-value g c = λ s (means, sound, honest).
-    let next = c.in-Ok-Some.ensures.value s means sound honest in
+    let next = rw c.in-Ok-Some.field-0-is at c.in-Ok-Some.ensures.value s means sound honest in
     subst (λ (b : List ℕ). IsNext place_cmp (IsFile s) (record { box = c.args.in_box.now; name = c.args.name.now }) (Some (record { box = b; name = c.in-Ok-Some.next.items })))
     (sym c.in-Ok.ensures.items) (next_in_box s c.args.in_box.now c.args.name.now c.in-Ok-Some.next.items next)
 
 pub returns-in-Ok-None-clause-value : goal.returns-in-Ok-None-clause-value
 returns-in-Ok-None-clause-value g c = λ s (means, sound, honest).
     let asked = c.file_past.ensures.stays.honest honest in
-    let none = c.in-Ok-None.ensures.value s means sound asked in
+    let none = rw c.in-Ok-None.field-0-is at c.in-Ok-None.ensures.value s means sound asked in
     let past = c.file_past.ensures.value s (c.file_after.ensures.rest.same s means, sound, honest) in
     IfOk-weaker c.file_past.result _ _ (λ found first. next_past s c.args.in_box.now c.args.name.now (option_map place_in found) none first) past

@@ -1,0 +1,14 @@
+use Rattle.std.specs.FinMap.{entries}
+use Rattle.std.proofs.lemmas.Result.{err_from_is_err_and}
+use Rattle.lists.specs.Boxes.{boxes_head, IsBoxLine}
+use Rattle.lists.proofs.Walked.{head_breaks, head_then}
+use Rattle.lists.proofs.box_list.list_boxes.Goals as goal
+
+pub returns-in_err-send_line-clause-writes : goal.returns-in_err-send_line-clause-writes
+returns-in_err-send_line-clause-writes g c =
+    let told = err_from_is_err_and c.from_residual.result c.from_residual.ensures.1 in
+    λ s means sound honest. rw told.1 (head_breaks boxes_head (IsBoxLine s) (entries s.boxes) _ _ c.in_err-send_line.field-0.0 told.0 c.in_err-send_line.ensures.sent)
+
+pub returns-clause-writes : goal.returns-clause-writes
+returns-clause-writes g c = λ s means sound honest.
+    head_then boxes_head (IsBoxLine s) (entries s.boxes) _ _ _ tt _ c.in_ok-send_line.ensures.sent (c.send_boxes.ensures.sent s (means, sound, honest))
