@@ -1,17 +1,16 @@
 -- A list that is written on a walk through the entries of a finite map.
-use Rattle.std.proofs.Common.{◌≡◌, ◌∙◌, ℕ, List, [], ◌∷◌, ◌++◌, Option, Some, None, Result, Ok, Err, refl, sym, ap, subst, append-nil}
-use Rattle.std.specs.Prelude.{T, IsSome, ⊤}
+use Rattle.std.proofs.Common.{◌≡◌, ◌∙◌, ℕ, List, [], ◌∷◌, ◌++◌, Option, Some, None, Result, Ok, Err, refl, sym, subst}
+use Rattle.std.specs.Prelude.{IsSome, ⊤}
 use Rattle.std.specs.declared.cmp.Ordering.{Ordering}
 use Rattle.std.specs.declared.cmp.Ordering.TheVariants.{Less}
 use Rattle.std.specs.Cmp.{IsTotalOrder}
 use Rattle.std.specs.FinMap.{FinMap, get, entries, entries_sorted, find, get-entries, IsAntisymmetric}
-use Rattle.std.specs.FinMap.Entries.{below_all}
 use Rattle.wire.specs.Sending.{Sends}
 use Rattle.wire.proofs.Written.{sends_both}
-use Rattle.desk.specs.Lists.{line, AreLines, IsTable}
+use Rattle.desk.specs.Lists.{line, AreLines}
 use Rattle.desk.proofs.AnsweredLists.{lines_none, lines_push, none_table, sends_err, sends_nothing, sends_whole}
 use Rattle.rolls.specs.Next.{IsNext}
-use Rattle.lists.specs.Written.{AreFirst, SendsLines, WritesList}
+use Rattle.lists.specs.Written.{SendsLines, WritesList}
 use Rattle.lists.proofs.Walk.{Cut, begins, ends, moves}
 
 -- ---- the head, and the lines behind it

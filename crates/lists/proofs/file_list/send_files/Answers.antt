@@ -1,4 +1,4 @@
-use Rattle.std.proofs.Common.{◌∙◌, ℕ, List, [], Some, None, map, option_map, refl, sym, subst}
+use Rattle.std.proofs.Common.{◌∙◌, [], refl, sym, subst}
 use Rattle.std.proofs.lemmas.Result.{err_from_is_err_and}
 use Rattle.boxes.specs.State.{Place}
 use Rattle.boxes.proofs.FileTotals.{place_same}
@@ -7,7 +7,6 @@ use Rattle.lists.specs.Places.{place_in}
 use Rattle.lists.proofs.ToldLines.{file_line_told, file_moment}
 use Rattle.wire.proofs.Written.{sends_same}
 use Rattle.desk.specs.Asking.{stays_joined, stays_unasked}
-use Rattle.rolls.specs.Next.{IsFile, IsNext}
 use Rattle.lists.specs.Files.{IsFileLine}
 use Rattle.lists.proofs.NextFiles.{place_behind}
 use Rattle.lists.proofs.Walked.{walk_begins, walk_breaks, walk_ends, walk_moves, walk_stops, Walked}

@@ -1,4 +1,4 @@
-use Rattle.std.proofs.Common.{◌∙◌, List, ℕ, map, ap, subst}
+use Rattle.std.proofs.Common.{◌∙◌, map, ap, subst}
 use Rattle.desk.specs.Asking.{stays_joined, stays_ok, stays_unasked}
 use Rattle.desk.proofs.ReceiptLines.{map_push}
 use Rattle.lists.specs.Keys.{IsLast}

@@ -1,4 +1,4 @@
-use Rattle.std.proofs.Common.{◌∙◌, ℕ, List, [], Some, None, map, option_map, refl, sym, subst}
+use Rattle.std.proofs.Common.{◌∙◌, ℕ, List, [], Some, None, map, refl, sym, subst}
 use Rattle.std.proofs.lemmas.Result.{err_from_is_err_and}
 use Rattle.sigtext.specs.Bytes.{bytes_cmp}
 use Rattle.boxes.proofs.Lookups.{bytes_same, bytes_total}
