@@ -535,15 +535,15 @@ def test_end(case, count):
     manifest = case.drop.run("manifest", case.office.file)
     kept = pathlib.Path(case.office.published[1])
     count.add("end: the manifest", is_not((manifest.status, kept.read_bytes()), (0, manifest.out)))
-    exported = case.drop.run("export", case.office.file, folder / "files")
+    exported = case.drop.run("export", case.office.file, folder / "exported")
     count.add("end: the export", is_not(exported, kit.Run(0, b"", b"")))
-    sums = kit.run(["sha256sum", "--check", "--strict", "--quiet", "SHA256SUMS"], cwd=folder / "files")
+    sums = kit.run(["sha256sum", "--check", "--strict", "--quiet", "SHA256SUMS"], cwd=folder / "exported")
     count.add("end: the sums", is_not(sums, kit.Run(0, b"", b"")))
-    with open(folder / "files" / "files.csv", encoding="utf-8", newline="") as reader:
+    with open(folder / "exported" / "files.csv", encoding="utf-8", newline="") as reader:
         rows = list(csv.DictReader(reader))
     there = {row[0]: row[4] for row in published(case)[1:]}
     count.add("end: each file has the digest of its receipt", is_not([it for it in rows if there[it["receipt"]] != it["sha256"]], []))
-    tender = [(folder / "files" / it["path"]).read_bytes() == it["name"].encode() * 9 for it in rows if it["box"] == "tender"]
+    tender = [(folder / "exported" / it["path"]).read_bytes() == it["name"].encode() * 9 for it in rows if it["box"] == "tender"]
     count.add("end: the tender’s files", is_not(tender, [True] * 119))
     for name, (status, line) in stamped(folder, kept).items():
         owed = (0, "Verification: OK") if name == "of the manifest" else (1, "Verification: FAILED")

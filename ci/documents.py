@@ -231,7 +231,7 @@ def test_lengths(_, count):
     """The lengths of definitions in docs/PROVED.md, in lines to the nearest ten; a little more or less passes."""
     text = PROVED.read_text()
     rows = re.findall(r"^\| (\d+) \| ([^|]+) \| (\d+) \| [^|]+ \|$", text, re.MULTILINE)
-    count.add("numbers of definitions", difference([int(it[0]) for it in rows], [*range(1, 16)]))
+    count.add("numbers of definitions", difference([int(it[0]) for it in rows], [*range(1, 17)]))
     found = [(number, length(modules), int(said)) for number, modules, said in rows]
     for number, lines, said in found:
         count.add(f"definitions {number}", None if abs(lines - said) <= 10 else f"have {lines} lines and not {said}")

@@ -368,7 +368,6 @@ def words_of_values(stream):
 # Words that name no task, and the first line of what is said about them.
 NO_TASK = [
     (["restore"], "error: unrecognized subcommand 'restore'"),
-    (["--version"], "error: unexpected argument '--version' found"),
     (["replay", "f", "s", "t", "--to", "m"], "error: unexpected argument '--to' found"),
     (["replay", "f", "-s", "--at", "m"], "error: unexpected argument '-s' found"),
     (["replay", "f", "s", "--at", "m", "--until", "n"], "error: unexpected argument '--until' found"),
