@@ -9,7 +9,7 @@ use Rattle.std.proofs.lemmas.Bool.Decides.{nat_tests}
 use Rattle.std.proofs.lemmas.Fmt.{decimal_injective, decimal_is_IsNumeral, length-decimal-le}
 use Rattle.std.proofs.lemmas.List.{get_or_append_left, get_or-append_right, length-take}
 use Rattle.std.proofs.lemmas.Str.Parse.{digit_from_value}
-use Rattle.exports.specs.Names.{AreCharacters, AreCleaned, IsComponent, IsExportName, IsFront, IsPart, MayStand, is_plain}
+use Rattle.exports.specs.Names.{AreCharacters, AreCleaned, IsComponent, IsExportName, IsFolderName, IsFront, IsPart, MayStand, is_plain}
 
 -- ---- texts of plain bytes
 
@@ -150,6 +150,22 @@ pub component : (number : ℕ) (name text : List ℕ) → number < 2 ^ 64 → Is
 component number name text small is =
     let fine = fine_part is.front is.part (short_front is.last is.front is.is_front) is.is_part in
     subst IsComponent (same_joined number is.part small fine ∙ sym is.is) (joined_component number is.part small fine)
+
+-- ---- the folder of a box
+
+fine_component : (part : List ℕ) → IsFine part → IsComponent part
+fine_component part fine = record {
+  some = fine.some;
+  short = omega (arith, fine.short);
+  plain = fine.plain;
+  not_here = λ e. fine.no_dot (ap (λ (t : List ℕ). get_or t (length t - 1) 0) e);
+  not_above = λ e. fine.no_dot (ap (λ (t : List ℕ). get_or t (length t - 1) 0) e);
+  no_dot = fine.no_dot;
+  no_space = fine.no_space;
+}
+
+pub folder_component : (box text : List ℕ) → IsFolderName box text → IsComponent text
+folder_component box text is = fine_component text (fine_part is.front text (short_front box is.front is.is_front) is.is_part)
 
 -- ---- one number to a name
 

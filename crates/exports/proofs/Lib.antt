@@ -1,2 +1,5 @@
 pub mod Parts
 pub mod Components
+pub mod BoxFiles
+pub mod SentFiles
+pub mod Walks

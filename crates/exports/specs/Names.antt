@@ -58,6 +58,12 @@ pub record IsExportName (number : ℕ) (name text : List ℕ) : Type 0 where
   pub is_part : IsPart front part
   pub is : text ≡ decimal number ++ 45 ∷ part
 
+-- the folder of a box: its name, cleaned alike. So a box `..` has no path out.
+pub record IsFolderName (box text : List ℕ) : Type 0 where
+  pub front : List ℕ
+  pub is_front : IsFront box front
+  pub is_part : IsPart front text
+
 -- one component of a path, on any system of files: each byte is plain, so none is a slash; it is neither `.` nor `..`, and has no dot
 -- and no space at its end
 pub record IsComponent (text : List ℕ) : Type 0 where

@@ -1,7 +1,14 @@
 //! The files of an office, as files of a folder: under which names, and the lists of them.
 #![tactic(auto)]
 
+mod export_fault;
+mod exporting;
+mod folder;
 pub mod laws;
 mod names;
+mod texts;
 
-pub use names::export_name;
+pub use export_fault::ExportFault;
+pub use exporting::export;
+pub use folder::{Folder, PutFault};
+pub use names::{export_name, folder_name};

@@ -1,6 +1,6 @@
 //! Under which name a file is exported.
 ghost use Rattle.std.specs.Prelude.{◌≡◌, ℕ, List, ◌⊎◌, ◌++◌, ◌∷◌, [], ◌<◌, ◌≤◌, ◌↔◌, IfOk, IsTrue, decimal, length, slice_index};
-ghost use Rattle.exports.specs.Names.{is_plain, AreDots, IsComponent, IsExportName, IsFront, IsLastPart, IsPart, MayStand};
+ghost use Rattle.exports.specs.Names.{is_plain, AreDots, IsComponent, IsExportName, IsFolderName, IsFront, IsLastPart, IsPart, MayStand};
 
 use itoa::Buffer;
 use memchr::memrchr;
@@ -115,5 +115,20 @@ pub fn export_name(alloc: Global, number: u64, name: &[u8]) -> Result<Vec<u8>, A
     let mut text = Vec::from_slice(alloc, digits.format(number).as_bytes())?;
     text.push(b'-')?;
     push_part(front(last_part(name)), &mut text)?;
+    Ok(text)
+}
+
+/// The name of the folder into which the files of a box are exported: the name of the box, with `_` for each dot at the beginning,
+/// and for one at the end. In the name of no box stands a `_`, so distinct boxes have distinct folders.
+///
+/// # Errors
+///
+/// Memory was refused.
+pub fn folder_name(alloc: Global, in_box: &[u8]) -> Result<Vec<u8>, AllocError>
+    ensures name { IfOk result (λ text. IsFolderName in_box.now text.items) }
+    ensures component { IfOk result (λ text. IsComponent text.items) }
+{
+    let mut text = Vec::new(alloc);
+    push_part(front(in_box), &mut text)?;
     Ok(text)
 }

@@ -1,0 +1,43 @@
+use Rattle.std.proofs.Common.{[], ◌++◌, refl}
+use Rattle.std.proofs.lemmas.Result.{err_from_is_err_and}
+use Rattle.std.specs.FinMap.{entries}
+use Rattle.wire.proofs.Written.{sends_both}
+use Rattle.desk.specs.Lists.{line}
+use Rattle.desk.proofs.AnsweredLists.{lines_none, none_table, sends_err, sends_nothing}
+use Rattle.exports.specs.Exports.{export_head, files_in, IsSum, named_box}
+use Rattle.exports.proofs.SentFiles.{adds_nothing}
+use Rattle.exports.proofs.exporting.export.Goals as goal
+
+pub returns-in_err-send_head-clause-exports : goal.returns-in_err-send_head-clause-exports
+returns-in_err-send_head-clause-exports g c =
+    let told = err_from_is_err_and c.from_residual.result c.from_residual.ensures.1 in
+    λ s means sound honest. rw told.1 (record {
+      first = [];
+      are_first = record { rest = entries (files_in (named_box c.args.in_box) s); cut = refl; whole = tt };
+      puts = [];
+      are_puts = tt;
+      put = adds_nothing _;
+      table = line export_head;
+      is_table = none_table _ _;
+      files = sends_err c.in_err-send_head.field-0.0 told.0 c.in_err-send_head.ensures.sent;
+      sum_lines = [];
+      are_sums = lines_none IsSum;
+      sums = sends_nothing _;
+    })
+
+pub returns-clause-exports : goal.returns-clause-exports
+returns-clause-exports g c = λ s means sound honest.
+    let told = c.export_files.ensures.sent s (means, sound, honest) in
+    record {
+      first = told.first;
+      are_first = told.are_first;
+      puts = told.sends.puts;
+      are_puts = told.sends.are_puts;
+      put = told.sends.put;
+      table = line export_head ++ told.sends.rows;
+      is_table = record { lines = told.sends.rows; are = told.sends.are_rows; is = refl };
+      files = sends_both (line export_head) told.sends.rows _ _ _ tt _ c.in_ok-send_head.ensures.sent told.sends.files;
+      sum_lines = told.sends.sum_lines;
+      are_sums = told.sends.are_sums;
+      sums = told.sends.sums;
+    }

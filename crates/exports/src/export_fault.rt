@@ -1,0 +1,25 @@
+//! Why an export ended before its end.
+
+use crate::folder::PutFault;
+use keeper::KeepFault;
+use thiserror::Error;
+
+/// Why an export ended before its end.
+#[derive(Clone, Copy, Debug, PartialEq, Eq, Error)]
+pub enum ExportFault {
+    /// The keeper failed.
+    #[error("{0}")]
+    Keep(KeepFault),
+    /// A file was not put.
+    #[error("{0}")]
+    Put(PutFault),
+    /// A write of `files.csv` failed.
+    #[error("cannot write files.csv")]
+    Files,
+    /// A write of `SHA256SUMS` failed.
+    #[error("cannot write SHA256SUMS")]
+    Sums,
+    /// Memory was refused.
+    #[error("out of memory")]
+    Memory,
+}
