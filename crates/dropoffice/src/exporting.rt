@@ -5,11 +5,10 @@ use exports::{ExportFault, Folder, PutFault, export};
 use office::Office;
 use rolls::Rolls;
 use std::alloc::Global;
-use std::fs;
 use std::fs::{DirBuilder, Files, OpenOptions, Permissions};
 use std::io::{BufWriter, Error, ErrorKind, Write};
 use std::os::unix::fs::{DirBuilderExt, OpenOptionsExt, PermissionsExt};
-use std::str;
+use std::{fs, str};
 use tasks::Export;
 use wire::Counted;
 

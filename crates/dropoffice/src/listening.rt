@@ -1,7 +1,7 @@
 //! `drop serve`: an office is served at an address.
 use crate::faults::Fault;
+use crate::manifesting::serve_published;
 use crate::opening::{OfficeWork, Purpose, work_over};
-use crate::publishing::serve_published;
 use keeper::Keeper;
 use mio::Poll;
 use office::{MachineClock, Office};
