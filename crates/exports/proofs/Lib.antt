@@ -3,3 +3,4 @@ pub mod Components
 pub mod BoxFiles
 pub mod SentFiles
 pub mod Walks
+pub mod Paths

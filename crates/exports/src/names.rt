@@ -86,7 +86,8 @@ fn cleaned(text: &[u8], dots: usize, index: usize) -> u8
 
 // Puts the text behind what is there, with `_` for each byte that may not stand in its place, and for a text of no bytes.
 fn push_part(text: &[u8], name: &mut Vec<u8>) -> Result<(), AllocError>
-    ensures { IfOk result (λ done. (part : List ℕ) × IsPart text.now part × (name.new.items ≡ name.old.items ++ part)) }
+    ensures { IfOk result (λ done. (part : List ℕ) × IsPart text.now part
+        × (name.new.items ≡ name.old.items ++ part)) }
 {
     if text.is_empty() {
         name.push(STAND_IN)?;

@@ -48,8 +48,10 @@ pub(crate) struct ExportTexts {
 
 // Where the file of this place and this receipt is exported.
 fn export_path(alloc: Global, place: &FilePlace, number: u64) -> Result<ExportPath, AllocError>
-    ensures folder { IfOk result (λ p. IsFolderName (place_in place.now).box p.folder.items × IsComponent p.folder.items) }
-    ensures name { IfOk result (λ p. IsExportName number (place_in place.now).name p.name.items × IsComponent p.name.items) }
+    ensures folder { IfOk result (λ p. IsFolderName (place_in place.now).box p.folder.items
+        × IsComponent p.folder.items) }
+    ensures name { IfOk result (λ p. IsExportName number (place_in place.now).name p.name.items
+        × IsComponent p.name.items) }
     ensures text { IfOk result (λ p. p.text.items ≡ p.folder.items ++ 47 ∷ p.name.items) }
 {
     let folder = folder_name(alloc, &place.in_box)?;
@@ -70,7 +72,8 @@ fn row_text<'a>(
 ) -> Result<Vec<u8>, ExportFault>
     requires { digits.now ≡ encode_lower (sha256 file.now.bytes.items) }
     ensures row { IsMoment file.now.receipt.moment → IfOk result (λ text. (fields : List (List ℕ))
-        × IsRecord path.now (place_in place.now) (file_of file.now) (receipt_in file.now.receipt) fields × (text.items ≡ line fields)) }
+        × IsRecord path.now (place_in place.now) (file_of file.now)
+        (receipt_in file.now.receipt) fields × (text.items ≡ line fields)) }
     ensures memory { IfErr result (λ f. f ≡ ExportFault.Memory) }
 {
     let mut number = Buffer::new();
@@ -108,12 +111,17 @@ pub(crate) fn export_texts(
     place: &FilePlace,
     file: &FileRow,
 ) -> Result<ExportTexts, ExportFault>
-    ensures folder { IfOk result (λ t. IsFolderName (place_in place.now).box t.path.folder.items × IsComponent t.path.folder.items) }
-    ensures name { IfOk result (λ t. IsExportName file.now.receipt.number (place_in place.now).name t.path.name.items × IsComponent t.path.name.items) }
-    ensures path { IfOk result (λ t. t.path.text.items ≡ t.path.folder.items ++ 47 ∷ t.path.name.items) }
+    ensures folder { IfOk result (λ t. IsFolderName (place_in place.now).box t.path.folder.items
+        × IsComponent t.path.folder.items) }
+    ensures name { IfOk result (λ t. IsExportName file.now.receipt.number
+        (place_in place.now).name t.path.name.items × IsComponent t.path.name.items) }
+    ensures path { IfOk result (λ t.
+        t.path.text.items ≡ t.path.folder.items ++ 47 ∷ t.path.name.items) }
     ensures row { IsMoment file.now.receipt.moment → IfOk result (λ t. (fields : List (List ℕ))
-        × IsRecord t.path.text.items (place_in place.now) (file_of file.now) (receipt_in file.now.receipt) fields × (t.row.items ≡ line fields)) }
-    ensures sum { IfOk result (λ t. t.sum.items ≡ encode_lower (sha256 file.now.bytes.items) ++ (32 ∷ 32 ∷ t.path.text.items) ++ 10 ∷ []) }
+        × IsRecord t.path.text.items (place_in place.now) (file_of file.now)
+        (receipt_in file.now.receipt) fields × (t.row.items ≡ line fields)) }
+    ensures sum { IfOk result (λ t. t.sum.items
+        ≡ encode_lower (sha256 file.now.bytes.items) ++ (32 ∷ 32 ∷ t.path.text.items) ++ 10 ∷ []) }
     ensures memory { IfErr result (λ f. f ≡ ExportFault.Memory) }
 {
     let digits = hex_digits(Sha::digest(&file.bytes));
