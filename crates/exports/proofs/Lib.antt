@@ -4,3 +4,4 @@ pub mod BoxFiles
 pub mod SentFiles
 pub mod Walks
 pub mod Paths
+pub mod OneName

@@ -5,10 +5,13 @@ ghost use Rattle.boxes.specs.State.{Place};
 ghost use Rattle.exports.specs.Exports.{IsPath};
 ghost use Rattle.exports.specs.Names.{IsExportName, IsFolderName};
 
-/// A name is of one receipt's number: so files with distinct receipts are exported under distinct names.
+/// A number and a name have one exported name, and that is of one receipt's number: so files with distinct receipts are exported
+/// under distinct names.
 pub fn law_of_names()
-    ensures { (m n : ℕ) (a b text : List ℕ) → m < 2 ^ 64 → n < 2 ^ 64 → IsExportName m a text
-        → IsExportName n b text → m ≡ n }
+    ensures name { (n : ℕ) (name text other : List ℕ) → IsExportName n name text
+        → IsExportName n name other → text ≡ other }
+    ensures number { (m n : ℕ) (a b text : List ℕ) → m < 2 ^ 64 → n < 2 ^ 64
+        → IsExportName m a text → IsExportName n b text → m ≡ n }
 {}
 
 /// The folder of a box bears the name of the box, where that neither begins nor ends with a dot.
