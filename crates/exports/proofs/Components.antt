@@ -165,7 +165,7 @@ fine_component part fine = record {
 }
 
 pub folder_component : (box text : List ℕ) → IsFolderName box text → IsComponent text
-folder_component box text is = fine_component text (fine_part is.front text (short_front box is.front is.is_front) is.is_part)
+folder_component box text is = fine_component text (fine_part is.front text (short_front is.called is.front is.is_front) is.is_part)
 
 -- ---- one number to a name
 

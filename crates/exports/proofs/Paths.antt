@@ -1,5 +1,5 @@
 -- Paths of exported files: what their bytes are, and which folders bear the names of their boxes.
-use Rattle.std.proofs.Common.{◌≡◌, ◌≢◌, ◌∙◌, ℕ, zero, suc, ◌-◌, ◌^◌, ◌<◌, ◌≤◌, Bool, true, false, List, [], ◌∷◌, ◌++◌, length, get_or, refl, sym, ap, subst, arith, ⊎_elim, length-append}
+use Rattle.std.proofs.Common.{◌≡◌, ◌≢◌, ◌∙◌, inl, inr, codes, ℕ, zero, suc, ◌-◌, ◌^◌, ◌<◌, ◌≤◌, Bool, true, false, List, [], ◌∷◌, ◌++◌, length, get_or, refl, sym, ap, subst, arith, ⊎_elim, length-append}
 use Rattle.std.specs.Prelude.{◌&&◌, IsTrue, slice_index}
 use Rattle.std.specs.List.{list_all}
 use Rattle.std.proofs.lemmas.Bool.{cases_lt}
@@ -10,7 +10,7 @@ use Rattle.std.proofs.lemmas.Str.Ascii.{IsAscii-from_reads}
 use Rattle.boxes.specs.Sound.{is_box_byte, IsBoxName}
 use Rattle.boxes.specs.State.{Place}
 use Rattle.exports.specs.Exports.{IsPath}
-use Rattle.exports.specs.Names.{IsFolderName, IsFront, IsPart, is_plain, MayStand}
+use Rattle.exports.specs.Names.{IsCalled, IsFolderName, IsFront, IsPart, is_plain, MayStand}
 use Rattle.exports.proofs.Components.{component, folder_component}
 
 -- ---- no byte is escaped
@@ -87,8 +87,14 @@ module _ (box : List ℕ) (named : IsBoxName box) (begins : slice_index box 0 �
     no_space = λ end space. let is = each i h in let same = ap is_box_byte space in cc;
   }
 
-  pub own_folder : (text : List ℕ) → IsFolderName box text → text ≡ box
-  own_folder text is =
-      let part = subst (λ (f : List ℕ). IsPart f text) (whole_front is.front is.is_front) is.is_part in
+  own_name : box ≢ codes "files.csv" → box ≢ codes "sha256sums" → (name : List ℕ) → IsCalled box name → name ≡ box
+  own_name files sums name (inl (is, called)) = absurd (files is)
+  own_name files sums name (inr (inl (is, called))) = absurd (sums is)
+  own_name files sums name (inr (inr (other, another, called))) = called
+
+  pub own_folder : box ≢ codes "files.csv" → box ≢ codes "sha256sums" → (text : List ℕ) → IsFolderName box text → text ≡ box
+  own_folder files sums text is =
+      let front = subst (λ (name : List ℕ). IsFront name is.front) (own_name files sums is.called is.is_called) is.is_front in
+      let part = subst (λ (f : List ℕ). IsPart f text) (whole_front is.front front) is.is_part in
       let (are, long) = part.some named.some in
       ext_get_or 0 text box long (λ i h. are.kept i h (may_stand i (omega (arith, long))))

@@ -1,5 +1,5 @@
 -- Under which names files are exported.
-use Rattle.std.specs.Prelude.{◌≡◌, ◌≢◌, ◌⊎◌, ◌==◌, ◌||◌, not, ℕ, ◌+◌, ◌-◌, ◌<◌, ◌≤◌, Bool, IsTrue, nat_le, List, [], ◌∷◌, ◌++◌, length, take, decimal, slice_index, IsUtf8}
+use Rattle.std.specs.Prelude.{◌≡◌, ◌≢◌, ◌⊎◌, ◌==◌, ◌||◌, not, ℕ, ◌+◌, ◌-◌, ◌<◌, ◌≤◌, Bool, IsTrue, nat_le, List, [], ◌∷◌, ◌++◌, length, take, decimal, slice_index, codes, IsUtf8}
 use Rattle.std.specs.Str.{IsCharBoundary}
 
 -- no control byte, and none of / \ : * ? " < > |
@@ -58,14 +58,23 @@ pub record IsExportName (number : ℕ) (name text : List ℕ) : Type 0 where
   pub is_part : IsPart front part
   pub is : text ≡ decimal number ++ 45 ∷ part
 
--- the folder of a box: its name, cleaned alike. So a box `..` has no path out.
+-- what the folder of a box is called: as the box, but for one that has the name of a list beside the folders, whether letters are told
+-- apart by their case or not
+abbrev pub IsCalled : List ℕ → List ℕ → Type 0
+IsCalled box name =
+    ((box ≡ codes "files.csv") × (name ≡ codes "files_csv"))
+    ⊎ (((box ≡ codes "sha256sums") × (name ≡ codes "sha256_sums"))
+    ⊎ ((box ≢ codes "files.csv") × (box ≢ codes "sha256sums") × (name ≡ box)))
+
+-- the folder of a box: what it is called, cleaned alike. So a box `..` has no path out.
 pub record IsFolderName (box text : List ℕ) : Type 0 where
+  pub called : List ℕ
+  pub is_called : IsCalled box called
   pub front : List ℕ
-  pub is_front : IsFront box front
+  pub is_front : IsFront called front
   pub is_part : IsPart front text
 
--- one component of a path, on any system of files: each byte is plain, so none is a slash; it is neither `.` nor `..`, and has no dot
--- and no space at its end
+-- one component of a path: each byte is plain, so none is a slash; it is neither `.` nor `..`, and has no dot and no space at its end
 pub record IsComponent (text : List ℕ) : Type 0 where
   pub some : 0 < length text
   pub short : length text ≤ 255

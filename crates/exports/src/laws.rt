@@ -1,5 +1,5 @@
 //! Laws of the names of exported files, for callers to cite.
-ghost use Rattle.std.specs.Prelude.{◌≡◌, ◌≢◌, ℕ, ◌-◌, ◌^◌, ◌<◌, length, List, slice_index};
+ghost use Rattle.std.specs.Prelude.{◌≡◌, ◌≢◌, ℕ, ◌-◌, ◌^◌, ◌<◌, codes, length, List, slice_index};
 ghost use Rattle.boxes.specs.Sound.{IsBoxName};
 ghost use Rattle.boxes.specs.State.{Place};
 ghost use Rattle.exports.specs.Exports.{IsPath};
@@ -14,9 +14,10 @@ pub fn law_of_names()
         → IsExportName m a text → IsExportName n b text → m ≡ n }
 {}
 
-/// The folder of a box bears the name of the box, where that neither begins nor ends with a dot.
+/// The folder of a box bears the name of the box, where that neither begins nor ends with a dot, and is not that of a list.
 pub fn law_of_folders()
-    ensures { (box text : List ℕ) → IsBoxName box → slice_index box 0 ≢ 46
+    ensures { (box text : List ℕ) → IsBoxName box → box ≢ codes "files.csv"
+        → box ≢ codes "sha256sums" → slice_index box 0 ≢ 46
         → slice_index box (length box - 1) ≢ 46 → IsFolderName box text → text ≡ box }
 {}
 

@@ -1,6 +1,6 @@
 //! Under which name a file is exported.
 ghost use Rattle.std.specs.Prelude.{◌≡◌, ℕ, List, ◌⊎◌, ◌++◌, ◌∷◌, [], ◌<◌, ◌≤◌, ◌↔◌, IfOk, IsTrue, decimal, length, slice_index};
-ghost use Rattle.exports.specs.Names.{is_plain, AreDots, IsComponent, IsExportName, IsFolderName, IsFront, IsLastPart, IsPart, MayStand};
+ghost use Rattle.exports.specs.Names.{is_plain, AreDots, IsCalled, IsComponent, IsExportName, IsFolderName, IsFront, IsLastPart, IsPart, MayStand};
 
 use itoa::Buffer;
 use memchr::memrchr;
@@ -119,8 +119,22 @@ pub fn export_name(alloc: Global, number: u64, name: &[u8]) -> Result<Vec<u8>, A
     Ok(text)
 }
 
+// What the folder of a box is called: not as a list that lies beside it, whether letters are told apart by their case or not.
+fn called<'a>(in_box: &'a [u8]) -> &'a [u8]
+    ensures { IsCalled in_box.now result.now }
+{
+    if in_box == b"files.csv".as_slice() {
+        return b"files_csv";
+    }
+    if in_box == b"sha256sums".as_slice() {
+        return b"sha256_sums";
+    }
+    in_box
+}
+
 /// The name of the folder into which the files of a box are exported: the name of the box, with `_` for each dot at the beginning,
-/// and for one at the end. In the name of no box stands a `_`, so distinct boxes have distinct folders.
+/// and for one at the end. A box that has the name of a list beside the folders has it with a `_` within: `files_csv`,
+/// `sha256_sums`. In the name of no box stands a `_`, so distinct boxes have distinct folders.
 ///
 /// # Errors
 ///
@@ -130,6 +144,6 @@ pub fn folder_name(alloc: Global, in_box: &[u8]) -> Result<Vec<u8>, AllocError>
     ensures component { IfOk result (λ text. IsComponent text.items) }
 {
     let mut text = Vec::new(alloc);
-    push_part(front(in_box), &mut text)?;
+    push_part(front(called(in_box)), &mut text)?;
     Ok(text)
 }

@@ -1,5 +1,5 @@
 //! A keeper that adds each receipt to a manifest.
-ghost use Rattle.std.specs.Prelude.{◌≡◌, ℕ, List, [], ◌∷◌, Some, IfOk, OnOk, IsTrue, false};
+ghost use Rattle.std.specs.Prelude.{◌≡◌, ◌↔◌, ℕ, List, [], ◌∷◌, Some, IfOk, OnOk, IsFalse, IsTrue, false};
 ghost use Rattle.boxes.specs.Changes.{MayChange};
 ghost use Rattle.boxes.specs.Rows.{numbered_receipt};
 ghost use Rattle.boxes.specs.Sound.{IsMoment, IsSound};
@@ -37,7 +37,16 @@ impl<'k, K: Keeper, S: Sheet + Drop, E: Write + Drop> Publisher<'k, K, S, E> {
         ensures means { (s : State) → K.means keeper.entry.now s → IsBlank (S.text sheet)
             → ⟦<Publisher<'k, K, S, E> as Keeper>⟧.means result s }
         ensures honest { ⟦<Publisher<'k, K, S, E> as Keeper>⟧.is_honest result
-            → K.is_honest keeper.entry.now }
+            ↔ K.is_honest result.keeper.now }
+        ensures before { K.is_honest result.keeper.now → K.is_honest keeper.entry.now }
+        ensures count { ⟦<Publisher<'k, K, S, E> as Keeper>⟧.faults result
+            ≡ K.faults result.keeper.now }
+        ensures store { ⟦<Publisher<'k, K, S, E> as Keeper>⟧.has_store ↔ K.has_store }
+        ensures staged { (bytes : List ℕ)
+            → ⟦<Publisher<'k, K, S, E> as Keeper>⟧.stages result bytes
+            ↔ K.stages result.keeper.now bytes }
+        ensures leaves { (t : State) → ⟦<Publisher<'k, K, S, E> as Keeper>⟧.leaves result t
+            ↔ K.leaves result.keeper.now t }
         ensures opened { K.is_open keeper.entry.now → IsTrue result.is_whole
             → K.is_honest result.keeper.now
             → ⟦<Publisher<'k, K, S, E> as Keeper>⟧.is_open result }
@@ -59,7 +68,11 @@ impl<'k, K: Keeper, S: Sheet + Drop, E: Write + Drop> Publisher<'k, K, S, E> {
 
     /// Whether the manifest on the sheet is that of what is kept.
     pub fn is_whole(&self) -> bool
-        ensures { result ≡ self.now.is_whole }
+        ensures whole { result ≡ self.now.is_whole }
+        ensures published { (s : State)
+            → ⟦<Publisher<'k, K, S, E> as Keeper>⟧.means self.now s → IsSound s
+            → ⟦<Publisher<'k, K, S, E> as Keeper>⟧.is_honest self.now → IsTrue result
+            → IsPublished s (S.text self.now.sheet) }
     {
         self.is_whole
     }
@@ -107,6 +120,7 @@ fn new_receipt(alloc: Global, file: &NewFile<'_>) -> Result<ReceiptRow, AllocErr
 impl<K, S: Sheet + Drop, E: Write + Drop> Publisher<'_, K, S, E> {
     /// Nothing is added any more, which is told.
     pub fn give_up(&mut self)
+        ensures sheet { self.new.sheet ≡ self.old.sheet }
         ensures none { self.new.is_whole ≡ false }
         ensures keeper { self.new.keeper ≡ self.old.keeper }
     {
@@ -130,6 +144,7 @@ impl<K, S: Sheet + Drop, E: Write + Drop> Publisher<'_, K, S, E> {
     pub(crate) fn note(&mut self, change: &Change<'_>)
         ensures keeper { self.new.keeper ≡ self.old.keeper }
         ensures whole { IsTrue self.new.is_whole → IsTrue self.old.is_whole }
+        ensures idle { IsFalse self.old.is_whole → self.new.sheet ≡ self.old.sheet }
         ensures published { (s after : State) → MayChange s change.now after
             → IsPublished s (S.text self.old.sheet) → IsTrue self.new.is_whole
             → IsPublished after (S.text self.new.sheet) }
@@ -144,6 +159,7 @@ impl<K, S: Sheet + Drop, E: Write + Drop> Publisher<'_, K, S, E> {
     fn add(&mut self, file: &NewFile<'_>)
         ensures keeper { self.new.keeper ≡ self.old.keeper }
         ensures whole { IsTrue self.new.is_whole → IsTrue self.old.is_whole }
+        ensures idle { IsFalse self.old.is_whole → self.new.sheet ≡ self.old.sheet }
         ensures added { IsMoment file.now.moment → IsTrue self.new.is_whole → (text : List ℕ)
             × AreLines IsReceiptLine (set_receipt file.now ∷ []) text
             × AddsAll text (S.text self.old.sheet) (S.text self.new.sheet) }
