@@ -45,8 +45,12 @@ def part_of(name):
     return text or "_"
 
 
+# a box that has the name of a list beside the folders
+CALLED = {"files.csv": "files_csv", "sha256sums": "sha256_sums"}
+
+
 def path_of(in_box, name, number):
-    return f"{part_of(in_box)}/{number}-{part_of(name)}"
+    return f"{part_of(CALLED.get(in_box, in_box))}/{number}-{part_of(name)}"
 
 
 def owed_paths(file, only=None):
@@ -152,7 +156,7 @@ def test_exports(drop, count):
     empty, whole, many = drop.office("none-yet"), drop.filled("every"), filled(drop, "thousands")
     count.add("changes", change(drop, many, random.Random(9)))
     odd = few(drop, "odd")
-    for in_box in [".", "..", "...a", "a.", "a"]:
+    for in_box in [".", "..", "...a", "a.", "a", *CALLED, "sha256sums.", "files.csv."]:
         tables.add_box(odd, tables.Box(in_box))
         tables.add_file(odd, in_box, "same", in_box.encode(), ID)
     for name in NAMES:
