@@ -1,9 +1,11 @@
 -- Texts with nothing to decode or encode.
-use Rattle.std.proofs.Common.{◌≡◌, ◌<◌, ℕ, Bool, true, false, not, nat_eq, List, [], ◌∷◌, ◌∙◌, ◌&&◌, refl, ap, sym, subst, All}
+use Rattle.std.proofs.Common.{◌≡◌, ◌<◌, ℕ, Bool, true, false, not, nat_eq, List, [], ◌∷◌, length, get_or, ◌∙◌, ◌&&◌, refl, ap, sym, subst, arith, All}
 use Rattle.std.specs.Prelude.{IsTrue}
 use Rattle.std.specs.List.{list_all, list_any}
-use Rattle.std.proofs.lemmas.Bool.{and_parts, eqb-false, false≢true, not-false, or_parts}
-use Rattle.std.proofs.lemmas.List.Elements.{All-head, All-tail}
+use Rattle.std.proofs.lemmas.Bool.{and_parts, eqb-false, false≢true, false_from_ne_true, not-false, or_parts}
+use Rattle.std.proofs.lemmas.List.Elements.{All-from_get_or, All-head, All-tail}
+use Rattle.std.proofs.lemmas.List.Folds.{list_any_none}
+use Rattle.memchr.specs.Find.{Nowhere, Passes, is_byte}
 use Rattle.percent_encoding.specs.AsciiSet.{should_percent_encode}
 use Rattle.percent_encoding.specs.declared.ascii_set.AsciiSet.{AsciiSet}
 use Rattle.percent_encoding.specs.Percent.{percent_decode}
@@ -18,6 +20,12 @@ decodes_to_itself [] none = percent_decode-nil
 decodes_to_itself (b ∷ text) none =
     let parts = or_parts (nat_eq b 37) (list_any (λ c. nat_eq c 37) text) none in
     percent_decode_not_percent b text (eqb-false b 37 parts.0) ∙ ap (λ (t : List ℕ). b ∷ t) (decodes_to_itself text parts.1)
+
+-- so does a text that a search for `%` runs through
+pub searched_through : (text : List ℕ) → Nowhere (Passes (is_byte 37) text) 0 (length text) → percent_decode text ≡ text
+searched_through text none =
+    let each = All-from_get_or (λ b. nat_eq b 37 ≡ false) text 0 (λ i within. false_from_ne_true (nat_eq (get_or text i 0) 37) (none i (omega arith) within)) in
+    decodes_to_itself text (list_any_none (λ b. nat_eq b 37) text each)
 
 -- a text of bytes that stay decodes to itself
 stays_decoded : (text : List ℕ) → IsTrue (list_all (stays Encoded) text) → percent_decode text ≡ text

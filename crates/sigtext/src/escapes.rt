@@ -2,13 +2,14 @@
 ghost use Rattle.std.specs.Prelude.{◌≡◌, ◌↔◌, IsTrue};
 ghost use Rattle.percent_encoding.specs.Percent as percent;
 
+use memchr::memchr;
 use percent_encoding::percent_decode;
 
 // Whether the text has no `%`, so that nothing of it is decoded.
 pub(crate) fn has_no_escape(text: &[u8]) -> bool
     ensures { IsTrue result → percent.percent_decode text.now ≡ text.now }
 {
-    !text.contains(&b'%')
+    memchr(b'%', text).is_none()
 }
 
 /// Whether the text, with its escapes decoded, is these bytes.
