@@ -6,7 +6,11 @@ use boxes::{BoxRow, KeyRow, NameRule, ReceiptRow};
 use std::alloc::{AllocError, Global};
 
 /// A copy of a key.
-pub(crate) fn copy_key(alloc: Global, key: &KeyRow) -> Result<KeyRow, AllocError>
+///
+/// # Errors
+///
+/// `AllocError` where a growth was refused.
+pub fn copy_key(alloc: Global, key: &KeyRow) -> Result<KeyRow, AllocError>
     ensures { IfOk result (λ k. key_of k ≡ key_of key.now) }
 {
     Ok(KeyRow {
@@ -40,7 +44,11 @@ fn copy_rule(alloc: Global, rule: &NameRule) -> Result<NameRule, AllocError>
 }
 
 /// A copy of a box.
-pub(crate) fn copy_box(alloc: Global, row: &BoxRow) -> Result<BoxRow, AllocError>
+///
+/// # Errors
+///
+/// `AllocError` where a growth was refused.
+pub fn copy_box(alloc: Global, row: &BoxRow) -> Result<BoxRow, AllocError>
     ensures { IfOk result (λ copy. settings_of copy ≡ settings_of row.now) }
 {
     Ok(BoxRow {

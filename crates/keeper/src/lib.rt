@@ -7,5 +7,6 @@ mod shelf;
 mod shelf_keeps;
 mod shelving;
 
+pub use copies::{copy_box, copy_key};
 pub use keep::{KeepFault, Keeper};
 pub use shelf::{Shelf, has_room};
