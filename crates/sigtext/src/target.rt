@@ -8,6 +8,7 @@ ghost use Rattle.sigtext.specs.Target.{Param, IsTargetOf};
 ghost use Rattle.sigtext.specs.Targets.{IsCut, SpellsSome, SpellsSomeQuery, IsWrittenAs, IsReadFrom, IsRawParam, SpellRawParam, GivesNext, pieces_left, begins_with_escape};
 
 use crate::refusal::Refusal;
+use memchr::memchr;
 use percent_encoding::percent_decode;
 use std::alloc::AllocError;
 
@@ -117,7 +118,7 @@ impl<'a> Iterator for Pairs<'a> {
 pub fn cut(text: &[u8], byte: u8) -> Option<(&[u8], &[u8])>
     ensures { IsCut byte text.now result }
 {
-    let at = text.iter().position(|b| *b == byte)?;
+    let at = memchr(byte, text)?;
     Some((&text[..at], &text[at + 1..]))
 }
 
