@@ -2,6 +2,7 @@
 use crate::faults::Fault;
 use crate::manifesting::serve_published;
 use crate::opening::{OfficeWork, Purpose, work_over};
+use cache::CachedKeeper;
 use keeper::Keeper;
 use mio::Poll;
 use office::{MachineClock, Office};
@@ -38,9 +39,11 @@ impl<'a, W: Write + Drop, E: Write + Drop> OfficeWork<'a> for ServeWork<'_, W, E
             mut out,
             err,
         } = self;
+        let keeper = CachedKeeper::new(rt.alloc(), &mut office.keeper);
+        let mut office = Office::new(rt.alloc(), keeper);
         match manifest {
-            Some(file) => serve_published(rt, office, &service, file, &mut out, err),
-            None => serve_at(rt, office, &service, &mut out),
+            Some(file) => serve_published(rt, &mut office, &service, file, &mut out, err),
+            None => serve_at(rt, &mut office, &service, &mut out),
         }
     }
 }

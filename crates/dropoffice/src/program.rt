@@ -26,8 +26,8 @@ const WORDS: u8 = 2;
 /// 0 where it was done, though requests were refused; 1 where a line `drop: <fault>` was written to
 /// `err`; 2 for words that name no task, whose text was written to `err`. Help or the version that was asked for, `done` for a
 /// command of the desk, links, a manifest, what stands of one, lists, a replay's answers, and where a server listens are written
-/// to `out`. Files are exported into a folder of their own. Lists of links that are wanted, manifests to compare, and a command of the desk that is no word are read from
-/// `input`.
+/// to `out`. Files are exported into a folder of their own. Lists of links that are wanted, manifests to compare, and a command of
+/// the desk that is no word are read from `input`.
 pub fn perform(
     rt: &HostRuntime,
     words: &[&str],

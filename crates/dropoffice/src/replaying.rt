@@ -4,6 +4,7 @@ ghost use Rattle.sigv4.specs.Credential.{IsKeyId, IsSecret};
 
 use crate::faults::Fault;
 use crate::opening::{OfficeWork, Purpose, work_over};
+use cache::CachedKeeper;
 use links::read_moment;
 use office::{Office, replay_in_memory, replay_over};
 use rolls::Rolls;
@@ -59,7 +60,9 @@ struct ReplayWork<'w, 'a, W: Drop> {
 impl<'a, W: Write + Drop> OfficeWork<'a> for ReplayWork<'_, 'a, W> {
     fn run<K: Rolls>(self, rt: &HostRuntime, office: &mut Office<K>) -> Result<(), Fault<'a>> {
         let mut writer = Counted::new(self.out);
-        let served = replay_over(rt, office, self.streams, self.moment, &mut writer);
+        let keeper = CachedKeeper::new(rt.alloc(), &mut office.keeper);
+        let mut office = Office::new(rt.alloc(), keeper);
+        let served = replay_over(rt, &mut office, self.streams, self.moment, &mut writer);
         told(served, writer.flush().is_ok())
     }
 }

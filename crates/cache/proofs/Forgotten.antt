@@ -1,0 +1,243 @@
+-- What is kept still stands behind a change.
+use Rattle.std.proofs.Common.{◌≡◌, ◌≢◌, ◌∙◌, ℕ, ◌+◌, length, true, false, cond, List, Option, Some, None, inl, inr, refl, sym, ap, subst}
+use Rattle.std.specs.Prelude.{Vec, IfSome, is_some}
+use Rattle.std.specs.declared.alloc.Global.{Global}
+use Rattle.std.specs.Ordering.{eq_by_cmp}
+use Rattle.std.specs.FinMap.{FinMap, get, insert, remove, get-insert}
+use Rattle.std.specs.BTreeMap.{BTreeMap}
+use Rattle.sigtext.specs.Bytes.{bytes_cmp, same_bytes}
+use Rattle.boxes.specs.declared.rows.BoxRow.{BoxRow}
+use Rattle.boxes.specs.declared.rows.OfficeRow.{OfficeRow}
+use Rattle.boxes.specs.declared.rows.Role.{Role}
+use Rattle.boxes.specs.declared.change.NewFile.{NewFile}
+use Rattle.boxes.specs.State.{Key, Settings, Place, File, Limit, limit_cmp, State}
+use Rattle.boxes.specs.Changes.{IsObeyed, IsFileSet, upload_in}
+use Rattle.boxes.specs.Limits.{IsLimitedTo, MayUse}
+use Rattle.boxes.specs.Rows.{IsOfficeOf, settings_of}
+use Rattle.boxes.specs.Steps.{after_upload, AddKey, RevokeKey, AddBox, CloseBox, DropFile, LimitKey, SetAllowance}
+use Rattle.boxes.specs.Totals.{used, count}
+use Rattle.boxes.specs.Views.{AreTotals}
+use Rattle.boxes.proofs.CommandSteps.{key_added_is, key_revoked_is, box_added_is, box_closed_is, file_dropped_is, key_limited_is, allowance_set_is}
+use Rattle.boxes.proofs.FileBoxes.{there_is}
+use Rattle.boxes.proofs.FileTotals.{texts_apart, used_still, count_still, used_there, count_there}
+use Rattle.boxes.proofs.LimitedKeys.{limit_total, limit_got}
+use Rattle.boxes.proofs.Lookups.{bytes_total, bytes_same, equal_is, some_none}
+use Rattle.boxes.proofs.MapLemmas.{is_none_is}
+use Rattle.cache.specs.declared.cache.CachedKey.{CachedKey}
+use Rattle.cache.specs.declared.cache.CachedBox.{CachedBox}
+use Rattle.cache.specs.declared.cache.Cache.{Cache}
+use Rattle.cache.specs.Recalled.{IsPart, Lacks, LacksTotals, Recalls, RecallsKeys, RecallsBoxes}
+
+more_some : {X : Type 0} (o : Option X) (P Q : X → Type 0) → ((x : X) → P x → Q x) → IfSome o P → IfSome o Q
+more_some None P Q more h = h
+more_some (Some x) P Q more h = more x h
+
+-- another key of a map that something was put into
+get_other : {X : Type 0} (m : FinMap bytes_cmp X) (k q : List ℕ) (v : X) → q ≢ k → get (insert m k v) q ≡ get m q
+get_other m k q v far =
+    get-insert bytes_total m k v q ∙
+    elim (eq_by_cmp bytes_cmp q k) as (λ t. eq_by_cmp bytes_cmp q k ≡ t → cond t (Some v) (get m q) ≡ get m q) [
+      | true ↦ λ t. absurd (far (bytes_same q k (equal_is (bytes_cmp q k) t)))
+      | false ↦ λ t. refl
+    ] refl
+
+same_office : (s after : State) (o : Option OfficeRow) → after.offset ≡ s.offset → after.allowance ≡ s.allowance → IfSome o (IsOfficeOf s) → IfSome o (IsOfficeOf after)
+same_office s after o offset allowance = more_some o (IsOfficeOf s) (IsOfficeOf after) (λ x h. record { offset = h.offset ∙ sym offset; allowance = h.allowance ∙ sym allowance })
+
+-- ---- keys
+
+pub keys_fewer : (s : State) (es after : List (Vec ℕ Global × CachedKey)) → IsPart es after → RecallsKeys s es → RecallsKeys s after
+keys_fewer s es after part each q x e = each q x (part q x e)
+
+pub lacks_part : {X : Type 0} (k : List ℕ) (es after : List (Vec ℕ Global × X)) → Lacks k es after → IsPart es after
+lacks_part k es after lacks q x e = (lacks q x e).1
+
+-- a key that is not there is not kept
+key_absent : (s : State) (id : List ℕ) (es : List (Vec ℕ Global × CachedKey)) → RecallsKeys s es → get s.keys id ≡ None → Lacks id es es
+key_absent s id es each none q x e = (λ same. some_none _ (sym (each q x e).row ∙ ap (get s.keys) same ∙ none), e)
+
+keys_but : (s : State) (id : List ℕ) (k : Key) (es after : List (Vec ℕ Global × CachedKey)) → Lacks id es after → RecallsKeys s es
+    → RecallsKeys (record s { keys = insert s.keys id k }) after
+keys_but s id k es after lacks each q x e =
+    let was = lacks q x e in
+    let is = each q x was.1 in
+    record { row = get_other s.keys id q k was.0 ∙ is.row; uses = is.uses }
+
+limit_kept : (m : FinMap limit_cmp (Unit {0})) (new l : Limit) → is_some (get m l) ≡ true → is_some (get (insert m new tt) l) ≡ true
+limit_kept m new l h =
+    ap is_some (get-insert limit_total m new tt l) ∙
+    elim (eq_by_cmp limit_cmp l new) as (λ t. is_some (cond t (Some tt) (get m l)) ≡ true) [ | true ↦ refl | false ↦ h ]
+
+-- what another key may use stays
+may_still : (s : State) (id limit q box : List ℕ) → q ≢ id → MayUse s q box → MayUse (record s { limits = insert s.limits (record { key = id; box = limit }) tt }) q box
+may_still s id limit q box far may limited =
+    let had : IsLimitedTo s q limited.0 = limit_got s.limits id limit q limited.0 (IsLimitedTo s q limited.0) limited.1 (λ same other. absurd (far same)) (λ h. h) in
+    limit_kept s.limits (record { key = id; box = limit }) (record { key = q; box = box }) (may (limited.0, had))
+
+keys_limited : (s : State) (id limit : List ℕ) (es after : List (Vec ℕ Global × CachedKey)) → Lacks id es after → RecallsKeys s es
+    → RecallsKeys (record s { limits = insert s.limits (record { key = id; box = limit }) tt }) after
+keys_limited s id limit es after lacks each q x e =
+    let was = lacks q x e in
+    let is = each q x was.1 in
+    record { row = is.row; uses = λ box has. may_still s id limit q box was.0 (is.uses box has) }
+
+keys_as : (s after : State) (es : List (Vec ℕ Global × CachedKey)) → after.keys ≡ s.keys → after.limits ≡ s.limits → RecallsKeys s es → RecallsKeys after es
+keys_as s after es keys limits each q x e =
+    let is = each q x e in
+    record { row = ap (λ m. get m q) keys ∙ is.row; uses = λ box has. subst (λ m. MayUse (record s { limits = m }) q box) (sym limits) (is.uses box has) }
+
+-- ---- boxes
+
+box_absent : (s : State) (name : List ℕ) (es : List (Vec ℕ Global × CachedBox)) → RecallsBoxes s es → get s.boxes name ≡ None → Lacks name es es
+box_absent s name es each none q x e = (λ same. some_none _ (sym (each q x e).row ∙ ap (get s.boxes) same ∙ none), e)
+
+boxes_but : (s : State) (name : List ℕ) (b : Settings) (es after : List (Vec ℕ Global × CachedBox)) → Lacks name es after → RecallsBoxes s es
+    → RecallsBoxes (record s { boxes = insert s.boxes name b }) after
+boxes_but s name b es after lacks each q x e =
+    let was = lacks q x e in
+    let is = each q x was.1 in
+    record {
+      row = get_other s.boxes name q b was.0 ∙ is.row;
+      totals = more_some x.totals (AreTotals s q) (AreTotals (record s { boxes = insert s.boxes name b }) q) (λ t h. record { used = h.used; count = h.count }) is.totals;
+    }
+
+-- files of one box changed, whose totals are kept no more
+pub boxes_with : (s after : State) (box : List ℕ) (es new : List (Vec ℕ Global × CachedBox)) → after.boxes ≡ s.boxes
+    → ((q : List ℕ) → same_bytes box q ≡ false → (used after q ≡ used s q) × (count after q ≡ count s q)) → LacksTotals box es new → RecallsBoxes s es → RecallsBoxes after new
+boxes_with s after box es new boxes sums lacks each q x e =
+    let was = lacks q x e in
+    let is = each q was.0 was.1 in
+    record {
+      row = ap (λ m. get m q) boxes ∙ is.row ∙ ap (λ (r : BoxRow). Some (settings_of r)) (sym was.2);
+      totals = elim was.3 [
+        | inl far ↦
+            let still = sums q (texts_apart box q (λ same. far.0 (sym same))) in
+            subst (λ o. IfSome o (AreTotals after q)) (sym far.1)
+            (more_some was.0.totals (AreTotals s q) (AreTotals after q) (λ t h. record { used = h.used ∙ sym still.0; count = h.count ∙ sym still.1 }) is.totals)
+        | inr none ↦ subst (λ o. IfSome o (AreTotals after q)) (sym none) tt
+      ];
+    }
+
+boxes_as : (s after : State) (es : List (Vec ℕ Global × CachedBox)) → after.boxes ≡ s.boxes → after.files ≡ s.files → RecallsBoxes s es → RecallsBoxes after es
+boxes_as s after es boxes files each q x e =
+    let is = each q x e in
+    record {
+      row = ap (λ m. get m q) boxes ∙ is.row;
+      totals = more_some x.totals (AreTotals s q) (AreTotals after q) (λ t h. record {
+        used = h.used ∙ ap (λ m. used (record s { files = m }) q) (sym files);
+        count = h.count ∙ ap (λ m. count (record s { files = m }) q) (sym files);
+      }) is.totals;
+    }
+
+-- ---- the state that was
+
+pub with_keys : (c : Cache) (s : State) (keys : BTreeMap (Vec ℕ Global) CachedKey) → Recalls c s → RecallsKeys s keys.entries → Recalls (record c { keys = keys }) s
+with_keys c s keys h each = record { office = h.office; next = h.next; keys = each; boxes = h.boxes }
+
+pub with_boxes : (c : Cache) (s : State) (boxes : BTreeMap (Vec ℕ Global) CachedBox) → Recalls c s → RecallsBoxes s boxes.entries → Recalls (record c { boxes = boxes }) s
+with_boxes c s boxes h each = record { office = h.office; next = h.next; keys = h.keys; boxes = each }
+
+pub totals_less : (s : State) (box : List ℕ) (es new : List (Vec ℕ Global × CachedBox)) → LacksTotals box es new → RecallsBoxes s es → RecallsBoxes s new
+totals_less s box es new = boxes_with s s box es new refl (λ q far. (refl, refl))
+
+-- ---- the state behind each command
+
+pub added_key : (c : Cache) (s after : State) (id : List ℕ) (role : Role) (secret : List ℕ) → IsObeyed s (AddKey id role secret) after → Recalls c s → Recalls c after
+added_key c s after id role secret obeyed h =
+    let lacks = key_absent s id c.keys.entries h.keys (is_none_is (get s.keys id) obeyed.possible) in
+    subst (Recalls c) (sym (key_added_is s id role secret after obeyed.step)) (record {
+      office = same_office s (record s { keys = insert s.keys id _ }) c.office refl refl h.office;
+      next = h.next;
+      keys = keys_but s id _ c.keys.entries c.keys.entries lacks h.keys;
+      boxes = boxes_as s (record s { keys = insert s.keys id _ }) c.boxes.entries refl refl h.boxes;
+    })
+
+pub revoked_key : (c : Cache) (keys : BTreeMap (Vec ℕ Global) CachedKey) (s after : State) (id : List ℕ) → IsObeyed s (RevokeKey id) after
+    → Lacks id c.keys.entries keys.entries → Recalls c s → Recalls (record c { keys = keys }) after
+revoked_key c keys s after id obeyed lacks h =
+    let is = key_revoked_is s id after obeyed.step in
+    let revoked : Key = record is.0 { revoked = true } in
+    let new : State = record s { keys = insert s.keys id revoked } in
+    subst (Recalls (record c { keys = keys })) (sym is.2) (record {
+      office = same_office s new c.office refl refl h.office;
+      next = h.next;
+      keys = keys_but s id revoked c.keys.entries keys.entries lacks h.keys;
+      boxes = boxes_as s new c.boxes.entries refl refl h.boxes;
+    })
+
+pub limited_key : (c : Cache) (keys : BTreeMap (Vec ℕ Global) CachedKey) (s after : State) (id box : List ℕ) → IsObeyed s (LimitKey id box) after
+    → Lacks id c.keys.entries keys.entries → Recalls c s → Recalls (record c { keys = keys }) after
+limited_key c keys s after id box obeyed lacks h =
+    let new : State = record s { limits = insert s.limits (record { key = id; box = box }) tt } in
+    subst (Recalls (record c { keys = keys })) (sym (key_limited_is s id box after obeyed.step)) (record {
+      office = same_office s new c.office refl refl h.office;
+      next = h.next;
+      keys = keys_limited s id box c.keys.entries keys.entries lacks h.keys;
+      boxes = boxes_as s new c.boxes.entries refl refl h.boxes;
+    })
+
+pub added_box : (c : Cache) (s after : State) (name : List ℕ) (b : Settings) → IsObeyed s (AddBox name b) after → Recalls c s → Recalls c after
+added_box c s after name b obeyed h =
+    let new : State = record s { boxes = insert s.boxes name b } in
+    let lacks = box_absent s name c.boxes.entries h.boxes (is_none_is (get s.boxes name) obeyed.possible) in
+    subst (Recalls c) (sym (box_added_is s name b after obeyed.step)) (record {
+      office = same_office s new c.office refl refl h.office;
+      next = h.next;
+      keys = keys_as s new c.keys.entries refl refl h.keys;
+      boxes = boxes_but s name b c.boxes.entries c.boxes.entries lacks h.boxes;
+    })
+
+pub closed_box : (c : Cache) (boxes : BTreeMap (Vec ℕ Global) CachedBox) (s after : State) (name : List ℕ) (moment : ℕ) → IsObeyed s (CloseBox name moment) after
+    → Lacks name c.boxes.entries boxes.entries → Recalls c s → Recalls (record c { boxes = boxes }) after
+closed_box c boxes s after name moment obeyed lacks h =
+    let is = box_closed_is s name moment after obeyed.step in
+    let closed : Settings = record is.0 { closes = moment } in
+    let new : State = record s { boxes = insert s.boxes name closed } in
+    subst (Recalls (record c { boxes = boxes })) (sym is.2) (record {
+      office = same_office s new c.office refl refl h.office;
+      next = h.next;
+      keys = keys_as s new c.keys.entries refl refl h.keys;
+      boxes = boxes_but s name closed c.boxes.entries boxes.entries lacks h.boxes;
+    })
+
+pub dropped_file : (c : Cache) (boxes : BTreeMap (Vec ℕ Global) CachedBox) (s after : State) (place : Place) → IsObeyed s (DropFile place) after
+    → LacksTotals place.box c.boxes.entries boxes.entries → Recalls c s → Recalls (record c { boxes = boxes }) after
+dropped_file c boxes s after place obeyed lacks h =
+    let f = there_is (get s.files place) obeyed.possible in
+    let is = file_dropped_is s place after obeyed.step in
+    let new : State = record s { files = remove s.files place } in
+    subst (Recalls (record c { boxes = boxes })) (sym is) (record {
+      office = same_office s new c.office refl refl h.office;
+      next = h.next;
+      keys = keys_as s new c.keys.entries refl refl h.keys;
+      boxes = boxes_with s new place.box c.boxes.entries boxes.entries refl (λ q far. (used_still s place f.0 f.1 q far, count_still s place f.0 f.1 q far)) lacks h.boxes;
+    })
+
+pub set_allowance : (c : Cache) (s after : State) (seconds : ℕ) → IsObeyed s (SetAllowance seconds) after → Recalls c s → Recalls (record c { office = None }) after
+set_allowance c s after seconds obeyed h =
+    let new : State = record s { allowance = seconds } in
+    subst (Recalls (record c { office = None })) (sym (allowance_set_is s seconds after obeyed.step)) (record {
+      office = tt;
+      next = h.next;
+      keys = keys_as s new c.keys.entries refl refl h.keys;
+      boxes = boxes_as s new c.boxes.entries refl refl h.boxes;
+    })
+
+-- ---- the state behind an upload
+
+pub set_file : (c : Cache) (boxes : BTreeMap (Vec ℕ Global) CachedBox) (s after : State) (f : NewFile) (bytes : List ℕ) → IsFileSet s f bytes after
+    → LacksTotals f.in_box.now c.boxes.entries boxes.entries → Recalls c s → Recalls (record c { next_number = None; boxes = boxes }) after
+set_file c boxes s after f bytes set lacks h =
+    let u = upload_in f bytes in
+    let new = after_upload s u in
+    let stored : File = record { bytes = bytes; receipt = length s.receipts + 1 } in
+    subst (Recalls (record c { next_number = None; boxes = boxes })) (sym set.sets) (record {
+      office = same_office s new c.office refl refl h.office;
+      next = tt;
+      keys = keys_as s new c.keys.entries refl refl h.keys;
+      boxes = boxes_with s new f.in_box.now c.boxes.entries boxes.entries refl (λ q far. (used_there s u.place stored new.receipts q far, count_there s u.place stored new.receipts q far)) lacks h.boxes;
+    })
+
+pub fewer_totals : (c : Cache) (boxes : BTreeMap (Vec ℕ Global) CachedBox) (s : State) (box : List ℕ) → LacksTotals box c.boxes.entries boxes.entries → Recalls c s
+    → Recalls (record c { next_number = None; boxes = boxes }) s
+fewer_totals c boxes s box lacks h = record { office = h.office; next = tt; keys = h.keys; boxes = totals_less s box c.boxes.entries boxes.entries lacks h.boxes }

@@ -1,0 +1,3 @@
+pub mod Entries
+pub mod Forgotten
+pub mod Answered

@@ -1,0 +1,5 @@
+use Rattle.cache.proofs.Forgotten.{with_boxes}
+use Rattle.cache.proofs.cache.Cache.keep_totals.Goals as goal
+
+pub returns : goal.returns
+returns c s h are = with_boxes c.args.self.now s c.keep_totals.new.boxes h (c.keep_totals.ensures s h.boxes are)

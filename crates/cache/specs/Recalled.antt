@@ -1,0 +1,58 @@
+-- What a cache says of a state.
+use Rattle.std.specs.Prelude.{◌≡◌, ◌≢◌, ◌⊎◌, ℕ, ◌+◌, List, length, None, Some, Vec, IfSome, IsTrue}
+use Rattle.std.specs.FinMap.{get}
+use Rattle.std.specs.declared.alloc.Global.{Global}
+use Rattle.sigtext.specs.Bytes.{bytes_cmp}
+use Rattle.boxes.specs.Limits.{MayUse}
+use Rattle.boxes.specs.Maps.{found}
+use Rattle.boxes.specs.Rows.{IsOfficeOf, key_of, settings_of}
+use Rattle.boxes.specs.State.{State}
+use Rattle.boxes.specs.Views.{AreTotals}
+use Rattle.keeper.specs.Shelves.{bytes_of, has_box}
+use Rattle.cache.specs.declared.cache.CachedKey.{CachedKey}
+use Rattle.cache.specs.declared.cache.CachedBox.{CachedBox}
+use Rattle.cache.specs.declared.cache.Cache.{Cache}
+
+-- the key stands so, and may use each of these boxes
+pub record IsKeyIn (s : State) (id : List ℕ) (k : CachedKey) : Type 0 where
+  pub row : get s.keys id ≡ Some (key_of k.row)
+  pub uses : (box : List ℕ) → IsTrue (has_box k.uses box) → MayUse s id box
+
+-- the box stands so, and its totals are these, where they are known
+pub record IsBoxIn (s : State) (name : List ℕ) (b : CachedBox) : Type 0 where
+  pub row : get s.boxes name ≡ Some (settings_of b.row)
+  pub totals : IfSome b.totals (AreTotals s name)
+
+-- each key that is kept stands so
+abbrev pub RecallsKeys : State → List (Vec ℕ Global × CachedKey) → Type 0
+RecallsKeys s es = (id : List ℕ) (k : CachedKey) → found bytes_cmp bytes_of es id ≡ Some k → IsKeyIn s id k
+
+-- each box that is kept stands so
+abbrev pub RecallsBoxes : State → List (Vec ℕ Global × CachedBox) → Type 0
+RecallsBoxes s es = (name : List ℕ) (b : CachedBox) → found bytes_cmp bytes_of es name ≡ Some b → IsBoxIn s name b
+
+-- all that is kept is so in the state
+pub record Recalls (c : Cache) (s : State) : Type 0 where
+  pub office : IfSome c.office (IsOfficeOf s)
+  pub next : IfSome c.next_number (λ n. n ≡ length s.receipts + 1)
+  pub keys : RecallsKeys s c.keys.entries
+  pub boxes : RecallsBoxes s c.boxes.entries
+
+-- ---- what comes and what goes
+
+-- each entry was there before
+abbrev pub IsPart : {X : Type 0} → List (Vec ℕ Global × X) → List (Vec ℕ Global × X) → Type 0
+IsPart {X = X} es after = (q : List ℕ) (x : X) → found bytes_cmp bytes_of after q ≡ Some x → found bytes_cmp bytes_of es q ≡ Some x
+
+-- each entry was there before, or is this one
+abbrev pub IsPut : {X : Type 0} → List ℕ → X → List (Vec ℕ Global × X) → List (Vec ℕ Global × X) → Type 0
+IsPut {X = X} name new es after = (q : List ℕ) (x : X) → found bytes_cmp bytes_of after q ≡ Some x → ((q ≡ name) × (x ≡ new)) ⊎ (found bytes_cmp bytes_of es q ≡ Some x)
+
+-- the entries are those from before, but for this name's
+abbrev pub Lacks : {X : Type 0} → List ℕ → List (Vec ℕ Global × X) → List (Vec ℕ Global × X) → Type 0
+Lacks {X = X} name es after = (q : List ℕ) (x : X) → found bytes_cmp bytes_of after q ≡ Some x → (q ≢ name) × (found bytes_cmp bytes_of es q ≡ Some x)
+
+-- the entries are those from before, but that this box has no totals
+abbrev pub LacksTotals : List ℕ → List (Vec ℕ Global × CachedBox) → List (Vec ℕ Global × CachedBox) → Type 0
+LacksTotals name es after = (q : List ℕ) (b : CachedBox) → found bytes_cmp bytes_of after q ≡ Some b
+    → (old : CachedBox) × (found bytes_cmp bytes_of es q ≡ Some old) × (b.row ≡ old.row) × (((q ≢ name) × (b.totals ≡ old.totals)) ⊎ (b.totals ≡ None))

@@ -1,0 +1,56 @@
+//! A keeper that keeps in memory what another one says.
+ghost use Rattle.std.specs.Prelude.{◌≡◌, ◌↔◌, ℕ, List, IsErr, OnErr};
+ghost use Rattle.boxes.specs.State.{State};
+ghost use Rattle.cache.specs.Recalled.{Recalls};
+
+use crate::cache::Cache;
+use keeper::{KeepFault, Keeper};
+use std::alloc::Global;
+
+/// Hands each call on to a keeper, but for what that one said before of settings, keys, boxes, what boxes hold and the next
+/// receipt's number: so much is answered from memory. A change makes it forget what the change may change, and a fault
+/// all that it knows. So it answers as the keeper within, and nothing after a fault that the keeper within would refuse.
+#[derive(Drop)]
+pub struct CachedKeeper<'k, K> {
+    pub(crate) keeper: &'k mut K,
+    pub(crate) cache: Cache,
+}
+
+impl<'k, K: Keeper> CachedKeeper<'k, K> {
+    /// Over a keeper, of which nothing is kept yet.
+    pub fn new(alloc: Global, keeper: &'k mut K) -> CachedKeeper<'k, K>
+        ensures keeper { result.keeper.ghost_name ≡ keeper.entry.ghost_name }
+        ensures same { result.keeper.now ≡ keeper.entry.now }
+        ensures means { (s : State) → (⟦<CachedKeeper<'k, K> as Keeper>⟧.means result s
+            ↔ K.means keeper.entry.now s) }
+        ensures honest { ⟦<CachedKeeper<'k, K> as Keeper>⟧.is_honest result
+            ↔ K.is_honest keeper.entry.now }
+        ensures opened { ⟦<CachedKeeper<'k, K> as Keeper>⟧.is_open result
+            ↔ K.is_open keeper.entry.now }
+        ensures count { ⟦<CachedKeeper<'k, K> as Keeper>⟧.faults result ≡ K.faults keeper.entry.now }
+        ensures store { ⟦<CachedKeeper<'k, K> as Keeper>⟧.has_store ↔ K.has_store }
+        ensures staged { (bytes : List ℕ) → (⟦<CachedKeeper<'k, K> as Keeper>⟧.stages result bytes
+            ↔ K.stages keeper.entry.now bytes) }
+        ensures leaves { (t : State) → (⟦<CachedKeeper<'k, K> as Keeper>⟧.leaves result t
+            ↔ K.leaves keeper.entry.now t) }
+        ensures whole { ⟦<CachedKeeper<'k, K> as Keeper>⟧.leaves_whole result
+            ↔ K.leaves_whole keeper.entry.now }
+    {
+        CachedKeeper {
+            keeper,
+            cache: Cache::new(alloc),
+        }
+    }
+}
+
+/// What the keeper within answered. After a fault nothing is kept.
+pub(crate) fn told<T>(cache: &mut Cache, answer: Result<T, KeepFault>) -> Result<T, KeepFault>
+    ensures same { result ≡ answer }
+    ensures stays { (s : State) → Recalls cache.old s → Recalls cache.new s }
+    ensures forgot { OnErr result ((s : State) → Recalls cache.new s) }
+{
+    if answer.is_err() {
+        *cache = Cache::new(cache.alloc);
+    }
+    answer
+}
