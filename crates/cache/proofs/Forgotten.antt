@@ -66,7 +66,7 @@ keys_but s id k es after lacks each q x e =
 limit_kept : (m : FinMap limit_cmp (Unit {0})) (new l : Limit) → is_some (get m l) ≡ true → is_some (get (insert m new tt) l) ≡ true
 limit_kept m new l h =
     ap is_some (get-insert limit_total m new tt l) ∙
-    elim (eq_by_cmp limit_cmp l new) as (λ t. is_some (cond t (Some tt) (get m l)) ≡ true) [ | true ↦ refl | false ↦ h ]
+    elim (eq_by_cmp limit_cmp l new) as (λ t. is_some (cond t (Some tt) (get m l)) ≡ true) [ true ↦ refl | false ↦ h ]
 
 -- what another key may use stays
 may_still : (s : State) (id limit q box : List ℕ) → q ≢ id → MayUse s q box → MayUse (record s { limits = insert s.limits (record { key = id; box = limit }) tt }) q box
