@@ -76,7 +76,7 @@ fn asks_once(rt: HostRuntime) -> Result<(), Fail> {
     Ok(())
 }
 
-// What is not there is not kept, and neither is what the key of a link may not use, nor what files are.
+// What is not there is not kept, nor what files there are, nor what only the desk asks.
 fn ask_the_rest(keeper: &mut Cached<'_>) -> Result<bool, Fail> {
     let is_none = keeper.key(b"eve")?.is_none()
         && keeper.box_row(b"none")?.is_none()
@@ -109,44 +109,114 @@ fn command(keeper: &mut Cached<'_>, command: Command<'_>) -> Result<(), Fail> {
     Ok(keeper.apply(&Change::Desk(command))?)
 }
 
-#[test]
-fn forgets_what_changed(rt: HostRuntime) -> Result<(), Fail> {
-    let mut within = office(rt.alloc())?;
-    let mut keeper = CachedKeeper::new(rt.alloc(), &mut within);
-    assert_eq!(rt; ask_all(&mut keeper)?, [0, 0, 1, CLOSES, 0, 1]);
+// Changes all that is kept, and says whether it is told so each time.
+fn tells_changes(alloc: Global, within: &mut Watched<Shelf>) -> Result<bool, Fail> {
+    let mut keeper = CachedKeeper::new(alloc, within);
+    let mut is_so = ask_all(&mut keeper)? == [0, 0, 1, CLOSES, 0, 1];
     command(&mut keeper, Command::SetAllowance { seconds: 900 })?;
-    assert_eq!(rt; ask_all(&mut keeper)?, [900, 0, 1, CLOSES, 0, 1]);
-    command(
-        &mut keeper,
-        Command::CloseBox {
-            name: b"in",
-            moment: 9,
-        },
-    )?;
-    assert_eq!(rt; ask_all(&mut keeper)?, [900, 0, 1, 9, 0, 1]);
+    is_so &= ask_all(&mut keeper)? == [900, 0, 1, CLOSES, 0, 1];
+    let name = b"in";
+    command(&mut keeper, Command::CloseBox { name, moment: 9 })?;
+    is_so &= ask_all(&mut keeper)? == [900, 0, 1, 9, 0, 1];
     keeper.stage_begin()?;
     keeper.stage(b"abc")?;
     keeper.apply(&sets(1))?;
-    assert_eq!(rt; ask_all(&mut keeper)?, [900, 0, 1, 9, 3, 2]);
-    command(
-        &mut keeper,
-        Command::DropFile {
-            in_box: b"in",
-            name: b"a",
-        },
-    )?;
-    assert_eq!(rt; ask_all(&mut keeper)?, [900, 0, 1, 9, 0, 2]);
-    command(
-        &mut keeper,
-        Command::LimitKey {
-            id: b"lin",
-            in_box: b"out",
-        },
-    )?;
-    assert_eq!(rt; ask_all(&mut keeper)?, [900, 0, 0, 9, 0, 2]);
-    command(&mut keeper, Command::RevokeKey { id: b"lin" })?;
-    assert_eq!(rt; ask_all(&mut keeper)?, [900, 1, 0, 9, 0, 2]);
+    is_so &= ask_all(&mut keeper)? == [900, 0, 1, 9, 3, 2];
+    let (in_box, name) = (b"in", b"a");
+    command(&mut keeper, Command::DropFile { in_box, name })?;
+    is_so &= ask_all(&mut keeper)? == [900, 0, 1, 9, 0, 2];
+    let (id, in_box) = (b"lin", b"out");
+    command(&mut keeper, Command::LimitKey { id, in_box })?;
+    is_so &= ask_all(&mut keeper)? == [900, 0, 0, 9, 0, 2];
+    command(&mut keeper, Command::RevokeKey { id })?;
+    is_so &= ask_all(&mut keeper)? == [900, 1, 0, 9, 0, 2];
     keeper.stage_drop()?;
+    Ok(is_so)
+}
+
+// Each change makes it ask for what the change may have changed, and for nothing else: 1, 2, 2, 1, 2 and 2 questions. What a key
+// may not use is asked each time.
+#[test]
+fn forgets_what_changed(rt: HostRuntime) -> Result<(), Fail> {
+    let mut within = office(rt.alloc())?;
+    assert!(rt; tells_changes(rt.alloc(), &mut within)?);
+    assert_eq!(rt; within.calls, 6 + 6 + 3 + 1 + 2 + 2 + 1 + 2 + 2);
+    Ok(())
+}
+
+// Adds a key and a box that were asked for when they were not there, and says whether they are told then.
+fn tells_what_comes(alloc: Global, within: &mut Watched<Shelf>) -> Result<bool, Fail> {
+    let mut keeper = CachedKeeper::new(alloc, within);
+    let is_none = keeper.key(b"eve")?.is_none() && keeper.box_row(b"new")?.is_none();
+    let row = settings(Mode::Replace, 7, 9);
+    let (role, secret) = (Role::Clerk, b"third");
+    command(
+        &mut keeper,
+        Command::AddKey {
+            id: b"eve",
+            role,
+            secret,
+        },
+    )?;
+    command(
+        &mut keeper,
+        Command::AddBox {
+            name: b"new",
+            row: &row,
+        },
+    )?;
+    let key = keeper.key(b"eve")?.ok_or("no key")?;
+    let in_box = keeper.box_row(b"new")?.ok_or("no box")?;
+    Ok(is_none && key.secret.as_slice() == secret.as_slice() && in_box.quota == 7)
+}
+
+#[test]
+fn finds_what_comes(rt: HostRuntime) -> Result<(), Fail> {
+    let mut within = office(rt.alloc())?;
+    assert!(rt; tells_what_comes(rt.alloc(), &mut within)?);
+    assert_eq!(rt; within.calls, 6);
+    Ok(())
+}
+
+// Asks twice whether a key may use 17 boxes: it may.
+fn asks_for_uses(alloc: Global, within: &mut Watched<Shelf>) -> Result<bool, Fail> {
+    let mut keeper = CachedKeeper::new(alloc, within);
+    let mut may_all = keeper.key(b"lin")?.is_some();
+    for number in 0..34_u8 {
+        may_all &= keeper.may_use(b"lin", &[number % 17])?;
+    }
+    Ok(may_all)
+}
+
+#[test]
+fn keeps_sixteen_uses_of_a_key(rt: HostRuntime) -> Result<(), Fail> {
+    let mut within = office(rt.alloc())?;
+    assert!(rt; asks_for_uses(rt.alloc(), &mut within)?);
+    assert_eq!(rt; within.calls, 1 + 17 + 1);
+    Ok(())
+}
+
+// Adds 8193 boxes, and asks for each of them, for the last again, and for the first again.
+fn asks_for_boxes(alloc: Global, within: &mut Watched<Shelf>) -> Result<bool, Fail> {
+    let row = settings(Mode::Replace, 7, 9);
+    let mut keeper = CachedKeeper::new(alloc, within);
+    let mut are_all = true;
+    for number in 0..8193_u32 {
+        let name = number.to_be_bytes();
+        let (name, row) = (name.as_slice(), &row);
+        command(&mut keeper, Command::AddBox { name, row })?;
+        are_all &= keeper.box_row(name)?.is_some();
+    }
+    let last = keeper.box_row(&8192_u32.to_be_bytes())?;
+    let first = keeper.box_row(&0_u32.to_be_bytes())?;
+    Ok(are_all && last.is_some() && first.is_some())
+}
+
+#[test]
+fn keeps_eight_thousand_boxes(rt: HostRuntime) -> Result<(), Fail> {
+    let mut within = office(rt.alloc())?;
+    assert!(rt; asks_for_boxes(rt.alloc(), &mut within)?);
+    assert_eq!(rt; within.calls, 2 * 8193 + 1);
     Ok(())
 }
 
@@ -167,5 +237,62 @@ fn forgets_all_at_a_fault(rt: HostRuntime) -> Result<(), Fail> {
     assert!(rt; leaves_all(rt.alloc(), &mut within)?);
     assert_eq!(rt; within.calls, 15);
     assert_eq!(rt; within.faults, 1);
+    Ok(())
+}
+
+// One call of each kind that reaches the keeper within, also where all of the office is kept.
+fn one_call(keeper: &mut Cached<'_>, kind: u8) -> Result<(), KeepFault> {
+    match kind {
+        0 => keeper.key(b"eve").map(|_| ()),
+        1 => keeper.may_use(b"eve", b"in").map(|_| ()),
+        2 => keeper.has_limit(b"lin", b"in").map(|_| ()),
+        3 => keeper.box_row(b"none").map(|_| ()),
+        4 => keeper.file(b"in", b"a").map(|_| ()),
+        5 => keeper.file_receipt(b"in", b"a").map(|_| ()),
+        6 => keeper.sizes(b"none").map(|_| ()),
+        7 => keeper.clerks().map(|_| ()),
+        8 => keeper.receipts(1, 9).map(|_| ()),
+        9 => keeper.stage_begin(),
+        10 => keeper.stage(b"abc"),
+        11 => keeper.staged_equals(b"in", b"a").map(|_| ()),
+        12 => keeper.stage_drop(),
+        _ => keeper.apply(&Change::Desk(Command::SetAllowance { seconds: 0 })),
+    }
+}
+
+// Whether the call of this kind fails, which is the seventh, and all is told alike before and behind it.
+fn fails_at(alloc: Global, within: &mut Watched<Shelf>, kind: u8) -> Result<bool, Fail> {
+    within.refuse(7);
+    let mut keeper = CachedKeeper::new(alloc, within);
+    let before = ask_all(&mut keeper)?;
+    let failed = one_call(&mut keeper, kind) == Err(KeepFault::Store);
+    Ok(failed && ask_all(&mut keeper)? == before)
+}
+
+// The same of what is kept, when it is asked for the first time: settings, and the next number.
+fn fails_first(alloc: Global, within: &mut Watched<Shelf>, is_next: bool) -> Result<bool, Fail> {
+    within.refuse(2);
+    let mut keeper = CachedKeeper::new(alloc, within);
+    let before = keeper.key(b"lin")?.is_some();
+    let failed = if is_next {
+        keeper.next_number() == Err(KeepFault::Store)
+    } else {
+        keeper.settings() == Err(KeepFault::Store)
+    };
+    Ok(before && failed && keeper.key(b"lin")?.is_some())
+}
+
+#[test]
+fn asks_all_again_behind_each_fault(rt: HostRuntime) -> Result<(), Fail> {
+    for kind in 0..14_u8 {
+        let mut within = office(rt.alloc())?;
+        assert!(rt; fails_at(rt.alloc(), &mut within, kind)?);
+        assert_eq!(rt; within.calls, 6 + 1 + 6);
+    }
+    let mut within = office(rt.alloc())?;
+    assert!(rt; fails_first(rt.alloc(), &mut within, true)?);
+    assert_eq!(rt; within.calls, 3);
+    assert!(rt; fails_first(rt.alloc(), &mut within, false)?);
+    assert_eq!(rt; within.calls, 3);
     Ok(())
 }
