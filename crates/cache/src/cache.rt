@@ -13,10 +13,10 @@ use keeper::{KeepFault, copy_box, copy_key};
 use std::alloc::{AllocError, Global};
 use std::collections::{BTreeMap, BTreeSet};
 
-/// The most keys that are kept, and the most boxes. Where one more comes the others are forgotten.
+/// The most keys that are kept, and the most boxes. A map that is full is emptied before one more comes.
 const MOST_KEPT: usize = 8192;
 
-/// The most boxes that are kept of a key.
+/// The most boxes that are kept of a key. Of the others the keeper within is asked each time.
 const MOST_USES: usize = 16;
 
 /// A key, and boxes that it may use.
@@ -49,7 +49,7 @@ pub struct Cache {
     pub(crate) alloc: Global,
 }
 
-// A key of which no box is known.
+/// A key of which no box is known.
 fn new_key(alloc: Global, id: &[u8], row: &KeyRow) -> Result<(Vec<u8>, CachedKey), AllocError>
     ensures { IfOk result (λ k. (k.0.items ≡ id.now) × (key_of k.1.row ≡ key_of row.now)
         × (k.1.uses.keys ≡ [])) }
@@ -63,7 +63,7 @@ fn new_key(alloc: Global, id: &[u8], row: &KeyRow) -> Result<(Vec<u8>, CachedKey
     ))
 }
 
-// A box whose totals are not known.
+/// A box whose totals are not known.
 fn new_box(alloc: Global, name: &[u8], row: &BoxRow) -> Result<(Vec<u8>, CachedBox), AllocError>
     ensures { IfOk result (λ b. (b.0.items ≡ name.now) × (settings_of b.1.row ≡ settings_of row.now)
         × (b.1.totals ≡ None)) }
@@ -77,7 +77,7 @@ fn new_box(alloc: Global, name: &[u8], row: &BoxRow) -> Result<(Vec<u8>, CachedB
     ))
 }
 
-/// Where as many are kept as may be, they are forgotten.
+/// Empties a map that is full.
 fn make_room<X: Drop>(alloc: Global, kept: &mut BTreeMap<Vec<u8>, X>)
     ensures { IsPart kept.old.entries kept.new.entries }
 {
@@ -86,15 +86,15 @@ fn make_room<X: Drop>(alloc: Global, kept: &mut BTreeMap<Vec<u8>, X>)
     }
 }
 
-/// This is kept under the name, where there is memory.
+/// Puts a value under a name. Without memory the map stays as it is: what is not kept is asked for.
 fn put<X: Drop>(kept: &mut BTreeMap<Vec<u8>, X>, name: Vec<u8>, known: X)
     ensures { IsPut name.items known kept.old.entries kept.new.entries }
 {
     let _ = kept.insert(name, known);
 }
 
-/// The key of this id is kept too, where there is memory.
-fn keep_key(alloc: Global, keys: &mut Keys, id: &[u8], row: &KeyRow)
+/// Puts a key into the map, where there is memory.
+fn put_key(alloc: Global, keys: &mut Keys, id: &[u8], row: &KeyRow)
     ensures { (s : State) → RecallsKeys s keys.old.entries → get s.keys id.now ≡ Some (key_of row.now)
         → RecallsKeys s keys.new.entries }
 {
@@ -104,8 +104,8 @@ fn keep_key(alloc: Global, keys: &mut Keys, id: &[u8], row: &KeyRow)
     }
 }
 
-/// The box of this name is kept too, where there is memory.
-fn keep_box(alloc: Global, boxes: &mut Boxes, name: &[u8], row: &BoxRow)
+/// Puts a box into the map, where there is memory.
+fn put_box(alloc: Global, boxes: &mut Boxes, name: &[u8], row: &BoxRow)
     ensures { (s : State) → RecallsBoxes s boxes.old.entries
         → get s.boxes name.now ≡ Some (settings_of row.now) → RecallsBoxes s boxes.new.entries }
 {
@@ -115,7 +115,7 @@ fn keep_box(alloc: Global, boxes: &mut Boxes, name: &[u8], row: &BoxRow)
     }
 }
 
-/// The box is one of the set too, where there is room and memory.
+/// Puts a box into the set of a key, where there is room and memory.
 fn add_use(alloc: Global, uses: &mut BTreeSet<Vec<u8>>, in_box: &[u8])
     ensures { (box : List ℕ) → IsTrue (has_box uses.new box)
         → IsTrue (has_box uses.old box) ⊎ (box ≡ in_box.now) }
@@ -128,8 +128,8 @@ fn add_use(alloc: Global, uses: &mut BTreeSet<Vec<u8>>, in_box: &[u8])
     }
 }
 
-/// This box is kept among those that the key of this id may use, where there is memory.
-fn keep_use(alloc: Global, keys: &mut Keys, id: &[u8], in_box: &[u8])
+/// Puts a box to those that the key of this id may use, where the key is and there is memory.
+fn put_use(alloc: Global, keys: &mut Keys, id: &[u8], in_box: &[u8])
     ensures { (s : State) → RecallsKeys s keys.old.entries → MayUse s id.now in_box.now
         → RecallsKeys s keys.new.entries }
 {
@@ -138,8 +138,8 @@ fn keep_use(alloc: Global, keys: &mut Keys, id: &[u8], in_box: &[u8])
     }
 }
 
-/// What the box of this name holds is kept, where the box is.
-fn keep_totals(boxes: &mut Boxes, name: &[u8], totals: Totals)
+/// Puts totals to the box of this name, where it is.
+fn put_totals(boxes: &mut Boxes, name: &[u8], totals: Totals)
     ensures { (s : State) → RecallsBoxes s boxes.old.entries → AreTotals s name.now totals
         → RecallsBoxes s boxes.new.entries }
 {
@@ -240,7 +240,7 @@ impl Cache {
             → Recalls self.new s }
     {
         if let Some(row) = key {
-            keep_key(self.alloc, &mut self.keys, id, row);
+            put_key(self.alloc, &mut self.keys, id, row);
         }
     }
 
@@ -250,7 +250,7 @@ impl Cache {
             → option_map settings_of in_box.now ≡ get s.boxes name.now → Recalls self.new s }
     {
         if let Some(row) = in_box {
-            keep_box(self.alloc, &mut self.boxes, name, row);
+            put_box(self.alloc, &mut self.boxes, name, row);
         }
     }
 
@@ -262,7 +262,7 @@ impl Cache {
     {
         if let Ok(may) = answer {
             if *may {
-                keep_use(self.alloc, &mut self.keys, id, in_box);
+                put_use(self.alloc, &mut self.keys, id, in_box);
             }
         }
     }
@@ -272,6 +272,6 @@ impl Cache {
         ensures { (s : State) → Recalls self.old s → AreTotals s name.now totals
             → Recalls self.new s }
     {
-        keep_totals(&mut self.boxes, name, totals);
+        put_totals(&mut self.boxes, name, totals);
     }
 }

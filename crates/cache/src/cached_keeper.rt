@@ -7,9 +7,9 @@ use crate::cache::Cache;
 use keeper::{KeepFault, Keeper};
 use std::alloc::Global;
 
-/// Hands each call on to a keeper, but for what that one said before of settings, keys, boxes, what boxes hold and the next
-/// receipt's number: so much is answered from memory. A change makes it forget what the change may change, and a fault
-/// all that it knows. So it answers as the keeper within, and nothing after a fault that the keeper within would refuse.
+/// Answers from memory what the keeper within said before of settings, keys, boxes, what boxes hold, and the next receipt's
+/// number. Every other call goes to the keeper within. Before a change it forgets what the change may change. After a fault it
+/// forgets everything: a store that shut itself is asked again, and refuses.
 #[derive(Drop)]
 pub struct CachedKeeper<'k, K> {
     pub(crate) keeper: &'k mut K,
@@ -17,7 +17,7 @@ pub struct CachedKeeper<'k, K> {
 }
 
 impl<'k, K: Keeper> CachedKeeper<'k, K> {
-    /// Over a keeper, of which nothing is kept yet.
+    /// Begins around a keeper, with nothing in memory.
     pub fn new(alloc: Global, keeper: &'k mut K) -> CachedKeeper<'k, K>
         ensures keeper { result.keeper.ghost_name ≡ keeper.entry.ghost_name }
         ensures same { result.keeper.now ≡ keeper.entry.now }
@@ -43,8 +43,8 @@ impl<'k, K: Keeper> CachedKeeper<'k, K> {
     }
 }
 
-/// What the keeper within answered. After a fault nothing is kept.
-pub(crate) fn told<T>(cache: &mut Cache, answer: Result<T, KeepFault>) -> Result<T, KeepFault>
+/// Hands on what the keeper within answered. An error makes the cache forget everything.
+pub(crate) fn or_forget<T>(cache: &mut Cache, answer: Result<T, KeepFault>) -> Result<T, KeepFault>
     ensures same { result ≡ answer }
     ensures stays { (s : State) → Recalls cache.old s → Recalls cache.new s }
     ensures forgot { OnErr result ((s : State) → Recalls cache.new s) }

@@ -6,21 +6,21 @@ ghost use Rattle.cache.specs.Recalled.{Lacks, LacksTotals, Recalls};
 use crate::cache::{Boxes, Cache, Keys};
 use boxes::{Change, Command};
 
-/// The key of this id is kept no more.
+/// Forgets the key of this id.
 fn forget_key(keys: &mut Keys, id: &[u8])
     ensures { Lacks id.now keys.old.entries keys.new.entries }
 {
     let _ = keys.remove(id);
 }
 
-/// The box of this name is kept no more.
+/// Forgets the box of this name.
 fn forget_box(boxes: &mut Boxes, name: &[u8])
     ensures { Lacks name.now boxes.old.entries boxes.new.entries }
 {
     let _ = boxes.remove(name);
 }
 
-/// What the box of this name holds is kept no more.
+/// Forgets what the box of this name holds.
 fn forget_totals(boxes: &mut Boxes, name: &[u8])
     ensures { LacksTotals name.now boxes.old.entries boxes.new.entries }
 {
@@ -30,7 +30,7 @@ fn forget_totals(boxes: &mut Boxes, name: &[u8])
 }
 
 impl Cache {
-    /// What a command of the desk may change is kept no more.
+    /// Forgets what a command of the desk may change.
     fn forget_named(&mut self, command: &Command<'_>)
         ensures stays { (s : State) → Recalls self.old s → Recalls self.new s }
         ensures made { (s after : State) → IsObeyed s (command_of command.now) after
@@ -47,7 +47,7 @@ impl Cache {
         }
     }
 
-    /// What a change may change is kept no more. So what is kept stands before it and behind it.
+    /// Forgets what the change may change. The rest holds before the change and after it.
     pub(crate) fn forget(&mut self, change: &Change<'_>)
         ensures stays { (s : State) → Recalls self.old s → Recalls self.new s }
         ensures made { (s after : State) → MayChange s change.now after → Recalls self.old s

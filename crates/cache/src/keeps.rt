@@ -2,7 +2,7 @@
 ghost use Rattle.boxes.specs.Sound.{IsSound};
 ghost use Rattle.cache.specs.Recalled.{Recalls};
 
-use crate::cached_keeper::{CachedKeeper, told};
+use crate::cached_keeper::{CachedKeeper, or_forget};
 use boxes::{BoxRow, Change, FileRow, KeyRow, OfficeRow, ReceiptRow, Totals};
 use keeper::{KeepFault, Keeper};
 
@@ -28,7 +28,7 @@ impl<K: Keeper> Keeper for CachedKeeper<'_, K> {
         if let Some(office) = self.cache.office() {
             return Ok(office);
         }
-        let answer = told(&mut self.cache, self.keeper.settings());
+        let answer = or_forget(&mut self.cache, self.keeper.settings());
         self.cache.keep_office(&answer);
         answer
     }
@@ -37,7 +37,7 @@ impl<K: Keeper> Keeper for CachedKeeper<'_, K> {
         if let Some(key) = self.cache.key(id) {
             return Ok(Some(key));
         }
-        let key = told(&mut self.cache, self.keeper.key(id))?;
+        let key = or_forget(&mut self.cache, self.keeper.key(id))?;
         self.cache.keep_key(id, &key);
         Ok(key)
     }
@@ -46,26 +46,26 @@ impl<K: Keeper> Keeper for CachedKeeper<'_, K> {
         if self.cache.knows_use(id, in_box) {
             return Ok(true);
         }
-        let answer = told(&mut self.cache, self.keeper.may_use(id, in_box));
+        let answer = or_forget(&mut self.cache, self.keeper.may_use(id, in_box));
         self.cache.keep_use(id, in_box, &answer);
         answer
     }
 
     fn has_limit(&mut self, id: &[u8], in_box: &[u8]) -> Result<bool, KeepFault> {
-        told(&mut self.cache, self.keeper.has_limit(id, in_box))
+        or_forget(&mut self.cache, self.keeper.has_limit(id, in_box))
     }
 
     fn box_row(&mut self, name: &[u8]) -> Result<Option<BoxRow>, KeepFault> {
         if let Some(row) = self.cache.box_row(name) {
             return Ok(Some(row));
         }
-        let row = told(&mut self.cache, self.keeper.box_row(name))?;
+        let row = or_forget(&mut self.cache, self.keeper.box_row(name))?;
         self.cache.keep_box(name, &row);
         Ok(row)
     }
 
     fn file(&mut self, in_box: &[u8], name: &[u8]) -> Result<Option<FileRow>, KeepFault> {
-        told(&mut self.cache, self.keeper.file(in_box, name))
+        or_forget(&mut self.cache, self.keeper.file(in_box, name))
     }
 
     fn file_receipt(
@@ -73,54 +73,54 @@ impl<K: Keeper> Keeper for CachedKeeper<'_, K> {
         in_box: &[u8],
         name: &[u8],
     ) -> Result<Option<ReceiptRow>, KeepFault> {
-        told(&mut self.cache, self.keeper.file_receipt(in_box, name))
+        or_forget(&mut self.cache, self.keeper.file_receipt(in_box, name))
     }
 
     fn sizes(&mut self, in_box: &[u8]) -> Result<Totals, KeepFault> {
         if let Some(totals) = self.cache.totals(in_box) {
             return Ok(totals);
         }
-        let totals = told(&mut self.cache, self.keeper.sizes(in_box))?;
+        let totals = or_forget(&mut self.cache, self.keeper.sizes(in_box))?;
         self.cache.keep_totals(in_box, totals);
         Ok(totals)
     }
 
     fn clerks(&mut self) -> Result<u64, KeepFault> {
-        told(&mut self.cache, self.keeper.clerks())
+        or_forget(&mut self.cache, self.keeper.clerks())
     }
 
     fn next_number(&mut self) -> Result<u64, KeepFault> {
         if let Some(number) = self.cache.next_number() {
             return Ok(number);
         }
-        let number = told(&mut self.cache, self.keeper.next_number())?;
+        let number = or_forget(&mut self.cache, self.keeper.next_number())?;
         self.cache.keep_next_number(number);
         Ok(number)
     }
 
     fn receipts(&mut self, from: u64, most: usize) -> Result<Vec<ReceiptRow>, KeepFault> {
-        told(&mut self.cache, self.keeper.receipts(from, most))
+        or_forget(&mut self.cache, self.keeper.receipts(from, most))
     }
 
     fn stage_begin(&mut self) -> Result<(), KeepFault> {
-        told(&mut self.cache, self.keeper.stage_begin())
+        or_forget(&mut self.cache, self.keeper.stage_begin())
     }
 
     fn stage(&mut self, bytes: &[u8]) -> Result<(), KeepFault> {
-        told(&mut self.cache, self.keeper.stage(bytes))
+        or_forget(&mut self.cache, self.keeper.stage(bytes))
     }
 
     fn staged_equals(&mut self, in_box: &[u8], name: &[u8]) -> Result<bool, KeepFault> {
-        told(&mut self.cache, self.keeper.staged_equals(in_box, name))
+        or_forget(&mut self.cache, self.keeper.staged_equals(in_box, name))
     }
 
     fn stage_drop(&mut self) -> Result<(), KeepFault> {
-        told(&mut self.cache, self.keeper.stage_drop())
+        or_forget(&mut self.cache, self.keeper.stage_drop())
     }
 
     fn apply(&mut self, change: &Change<'_>) -> Result<(), KeepFault> {
         self.cache.forget(change);
-        told(&mut self.cache, self.keeper.apply(change))
+        or_forget(&mut self.cache, self.keeper.apply(change))
     }
 
     ghost one = { λ c s t honest opened a b. K.one c.keeper.now s t honest opened a.0 b.0 };

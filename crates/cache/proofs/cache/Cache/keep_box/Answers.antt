@@ -4,4 +4,4 @@ use Rattle.cache.proofs.Forgotten.{with_boxes}
 use Rattle.cache.proofs.cache.Cache.keep_box.Goals as goal
 
 pub returns-in-Some : goal.returns-in-Some
-returns-in-Some c s h is = with_boxes c.args.self.now s c.keep_box.new.boxes h (c.keep_box.ensures s h.boxes (sym is ∙ ap (option_map settings_of) c.in-Some.is))
+returns-in-Some c s h is = with_boxes c.args.self.now s c.put_box.new.boxes h (c.put_box.ensures s h.boxes (sym is ∙ ap (option_map settings_of) c.in-Some.is))

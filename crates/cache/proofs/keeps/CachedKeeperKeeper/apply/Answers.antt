@@ -12,38 +12,38 @@ use Rattle.cache.specs.Recalled.{Recalls}
 use Rattle.cache.proofs.keeps.CachedKeeperKeeper.apply.Given as given
 use Rattle.cache.proofs.keeps.CachedKeeperKeeper.apply.Goals as goal
 
-abbrev new : (g : given.Over) (c : goal.After-told g) → CachedKeeper g.row.K.Denot
-new g c = record { keeper = record c.args.self.now.keeper { now = c.apply.new.self }; cache = c.told.new.cache }
+abbrev new : (g : given.Over) (c : goal.After-or_forget g) → CachedKeeper g.row.K.Denot
+new g c = record { keeper = record c.args.self.now.keeper { now = c.apply.new.self }; cache = c.or_forget.new.cache }
 
 pub returns-clause-made : goal.returns-clause-made
 returns-clause-made g c s after m sound is =
-    let Both : Type 0 = g.K.Keeper.means c.apply.new.self after × (g.K.Keeper.is_honest c.apply.new.self → IsSound after → Recalls c.told.new.cache after) in
+    let Both : Type 0 = g.K.Keeper.means c.apply.new.self after × (g.K.Keeper.is_honest c.apply.new.self → IsSound after → Recalls c.or_forget.new.cache after) in
     let more : g.K.Keeper.means c.apply.new.self after → Both = λ means. (
       means,
-      λ honest sound_after. c.told.ensures.stays after (c.forget.ensures.made s after (may_change _ s after c.args.change.now is) (m.1 (c.apply.ensures.honest honest) sound)),
+      λ honest sound_after. c.or_forget.ensures.stays after (c.forget.ensures.made s after (may_change _ s after c.args.change.now is) (m.1 (c.apply.ensures.honest honest) sound)),
     ) in
-    subst (λ (r : Result (Unit {0}) KeepFault). OnOk r Both) (sym c.told.ensures.same) (on_ok_more c.apply.result (c.apply.ensures.made s after m.0 sound is) more)
+    subst (λ (r : Result (Unit {0}) KeepFault). OnOk r Both) (sym c.or_forget.ensures.same) (on_ok_more c.apply.result (c.apply.ensures.made s after m.0 sound is) more)
 
 pub returns-clause-full : goal.returns-clause-full
 returns-clause-full g c s after m sound is told =
-    c.apply.ensures.full s after m.0 sound is (subst (λ (r : Result (Unit {0}) KeepFault). IsErrOf r Full) c.told.ensures.same told)
+    c.apply.ensures.full s after m.0 sound is (subst (λ (r : Result (Unit {0}) KeepFault). IsErrOf r Full) c.or_forget.ensures.same told)
 
 pub returns-clause-room : goal.returns-clause-room
 returns-clause-room g c s after m sound is =
-    subst (λ (r : Result (Unit {0}) KeepFault). OnOk r (IsPastFull s c.args.change.now → ⊥)) (sym c.told.ensures.same) (c.apply.ensures.room s after m.0 sound is)
+    subst (λ (r : Result (Unit {0}) KeepFault). OnOk r (IsPastFull s c.args.change.now → ⊥)) (sym c.or_forget.ensures.same) (c.apply.ensures.room s after m.0 sound is)
 
 pub returns-clause-first : goal.returns-clause-first
 returns-clause-first g c s after m sound is past =
-    subst (λ (r : Result (Unit {0}) KeepFault). IfErr r (λ f. (f ≡ Full) ⊎ g.K.Keeper.has_store)) (sym c.told.ensures.same) (c.apply.ensures.first s after m.0 sound is past)
+    subst (λ (r : Result (Unit {0}) KeepFault). IfErr r (λ f. (f ≡ Full) ⊎ g.K.Keeper.has_store)) (sym c.or_forget.ensures.same) (c.apply.ensures.first s after m.0 sound is past)
 
 pub returns-clause-durable : goal.returns-clause-durable
 returns-clause-durable g c s after m sound is honest =
     let Alone : Type 0 = LeavesAlone (λ (k : CachedKeeper g.row.K.Denot) t. g.K.Keeper.leaves k.keeper.now t) (λ k. g.K.Keeper.leaves_whole k.keeper.now) (new g c) after in
     let more : LeavesAlone g.K.Keeper.leaves g.K.Keeper.leaves_whole c.apply.new.self after → Alone = λ it. record { there = it.there; alone = it.alone; whole = it.whole } in
-    subst (λ (r : Result (Unit {0}) KeepFault). OnOk r Alone) (sym c.told.ensures.same) (on_ok_more c.apply.result (c.apply.ensures.durable s after m.0 sound is honest) more)
+    subst (λ (r : Result (Unit {0}) KeepFault). OnOk r Alone) (sym c.or_forget.ensures.same) (on_ok_more c.apply.result (c.apply.ensures.durable s after m.0 sound is honest) more)
 
 pub returns-clause-crash : goal.returns-clause-crash
 returns-clause-crash g c s after m sound is honest =
     let Either : Type 0 = LeavesEither (λ (k : CachedKeeper g.row.K.Denot) t. g.K.Keeper.leaves k.keeper.now t) (λ k. g.K.Keeper.leaves_whole k.keeper.now) c.args.self.now (new g c) s after in
     let more : LeavesEither g.K.Keeper.leaves g.K.Keeper.leaves_whole c.args.self.now.keeper.now c.apply.new.self s after → Either = λ it. record { either = it.either; whole = it.whole } in
-    subst (λ (r : Result (Unit {0}) KeepFault). OnErr r Either) (sym c.told.ensures.same) (on_err_more c.apply.result (c.apply.ensures.crash s after m.0 sound is honest) more)
+    subst (λ (r : Result (Unit {0}) KeepFault). OnErr r Either) (sym c.or_forget.ensures.same) (on_err_more c.apply.result (c.apply.ensures.crash s after m.0 sound is honest) more)

@@ -8,7 +8,7 @@ use Rattle.keeper.proofs.MapLemmas.{sets_of}
 use Rattle.cache.specs.declared.cache.CachedKey.{CachedKey}
 use Rattle.cache.specs.Recalled.{IsKeyIn, RecallsKeys}
 use Rattle.cache.proofs.Entries.{each_set}
-use Rattle.cache.proofs.cache.keep_use.Goals as goal
+use Rattle.cache.proofs.cache.put_use.Goals as goal
 
 pub returns-in-Some : goal.returns-in-Some
 returns-in-Some c s each may =

@@ -4,7 +4,7 @@ use Rattle.std.specs.Prelude.{IfSome}
 use Rattle.boxes.specs.Views.{AreTotals}
 use Rattle.cache.specs.Recalled.{IsBoxIn}
 use Rattle.cache.proofs.Entries.{new_entry}
-use Rattle.cache.proofs.cache.keep_box.Goals as goal
+use Rattle.cache.proofs.cache.put_box.Goals as goal
 
 pub returns-in-Ok : goal.returns-in-Ok
 returns-in-Ok c s each there =

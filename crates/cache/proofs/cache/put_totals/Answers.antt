@@ -7,7 +7,7 @@ use Rattle.keeper.proofs.MapLemmas.{sets_of}
 use Rattle.cache.specs.declared.cache.CachedBox.{CachedBox}
 use Rattle.cache.specs.Recalled.{IsBoxIn, RecallsBoxes}
 use Rattle.cache.proofs.Entries.{each_set}
-use Rattle.cache.proofs.cache.keep_totals.Goals as goal
+use Rattle.cache.proofs.cache.put_totals.Goals as goal
 
 pub returns-in-Some : goal.returns-in-Some
 returns-in-Some c s each are =

@@ -2,7 +2,7 @@ use Rattle.std.proofs.Common.{◌∙◌, Some, ap, sym}
 use Rattle.std.specs.FinMap.{get}
 use Rattle.cache.specs.Recalled.{IsKeyIn}
 use Rattle.cache.proofs.Entries.{none_of, new_entry}
-use Rattle.cache.proofs.cache.keep_key.Goals as goal
+use Rattle.cache.proofs.cache.put_key.Goals as goal
 
 pub returns-in-Ok : goal.returns-in-Ok
 returns-in-Ok c s each there =
