@@ -24,7 +24,7 @@ fn is_signed_by(link: &LinkParts<'_>, scope: &Scope<'_>, secret: &[u8], last: &m
         → (IsTrue result ↔ ((texts_of link.now.six).signature
         ≡ signature_of secret.now date (scope_of scope.now) text))) }
 {
-    let digits = sign(&last.key(secret, scope), scope, &link.start, &link.parts);
+    let digits = sign(last.hasher(secret, scope), scope, &link.start, &link.parts);
     link.six.signature() == digits.as_slice()
 }
 

@@ -1,10 +1,11 @@
 //! The signing key and the signature (Amazon S3 API Reference, "Authenticating Requests: Using Query
 //! Parameters", tasks 2 and 3 of the calculation).
-ghost use Rattle.std.specs.Prelude.{◌≡◌, ℕ, List};
+ghost use Rattle.std.specs.Prelude.{◌≡◌, ℕ, List, []};
 ghost use Rattle.sha2.specs.Sha256.{sha256};
 ghost use Rattle.hex.specs.Hex.{encode_lower};
 ghost use Rattle.sigtext.specs.CanonicalRequest.{Signed, IsCanonicalRequest, IsTheOnly};
 ghost use Rattle.sigtext.specs.Signing.{AreOf};
+ghost use Rattle.sigv4.specs.Hashers.{HmacHolds};
 ghost use Rattle.sigv4.specs.Hmac.{hmac};
 ghost use Rattle.sigv4.specs.Signature.{signing_key, signature_of};
 ghost use Rattle.sigv4.specs.Dates.{WritesMoment};
@@ -57,17 +58,16 @@ pub fn derive(secret: &[u8], scope: &Scope<'_>) -> [u8; 32]
     keyed(&of_service, b"aws4_request")
 }
 
-/// The signature under a signing key of the canonical request of the parts: 64 hexadecimal digits in lower case. The
-/// request and the string to sign are sent to the hashers piece after piece, and are never held whole.
-pub fn sign(key: &[u8; 32], scope: &Scope<'_>, moment: &Moment, parts: &Parts<'_>) -> [u8; 64]
-    ensures { (secret : List ℕ) → key.now ≡ signing_key secret (scope_of scope.now)
-        → (signed : Signed) → AreOf parts.now signed
-        → (text : List ℕ) × IsTheOnly (IsCanonicalRequest signed) text
+/// The signature of the canonical request of the parts, by a hasher for the signing key that was fed nothing: 64 hexadecimal
+/// digits in lower case. The request and the string to sign are sent to the hashers piece after piece, and are never held whole.
+pub fn sign(mut signed: Hmac, scope: &Scope<'_>, moment: &Moment, parts: &Parts<'_>) -> [u8; 64]
+    ensures { (secret : List ℕ) → HmacHolds signed (signing_key secret (scope_of scope.now)) []
+        → (request : Signed) → AreOf parts.now request
+        → (text : List ℕ) × IsTheOnly (IsCanonicalRequest request) text
         × ((date : List ℕ) → WritesMoment date moment.now
         → result ≡ signature_of secret date (scope_of scope.now) text) }
 {
     let digest = hex_digits(canonical_digest(parts));
-    let mut signed = Hmac::new(key);
     signed.update(b"AWS4-HMAC-SHA256\n");
     signed.update(&moment.text());
     signed.update(b"\n");
@@ -87,5 +87,5 @@ pub fn signature(secret: &[u8], scope: &Scope<'_>, moment: &Moment, parts: &Part
         × ((date : List ℕ) → WritesMoment date moment.now
         → result ≡ signature_of secret.now date (scope_of scope.now) text) }
 {
-    sign(&derive(secret, scope), scope, moment, parts)
+    sign(Hmac::new(&derive(secret, scope)), scope, moment, parts)
 }

@@ -2,7 +2,7 @@ use Rattle.std.proofs.Common.{◌≡◌, ℕ, List, ◌∷◌, [], ◌++◌, cod
 use Rattle.sha2.specs.Sha256.{sha256}
 use Rattle.hex.specs.Hex.{encode_lower}
 use Rattle.sigv4.specs.Hmac.{hmac}
-use Rattle.sigv4.specs.Signature.{CredentialScope, string_to_sign, signature_of}
+use Rattle.sigv4.specs.Signature.{CredentialScope, string_to_sign, signature_of, signing_key}
 use Rattle.sigv4.specs.Scopes.{scope_of}
 use Rattle.sigv4.proofs.Moments.{text_once}
 use Rattle.sigv4.proofs.signing.sign.Goals as goal
@@ -19,16 +19,15 @@ joined text s digest canonical e =
 
 pub returns : goal.returns
 unfolding signature_of
-returns c secret derived signed are =
+returns c secret keyed signed are =
     let (canonical, only, digest_is) = c.canonical_digest.ensures signed are in
     let scope = scope_of c.args.scope.now in
-    let fed = c.update-8.ensures _ _ (c.update-7.ensures _ _ (c.update-6.ensures _ _ (c.update-5.ensures _ _ (c.update-4.ensures _ _ (c.update-3.ensures _ _ (c.update-2.ensures _ _ (c.update.ensures _ _ c.new-signed.ensures))))))) in
+    let fed = c.update-8.ensures _ _ (c.update-7.ensures _ _ (c.update-6.ensures _ _ (c.update-5.ensures _ _ (c.update-4.ensures _ _ (c.update-3.ensures _ _ (c.update-2.ensures _ _ (c.update.ensures _ _ keyed))))))) in
     let digest = c.hex_digits-digest.ensures ∙ ap encode_lower digest_is in (
       canonical,
       only,
       λ text writes.
           let same = text_once c.text.result text c.args.moment.now c.text.ensures writes in
           let sent = joined c.text.result scope c.hex_digits-digest.result canonical digest ∙ ap (λ (t : List ℕ). string_to_sign t scope canonical) same in
-          let keyed = ap (λ (key : List ℕ). hmac key (string_to_sign text scope canonical)) derived in
-          c.hex_digits.ensures ∙ ap encode_lower (c.finish.ensures _ _ fed ∙ ap (hmac c.args.key.now) sent ∙ keyed),
+          c.hex_digits.ensures ∙ ap encode_lower (c.finish.ensures _ _ fed ∙ ap (hmac (signing_key secret scope)) sent),
     )
