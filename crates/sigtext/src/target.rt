@@ -152,7 +152,9 @@ fn raw_target(text: &[u8]) -> Target<'_>
 fn may_stand(byte: u8, barred: &[u8]) -> bool
     ensures { result ≡ spelling.may_stand barred.now byte }
 {
-    (0x21..=0x7E).contains(&byte) && !matches!(byte, b'+' | b'#' | b'%') && !barred.contains(&byte)
+    (0x21..=0x7E).contains(&byte)
+        && !matches!(byte, b'+' | b'#' | b'%')
+        && !barred.iter().any(|other| *other == byte)
 }
 
 // Whether the text begins with `%` and two hexadecimal digits.
