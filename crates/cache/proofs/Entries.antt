@@ -15,7 +15,8 @@ use Rattle.keeper.specs.Shelves.{bytes_of, has_box}
 use Rattle.keeper.proofs.MapLemmas.{found-tied, sets_of}
 use Rattle.keeper.proofs.LimitLemmas.{has_after}
 use Rattle.cache.specs.declared.cache.CachedBox.{CachedBox}
-use Rattle.cache.specs.Recalled.{IsPart, IsPut, Lacks, LacksTotals}
+use Rattle.boxes.specs.declared.totals.Totals.{Totals}
+use Rattle.cache.specs.Recalled.{IsPart, IsPut, Lacks, HasTotals}
 
 unlike : true ≡ false → ⊥
 unlike e = cc
@@ -45,20 +46,20 @@ lacks_gone es after k sets q x e =
       | false ↦ λ t is. (apart_from q k t, is)
     ] refl (sym (sets.each q) ∙ e)
 
--- the totals of a box were taken out
-pub lacks_totals : (es after : List (Vec ℕ Global × CachedBox)) (k : List ℕ) (old : CachedBox) → found bytes_cmp bytes_of es k ≡ Some old
-    → Sets bytes_cmp bytes_of k (Some (record old { totals = None })) es after → LacksTotals k es after
-lacks_totals es after k old there sets q b e =
-    let bare : CachedBox = record old { totals = None } in
-    elim (eq_by_cmp bytes_cmp q k) as (λ t. eq_by_cmp bytes_cmp q k ≡ t → cond t (Some bare) (found bytes_cmp bytes_of es q) ≡ Some b
-    → (was : CachedBox) × (found bytes_cmp bytes_of es q ≡ Some was) × (b.row ≡ was.row) × (((q ≢ k) × (b.totals ≡ was.totals)) ⊎ (b.totals ≡ None))) [
-      | true ↦ λ t is. let same : bare ≡ b = cc in (old, found-tied bytes_cmp bytes_of bytes_total es q k t ∙ there, ap (λ (x : CachedBox). x.row) (sym same), inr (ap (λ (x : CachedBox). x.totals) (sym same)))
+-- the totals of a box were set
+pub has_totals : (es after : List (Vec ℕ Global × CachedBox)) (k : List ℕ) (totals : Option Totals) (old : CachedBox) → found bytes_cmp bytes_of es k ≡ Some old
+    → Sets bytes_cmp bytes_of k (Some (record old { totals = totals })) es after → HasTotals k totals es after
+has_totals es after k totals old there sets q b e =
+    let set : CachedBox = record old { totals = totals } in
+    elim (eq_by_cmp bytes_cmp q k) as (λ t. eq_by_cmp bytes_cmp q k ≡ t → cond t (Some set) (found bytes_cmp bytes_of es q) ≡ Some b
+    → (was : CachedBox) × (found bytes_cmp bytes_of es q ≡ Some was) × (b.row ≡ was.row) × (((q ≢ k) × (b.totals ≡ was.totals)) ⊎ ((q ≡ k) × (b.totals ≡ totals)))) [
+      | true ↦ λ t is. let same : set ≡ b = cc in (old, found-tied bytes_cmp bytes_of bytes_total es q k t ∙ there, ap (λ (x : CachedBox). x.row) (sym same), inr (bytes_same q k (equal_is (bytes_cmp q k) t), ap (λ (x : CachedBox). x.totals) (sym same)))
       | false ↦ λ t is. (b, is, refl, inl (apart_from q k t, refl))
     ] refl (sym (sets.each q) ∙ e)
 
 -- there was no such box
-pub no_totals : (es : List (Vec ℕ Global × CachedBox)) (k : List ℕ) → found bytes_cmp bytes_of es k ≡ None → LacksTotals k es es
-no_totals es k none q b e = (b, e, refl, inl (λ same. some_none b (sym e ∙ ap (found bytes_cmp bytes_of es) same ∙ none), refl))
+pub no_totals : (es : List (Vec ℕ Global × CachedBox)) (k : List ℕ) (totals : Option Totals) → found bytes_cmp bytes_of es k ≡ None → HasTotals k totals es es
+no_totals es k totals none q b e = (b, e, refl, inl (λ same. some_none b (sym e ∙ ap (found bytes_cmp bytes_of es) same ∙ none), refl))
 
 -- nothing is there
 pub none_there : {X : Type 0} (es after : List (Vec ℕ Global × X)) → after ≡ [] → IsPart es after

@@ -1,3 +1,3 @@
 pub mod Entries
-pub mod Forgotten
+pub mod Followed
 pub mod Answered

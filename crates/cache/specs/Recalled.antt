@@ -1,17 +1,19 @@
 -- What a cache says of a state.
-use Rattle.std.specs.Prelude.{◌≡◌, ◌≢◌, ◌⊎◌, ℕ, ◌+◌, List, length, None, Some, Vec, IfSome, IsTrue}
+use Rattle.std.specs.Prelude.{◌≡◌, ◌≢◌, ◌⊎◌, ℕ, ◌+◌, List, length, Option, Some, Vec, IfSome, IsTrue, option_map}
 use Rattle.std.specs.FinMap.{get}
 use Rattle.std.specs.declared.alloc.Global.{Global}
 use Rattle.sigtext.specs.Bytes.{bytes_cmp}
 use Rattle.boxes.specs.Limits.{MayUse}
 use Rattle.boxes.specs.Maps.{found}
 use Rattle.boxes.specs.Rows.{IsOfficeOf, key_of, settings_of}
+use Rattle.boxes.specs.declared.totals.Totals.{Totals}
 use Rattle.boxes.specs.State.{State}
 use Rattle.boxes.specs.Views.{AreTotals}
 use Rattle.keeper.specs.Shelves.{bytes_of, has_box}
 use Rattle.cache.specs.declared.cache.CachedKey.{CachedKey}
 use Rattle.cache.specs.declared.cache.CachedBox.{CachedBox}
 use Rattle.cache.specs.declared.cache.Cache.{Cache}
+use Rattle.cache.specs.declared.last_size.LastSize.{LastSize}
 
 -- the key stands so, and may use each of these boxes
 pub record IsKeyIn (s : State) (id : List ℕ) (k : CachedKey) : Type 0 where
@@ -31,12 +33,17 @@ RecallsKeys s es = (id : List ℕ) (k : CachedKey) → found bytes_cmp bytes_of 
 abbrev pub RecallsBoxes : State → List (Vec ℕ Global × CachedBox) → Type 0
 RecallsBoxes s es = (name : List ℕ) (b : CachedBox) → found bytes_cmp bytes_of es name ≡ Some b → IsBoxIn s name b
 
+-- the file is so long, if it stands
+abbrev pub IsSizeIn : State → LastSize → Type 0
+IsSizeIn s l = l.size ≡ option_map (λ f. length f.bytes) (get s.files (record { box = l.in_box.items; name = l.name.items }))
+
 -- all that is kept is so in the state
 pub record Recalls (c : Cache) (s : State) : Type 0 where
   pub office : IfSome c.office (IsOfficeOf s)
   pub next : IfSome c.next_number (λ n. n ≡ length s.receipts + 1)
   pub keys : RecallsKeys s c.keys.entries
   pub boxes : RecallsBoxes s c.boxes.entries
+  pub last : IfSome c.last_size (IsSizeIn s)
 
 -- ---- what comes and what goes
 
@@ -52,7 +59,7 @@ IsPut {X = X} name new es after = (q : List ℕ) (x : X) → found bytes_cmp byt
 abbrev pub Lacks : {X : Type 0} → List ℕ → List (Vec ℕ Global × X) → List (Vec ℕ Global × X) → Type 0
 Lacks {X = X} name es after = (q : List ℕ) (x : X) → found bytes_cmp bytes_of after q ≡ Some x → (q ≢ name) × (found bytes_cmp bytes_of es q ≡ Some x)
 
--- the entries are those from before, but that this box has no totals
-abbrev pub LacksTotals : List ℕ → List (Vec ℕ Global × CachedBox) → List (Vec ℕ Global × CachedBox) → Type 0
-LacksTotals name es after = (q : List ℕ) (b : CachedBox) → found bytes_cmp bytes_of after q ≡ Some b
-    → (old : CachedBox) × (found bytes_cmp bytes_of es q ≡ Some old) × (b.row ≡ old.row) × (((q ≢ name) × (b.totals ≡ old.totals)) ⊎ (b.totals ≡ None))
+-- the entries are those from before, but that this box has these totals, or none
+abbrev pub HasTotals : List ℕ → Option Totals → List (Vec ℕ Global × CachedBox) → List (Vec ℕ Global × CachedBox) → Type 0
+HasTotals name totals es after = (q : List ℕ) (b : CachedBox) → found bytes_cmp bytes_of after q ≡ Some b
+    → (old : CachedBox) × (found bytes_cmp bytes_of es q ≡ Some old) × (b.row ≡ old.row) × (((q ≢ name) × (b.totals ≡ old.totals)) ⊎ ((q ≡ name) × (b.totals ≡ totals)))

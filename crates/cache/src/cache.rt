@@ -6,8 +6,9 @@ ghost use Rattle.boxes.specs.Rows.{IsOfficeOf, key_of, settings_of};
 ghost use Rattle.boxes.specs.State.{State};
 ghost use Rattle.boxes.specs.Views.{AreTotals};
 ghost use Rattle.keeper.specs.Shelves.{has_box};
-ghost use Rattle.cache.specs.Recalled.{IsPart, IsPut, Recalls, RecallsBoxes, RecallsKeys};
+ghost use Rattle.cache.specs.Recalled.{IsPart, IsPut, HasTotals, Recalls, RecallsBoxes, RecallsKeys};
 
+use crate::last_size::LastSize;
 use boxes::{BoxRow, KeyRow, OfficeRow, Totals};
 use keeper::{KeepFault, copy_box, copy_key};
 use std::alloc::{AllocError, Global};
@@ -46,6 +47,7 @@ pub struct Cache {
     pub(crate) next_number: Option<u64>,
     pub(crate) keys: Keys,
     pub(crate) boxes: Boxes,
+    pub(crate) last_size: Option<LastSize>,
     pub(crate) alloc: Global,
 }
 
@@ -138,13 +140,12 @@ fn put_use(alloc: Global, keys: &mut Keys, id: &[u8], in_box: &[u8])
     }
 }
 
-/// Puts totals to the box of this name, where it is.
-fn put_totals(boxes: &mut Boxes, name: &[u8], totals: Totals)
-    ensures { (s : State) → RecallsBoxes s boxes.old.entries → AreTotals s name.now totals
-        → RecallsBoxes s boxes.new.entries }
+/// Sets what the box of this name is known to hold, where the box is kept.
+pub(crate) fn set_totals(boxes: &mut Boxes, name: &[u8], totals: Option<Totals>)
+    ensures { HasTotals name.now totals boxes.old.entries boxes.new.entries }
 {
     if let Some(known) = boxes.get_mut(name) {
-        known.totals = Some(totals);
+        known.totals = totals;
     }
 }
 
@@ -158,6 +159,7 @@ impl Cache {
             next_number: None,
             keys: BTreeMap::new(alloc),
             boxes: BTreeMap::new(alloc),
+            last_size: None,
             alloc,
         }
     }
@@ -216,14 +218,11 @@ impl Cache {
         self.boxes.get(name)?.totals
     }
 
-    /// What was answered that the office is set to is kept.
-    pub(crate) fn keep_office(&mut self, answer: &Result<OfficeRow, KeepFault>)
-        ensures { (s : State) → Recalls self.old s → IfOk answer.now (IsOfficeOf s)
-            → Recalls self.new s }
+    /// What the office is set to is kept.
+    pub(crate) fn keep_office(&mut self, office: &OfficeRow)
+        ensures { (s : State) → Recalls self.old s → IsOfficeOf s office.now → Recalls self.new s }
     {
-        if let Ok(office) = answer {
-            self.office = Some(*office);
-        }
+        self.office = Some(*office);
     }
 
     /// The number of the next receipt is kept.
@@ -272,6 +271,6 @@ impl Cache {
         ensures { (s : State) → Recalls self.old s → AreTotals s name.now totals
             → Recalls self.new s }
     {
-        put_totals(&mut self.boxes, name, totals);
+        set_totals(&mut self.boxes, name, Some(totals));
     }
 }

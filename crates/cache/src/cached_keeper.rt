@@ -8,8 +8,8 @@ use keeper::{KeepFault, Keeper};
 use std::alloc::Global;
 
 /// Answers from memory what the keeper within said before of settings, keys, boxes, what boxes hold, and the next receipt's
-/// number. Every other call goes to the keeper within. Before a change it forgets what the change may change. After a fault it
-/// forgets everything: a store that shut itself is asked again, and refuses.
+/// number. Every other call goes to the keeper within. A change takes with it what it may change; of an upload the totals and the
+/// next number are known, and stay. After a fault it forgets everything: a store that shut itself is asked again, and refuses.
 #[derive(Drop)]
 pub struct CachedKeeper<'k, K> {
     pub(crate) keeper: &'k mut K,

@@ -28,9 +28,9 @@ impl<K: Keeper> Keeper for CachedKeeper<'_, K> {
         if let Some(office) = self.cache.office() {
             return Ok(office);
         }
-        let answer = or_forget(&mut self.cache, self.keeper.settings());
-        self.cache.keep_office(&answer);
-        answer
+        let office = or_forget(&mut self.cache, self.keeper.settings())?;
+        self.cache.keep_office(&office);
+        Ok(office)
     }
 
     fn key(&mut self, id: &[u8]) -> Result<Option<KeyRow>, KeepFault> {
@@ -73,7 +73,9 @@ impl<K: Keeper> Keeper for CachedKeeper<'_, K> {
         in_box: &[u8],
         name: &[u8],
     ) -> Result<Option<ReceiptRow>, KeepFault> {
-        or_forget(&mut self.cache, self.keeper.file_receipt(in_box, name))
+        let receipt = or_forget(&mut self.cache, self.keeper.file_receipt(in_box, name))?;
+        self.cache.keep_size(in_box, name, &receipt);
+        Ok(receipt)
     }
 
     fn sizes(&mut self, in_box: &[u8]) -> Result<Totals, KeepFault> {
@@ -119,7 +121,7 @@ impl<K: Keeper> Keeper for CachedKeeper<'_, K> {
     }
 
     fn apply(&mut self, change: &Change<'_>) -> Result<(), KeepFault> {
-        self.cache.forget(change);
+        self.cache.follow(change);
         or_forget(&mut self.cache, self.keeper.apply(change))
     }
 

@@ -3,7 +3,8 @@
 
 mod cache;
 mod cached_keeper;
-mod forgetting;
+mod following;
 mod keeps;
+mod last_size;
 
 pub use cached_keeper::CachedKeeper;

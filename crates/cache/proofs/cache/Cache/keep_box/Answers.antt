@@ -1,6 +1,6 @@
 use Rattle.std.proofs.Common.{◌∙◌, ap, sym, option_map}
 use Rattle.boxes.specs.Rows.{settings_of}
-use Rattle.cache.proofs.Forgotten.{with_boxes}
+use Rattle.cache.proofs.Followed.{with_boxes}
 use Rattle.cache.proofs.cache.Cache.keep_box.Goals as goal
 
 pub returns-in-Some : goal.returns-in-Some

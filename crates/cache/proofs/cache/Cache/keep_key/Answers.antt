@@ -1,6 +1,6 @@
 use Rattle.std.proofs.Common.{◌∙◌, ap, sym, option_map}
 use Rattle.boxes.specs.Rows.{key_of}
-use Rattle.cache.proofs.Forgotten.{with_keys}
+use Rattle.cache.proofs.Followed.{with_keys}
 use Rattle.cache.proofs.cache.Cache.keep_key.Goals as goal
 
 pub returns-in-Some : goal.returns-in-Some

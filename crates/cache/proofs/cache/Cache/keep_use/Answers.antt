@@ -2,7 +2,7 @@ use Rattle.std.proofs.Common.{Bool, subst}
 use Rattle.std.specs.Prelude.{◌↔◌, Result, IfOk, IsTrue}
 use Rattle.boxes.specs.Limits.{MayUse}
 use Rattle.keeper.specs.declared.keep.KeepFault.{KeepFault}
-use Rattle.cache.proofs.Forgotten.{with_keys}
+use Rattle.cache.proofs.Followed.{with_keys}
 use Rattle.cache.proofs.cache.Cache.keep_use.Goals as goal
 
 pub returns-then-may : goal.returns-then-may

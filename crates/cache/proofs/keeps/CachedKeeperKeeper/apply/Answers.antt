@@ -20,7 +20,7 @@ returns-clause-made g c s after m sound is =
     let Both : Type 0 = g.K.Keeper.means c.apply.new.self after × (g.K.Keeper.is_honest c.apply.new.self → IsSound after → Recalls c.or_forget.new.cache after) in
     let more : g.K.Keeper.means c.apply.new.self after → Both = λ means. (
       means,
-      λ honest sound_after. c.or_forget.ensures.stays after (c.forget.ensures.made s after (may_change _ s after c.args.change.now is) (m.1 (c.apply.ensures.honest honest) sound)),
+      λ honest sound_after. c.or_forget.ensures.stays after (c.follow.ensures s after sound (may_change _ s after c.args.change.now is) (m.1 (c.apply.ensures.honest honest) sound)),
     ) in
     subst (λ (r : Result (Unit {0}) KeepFault). OnOk r Both) (sym c.or_forget.ensures.same) (on_ok_more c.apply.result (c.apply.ensures.made s after m.0 sound is) more)
 

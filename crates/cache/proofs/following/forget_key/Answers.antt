@@ -4,7 +4,7 @@ use Rattle.boxes.proofs.Lookups.{bytes_total}
 use Rattle.keeper.specs.Shelves.{bytes_of}
 use Rattle.keeper.proofs.MapLemmas.{sets_of}
 use Rattle.cache.proofs.Entries.{lacks_gone}
-use Rattle.cache.proofs.forgetting.forget_key.Goals as goal
+use Rattle.cache.proofs.following.forget_key.Goals as goal
 
 pub returns : goal.returns
 returns c = lacks_gone c.args.keys.now.entries c.remove.new.self.entries c.args.id.now (sets_of bytes_cmp bytes_of bytes_total c.args.keys.now c.remove.new.self c.args.id.now None c.remove.ensures.updates)

@@ -1,6 +1,7 @@
--- What is kept still stands behind a change.
-use Rattle.std.proofs.Common.{◌≡◌, ◌≢◌, ◌∙◌, ℕ, ◌+◌, length, true, false, cond, List, Option, Some, None, inl, inr, refl, sym, ap, subst}
-use Rattle.std.specs.Prelude.{Vec, IfSome, is_some}
+-- What is kept stands behind a change.
+use Rattle.std.proofs.Common.{◌≡◌, ◌≢◌, ◌∙◌, ℕ, ◌+◌, ◌<◌, ◌^◌, length, true, false, cond, List, [], ◌∷◌, Option, Some, None, inl, inr, arith, refl, sym, ap, subst, length-append}
+use Rattle.std.specs.Prelude.{Vec, Result, Ok, Err, IfOk, IfSome, is_some, option_map}
+use Rattle.std.specs.Result.{result_ok}
 use Rattle.std.specs.declared.alloc.Global.{Global}
 use Rattle.std.specs.Ordering.{eq_by_cmp}
 use Rattle.std.specs.FinMap.{FinMap, get, insert, remove, get-insert}
@@ -10,11 +11,14 @@ use Rattle.boxes.specs.declared.rows.BoxRow.{BoxRow}
 use Rattle.boxes.specs.declared.rows.OfficeRow.{OfficeRow}
 use Rattle.boxes.specs.declared.rows.Role.{Role}
 use Rattle.boxes.specs.declared.change.NewFile.{NewFile}
+use Rattle.boxes.specs.declared.totals.Totals.{Totals}
+use Rattle.sigtext.specs.declared.refusal.Refusal.TheVariants.{NoSuchBox}
 use Rattle.boxes.specs.State.{Key, Settings, Place, File, Limit, limit_cmp, State}
 use Rattle.boxes.specs.Changes.{IsObeyed, IsFileSet, upload_in}
 use Rattle.boxes.specs.Limits.{IsLimitedTo, MayUse}
 use Rattle.boxes.specs.Rows.{IsOfficeOf, settings_of}
-use Rattle.boxes.specs.Steps.{after_upload, AddKey, RevokeKey, AddBox, CloseBox, DropFile, LimitKey, SetAllowance}
+use Rattle.boxes.specs.Sound.{IsSound}
+use Rattle.boxes.specs.Steps.{after_upload, receipt_of, AddKey, RevokeKey, AddBox, CloseBox, DropFile, LimitKey, SetAllowance}
 use Rattle.boxes.specs.Totals.{used, count}
 use Rattle.boxes.specs.Views.{AreTotals}
 use Rattle.boxes.proofs.CommandSteps.{key_added_is, key_revoked_is, box_added_is, box_closed_is, file_dropped_is, key_limited_is, allowance_set_is}
@@ -26,7 +30,8 @@ use Rattle.boxes.proofs.MapLemmas.{is_none_is}
 use Rattle.cache.specs.declared.cache.CachedKey.{CachedKey}
 use Rattle.cache.specs.declared.cache.CachedBox.{CachedBox}
 use Rattle.cache.specs.declared.cache.Cache.{Cache}
-use Rattle.cache.specs.Recalled.{IsPart, Lacks, LacksTotals, Recalls, RecallsKeys, RecallsBoxes}
+use Rattle.cache.specs.declared.last_size.LastSize.{LastSize}
+use Rattle.cache.specs.Recalled.{IsPart, IsSizeIn, Lacks, HasTotals, Recalls, RecallsKeys, RecallsBoxes}
 
 more_some : {X : Type 0} (o : Option X) (P Q : X → Type 0) → ((x : X) → P x → Q x) → IfSome o P → IfSome o Q
 more_some None P Q more h = h
@@ -101,11 +106,12 @@ boxes_but s name b es after lacks each q x e =
       totals = more_some x.totals (AreTotals s q) (AreTotals (record s { boxes = insert s.boxes name b }) q) (λ t h. record { used = h.used; count = h.count }) is.totals;
     }
 
--- files of one box changed, whose totals are kept no more
-pub boxes_with : (s after : State) (box : List ℕ) (es new : List (Vec ℕ Global × CachedBox)) → after.boxes ≡ s.boxes
-    → ((q : List ℕ) → same_bytes box q ≡ false → (used after q ≡ used s q) × (count after q ≡ count s q)) → LacksTotals box es new → RecallsBoxes s es → RecallsBoxes after new
-boxes_with s after box es new boxes sums lacks each q x e =
-    let was = lacks q x e in
+-- files of one box changed, whose totals are these now, if they are known
+pub boxes_with : (s after : State) (box : List ℕ) (totals : Option Totals) (es new : List (Vec ℕ Global × CachedBox)) → after.boxes ≡ s.boxes
+    → ((q : List ℕ) → same_bytes box q ≡ false → (used after q ≡ used s q) × (count after q ≡ count s q)) → IfSome totals (AreTotals after box)
+    → HasTotals box totals es new → RecallsBoxes s es → RecallsBoxes after new
+boxes_with s after box totals es new boxes sums are has each q x e =
+    let was = has q x e in
     let is = each q was.0 was.1 in
     record {
       row = ap (λ m. get m q) boxes ∙ is.row ∙ ap (λ (r : BoxRow). Some (settings_of r)) (sym was.2);
@@ -114,7 +120,7 @@ boxes_with s after box es new boxes sums lacks each q x e =
             let still = sums q (texts_apart box q (λ same. far.0 (sym same))) in
             subst (λ o. IfSome o (AreTotals after q)) (sym far.1)
             (more_some was.0.totals (AreTotals s q) (AreTotals after q) (λ t h. record { used = h.used ∙ sym still.0; count = h.count ∙ sym still.1 }) is.totals)
-        | inr none ↦ subst (λ o. IfSome o (AreTotals after q)) (sym none) tt
+        | inr here ↦ subst (λ o. IfSome o (AreTotals after q)) (sym here.1) (subst (λ n. IfSome totals (AreTotals after n)) (sym here.0) are)
       ];
     }
 
@@ -129,16 +135,32 @@ boxes_as s after es boxes files each q x e =
       }) is.totals;
     }
 
+-- ---- the file that was asked for last
+
+size_as : (s after : State) (o : Option LastSize) → after.files ≡ s.files → IfSome o (IsSizeIn s) → IfSome o (IsSizeIn after)
+size_as s after o files = more_some o (IsSizeIn s) (IsSizeIn after) (λ l h. h ∙ ap (λ m. option_map (λ (f : File). length f.bytes) (get m (record { box = l.in_box.items; name = l.name.items }))) (sym files))
+
+-- what a receipt tells of the file
+pub size_told : {E : Type 0} (s : State) (r : Result LastSize E) (o : Option LastSize) (box name : List ℕ) (size : Option ℕ) → o ≡ result_ok r
+    → IfOk r (λ l. (l.in_box.items ≡ box) × (l.name.items ≡ name) × (l.size ≡ size)) → size ≡ option_map (λ (f : File). length f.bytes) (get s.files (record { box = box; name = name }))
+    → IfSome o (IsSizeIn s)
+size_told s (Ok l) o box name size is told stands =
+    let asked : Place = record { box = box; name = name } in
+    let kept : Place = record { box = l.in_box.items; name = l.name.items } in
+    let place : asked ≡ kept = λ i. record { box = sym told.0 i; name = sym told.1 i } in
+    subst (λ p. IfSome p (IsSizeIn s)) (sym is) (told.2 ∙ stands ∙ ap (λ p. option_map (λ (f : File). length f.bytes) (get s.files p)) place)
+size_told s (Err e) o box name size is told stands = subst (λ p. IfSome p (IsSizeIn s)) (sym is) tt
+
 -- ---- the state that was
 
+pub with_size : (c : Cache) (s : State) (last : Option LastSize) → Recalls c s → IfSome last (IsSizeIn s) → Recalls (record c { last_size = last }) s
+with_size c s last h is = record { office = h.office; next = h.next; keys = h.keys; boxes = h.boxes; last = is }
+
 pub with_keys : (c : Cache) (s : State) (keys : BTreeMap (Vec ℕ Global) CachedKey) → Recalls c s → RecallsKeys s keys.entries → Recalls (record c { keys = keys }) s
-with_keys c s keys h each = record { office = h.office; next = h.next; keys = each; boxes = h.boxes }
+with_keys c s keys h each = record { office = h.office; next = h.next; keys = each; boxes = h.boxes; last = h.last }
 
 pub with_boxes : (c : Cache) (s : State) (boxes : BTreeMap (Vec ℕ Global) CachedBox) → Recalls c s → RecallsBoxes s boxes.entries → Recalls (record c { boxes = boxes }) s
-with_boxes c s boxes h each = record { office = h.office; next = h.next; keys = h.keys; boxes = each }
-
-pub totals_less : (s : State) (box : List ℕ) (es new : List (Vec ℕ Global × CachedBox)) → LacksTotals box es new → RecallsBoxes s es → RecallsBoxes s new
-totals_less s box es new = boxes_with s s box es new refl (λ q far. (refl, refl))
+with_boxes c s boxes h each = record { office = h.office; next = h.next; keys = h.keys; boxes = each; last = h.last }
 
 -- ---- the state behind each command
 
@@ -150,6 +172,7 @@ added_key c s after id role secret obeyed h =
       next = h.next;
       keys = keys_but s id _ c.keys.entries c.keys.entries lacks h.keys;
       boxes = boxes_as s (record s { keys = insert s.keys id _ }) c.boxes.entries refl refl h.boxes;
+      last = more_some c.last_size (IsSizeIn s) _ (λ l is. is) h.last;
     })
 
 pub revoked_key : (c : Cache) (keys : BTreeMap (Vec ℕ Global) CachedKey) (s after : State) (id : List ℕ) → IsObeyed s (RevokeKey id) after
@@ -163,6 +186,7 @@ revoked_key c keys s after id obeyed lacks h =
       next = h.next;
       keys = keys_but s id revoked c.keys.entries keys.entries lacks h.keys;
       boxes = boxes_as s new c.boxes.entries refl refl h.boxes;
+      last = size_as s new c.last_size refl h.last;
     })
 
 pub limited_key : (c : Cache) (keys : BTreeMap (Vec ℕ Global) CachedKey) (s after : State) (id box : List ℕ) → IsObeyed s (LimitKey id box) after
@@ -174,6 +198,7 @@ limited_key c keys s after id box obeyed lacks h =
       next = h.next;
       keys = keys_limited s id box c.keys.entries keys.entries lacks h.keys;
       boxes = boxes_as s new c.boxes.entries refl refl h.boxes;
+      last = size_as s new c.last_size refl h.last;
     })
 
 pub added_box : (c : Cache) (s after : State) (name : List ℕ) (b : Settings) → IsObeyed s (AddBox name b) after → Recalls c s → Recalls c after
@@ -185,6 +210,7 @@ added_box c s after name b obeyed h =
       next = h.next;
       keys = keys_as s new c.keys.entries refl refl h.keys;
       boxes = boxes_but s name b c.boxes.entries c.boxes.entries lacks h.boxes;
+      last = size_as s new c.last_size refl h.last;
     })
 
 pub closed_box : (c : Cache) (boxes : BTreeMap (Vec ℕ Global) CachedBox) (s after : State) (name : List ℕ) (moment : ℕ) → IsObeyed s (CloseBox name moment) after
@@ -198,19 +224,21 @@ closed_box c boxes s after name moment obeyed lacks h =
       next = h.next;
       keys = keys_as s new c.keys.entries refl refl h.keys;
       boxes = boxes_but s name closed c.boxes.entries boxes.entries lacks h.boxes;
+      last = size_as s new c.last_size refl h.last;
     })
 
 pub dropped_file : (c : Cache) (boxes : BTreeMap (Vec ℕ Global) CachedBox) (s after : State) (place : Place) → IsObeyed s (DropFile place) after
-    → LacksTotals place.box c.boxes.entries boxes.entries → Recalls c s → Recalls (record c { boxes = boxes }) after
-dropped_file c boxes s after place obeyed lacks h =
+    → HasTotals place.box None c.boxes.entries boxes.entries → Recalls c s → Recalls (record c { boxes = boxes; last_size = None }) after
+dropped_file c boxes s after place obeyed has h =
     let f = there_is (get s.files place) obeyed.possible in
     let is = file_dropped_is s place after obeyed.step in
     let new : State = record s { files = remove s.files place } in
-    subst (Recalls (record c { boxes = boxes })) (sym is) (record {
+    subst (Recalls (record c { boxes = boxes; last_size = None })) (sym is) (record {
       office = same_office s new c.office refl refl h.office;
       next = h.next;
       keys = keys_as s new c.keys.entries refl refl h.keys;
-      boxes = boxes_with s new place.box c.boxes.entries boxes.entries refl (λ q far. (used_still s place f.0 f.1 q far, count_still s place f.0 f.1 q far)) lacks h.boxes;
+      boxes = boxes_with s new place.box None c.boxes.entries boxes.entries refl (λ q far. (used_still s place f.0 f.1 q far, count_still s place f.0 f.1 q far)) tt has h.boxes;
+      last = tt;
     })
 
 pub set_allowance : (c : Cache) (s after : State) (seconds : ℕ) → IsObeyed s (SetAllowance seconds) after → Recalls c s → Recalls (record c { office = None }) after
@@ -221,23 +249,48 @@ set_allowance c s after seconds obeyed h =
       next = h.next;
       keys = keys_as s new c.keys.entries refl refl h.keys;
       boxes = boxes_as s new c.boxes.entries refl refl h.boxes;
+      last = size_as s new c.last_size refl h.last;
     })
 
 -- ---- the state behind an upload
 
-pub set_file : (c : Cache) (boxes : BTreeMap (Vec ℕ Global) CachedBox) (s after : State) (f : NewFile) (bytes : List ℕ) → IsFileSet s f bytes after
-    → LacksTotals f.in_box.now c.boxes.entries boxes.entries → Recalls c s → Recalls (record c { next_number = None; boxes = boxes }) after
-set_file c boxes s after f bytes set lacks h =
-    let u = upload_in f bytes in
-    let new = after_upload s u in
-    let stored : File = record { bytes = bytes; receipt = length s.receipts + 1 } in
-    subst (Recalls (record c { next_number = None; boxes = boxes })) (sym set.sets) (record {
-      office = same_office s new c.office refl refl h.office;
-      next = tt;
-      keys = keys_as s new c.keys.entries refl refl h.keys;
-      boxes = boxes_with s new f.in_box.now c.boxes.entries boxes.entries refl (λ q far. (used_there s u.place stored new.receipts q far, count_there s u.place stored new.receipts q far)) lacks h.boxes;
-    })
+module _ (s after : State) (f : NewFile) (bytes : List ℕ) (sound : IsSound s) (set : IsFileSet s f bytes after) where
+  in_box : (b : Settings) × (get s.boxes f.in_box.now ≡ Some b)
+  in_box = there_is (get s.boxes f.in_box.now) (set.taken.rules NoSuchBox).0
 
-pub fewer_totals : (c : Cache) (boxes : BTreeMap (Vec ℕ Global) CachedBox) (s : State) (box : List ℕ) → LacksTotals box c.boxes.entries boxes.entries → Recalls c s
-    → Recalls (record c { next_number = None; boxes = boxes }) s
-fewer_totals c boxes s box lacks h = record { office = h.office; next = tt; keys = h.keys; boxes = totals_less s box c.boxes.entries boxes.entries lacks h.boxes }
+  pub fits_used : used s f.in_box.now + f.size < 2 ^ 64
+  fits_used =
+      let most = (sound.boxes f.in_box.now in_box.0 in_box.1).1.quota in
+      let quota = (sound.quotas f.in_box.now in_box.0 in_box.1).0 in
+      let short = set.taken.brought.short in
+      let size = set.file.size in omega (arith, most, quota, short, size)
+
+  pub fits_count : count s f.in_box.now + 1 < 2 ^ 64
+  fits_count =
+      let most = (sound.boxes f.in_box.now in_box.0 in_box.1).1.max_files in
+      let files = (sound.quotas f.in_box.now in_box.0 in_box.1).1 in omega (arith, most, files)
+
+  abbrev pub stored : File
+  stored = record { bytes = bytes; receipt = length s.receipts + 1 }
+
+  abbrev pub place : Place
+  place = record { box = f.in_box.now; name = f.name.now }
+
+  -- the totals with the file in place
+  pub totals_after : (t : Totals) → AreTotals (record s { files = insert s.files place stored }) f.in_box.now t → AreTotals after f.in_box.now t
+  totals_after t are = subst (λ (x : State). AreTotals x f.in_box.now t) (sym set.sets) (record { used = are.used; count = are.count })
+
+  pub followed_file : (c : Cache) (boxes : BTreeMap (Vec ℕ Global) CachedBox) (totals : Option Totals) (next : Option ℕ) → IfSome totals (AreTotals after f.in_box.now)
+      → IfSome next (λ n. n ≡ f.number + 1) → HasTotals f.in_box.now totals c.boxes.entries boxes.entries → Recalls c s
+      → Recalls (record c { next_number = next; boxes = boxes; last_size = None }) after
+  followed_file c boxes totals next are number has h =
+      let u = upload_in f bytes in
+      let new = after_upload s u in
+      let known : IfSome totals (AreTotals new f.in_box.now) = subst (λ (x : State). IfSome totals (AreTotals x f.in_box.now)) set.sets are in
+      subst (Recalls (record c { next_number = next; boxes = boxes; last_size = None })) (sym set.sets) (record {
+        office = same_office s new c.office refl refl h.office;
+        next = more_some next (λ n. n ≡ f.number + 1) (λ n. n ≡ length new.receipts + 1) (λ n is. let at = set.file.number in let long = length-append s.receipts (receipt_of u ∷ []) in omega (arith, is, at, long)) number;
+        keys = keys_as s new c.keys.entries refl refl h.keys;
+        boxes = boxes_with s new f.in_box.now totals c.boxes.entries boxes.entries refl (λ q far. (used_there s u.place stored new.receipts q far, count_there s u.place stored new.receipts q far)) known has h.boxes;
+        last = tt;
+      })
