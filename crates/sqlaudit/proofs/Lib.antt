@@ -1,6 +1,8 @@
 pub mod WholeRules
 pub mod Apart
 pub mod Listed
+pub mod PortionRows
+pub mod LongTexts
 pub mod Entries
 pub mod KeyEntries
 pub mod ReceiptEntries
