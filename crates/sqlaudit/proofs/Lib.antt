@@ -7,7 +7,7 @@ pub mod Entries
 pub mod KeyEntries
 pub mod ReceiptEntries
 pub mod FileEntries
-pub mod Unbroken
+pub mod ReceiptOrder
 pub mod BoxEntries
 pub mod SameTexts
 pub mod OfficeEntries
