@@ -13,6 +13,7 @@ use Rattle.sqlite_value.specs.Order.{Row, column}
 use Rattle.sqlite_trees.specs.Tree.{IsAscending}
 use Rattle.sqlite_trees.proofs.ListLemmas.{pull_back, all_weaker}
 use Rattle.sqlaudit.specs.Lines.{AreNumbered}
+use Rattle.sqlaudit.specs.Portions.{AreNumbersOf}
 
 abbrev below : ℤ → ℤ → Type 0
 below a b = int_cmp a b ≡ Less
@@ -27,16 +28,20 @@ rises (n ∷ m ∷ numbers) next =
     let rest = rises (m ∷ numbers) later in
     ((first, all_weaker (below m) (below n) (λ x. int_cmp_total.trans n m x first) numbers rest.0), rest)
 
-pub numbered : (rows : List Row) (numbers sorted : List ℤ) → map (λ (r : Row). column r 0) rows ≡ map Int numbers → IsPermutation numbers sorted → AllAdjacentBelow below sorted (length sorted) → AreNumbered rows
-numbered rows numbers sorted are same next =
+pub numbers_of : (rows : List Row) (numbers sorted : List ℤ) → map (λ (r : Row). column r 0) rows ≡ map Int numbers → IsPermutation numbers sorted → AllAdjacentBelow below sorted (length sorted) → AreNumbersOf rows sorted
+numbers_of rows numbers sorted are same next =
     let from = pull_back (λ (r : Row). column r 0) (map Int numbers) (map Int sorted) (IsPermutation-map Int numbers sorted same) rows (sym are) in
     record {
       found = from.0;
       same = from.1;
-      numbers = sorted;
       are = sym from.2;
       rising = rises sorted next;
     }
+
+pub numbered : (rows : List Row) (numbers sorted : List ℤ) → map (λ (r : Row). column r 0) rows ≡ map Int numbers → IsPermutation numbers sorted → AllAdjacentBelow below sorted (length sorted) → AreNumbered rows
+numbered rows numbers sorted are same next =
+    let of = numbers_of rows numbers sorted are same next in
+    record { found = of.found; same = of.same; numbers = sorted; are = of.are; rising = of.rising }
 
 less : (o : Ordering) → true ≡ is_lt o → o ≡ Less
 less Less is = refl

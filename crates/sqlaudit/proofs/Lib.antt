@@ -1,11 +1,13 @@
 pub mod WholeRules
 pub mod Apart
 pub mod Listed
+pub mod PortionRows
+pub mod LongTexts
 pub mod Entries
 pub mod KeyEntries
 pub mod ReceiptEntries
 pub mod FileEntries
-pub mod Unbroken
+pub mod ReceiptOrder
 pub mod BoxEntries
 pub mod SameTexts
 pub mod OfficeEntries

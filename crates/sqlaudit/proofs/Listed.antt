@@ -31,13 +31,13 @@ use Rattle.sqltables.proofs.Ordered.{arranged}
 -- ---- rows and lines, place by place
 
 module _ {L : Type 0} (reads : Row → L → Type 0) where
-  line_of : (rows : List Row) (lines : List L) → AllZip reads rows lines → (row : Row) → Has rows row → (line : L) × Has lines line × reads row line
+  pub line_of : (rows : List Row) (lines : List L) → AllZip reads rows lines → (row : Row) → Has rows row → (line : L) × Has lines line × reads row line
   line_of [] lines zip row has = absurd has
   line_of (r ∷ rows) [] zip row has = absurd zip
   line_of (r ∷ rows) (l ∷ lines) zip row (inl here) = (l, inl refl, subst (λ x. reads x l) (sym here) zip.0)
   line_of (r ∷ rows) (l ∷ lines) zip row (inr later) = let rest = line_of rows lines zip.1 row later in (rest.0, inr rest.1, rest.2)
 
-  row_of : (rows : List Row) (lines : List L) → AllZip reads rows lines → (line : L) → Has lines line → (row : Row) × Has rows row × reads row line
+  pub row_of : (rows : List Row) (lines : List L) → AllZip reads rows lines → (line : L) → Has lines line → (row : Row) × Has rows row × reads row line
   row_of [] [] zip line has = absurd has
   row_of [] (l ∷ lines) zip line has = absurd zip
   row_of (r ∷ rows) [] zip line has = absurd has
@@ -82,17 +82,17 @@ apart (r ∷ rows) (n ∷ numbers) same rising a b (inr a_in) (inr b_in) equal =
 -- ---- the whole table
 
 -- the rows of the table, in some order, and what is shown of each
-record Lists (show : Row → Row) (rows shown : List Row) : Type 0 where
-  found : List Row
-  same : IsPermutation rows found
-  is : shown ≡ map show found
+pub record Lists (show : Row → Row) (rows shown : List Row) : Type 0 where
+  pub found : List Row
+  pub same : IsPermutation rows found
+  pub is : shown ≡ map show found
 
 all_pass : (rows : List Row) → filter (λ r. true) rows ≡ rows
 all_pass [] = refl
 all_pass (r ∷ rows) = ap (◌∷◌ r) (all_pass rows)
 
 -- SELECT of these terms of each row of a table, in this order
-lists : (tree : ℕ) (project : List Term) (order : List (Term × Sort)) (db : Trees) (shown : List Row) → IsAnswer (all_rows tree project order) db [] shown → Lists (λ r. eval_all project ([] ∷ r ∷ [])) (db tree) shown
+pub lists : (tree : ℕ) (project : List Term) (order : List (Term × Sort)) (db : Trees) (shown : List Row) → IsAnswer (all_rows tree project order) db [] shown → Lists (λ r. eval_all project ([] ∷ r ∷ [])) (db tree) shown
 lists tree project order db shown answer =
     let it = arranged tree [] project order no_limit db [] shown answer in
     record { found = it.found; same = subst (λ rows. IsPermutation rows it.found) (all_pass (db tree)) it.same; is = it.is }
@@ -112,19 +112,28 @@ module _ {L : Type 0} (reads IsLine : Row → L → Type 0) (show : Row → Row)
   }
 
 module _ (show : Row → Row) (keeps : (r : Row) → column (show r) 0 ≡ rowid r) (rows shown : List Row) (listed : Lists show rows shown) (numbered : AreNumbered shown) where
-  rowids : HaveRowids rows
-  rowids =
-      let from = pull_back show shown numbered.found numbered.same listed.found listed.is in
-      let firsts : map rowid from.0 ≡ map Int numbered.numbers = sym (map-map first show from.0 ∙ same_map from.0) ∙ ap (map first) (sym from.2) ∙ numbered.are in
-      let inside = λ (row : Row) (has : Has rows row). has_permuted from.0 listed.found row (IsPermutation-sym _ _ from.1) (has_permuted listed.found rows row (IsPermutation-sym _ _ listed.same) has) in
-      record {
-        keyed = λ row has. let n = number_of from.0 numbered.numbers firsts row (inside row has) in (n.0, n.2);
-        apart = λ a b has_a has_b equal. apart from.0 numbered.numbers firsts numbered.rising a b (inside a has_a) (inside b has_b) equal;
-      }
+  abbrev from : (xs : List Row) × IsPermutation listed.found xs × (numbered.found ≡ map show xs)
+  from = pull_back show shown numbered.found numbered.same listed.found listed.is
+
+  firsts : map rowid from.0 ≡ map Int numbered.numbers
+  firsts = sym (map-map first show from.0 ∙ same_map from.0) ∙ ap (map first) (sym from.2) ∙ numbered.are
     where
       same_map : (xs : List Row) → map (λ r. first (show r)) xs ≡ map rowid xs
       same_map [] = refl
       same_map (x ∷ xs) = ap₂ ◌∷◌ (keeps x) (same_map xs)
+
+  inside : (row : Row) → Has rows row → Has from.0 row
+  inside row has = has_permuted from.0 listed.found row (IsPermutation-sym _ _ from.1) (has_permuted listed.found rows row (IsPermutation-sym _ _ listed.same) has)
+
+  -- the rowid of each row is one of the numbers
+  pub rowid_of : (row : Row) → Has rows row → (n : ℤ) × Has numbered.numbers n × (rowid row ≡ Int n)
+  rowid_of row has = number_of from.0 numbered.numbers firsts row (inside row has)
+
+  pub rowids : HaveRowids rows
+  rowids = record {
+    keyed = λ row has. let n = rowid_of row has in (n.0, n.2);
+    apart = λ a b has_a has_b equal. apart from.0 numbered.numbers firsts numbered.rising a b (inside a has_a) (inside b has_b) equal;
+  }
 
 -- ---- the query
 

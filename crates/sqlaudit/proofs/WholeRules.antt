@@ -73,18 +73,15 @@ module _ (lines : Lines) (a : AreSoundLines lines) where
         let same : e.0 ≡ limit_in line = λ i. record { key = sym e.2.key_is i; box = sym e.2.box_is i } in
         subst (IsLimitRule ks bs) same (subst (λ (m : FinMap bytes_cmp Key). IsLimitRule m bs e.0) keys_are (subst (λ (m : FinMap bytes_cmp Box). IsLimitRule o.keys m e.0) boxes_are (a.sound.limits e.0 e.1 e.3)))
 
-    module _ (rs : FinMap nat_cmp Receipt) (receipts : AreEntries (IsGiven ks bs) (get rs) lines.receipts.now) where
-      receipt_is : (at : ℕ) → slice_get o.receipts at ≡ get rs at
-      receipt_is = same_look nat_cmp nat_cmp_total nat_cmp-IsAntisymmetric (IsGiven ks bs) (one_given ks bs) (slice_get o.receipts) (get rs) lines.receipts.now given receipts
+    module _ (rs : List Receipt) (receipts : AreEntries (IsGiven ks bs) (slice_get rs) lines.receipts.now) where
+      receipt_is : (at : ℕ) → slice_get o.receipts at ≡ slice_get rs at
+      receipt_is = same_look nat_cmp nat_cmp_total nat_cmp-IsAntisymmetric (IsGiven ks bs) (one_given ks bs) (slice_get o.receipts) (slice_get rs) lines.receipts.now given receipts
 
-      receipts_are : slice_get o.receipts ≡ get rs
+      receipts_are : slice_get o.receipts ≡ slice_get rs
       receipts_are = λ i at. receipt_is at i
 
-      pub unbroken : (list : List Receipt) × ((at : ℕ) → get rs at ≡ slice_get list at)
-      unbroken = (o.receipts, λ at. sym (receipt_is at))
-
       pub filed : AreEntries (IsFiled rs) (get o.files) lines.files.now
-      filed = with_rule IsFileEntry (IsFileRule (get rs)) (get o.files) lines.files.now a.lines_are.files (λ place n there. subst (λ (f : ℕ → Option Receipt). IsFileRule f place n) receipts_are (a.sound.files place n there))
+      filed = with_rule IsFileEntry (IsFileRule (slice_get rs)) (get o.files) lines.files.now a.lines_are.files (λ place n there. subst (λ (f : ℕ → Option Receipt). IsFileRule f place n) receipts_are (a.sound.files place n there))
 
       module _ (fs : FinMap place_cmp ℕ) (files : AreEntries (IsFiled rs) (get fs) lines.files.now) where
         files_are : o.files ≡ fs
@@ -99,40 +96,37 @@ module _ (lines : Lines) (a : AreSoundLines lines) where
               count = e.2.count_is ∙ ap (λ n. pos n) (t.1 ∙ (λ i. count_in (files_are i) ((sym e.2.name_is) i)));
             }
 
-        pub pieces_in : (line : PieceLine) → Contains lines.pieces.now line → IsPieceIn (get rs) fs line
+        pub pieces_in : (line : PieceLine) → Contains lines.pieces.now line → IsPieceIn (slice_get rs) fs line
         pieces_in line there =
-            subst (λ (m : FinMap place_cmp ℕ). IsPieceIn (get rs) m line) files_are (subst (λ (f : ℕ → Option Receipt). IsPieceIn f o.files line) receipts_are (a.pieces line there))
+            subst (λ (m : FinMap place_cmp ℕ). IsPieceIn (slice_get rs) m line) files_are (subst (λ (f : ℕ → Option Receipt). IsPieceIn f o.files line) receipts_are (a.pieces line there))
 
 all_from : {X : Type 0} (P : X → Type 0) (xs : List X) → ((i : ℕ) (x : X) → slice_get xs i ≡ Some x → P x) → AllByRecursion P xs
 all_from P [] each = tt
 all_from P (x ∷ xs) each = (each 0 x refl, all_from P xs (λ i y there. each (suc i) y there))
 
-module _ (lines : Lines) (ks : FinMap bytes_cmp Key) (bs : FinMap bytes_cmp Box) (rs : FinMap nat_cmp Receipt) (fs : FinMap place_cmp ℕ)
+module _ (lines : Lines) (ks : FinMap bytes_cmp Key) (bs : FinMap bytes_cmp Box) (rs : List Receipt) (fs : FinMap place_cmp ℕ)
     (keys : AreEntries GoodKey (get ks) lines.keys.now) (boxes : AreEntries GoodBox (get bs) lines.boxes.now)
-    (receipts : AreEntries (IsGiven ks bs) (get rs) lines.receipts.now) (files : AreEntries (IsFiled rs) (get fs) lines.files.now) where
+    (receipts : AreEntries (IsGiven ks bs) (slice_get rs) lines.receipts.now) (files : AreEntries (IsFiled rs) (get fs) lines.files.now) where
   rule_of_limit : (limits : (ls : FinMap limit_cmp (Unit {0})) × AreEntries IsLimitEntry (get ls) lines.limits.now) → ((line : LimitLine) → Contains lines.limits.now line → IsLimitRule ks bs (limit_in line))
       → (limit : Limit) (there : Unit {0}) → get limits.0 limit ≡ Some there → IsLimitRule ks bs limit
   rule_of_limit limits ruled limit there is =
       let l = limits.1.all limit there is in
       subst (IsLimitRule ks bs) (λ i. record { key = l.2.key_is i; box = l.2.box_is i }) (ruled l.0 l.1)
 
-  pub built : (east : ℤ) × AreEntries IsOfficeEntry (λ one. Some east) lines.office.now × ((neg_ℤ (pos 840) ≤ℤ east) × (east ≤ℤ pos 840)) → HasClerkIn ks
-      → (list : List Receipt) × ((at : ℕ) → get rs at ≡ slice_get list at) → ((line : BoxLine) → Contains lines.boxes.now line → HasTotals rs fs line)
-      → ((line : PieceLine) → Contains lines.pieces.now line → IsPieceIn (get rs) fs line)
+  pub built : (east : ℤ) × AreEntries IsOfficeEntry (λ one. Some east) lines.office.now × ((neg_ℤ (pos 840) ≤ℤ east) × (east ≤ℤ pos 840)) → HasClerkIn ks → ((line : BoxLine) → Contains lines.boxes.now line → HasTotals rs fs line)
+      → ((line : PieceLine) → Contains lines.pieces.now line → IsPieceIn (slice_get rs) fs line)
       → (allowance : ℕ) × AreEntries IsRulesEntry (λ one. Some allowance) lines.rules.now × (allowance ≤ most_allowance)
       → ((line : LimitLine) → Contains lines.limits.now line → IsLimitRule ks bs (limit_in line)) → AreSoundLines lines
-  built office clerk unbroken totals pieces allowance ruled =
+  built office clerk totals pieces allowance ruled =
       let limits = limits_of lines.limits.now in
-      let list = unbroken.0 in
-      let same : get rs ≡ slice_get list = λ i at. unbroken.1 at i in
       record {
-        office = record { offset = office.0; allowance = allowance.0; keys = ks; boxes = bs; files = fs; receipts = list; limits = limits.0 };
+        office = record { offset = office.0; allowance = allowance.0; keys = ks; boxes = bs; files = fs; receipts = rs; limits = limits.0 };
         lines_are = record {
           office = office.1;
           keys = without_rule IsKeyEntry IsKeyRule (get ks) lines.keys.now keys;
           boxes = without_rule IsBoxEntry IsBoxRule (get bs) lines.boxes.now boxes;
-          receipts = subst (λ (f : ℕ → Option Receipt). AreEntries IsReceiptEntry f lines.receipts.now) same (without_rule IsReceiptEntry (λ at r. IsReceiptRule ks bs r) (get rs) lines.receipts.now receipts);
-          files = without_rule IsFileEntry (IsFileRule (get rs)) (get fs) lines.files.now files;
+          receipts = without_rule IsReceiptEntry (λ at r. IsReceiptRule ks bs r) (slice_get rs) lines.receipts.now receipts;
+          files = without_rule IsFileEntry (IsFileRule (slice_get rs)) (get fs) lines.files.now files;
           rules = allowance.1;
           limits = limits.1;
         };
@@ -140,19 +134,19 @@ module _ (lines : Lines) (ks : FinMap bytes_cmp Key) (bs : FinMap bytes_cmp Box)
           east = office.2;
           keys = rule_of_entries IsKeyEntry IsKeyRule (get ks) lines.keys.now keys;
           boxes = rule_of_entries IsBoxEntry IsBoxRule (get bs) lines.boxes.now boxes;
-          files = λ place n there. subst (λ (f : ℕ → Option Receipt). IsFileRule f place n) same (rule_of_entries IsFileEntry (IsFileRule (get rs)) (get fs) lines.files.now files place n there);
-          receipts = all_from (IsReceiptRule ks bs) list (λ i r there. rule_of_entries IsReceiptEntry (λ at x. IsReceiptRule ks bs x) (get rs) lines.receipts.now receipts i r (unbroken.1 i ∙ there));
+          files = rule_of_entries IsFileEntry (IsFileRule (slice_get rs)) (get fs) lines.files.now files;
+          receipts = all_from (IsReceiptRule ks bs) rs (rule_of_entries IsReceiptEntry (λ at x. IsReceiptRule ks bs x) (slice_get rs) lines.receipts.now receipts);
           totals = λ name b there.
               let l = boxes.all name b there in
               let t = totals l.0 l.1 in
-              let used : pos b.used ≡ pos (used_in (get rs) fs l.0.name.items) = sym l.2.entry.used_is ∙ t.used in
+              let used : pos b.used ≡ pos (used_in (slice_get rs) fs l.0.name.items) = sym l.2.entry.used_is ∙ t.used in
               let count : pos b.count ≡ pos (count_in fs l.0.name.items) = sym l.2.entry.count_is ∙ t.count in
-              let used_is : b.used ≡ used_in (get rs) fs l.0.name.items = cc in
+              let used_is : b.used ≡ used_in (slice_get rs) fs l.0.name.items = cc in
               let count_is : b.count ≡ count_in fs l.0.name.items = cc in
-              (used_is ∙ (λ i. used_in (same i) fs (l.2.entry.name_is i)), count_is ∙ ap (count_in fs) l.2.entry.name_is);
+              (used_is ∙ ap (used_in (slice_get rs) fs) l.2.entry.name_is, count_is ∙ ap (count_in fs) l.2.entry.name_is);
           clerk = clerk;
           allowance = allowance.2;
           limits = rule_of_limit limits ruled;
         };
-        pieces = λ line there. subst (λ (f : ℕ → Option Receipt). IsPieceIn f fs line) same (pieces line there);
+        pieces = pieces;
       }

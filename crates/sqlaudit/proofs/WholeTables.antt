@@ -1,11 +1,12 @@
 -- The tables of an office, as its queries list them.
 use Rattle.std.proofs.Common.{◌≡◌, ℕ, List, [], IsTrue, refl}
 use Rattle.sqlite_value.specs.Order.{Row}
+use Rattle.sqlite_rules.specs.Lists.{Has}
 use Rattle.sqlite.specs.State.{State}
 use Rattle.sqltables.specs.Schema.{Version, IsVersion, v2}
 use Rattle.sqltables.specs.Means.{IsWhole}
 use Rattle.sqltables.proofs.Ours.{asks_of}
-use Rattle.sqltables.proofs.Texts.{list_keys, list_keys_command, list_keys_is, list_boxes, list_boxes_command, list_boxes_is, list_receipts, list_receipts_command, list_receipts_is, list_files, list_files_command, list_files_is, list_pieces, list_pieces_command, list_pieces_is}
+use Rattle.sqltables.proofs.Texts.{list_keys, list_keys_command, list_keys_is, list_boxes, list_boxes_command, list_boxes_is}
 use Rattle.sqltables.proofs.AddedTexts.{list_rules, list_rules_is, list_limits, list_limits_is}
 use Rattle.sqltables.proofs.Shown.{shown_open}
 use Rattle.sqlaudit.specs.Lines.{AreLines, AreRead, HaveRowids, IsKeyLine, IsBoxLine, IsReceiptLine, IsFileLine, IsPieceLine, ShowsPiece, IsRulesLine, IsLimitLine}
@@ -17,6 +18,7 @@ use Rattle.sqlaudit.specs.declared.lines.PieceLine.{PieceLine}
 use Rattle.sqlaudit.specs.declared.lines.RulesLine.{RulesLine}
 use Rattle.sqlaudit.specs.declared.lines.LimitLine.{LimitLine}
 use Rattle.sqlaudit.proofs.Listed.{lines_listed, rowids_listed, unchanged}
+use Rattle.sqlaudit.proofs.LongTexts.{receipt_shown, file_shown, piece_shown}
 use Rattle.sqlaudit.proofs.PieceLines.{piece_line}
 
 -- each row of the table in this place has a line, its rows have numbers of their own, and the query wrote nothing
@@ -24,6 +26,12 @@ pub record Lists {L : Type 0} (IsLine : Row → L → Type 0) (tree : ℕ) (old 
   pub lines_are : AreLines IsLine (old.now.trees tree) lines
   pub rowids : HaveRowids (old.now.trees tree)
   pub same : new.now ≡ old.now
+
+lines_more : {L : Type 0} (P Q : Row → L → Type 0) (rows : List Row) (lines : List L) → AreLines P rows lines → ((row : Row) (line : L) → Has rows row → P row line → Q row line) → AreLines Q rows lines
+lines_more P Q rows lines are more = record {
+  each = λ row there. let l = are.each row there in (l.0, l.1, more row l.0 there l.2);
+  all = λ line there. let r = are.all line there in (r.0, r.1, more r.0 line r.1 r.2);
+}
 
 module _ (v : Version) (ours : IsVersion v) (old new : State) (has : IsTrue old.is_open → old.now.schema ≡ v.schema) where
   pub lists_keys : (lines : List KeyLine) → AreRead IsKeyLine list_keys old new lines → Lists IsKeyLine 1 old new lines
@@ -46,42 +54,31 @@ module _ (v : Version) (ours : IsVersion v) (old new : State) (has : IsTrue old.
         same = (unchanged IsBoxLine IsBoxLine v list_boxes 3 _ _ _ asks old new schema lines read).0.now_is;
       }
 
-  pub lists_receipts : (lines : List ReceiptLine) → AreRead IsReceiptLine list_receipts old new lines → Lists IsReceiptLine 5 old new lines
-  lists_receipts lines read =
-      let asks = asks_of v ours list_receipts list_receipts_command list_receipts_is in
-      let schema = has (shown_open list_receipts [] old new read.rows read.shown) in
-      record {
-        lines_are = lines_listed IsReceiptLine IsReceiptLine v list_receipts 5 _ _ _ asks old new schema lines read (λ row line there is. record { number_is = is.number_is; box_is = is.box_is; name_is = is.name_is; length_is = is.length_is; digest_is = is.digest_is; moment_is = is.moment_is; key_is = is.key_is });
-        rowids = rowids_listed IsReceiptLine IsReceiptLine v list_receipts 5 _ _ _ asks old new schema lines read (λ row. refl);
-        same = (unchanged IsReceiptLine IsReceiptLine v list_receipts 5 _ _ _ asks old new schema lines read).0.now_is;
-      }
+-- the long tables
+module _ (old new : State) where
+  pub lists_receipts : (lines : List ReceiptLine) → AreLines (λ row line. IsReceiptLine (receipt_shown row) line) (old.now.trees 5) lines → HaveRowids (old.now.trees 5) → new.now ≡ old.now → Lists IsReceiptLine 5 old new lines
+  lists_receipts lines are ids unchanged = record {
+    lines_are = lines_more (λ row line. IsReceiptLine (receipt_shown row) line) IsReceiptLine (old.now.trees 5) lines are
+        (λ row line there is. record { number_is = is.number_is; box_is = is.box_is; name_is = is.name_is; length_is = is.length_is; digest_is = is.digest_is; moment_is = is.moment_is; key_is = is.key_is });
+    rowids = ids;
+    same = unchanged;
+  }
 
-  pub lists_files : (lines : List FileLine) → AreRead IsFileLine list_files old new lines → Lists IsFileLine 6 old new lines
-  lists_files lines read =
-      let asks = asks_of v ours list_files list_files_command list_files_is in
-      let schema = has (shown_open list_files [] old new read.rows read.shown) in
-      record {
-        lines_are = lines_listed IsFileLine IsFileLine v list_files 6 _ _ _ asks old new schema lines read (λ row line there is. record { box_is = is.box_is; name_is = is.name_is; receipt_is = is.receipt_is });
-        rowids = rowids_listed IsFileLine IsFileLine v list_files 6 _ _ _ asks old new schema lines read (λ row. refl);
-        same = (unchanged IsFileLine IsFileLine v list_files 6 _ _ _ asks old new schema lines read).0.now_is;
-      }
+  pub lists_files : (lines : List FileLine) → AreLines (λ row line. IsFileLine (file_shown row) line) (old.now.trees 6) lines → HaveRowids (old.now.trees 6) → new.now ≡ old.now → Lists IsFileLine 6 old new lines
+  lists_files lines are ids unchanged = record {
+    lines_are = lines_more (λ row line. IsFileLine (file_shown row) line) IsFileLine (old.now.trees 6) lines are
+        (λ row line there is. record { box_is = is.box_is; name_is = is.name_is; receipt_is = is.receipt_is });
+    rowids = ids;
+    same = unchanged;
+  }
 
-  pub pieces_same : (lines : List PieceLine) → AreRead ShowsPiece list_pieces old new lines → new.now ≡ old.now
-  pieces_same lines read =
-      let asks = asks_of v ours list_pieces list_pieces_command list_pieces_is in
-      let schema = has (shown_open list_pieces [] old new read.rows read.shown) in
-      (unchanged ShowsPiece IsPieceLine v list_pieces 9 _ _ _ asks old new schema lines read).0.now_is
-
-  pub lists_pieces : (IsTrue old.is_open → IsWhole old.now) → (lines : List PieceLine) → AreRead ShowsPiece list_pieces old new lines → Lists IsPieceLine 9 old new lines
-  lists_pieces whole lines read =
-      let asks = asks_of v ours list_pieces list_pieces_command list_pieces_is in
-      let is_open = shown_open list_pieces [] old new read.rows read.shown in
-      let schema = has is_open in
-      record {
-        lines_are = lines_listed ShowsPiece IsPieceLine v list_pieces 9 _ _ _ asks old new schema lines read (λ row line there is. piece_line v ours old.now schema (whole is_open) row line there is);
-        rowids = rowids_listed ShowsPiece IsPieceLine v list_pieces 9 _ _ _ asks old new schema lines read (λ row. refl);
-        same = pieces_same lines read;
-      }
+  pub lists_pieces : (v : Version) → IsVersion v → old.now.schema ≡ v.schema → IsWhole old.now
+      → (lines : List PieceLine) → AreLines (λ row line. ShowsPiece (piece_shown row) line) (old.now.trees 9) lines → HaveRowids (old.now.trees 9) → new.now ≡ old.now → Lists IsPieceLine 9 old new lines
+  lists_pieces v ours schema whole lines are ids unchanged = record {
+    lines_are = lines_more (λ row line. ShowsPiece (piece_shown row) line) IsPieceLine (old.now.trees 9) lines are (λ row line there is. piece_line v ours old.now schema whole row line there is);
+    rowids = ids;
+    same = unchanged;
+  }
 
 -- the tables that version 2 adds
 module _ (old new : State) (has : IsTrue old.is_open → old.now.schema ≡ v2.schema) where

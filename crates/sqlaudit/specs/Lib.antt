@@ -1,5 +1,6 @@
 pub mod Formats
 pub mod Lines
+pub mod Portions
 pub mod Outlines
 pub mod Sorting
 pub mod Opened

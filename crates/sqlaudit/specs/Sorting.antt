@@ -1,6 +1,6 @@
 -- Lines that were read into a map.
 use denote.Bor.{Bor}
-use Rattle.std.specs.Prelude.{◌≡◌, ◌≤◌, ℕ, ℤ, pos, List, length, Option, Some, None, ◌+◌, ◌^◌, ◌-◌, min}
+use Rattle.std.specs.Prelude.{◌≡◌, ◌≤◌, ◌<ℤ◌, ℕ, ℤ, pos, List, length, slice_get, Option, Some, None, MatchOption, ◌+◌, ◌^◌, ◌-◌, min}
 use Rattle.std.specs.declared.cmp.Ordering.{Ordering}
 use Rattle.std.specs.FinMap.{FinMap, get}
 use Rattle.std.specs.BTreeMap.{BTreeMap}
@@ -10,7 +10,7 @@ use Rattle.boxes.specs.Rules.{IsName}
 use Rattle.boxes.specs.Sound.{IsBoxName, IsDigest, IsMoment, IsNameRule}
 use Rattle.boxes.specs.Rows.{settings_of}
 use Rattle.sigtext.specs.Bytes.{bytes_cmp}
-use Rattle.std.specs.Ordering.{nat_cmp}
+use Rattle.sqlite_trees.specs.Tree.{IsAscending}
 use Rattle.boxes.specs.Maps.{MapMeans, Sets, found}
 use Rattle.sqltables.specs.Tables.{Box, rule_number, rule_text}
 use Rattle.sqlaudit.specs.Outlines.{AreEntries, IsBoxRule, IsFileEntry, IsFileRule, used_in, count_in, IsReceiptEntry, IsReceiptRule}
@@ -73,12 +73,17 @@ pub record HasReceiptForms (r : Receipt) : Type 0 where
   pub digest : IsDigest r.digest
   pub moment : IsMoment r.moment
 
-abbrev pub HoldsReceipts : BTreeMap ℕ ReceiptEntry → FinMap nat_cmp Receipt → Type 0
-HoldsReceipts receipts m = MapMeans nat_cmp (λ n. n) given_in receipts.entries m
+-- the lines are these receipts in their order: the first has number 1, and none is missing
+abbrev pub HoldsReceipts : List ReceiptLine → List Receipt → Type 0
+HoldsReceipts lines receipts = (at : ℕ) → MatchOption (slice_get lines at) (slice_get receipts at ≡ None) (λ line. (r : Receipt) × (slice_get receipts at ≡ Some r) × IsReceiptEntry line at r)
+
+-- the number of each line is below those of the later ones
+abbrev pub AreRising : List ReceiptLine → Type 0
+AreRising = IsAscending (λ a b. a.number <ℤ b.number)
 
 -- a line that is a file with its receipt among these
-abbrev pub IsFiled : FinMap nat_cmp Receipt → FileLine → Place → ℕ → Type 0
-IsFiled receipts = IsGood IsFileEntry (IsFileRule (get receipts))
+abbrev pub IsFiled : List Receipt → FileLine → Place → ℕ → Type 0
+IsFiled receipts = IsGood IsFileEntry (IsFileRule (slice_get receipts))
 
 abbrev pub spot_of : Bor (List ℕ) × Bor (List ℕ) → Place
 spot_of k = record { box = k.0.now; name = k.1.now }
@@ -104,12 +109,12 @@ pub record AddsTo (box : List ℕ) (size : ℕ) (before after : List (Bor (List 
   pub count : totals.count ≡ capped (count_at (found bytes_cmp text_of before box) + 1)
 
 -- each box's sums over the files of the map
-pub record AreSums (receipts : FinMap nat_cmp Receipt) (files : FinMap place_cmp ℕ) (sums : List (Bor (List ℕ) × Totals)) : Type 0 where
-  pub used : (box : List ℕ) → used_at (found bytes_cmp text_of sums box) ≡ capped (used_in (get receipts) files box)
+pub record AreSums (receipts : List Receipt) (files : FinMap place_cmp ℕ) (sums : List (Bor (List ℕ) × Totals)) : Type 0 where
+  pub used : (box : List ℕ) → used_at (found bytes_cmp text_of sums box) ≡ capped (used_in (slice_get receipts) files box)
   pub count : (box : List ℕ) → count_at (found bytes_cmp text_of sums box) ≡ capped (count_in files box)
 
 -- the files of the lines with the sums of the boxes, or else the lines are no map's entries
-abbrev pub AreFiled : FinMap nat_cmp Receipt → List FileLine → Option Filed → Type 0
+abbrev pub AreFiled : List Receipt → List FileLine → Option Filed → Type 0
 AreFiled receipts lines None = (look : Place → Option ℕ) → AreEntries (IsFiled receipts) look lines → ⊥
 AreFiled receipts lines (Some filed) = (is : AreIn place_cmp spot_of (λ n. n) (IsFiled receipts) lines filed.files.entries) × AreSums receipts is.map filed.sums.entries
 
@@ -117,8 +122,8 @@ abbrev pub HoldsFiles : BTreeMap (Bor (List ℕ) × Bor (List ℕ)) ℕ → FinM
 HoldsFiles files m = MapMeans place_cmp spot_of (λ n. n) files.entries m
 
 -- the line tells what its box holds
-pub record HasTotals (receipts : FinMap nat_cmp Receipt) (files : FinMap place_cmp ℕ) (line : BoxLine) : Type 0 where
-  pub used : line.used ≡ pos (used_in (get receipts) files line.name.items)
+pub record HasTotals (receipts : List Receipt) (files : FinMap place_cmp ℕ) (line : BoxLine) : Type 0 where
+  pub used : line.used ≡ pos (used_in (slice_get receipts) files line.name.items)
   pub count : line.count ≡ pos (count_in files line.name.items)
 
 -- the limit that the line tells

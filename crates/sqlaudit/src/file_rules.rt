@@ -1,16 +1,14 @@
 //! The lines of the files, as files with their receipts, and what the boxes hold by them.
 
-ghost use Rattle.std.specs.Prelude.{◌≡◌, ℕ, IfOk, OnOk, MatchOption};
-ghost use Rattle.std.specs.FinMap.{FinMap, get};
-ghost use Rattle.std.specs.Ordering.{nat_cmp};
+ghost use Rattle.std.specs.Prelude.{◌≡◌, ℕ, List, slice_get, IfOk, OnOk, MatchOption};
 ghost use Rattle.sigtext.specs.Bytes.{bytes_cmp};
 ghost use Rattle.boxes.specs.State.{Place, Receipt};
 ghost use Rattle.boxes.specs.Maps.{found};
 ghost use Rattle.sqlaudit.specs.Outlines.{size_in};
 ghost use Rattle.sqlaudit.specs.Sorting.{AddsTo, AreFiled, HoldsReceipts, IsFiled, count_at, text_of, used_at};
 
-use crate::lines::FileLine;
-use crate::receipt_rules::{Receipts, place_of};
+use crate::lines::{FileLine, ReceiptLine};
+use crate::receipt_rules::{length_in, place_of, receipt_at};
 use boxes::Totals;
 use std::alloc::{AllocError, Global};
 use std::collections::BTreeMap;
@@ -38,25 +36,25 @@ pub(crate) struct Filed<'a> {
 }
 
 /// The file of a line, where its receipt is there, and of its place.
-fn file_of(line: &FileLine, receipts: &Receipts<'_>) -> Option<FileEntry>
-    ensures { (rs : FinMap nat_cmp Receipt) → HoldsReceipts receipts.now rs
+fn file_of(line: &FileLine, receipts: &[ReceiptLine]) -> Option<FileEntry>
+    ensures { (rs : List Receipt) → HoldsReceipts receipts.now rs
         → MatchOption result ((place : Place) (n : ℕ) → IsFiled rs line.now place n → ⊥)
         (λ e. IsFiled rs line.now
         (record { box = line.now.in_box.items; name = line.now.name.items }) e.number
-        × (e.size ≡ size_in (get rs) e.number)) }
+        × (e.size ≡ size_in (slice_get rs) e.number)) }
 {
     let number = line.receipt;
     let at = place_of(number)?;
-    let receipt = receipts.get(&at)?;
-    if receipt.in_box != line.in_box.as_slice() {
+    let receipt = receipt_at(receipts, at)?;
+    if receipt.in_box != line.in_box {
         return None;
     }
-    if receipt.name != line.name.as_slice() {
+    if receipt.name != line.name {
         return None;
     }
     Some(FileEntry {
         number: at + 1,
-        size: receipt.size,
+        size: length_in(receipt)?,
     })
 }
 
@@ -88,9 +86,9 @@ fn add_file<'a>(sums: &mut Sums<'a>, in_box: &'a [u8], size: u64) -> Result<(), 
 pub(crate) fn files_by_place<'a>(
     alloc: Global,
     lines: &'a [FileLine],
-    receipts: &Receipts<'a>,
+    receipts: &[ReceiptLine],
 ) -> Result<Option<Filed<'a>>, AllocError>
-    ensures { (rs : FinMap nat_cmp Receipt) → HoldsReceipts receipts.now rs
+    ensures { (rs : List Receipt) → HoldsReceipts receipts.now rs
         → IfOk result (AreFiled rs lines.now) }
 {
     let mut files = BTreeMap::new(alloc);

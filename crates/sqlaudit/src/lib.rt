@@ -11,5 +11,6 @@ mod lines;
 mod listing;
 pub mod opening;
 mod piece_rules;
+mod portions;
 mod receipt_rules;
 mod rules;

@@ -257,7 +257,7 @@ pub(crate) fn lines_of<L: Line + Drop>(alloc: Global, rows: &[Row]) -> Result<Ve
 }
 
 /// The numbers in the first column.
-fn first_numbers(alloc: Global, rows: &[Row]) -> Result<Vec<i64>, Error>
+pub(crate) fn first_numbers(alloc: Global, rows: &[Row]) -> Result<Vec<i64>, Error>
     ensures { IfOk result (λ numbers. map (λ r. column r 0) rows.now ≡ map Int numbers.items) }
 {
     let mut numbers = Vec::new(alloc);
@@ -269,7 +269,7 @@ fn first_numbers(alloc: Global, rows: &[Row]) -> Result<Vec<i64>, Error>
 }
 
 /// Whether each number is above the one before it.
-fn rise(numbers: &[i64]) -> bool
+pub(crate) fn rise(numbers: &[i64]) -> bool
     ensures { IsTrue result → AllAdjacentBelow (λ a b. int_cmp a b ≡ Less) numbers.now
         (length numbers.now) }
 {

@@ -15,6 +15,7 @@ use crate::lines::{
     BoxLine, FileLine, KeyLine, LimitLine, Line, OfficeLine, PieceLine, ReceiptLine, RulesLine,
     are_apart, lines_of,
 };
+use crate::portions::list_long;
 use sqlite::{Alter, Error, ErrorCode, Transaction};
 use sqltables::calls::query;
 use std::alloc::Global;
@@ -141,17 +142,23 @@ pub(crate) fn list_all<S: Alter>(
             tx,
             "SELECT rowid, name, opens, closes, days, from_minute, to_minute, quota, max_files, mode, rule_kind, rule_text, used, count FROM boxes ORDER BY name",
         )?,
-        receipts: list(
+        receipts: list_long(
             tx,
-            "SELECT rowid, number, box, name, length, digest, moment, key_id FROM receipts ORDER BY number",
+            alloc,
+            "SELECT rowid FROM receipts",
+            "SELECT rowid, number, box, name, length, digest, moment, key_id FROM receipts WHERE rowid >= ?1 AND rowid <= ?2",
         )?,
-        files: list(
+        files: list_long(
             tx,
-            "SELECT rowid, box, name, receipt FROM files ORDER BY box, name",
+            alloc,
+            "SELECT rowid FROM files",
+            "SELECT rowid, box, name, receipt FROM files WHERE rowid >= ?1 AND rowid <= ?2",
         )?,
-        pieces: list(
+        pieces: list_long(
             tx,
-            "SELECT rowid, box, name, part, length(bytes) FROM pieces ORDER BY box, name, part",
+            alloc,
+            "SELECT rowid FROM pieces",
+            "SELECT rowid, box, name, part, length(bytes) FROM pieces WHERE rowid >= ?1 AND rowid <= ?2",
         )?,
         added: list_added(tx, alloc, format)?,
     })

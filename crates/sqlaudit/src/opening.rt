@@ -17,7 +17,7 @@ use crate::digests::have_bytes;
 use crate::formats::Format;
 use crate::lines::OfficeLine;
 use crate::listing::{Listed, list_all, list_office};
-use crate::receipt_rules::fit_version;
+use crate::receipt_rules::{are_rising, fit_version};
 use crate::rules::{Lines, are_sound};
 use sqlite::{Alter, Connection, Error, ErrorCode, Transaction};
 use sqlite_schema::schema::{Schema, Table};
@@ -162,7 +162,8 @@ fn versioned(lines: &[OfficeLine]) -> Option<&OfficeLine>
     }
 }
 
-/// Whether the lines are those of an office of this version, and its files have their bytes.
+/// Whether the lines are those of an office of this version, and its files have their bytes. Receipts in another order
+/// than that of their numbers are `DatabaseCorrupt`.
 fn is_sound<S: Alter>(
     tx: &mut Transaction<'_, S>,
     alloc: Global,
@@ -189,6 +190,9 @@ fn is_sound<S: Alter>(
         rules: &listed.added.rules,
         limits: &listed.added.limits,
     };
+    if !are_rising(lines.receipts) {
+        return Err(Error::SqliteFailure(ErrorCode::DatabaseCorrupt));
+    }
     if !fit_version(lines.receipts, format) {
         return Ok(false);
     }

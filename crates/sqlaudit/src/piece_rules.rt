@@ -1,8 +1,7 @@
 //! The rules of what pieces, boxes, receipts and keys there are.
 
-ghost use Rattle.std.specs.Prelude.{◌≡◌, ◌↔◌, ℕ, ◌*◌, ◌-◌, ◌<◌, pos, min, List, Contains, IsTrue, IsSomeAnd, slice_get, ⊤};
+ghost use Rattle.std.specs.Prelude.{◌≡◌, ◌↔◌, ℕ, ◌*◌, ◌-◌, ◌<◌, pos, min, List, Contains, IsTrue, slice_get};
 ghost use Rattle.std.specs.FinMap.{FinMap, get};
-ghost use Rattle.std.specs.Ordering.{nat_cmp};
 ghost use Rattle.sigtext.specs.Bytes.{bytes_cmp};
 ghost use Rattle.boxes.specs.State.{Key, Receipt, place_cmp};
 ghost use Rattle.sqlaudit.specs.declared.lines.BoxLine.{BoxLine};
@@ -11,19 +10,19 @@ ghost use Rattle.sqlaudit.specs.Outlines.{AreEntries, HasClerkIn, IsKeyEntry, Is
 ghost use Rattle.sqlaudit.specs.Sorting.{AreSums, HasTotals, HoldsFiles, HoldsReceipts, IsGood, capped};
 
 use crate::file_rules::{Files, Sums, held_by};
-use crate::lines::{BoxLine, KeyLine, PieceLine};
-use crate::receipt_rules::{Receipts, natural};
+use crate::lines::{BoxLine, KeyLine, PieceLine, ReceiptLine};
+use crate::receipt_rules::{length_in, natural, receipt_at};
 
 // The length of a piece that is not the last, in bytes.
 const PIECE_BYTES: u64 = 65_536;
 
 /// The size in the receipt of this number; 0, where it is not there.
-fn size_of(receipts: &Receipts<'_>, number: u64) -> u64
-    ensures { (rs : FinMap nat_cmp Receipt) → HoldsReceipts receipts.now rs
-        → result ≡ size_in (get rs) number }
+fn size_of(receipts: &[ReceiptLine], number: u64) -> u64
+    ensures { (rs : List Receipt) → HoldsReceipts receipts.now rs
+        → result ≡ size_in (slice_get rs) number }
 {
-    match receipts.get(&number.saturating_sub(1)) {
-        Some(receipt) => receipt.size,
+    match receipt_at(receipts, number.saturating_sub(1)) {
+        Some(receipt) => length_in(receipt).unwrap_or(0),
         None => 0,
     }
 }
@@ -47,9 +46,9 @@ fn number_of<'a>(line: &'a PieceLine, files: &Files<'a>) -> Option<u64>
 }
 
 /// Whether the line is a piece of one of the files.
-fn is_piece<'a>(line: &'a PieceLine, files: &Files<'a>, receipts: &Receipts<'a>) -> bool
-    ensures { (rs : FinMap nat_cmp Receipt) (m : FinMap place_cmp ℕ) → HoldsReceipts receipts.now rs
-        → HoldsFiles files.now m → IsTrue result ↔ IsPieceIn (get rs) m line.now }
+fn is_piece<'a>(line: &'a PieceLine, files: &Files<'a>, receipts: &[ReceiptLine]) -> bool
+    ensures { (rs : List Receipt) (m : FinMap place_cmp ℕ) → HoldsReceipts receipts.now rs
+        → HoldsFiles files.now m → IsTrue result ↔ IsPieceIn (slice_get rs) m line.now }
 {
     let (part, length) = (line.part, line.length);
     let Some(number) = number_of(line, files) else {
@@ -68,12 +67,12 @@ fn is_piece<'a>(line: &'a PieceLine, files: &Files<'a>, receipts: &Receipts<'a>)
 pub(crate) fn are_pieces<'a>(
     lines: &'a [PieceLine],
     files: &Files<'a>,
-    receipts: &Receipts<'a>,
+    receipts: &[ReceiptLine],
 ) -> bool
-    ensures { (rs : FinMap nat_cmp Receipt) (m : FinMap place_cmp ℕ) → HoldsReceipts receipts.now rs
+    ensures { (rs : List Receipt) (m : FinMap place_cmp ℕ) → HoldsReceipts receipts.now rs
         → HoldsFiles files.now m
         → IsTrue result ↔ ((line : PieceLine) → Contains lines.now line
-        → IsPieceIn (get rs) m line) }
+        → IsPieceIn (slice_get rs) m line) }
 {
     for line in lines {
         if !is_piece(line, files, receipts) {
@@ -95,7 +94,7 @@ fn is_sum(told: i64, sum: u64) -> bool
 
 /// Whether the line tells what its box holds.
 fn has_totals<'a>(line: &'a BoxLine, sums: &Sums<'a>) -> bool
-    ensures { (rs : FinMap nat_cmp Receipt) (m : FinMap place_cmp ℕ) → AreSums rs m sums.now.entries
+    ensures { (rs : List Receipt) (m : FinMap place_cmp ℕ) → AreSums rs m sums.now.entries
         → IsTrue result ↔ HasTotals rs m line.now }
 {
     let (used, count) = (line.used, line.count);
@@ -105,7 +104,7 @@ fn has_totals<'a>(line: &'a BoxLine, sums: &Sums<'a>) -> bool
 
 /// Whether each line tells what its box holds.
 pub(crate) fn have_totals<'a>(lines: &'a [BoxLine], sums: &Sums<'a>) -> bool
-    ensures { (rs : FinMap nat_cmp Receipt) (m : FinMap place_cmp ℕ) → AreSums rs m sums.now.entries
+    ensures { (rs : List Receipt) (m : FinMap place_cmp ℕ) → AreSums rs m sums.now.entries
         → IsTrue result ↔ ((line : BoxLine) → Contains lines.now line → HasTotals rs m line) }
 {
     for line in lines {
@@ -134,36 +133,4 @@ pub(crate) fn has_clerk(lines: &[KeyLine]) -> bool
         }
     }
     false
-}
-
-/// Whether a receipt has this place.
-fn has_place(receipts: &Receipts<'_>, at: u64) -> bool
-    ensures { (rs : FinMap nat_cmp Receipt) → HoldsReceipts receipts.now rs
-        → IsTrue result ↔ IsSomeAnd (get rs at) (λ r. ⊤) }
-{
-    receipts.contains_key(&at)
-}
-
-/// Whether each place below this one has a receipt.
-fn reaches(receipts: &Receipts<'_>, last: u64) -> bool
-    ensures { (rs : FinMap nat_cmp Receipt) → HoldsReceipts receipts.now rs
-        → IsTrue result ↔ ((at : ℕ) → at < last → IsSomeAnd (get rs at) (λ r. ⊤)) }
-{
-    for at in 0..last {
-        if !has_place(receipts, at) {
-            return false;
-        }
-    }
-    true
-}
-
-/// Whether no receipt is missing before another.
-pub(crate) fn is_unbroken(receipts: &Receipts<'_>) -> bool
-    ensures { (rs : FinMap nat_cmp Receipt) → HoldsReceipts receipts.now rs
-        → IsTrue result ↔ ((list : List Receipt) × ((at : ℕ) → get rs at ≡ slice_get list at)) }
-{
-    match receipts.last_key_value() {
-        Some((last, _)) => reaches(receipts, *last),
-        None => true,
-    }
 }

@@ -1,8 +1,7 @@
 //! The lines of the receipts, as receipts among keys and boxes.
 
-ghost use Rattle.std.specs.Prelude.{◌≡◌, ◌↔◌, ℕ, ◌+◌, ◌≤ℤ◌, pos, Some, IsTrue, IsSomeAnd, IfOk, MatchOption, ⊤};
+ghost use Rattle.std.specs.Prelude.{◌≡◌, ◌≢◌, ◌↔◌, ℕ, ◌+◌, ◌≤ℤ◌, pos, List, slice_get, Some, None, IsTrue, IsSomeAnd, MatchBool, MatchOption, ⊤};
 ghost use Rattle.std.specs.FinMap.{FinMap, get};
-ghost use Rattle.std.specs.Ordering.{nat_cmp};
 ghost use Rattle.sigtext.specs.Bytes.{bytes_cmp};
 ghost use Rattle.boxes.specs.State.{Key, Receipt};
 ghost use Rattle.boxes.specs.Opening.{Fits};
@@ -11,8 +10,8 @@ ghost use Rattle.sqltables.specs.Schema.{v1};
 ghost use Rattle.sqltables.specs.Tables.{Box};
 ghost use Rattle.sqlaudit.specs.Formats.{version_of};
 ghost use Rattle.sqlaudit.specs.Opened.{most_first_body, AreShortLines};
-ghost use Rattle.sqlaudit.specs.Outlines.{IsReceiptEntry, IsReceiptRule};
-ghost use Rattle.sqlaudit.specs.Sorting.{HoldsBoxes, HoldsKeys, HasReceiptForms, IsGiven, IsRead, given_in};
+ghost use Rattle.sqlaudit.specs.Outlines.{AreEntries, IsReceiptEntry, IsReceiptRule};
+ghost use Rattle.sqlaudit.specs.Sorting.{AreRising, HoldsBoxes, HoldsKeys, HoldsReceipts, HasReceiptForms, IsGiven, given_in};
 
 use crate::box_rules::Boxes;
 use crate::formats::Format;
@@ -20,8 +19,6 @@ use crate::key_rules::Keys;
 use crate::lines::ReceiptLine;
 use boxes::{Command, has_form, name_fits};
 use sigtext::MOST_BODY;
-use std::alloc::{AllocError, Global};
-use std::collections::BTreeMap;
 
 /// A receipt, as its line has it.
 #[derive(Clone, Copy)]
@@ -33,9 +30,6 @@ pub(crate) struct ReceiptEntry<'a> {
     pub(crate) moment: u64,
     pub(crate) key: &'a [u8],
 }
-
-/// The receipts by their places: the first, of number 1, is at 0.
-pub(crate) type Receipts<'a> = BTreeMap<u64, ReceiptEntry<'a>>;
 
 const DIGEST_BYTES: usize = 32;
 
@@ -183,39 +177,57 @@ fn receipt_of<'a>(
     Some((at, entry))
 }
 
-/// Whether two entries are the same receipt.
-fn is_same_receipt(a: &ReceiptEntry<'_>, b: &ReceiptEntry<'_>) -> bool
-    ensures { IsTrue result ↔ given_in a.now ≡ given_in b.now }
+/// Whether the line of this place is a receipt among these keys and boxes. That of number 1 has place 0.
+fn stands_at<'a>(at: usize, line: &'a ReceiptLine, keys: &Keys<'a>, boxes: &Boxes<'a>) -> bool
+    ensures { (ks : FinMap bytes_cmp Key) (bs : FinMap bytes_cmp Box) → HoldsKeys keys.now ks
+        → HoldsBoxes boxes.now bs → MatchBool result ((r : Receipt) × IsGiven ks bs line.now at r)
+        ((place : ℕ) (r : Receipt) → IsGiven ks bs line.now place r → place ≢ at) }
 {
-    a.in_box == b.in_box
-        && a.name == b.name
-        && a.size == b.size
-        && a.digest == b.digest
-        && a.moment == b.moment
-        && a.key == b.key
+    match receipt_of(line, keys, boxes) {
+        Some((place, _)) => place == at as u64,
+        None => false,
+    }
 }
 
-/// The receipts of the lines, where each line is one and no two differ in one place.
-pub(crate) fn receipts_by_place<'a>(
-    alloc: Global,
-    lines: &'a [ReceiptLine],
-    keys: &Keys<'a>,
-    boxes: &Boxes<'a>,
-) -> Result<Option<Receipts<'a>>, AllocError>
-    ensures { (ks : FinMap bytes_cmp Key) (bs : FinMap bytes_cmp Box) → HoldsKeys keys.now ks
-        → HoldsBoxes boxes.now bs
-        → IfOk result (IsRead nat_cmp (λ n. n) given_in (IsGiven ks bs) lines.now) }
+/// Whether the number of each line is below that of the next.
+pub(crate) fn are_rising(lines: &[ReceiptLine]) -> bool
+    ensures { IsTrue result → AreRising lines.now }
 {
-    let mut receipts = BTreeMap::new(alloc);
-    for line in lines {
-        let Some((at, receipt)) = receipt_of(line, keys, boxes) else {
-            return Ok(None);
-        };
-        if let Some(first) = receipts.insert(at, receipt)? {
-            if !is_same_receipt(&first, &receipt) {
-                return Ok(None);
-            }
+    lines.is_sorted_by(|a, b| a.number < b.number)
+}
+
+/// Whether each line is a receipt among these keys and boxes, the first has number 1, and none is missing.
+pub(crate) fn are_receipts<'a>(lines: &'a [ReceiptLine], keys: &Keys<'a>, boxes: &Boxes<'a>) -> bool
+    ensures taken { (ks : FinMap bytes_cmp Key) (bs : FinMap bytes_cmp Box) → HoldsKeys keys.now ks
+        → HoldsBoxes boxes.now bs → IsTrue result → (receipts : List Receipt)
+        × HoldsReceipts lines.now receipts
+        × AreEntries (IsGiven ks bs) (slice_get receipts) lines.now }
+    ensures refused { (ks : FinMap bytes_cmp Key) (bs : FinMap bytes_cmp Box)
+        → HoldsKeys keys.now ks → HoldsBoxes boxes.now bs → AreRising lines.now
+        → (receipts : List Receipt) → AreEntries (IsGiven ks bs) (slice_get receipts) lines.now
+        → IsTrue result }
+{
+    for (at, line) in lines.iter().enumerate() {
+        if !stands_at(at, line, keys, boxes) {
+            return false;
         }
     }
-    Ok(Some(receipts))
+    true
+}
+
+/// The line of the receipt of this place.
+pub(crate) fn receipt_at(lines: &[ReceiptLine], at: u64) -> Option<&ReceiptLine>
+    ensures { MatchOption result (slice_get lines.now at ≡ None)
+        (λ line. slice_get lines.now at ≡ Some line.now) }
+{
+    lines.get(at as usize)
+}
+
+/// The length that a receipt's line tells.
+pub(crate) fn length_in(line: &ReceiptLine) -> Option<u64>
+    ensures { MatchOption result ((n : ℕ) → line.now.length ≡ pos n → ⊥)
+        (λ n. line.now.length ≡ pos n) }
+{
+    let length = line.length;
+    natural(length)
 }

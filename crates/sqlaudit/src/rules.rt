@@ -3,6 +3,7 @@
 ghost use Rattle.std.specs.Prelude.{◌↔◌, ◌≤ℤ◌, ℤ, pos, neg_ℤ, Contains, Some, IsTrue, IfOk};
 ghost use Rattle.sqlaudit.specs.declared.lines.OfficeLine.{OfficeLine};
 ghost use Rattle.sqlaudit.specs.Outlines.{AreEntries, IsOfficeEntry, AreSoundLines};
+ghost use Rattle.sqlaudit.specs.Sorting.{AreRising};
 
 use crate::box_rules::boxes_by_name;
 use crate::file_rules::files_by_place;
@@ -11,11 +12,11 @@ use crate::limit_rules::{are_limits, has_allowance};
 use crate::lines::{
     BoxLine, FileLine, KeyLine, LimitLine, OfficeLine, PieceLine, ReceiptLine, RulesLine,
 };
-use crate::piece_rules::{are_pieces, has_clerk, have_totals, is_unbroken};
-use crate::receipt_rules::receipts_by_place;
+use crate::piece_rules::{are_pieces, has_clerk, have_totals};
+use crate::receipt_rules::are_receipts;
 use std::alloc::{AllocError, Global};
 
-/// The lines of all tables of an office, in any order.
+/// The lines of all tables of an office.
 #[derive(Clone, Copy)]
 pub(crate) struct Lines<'a> {
     pub(crate) office: &'a [OfficeLine],
@@ -72,9 +73,11 @@ pub(crate) fn is_office(lines: &[OfficeLine]) -> bool
     are_office_lines(lines, first)
 }
 
-/// Whether the lines are those of an office that keeps every rule which needs no bytes of a file.
+/// Whether the lines are those of an office that keeps every rule which needs no bytes of a file. Those of the receipts are
+/// in the order of their numbers.
 pub(crate) fn are_sound(alloc: Global, lines: &Lines<'_>) -> Result<bool, AllocError>
-    ensures { IfOk result (λ b. IsTrue b ↔ AreSoundLines lines.now) }
+    ensures { AreRising lines.now.receipts.now
+        → IfOk result (λ b. IsTrue b ↔ AreSoundLines lines.now) }
 {
     if !is_office(lines.office) {
         return Ok(false);
@@ -91,17 +94,17 @@ pub(crate) fn are_sound(alloc: Global, lines: &Lines<'_>) -> Result<bool, AllocE
     if !are_limits(lines.limits, &keys, &boxes) {
         return Ok(false);
     }
-    let Some(receipts) = receipts_by_place(alloc, lines.receipts, &keys, &boxes)? else {
+    if !are_receipts(lines.receipts, &keys, &boxes) {
+        return Ok(false);
+    }
+    let Some(filed) = files_by_place(alloc, lines.files, lines.receipts)? else {
         return Ok(false);
     };
-    let Some(filed) = files_by_place(alloc, lines.files, &receipts)? else {
-        return Ok(false);
-    };
-    if !has_clerk(lines.keys) || !is_unbroken(&receipts) {
+    if !has_clerk(lines.keys) {
         return Ok(false);
     }
     if !have_totals(lines.boxes, &filed.sums) {
         return Ok(false);
     }
-    Ok(are_pieces(lines.pieces, &filed.files, &receipts))
+    Ok(are_pieces(lines.pieces, &filed.files, lines.receipts))
 }

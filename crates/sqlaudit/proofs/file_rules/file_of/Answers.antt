@@ -1,12 +1,14 @@
-use Rattle.std.proofs.Common.{◌≡◌, ◌∙◌, ◌+◌, pos, sym, ap, rules}
-use Rattle.std.specs.Prelude.{option_map}
-use Rattle.sqlaudit.specs.Sorting.{given_in}
+use Rattle.std.proofs.Common.{◌≡◌, ◌∙◌, ◌+◌, pos, sym, rules}
 use Rattle.sqlaudit.proofs.FileEntries.{filed}
+use Rattle.sqlaudit.proofs.ReceiptEntries.{one_pos}
+use Rattle.sqlaudit.proofs.ReceiptOrder.{receipt_there}
 use Rattle.sqlaudit.proofs.file_rules.file_of.Goals as goal
 
 pub returns : goal.returns
 returns c rs h =
     let number : c.args.line.now.receipt ≡ pos (c.in_ok-at.at + 1) = search rules in
-    let box : c.in_ok-receipt.receipt.now.in_box.now ≡ c.args.line.now.in_box.items = search rules in
-    let name : c.in_ok-receipt.receipt.now.name.now ≡ c.args.line.now.name.items = search rules in
-    filed rs c.args.line.now c.in_ok-at.at (given_in c.in_ok-receipt.receipt.now) (h.each c.in_ok-at.at ∙ ap (option_map given_in) (sym c.in_ok-receipt.ensures.value)) number box name
+    let it = receipt_there c.args.receipts.now rs h c.in_ok-at.at c.in_ok-receipt.receipt.now c.in_ok-receipt.ensures in
+    let box : c.in_ok-receipt.receipt.now.in_box.items ≡ c.args.line.now.in_box.items = search rules in
+    let name : c.in_ok-receipt.receipt.now.name.items ≡ c.args.line.now.name.items = search rules in
+    let all = filed rs c.args.line.now c.in_ok-at.at it.0 it.1 number (sym it.2.box_is ∙ box) (sym it.2.name_is ∙ name) in
+    (all.0, one_pos _ _ (sym c.in_ok-length_in.ensures ∙ it.2.length_is) ∙ all.1)

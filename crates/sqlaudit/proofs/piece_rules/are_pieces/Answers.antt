@@ -1,17 +1,16 @@
-use Rattle.std.proofs.Common.{subst, sym, refl}
+use Rattle.std.proofs.Common.{slice_get, subst, sym, refl}
 use Rattle.std.specs.Prelude.{Contains}
-use Rattle.std.specs.FinMap.{get}
 use Rattle.std.proofs.lemmas.List.{take_all}
 use Rattle.sqlaudit.specs.Outlines.{IsPieceIn}
 use Rattle.sqlaudit.proofs.Entries.{each_more, none_before, has_at}
 use Rattle.sqlaudit.proofs.piece_rules.are_pieces.Goals as goal
 
 pub loop-line-init : goal.loop-line-init
-loop-line-init c rs m hr hf = none_before (IsPieceIn (get rs) m) c.args.lines.now
+loop-line-init c rs m hr hf = none_before (IsPieceIn (slice_get rs) m) c.args.lines.now
 
 pub loop-line-preserved : goal.loop-line-preserved
 loop-line-preserved c rs m hr hf =
-    each_more (IsPieceIn (get rs) m) c.args.lines.now c.loop-line.line-index c.line-item.result (c.loop-line.invariant rs m hr hf) c.loop-line-test.true (sym c.line-item.is)
+    each_more (IsPieceIn (slice_get rs) m) c.args.lines.now c.loop-line.line-index c.line-item.result (c.loop-line.invariant rs m hr hf) c.loop-line-test.true (sym c.line-item.is)
     ((c.is_piece.ensures rs m hr hf).0 c.if-not-is_piece.false)
 
 pub returns-then-not-is_piece : goal.returns-then-not-is_piece

@@ -1,7 +1,6 @@
-use Rattle.std.proofs.Common.{ℕ, take}
+use Rattle.std.proofs.Common.{ℕ, List, slice_get, take}
 use Rattle.std.specs.Prelude.{Contains}
-use Rattle.std.specs.Ordering.{nat_cmp}
-use Rattle.std.specs.FinMap.{FinMap, get}
+use Rattle.std.specs.FinMap.{FinMap}
 use Rattle.boxes.specs.State.{place_cmp, Receipt}
 use Rattle.sqlaudit.specs.declared.lines.PieceLine.{PieceLine}
 use Rattle.sqlaudit.specs.Outlines.{IsPieceIn}
@@ -9,5 +8,5 @@ use Rattle.sqlaudit.specs.Sorting.{HoldsFiles, HoldsReceipts}
 use Rattle.sqlaudit.proofs.piece_rules.are_pieces.Given as goal
 
 abbrev pub invariant-loop-line : goal.invariant-loop-line
-invariant-loop-line l = (rs : FinMap nat_cmp Receipt) (m : FinMap place_cmp ℕ) → HoldsReceipts l.receipts rs → HoldsFiles l.files m
-    → (line : PieceLine) → Contains (take l.line-index l.lines) line → IsPieceIn (get rs) m line
+invariant-loop-line l = (rs : List Receipt) (m : FinMap place_cmp ℕ) → HoldsReceipts l.receipts rs → HoldsFiles l.files m
+    → (line : PieceLine) → Contains (take l.line-index l.lines) line → IsPieceIn (slice_get rs) m line

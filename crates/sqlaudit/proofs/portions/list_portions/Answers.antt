@@ -1,0 +1,45 @@
+use Rattle.std.proofs.Common.{◌≡◌, ◌+◌, ◌++◌, ◌-◌, ◌≤◌, pos, get_or, to_z, of_z, w64, length, rules, refl, sym, subst, ◌∙◌}
+use Rattle.sqlite.specs.Held.{state}
+use Rattle.sqlaudit.proofs.PortionRows.{Opens, Portioned, ReadsOn, none_read, read_on, all_read}
+use Rattle.sqlaudit.proofs.portions.list_portions.Goals as goal
+
+pub loop-at-init : goal.loop-at-init
+loop-at-init g c =
+    let entry = state g.S.Store c.args.tx.now.conn.now in
+    (refl, subst (Portioned g.L.Line.reads c.args.sql.now entry entry c.args.numbers.now 0) (sym c.in_ok-lines.ensures.items) (none_read g.L.Line.reads c.args.sql.now entry c.args.numbers.now))
+
+pub loop-at-preserved : goal.loop-at-preserved
+loop-at-preserved g c =
+    let entry = state g.S.Store c.args.tx.now.conn.now in
+    let mid = state g.S.Store c.loop-at.tx.conn.now in
+    let now = state g.S.Store c.list_between.new.tx.conn.now in
+    let numbers = c.args.numbers.now in
+    let at = c.loop-at.at in
+    let end = at + c.min.result in
+    let more = c.in_ok-more.more.items in
+    let first : to_z w64 (of_z w64 (get_or numbers at (pos 0))) ≡ get_or numbers at (pos 0) = search rules in
+    let last : to_z w64 (of_z w64 (get_or numbers (end - 1) (pos 0))) ≡ get_or numbers (end - 1) (pos 0) = search rules in
+    let next : ReadsOn g.L.Line.reads c.args.sql.now mid now (get_or numbers at (pos 0)) (get_or numbers (end - 1) (pos 0)) more = record {
+      read = rw (first, last) at c.in_ok-more.ensures.read;
+      running = c.in_ok-more.ensures.rest.running;
+      uncommitted = c.list_between.ensures.rest.uncommitted;
+      survives = c.list_between.ensures.rest.survives;
+    } in
+    let items : c.append.new.self.items ≡ c.loop-at.lines.items ++ more = c.in_ok-append.ensures.items in
+    let within : end ≤ length numbers = search rules in (
+      c.list_between.ensures.rest.same_reference ∙ c.loop-at.invariant.0,
+      subst (Portioned g.L.Line.reads c.args.sql.now entry now numbers end) (sym items) (read_on g.L.Line.reads c.args.sql.now entry mid now numbers at end c.loop-at.lines.items more c.loop-at.invariant.1 next within),
+    )
+
+pub returns-clause-read : goal.returns-clause-read
+returns-clause-read g c v tree show asks are schema running clean =
+    let entry = state g.S.Store c.args.tx.now.conn.now in
+    let now = state g.S.Store c.loop-at.tx.conn.now in
+    let opens : Opens v c.args.sql.now tree show entry = record { asks = asks; schema = schema; running = running } in
+    all_read g.L.Line.reads c.args.sql.now entry now c.args.numbers.now c.loop-at.at c.loop-at.lines.items c.loop-at.invariant.1 c.loop-at-test.false v tree show opens clean are
+
+pub returns-clause-same : goal.returns-clause-same
+returns-clause-same g c v tree show asks schema running clean =
+    let entry = state g.S.Store c.args.tx.now.conn.now in
+    let opens : Opens v c.args.sql.now tree show entry = record { asks = asks; schema = schema; running = running } in
+    c.loop-at.invariant.1.same v tree show opens clean
