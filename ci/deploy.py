@@ -396,7 +396,7 @@ def test_unit(drop, count):
     unit = drop.path("drop.service")
     text = UNIT.read_text()
     unit.write_text(replaced(text, [("=/usr/local/bin/drop serve", f"={drop.program} serve")]))
-    for line in ["StartLimitIntervalSec=0", "Restart=always", "RestartSec=1"]:
+    for line in ["StartLimitIntervalSec=0", "Restart=always", "RestartSec=1", "MemoryMax=80%", "OOMPolicy=stop"]:
         count.add(line, None if line in text.splitlines() else "the unit does not say it")
     ran = kit.run(["systemd-analyze", "verify", unit])
     faults = [line for line in ran.err.decode().splitlines() if unit.name in line]
