@@ -396,7 +396,7 @@ def test_unit(drop, count):
     unit = drop.path("drop.service")
     text = UNIT.read_text()
     unit.write_text(replaced(text, [("=/usr/local/bin/drop serve", f"={drop.program} serve")]))
-    for line in ["StartLimitIntervalSec=0", "Restart=always", "RestartSec=1"]:
+    for line in ["StartLimitIntervalSec=0", "Restart=always", "RestartSec=1", "MemoryMax=80%", "OOMPolicy=stop"]:
         count.add(line, None if line in text.splitlines() else "the unit does not say it")
     ran = kit.run(["systemd-analyze", "verify", unit])
     faults = [line for line in ran.err.decode().splitlines() if unit.name in line]
@@ -599,13 +599,23 @@ class Machine:
         return self.office.start()
 
 
+    def gone_on(self):
+        """Behind the second office's start: it has nothing of the first, whose links to put hold on, and the first is whole."""
+        self.count.add("the first's file", difference(self.asked("GET", "hello.txt"), owed_refusal(34)))
+        self.count.add("the second's number", difference(self.asked("PUT", "hello.txt", b"second"), owed_receipt(1, b"second")))
+        ran = self.drop.run("manifest", self.path("/var/lib/drop/first/office"))
+        rows = [line.split(",")[:3] for line in ran.out.decode().splitlines()]
+        self.count.add("the first's receipts", difference(rows[1:], [["1", "in", "hello.txt"], ["2", "in", "new.txt"]]))
+
+
 def test_page(drop, count):
     """The lines of the page, in their order; and what it shows as their output."""
     found = re.findall(r"^```(sh)?\n(.*?)^```$", PAGE.read_text(), re.MULTILINE | re.DOTALL)
     script, owed = [], {}
     for at, (kind, text) in enumerate(found):
         if kind:
-            behind = "backed_up" if "cp -a /var/lib" in text else "restored" if "/before" in text else None
+            marks = {"cp -a /var/lib": "backed_up", "/before": "restored", "mv -t /var/lib/drop/first": "gone_on"}
+            behind = next((name for mark, name in marks.items() if mark in text), None)
             script += [f"echo '@@ {at}'", text.rstrip("\n"), *([f"between {behind}"] if behind else [])]
         else:
             owed[at - 1] = text

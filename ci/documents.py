@@ -139,11 +139,22 @@ def texts_of(enum):
     return re.findall(r"""#\[error\("(.+?)"\)\]\n +(\w+)(?:\((?:&'a )?(\w+)\))?""", body)
 
 
+def blanked(text):
+    """The line with `{0}` for what differs: a word in capitals, or one in `<>` or `{}`."""
+    return re.sub(r"\b[A-Z]{2,}\b|<\w+>|\{\w+\}", "{0}", text)
+
+
+def warnings_of_code():
+    """The warnings that the program can tell, beside its faults."""
+    source = (kit.ROOT / "crates" / "dropoffice" / "src" / "watching.rt").read_text()
+    return {it.replace("\\\n", "") for it in re.findall(r'"\\\ndrop: ([^"]+)"', source)}
+
+
 def lines_of_code():
-    """The fault lines that the program can tell, with `{0}` for what differs."""
+    """The lines that the program can tell."""
     source = (kit.ROOT / "crates" / "dropoffice" / "src" / "faults.rt").read_text()
     main = (kit.ROOT / "crates" / "drop" / "src" / "main.rt").read_text()
-    lines = {*re.findall(r'=> "([^"]+)",', main)}
+    lines = {*re.findall(r'=> "([^"]+)",', main)} | warnings_of_code()
     for text, _, inner in texts_of("Fault"):
         if text != "{0}":
             lines.add(text)
@@ -163,8 +174,8 @@ def test_faults(_, count):
     count.add("fault lines", None if owed and len(owed) == len(set(owed)) else f"{owed}")
     for line, cells in rows:
         count.add(line, difference(len(cells), 3))
-    page = {re.sub(r"\b[A-Z]{2,}\b|<\w+>", "{0}", line.removeprefix("drop: ")) for line in owed}
-    code = lines_of_code()
+    page = {blanked(line.removeprefix("drop: ")) for line in owed}
+    code = {blanked(line) for line in lines_of_code()}
     count.add("fault lines of the code", f"there are {len(code)} alone" if len(code) < 10 else None)
     for line in sorted(page | code):
         lacks = "the code" if line not in code else "docs/USE.md"

@@ -9,6 +9,7 @@ import contextlib
 import hashlib
 import os
 import pathlib
+import select
 import signal
 import socket
 import subprocess
@@ -56,7 +57,7 @@ class Server:
 
     def __enter__(self):
         pipes = {"stdin": subprocess.DEVNULL, "stdout": subprocess.PIPE, "stderr": subprocess.PIPE}
-        self.process = subprocess.Popen(self.words, cwd=self.drop.folder, **pipes, **self.own)
+        self.process = subprocess.Popen(self.words, cwd=self.drop.folder, **(pipes | self.own))
         self.line = self.process.stdout.readline()
         return self
 
@@ -103,11 +104,11 @@ class Server:
     def end(self):
         """How the program ended, once its last connection was served."""
         out, err = self.process.communicate(timeout=SECONDS)
-        return kit.Run(self.process.returncode, self.line + out, err)
+        return kit.Run(self.process.returncode, self.line + out, err or b"")
 
-    def owed_end(self, failed):
+    def owed_end(self, failed, err=b""):
         line = f"listening on {self.address}\n".encode()
-        return kit.Run(1, line, FAILED.err) if failed else kit.Run(0, line, b"")
+        return kit.Run(1, line, FAILED.err) if failed else kit.Run(0, line, err)
 
 
 # ---- what comes before a connection
@@ -419,8 +420,121 @@ def test_settings(drop, count):
         count.add("sockets that send at once", difference(sends.read(), "1\n1\n"))
 
 
+# ---- an office that is large for the memory
+
+
+MEGABYTE = 1_000_000
+TOTAL, BOUND = "proc/meminfo", "sys/fs/cgroup{}/memory.max"
+TAKEN = {"proc/self/status": "Name:\tdrop\nVmPeak:\t  999999 kB\nVmHWM:\t  300000 kB\n"}  # half of it, and no more
+ENOUGH, SHORT = 614_400_000, 614_399_999
+GROUP = {"proc/self/cgroup": "0::/a.slice/b.service\n"}
+
+
+def total(units, form="MemTotal:       {} kB"):
+    return {TOTAL: f"{form.format(units)}\nMemFree:          1 kB\n"}
+
+
+def bounds(**groups):
+    """What bounds the group of the program (`own`), the one above it, and the top."""
+    names = {"own": "/a.slice/b.service", "above": "/a.slice", "top": "", "other": "/other"}
+    return {BOUND.format(names[name]): f"{bound}\n" for name, bound in groups.items()}
+
+
+# What the system tells of memory, and the memory that the program then says that it may have, in bytes; none where it is silent.
+MEMORY = [
+    ("enough in all", TAKEN | total(600_000), None), ("less in all", TAKEN | total(599_999), 599_999 * 1024),
+    ("the first of two totals", TAKEN | {TOTAL: "MemTotal: 599999 kB\nMemTotal: 600000 kB\n"}, 599_999 * 1024),
+    ("a total without a name", TAKEN | total(1, "Total: {} kB"), None), ("a total in words", TAKEN | total("one"), None),
+    ("a total of other units", TAKEN | total(1, "MemTotal: {} MB"), None), ("no text", TAKEN | {TOTAL: ""}, None),
+    ("a group without bounds", TAKEN | GROUP | bounds(own="max", above="max"), None),
+    ("enough for the group", TAKEN | GROUP | bounds(own=ENOUGH), None),
+    ("less for the group", TAKEN | GROUP | bounds(own=SHORT), SHORT),
+    ("less for the group above", TAKEN | GROUP | bounds(own=ENOUGH, above=SHORT, top="max"), SHORT),
+    ("less at the top", TAKEN | GROUP | bounds(own="max", above=ENOUGH, top=SHORT), SHORT),
+    ("the least of all", TAKEN | GROUP | total(599_999) | bounds(own=500 * MEGABYTE, above=SHORT), 500 * MEGABYTE),
+    ("less in all than for the group", TAKEN | GROUP | total(500_000) | bounds(own=SHORT), 512 * MEGABYTE),
+    ("less for another group", TAKEN | GROUP | bounds(other=SHORT), None),
+    ("the top group alone", TAKEN | {"proc/self/cgroup": "0::/\n"} | bounds(top=SHORT), SHORT),
+    ("groups of the older kind", TAKEN | {"proc/self/cgroup": "4:memory:/a.slice\n1:name=a:/\n"} | bounds(top=SHORT), None),
+    ("groups of both kinds", TAKEN | {"proc/self/cgroup": "4:memory:/other\n0::/a.slice\n"} | bounds(above=SHORT), SHORT),
+    ("a bound in words", TAKEN | GROUP | bounds(own="-1", above="1 kB", top=""), None),
+    ("nothing that can be read", {}, None), ("what was taken is not told", total(599_999), None),
+    ("a total beyond all bounds", TAKEN | total(1 << 63), None),
+]
+
+
+def system(drop, library, name, files):
+    """What a program is started with so that these files stand in for all of /proc and /sys, by ci/system.c."""
+    folder = drop.path(name)
+    folder.mkdir()
+    for path, text in files.items():
+        (folder / path).parent.mkdir(parents=True, exist_ok=True)
+        (folder / path).write_text(text)
+    return {"env": os.environ | {"LD_PRELOAD": str(library), "SYSTEM_AT": str(folder)}}
+
+
+def warned(length, needed, memory):
+    """The line that an office of so many bytes is large for so much memory."""
+    length, needed, memory = (it // MEGABYTE for it in [length, needed, memory])
+    return (f"drop: the office file of {length} MB takes {needed} MB of memory to open, over half of the {memory} MB that the "
+            "server may have: a larger one may not open at the next start. Give the server more memory, or go on in a second "
+            "office (docs/DEPLOY.md, 10)\n").encode()
+
+
+def test_memory(drop, count):
+    """An office whose opening took over half of the memory that the program may have is told at the start, and served."""
+    library, file = kit.library(drop.folder, "ci/system.c"), open_office(drop, "memory")
+    for at, (name, files, memory) in enumerate(MEMORY):
+        server = Server(drop, file, 1)
+        server.own = system(drop, library, f"system-{at}", files)
+        server.words += ["--manifest", drop.path("memory.csv")] if at % 2 else []
+        with server:
+            count.add(f"{name}: a connection", difference(server.ask(), b""))
+            err = b"" if memory is None else warned(file.stat().st_size, 300_000 * 1024, memory)
+            count.add(f"{name}: the end", difference(server.end(), server.owed_end(False, err)))
+    server = Server(drop, file, 1)
+    with open("/dev/full", "wb", buffering=0) as full:
+        server.own = system(drop, library, "system-full", TAKEN | total(1)) | {"stderr": full}
+        with server:
+            count.add("a line that can't be written: a connection", difference(server.ask(), b""))
+            count.add("a line that can't be written: the end", difference(server.end(), server.owed_end(False)))
+
+
+def test_growth(drop, count):
+    """An office that grows over half of the memory is told so once, while it is served; and at its next start."""
+    library, file, memory = kit.library(drop.folder, "ci/system.c"), open_office(drop, "grown"), 100 * MEGABYTE
+    own = system(drop, library, "system-grown", GROUP | bounds(own=memory))
+    server, data = Server(drop, file, 30), b"g" * LIMIT
+    server.own = own
+    puts = [server.message("PUT", f"in/{number}", data) for number in range(20)]
+    get = server.message("GET", "in/0")
+    with server:
+        done = 0
+        while done < len(puts) and file.stat().st_size <= memory // 2:
+            count.add(f"PUT {done}", difference(server.ask(puts[done]), receipt(done + 1, data)))
+            done += 1
+        count.add("it has grown", None if file.stat().st_size > memory // 2 else f"{file.stat().st_size} bytes")
+        for _ in range(3):
+            time.sleep(1.1)
+            count.add("GET", difference(server.ask(get), fetched(1, data)))
+        line, length = warned(*[file.stat().st_size] * 2, memory), file.stat().st_size
+        there, _, _ = select.select([server.process.stderr], [], [], SECONDS)
+        found = os.read(server.process.stderr.fileno(), 4096) if there else b""
+        count.add("the line while it is served", difference(found, line))
+        for _ in range(30 - done - 3):
+            server.ask()
+        count.add("the end", difference(server.end(), server.owed_end(False)))
+    again = Server(drop, file, 1)
+    again.own = own
+    with again:
+        count.add("the next start: a connection", difference(again.ask(), b""))
+        owed = again.owed_end(False, warned(file.stat().st_size, file.stat().st_size, memory))
+        count.add("the next start", difference(again.end(), owed))
+    count.add("no byte was lost", None if file.stat().st_size >= length else f"{file.stat().st_size} bytes")
+
+
 TESTS = [test_words, test_faults, test_curl, test_boto3, test_bytes, test_nonsense, test_broken, test_patience,
-         test_killed, test_closed, test_manifest, test_lost_manifest, test_settings]
+         test_killed, test_closed, test_manifest, test_lost_manifest, test_settings, test_memory, test_growth]
 
 
 if __name__ == "__main__":

@@ -9,12 +9,14 @@ mod linking;
 mod listening;
 mod listing;
 mod manifesting;
+mod memory;
 mod migrating;
 mod opening;
 mod program;
 mod replaying;
 mod secrets;
 mod signing;
+mod watching;
 
 pub use office::{
     Answer, Clock, Counted, DeskFault, FixedClock, ListedClock, MachineClock, Message, Office,

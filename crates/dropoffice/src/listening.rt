@@ -2,10 +2,11 @@
 use crate::faults::Fault;
 use crate::manifesting::serve_published;
 use crate::opening::{OfficeWork, Purpose, work_over};
+use crate::watching::WatchingClock;
 use cache::CachedKeeper;
 use keeper::Keeper;
 use mio::Poll;
-use office::{MachineClock, Office};
+use office::Office;
 use rolls::Rolls;
 use sockets::{Limits, send_at_once, serve};
 use std::io::Write;
@@ -16,6 +17,7 @@ use tasks::Serve;
 /// What the words of a service ask for.
 #[derive(Clone, Copy, Debug)]
 pub(crate) struct Service<'a> {
+    file: &'a str,
     listen: &'a str,
     address: SocketAddrV4,
     limits: Limits,
@@ -81,6 +83,7 @@ fn read_service<'a>(words: &Serve<'a>) -> Result<Service<'a>, Fault<'static>> {
         return Err(Fault::MalformedValue("open"));
     };
     Ok(Service {
+        file: words.file,
         listen: words.listen,
         address,
         limits: Limits {
@@ -100,7 +103,8 @@ fn read_address(text: &str) -> Option<SocketAddrV4> {
     SocketAddrV4::parse_ascii(text.as_bytes()).ok()
 }
 
-/// Listens at the address, says so on `out`, and serves the connections that come.
+/// Listens at the address, says so on `out`, and serves the connections that come. That the office file is large for the memory
+/// is told on standard error.
 pub(crate) fn serve_at<'a, K: Keeper>(
     rt: &HostRuntime,
     office: &mut Office<K>,
@@ -116,10 +120,10 @@ pub(crate) fn serve_at<'a, K: Keeper>(
     let Ok(poll) = Poll::new(rt) else {
         return Err(Fault::CannotListen);
     };
+    let mut clock = WatchingClock::new(rt, service.file);
     if writeln!(out, "listening on {}", service.listen).is_err() || out.flush().is_err() {
         return Err(Fault::CannotWrite);
     }
-    let mut clock = MachineClock::new(rt);
     let served = serve(rt, poll, office, listener, service.limits, &mut clock);
     let Ok(outcome) = served.outcome else {
         return Err(Fault::CannotListen);
