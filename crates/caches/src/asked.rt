@@ -134,13 +134,87 @@ fn tells_changes(alloc: Global, within: &mut Watched<Shelf>) -> Result<bool, Fai
     Ok(is_so)
 }
 
-// Each change makes it ask for what the change may have changed, and for nothing else: 1, 2, 2, 1, 2 and 2 questions. What a key
-// may not use is asked each time.
+// Each change makes it ask for what the change may have changed, and for nothing else: 1, 2, 1, 1, 2 and 2 questions. What a key
+// may not use is asked each time. Of the upload the next number is known, and the totals are not: nobody asked what stood.
 #[test]
 fn forgets_what_changed(rt: HostRuntime) -> Result<(), Fail> {
     let mut within = office(rt.alloc())?;
     assert!(rt; tells_changes(rt.alloc(), &mut within)?);
-    assert_eq!(rt; within.calls, 6 + 6 + 3 + 1 + 2 + 2 + 1 + 2 + 2);
+    assert_eq!(rt; within.calls, 6 + 6 + 3 + 1 + 2 + 1 + 1 + 2 + 2);
+    Ok(())
+}
+
+// Sets a file of the box `in` to these bytes, and says what the box holds then, and the next number.
+fn put(keeper: &mut Cached<'_>, number: u64, name: &[u8], bytes: &[u8]) -> Result<[u64; 3], Fail> {
+    keeper.stage_begin()?;
+    keeper.stage(bytes)?;
+    keeper.apply(&Change::SetFile(NewFile {
+        number,
+        in_box: b"in",
+        name,
+        size: bytes.len() as u64,
+        digest: [0; 32],
+        moment: 1_369_353_600,
+        key: ID,
+    }))?;
+    let totals = keeper.sizes(b"in")?;
+    Ok([totals.used, totals.count, keeper.next_number()?])
+}
+
+// The same, with the question for what stands, that each upload asks before.
+fn upload(
+    keeper: &mut Cached<'_>,
+    number: u64,
+    name: &[u8],
+    bytes: &[u8],
+) -> Result<[u64; 3], Fail> {
+    let _ = keeper.file_receipt(b"in", name)?;
+    put(keeper, number, name, bytes)
+}
+
+// Whether totals and number are told right behind a new file, longer and shorter bytes in its place, and another file.
+fn follows_uploads(alloc: Global, within: &mut Watched<Shelf>) -> Result<bool, Fail> {
+    let mut keeper = CachedKeeper::new(alloc, within);
+    let _ = keeper.box_row(b"in")?;
+    let _ = keeper.sizes(b"in")?;
+    Ok(
+        upload(&mut keeper, 1, b"a", b"abc")? == [3, 1, 2]
+            && upload(&mut keeper, 2, b"a", b"abcde")? == [5, 1, 3]
+            && upload(&mut keeper, 3, b"a", b"ab")? == [2, 1, 4]
+            && upload(&mut keeper, 4, b"b", b"abcd")? == [6, 2, 5],
+    )
+}
+
+// Totals and number are asked for once, and known behind each upload.
+#[test]
+fn asks_nothing_again_for_uploads(rt: HostRuntime) -> Result<(), Fail> {
+    let mut within = office(rt.alloc())?;
+    assert!(rt; follows_uploads(rt.alloc(), &mut within)?);
+    assert_eq!(rt; within.calls, 2 + 4 * 4);
+    let totals = within.sizes(b"in")?;
+    assert!(rt; totals.used == 6 && totals.count == 2 && within.next_number()? == 5);
+    Ok(())
+}
+
+// Whether totals are told right where another file was asked for than is set, in this box or in another, or none was since.
+fn follows_other_uploads(alloc: Global, within: &mut Watched<Shelf>) -> Result<bool, Fail> {
+    let mut keeper = CachedKeeper::new(alloc, within);
+    let _ = keeper.box_row(b"in")?;
+    let mut is_so = upload(&mut keeper, 1, b"a", b"abc")? == [3, 1, 2];
+    let _ = keeper.file_receipt(b"in", b"b")?;
+    is_so &= put(&mut keeper, 2, b"a", b"abcde")? == [5, 1, 3];
+    let _ = keeper.file_receipt(b"out", b"a")?;
+    is_so &= put(&mut keeper, 3, b"a", b"ab")? == [2, 1, 4];
+    is_so &= put(&mut keeper, 4, b"a", b"a")? == [1, 1, 5];
+    Ok(is_so)
+}
+
+// Then the totals are asked for again, and at the first upload too, before which nobody asked for them.
+#[test]
+fn asks_for_totals_of_other_uploads(rt: HostRuntime) -> Result<(), Fail> {
+    let mut within = office(rt.alloc())?;
+    assert!(rt; follows_other_uploads(rt.alloc(), &mut within)?);
+    assert_eq!(rt; within.calls, 1 + 5 + 5 + 5 + 4);
     Ok(())
 }
 
