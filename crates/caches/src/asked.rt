@@ -1,4 +1,6 @@
 //! What is asked of the keeper within, and when.
+ghost use Rattle.std.specs.Prelude.{◌≤◌, length};
+
 use boxes::{Change, Command, Mode, NewFile, Role};
 use cache::CachedKeeper;
 use keeper::{KeepFault, Keeper, Shelf};
@@ -145,7 +147,10 @@ fn forgets_what_changed(rt: HostRuntime) -> Result<(), Fail> {
 }
 
 // Sets a file of the box `in` to these bytes, and says what the box holds then, and the next number.
-fn put(keeper: &mut Cached<'_>, number: u64, name: &[u8], bytes: &[u8]) -> Result<[u64; 3], Fail> {
+fn put(keeper: &mut Cached<'_>, number: u64, name: &[u8], bytes: &[u8]) -> Result<[u64; 3], Fail>
+    requires some { 1 ≤ length bytes.now }
+    requires short { length bytes.now ≤ 65536 }
+{
     keeper.stage_begin()?;
     keeper.stage(bytes)?;
     keeper.apply(&Change::SetFile(NewFile {
@@ -162,12 +167,10 @@ fn put(keeper: &mut Cached<'_>, number: u64, name: &[u8], bytes: &[u8]) -> Resul
 }
 
 // The same, with the question for what stands, that each upload asks before.
-fn upload(
-    keeper: &mut Cached<'_>,
-    number: u64,
-    name: &[u8],
-    bytes: &[u8],
-) -> Result<[u64; 3], Fail> {
+fn upload(keeper: &mut Cached<'_>, number: u64, name: &[u8], bytes: &[u8]) -> Result<[u64; 3], Fail>
+    requires some { 1 ≤ length bytes.now }
+    requires short { length bytes.now ≤ 65536 }
+{
     let _ = keeper.file_receipt(b"in", name)?;
     put(keeper, number, name, bytes)
 }
