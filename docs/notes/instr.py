@@ -1,0 +1,8 @@
+import sys,importlib.util,pathlib,tempfile
+sys.path[1:1]=["/tmp/s/bench/before","/tmp/s/bench","/tmp/s/ci"]
+sys.argv, av = sys.argv[:1], sys.argv[1:]
+spec=importlib.util.spec_from_file_location("before","/tmp/s/bench/before/run.py"); b=importlib.util.module_from_spec(spec); sys.modules["before"]=b; spec.loader.exec_module(b)
+with tempfile.TemporaryDirectory(prefix="drop-instr-", dir="/var/tmp") as f:
+    for row in b.ROWS:
+        x=[b.counted(pathlib.Path(p).resolve(),pathlib.Path(f),row) for p in av]
+        print("| %s | %s | %.3f |"%(row.name," | ".join("%.0f"%v for v in x), x[0]/x[-1]),flush=True)
