@@ -5,9 +5,11 @@ pub mod Signing
 pub mod SixLemmas
 pub mod SixForms
 pub mod SixPieces
+pub mod AmzNames
 pub mod PairLoops
 pub mod LinkRules
 pub mod Inspected
+pub mod CredentialCuts
 pub mod LinkSigning
 pub mod Texts
 pub mod SaidOnce

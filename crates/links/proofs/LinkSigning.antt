@@ -7,10 +7,6 @@ use Rattle.sigtext.specs.Request.{Request}
 use Rattle.sigtext.specs.CanonicalRequest.{Signed, IsCanonicalRequest, IsTheOnly}
 use Rattle.sigtext.specs.Signing.{AreOf}
 use Rattle.sigv4.specs.Dates.{WritesMoment}
-use Rattle.sigv4.specs.Credential.{IsCredential}
-use Rattle.sigv4.specs.Scopes.{scope_of}
-use Rattle.sigv4.specs.declared.scope.Scope.{Scope}
-use Rattle.sigv4.proofs.Credentials.{credential_once}
 use Rattle.sigv4.specs.Signature.{CredentialScope, signature_of}
 use Rattle.links.specs.WellFormed.{LinkValues}
 use Rattle.links.specs.Admits.{IsSignedBy, signed_of}
@@ -50,19 +46,6 @@ not_signed l r p secret scope right is same fails tells signed =
   where
     differs : false ≡ true → ⊥
     differs e = cc
-
--- the credential that was read again is the link's
-pub same_scope : (l : LinkParts) (r : Request) (p : LinkValues) (text date : List ℕ) (scope : Scope) → IsLinkOf l r p → text ≡ (texts_of l.six).credential → date ≡ (texts_of l.six).date
-    → IsCredential text date scope.key_id.now (scope_of scope) → scope_of scope ≡ p.scope
-same_scope l r p text date scope is a b read =
-    (credential_once (texts_of l.six).credential (texts_of l.six).date p.key_id scope.key_id.now p.scope (scope_of scope) is.credential
-    (subst (λ (d : List ℕ). IsCredential (texts_of l.six).credential d scope.key_id.now (scope_of scope)) b (subst (λ (t : List ℕ). IsCredential t date scope.key_id.now (scope_of scope)) a read))).1
-
-pub same_key_id : (l : LinkParts) (r : Request) (p : LinkValues) (text date : List ℕ) (scope : Scope) → IsLinkOf l r p → text ≡ (texts_of l.six).credential → date ≡ (texts_of l.six).date
-    → IsCredential text date scope.key_id.now (scope_of scope) → scope.key_id.now ≡ p.key_id
-same_key_id l r p text date scope is a b read =
-    (credential_once (texts_of l.six).credential (texts_of l.six).date p.key_id scope.key_id.now p.scope (scope_of scope) is.credential
-    (subst (λ (d : List ℕ). IsCredential (texts_of l.six).credential d scope.key_id.now (scope_of scope)) b (subst (λ (t : List ℕ). IsCredential t date scope.key_id.now (scope_of scope)) a read))).0
 
 -- a link is judged by its signature, and then by its window
 pub judged_unsigned : (secret : List ℕ) (r : Request) (n : Now) (p : LinkValues) (q : Refusal) → q ≡ rule.SignatureMismatch → (IsSignedBy secret r p → ⊥) → FailsAt q secret r n p

@@ -1,5 +1,5 @@
 -- Searching the names of a target's parameters, one pair after another.
-use Rattle.std.proofs.Common.{◌≡◌, ℕ, Bool, true, false, List, Some, sym, ap, ◌∙◌}
+use Rattle.std.proofs.Common.{◌≡◌, ℕ, Bool, true, false, List, Some, refl, sym, ap, ◌∙◌}
 use Rattle.std.specs.Prelude.{◌||◌}
 use Rattle.std.specs.List.{list_any}
 use Rattle.percent_encoding.specs.Percent.{percent_decode}
@@ -13,18 +13,27 @@ use Rattle.sigtext.proofs.Targets.{decoded}
 abbrev pub any_name : (List ℕ → Bool) → List Param → Bool
 any_name test params = list_any (λ p. test p.name) params
 
--- the parameters that the left pairs spell pass the test exactly where those of the whole query do
-abbrev pub SameAny : (List ℕ → Bool) → List Param → Pairs → Type 0
-SameAny test params pairs = (rest : List Param) × SpellsOptionalQuery pairs.left rest × (any_name test params ≡ any_name test rest)
+-- one of the parameters before the left pairs passes the test exactly where this is true
+abbrev pub TellsAny : (List ℕ → Bool) → List Param → Bool → Pairs → Type 0
+TellsAny test params found pairs = (rest : List Param) × SpellsOptionalQuery pairs.left rest × (any_name test params ≡ (found || any_name test rest))
 
-pub any_more : (test : List ℕ → Bool) (params : List Param) (before after : Pairs) (raw : RawParam) → GivesNext before (Some raw) after → test (percent_decode raw.name.now) ≡ false → SameAny test params before → SameAny test params after
-any_more test params before after raw g fails (rest, spelled, same) =
+past : (found here rest : Bool) → here ≡ false → (found || (here || rest)) ≡ (found || rest)
+past found here rest fails = ap (λ b. found || (b || rest)) fails
+
+at : (found here rest : Bool) → here ≡ true → (found || (here || rest)) ≡ (true || rest)
+at true here rest holds = refl
+at false here rest holds = ap (λ b. b || rest) holds
+
+pub any_more : (test : List ℕ → Bool) (params : List Param) (found : Bool) (before after : Pairs) (raw : RawParam) → GivesNext before (Some raw) after → test (percent_decode raw.name.now) ≡ false
+    → TellsAny test params found before → TellsAny test params found after
+any_more test params found before after raw g fails (rest, spelled, same) =
     let (p, others, is, spells, left) = g.param rest spelled in
     let here = sym (ap test (decoded _ raw.name.now p.name spells.name_spelled)) ∙ fails in
-    (others, left, same ∙ ap (any_name test) is ∙ ap (λ b. b || any_name test others) here)
+    (others, left, same ∙ ap (λ ps. found || any_name test ps) is ∙ past found (test p.name) (any_name test others) here)
 
-pub any_here : (test : List ℕ → Bool) (params : List Param) (before after : Pairs) (raw : RawParam) → GivesNext before (Some raw) after → test (percent_decode raw.name.now) ≡ true → SameAny test params before → any_name test params ≡ true
-any_here test params before after raw g holds (rest, spelled, same) =
+pub any_here : (test : List ℕ → Bool) (params : List Param) (found : Bool) (before after : Pairs) (raw : RawParam) → GivesNext before (Some raw) after → test (percent_decode raw.name.now) ≡ true
+    → TellsAny test params found before → TellsAny test params true after
+any_here test params found before after raw g holds (rest, spelled, same) =
     let (p, others, is, spells, left) = g.param rest spelled in
     let here = sym (ap test (decoded _ raw.name.now p.name spells.name_spelled)) ∙ holds in
-    same ∙ ap (any_name test) is ∙ ap (λ b. b || any_name test others) here
+    (others, left, same ∙ ap (λ ps. found || any_name test ps) is ∙ at found (test p.name) (any_name test others) here)

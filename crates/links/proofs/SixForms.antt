@@ -9,7 +9,7 @@ use Rattle.sigv4.specs.Signature.{CredentialScope}
 use Rattle.sigv4.specs.Credential.{IsCredential}
 use Rattle.sigv4.specs.Dates.{WritesMoment}
 use Rattle.links.specs.Forms.{IsExpiry, IsHexDigest}
-use Rattle.links.specs.SixValues.{SixTexts, SixParts, SixRule}
+use Rattle.links.specs.SixValues.{SixTexts, SixParts, SixRule, HoldBeforeNames}
 
 -- the rules before a number
 before : (six : SixTexts) (p : SixParts) (n : ℕ) → (11 < n → SixRule six rule.Algorithm p) → (12 < n → SixRule six rule.Credential p) → (13 < n → SixRule six rule.Date p)
@@ -59,29 +59,29 @@ expiry_fails six key_id scope start a c d none = record {
   fails = λ p hold bad. none p.expires bad;
 }
 
-pub names_fail : (six : SixTexts) (key_id : List ℕ) (scope : CredentialScope) (start expires : ℕ) → six.algorithm ≡ codes "AWS4-HMAC-SHA256" → IsCredential six.credential six.date key_id scope
-    → WritesMoment six.date start → IsExpiry six.expires expires → ((names : List (List ℕ)) → AreSignedNames six.names names → ⊥) → IsFirstToFail (SixRule six) rule.SignedHeaders
-names_fail six key_id scope start expires a c d e none = record {
-  parts = parts key_id scope start expires [];
-  before = before six _ 15 (λ lt. a) (λ lt. c) (λ lt. d) (λ lt. e) (λ lt. absurd (omega arith)) (λ lt. absurd (omega arith));
-  fails = λ p hold bad. none p.names bad;
+pub names_fail : (six : SixTexts) (p : SixParts) → HoldBeforeNames six p → ((names : List (List ℕ)) → AreSignedNames six.names names → ⊥) → IsFirstToFail (SixRule six) rule.SignedHeaders
+names_fail six p held none = record {
+  parts = p;
+  before = before six p 15 (λ lt. held.algorithm) (λ lt. held.credential) (λ lt. held.date) (λ lt. held.expires) (λ lt. absurd (omega arith)) (λ lt. absurd (omega arith));
+  fails = λ q hold bad. none q.names bad;
 }
 
-pub signature_fails : (six : SixTexts) (key_id : List ℕ) (scope : CredentialScope) (start expires : ℕ) (names : List (List ℕ)) → six.algorithm ≡ codes "AWS4-HMAC-SHA256"
-    → IsCredential six.credential six.date key_id scope → WritesMoment six.date start → IsExpiry six.expires expires → AreSignedNames six.names names
-    → (IsHexDigest six.signature → ⊥) → IsFirstToFail (SixRule six) rule.SignatureText
-signature_fails six key_id scope start expires names a c d e h none = record {
-  parts = parts key_id scope start expires names;
-  before = before six _ 16 (λ lt. a) (λ lt. c) (λ lt. d) (λ lt. e) (λ lt. h) (λ lt. absurd (omega arith));
-  fails = λ p hold bad. none bad;
+abbrev pub with_names : SixParts → List (List ℕ) → SixParts
+with_names p names = parts p.key_id p.scope p.start p.expires names
+
+pub signature_fails : (six : SixTexts) (p : SixParts) (names : List (List ℕ)) → HoldBeforeNames six p → AreSignedNames six.names names → (IsHexDigest six.signature → ⊥)
+    → IsFirstToFail (SixRule six) rule.SignatureText
+signature_fails six p names held are none = record {
+  parts = with_names p names;
+  before = before six _ 16 (λ lt. held.algorithm) (λ lt. held.credential) (λ lt. held.date) (λ lt. held.expires) (λ lt. are) (λ lt. absurd (omega arith));
+  fails = λ q hold bad. none bad;
 }
 
-pub all_hold : (six : SixTexts) (p : SixParts) → SixRule six rule.Algorithm p → SixRule six rule.Credential p → SixRule six rule.Date p
-    → SixRule six rule.Expiry p → SixRule six rule.SignedHeaders p → SixRule six rule.SignatureText p → AllHold (SixRule six) p
-all_hold six p a c d e h s rule.Algorithm = a
-all_hold six p a c d e h s rule.Credential = c
-all_hold six p a c d e h s rule.Date = d
-all_hold six p a c d e h s rule.Expiry = e
-all_hold six p a c d e h s rule.SignedHeaders = h
-all_hold six p a c d e h s rule.SignatureText = s
-all_hold six p a c d e h s _ = tt
+pub all_hold : (six : SixTexts) (p : SixParts) (names : List (List ℕ)) → HoldBeforeNames six p → AreSignedNames six.names names → IsHexDigest six.signature → AllHold (SixRule six) (with_names p names)
+all_hold six p names held are digits rule.Algorithm = held.algorithm
+all_hold six p names held are digits rule.Credential = held.credential
+all_hold six p names held are digits rule.Date = held.date
+all_hold six p names held are digits rule.Expiry = held.expires
+all_hold six p names held are digits rule.SignedHeaders = are
+all_hold six p names held are digits rule.SignatureText = digits
+all_hold six p names held are digits _ = tt

@@ -1,5 +1,5 @@
 -- What the parts of a link that was read mean.
-use Rattle.std.specs.Prelude.{◌≡◌, List}
+use Rattle.std.specs.Prelude.{◌≡◌, List, length}
 use Rattle.sigtext.specs.Request.{Request}
 use Rattle.sigtext.specs.SignedHeaders.{Header}
 use Rattle.sigtext.specs.Targets.{IsReadFrom}
@@ -23,6 +23,7 @@ pub record IsAskedBy (method : Method) (target : Target) (headers : List Header)
 pub record IsLinkOf (l : LinkParts) (r : Request) (p : LinkValues) : Type 0 where
   pub signed : AreOf l.parts (signed_of r p)
   pub credential : IsCredential (texts_of l.six).credential (texts_of l.six).date p.key_id p.scope
+  pub key_id_length : length p.key_id ≡ l.key_id_length
   pub date : p.date ≡ (texts_of l.six).date
   pub start : p.start ≡ l.start
   pub expires : p.expires ≡ l.expires

@@ -80,6 +80,13 @@ SixRule six rule.SignedHeaders p = AreSignedNames six.names p.names
 SixRule six rule.SignatureText p = IsHexDigest six.signature
 SixRule six _ p = ⊤
 
+-- the rules before that of the names
+pub record HoldBeforeNames (six : SixTexts) (p : SixParts) : Type 0 where
+  pub algorithm : SixRule six rule.Algorithm p
+  pub credential : SixRule six rule.Credential p
+  pub date : SixRule six rule.Date p
+  pub expires : SixRule six rule.Expiry p
+
 -- the sorted parameters and the values are those of parameters of the right names
 pub record AreRightParams (sorted : Params) (six : SixTexts) (params : List Param) : Type 0 where
   pub signed : IsTrue (list_any (λ p. is_signing_name p.name) params)

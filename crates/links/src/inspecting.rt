@@ -1,12 +1,12 @@
 //! Reading a link: what its target and the request's fields say (Amazon S3 API Reference, "Authenticating
 //! Requests: Using Query Parameters").
-ghost use Rattle.std.specs.Prelude.{◌≡◌, ◌≢◌, ℕ, List, map, IfOk, IfErr, IfSome, IfNone};
+ghost use Rattle.std.specs.Prelude.{◌≡◌, ◌≢◌, ℕ, List, map, IfOk, IfErr, IfSome, IfNone, length};
 ghost use Rattle.sigtext.specs.Fields.{header_of};
 ghost use Rattle.sigtext.specs.Request.{Request};
-ghost use Rattle.sigtext.specs.Rules.{IsFirstToFail, AllHold};
+ghost use Rattle.sigtext.specs.Rules.{IsFirstToFail};
 ghost use Rattle.sigv4.specs.Dates.{WritesMoment};
 ghost use Rattle.links.specs.WellFormed.{LinkValues, HeadRule};
-ghost use Rattle.links.specs.SixValues.{SixParts, SixRule, HaveNames, texts_of};
+ghost use Rattle.links.specs.SixValues.{SixParts, SixRule, HoldBeforeNames, HaveNames, texts_of};
 ghost use Rattle.sigtext.specs.Target.{Param, IsTargetOf};
 ghost use Rattle.links.specs.LinkReadings.{IsAskedBy, IsLinkOf};
 
@@ -19,9 +19,10 @@ use sigtext::{Field, Parts, Refusal, SignedNames, Target, signed_values};
 use sigv4::{Moment, Scope};
 use std::alloc::Global;
 
-/// When a link begins, and for how many seconds it holds.
+/// When a link begins, and for how many seconds it holds; and how long the key id of its credential is.
 #[derive(Clone, Copy)]
 struct Window {
+    key_id_length: usize,
     start: Moment,
     expires: u64,
 }
@@ -37,31 +38,27 @@ pub fn read_moment(date: &[u8]) -> Option<Moment>
     Moment::read(text)
 }
 
-// The window of a link, where each of the six values has its form; else the least of the refusals 11 to 16.
+// The window of a link, where the values before the names have their forms; else the least of the refusals 11 to 14.
 fn read_window(six: &SixValues) -> Result<Window, Refusal>
-    ensures ok { IfOk result (λ w. (p : SixParts) × (p.start ≡ w.start) × (p.expires ≡ w.expires)
-        × AllHold (SixRule (texts_of six.now)) p) }
+    ensures ok { IfOk result (λ w. (p : SixParts) × (length p.key_id ≡ w.key_id_length)
+        × (p.start ≡ w.start) × (p.expires ≡ w.expires) × HoldBeforeNames (texts_of six.now) p) }
     ensures err { IfErr result (IsFirstToFail (SixRule (texts_of six.now))) }
 {
     if six.algorithm() != b"AWS4-HMAC-SHA256".as_slice() {
         return Err(Refusal::Algorithm);
     }
-    if let Err(refusal) = Scope::read(six.credential(), six.date()) {
-        return Err(refusal);
-    }
+    let scope = Scope::read(six.credential(), six.date())?;
     let Some(start) = read_moment(six.date()) else {
         return Err(Refusal::Date);
     };
     let Some(expires) = read_expiry(six.expires()) else {
         return Err(Refusal::Expiry);
     };
-    if let Err(refusal) = SignedNames::read(six.names()) {
-        return Err(refusal);
-    }
-    if !is_hex_digest(six.signature()) {
-        return Err(Refusal::SignatureText);
-    }
-    Ok(Window { start, expires })
+    Ok(Window {
+        key_id_length: scope.key_id.len(),
+        start,
+        expires,
+    })
 }
 
 /// Reads the link of a request whose target was read: its parts, where no rule of the numbers 9 to 18
@@ -88,6 +85,9 @@ pub fn inspect<'a>(
     let (params, six) = read_six(alloc, target)?;
     let window = read_window(&six)?;
     let names = SignedNames::read(six.names())?;
+    if !is_hex_digest(six.signature()) {
+        return Err(Refusal::SignatureText);
+    }
     let values = signed_values(alloc, fields, &names)?;
     Ok(LinkParts {
         parts: Parts {
@@ -97,6 +97,7 @@ pub fn inspect<'a>(
             values,
         },
         six,
+        key_id_length: window.key_id_length,
         start: window.start,
         expires: window.expires,
     })

@@ -38,8 +38,7 @@ pub fn check_signature(
     ensures { (r : Request) (p : LinkValues) → IsLinkOf link.now r p
         → Verifies secret.now r p result }
 {
-    let scope = Scope::read(link.six.credential(), link.six.date())?;
-    if !is_signed_by(link, &scope, secret, last) {
+    if !is_signed_by(link, &link.scope(), secret, last) {
         return Err(Refusal::SignatureMismatch);
     }
     Ok(())

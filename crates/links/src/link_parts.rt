@@ -1,9 +1,6 @@
 //! What a well-formed link says.
-ghost use Rattle.std.specs.Prelude.{◌≡◌, ◌↔◌, ◌<◌, ◌+◌, ◌++◌, ℕ, List, length, vec_len, vec_capacity, IfErr, IfOk, IsTrue, MatchOption, OnErr, OnOk};
-ghost use Rattle.sigtext.specs.Request.{Request};
-ghost use Rattle.links.specs.WellFormed.{LinkValues, HasValue};
-ghost use Rattle.links.specs.LinkReadings.{IsLinkOf};
-ghost use Rattle.links.specs.Moments.{HasBegun, moment_with};
+ghost use Rattle.std.specs.Prelude.{◌≤◌, ◌+◌, length};
+ghost use Rattle.links.specs.SixValues.{texts_of};
 
 use crate::six_values::SixValues;
 use percent_encoding::percent_decode;
@@ -19,19 +16,46 @@ pub struct LinkParts<'a> {
     pub(crate) parts: Parts<'a>,
     // Each of its form.
     pub(crate) six: SixValues,
+    // Of the key id, with which the credential begins.
+    pub(crate) key_id_length: usize,
     pub(crate) start: Moment,
     // In seconds.
     pub(crate) expires: u64,
+    // A slash, the day, a slash and the fixed end stand behind the key id: 26 bytes, and the region's.
+    ghost scope_fits: { key_id_length + 26 ≤ length (texts_of six).credential },
 }
 
+// The length of a day, `yyyyMMdd`.
+const DAY: usize = 8;
+
+// With what each credential ends.
+const FIXED_END: &[u8] = b"/s3/aws4_request";
+
 impl LinkParts<'_> {
+    ghost use Rattle.std.specs.Prelude.{◌≡◌, ◌↔◌, ◌<◌, ◌++◌, ℕ, List, vec_len, vec_capacity, IfErr, IfOk, IsTrue, MatchOption, OnErr, OnOk};
+    ghost use Rattle.sigtext.specs.Request.{Request};
+    ghost use Rattle.sigv4.specs.Scopes.{scope_of};
+    ghost use Rattle.links.specs.WellFormed.{LinkValues, HasValue};
+    ghost use Rattle.links.specs.LinkReadings.{IsLinkOf};
+    ghost use Rattle.links.specs.Moments.{HasBegun, moment_with};
+
     /// The key id of the link's credential: 1 to 64 bytes of `A-Z a-z 0-9 - _`.
     pub fn key_id(&self) -> &[u8]
         ensures { (r : Request) (p : LinkValues) → IsLinkOf self.now r p → result.now ≡ p.key_id }
     {
-        match Scope::read(self.six.credential(), self.six.date()) {
-            Ok(scope) => scope.key_id,
-            Err(_) => &[],
+        self.scope().key_id
+    }
+
+    // The link's credential: the key id, the day and the region, cut by slashes, without the fixed end.
+    pub(crate) fn scope(&self) -> Scope<'_>
+        ensures { (r : Request) (p : LinkValues) → IsLinkOf self.now r p
+            → (result.key_id.now ≡ p.key_id) × (scope_of result ≡ p.scope) }
+    {
+        let (key_id, rest) = self.six.credential().split_at(self.key_id_length);
+        Scope {
+            key_id,
+            date: &rest[1..DAY + 1],
+            region: &rest[DAY + 2..rest.len() - FIXED_END.len()],
         }
     }
 

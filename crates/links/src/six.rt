@@ -63,37 +63,32 @@ fn has_prefix(name: &[u8]) -> bool
         .eq(percent_decode(name).take(PREFIX.len()))
 }
 
-// Whether the raw name begins with `X-Amz-` and is none of the six.
-fn is_other(name: &[u8]) -> bool
-    ensures { result ≡ is_other_amz_name (escapes.percent_decode name.now) }
-{
-    has_prefix(name) && !is_signing(name)
+// Which names that begin with `X-Amz-` a target has.
+#[derive(Clone, Copy)]
+struct AmzNames {
+    // One of the six.
+    signing: bool,
+    // One that is none of the six.
+    other: bool,
 }
 
-// Whether one of the six is there.
-fn has_signing_name(target: &Target<'_>) -> bool
-    ensures { (path : List ℕ) (params : List Param) → SpellsReading target.now path params
-        → result ≡ list_any (λ p. is_signing_name p.name) params }
+// The names that begin with `X-Amz-`, found in one walk.
+fn amz_names(target: &Target<'_>) -> AmzNames
+    ensures signing { (path : List ℕ) (params : List Param) → SpellsReading target.now path params
+        → result.signing ≡ list_any (λ p. is_signing_name p.name) params }
+    ensures other { (path : List ℕ) (params : List Param) → SpellsReading target.now path params
+        → result.other ≡ list_any (λ p. is_other_amz_name p.name) params }
 {
+    let mut signing = false;
+    let mut other = false;
     for raw in target.pairs() {
         if is_signing(raw.name) {
-            return true;
+            signing = true;
+        } else if has_prefix(raw.name) {
+            other = true;
         }
     }
-    false
-}
-
-// Whether a name begins with `X-Amz-` and is none of the six.
-fn has_other_name(target: &Target<'_>) -> bool
-    ensures { (path : List ℕ) (params : List Param) → SpellsReading target.now path params
-        → result ≡ list_any (λ p. is_other_amz_name p.name) params }
-{
-    for raw in target.pairs() {
-        if is_other(raw.name) {
-            return true;
-        }
-    }
-    false
+    AmzNames { signing, other }
 }
 
 // The raw values of the six, where all are there.
@@ -137,10 +132,11 @@ pub(crate) fn read_six<'a>(
         → SpellsReading target.now path params
         → HaveNames params) }
 {
-    if !has_signing_name(target) {
+    let names = amz_names(target);
+    if !names.signing {
         return Err(Refusal::NotSigned);
     }
-    if has_other_name(target) {
+    if names.other {
         return Err(Refusal::Parameters);
     }
     let params = Params::read(alloc, target)?;

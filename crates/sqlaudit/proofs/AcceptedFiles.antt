@@ -10,7 +10,7 @@ use Rattle.boxes.proofs.Lookups.{some_none}
 use Rattle.sqlaudit.specs.declared.lines.FileLine.{FileLine}
 use Rattle.sqlaudit.specs.declared.rules.Lines.{Lines}
 use Rattle.sqltables.specs.Pieces.{AreBytesOf}
-use Rattle.sqlaudit.specs.Outlines.{Outline, AreLinesOf, IsSoundOutline, size_in}
+use Rattle.sqlaudit.specs.Outlines.{Outline, AreEntries, IsFileEntry, AreLinesOf, IsSoundOutline, size_in}
 use Rattle.sqlaudit.specs.Opened.{HasBytes}
 use Rattle.sqlaudit.proofs.ReceiptEntries.{one_pos}
 
@@ -34,10 +34,11 @@ told_size rows o place number bytes it =
     ∙ ap (λ r. unwrap_or (option_map (λ (r : Receipt). r.size) r) 0) it.listed
     ∙ it.size
 
-module _ (rows : List Row) (lines : Lines) (o : Outline) (are : AreLinesOf lines o) (sound : IsSoundOutline o) (has : (file : FileLine) → Contains lines.files.now file → HasBytes rows lines.receipts.now file) where
+module _ (rows : List Row) (lines : Lines) (o : Outline) (are : AreLinesOf lines o) (sound : IsSoundOutline o)
+    (files : List FileLine) (files_of : AreEntries IsFileEntry (get o.files) files) (has : (file : FileLine) → Contains files file → HasBytes rows lines.receipts.now file) where
   stored : (place : Place) (number : ℕ) → get o.files place ≡ Some number → (bytes : List ℕ) × IsStored rows o place number bytes
   stored place number there =
-      let line = are.files.all place number there in
+      let line = files_of.all place number there in
       let it = has line.0 line.1 in
       let told = are.receipts.each it.given it.is.there in
       let rule = sound.files place number there in

@@ -6,19 +6,18 @@ use Rattle.std.proofs.lemmas.Bool.{lt-ltb}
 use Rattle.sqlite_value.specs.declared.value.Value.TheVariants.{Int}
 use Rattle.sqlite_value.specs.Order.{Row}
 use Rattle.sqlite_rules.specs.Lists.{Has}
-use Rattle.sqlite_rules.proofs.ListLemmas.{contains_had}
 use Rattle.sqlite.specs.Effect.{Database}
 use Rattle.boxes.specs.State.{Place, File, State as Office}
 use Rattle.boxes.proofs.Lookups.{some_none}
 use Rattle.sqltables.specs.Schema.{Version, IsVersion, v1}
 use Rattle.sqltables.specs.Tables.{Box, Part, RowsMean, IsBoxRow, IsFileRow, IsPieceRow, TablesMean, tables_of, piece_of}
 use Rattle.sqltables.specs.Means.{IsWhole}
-use Rattle.sqlaudit.specs.Lines.{AreLines, HaveRowids, IsPieceLine}
+use Rattle.sqlaudit.specs.Lines.{AreLines, HaveRowids, IsFileLine}
+use Rattle.sqlaudit.specs.Walking.{AreAllPieces}
 use Rattle.sqlaudit.specs.declared.lines.OfficeLine.{OfficeLine}
 use Rattle.sqlaudit.specs.declared.lines.FileLine.{FileLine}
-use Rattle.sqlaudit.specs.declared.lines.PieceLine.{PieceLine}
 use Rattle.sqlaudit.specs.declared.rules.Lines.{Lines}
-use Rattle.sqlaudit.specs.Outlines.{Outline, AreSoundLines, ArePiecesOf}
+use Rattle.sqlaudit.specs.Outlines.{Outline, AreEntries, AreSoundLines, IsFileEntry}
 use Rattle.sqlaudit.specs.Opened.{AreListed, AreOffice, AreShortLines, HasBytes}
 use Rattle.sqlaudit.proofs.ShortReceipts.{short_receipts}
 use Rattle.sqlaudit.proofs.PieceKeys.{one_piece_row}
@@ -33,8 +32,8 @@ file_of_piece : (found : Option File) (at : ℕ) (piece : List ℕ) → option_a
 file_of_piece None at piece is = absurd (some_none piece (sym is))
 file_of_piece (Some f) at piece is = (f, refl, is)
 
-module _ (v : Version) (ours : IsVersion v) (db : Database) (schema : db.schema ≡ v.schema) (whole : IsWhole db) (ids : HaveRowids (db.trees 9)) (lines : List PieceLine) (listed : AreLines IsPieceLine (db.trees 9) lines)
-    (o : Outline) (within : ArePiecesOf o lines) (bytes : Place → List ℕ) (stored : (place : Place) (number : ℕ) → get o.files place ≡ Some number → IsStored (db.trees 9) o place number (bytes place)) where
+module _ (v : Version) (ours : IsVersion v) (db : Database) (schema : db.schema ≡ v.schema) (whole : IsWhole db) (ids : HaveRowids (db.trees 9))
+    (o : Outline) (within : AreAllPieces o.receipts o.files db) (bytes : Place → List ℕ) (stored : (place : Place) (number : ℕ) → get o.files place ≡ Some number → IsStored (db.trees 9) o place number (bytes place)) where
   abbrev it : Office
   it = office o bytes
 
@@ -50,8 +49,8 @@ module _ (v : Version) (ours : IsVersion v) (db : Database) (schema : db.schema 
 
   row_is_piece : (row : Row) → Has (db.trees 9) row → (part : Part) × (piece : List ℕ) × IsPieceRow row part piece × ((tables_of it).piece part ≡ Some piece)
   row_is_piece row there =
-      let line = listed.each row there in
-      let p = within line.0 (contains_had lines line.0 line.1) in
+      let line = within row there in
+      let p = line.2 in
       let place : Place = record { box = line.0.in_box.items; name = line.0.name.items } in
       let s = stored place p.number p.there in
       let begun : 65536 * p.part < length (bytes place) = subst (λ n. 65536 * p.part < n) (told_size (db.trees 9) o place p.number (bytes place) s) p.begun in
@@ -61,7 +60,7 @@ module _ (v : Version) (ours : IsVersion v) (db : Database) (schema : db.schema 
       let held = s.pieces.pieces p.part piece is in
       let same : held.row ≡ row = one_piece_row v ours db schema whole ids held.row row place.box place.name (pos p.part) held.there there
       (record { box_is = held.is.box_is; name_is = held.is.name_is; part_is = held.is.part_is })
-      (record { box_is = line.2.box_is; name_is = line.2.name_is; part_is = line.2.part_is ∙ ap Int p.part_is }) in (
+      (record { box_is = line.1.box_is; name_is = line.1.name_is; part_is = line.1.part_is ∙ ap Int p.part_is }) in (
         record { place = place; at = p.part },
         piece,
         subst (λ (r : Row). IsPieceRow r (record { place = place; at = p.part }) piece) same held.is,
@@ -83,15 +82,16 @@ module _ (v : Version) (ours : IsVersion v) (db : Database) (schema : db.schema 
 -- ---- the whole
 
 means_office : (v : Version) → IsVersion v → (db : Database) (lines : Lines) → db.schema ≡ v.schema → IsWhole db → AreListed v db lines → ((line : OfficeLine) → Contains lines.office.now line → line.version ≡ v.number) → (a : AreSoundLines lines)
+    → RowsMean IsFileRow (get a.office.files) (db.trees 6) → AreAllPieces a.office.receipts a.office.files db → HaveRowids (db.trees 9)
     → (bytes : Place → List ℕ) → ((place : Place) (number : ℕ) → get a.office.files place ≡ Some number → IsStored (db.trees 9) a.office place number (bytes place))
     → TablesMean v db.trees (tables_of (office a.office bytes))
-means_office v ours db lines schema whole listed first a bytes stored = record {
+means_office v ours db lines schema whole listed first a files pieces ids bytes stored = record {
   office = office_means v db lines listed a.office a.lines_are first;
   keys = keys_mean v db lines listed a.office a.lines_are;
   boxes = subst (λ (look : List ℕ → Option Box). RowsMean IsBoxRow look (db.trees 3)) (λ i name. box_same a.office bytes (db.trees 9) a.sound stored name i) (boxes_mean v db lines listed a.office a.lines_are);
   receipts = receipts_mean v db lines listed a.office a.lines_are;
-  files = subst (λ (look : Place → Option ℕ). RowsMean IsFileRow look (db.trees 6)) (λ i place. number_same a.office bytes (db.trees 9) a.sound stored place i) (files_mean v db lines listed a.office a.lines_are);
-  pieces = pieces_mean v ours db schema whole listed.pieces_rowids lines.pieces.now listed.pieces a.office a.pieces bytes stored;
+  files = subst (λ (look : Place → Option ℕ). RowsMean IsFileRow look (db.trees 6)) (λ i place. number_same a.office bytes (db.trees 9) a.sound stored place i) files;
+  pieces = pieces_mean v ours db schema whole ids a.office pieces bytes stored;
   unlimited = unlimited_then v db lines listed a.office a.lines_are;
   rules = rules_mean v db lines listed a.office a.lines_are;
   limits = limits_mean v db lines listed a.office a.lines_are;
@@ -99,17 +99,19 @@ means_office v ours db lines schema whole listed first a bytes stored = record {
 
 pub accepted : (v : Version) → IsVersion v → (db : Database) (lines : Lines) → db.schema ≡ v.schema → IsWhole db → AreListed v db lines
     → ((line : OfficeLine) → Contains lines.office.now line → line.version ≡ v.number)
-    → AreSoundLines lines
-    → ((file : FileLine) → Contains lines.files.now file → HasBytes (db.trees 9) lines.receipts.now file)
+    → (a : AreSoundLines lines)
+    → (files : List FileLine) → AreLines IsFileLine (db.trees 6) files → HaveRowids (db.trees 6) → AreEntries IsFileEntry (get a.office.files) files
+    → ((file : FileLine) → Contains files file → HasBytes (db.trees 9) lines.receipts.now file)
+    → AreAllPieces a.office.receipts a.office.files db → HaveRowids (db.trees 9)
     → (v ≡ v1 → AreShortLines lines.receipts.now)
     → (office : Office) × AreOffice v db office
-accepted v ours db lines schema whole listed first a has short =
+accepted v ours db lines schema whole listed first a files files_listed files_ids files_of has pieces ids short =
     let o : Outline = a.office in
-    let bytes : Place → List ℕ = bytes_at (db.trees 9) lines o a.lines_are a.sound has in
-    let stored : (place : Place) (number : ℕ) → get o.files place ≡ Some number → IsStored (db.trees 9) o place number (bytes place) = bytes_stored (db.trees 9) lines o a.lines_are a.sound has in (
+    let bytes : Place → List ℕ = bytes_at (db.trees 9) lines o a.lines_are a.sound files files_of has in
+    let stored : (place : Place) (number : ℕ) → get o.files place ≡ Some number → IsStored (db.trees 9) o place number (bytes place) = bytes_stored (db.trees 9) lines o a.lines_are a.sound files files_of has in (
       office o bytes,
       record {
-        holds = record { schema = schema; sound = whole; means = means_office v ours db lines schema whole listed first a bytes stored };
+        holds = record { schema = schema; sound = whole; means = means_office v ours db lines schema whole listed first a (files_mean v db lines listed o a.lines_are files files_listed files_ids files_of) pieces ids bytes stored };
         sound = office_sound o bytes (db.trees 9) a.sound stored;
         short = λ one. short_receipts o.receipts lines.receipts.now a.lines_are.receipts (short one);
       },

@@ -3,6 +3,7 @@ pub mod Apart
 pub mod Listed
 pub mod PortionRows
 pub mod LongTexts
+pub mod WalkedFiles
 pub mod Entries
 pub mod KeyEntries
 pub mod ReceiptEntries

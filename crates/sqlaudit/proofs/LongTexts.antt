@@ -50,7 +50,7 @@ receipts_between_is = (
 )
 
 pub asks_receipts : (v : Version) → IsVersion v → AsksBetween v receipts_between 5 receipt_shown
-asks_receipts v ours = record { project = receipt_columns; names = codes "number" ∷ codes "number" ∷ codes "box" ∷ codes "name" ∷ codes "length" ∷ codes "digest" ∷ codes "moment" ∷ codes "key_id" ∷ []; asks = asks_of v ours receipts_between receipts_between_command receipts_between_is; shows = λ given row. refl }
+asks_receipts v ours = record { version = ours; project = receipt_columns; names = codes "number" ∷ codes "number" ∷ codes "box" ∷ codes "name" ∷ codes "length" ∷ codes "digest" ∷ codes "moment" ∷ codes "key_id" ∷ []; asks = asks_of v ours receipts_between receipts_between_command receipts_between_is; shows = λ given row. refl }
 
 -- ---- files
 
@@ -90,7 +90,7 @@ files_between_is = (
 )
 
 pub asks_files : (v : Version) → IsVersion v → AsksBetween v files_between 6 file_shown
-asks_files v ours = record { project = file_columns; names = codes "rowid" ∷ codes "box" ∷ codes "name" ∷ codes "receipt" ∷ []; asks = asks_of v ours files_between files_between_command files_between_is; shows = λ given row. refl }
+asks_files v ours = record { version = ours; project = file_columns; names = codes "rowid" ∷ codes "box" ∷ codes "name" ∷ codes "receipt" ∷ []; asks = asks_of v ours files_between files_between_command files_between_is; shows = λ given row. refl }
 
 -- ---- pieces
 
@@ -130,4 +130,4 @@ pieces_between_is = (
 )
 
 pub asks_pieces : (v : Version) → IsVersion v → AsksBetween v pieces_between 9 piece_shown
-asks_pieces v ours = record { project = piece_columns; names = codes "rowid" ∷ codes "box" ∷ codes "name" ∷ codes "part" ∷ codes "length(bytes)" ∷ []; asks = asks_of v ours pieces_between pieces_between_command pieces_between_is; shows = λ given row. refl }
+asks_pieces v ours = record { version = ours; project = piece_columns; names = codes "rowid" ∷ codes "box" ∷ codes "name" ∷ codes "part" ∷ codes "length(bytes)" ∷ []; asks = asks_of v ours pieces_between pieces_between_command pieces_between_is; shows = λ given row. refl }

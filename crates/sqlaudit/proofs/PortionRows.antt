@@ -21,8 +21,8 @@ use Rattle.sqlite_rules.proofs.ListLemmas.{has_left, has_right, has_either, cont
 use Rattle.sqlite.specs.Effect.{Database}
 use Rattle.sqlite.specs.State.{State, HasCleanDisk, KeepsCommit, Survives}
 use Rattle.sqlite.proofs.Callers.{reads_as}
-use Rattle.sqltables.specs.Schema.{Version}
-use Rattle.sqltables.specs.Means.{IsRunning}
+use Rattle.sqltables.specs.Schema.{Version, IsVersion}
+use Rattle.sqltables.specs.Means.{IsRunning, IsWhole}
 use Rattle.sqltables.proofs.Building.{survives_then, survives_itself, keeps_then}
 use Rattle.sqltables.proofs.Forms.{all_rows, some_rows, select}
 use Rattle.sqltables.proofs.Queries.{AreFound, answered}
@@ -256,3 +256,44 @@ module _ {L : Type 0} (reads : Row → L → Type 0) (sql : List ℕ) where
         p.each v tree show opens clean are.rising row there c.0 (omega (arith, c.1, done)) (n.2 ∙ ap Int (sym c.2 ∙ get_or_default numbers c.0 n.0 (pos 0) c.1));
     all = p.all v tree show opens clean;
   }
+
+-- ---- a call between two portions
+
+-- what a call leaves that writes nothing
+pub record GoesFrom (mid now : State) : Type 0 where
+  pub uncommitted : HasCleanDisk now → IsRunning mid → KeepsCommit mid now
+  pub survives : Survives mid now (λ db. ⊥)
+  pub running : HasCleanDisk now → IsRunning mid → IsRunning now
+  pub same : (v : Version) → IsVersion v → (IsTrue mid.is_open → mid.now.schema ≡ v.schema) → IsRunning mid → HasCleanDisk now → now.now ≡ mid.now
+
+-- a transaction that sees what it saw at first
+pub record Sees (v : Version) (entry now : State) : Type 0 where
+  pub same : now.now ≡ entry.now
+  pub schema : IsTrue now.is_open → now.now.schema ≡ v.schema
+  pub whole : (IsTrue entry.is_open → IsWhole entry.now) → IsTrue now.is_open → IsWhole now.now
+  pub running : IsRunning now
+
+module _ {L : Type 0} (reads : Row → L → Type 0) (sql : List ℕ) (entry mid : State) (numbers : List ℤ) (at : ℕ) (lines : List L) (p : Portioned reads sql entry mid numbers at lines) where
+  pub sees : (v : Version) (tree : ℕ) (show : Row → Row) → Opens v sql tree show entry → HasCleanDisk mid → Sees v entry mid
+  sees v tree show opens clean =
+      let still = p.same v tree show opens clean in
+      let keeps = p.uncommitted clean opens.running in
+      record {
+        same = still;
+        schema = λ is_open. ap (λ (d : Database). d.schema) still ∙ opens.schema (keeps.was_open is_open);
+        whole = λ whole is_open. subst IsWhole (sym still) (whole (keeps.was_open is_open));
+        running = p.running clean opens.running;
+      }
+
+  pub portioned_on : (now : State) → GoesFrom mid now → Portioned reads sql entry now numbers at lines
+  portioned_on now goes = record {
+    uncommitted = λ clean running. keeps_then entry mid now (p.uncommitted (early clean) running) (goes.uncommitted clean (p.running (early clean) running));
+    survives = survives_then entry mid now p.survives goes.survives;
+    running = λ clean running. goes.running clean (p.running (early clean) running);
+    same = λ v tree show opens clean. let s = sees v tree show opens (early clean) in goes.same v opens.asks.version s.schema s.running clean ∙ s.same;
+    all = λ v tree show opens clean. p.all v tree show opens (early clean);
+    each = λ v tree show opens clean. p.each v tree show opens (early clean);
+  }
+    where
+      early : HasCleanDisk now → HasCleanDisk mid
+      early clean = omega (arith, clean, goes.survives.clean)

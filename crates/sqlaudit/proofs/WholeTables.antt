@@ -9,16 +9,15 @@ use Rattle.sqltables.proofs.Ours.{asks_of}
 use Rattle.sqltables.proofs.Texts.{list_keys, list_keys_command, list_keys_is, list_boxes, list_boxes_command, list_boxes_is}
 use Rattle.sqltables.proofs.AddedTexts.{list_rules, list_rules_is, list_limits, list_limits_is}
 use Rattle.sqltables.proofs.Shown.{shown_open}
-use Rattle.sqlaudit.specs.Lines.{AreLines, AreRead, HaveRowids, IsKeyLine, IsBoxLine, IsReceiptLine, IsFileLine, IsPieceLine, ShowsPiece, IsRulesLine, IsLimitLine}
+use Rattle.sqlaudit.specs.Lines.{AreLines, AreRead, HaveRowids, IsKeyLine, IsBoxLine, IsReceiptLine, IsPieceLine, ShowsPiece, IsRulesLine, IsLimitLine}
 use Rattle.sqlaudit.specs.declared.lines.KeyLine.{KeyLine}
 use Rattle.sqlaudit.specs.declared.lines.BoxLine.{BoxLine}
 use Rattle.sqlaudit.specs.declared.lines.ReceiptLine.{ReceiptLine}
-use Rattle.sqlaudit.specs.declared.lines.FileLine.{FileLine}
 use Rattle.sqlaudit.specs.declared.lines.PieceLine.{PieceLine}
 use Rattle.sqlaudit.specs.declared.lines.RulesLine.{RulesLine}
 use Rattle.sqlaudit.specs.declared.lines.LimitLine.{LimitLine}
 use Rattle.sqlaudit.proofs.Listed.{lines_listed, rowids_listed, unchanged}
-use Rattle.sqlaudit.proofs.LongTexts.{receipt_shown, file_shown, piece_shown}
+use Rattle.sqlaudit.proofs.LongTexts.{receipt_shown, piece_shown}
 use Rattle.sqlaudit.proofs.PieceLines.{piece_line}
 
 -- each row of the table in this place has a line, its rows have numbers of their own, and the query wrote nothing
@@ -60,14 +59,6 @@ module _ (old new : State) where
   lists_receipts lines are ids unchanged = record {
     lines_are = lines_more (λ row line. IsReceiptLine (receipt_shown row) line) IsReceiptLine (old.now.trees 5) lines are
         (λ row line there is. record { number_is = is.number_is; box_is = is.box_is; name_is = is.name_is; length_is = is.length_is; digest_is = is.digest_is; moment_is = is.moment_is; key_is = is.key_is });
-    rowids = ids;
-    same = unchanged;
-  }
-
-  pub lists_files : (lines : List FileLine) → AreLines (λ row line. IsFileLine (file_shown row) line) (old.now.trees 6) lines → HaveRowids (old.now.trees 6) → new.now ≡ old.now → Lists IsFileLine 6 old new lines
-  lists_files lines are ids unchanged = record {
-    lines_are = lines_more (λ row line. IsFileLine (file_shown row) line) IsFileLine (old.now.trees 6) lines are
-        (λ row line there is. record { box_is = is.box_is; name_is = is.name_is; receipt_is = is.receipt_is });
     rowids = ids;
     same = unchanged;
   }

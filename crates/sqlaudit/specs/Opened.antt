@@ -14,7 +14,8 @@ use Rattle.boxes.specs.Sound.{IsSound}
 use Rattle.sqltables.specs.Schema.{Version, v1, v2, begun_schemas}
 use Rattle.sqltables.specs.Tables.{tables_of}
 use Rattle.sqltables.specs.Means.{Holds, IsWhole, AddsNothing}
-use Rattle.sqlaudit.specs.Lines.{AreLines, HaveRowids, IsOfficeLine, IsKeyLine, IsBoxLine, IsReceiptLine, IsFileLine, IsPieceLine, IsRulesLine, IsLimitLine}
+use Rattle.sqlaudit.specs.Lines.{AreLines, HaveRowids, IsOfficeLine, IsKeyLine, IsBoxLine, IsReceiptLine, IsPieceLine, IsRulesLine, IsLimitLine}
+use Rattle.sqlaudit.specs.Portions.{AreRowids}
 use Rattle.sqltables.specs.Pieces.{AreBytesOf}
 use Rattle.sqlaudit.specs.declared.lines.FileLine.{FileLine}
 use Rattle.sqlaudit.specs.declared.lines.ReceiptLine.{ReceiptLine}
@@ -187,29 +188,25 @@ pub record AreAdded (v : Version) (db : Database) (rule_lines : List RulesLine) 
   pub rules : v ≡ v2 → AreLines IsRulesLine (db.trees 11) rule_lines × HaveRowids (db.trees 11)
   pub limits : v ≡ v2 → AreLines IsLimitLine (db.trees 12) limit_lines × HaveRowids (db.trees 12)
 
--- the lines are those of the tables, in which no two rows have one rowid
+-- the lines are those of the tables but for files and pieces, in which no two rows have one rowid
 pub record AreListed (v : Version) (db : Database) (lines : Lines) : Type 0 where
   pub office : AreLines IsOfficeLine (db.trees 0) lines.office.now
   pub keys : AreLines IsKeyLine (db.trees 1) lines.keys.now
   pub boxes : AreLines IsBoxLine (db.trees 3) lines.boxes.now
   pub receipts : AreLines IsReceiptLine (db.trees 5) lines.receipts.now
-  pub files : AreLines IsFileLine (db.trees 6) lines.files.now
-  pub pieces : AreLines IsPieceLine (db.trees 9) lines.pieces.now
   pub office_rowids : HaveRowids (db.trees 0)
   pub keys_rowids : HaveRowids (db.trees 1)
   pub boxes_rowids : HaveRowids (db.trees 3)
   pub receipts_rowids : HaveRowids (db.trees 5)
-  pub files_rowids : HaveRowids (db.trees 6)
-  pub pieces_rowids : HaveRowids (db.trees 9)
   pub added : AreAdded v db lines.rules.now lines.limits.now
 
--- the same of all tables but the first
+-- the same of all tables but the first; of the files the rowids
 pub record AreTables (v : Version) (db : Database) (listed : Listed) : Type 0 where
   pub keys : AreLines IsKeyLine (db.trees 1) listed.keys.items
   pub boxes : AreLines IsBoxLine (db.trees 3) listed.boxes.items
-  pub receipts : AreLines IsReceiptLine (db.trees 5) listed.receipts.items
-  pub files : AreLines IsFileLine (db.trees 6) listed.files.items
+  pub files : AreRowids (db.trees 6) listed.files.items
   pub pieces : AreLines IsPieceLine (db.trees 9) listed.pieces.items
+  pub receipts : AreLines IsReceiptLine (db.trees 5) listed.receipts.items
   pub keys_rowids : HaveRowids (db.trees 1)
   pub boxes_rowids : HaveRowids (db.trees 3)
   pub receipts_rowids : HaveRowids (db.trees 5)

@@ -16,7 +16,7 @@ use Rattle.sqlite_sql.specs.declared.ops.CompareOp.TheVariants.{Ge, Le}
 use Rattle.sqlite_rules.specs.Lists.{Has}
 use Rattle.sqlite.specs.declared.transaction.Transaction.{Transaction}
 use Rattle.sqlite.specs.State.{State, Shown, HasCleanDisk}
-use Rattle.sqltables.specs.Schema.{Version}
+use Rattle.sqltables.specs.Schema.{Version, IsVersion}
 use Rattle.sqltables.specs.Means.{IsRunning}
 use Rattle.sqltables.specs.Inside.{seen, HasSchema}
 use Rattle.sqltables.proofs.Says.{Asks}
@@ -36,6 +36,7 @@ between = op2 (Compare Ge Binary) (col 1 0) (col 0 0) ∷ op2 (Compare Le Binary
 
 -- under this schema the text asks for the rows of a table from the one rowid to the other, and shows this of each
 pub record AsksBetween (v : Version) (sql : List ℕ) (tree : ℕ) (show : Row → Row) : Type 0 where
+  pub version : IsVersion v
   pub project : List Term
   pub names : List (List ℕ)
   pub asks : Asks v.schema sql (select (some_rows tree between project) names)

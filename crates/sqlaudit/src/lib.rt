@@ -14,3 +14,4 @@ mod piece_rules;
 mod portions;
 mod receipt_rules;
 mod rules;
+mod walking;

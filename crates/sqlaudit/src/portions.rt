@@ -16,10 +16,13 @@ use sqltables::calls::query;
 use std::alloc::Global;
 
 /// How many rows one query shows at most.
-const PORTION: usize = 512;
+pub(crate) const PORTION: usize = 512;
 
 /// The numbers in the one column that the query shows, ascending. Two rows with one number are `DatabaseCorrupt`.
-fn list_numbers<S: Alter>(tx: &mut Transaction<'_, S>, sql: &str) -> Result<Vec<i64>, Error>
+pub(crate) fn list_numbers<S: Alter>(
+    tx: &mut Transaction<'_, S>,
+    sql: &str,
+) -> Result<Vec<i64>, Error>
     ensures read { HasCleanDisk (seen S.Store tx.new)
         → IfOk result (λ numbers. ShowsNumbers sql.now (seen S.Store tx.old) (seen S.Store tx.new)
         numbers.items) }
@@ -35,7 +38,7 @@ fn list_numbers<S: Alter>(tx: &mut Transaction<'_, S>, sql: &str) -> Result<Vec<
 }
 
 /// What the query shows of the rows from the one rowid to the other.
-fn list_between<S: Alter, L: Line + Drop>(
+pub(crate) fn list_between<S: Alter, L: Line + Drop>(
     tx: &mut Transaction<'_, S>,
     sql: &str,
     first: i64,

@@ -1,5 +1,6 @@
 use Rattle.std.proofs.Common.{sym, ◌∙◌}
 use Rattle.sigtext.proofs.NamedParams.{stand_once}
+use Rattle.links.proofs.Texts.{not_false}
 use Rattle.links.proofs.SixLemmas.{six_there}
 use Rattle.links.proofs.six.read_six.Goals as goal
 
@@ -8,11 +9,11 @@ returns-in-Ok-clause-ok c path params spelled =
     let holds = c.in_ok-params.ensures.ok path params spelled in
     let raw = c.in-Some.ensures.some params holds in
     record {
-      signed = sym (c.has_signing_name.ensures path params spelled) ∙ c.if-not-has_signing_name.false;
+      signed = sym (c.amz_names-names.ensures.signing path params spelled) ∙ not_false _ (sym c.if-not-names.false);
       are_six = record {
         once = stand_once c.in_ok-params.params params holds;
         there = six_there c.in-Some.raw params raw;
-        no_other = sym (c.has_other_name.ensures path params spelled) ∙ c.if-has_other_name.false;
+        no_other = sym (c.amz_names-names.ensures.other path params spelled) ∙ c.if-names.false;
       };
       holds = holds;
       values = c.in-Ok.ensures params raw;
