@@ -11,7 +11,7 @@ use std::time::Duration;
 use trials::published::{DATE, NO_BOX, REQUEST, make_office};
 use wire::{Gathered, Outbox};
 
-// Limits of `connections` connections, at most `open` open at a time, and an idle timeout of one second.
+// Limits of `connections` connections, at most `open` open at a time, and a timeout of one second.
 fn limits(connections: u64, open: usize) -> Limits {
     Limits {
         connections,
