@@ -78,7 +78,7 @@ fn asks_once(rt: HostRuntime) -> Result<(), Fail> {
     Ok(())
 }
 
-// Asks what is never cached: what does not exist, files, and what only the desk asks.
+// Asks what the cache never answers: what does not exist, files, and what only the desk asks.
 fn ask_the_rest(keeper: &mut Cached<'_>) -> Result<bool, Fail> {
     let is_none = keeper.key(b"eve")?.is_none()
         && keeper.box_row(b"none")?.is_none()

@@ -9,7 +9,7 @@ pub trait Sheet {
     /// The text on it, if known.
     ghost text: { Self → Option (List ℕ) };
 
-    /// Appends these bytes. On an error only some of them, or none, may be there.
+    /// Appends these bytes. On an error only a beginning of them may be there.
     fn add(&mut self, bytes: &[u8]) -> io::Result<()>
         ensures { Adds bytes.now (text self.old) (text self.new) result };
 }

@@ -103,7 +103,7 @@ fn encode(alloc: Global, row: &Row<'_>, line: &mut Line) -> Result<(), RowFault>
     Ok(line.put(&out)?)
 }
 
-/// The fault if memory ran out. The output must be unchanged then.
+/// The fault when memory ran out: `Memory` if the output is unchanged, as it must be, else `Malformed`.
 pub(crate) fn want_of_memory(found: &[u8], before: &[u8]) -> RowFault {
     if found == before {
         RowFault::Memory

@@ -356,7 +356,7 @@ fn compares_all<K: Keeper>(office: &mut Office<K>) -> Result<(), Fail> {
     refuses_others(office)
 }
 
-// Three receipts, of which the first file was replaced. Then the second file is dropped.
+// Three receipts, with the first file replaced. Then the second file is dropped.
 fn compares_three<K: Keeper>(office: &mut Office<K>) -> Result<(), Fail> {
     lists_receipts(office, THREE)?;
     compares(
