@@ -1,4 +1,4 @@
--- What an answer says, as it was told.
+-- An answer says what was told.
 use Rattle.std.proofs.Common.{Result, Ok, Err, OnOk, OnErr}
 
 pub on_ok_more : {T E A B : Type 0} (r : Result T E) → OnOk r A → (A → B) → OnOk r B

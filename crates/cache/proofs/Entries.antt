@@ -1,4 +1,4 @@
--- What is kept, entry by entry.
+-- The cached entries, one by one.
 use Rattle.std.proofs.Common.{◌≡◌, ◌≢◌, ◌∙◌, ◌⊎◌, ℕ, true, false, cond, List, [], Option, Some, None, inl, inr, refl, sym, ap, subst}
 use Rattle.std.specs.Prelude.{Vec, Result, Ok, Err, IfOk, IfSome, OnOk, OnErr, IsTrue}
 use Rattle.std.specs.Result.{result_ok}
@@ -21,14 +21,14 @@ use Rattle.cache.specs.Recalled.{IsPart, IsPut, Lacks, HasTotals}
 unlike : true ≡ false → ⊥
 unlike e = cc
 
--- a name is tied with itself alone
+-- a name compares equal to itself only
 pub tied : (q k : List ℕ) → q ≡ k → eq_by_cmp bytes_cmp q k ≡ true
 tied q k same = subst (λ n. is_eq (bytes_cmp q n) ≡ true) same (ap is_eq (tied_itself bytes_total q))
 
 pub apart_from : (q k : List ℕ) → eq_by_cmp bytes_cmp q k ≡ false → q ≢ k
 apart_from q k t same = unlike (sym (tied q k same) ∙ t)
 
--- what holds of each entry, and of the one that is set, holds of each entry then
+-- a property of each old entry and of the new entry holds of each entry afterwards
 pub each_set : {X : Type 0} (P : List ℕ → X → Type 0) (es after : List (Vec ℕ Global × X)) (k : List ℕ) (v : X) → Sets bytes_cmp bytes_of k (Some v) es after
     → ((q : List ℕ) (x : X) → found bytes_cmp bytes_of es q ≡ Some x → P q x) → P k v
     → (q : List ℕ) (x : X) → found bytes_cmp bytes_of after q ≡ Some x → P q x
@@ -38,7 +38,7 @@ each_set P es after k v sets each here q x e =
       | false ↦ λ t is. each q x is
     ] refl (sym (sets.each q) ∙ e)
 
--- an entry was taken out
+-- an entry was removed
 pub lacks_gone : {X : Type 0} (es after : List (Vec ℕ Global × X)) (k : List ℕ) → Sets bytes_cmp bytes_of k None es after → Lacks k es after
 lacks_gone es after k sets q x e =
     elim (eq_by_cmp bytes_cmp q k) as (λ t. eq_by_cmp bytes_cmp q k ≡ t → cond t None (found bytes_cmp bytes_of es q) ≡ Some x → (q ≢ k) × (found bytes_cmp bytes_of es q ≡ Some x)) [
@@ -65,19 +65,19 @@ no_totals es k totals none q b e = (b, e, refl, inl (λ same. some_none b (sym e
 pub none_there : {X : Type 0} (es after : List (Vec ℕ Global × X)) → after ≡ [] → IsPart es after
 none_there es after empty q x e = absurd (some_none x (sym e ∙ ap (λ l. found bytes_cmp bytes_of l q) empty))
 
--- a copy of what is there
+-- a copy of the present value
 pub copied : {X Y E : Type 0} (r : Result X E) (o : Option X) (f : X → Y) (y : Y) (m : Option Y) → o ≡ result_ok r → IfOk r (λ k. f k ≡ y) → m ≡ Some y → IfSome o (λ k. m ≡ Some (f k))
 copied (Ok x) o f y m is e there = subst (λ p. IfSome p (λ k. m ≡ Some (f k))) (sym is) (there ∙ ap (λ z. Some z) (sym e))
 copied (Err x) o f y m is e there = subst (λ p. IfSome p (λ k. m ≡ Some (f k))) (sym is) tt
 
--- one was put in, or there was no memory
+-- an entry was inserted, or there was no memory
 pub put_there : {X A E : Type 0} (r : Result A E) (m n : BTreeMap (Vec ℕ Global) X) (k : Vec ℕ Global) (v : X) → OnOk r (UpdatesBy (λ x y. bytes_cmp (bytes_of x) (bytes_of y)) (λ x. bytes_cmp (bytes_of k) (bytes_of x)) m n (Some v))
     → OnErr r (n.entries ≡ m.entries) → IsPut k.items v m.entries n.entries
 put_there (Ok a) m n k v updates stays q x e =
     each_set (λ p z. ((p ≡ k.items) × (z ≡ v)) ⊎ (found bytes_cmp bytes_of m.entries p ≡ Some z)) m.entries n.entries k.items v (sets_of bytes_cmp bytes_of bytes_total m n k.items (Some v) updates) (λ p z is. inr is) (inl (refl, refl)) q x e
 put_there (Err a) m n k v updates stays q x e = inr (ap (λ l. found bytes_cmp bytes_of l q) (sym stays) ∙ e)
 
--- the same of a set
+-- the same for a set
 pub use_there : {A E : Type 0} (r : Result A E) (s n : BTreeSet (Vec ℕ Global)) (name : Vec ℕ Global) → OnOk r (SetUpdatesBy (λ x y. bytes_cmp (bytes_of x) (bytes_of y)) (λ x. bytes_cmp (bytes_of name) (bytes_of x)) s n true)
     → OnErr r (n.keys ≡ s.keys) → (q : List ℕ) → IsTrue (has_box n q) → IsTrue (has_box s q) ⊎ (q ≡ name.items)
 use_there (Ok a) s n name updates stays q has =
@@ -87,7 +87,7 @@ use_there (Ok a) s n name updates stays q has =
     ] refl (sym (has_after s n name.items updates q) ∙ has)
 use_there (Err a) s n name updates stays q has = inl (ap (list_any (λ x. is_eq (bytes_cmp q (bytes_of x)))) (sym stays) ∙ has)
 
--- what holds of each entry, and of the one that came
+-- a property of each old element and of the new one
 pub new_entry : {X : Type 0} (P : List ℕ → X → Type 0) (name : List ℕ) (new : X) (es after : List (Vec ℕ Global × X)) → IsPut name new es after
     → ((q : List ℕ) (x : X) → found bytes_cmp bytes_of es q ≡ Some x → P q x) → P name new → (q : List ℕ) (x : X) → found bytes_cmp bytes_of after q ≡ Some x → P q x
 new_entry P name new es after put each here q x e = elim (put q x e) [

@@ -1,4 +1,4 @@
--- What is kept stands behind a change.
+-- The cache is still right after a change.
 use Rattle.std.proofs.Common.{◌≡◌, ◌≢◌, ◌∙◌, ℕ, ◌+◌, ◌<◌, ◌^◌, length, true, false, cond, List, [], ◌∷◌, Option, Some, None, inl, inr, arith, refl, sym, ap, subst, length-append}
 use Rattle.std.specs.Prelude.{Vec, Result, Ok, Err, IfOk, IfSome, is_some, option_map}
 use Rattle.std.specs.Result.{result_ok}
@@ -37,7 +37,7 @@ more_some : {X : Type 0} (o : Option X) (P Q : X → Type 0) → ((x : X) → P 
 more_some None P Q more h = h
 more_some (Some x) P Q more h = more x h
 
--- another key of a map that something was put into
+-- another key of a map after an insertion
 get_other : {X : Type 0} (m : FinMap bytes_cmp X) (k q : List ℕ) (v : X) → q ≢ k → get (insert m k v) q ≡ get m q
 get_other m k q v far =
     get-insert bytes_total m k v q ∙
@@ -57,7 +57,7 @@ keys_fewer s es after part each q x e = each q x (part q x e)
 pub lacks_part : {X : Type 0} (k : List ℕ) (es after : List (Vec ℕ Global × X)) → Lacks k es after → IsPart es after
 lacks_part k es after lacks q x e = (lacks q x e).1
 
--- a key that is not there is not kept
+-- a key that does not exist is not cached
 key_absent : (s : State) (id : List ℕ) (es : List (Vec ℕ Global × CachedKey)) → RecallsKeys s es → get s.keys id ≡ None → Lacks id es es
 key_absent s id es each none q x e = (λ same. some_none _ (sym (each q x e).row ∙ ap (get s.keys) same ∙ none), e)
 
@@ -73,7 +73,7 @@ limit_kept m new l h =
     ap is_some (get-insert limit_total m new tt l) ∙
     elim (eq_by_cmp limit_cmp l new) as (λ t. is_some (cond t (Some tt) (get m l)) ≡ true) [ true ↦ refl | false ↦ h ]
 
--- what another key may use stays
+-- what another key may use does not change
 may_still : (s : State) (id limit q box : List ℕ) → q ≢ id → MayUse s q box → MayUse (record s { limits = insert s.limits (record { key = id; box = limit }) tt }) q box
 may_still s id limit q box far may limited =
     let had : IsLimitedTo s q limited.0 = limit_got s.limits id limit q limited.0 (IsLimitedTo s q limited.0) limited.1 (λ same other. absurd (far same)) (λ h. h) in
@@ -106,7 +106,7 @@ boxes_but s name b es after lacks each q x e =
       totals = more_some x.totals (AreTotals s q) (AreTotals (record s { boxes = insert s.boxes name b }) q) (λ t h. record { used = h.used; count = h.count }) is.totals;
     }
 
--- files of one box changed, whose totals are these now, if they are known
+-- files of one box changed; these are its totals now, if they are known
 pub boxes_with : (s after : State) (box : List ℕ) (totals : Option Totals) (es new : List (Vec ℕ Global × CachedBox)) → after.boxes ≡ s.boxes
     → ((q : List ℕ) → same_bytes box q ≡ false → (used after q ≡ used s q) × (count after q ≡ count s q)) → IfSome totals (AreTotals after box)
     → HasTotals box totals es new → RecallsBoxes s es → RecallsBoxes after new
@@ -140,7 +140,7 @@ boxes_as s after es boxes files each q x e =
 size_as : (s after : State) (o : Option LastSize) → after.files ≡ s.files → IfSome o (IsSizeIn s) → IfSome o (IsSizeIn after)
 size_as s after o files = more_some o (IsSizeIn s) (IsSizeIn after) (λ l h. h ∙ ap (λ m. option_map (λ (f : File). length f.bytes) (get m (record { box = l.in_box.items; name = l.name.items }))) (sym files))
 
--- what a receipt tells of the file
+-- what a receipt states about the file
 pub size_told : {E : Type 0} (s : State) (r : Result LastSize E) (o : Option LastSize) (box name : List ℕ) (size : Option ℕ) → o ≡ result_ok r
     → IfOk r (λ l. (l.in_box.items ≡ box) × (l.name.items ≡ name) × (l.size ≡ size)) → size ≡ option_map (λ (f : File). length f.bytes) (get s.files (record { box = box; name = name }))
     → IfSome o (IsSizeIn s)
@@ -151,7 +151,7 @@ size_told s (Ok l) o box name size is told stands =
     subst (λ p. IfSome p (IsSizeIn s)) (sym is) (told.2 ∙ stands ∙ ap (λ p. option_map (λ (f : File). length f.bytes) (get s.files p)) place)
 size_told s (Err e) o box name size is told stands = subst (λ p. IfSome p (IsSizeIn s)) (sym is) tt
 
--- ---- the state that was
+-- ---- the state before
 
 pub with_size : (c : Cache) (s : State) (last : Option LastSize) → Recalls c s → IfSome last (IsSizeIn s) → Recalls (record c { last_size = last }) s
 with_size c s last h is = record { office = h.office; next = h.next; keys = h.keys; boxes = h.boxes; last = is }
@@ -162,7 +162,7 @@ with_keys c s keys h each = record { office = h.office; next = h.next; keys = ea
 pub with_boxes : (c : Cache) (s : State) (boxes : BTreeMap (Vec ℕ Global) CachedBox) → Recalls c s → RecallsBoxes s boxes.entries → Recalls (record c { boxes = boxes }) s
 with_boxes c s boxes h each = record { office = h.office; next = h.next; keys = h.keys; boxes = each; last = h.last }
 
--- ---- the state behind each command
+-- ---- the state after each command
 
 pub added_key : (c : Cache) (s after : State) (id : List ℕ) (role : Role) (secret : List ℕ) → IsObeyed s (AddKey id role secret) after → Recalls c s → Recalls c after
 added_key c s after id role secret obeyed h =
@@ -252,7 +252,7 @@ set_allowance c s after seconds obeyed h =
       last = size_as s new c.last_size refl h.last;
     })
 
--- ---- the state behind an upload
+-- ---- the state after an upload
 
 module _ (s after : State) (f : NewFile) (bytes : List ℕ) (sound : IsSound s) (set : IsFileSet s f bytes after) where
   in_box : (b : Settings) × (get s.boxes f.in_box.now ≡ Some b)

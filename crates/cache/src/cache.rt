@@ -1,4 +1,4 @@
-//! What was said of an office.
+//! The cached answers about an office.
 ghost use Rattle.std.specs.Prelude.{◌≡◌, ◌⊎◌, ◌↔◌, ◌+◌, ℕ, List, [], None, Some, length, option_map, IfOk, IfSome, IsTrue};
 ghost use Rattle.std.specs.FinMap.{get};
 ghost use Rattle.boxes.specs.Limits.{MayUse};
@@ -14,10 +14,10 @@ use keeper::{KeepFault, copy_box, copy_key};
 use std::alloc::{AllocError, Global};
 use std::collections::{BTreeMap, BTreeSet};
 
-/// The most keys that are kept, and the most boxes. A map that is full is emptied before one more comes.
+/// The most cached keys, and the most cached boxes. A full map is emptied before the next entry is added.
 const MOST_KEPT: usize = 8192;
 
-/// The most boxes that are kept of a key. Of the others the keeper within is asked each time.
+/// The most cached boxes per key. For any other box the inner keeper is asked each time.
 const MOST_USES: usize = 16;
 
 /// A key, and boxes that it may use.
@@ -27,7 +27,7 @@ pub struct CachedKey {
     pub(crate) uses: BTreeSet<Vec<u8>>,
 }
 
-/// A box, and what it holds, where that is known.
+/// A box, and its totals if they are known.
 #[derive(Drop)]
 pub struct CachedBox {
     pub(crate) row: BoxRow,
@@ -40,7 +40,7 @@ pub(crate) type Keys = BTreeMap<Vec<u8>, CachedKey>;
 /// Boxes by their names.
 pub(crate) type Boxes = BTreeMap<Vec<u8>, CachedBox>;
 
-/// What was said of an office. What is not there was not asked, or was forgotten.
+/// The cached answers about an office. A missing entry was never asked for, or was forgotten.
 #[derive(Drop)]
 pub struct Cache {
     pub(crate) office: Option<OfficeRow>,
@@ -51,7 +51,7 @@ pub struct Cache {
     pub(crate) alloc: Global,
 }
 
-/// A key of which no box is known.
+/// A key without known boxes.
 fn new_key(alloc: Global, id: &[u8], row: &KeyRow) -> Result<(Vec<u8>, CachedKey), AllocError>
     ensures { IfOk result (λ k. (k.0.items ≡ id.now) × (key_of k.1.row ≡ key_of row.now)
         × (k.1.uses.keys ≡ [])) }
@@ -65,7 +65,7 @@ fn new_key(alloc: Global, id: &[u8], row: &KeyRow) -> Result<(Vec<u8>, CachedKey
     ))
 }
 
-/// A box whose totals are not known.
+/// A box without known totals.
 fn new_box(alloc: Global, name: &[u8], row: &BoxRow) -> Result<(Vec<u8>, CachedBox), AllocError>
     ensures { IfOk result (λ b. (b.0.items ≡ name.now) × (settings_of b.1.row ≡ settings_of row.now)
         × (b.1.totals ≡ None)) }
@@ -88,14 +88,14 @@ fn make_room<X: Drop>(alloc: Global, kept: &mut BTreeMap<Vec<u8>, X>)
     }
 }
 
-/// Puts a value under a name. Without memory the map stays as it is: what is not kept is asked for.
+/// Inserts a value under a name. Without memory the map stays as it is: the inner keeper is asked again.
 fn put<X: Drop>(kept: &mut BTreeMap<Vec<u8>, X>, name: Vec<u8>, known: X)
     ensures { IsPut name.items known kept.old.entries kept.new.entries }
 {
     let _ = kept.insert(name, known);
 }
 
-/// Puts a key into the map, where there is memory.
+/// Inserts a key, if there is memory.
 fn put_key(alloc: Global, keys: &mut Keys, id: &[u8], row: &KeyRow)
     ensures { (s : State) → RecallsKeys s keys.old.entries → get s.keys id.now ≡ Some (key_of row.now)
         → RecallsKeys s keys.new.entries }
@@ -106,7 +106,7 @@ fn put_key(alloc: Global, keys: &mut Keys, id: &[u8], row: &KeyRow)
     }
 }
 
-/// Puts a box into the map, where there is memory.
+/// Inserts a box, if there is memory.
 fn put_box(alloc: Global, boxes: &mut Boxes, name: &[u8], row: &BoxRow)
     ensures { (s : State) → RecallsBoxes s boxes.old.entries
         → get s.boxes name.now ≡ Some (settings_of row.now) → RecallsBoxes s boxes.new.entries }
@@ -117,7 +117,7 @@ fn put_box(alloc: Global, boxes: &mut Boxes, name: &[u8], row: &BoxRow)
     }
 }
 
-/// Puts a box into the set of a key, where there is room and memory.
+/// Adds a box to a key's set, if there is room and memory.
 fn add_use(alloc: Global, uses: &mut BTreeSet<Vec<u8>>, in_box: &[u8])
     ensures { (box : List ℕ) → IsTrue (has_box uses.new box)
         → IsTrue (has_box uses.old box) ⊎ (box ≡ in_box.now) }
@@ -130,7 +130,7 @@ fn add_use(alloc: Global, uses: &mut BTreeSet<Vec<u8>>, in_box: &[u8])
     }
 }
 
-/// Puts a box to those that the key of this id may use, where the key is and there is memory.
+/// Adds a box that the key of this id may use, if the key is cached and there is memory.
 fn put_use(alloc: Global, keys: &mut Keys, id: &[u8], in_box: &[u8])
     ensures { (s : State) → RecallsKeys s keys.old.entries → MayUse s id.now in_box.now
         → RecallsKeys s keys.new.entries }
@@ -140,7 +140,7 @@ fn put_use(alloc: Global, keys: &mut Keys, id: &[u8], in_box: &[u8])
     }
 }
 
-/// Sets what the box of this name is known to hold, where the box is kept.
+/// Sets the known totals of the box of this name, if the box is cached.
 pub(crate) fn set_totals(boxes: &mut Boxes, name: &[u8], totals: Option<Totals>)
     ensures { HasTotals name.now totals boxes.old.entries boxes.new.entries }
 {
@@ -150,7 +150,7 @@ pub(crate) fn set_totals(boxes: &mut Boxes, name: &[u8], totals: Option<Totals>)
 }
 
 impl Cache {
-    /// Nothing is kept.
+    /// An empty cache.
     pub(crate) fn new(alloc: Global) -> Cache
         ensures { (s : State) → Recalls result s }
     {
@@ -164,14 +164,14 @@ impl Cache {
         }
     }
 
-    /// What the office is set to, if that is kept.
+    /// The office's settings, if cached.
     pub(crate) fn office(&self) -> Option<OfficeRow>
         ensures { (s : State) → Recalls self.now s → IfSome result (IsOfficeOf s) }
     {
         self.office
     }
 
-    /// The number of the next receipt, if it is kept.
+    /// The number of the next receipt, if cached.
     pub(crate) fn next_number(&self) -> Option<u64>
         ensures { (s : State) → Recalls self.now s
             → IfSome result (λ n. n ≡ length s.receipts + 1) }
@@ -179,7 +179,7 @@ impl Cache {
         self.next_number
     }
 
-    /// The key of this id, if it is kept. Where memory is refused it is as if it were not.
+    /// The key of this id, if cached. `None` also if there is no memory for the copy.
     pub(crate) fn key(&self, id: &[u8]) -> Option<KeyRow>
         ensures { (s : State) → Recalls self.now s
             → IfSome result (λ k. get s.keys id.now ≡ Some (key_of k)) }
@@ -190,7 +190,7 @@ impl Cache {
         }
     }
 
-    /// Whether the key of this id is known to be one that may use this box.
+    /// Whether the key of this id is known to be allowed to use this box.
     pub(crate) fn knows_use(&self, id: &[u8], in_box: &[u8]) -> bool
         ensures { (s : State) → Recalls self.now s → IsTrue result → MayUse s id.now in_box.now }
     {
@@ -200,7 +200,7 @@ impl Cache {
         }
     }
 
-    /// The box of this name, if it is kept. Where memory is refused it is as if it were not.
+    /// The box of this name, if cached. `None` also if there is no memory for the copy.
     pub(crate) fn box_row(&self, name: &[u8]) -> Option<BoxRow>
         ensures { (s : State) → Recalls self.now s
             → IfSome result (λ b. get s.boxes name.now ≡ Some (settings_of b)) }
@@ -211,21 +211,21 @@ impl Cache {
         }
     }
 
-    /// What the box of this name holds, if that is kept.
+    /// The totals of the box of this name, if cached.
     pub(crate) fn totals(&self, name: &[u8]) -> Option<Totals>
         ensures { (s : State) → Recalls self.now s → IfSome result (AreTotals s name.now) }
     {
         self.boxes.get(name)?.totals
     }
 
-    /// What the office is set to is kept.
+    /// Caches the office's settings.
     pub(crate) fn keep_office(&mut self, office: &OfficeRow)
         ensures { (s : State) → Recalls self.old s → IsOfficeOf s office.now → Recalls self.new s }
     {
         self.office = Some(*office);
     }
 
-    /// The number of the next receipt is kept.
+    /// Caches the number of the next receipt.
     pub(crate) fn keep_next_number(&mut self, number: u64)
         ensures { (s : State) → Recalls self.old s → number ≡ length s.receipts + 1
             → Recalls self.new s }
@@ -233,7 +233,7 @@ impl Cache {
         self.next_number = Some(number);
     }
 
-    /// What was answered of a key is kept, where it is there.
+    /// Caches the key, if there is one.
     pub(crate) fn keep_key(&mut self, id: &[u8], key: &Option<KeyRow>)
         ensures { (s : State) → Recalls self.old s → option_map key_of key.now ≡ get s.keys id.now
             → Recalls self.new s }
@@ -243,7 +243,7 @@ impl Cache {
         }
     }
 
-    /// What was answered of a box is kept, where it is there.
+    /// Caches the box, if there is one.
     pub(crate) fn keep_box(&mut self, name: &[u8], in_box: &Option<BoxRow>)
         ensures { (s : State) → Recalls self.old s
             → option_map settings_of in_box.now ≡ get s.boxes name.now → Recalls self.new s }
@@ -253,7 +253,7 @@ impl Cache {
         }
     }
 
-    /// What was answered whether the key of this id may use this box is kept, where it may.
+    /// Caches that the key of this id may use this box, if the answer says so.
     pub(crate) fn keep_use(&mut self, id: &[u8], in_box: &[u8], answer: &Result<bool, KeepFault>)
         ensures { (s : State) → Recalls self.old s
             → IfOk answer.now (λ may. IsTrue may ↔ MayUse s id.now in_box.now)
@@ -266,7 +266,7 @@ impl Cache {
         }
     }
 
-    /// What the box of this name holds is kept, where the box is.
+    /// Caches the totals of the box of this name, if the box is cached.
     pub(crate) fn keep_totals(&mut self, name: &[u8], totals: Totals)
         ensures { (s : State) → Recalls self.old s → AreTotals s name.now totals
             → Recalls self.new s }

@@ -1,4 +1,4 @@
-//! A keeper that keeps in memory what another one says.
+//! A keeper that caches the answers of another keeper.
 ghost use Rattle.std.specs.Prelude.{◌≡◌, ◌↔◌, ℕ, List, IsErr, OnErr};
 ghost use Rattle.boxes.specs.State.{State};
 ghost use Rattle.cache.specs.Recalled.{Recalls};
@@ -7,9 +7,9 @@ use crate::cache::Cache;
 use keeper::{KeepFault, Keeper};
 use std::alloc::Global;
 
-/// Answers from memory what the keeper within said before of settings, keys, boxes, what boxes hold, and the next receipt's
-/// number. Every other call goes to the keeper within. A change takes with it what it may change; of an upload the totals and the
-/// next number are known, and stay. After a fault it forgets everything: a store that shut itself is asked again, and refuses.
+/// Caches the inner keeper's settings, keys, boxes, totals of boxes, and next receipt number. All other calls go to the inner
+/// keeper. A change makes the cache forget what it may affect. An upload updates the totals and the next receipt number
+/// instead. After a fault the cache is emptied, so a store that shut itself is asked again and refuses.
 #[derive(Drop)]
 pub struct CachedKeeper<'k, K> {
     pub(crate) keeper: &'k mut K,
@@ -17,7 +17,7 @@ pub struct CachedKeeper<'k, K> {
 }
 
 impl<'k, K: Keeper> CachedKeeper<'k, K> {
-    /// Begins around a keeper, with nothing in memory.
+    /// Wraps a keeper, with an empty cache.
     pub fn new(alloc: Global, keeper: &'k mut K) -> CachedKeeper<'k, K>
         ensures keeper { result.keeper.ghost_name ≡ keeper.entry.ghost_name }
         ensures same { result.keeper.now ≡ keeper.entry.now }
@@ -43,7 +43,7 @@ impl<'k, K: Keeper> CachedKeeper<'k, K> {
     }
 }
 
-/// Hands on what the keeper within answered. An error makes the cache forget everything.
+/// Returns the inner keeper's answer. An error empties the cache.
 pub(crate) fn or_forget<T>(cache: &mut Cache, answer: Result<T, KeepFault>) -> Result<T, KeepFault>
     ensures same { result ≡ answer }
     ensures stays { (s : State) → Recalls cache.old s → Recalls cache.new s }

@@ -1,4 +1,4 @@
-//! What is kept follows a change.
+//! Updates of the cache by changes.
 ghost use Rattle.std.specs.Prelude.{◌≡◌, ℕ, List, length, option_map, IfSome};
 ghost use Rattle.std.specs.FinMap.{get};
 ghost use Rattle.boxes.specs.Changes.{IsFileSet, IsObeyed, MayChange, command_of};
@@ -26,8 +26,7 @@ fn forget_box(boxes: &mut Boxes, name: &[u8])
 }
 
 impl Cache {
-    /// How long the file of this box and name is, as its receipt tells, is kept, where there is memory. It takes the place of the
-    /// one that was asked for before.
+    /// Remembers the size of this file, as its receipt states it, if there is memory. It replaces the size remembered before.
     pub(crate) fn keep_size(&mut self, in_box: &[u8], name: &[u8], receipt: &Option<ReceiptRow>)
         ensures { (s : State) → IsSound s → Recalls self.old s
             → IsReceiptAt s (record { box = in_box.now; name = name.now }) receipt.now
@@ -36,7 +35,7 @@ impl Cache {
         self.last_size = LastSize::new(self.alloc, in_box, name, told_size(receipt)).ok();
     }
 
-    /// How long the file of this box and name is, if that is kept; nothing where none stands there.
+    /// The size of this file in bytes, if it is remembered. The inner `None` means that there is no such file.
     fn size_of(&self, in_box: &[u8], name: &[u8]) -> Option<Option<u64>>
         ensures { (s : State) → Recalls self.now s → IfSome result
             (λ size. size ≡ option_map (λ f. length f.bytes)
@@ -50,7 +49,7 @@ impl Cache {
         }
     }
 
-    /// What the box of the file holds once the file is set, if that is known.
+    /// The totals of the file's box after the file is set, if they are known.
     fn totals_with(&self, file: &NewFile<'_>) -> Option<Totals>
         ensures { (s after : State) (bytes : List ℕ) → IsSound s → IsFileSet s file.now bytes after
             → Recalls self.now s → IfSome result (AreTotals after file.now.in_box.now) }
@@ -60,7 +59,7 @@ impl Cache {
         Some(held.set(stood, file.size))
     }
 
-    /// What is kept, once the file is set and its receipt is added.
+    /// Updates the cache after the file is set and its receipt is added.
     fn follow_file(&mut self, file: &NewFile<'_>)
         ensures { (s after : State) (bytes : List ℕ) → IsSound s → IsFileSet s file.now bytes after
             → Recalls self.old s → Recalls self.new after }
@@ -71,7 +70,7 @@ impl Cache {
         self.last_size = None;
     }
 
-    /// What is kept, once a command of the desk was obeyed: what that may change is forgotten.
+    /// Updates the cache after a desk command: forgets what the command may affect.
     fn follow_command(&mut self, command: &Command<'_>)
         ensures { (s after : State) → IsObeyed s (command_of command.now) after
             → Recalls self.old s → Recalls self.new after }
@@ -90,8 +89,8 @@ impl Cache {
         }
     }
 
-    /// What is kept, once the change was made: of an upload the totals and the next receipt's number; else what the change may
-    /// change is forgotten. Where the change fails all is to be forgotten.
+    /// Updates the cache for a change. An upload updates the totals and the next receipt number. Any other change makes the
+    /// cache forget what it may affect. If the change fails, the caller must empty the cache.
     pub(crate) fn follow(&mut self, change: &Change<'_>)
         ensures { (s after : State) → IsSound s → MayChange s change.now after → Recalls self.old s
             → Recalls self.new after }

@@ -1,4 +1,4 @@
-//! The keeper over another one meets the trait.
+//! `CachedKeeper` implements `Keeper`.
 ghost use Rattle.boxes.specs.Sound.{IsSound};
 ghost use Rattle.cache.specs.Recalled.{Recalls};
 

@@ -1,11 +1,11 @@
-//! How long the file is that was asked for last.
+//! The size of the file that was asked for last.
 ghost use Rattle.std.specs.Prelude.{◌≡◌, option_map, IfOk};
 ghost use Rattle.boxes.specs.declared.rows.ReceiptRow.{ReceiptRow as Receipt};
 
 use boxes::ReceiptRow;
 use std::alloc::{AllocError, Global};
 
-/// How long the file of a box and name is, in bytes, if one stands there.
+/// The size in bytes of the file with this box and name. `None` if there is no such file.
 #[derive(Drop)]
 pub struct LastSize {
     pub(crate) in_box: Vec<u8>,
@@ -13,7 +13,7 @@ pub struct LastSize {
     pub(crate) size: Option<u64>,
 }
 
-/// The length that the receipt tells, in bytes.
+/// The file size in bytes that the receipt states.
 pub(crate) fn told_size(receipt: &Option<ReceiptRow>) -> Option<u64>
     ensures { result ≡ option_map (λ (r : Receipt). r.size) receipt.now }
 {
@@ -21,7 +21,7 @@ pub(crate) fn told_size(receipt: &Option<ReceiptRow>) -> Option<u64>
 }
 
 impl LastSize {
-    /// The file of this box and name is so long, or does not stand.
+    /// Remembers the size of this file, or that there is no such file.
     pub(crate) fn new(
         alloc: Global,
         in_box: &[u8],

@@ -1,4 +1,4 @@
-//! A keeper over another one that keeps in memory what that one said of settings, keys and boxes.
+//! A keeper that caches settings, keys and boxes of the keeper below it.
 #![tactic(auto)]
 
 mod cache;

@@ -1,4 +1,4 @@
-//! What is asked of the keeper within, and when.
+//! Which calls reach the inner keeper.
 ghost use Rattle.std.specs.Prelude.{◌≤◌, length};
 
 use boxes::{Change, Command, Mode, NewFile, Role};
@@ -12,7 +12,7 @@ use trials::watched::Watched;
 
 type Cached<'k> = CachedKeeper<'k, Watched<Shelf>>;
 
-// An office with a link's key `lin` and boxes `in` and `out`. It has been asked nothing yet.
+// An office with a link key `lin` and boxes `in` and `out`. Its counters are zero.
 fn office(alloc: Global) -> Result<Watched<Shelf>, Fail> {
     let mut shelf = Shelf::new(alloc, office_row(60), ID, SECRET)?;
     let row = settings(Mode::Replace, 100, 9);
@@ -29,7 +29,7 @@ fn office(alloc: Global) -> Result<Watched<Shelf>, Fail> {
     Ok(Watched::new(shelf))
 }
 
-// The change that sets the file `a` of the box `in`, of three bytes.
+// The change that sets the three-byte file `a` of the box `in`.
 fn sets(number: u64) -> Change<'static> {
     Change::SetFile(NewFile {
         number,
@@ -42,7 +42,7 @@ fn sets(number: u64) -> Change<'static> {
     })
 }
 
-// Asks all that is kept, and says what it comes to.
+// Asks for everything that can be cached, and returns the answers as numbers.
 fn ask_all(keeper: &mut Cached<'_>) -> Result<[u64; 6], Fail> {
     let office = keeper.settings()?;
     let key = keeper.key(b"lin")?.ok_or("no key")?;
@@ -62,7 +62,7 @@ fn ask_all(keeper: &mut Cached<'_>) -> Result<[u64; 6], Fail> {
 
 const CLOSES: u64 = 1_370_044_800;
 
-// Whether all that is kept is told twice, and alike.
+// Whether asking twice gives the same right answers.
 fn tells_alike(alloc: Global, within: &mut Watched<Shelf>) -> Result<bool, Fail> {
     let mut keeper = CachedKeeper::new(alloc, within);
     let first = ask_all(&mut keeper)?;
@@ -78,7 +78,7 @@ fn asks_once(rt: HostRuntime) -> Result<(), Fail> {
     Ok(())
 }
 
-// What is not there is not kept, nor what files there are, nor what only the desk asks.
+// Asks what the cache never answers: what does not exist, files, and what only the desk asks.
 fn ask_the_rest(keeper: &mut Cached<'_>) -> Result<bool, Fail> {
     let is_none = keeper.key(b"eve")?.is_none()
         && keeper.box_row(b"none")?.is_none()
@@ -93,7 +93,7 @@ fn ask_the_rest(keeper: &mut Cached<'_>) -> Result<bool, Fail> {
     Ok(is_none && is_so)
 }
 
-// Whether the rest is told twice, and alike.
+// Whether asking twice gives the same right answers.
 fn tells_the_rest_alike(alloc: Global, within: &mut Watched<Shelf>) -> Result<bool, Fail> {
     let mut keeper = CachedKeeper::new(alloc, within);
     Ok(ask_the_rest(&mut keeper)? && ask_the_rest(&mut keeper)?)
@@ -111,7 +111,7 @@ fn command(keeper: &mut Cached<'_>, command: Command<'_>) -> Result<(), Fail> {
     Ok(keeper.apply(&Change::Desk(command))?)
 }
 
-// Changes all that is kept, and says whether it is told so each time.
+// Changes everything that can be cached. Whether the answers are right after each change.
 fn tells_changes(alloc: Global, within: &mut Watched<Shelf>) -> Result<bool, Fail> {
     let mut keeper = CachedKeeper::new(alloc, within);
     let mut is_so = ask_all(&mut keeper)? == [0, 0, 1, CLOSES, 0, 1];
@@ -136,8 +136,8 @@ fn tells_changes(alloc: Global, within: &mut Watched<Shelf>) -> Result<bool, Fai
     Ok(is_so)
 }
 
-// Each change makes it ask for what the change may have changed, and for nothing else: 1, 2, 1, 1, 2 and 2 questions. What a key
-// may not use is asked each time. Of the upload the next number is known, and the totals are not: nobody asked what stood.
+// After each change only what it may have affected is asked again: 1, 2, 1, 1, 2 and 2 calls. A box that a key may not use is
+// asked for each time. After the upload the next number is known. The totals are not, because nobody asked for the old file.
 #[test]
 fn forgets_what_changed(rt: HostRuntime) -> Result<(), Fail> {
     let mut within = office(rt.alloc())?;
@@ -146,7 +146,7 @@ fn forgets_what_changed(rt: HostRuntime) -> Result<(), Fail> {
     Ok(())
 }
 
-// Sets a file of the box `in` to these bytes, and says what the box holds then, and the next number.
+// Sets a file of the box `in` to these bytes. Returns the box's bytes and files, and the next number.
 fn put(keeper: &mut Cached<'_>, number: u64, name: &[u8], bytes: &[u8]) -> Result<[u64; 3], Fail>
     requires some { 1 ≤ length bytes.now }
     requires short { length bytes.now ≤ 65536 }
@@ -166,7 +166,7 @@ fn put(keeper: &mut Cached<'_>, number: u64, name: &[u8], bytes: &[u8]) -> Resul
     Ok([totals.used, totals.count, keeper.next_number()?])
 }
 
-// The same, with the question for what stands, that each upload asks before.
+// The same, after asking for the old file's receipt as each upload does.
 fn upload(keeper: &mut Cached<'_>, number: u64, name: &[u8], bytes: &[u8]) -> Result<[u64; 3], Fail>
     requires some { 1 ≤ length bytes.now }
     requires short { length bytes.now ≤ 65536 }
@@ -175,7 +175,7 @@ fn upload(keeper: &mut Cached<'_>, number: u64, name: &[u8], bytes: &[u8]) -> Re
     put(keeper, number, name, bytes)
 }
 
-// Whether totals and number are told right behind a new file, longer and shorter bytes in its place, and another file.
+// Whether totals and next number are right after a new file, after longer and shorter bytes replace it, and after another file.
 fn follows_uploads(alloc: Global, within: &mut Watched<Shelf>) -> Result<bool, Fail> {
     let mut keeper = CachedKeeper::new(alloc, within);
     let _ = keeper.box_row(b"in")?;
@@ -188,7 +188,7 @@ fn follows_uploads(alloc: Global, within: &mut Watched<Shelf>) -> Result<bool, F
     )
 }
 
-// Totals and number are asked for once, and known behind each upload.
+// Totals and next number are asked for once, and known after each upload.
 #[test]
 fn asks_nothing_again_for_uploads(rt: HostRuntime) -> Result<(), Fail> {
     let mut within = office(rt.alloc())?;
@@ -199,7 +199,8 @@ fn asks_nothing_again_for_uploads(rt: HostRuntime) -> Result<(), Fail> {
     Ok(())
 }
 
-// Whether totals are told right where another file was asked for than is set, in this box or in another, or none was since.
+// Whether totals are right if the receipt asked for last is that of another file, in this box or in another one, or if none was
+// asked for since.
 fn follows_other_uploads(alloc: Global, within: &mut Watched<Shelf>) -> Result<bool, Fail> {
     let mut keeper = CachedKeeper::new(alloc, within);
     let _ = keeper.box_row(b"in")?;
@@ -212,7 +213,7 @@ fn follows_other_uploads(alloc: Global, within: &mut Watched<Shelf>) -> Result<b
     Ok(is_so)
 }
 
-// Then the totals are asked for again, and at the first upload too, before which nobody asked for them.
+// Then the totals are asked for again. So they are at the first upload, because nobody asked for them before.
 #[test]
 fn asks_for_totals_of_other_uploads(rt: HostRuntime) -> Result<(), Fail> {
     let mut within = office(rt.alloc())?;
@@ -221,7 +222,7 @@ fn asks_for_totals_of_other_uploads(rt: HostRuntime) -> Result<(), Fail> {
     Ok(())
 }
 
-// Adds a key and a box that were asked for when they were not there, and says whether they are told then.
+// Asks for a key and a box that do not exist, and adds them. Whether they are found then.
 fn tells_what_comes(alloc: Global, within: &mut Watched<Shelf>) -> Result<bool, Fail> {
     let mut keeper = CachedKeeper::new(alloc, within);
     let is_none = keeper.key(b"eve")?.is_none() && keeper.box_row(b"new")?.is_none();
@@ -255,7 +256,7 @@ fn finds_what_comes(rt: HostRuntime) -> Result<(), Fail> {
     Ok(())
 }
 
-// Asks twice whether a key may use 17 boxes: it may.
+// Asks twice for each of 17 boxes whether a key may use it. Whether it always may.
 fn asks_for_uses(alloc: Global, within: &mut Watched<Shelf>) -> Result<bool, Fail> {
     let mut keeper = CachedKeeper::new(alloc, within);
     let mut may_all = keeper.key(b"lin")?.is_some();
@@ -273,7 +274,7 @@ fn keeps_sixteen_uses_of_a_key(rt: HostRuntime) -> Result<(), Fail> {
     Ok(())
 }
 
-// Adds 8193 boxes, and asks for each of them, for the last again, and for the first again.
+// Adds 8193 boxes and asks for each one, then for the last and for the first again.
 fn asks_for_boxes(alloc: Global, within: &mut Watched<Shelf>) -> Result<bool, Fail> {
     let row = settings(Mode::Replace, 7, 9);
     let mut keeper = CachedKeeper::new(alloc, within);
@@ -297,7 +298,7 @@ fn keeps_eight_thousand_boxes(rt: HostRuntime) -> Result<(), Fail> {
     Ok(())
 }
 
-// Whether a change that is refused leaves all, which is told before and behind it.
+// Whether the answers before and after a refused change are the same.
 fn leaves_all(alloc: Global, within: &mut Watched<Shelf>) -> Result<bool, Fail> {
     let mut keeper = CachedKeeper::new(alloc, within);
     let before = ask_all(&mut keeper)?;
@@ -317,7 +318,7 @@ fn forgets_all_at_a_fault(rt: HostRuntime) -> Result<(), Fail> {
     Ok(())
 }
 
-// One call of each kind that reaches the keeper within, also where all of the office is kept.
+// One call of each kind that reaches the inner keeper even if everything is cached.
 fn one_call(keeper: &mut Cached<'_>, kind: u8) -> Result<(), KeepFault> {
     match kind {
         0 => keeper.key(b"eve").map(|_| ()),
@@ -337,7 +338,7 @@ fn one_call(keeper: &mut Cached<'_>, kind: u8) -> Result<(), KeepFault> {
     }
 }
 
-// Whether the call of this kind fails, which is the seventh, and all is told alike before and behind it.
+// Whether the call of this kind, which is the seventh, fails, and the answers before and after it are the same.
 fn fails_at(alloc: Global, within: &mut Watched<Shelf>, kind: u8) -> Result<bool, Fail> {
     within.refuse(7);
     let mut keeper = CachedKeeper::new(alloc, within);
@@ -346,7 +347,7 @@ fn fails_at(alloc: Global, within: &mut Watched<Shelf>, kind: u8) -> Result<bool
     Ok(failed && ask_all(&mut keeper)? == before)
 }
 
-// The same of what is kept, when it is asked for the first time: settings, and the next number.
+// The same for the first call of `settings` and of `next_number`, which are cached later.
 fn fails_first(alloc: Global, within: &mut Watched<Shelf>, is_next: bool) -> Result<bool, Fail> {
     within.refuse(2);
     let mut keeper = CachedKeeper::new(alloc, within);

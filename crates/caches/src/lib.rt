@@ -1,5 +1,4 @@
-//! Tests of the keeper that keeps in memory what another one said: over one that counts its calls and can refuse one. The crate
-//! gives nothing.
+//! Tests of the caching keeper, over a keeper that counts its calls and can refuse one. The crate exports nothing.
 #![tactic(auto)]
 
 #[cfg(test)]

@@ -1,4 +1,4 @@
-//! `drop`: hands the program's words and streams to the office.
+//! `drop`: runs the program with its arguments and standard streams.
 #![tactic(auto)]
 
 use dropoffice::perform;
@@ -23,7 +23,7 @@ fn main(rt: HostRuntime) -> ExitCode {
                 ErrorKind::OutOfMemory => "out of memory",
                 _ => "the words are not text",
             };
-            // Where standard error fails too, the status alone tells.
+            // If standard error fails too, only the status tells.
             let _ = eprintln!(rt; "drop: {fault}");
             ExitCode::FAILURE
         }

@@ -1,4 +1,4 @@
-//! The program over streams that fail where no file does.
+//! The program over streams that fail in ways that no file does.
 use dropoffice::perform;
 use std::io::{ErrorKind, Write};
 use std::test::Fail;
@@ -15,7 +15,7 @@ const WORDS: [&str; 6] = [
     "20130524T000000Z",
 ];
 
-// Takes every write, and never comes to its end: a flush fails.
+// Takes every write, but every flush fails.
 #[derive(Drop)]
 struct Unflushed;
 
@@ -29,7 +29,7 @@ impl Write for Unflushed {
     }
 }
 
-// Takes nothing.
+// Fails at every write.
 #[derive(Drop)]
 struct Closed;
 

@@ -1,4 +1,4 @@
-//! `drop desk`: one command of the desk is done.
+//! `drop desk`: runs one desk command.
 use crate::faults::Fault;
 use crate::opening::{OfficeWork, Purpose, require_file, work_over};
 use office::{DeskFault, Office};
@@ -7,10 +7,10 @@ use std::alloc::Global;
 use std::io::{Error, ErrorKind, Read, Write};
 use tasks::{Desk, read_line};
 
-/// The most bytes of a command that is read.
+/// The most bytes of a command read from input.
 const LONGEST_COMMAND: u16 = 4096;
 
-// A command that is done, and where that is told. There is none where what was to hold it holds no line of its length.
+// A command, and the output. `None` if the input is not a single line of at most `LONGEST_COMMAND` bytes.
 #[derive(Drop)]
 struct DeskWork<W: Drop> {
     command: Option<Vec<u8>>,
@@ -29,8 +29,8 @@ impl<'a, W: Write + Drop> OfficeWork<'a> for DeskWork<W> {
     }
 }
 
-/// Does the command on the office file, and writes `done` to `out`, on a line. A command that stands in `input` is read
-/// once the file is seen to be there, and before it is opened, so that nobody waits for the office while it is typed.
+/// Runs the command on the office file, and writes the line `done` to `out`. A command in `input` is read after the check that
+/// the file exists, and before the file is opened. So nobody waits for the office while the command is typed.
 pub(crate) fn do_desk<'a>(
     rt: &HostRuntime,
     words: &Desk<'_>,
@@ -42,8 +42,8 @@ pub(crate) fn do_desk<'a>(
     work_over(rt, words.file, Purpose::Change, DeskWork { command, out })
 }
 
-// The command that the words give: the word itself, or for `-` the line that the input holds; `None` where it holds no line,
-// more than one, or a longer one.
+// The command: the argument itself, or for `-` the only line of the input. `None` if the input has no line, more than one, or
+// too long a line.
 fn read_command(
     alloc: Global,
     line: &str,

@@ -1,4 +1,4 @@
-//! `drop export`: the files of an office are written into a folder.
+//! `drop export`: writes the files of an office to a folder.
 use crate::faults::Fault;
 use crate::opening::{OfficeWork, Purpose, work_over};
 use exports::{ExportFault, Folder, PutFault, export};
@@ -12,13 +12,13 @@ use std::{fs, str};
 use tasks::Export;
 use wire::Counted;
 
-/// Readable and writable by its owner alone.
+/// Readable and writable by the owner only.
 const OWNERS_FILE: u32 = 0o600;
 
-/// Open to its owner alone.
+/// Open to the owner only.
 const OWNERS_FOLDER: u32 = 0o700;
 
-// What is exported, and where to.
+// The arguments of an export.
 #[derive(Drop)]
 struct ExportWork<'w> {
     words: &'w Export<'w>,
@@ -43,12 +43,12 @@ impl<'a> OfficeWork<'a> for ExportWork<'_> {
     }
 }
 
-/// Makes the folder that the words name, and writes the files of the office into it, or those of the box that they name.
+/// Makes the folder that the arguments name, and exports the files of the office to it, or only those of the named box.
 pub(crate) fn do_export<'a>(rt: &HostRuntime, words: &Export<'_>) -> Result<(), Fault<'a>> {
     work_over(rt, words.file, Purpose::Look, ExportWork { words })
 }
 
-// Exports into the folder, beside whose folders the two lists lie. What is held back of them is written also where it breaks off.
+// Exports to the folder. The two lists lie beside the folders of the boxes. Their buffers are flushed even if the export fails.
 fn export_into<K: Rolls, R: Files>(
     rt: &R,
     keeper: &mut K,
@@ -69,7 +69,7 @@ fn export_into<K: Rolls, R: Files>(
     }
 }
 
-// A list in the folder, which hands on several rows at a time.
+// A buffered writer for a list in the folder.
 fn list_in<R: Files>(
     rt: &R,
     alloc: Global,
@@ -89,7 +89,7 @@ fn list_in<R: Files>(
     }
 }
 
-// The fault of an export that broke off when so many files were whole.
+// The fault of an export that failed after `whole` complete files.
 fn told<'a>(fault: ExportFault, whole: u64) -> Fault<'a> {
     match fault {
         ExportFault::Keep(fault) => Fault::from(fault),
@@ -104,14 +104,14 @@ struct ExportFolder<'r, R> {
     rt: &'r R,
     alloc: Global,
     root: &'r str,
-    // The folder in it that was made last. Those of a box come one behind another.
+    // The folder made last. The files of a box come one after another.
     made: Vec<u8>,
-    // How many files are whole.
+    // The number of complete files.
     whole: u64,
 }
 
 impl<R: Files> ExportFolder<'_, R> {
-    // Makes the folder of this path, where it is not the one that was made last.
+    // Makes this folder, unless it is the one made last.
     fn enter(&mut self, folder: &[u8], path: &str) -> Result<(), PutFault> {
         if self.made.as_slice() == folder {
             return Ok(());
@@ -126,7 +126,7 @@ impl<R: Files> ExportFolder<'_, R> {
         }
     }
 
-    // Writes a file that is not there yet.
+    // Writes a new file.
     fn write(&self, path: &str, bytes: &[u8]) -> Result<(), PutFault> {
         let mut file = new_file(self.rt, path).map_err(put_fault)?;
         file.write_all(bytes).map_err(put_fault)
@@ -154,7 +154,7 @@ impl<R: Files> Folder for ExportFolder<'_, R> {
     }
 }
 
-// Why something was not put.
+// Why a file or folder could not be made.
 fn put_fault(error: Error) -> PutFault {
     match error.kind() {
         ErrorKind::AlreadyExists => PutFault::There,
@@ -163,7 +163,7 @@ fn put_fault(error: Error) -> PutFault {
     }
 }
 
-// Makes a folder that is not there yet. The umask may have taken away what its owner needs.
+// Makes a new folder. Sets its mode again, because the umask may have removed bits that the owner needs.
 fn make_folder<R: Files>(rt: &R, path: &str) -> Result<(), Error> {
     let mut how = DirBuilder::new();
     how.mode(OWNERS_FOLDER);
@@ -171,7 +171,7 @@ fn make_folder<R: Files>(rt: &R, path: &str) -> Result<(), Error> {
     fs::set_permissions(rt, path, Permissions::from_mode(OWNERS_FOLDER))
 }
 
-// Makes a file that is not there yet.
+// Makes a new file.
 fn new_file<R: Files>(rt: &R, path: &str) -> Result<R::File, Error> {
     let mut how = OpenOptions::new();
     how.write(true).create_new(true).mode(OWNERS_FILE);

@@ -1,4 +1,4 @@
-//! What keeps the program from its task, and the line that tells it.
+//! The program's faults, and their messages.
 use desk::ListFault;
 use keeper::KeepFault;
 use office::DeskFault;
@@ -6,25 +6,25 @@ use sqlkeeper::OpenFault;
 use std::alloc::AllocError;
 use thiserror::Error;
 
-/// What kept the program from its task: the line after `drop: `.
+/// Why the program could not do its task. The message follows `drop: ` on the line.
 #[derive(Clone, Copy, Debug, PartialEq, Eq, Error)]
 pub(crate) enum Fault<'a> {
-    /// A value, which the program's words name so, has another form.
+    /// The argument of this name is malformed.
     #[error("malformed value: {0}")]
     MalformedValue(&'a str),
-    /// The file that holds the secret could not be opened or read.
+    /// The file with the secret could not be opened or read.
     #[error("cannot read the secret")]
     CannotReadSecret,
-    /// The office file is not there, or is none that can be opened.
+    /// The office file does not exist, or could not be opened.
     #[error("cannot open the office file")]
     CannotOpen,
     /// Another program has the office file open.
     #[error("cannot open the office file")]
     Held,
-    /// What the file was found to be, or a refusal of its store.
+    /// The file is not a fit office file, or its store failed.
     #[error("{0}")]
     Office(OpenFault),
-    /// The command of the desk could not be read.
+    /// The desk command could not be read.
     #[error("cannot read the command")]
     CannotReadCommand,
     /// The desk refused the command.
@@ -33,28 +33,28 @@ pub(crate) enum Fault<'a> {
     /// The office has no key of this id.
     #[error("the key is unknown")]
     UnknownKey,
-    /// The list has another head or a malformed row, or could not be read.
+    /// The list has another header line or a malformed row, or could not be read.
     #[error("{0}")]
     List(ListFault),
-    /// A file of this name could not be opened.
+    /// The file of this name could not be opened.
     #[error("cannot read {0}")]
     CannotRead(&'a str),
-    /// A session ended by a failed read or write, or a connection could not be accepted.
+    /// A session ended with a read or write fault, or a connection could not be accepted.
     #[error("a connection failed")]
     ConnectionFailed,
-    /// Nobody can listen at the address.
+    /// The program can't listen at the address.
     #[error("cannot listen")]
     CannotListen,
-    /// The manifest beside the office could not be written. That is told at once, and the office goes on.
+    /// The published manifest could not be written. This is reported at once, and the office goes on.
     #[error("cannot write the manifest")]
     CannotPublish,
-    /// The folder to export to is there, or cannot be made.
+    /// The export folder exists already, or could not be made.
     #[error("cannot make the folder")]
     CannotMakeFolder,
-    /// A file of an export could not be written. So many are whole in the folder.
+    /// A file of an export could not be written. The number counts the complete files.
     #[error("cannot write to the folder: files that are whole: {0}")]
     CannotExport(u64),
-    /// Memory was refused.
+    /// Memory ran out.
     #[error("out of memory")]
     OutOfMemory,
     /// Standard output failed.
@@ -89,7 +89,7 @@ impl From<DeskFault> for Fault<'_> {
 impl From<ListFault> for Fault<'_> {
     fn from(fault: ListFault) -> Self {
         match fault {
-            // Host and region are looked at before, so it is the key.
+            // Host and region were checked before, so the key is at fault.
             ListFault::Order => Fault::UnknownKey,
             ListFault::Keep(fault) => Fault::from(fault),
             ListFault::Write => Fault::CannotWrite,

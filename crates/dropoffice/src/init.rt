@@ -1,4 +1,4 @@
-//! `drop init`: an office file is made.
+//! `drop init`: makes an office file.
 ghost use Rattle.std.specs.Prelude.{pos, ◌≤ℤ◌, IfSome};
 
 use crate::faults::Fault;
@@ -15,11 +15,10 @@ use std::io::ErrorKind;
 use std::os::unix::fs::{OpenOptionsExt, PermissionsExt};
 use tasks::{Init, Secret};
 
-/// Readable and writable by its owner alone.
+/// Readable and writable by the owner only.
 const OWNERS: u32 = 0o600;
 
-/// Makes an office file: of a file that is not there, or of one without a byte. Where the words name a file with the secret,
-/// that is read before.
+/// Makes an office file from a new or an empty file. A file with the secret is read before.
 pub(crate) fn do_init(rt: &HostRuntime, words: &Init<'_>) -> Result<(), Fault<'static>> {
     let office = read_office(words)?;
     let secret = read_secret(rt, words.secret)?;
@@ -33,7 +32,7 @@ pub(crate) fn do_init(rt: &HostRuntime, words: &Init<'_>) -> Result<(), Fault<'s
     made
 }
 
-// Whether what was made of the file may be taken away: it is no office, and no other program has it open.
+// Whether the new file may be removed: it is not an office, and no other program has it open.
 fn is_unmade(made: &Result<(), Fault<'_>>) -> bool {
     match made {
         Ok(()) | Err(Fault::Held | Fault::Office(OpenFault::Exists)) => false,
@@ -41,7 +40,7 @@ fn is_unmade(made: &Result<(), Fault<'_>>) -> bool {
     }
 }
 
-// The office that the words ask for, where the id, the minutes and a secret that is a word have their forms.
+// The office's settings. Fails if an argument is malformed.
 fn read_office(words: &Init<'_>) -> Result<OfficeRow, Fault<'static>> {
     if !is_key_id(words.clerk.as_bytes()) {
         return Err(Fault::MalformedValue("clerk"));
@@ -58,7 +57,7 @@ fn read_office(words: &Init<'_>) -> Result<OfficeRow, Fault<'static>> {
     })
 }
 
-// The secret that the words give: one of them, or the line of the file that they name.
+// The secret: the argument itself, or the line of the named file.
 fn read_secret(rt: &HostRuntime, secret: Secret<'_>) -> Result<Vec<u8>, Fault<'static>> {
     match secret {
         Secret::Given(text) => Ok(Vec::from_slice(rt.alloc(), text.as_bytes())?),
@@ -66,7 +65,7 @@ fn read_secret(rt: &HostRuntime, secret: Secret<'_>) -> Result<Vec<u8>, Fault<'s
     }
 }
 
-// A whole number of minutes, from 0 to 840. The program's words hold no other.
+// A whole number of minutes from 0 to 840. The argument parser allows no other value.
 fn minutes_of(text: &str) -> Option<i16>
     ensures { IfSome result (λ m. (pos 0 ≤ℤ m) × (m ≤ℤ pos 840)) }
 {
@@ -78,17 +77,17 @@ fn minutes_of(text: &str) -> Option<i16>
     }
 }
 
-// A whole number of seconds, from 0 to 900. The program's words hold no other.
+// A whole number of seconds from 0 to 900. The argument parser allows no other value.
 fn allowance_of(text: &str) -> Option<Allowance> {
     Allowance::new(text.parse::<u64>().ok()?)
 }
 
-// Makes the file, without a byte and for its owner alone, where there is none. Whether it did.
+// Makes an empty file for the owner only, if there is no file. Whether it made one.
 fn make_file<R: Files>(rt: &R, file: &str) -> Result<bool, Fault<'static>> {
     let mut how = OpenOptions::new();
     how.read(true).write(true).create_new(true).mode(OWNERS);
     match how.open(rt, file) {
-        // The umask may have taken away what its owner needs.
+        // The umask may have removed bits that the owner needs.
         Ok(made) => match made.set_permissions(Permissions::from_mode(OWNERS)) {
             Ok(()) => Ok(true),
             Err(_) => {
@@ -101,7 +100,7 @@ fn make_file<R: Files>(rt: &R, file: &str) -> Result<bool, Fault<'static>> {
     }
 }
 
-// Takes away the file that was made, and its log where that was made with it.
+// Removes the new file, and its log if that is new too.
 fn remove_made<R: Files>(rt: &R, file: &str, log: &str, had_log: bool) {
     let _ = fs::remove_file(rt, file);
     if !had_log {
@@ -109,7 +108,7 @@ fn remove_made<R: Files>(rt: &R, file: &str, log: &str, had_log: bool) {
     }
 }
 
-// Makes an office of the database in the file.
+// Makes an office in the database of the file.
 fn make_office(
     rt: &HostRuntime,
     words: &Init<'_>,
@@ -121,7 +120,7 @@ fn make_office(
     disconnect(create_over(rt.alloc(), conn, office, clerk, secret)?)
 }
 
-// Makes an office of a database without a table.
+// Makes an office in a database without tables.
 fn create_over<S: Alter + Drop>(
     alloc: Global,
     conn: Connection<S>,

@@ -1,4 +1,4 @@
-//! The program: the office file, and what is done for each command.
+//! The program: the office file, and the commands.
 #![tactic(auto)]
 
 mod desking;

@@ -1,4 +1,4 @@
-//! `drop link`: a link is written, signed by a key.
+//! `drop link`: writes a link, signed with a key.
 use crate::faults::Fault;
 use crate::signing::{KeyWork, sign_by};
 use boxes::{Command, has_form};
@@ -11,7 +11,7 @@ use std::alloc::Global;
 use std::io::Write;
 use tasks::Link;
 
-/// Writes `http://`, the host and a link to `out`, on one line.
+/// Writes `http://`, the host and a link as one line to `out`.
 pub(crate) fn do_link(
     rt: &HostRuntime,
     words: &Link<'_>,
@@ -21,7 +21,7 @@ pub(crate) fn do_link(
     sign_by(rt, words.file, words.key, LinkWork { order, words, out })
 }
 
-// A link that is written, and where to.
+// The link to write, and the output.
 #[derive(Drop)]
 struct LinkWork<'w, W: Drop> {
     order: Order,
@@ -39,7 +39,7 @@ impl<'a, W: Write + Drop> KeyWork<'a> for LinkWork<'_, W> {
     }
 }
 
-// What a link is to say, beside its path.
+// The parts of a link besides its path.
 #[derive(Clone, Copy, Debug)]
 struct Order {
     method: Method,
@@ -47,7 +47,7 @@ struct Order {
     expires: u64,
 }
 
-// The order of the words, where each value of theirs has its form.
+// Reads the arguments. Fails if one is malformed.
 fn read_order(alloc: Global, words: &Link<'_>) -> Result<Order, Fault<'static>> {
     let Some(method) = Method::read(words.method.as_bytes()) else {
         return Err(Fault::MalformedValue("method"));
@@ -68,7 +68,7 @@ fn read_order(alloc: Global, words: &Link<'_>) -> Result<Order, Fault<'static>> 
     })
 }
 
-/// Fails where the host or the region is malformed.
+/// Fails if the host or the region is malformed.
 pub(crate) fn check_place(host: &[u8], region: &[u8]) -> Result<(), Fault<'static>> {
     if !is_host(host) {
         return Err(Fault::MalformedValue("host"));
@@ -79,7 +79,7 @@ pub(crate) fn check_place(host: &[u8], region: &[u8]) -> Result<(), Fault<'stati
     Ok(())
 }
 
-// Whether a link of this method may be to the text: a box's name, `/` and a file's name; for POST a desk command.
+// Whether a link of this method may have this target: a box name, `/` and a file name; for POST a desk command.
 fn is_target(alloc: Global, method: Method, target: &[u8]) -> Result<bool, Fault<'static>> {
     if method == Method::Post {
         return Ok(read_command(alloc, target)?.is_some());
@@ -90,7 +90,7 @@ fn is_target(alloc: Global, method: Method, target: &[u8]) -> Result<bool, Fault
     }
 }
 
-// The line of an order's link, signed by the key.
+// The line with the link, signed with the key.
 fn line_of(
     alloc: Global,
     key: &LinkKey<'_>,

@@ -1,4 +1,4 @@
-//! `drop serve`: an office is served at an address.
+//! `drop serve`: serves an office at an address.
 use crate::faults::Fault;
 use crate::manifesting::serve_published;
 use crate::opening::{OfficeWork, Purpose, work_over};
@@ -14,7 +14,7 @@ use std::net::{SocketAddr, SocketAddrV4, TcpListener};
 use std::time::Duration;
 use tasks::Serve;
 
-/// What the words of a service ask for.
+/// The parsed arguments of a service.
 #[derive(Clone, Copy, Debug)]
 pub(crate) struct Service<'a> {
     file: &'a str,
@@ -23,8 +23,7 @@ pub(crate) struct Service<'a> {
     limits: Limits,
 }
 
-// A service, where it is told that it listens, and where that its manifest can't be written; and the manifest's file, if there is
-// to be one.
+// A service, the file of its published manifest, if any, and the streams for messages.
 #[derive(Drop)]
 struct ServeWork<'w, W: Drop, E: Drop> {
     service: Service<'w>,
@@ -50,7 +49,7 @@ impl<'a, W: Write + Drop, E: Write + Drop> OfficeWork<'a> for ServeWork<'_, W, E
     }
 }
 
-/// Serves the office in a file that is there.
+/// Serves the office of an existing file.
 pub(crate) fn do_serve<'a>(
     rt: &HostRuntime,
     words: &Serve<'_>,
@@ -66,7 +65,7 @@ pub(crate) fn do_serve<'a>(
     work_over(rt, words.file, Purpose::Serve, work)
 }
 
-// The service of the words, where each value of theirs has its form.
+// Reads the arguments. Fails if one is malformed.
 fn read_service<'a>(words: &Serve<'a>) -> Result<Service<'a>, Fault<'static>> {
     let address = read_address(words.listen).ok_or(Fault::MalformedValue("listen"))?;
     let Ok(connections) = words.connections.parse::<u64>() else {
@@ -94,7 +93,7 @@ fn read_service<'a>(words: &Serve<'a>) -> Result<Service<'a>, Fault<'static>> {
     })
 }
 
-// The address `a.b.c.d:port`, each number without leading zeros.
+// An address `a.b.c.d:port`, without leading zeros in any number.
 fn read_address(text: &str) -> Option<SocketAddrV4> {
     let (_, port) = text.split_once(':')?;
     if port.len() > 1 && port.starts_with('0') {
@@ -103,8 +102,8 @@ fn read_address(text: &str) -> Option<SocketAddrV4> {
     SocketAddrV4::parse_ascii(text.as_bytes()).ok()
 }
 
-/// Listens at the address, says so on `out`, and serves the connections that come. That the office file is large for the memory
-/// is told on standard error.
+/// Listens at the address, says so on `out`, and serves the connections. Warns on standard error if the office file is too
+/// large for the memory.
 pub(crate) fn serve_at<'a, K: Keeper>(
     rt: &HostRuntime,
     office: &mut Office<K>,

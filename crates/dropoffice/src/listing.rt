@@ -13,7 +13,7 @@ use std::io::{BufWriter, Read, Write};
 use tasks::{Links, Listing, OfficeFile};
 use wire::Counted;
 
-// A list of links: what is wanted of it, and the streams.
+// The arguments and the streams of a list of links.
 #[derive(Drop)]
 struct LinksWork<'w, R: Drop, W: Drop> {
     words: &'w Links<'w>,
@@ -30,7 +30,7 @@ impl<'a, R: Read + Drop, W: Write + Drop> KeyWork<'a> for LinksWork<'_, R, W> {
     }
 }
 
-/// Reads a list of links that are wanted, and writes it with the links, signed by the key that the words name.
+/// Reads a list of requested links, and writes it with the links, signed with the named key.
 pub(crate) fn do_links<'a>(
     rt: &HostRuntime,
     words: &Links<'_>,
@@ -42,7 +42,7 @@ pub(crate) fn do_links<'a>(
     sign_by(rt, words.file, words.key, work)
 }
 
-// A manifest, and where it is written to.
+// The output of a manifest.
 #[derive(Drop)]
 struct ManifestWork<W: Drop> {
     out: W,
@@ -56,7 +56,7 @@ impl<'a, W: Write + Drop> OfficeWork<'a> for ManifestWork<W> {
     }
 }
 
-/// Writes the receipts of the office.
+/// Writes the manifest of the office's receipts.
 pub(crate) fn do_manifest<'a>(
     rt: &HostRuntime,
     words: &OfficeFile<'_>,
@@ -65,7 +65,7 @@ pub(crate) fn do_manifest<'a>(
     work_over(rt, words.file, Purpose::Look, ManifestWork { out })
 }
 
-// A manifest that is compared, and where what stands is written to.
+// The manifest to compare, and the output.
 #[derive(Drop)]
 struct CompareWork<R: Drop, W: Drop> {
     input: R,
@@ -80,7 +80,7 @@ impl<'a, R: Read + Drop, W: Write + Drop> OfficeWork<'a> for CompareWork<R, W> {
     }
 }
 
-/// Reads a manifest, and writes what stands of it in the office.
+/// Reads a manifest, and writes its comparison with the office.
 pub(crate) fn do_compare<'a>(
     rt: &HostRuntime,
     words: &OfficeFile<'_>,
@@ -90,7 +90,7 @@ pub(crate) fn do_compare<'a>(
     work_over(rt, words.file, Purpose::Look, CompareWork { input, out })
 }
 
-// What of an office is listed.
+// The kinds of lists.
 #[derive(Clone, Copy, Debug, PartialEq, Eq)]
 enum Stock {
     Keys,
@@ -99,7 +99,7 @@ enum Stock {
 }
 
 impl Stock {
-    // What the word names.
+    // The list that the argument names.
     fn named(word: &str) -> Option<Stock> {
         match word {
             "keys" => Some(Stock::Keys),
@@ -110,7 +110,7 @@ impl Stock {
     }
 }
 
-// A list of what an office keeps, and where it is written to.
+// The list to write, and the output.
 #[derive(Drop)]
 struct ListWork<W: Drop> {
     stock: Stock,
@@ -130,7 +130,7 @@ impl<'a, W: Write + Drop> OfficeWork<'a> for ListWork<W> {
     }
 }
 
-/// Lists what the words name: the keys, the boxes or the files of the office.
+/// Lists the keys, the boxes or the files of the office.
 pub(crate) fn do_list<'a>(
     rt: &HostRuntime,
     words: &Listing<'_>,
@@ -142,7 +142,7 @@ pub(crate) fn do_list<'a>(
     work_over(rt, words.file, Purpose::Look, ListWork { stock, out })
 }
 
-/// A writer that hands on several rows at a time.
+/// A buffered writer.
 pub(crate) fn buffered<'a, W: Write + Drop>(
     alloc: Global,
     out: W,
@@ -153,7 +153,7 @@ pub(crate) fn buffered<'a, W: Write + Drop>(
     }
 }
 
-// How a list ended. What was held back of it is written, also of one that broke off.
+// The result of a list. Flushes the buffer even if the list failed.
 fn told<'a, W: Write>(
     listed: Result<(), ListFault>,
     writer: &mut Counted<W>,

@@ -1,4 +1,4 @@
-//! `drop serve --manifest`: the manifest of the office stands in a file while the office is served.
+//! `drop serve --manifest`: publishes the manifest in a file while the office is served.
 ghost use Rattle.std.specs.Prelude.{None};
 
 use crate::faults::Fault;
@@ -11,7 +11,7 @@ use std::fs::Files;
 use std::io::Write;
 use std::{fs, io};
 
-// A file that a manifest stands in. What is added goes into it at once.
+// The file of a published manifest. Each addition is flushed at once.
 #[derive(Drop)]
 struct ManifestFile<F: Drop> {
     file: F,
@@ -26,9 +26,9 @@ impl<F: Write + Drop> Sheet for ManifestFile<F> {
     }
 }
 
-/// Serves the office, and keeps the file of this name its manifest. That is written beside it and renamed, so that nobody reads a
-/// part of it, and each receipt is added as soon as it was given. Where it cannot be written a line on `err` says so, once, and the
-/// office is served nevertheless.
+/// Serves the office, and publishes its manifest in the file of this name. The manifest is first written to another file and
+/// then renamed, so nobody reads a part of it. Each receipt is added as soon as it is given. If the manifest can't be written,
+/// one line on `err` says so, and the office is served without it.
 pub(crate) fn serve_published<'a, K: Keeper>(
     rt: &HostRuntime,
     office: &mut Office<K>,
@@ -55,7 +55,7 @@ pub(crate) fn serve_published<'a, K: Keeper>(
     serve_over(rt, publisher, service, out)
 }
 
-// Serves an office over the keeper that publishes.
+// Serves an office over the publishing keeper.
 fn serve_over<'a, K: Keeper, S: Sheet + Drop, E: Write + Drop>(
     rt: &HostRuntime,
     publisher: Publisher<'_, K, S, E>,

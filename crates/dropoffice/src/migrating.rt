@@ -1,4 +1,4 @@
-//! `drop migrate`: an office file of version 1 is taken over to version 2.
+//! `drop migrate`: migrates an office file from version 1 to version 2.
 use crate::faults::Fault;
 use crate::opening::{Purpose, connect, disconnect, require_file};
 use sqlite::{Alter, Connection};
@@ -7,7 +7,7 @@ use std::alloc::Global;
 use std::io::Write;
 use tasks::OfficeFile;
 
-/// Makes an office file of version 1 one of version 2, leaves one of version 2 as it is, and writes `done` to `out`, on a line.
+/// Migrates an office file to version 2, and writes the line `done` to `out`. A file of version 2 stays unchanged.
 pub(crate) fn do_migrate(
     rt: &HostRuntime,
     words: &OfficeFile<'_>,
@@ -20,7 +20,7 @@ pub(crate) fn do_migrate(
     told.map_err(|_| Fault::CannotWrite)
 }
 
-// Takes the office of a connection over.
+// Migrates the office of a connection.
 fn migrate_over<S: Alter + Drop>(
     alloc: Global,
     conn: Connection<S>,

@@ -1,4 +1,4 @@
-//! The office file of a command: its connection, the keeper over it, and what is done over its office.
+//! The office file of a command: its connection, its keeper, and the command's work.
 use crate::faults::Fault;
 use office::Office;
 use rolls::Rolls;
@@ -11,16 +11,16 @@ use std::fs::Files;
 use std::hash::{BuildHasher, RandomState};
 use std::io::ErrorKind;
 
-/// So many pages that were read are kept in memory while an office is served, of 4096 bytes each: 64 MB. Of a page that is not
-/// among them the engine reads the bytes once more, and sums them.
+/// The size of the page cache while an office is served, in pages of 4096 bytes: 64 MB. For any other page the engine reads the
+/// bytes again and computes their checksum.
 const SERVED_PAGES: usize = 16_384;
 
-/// While an office is served, the log goes into the file once it has so many pages, each with 24 bytes before it: 64 MB. What
-/// is written again and again, as the totals of a box, is then copied once for thousands of uploads, and not for every hundred.
+/// While an office is served, the log is copied into the file once it has this many pages, each with 24 bytes before it: 64 MB.
+/// Pages that are written often, like the totals of a box, are then copied once per thousands of uploads, not once per hundred.
 const SERVED_FRAMES: usize = 16_384;
 
-/// While an office is served, a transaction that has written so many pages puts further ones into the log at once, and not only
-/// when it is committed: 2 MB. An upload of 8 MiB then takes less memory, and is as quick.
+/// While an office is served, a transaction that has written this many pages (2 MB) writes further pages to the log at once,
+/// not only at its commit. An upload of 8 MiB then takes less memory, and is as fast.
 const SERVED_SPILL: usize = 512;
 
 // The store of an office file.
@@ -45,7 +45,7 @@ fn unopened_files(error: OpenError) -> Fault<'static> {
     }
 }
 
-// How a database is opened.
+// The options for opening a database.
 fn options(rt: &HostRuntime, purpose: Purpose) -> Result<Options, Fault<'static>> {
     let Ok(random) = RandomState::new(rt) else {
         return Err(Fault::CannotOpen);
@@ -67,32 +67,31 @@ fn unclosed(error: Error) -> Fault<'static> {
     }
 }
 
-/// What a command does over an office. No command but this file and `init` names the store of an office file: a check of
-/// each function that does is twenty times as dear as one over any keeper.
+/// The work of a command on an office. Only this file and `init` name the store of an office file. To check a function that
+/// names it takes twenty times as long as to check one over any keeper.
 pub(crate) trait OfficeWork<'a> {
-    /// Does it.
+    /// Does the work.
     fn run<K: Rolls>(self, rt: &HostRuntime, office: &mut Office<K>) -> Result<(), Fault<'a>>;
 }
 
-/// What an office file is opened for.
+/// Why an office file is opened.
 #[derive(Clone, Copy, Debug, PartialEq, Eq)]
 pub(crate) enum Purpose {
-    /// Something is asked. The log beside the file stays as it is.
+    /// To read. The log beside the file stays as it is.
     Look,
-    /// Something may be changed. The log goes into the file at the end, however the work ended.
+    /// To change. The log is copied into the file at the end, even if the work failed.
     Change,
-    /// The same, for long: many pages are kept in memory, for which it takes 60 milliseconds more to open, and the log may grow
-    /// long.
+    /// To serve for long. Like `Change`, with a large page cache, which takes 60 milliseconds more to open, and a longer log.
     Serve,
 }
 
-/// Connects to the database in a file that is there. A file of no bytes is a database without tables.
+/// Connects to the database in an existing file. An empty file is a database without tables.
 pub(crate) fn connect(
     rt: &HostRuntime,
     file: &str,
     purpose: Purpose,
 ) -> Result<Connection<Store>, Fault<'static>> {
-    // For SQLite these are no names of files.
+    // SQLite does not read these as file names.
     if file == ":memory:" || file.starts_with("file:") {
         return Err(Fault::CannotOpen);
     }
@@ -104,12 +103,12 @@ pub(crate) fn connect(
     }
 }
 
-/// Closes the database, so that its log goes into the file.
+/// Closes the database, which copies its log into the file.
 pub(crate) fn disconnect(conn: Connection<Store>) -> Result<(), Fault<'static>> {
     conn.close().map_err(unclosed)
 }
 
-/// Fails where there is no such file, so that none is made.
+/// Fails if there is no such file, so that none is made.
 pub(crate) fn require_file<R: Files>(rt: &R, file: &str) -> Result<(), Fault<'static>> {
     match fs::metadata(rt, file) {
         Ok(_) => Ok(()),
@@ -129,7 +128,7 @@ fn keeper_over<S: Alter + Drop>(
     }
 }
 
-// Does the work over the office of a connection: how that ended, and the connection.
+// Does the work on the office of a connection. Returns the work's result and the connection.
 fn work_on<'a, S: Alter + Drop, W: OfficeWork<'a> + Drop>(
     rt: &HostRuntime,
     conn: Connection<S>,
@@ -140,7 +139,7 @@ fn work_on<'a, S: Alter + Drop, W: OfficeWork<'a> + Drop>(
     Ok((done, office.keeper.close()))
 }
 
-/// Does the work over the office of a file that is there. A fault of the work is told before one of the file's closing.
+/// Does the work on the office of an existing file. A fault of the work takes precedence over a fault of closing the file.
 pub(crate) fn work_over<'a, W: OfficeWork<'a> + Drop>(
     rt: &HostRuntime,
     file: &str,

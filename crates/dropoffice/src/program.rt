@@ -1,4 +1,4 @@
-//! The program: what its words ask for is done on the streams that it is handed.
+//! The program: does what its arguments ask for, on the given streams.
 use crate::desking::do_desk;
 use crate::exporting::do_export;
 use crate::faults::Fault;
@@ -13,21 +13,20 @@ use clap::error::ErrorKind;
 use std::io::{Read, Write};
 use tasks::Task;
 
-/// The exit status of a task that was done, though its requests were refused.
+/// The exit status of a task that was done, even if it refused requests.
 const DONE: u8 = 0;
 
-/// The exit status where a fault's line stands on standard error.
+/// The exit status after a fault, which has a line on standard error.
 const FAULT: u8 = 1;
 
-/// The exit status of words that name no task.
+/// The exit status for arguments that name no task.
 const WORDS: u8 = 2;
 
-/// Does what the words ask for, the program's own name first among them, and gives the exit status:
-/// 0 where it was done, though requests were refused; 1 where a line `drop: <fault>` was written to
-/// `err`; 2 for words that name no task, whose text was written to `err`. Help or the version that was asked for, `done` for a
-/// command of the desk, links, a manifest, what stands of one, lists, a replay's answers, and where a server listens are written
-/// to `out`. Files are exported into a folder of their own. Lists of links that are wanted, manifests to compare, and a command of
-/// the desk that is no word are read from `input`.
+/// Runs the program with these arguments, whose first is the program's name. Returns the exit status: 0 if the task was done,
+/// even if it refused requests; 1 after a fault, with a line `drop: <fault>` on `err`; 2 if the arguments name no task, with
+/// clap's text on `err`. `out` gets the help, the version, `done` for a desk command, links, a manifest, a comparison, lists, a
+/// replay's answers, and the address of a server. `input` gives lists of requested links, manifests to compare, and a desk
+/// command that is not an argument. An export makes its own folder.
 pub fn perform(
     rt: &HostRuntime,
     words: &[&str],
@@ -54,11 +53,11 @@ pub fn perform(
     }
 }
 
-// The status; a fault's line is written first. Where that write fails too, the status alone tells.
+// Writes a fault's line, and returns the status. If that write fails too, only the status tells.
 fn status_of(done: Result<(), Fault<'_>>, err: &mut impl Write) -> u8 {
     match done {
         Ok(()) => DONE,
-        // It was told when it came.
+        // This fault was reported when it came.
         Err(Fault::CannotPublish) => FAULT,
         Err(fault) => {
             let _ = writeln!(err, "drop: {fault}");
@@ -67,7 +66,7 @@ fn status_of(done: Result<(), Fault<'_>>, err: &mut impl Write) -> u8 {
     }
 }
 
-// Writes clap's text about the words where it belongs, and gives the status.
+// Writes clap's text about the arguments to the right stream, and returns the status.
 fn explain(error: &WordsError, out: &mut impl Write, err: &mut impl Write) -> u8 {
     if error.kind() == ErrorKind::OutOfMemory {
         return status_of(Err(Fault::OutOfMemory), err);

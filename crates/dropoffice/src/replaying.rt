@@ -1,4 +1,4 @@
-//! `drop replay`: recorded connections are answered, one after another.
+//! `drop replay`: answers recorded connections, one after another.
 ghost use Rattle.std.specs.Prelude.{IfSome};
 ghost use Rattle.sigv4.specs.Credential.{IsKeyId, IsSecret};
 
@@ -14,7 +14,7 @@ use std::io::Write;
 use tasks::Replay;
 use wire::Counted;
 
-/// Answers the streams over the office that the words name: one in memory, or one in a file.
+/// Answers the streams over the named office, in memory or in a file.
 pub(crate) fn do_replay<'a>(
     rt: &HostRuntime,
     words: &Replay<'a>,
@@ -33,7 +33,7 @@ pub(crate) fn do_replay<'a>(
     work_over(rt, words.file, Purpose::Change, work)
 }
 
-// Over a new office in memory.
+// Answers the streams over a new office in memory.
 fn replay_memory<'a, R: Files + AllocGlobal>(
     rt: &R,
     words: &Replay<'a>,
@@ -49,7 +49,7 @@ fn replay_memory<'a, R: Files + AllocGlobal>(
     told(served, writer.flush().is_ok())
 }
 
-// Streams that are answered over the office in a file, and where to.
+// The streams to answer over the office in a file, and the output.
 #[derive(Drop)]
 struct ReplayWork<'w, 'a, W: Drop> {
     streams: &'w [&'a str],
@@ -67,7 +67,7 @@ impl<'a, W: Write + Drop> OfficeWork<'a> for ReplayWork<'_, 'a, W> {
     }
 }
 
-// The clerk's key of an office in memory, `memory:ID/SECRET`.
+// The clerk's key from `memory:ID/SECRET`.
 fn read_key(file: &str) -> Option<(&[u8], &[u8])>
     ensures { IfSome result (λ key. IsKeyId key.0.now × IsSecret key.1.now) }
 {
@@ -79,7 +79,7 @@ fn read_key(file: &str) -> Option<(&[u8], &[u8])>
     }
 }
 
-// What is told of streams that were served, where their answers went out or not.
+// The result of a replay. `went_out` is whether the answers were flushed.
 fn told(served: Result<u64, &str>, went_out: bool) -> Result<(), Fault<'_>> {
     match served {
         Err(name) => Err(Fault::CannotRead(name)),

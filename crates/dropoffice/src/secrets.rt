@@ -1,4 +1,4 @@
-//! Secrets that stand in files of their own.
+//! Secrets in files of their own.
 use crate::faults::Fault;
 use sigv4::is_secret;
 use std::fs;
@@ -8,7 +8,7 @@ use tasks::read_line;
 /// The most bytes of a secret.
 const LONGEST_SECRET: u16 = 128;
 
-/// Fails where it is no secret.
+/// Fails if this is not a secret.
 pub(crate) fn check_secret(secret: &[u8]) -> Result<(), Fault<'static>> {
     if is_secret(secret) {
         Ok(())
@@ -17,7 +17,7 @@ pub(crate) fn check_secret(secret: &[u8]) -> Result<(), Fault<'static>> {
     }
 }
 
-/// The secret in a file, which is its only line.
+/// The secret in a file. It must be the only line.
 pub(crate) fn read_secret_file(rt: &HostRuntime, name: &str) -> Result<Vec<u8>, Fault<'static>> {
     let file = fs::open(rt, name).map_err(unread)?;
     let Some(line) = read_line(rt.alloc(), file, LONGEST_SECRET).map_err(unread)? else {

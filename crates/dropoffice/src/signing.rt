@@ -1,4 +1,4 @@
-//! What is signed by a key, whose secret an office keeps or a file holds.
+//! Signing with a key, whose secret is in an office or in a file.
 use crate::faults::Fault;
 use crate::opening::{OfficeWork, Purpose, work_over};
 use crate::secrets::read_secret_file;
@@ -8,13 +8,13 @@ use rolls::Rolls;
 use sigv4::is_key_id;
 use std::alloc::Global;
 
-/// What is done with a key that signs.
+/// The work with a signing key.
 pub(crate) trait KeyWork<'a> {
-    /// Does it.
+    /// Does the work.
     fn run(self, alloc: Global, key: &LinkKey<'_>) -> Result<(), Fault<'a>>;
 }
 
-// The same over an office: the key of this id is asked for.
+// The same with the key of this id from an office.
 #[derive(Drop)]
 struct OfficeKey<'w, W: Drop> {
     id: &'w [u8],
@@ -34,8 +34,8 @@ impl<'a, W: KeyWork<'a> + Drop> OfficeWork<'a> for OfficeKey<'_, W> {
     }
 }
 
-/// Does the work with the key of this id. Its secret is the office's in the file; or of `key:SECRETFILE`, where no office is
-/// opened, the line of that file.
+/// Does the work with the key of this id. Its secret comes from the office in the file. For `key:SECRETFILE` it is the line of
+/// that file, and no office is opened.
 pub(crate) fn sign_by<'a, W: KeyWork<'a> + Drop>(
     rt: &HostRuntime,
     file: &str,

@@ -1,4 +1,4 @@
-//! The office file is watched while it is served: one that has outgrown the memory would not open at the next start.
+//! Watches the office file while it is served. A file that has outgrown the memory would not open at the next start.
 ghost use Rattle.std.specs.Prelude.{◌↔◌, ◌<◌, ◌*◌, IsTrue};
 
 use crate::memory::{memory_bound, memory_taken};
@@ -7,26 +7,26 @@ use sigv4::Moment;
 use std::fs::Files;
 use std::{fs, time};
 
-/// So many bytes are told as 1 MB.
+/// The bytes of 1 MB.
 const MEGABYTE: u64 = 1_000_000;
 
-/// The machine's clock. When the second has changed since it was asked last, it looks at the length of the office file. Once the
-/// memory that it takes to open such a file is over half of what the program may have, a line on standard error says so.
+/// The machine's clock. It checks the length of the office file whenever the second has changed since the last call. Once
+/// opening the file would take over half of the memory limit, one line on standard error says so.
 #[derive(Drop)]
 pub(crate) struct WatchingClock<'a, R: time::Clock> {
     rt: &'a R,
     clock: MachineClock<'a, R>,
     file: &'a str,
-    // What the program may have; none where that is not known, and once the line was written.
+    // The memory limit. `None` if it is not known, or after the line was written.
     memory: Option<u64>,
-    // How much more than its length it took to open the file.
+    // The memory that opening the file took beyond the file's length.
     more: u64,
-    // When the clock was asked last.
+    // The moment of the last call.
     last: Option<Moment>,
 }
 
 impl<'a, R: time::Clock + Files + AllocGlobal + Eprint> WatchingClock<'a, R> {
-    /// The clock for a file that the program has opened, as its first work. It looks at once.
+    /// The clock for a file that the program has just opened as its first work. Checks the length at once.
     pub(crate) fn new(rt: &'a R, file: &'a str) -> WatchingClock<'a, R> {
         let length = length_of(rt, file).unwrap_or(0);
         let mut clock = WatchingClock {
@@ -41,7 +41,7 @@ impl<'a, R: time::Clock + Files + AllocGlobal + Eprint> WatchingClock<'a, R> {
         clock
     }
 
-    // Looks at the length of the file. A byte more takes a byte of memory more, at the least.
+    // Checks the length of the file. Each further byte takes at least one byte of memory.
     fn look(&mut self) {
         let Some(memory) = self.memory else {
             return;
@@ -60,7 +60,7 @@ impl<'a, R: time::Clock + Files + AllocGlobal + Eprint> WatchingClock<'a, R> {
 impl<R: time::Clock + Files + AllocGlobal + Eprint> Clock for WatchingClock<'_, R> {
     ghost use Rattle.std.specs.Prelude.{⊤};
 
-    // It may tell any moment.
+    // It may return any moment.
     ghost now_gives = { λ _ _ _. ⊤ };
 
     fn now(&mut self) -> Moment {
@@ -79,15 +79,14 @@ fn length_of<R: Files>(rt: &R, file: &str) -> Option<u64> {
     Some(found.len())
 }
 
-// Whether that is over half of the memory.
+// Whether `needed` is over half of `memory`.
 fn is_over_half(needed: u64, memory: u64) -> bool
     ensures { IsTrue result ↔ memory < needed * 2 }
 {
     memory / 2 < needed
 }
 
-// Tells that to open the office file takes over half of the memory, each in bytes. Where that can't be written the office is
-// served nevertheless.
+// Warns that opening the office file takes over half of the memory. All amounts are in bytes. A failed write is ignored.
 fn warn<R: Eprint>(rt: &R, length: u64, needed: u64, memory: u64) {
     let (length, needed, memory) = (length / MEGABYTE, needed / MEGABYTE, memory / MEGABYTE);
     let _ = eprintln!(rt;

@@ -1,4 +1,4 @@
--- The files of a box, in their order.
+-- The files of a box, in order.
 use Rattle.std.proofs.Common.{◌≡◌, ◌∙◌, ℕ, ◌<◌, Bool, true, false, cond, List, [], length, Option, Some, None, refl, sym, ap, subst}
 use Rattle.std.specs.Prelude.{IsSome, option_map}
 use Rattle.std.specs.FinMap.{get, get-retain_keys}
@@ -29,7 +29,7 @@ cond_some false o x e = absurd cc
 some_is : {X : Type 0} (o : Option X) (x : X) → o ≡ Some x → IsSome o
 some_is o x e = rw e refl
 
--- a file of the box is one of the office
+-- a file of the box is a file of the office
 pub in_files : (box : Option (List ℕ)) (s : State) (k : Place) (f : File) → get (files_in box s) k ≡ Some f → get s.files k ≡ Some f
 in_files None s k f e = e
 in_files (Some box) s k f e = (cond_some (same_bytes k.box box) (get s.files k) f (sym (kept s box k) ∙ e)).1
@@ -45,7 +45,7 @@ back s box name there =
     let (f, is) = there_is _ there in
     some_is _ f (kept s box (at box name) ∙ ap (λ b. cond b (get s.files (at box name)) None) (same_as_itself box) ∙ is)
 
--- within a box names decide
+-- within a box the names decide the order
 name_order : (box a b : List ℕ) → place_cmp (at box a) (at box b) ≡ bytes_cmp a b
 name_order box a b = ap (λ r. ordering_then r (bytes_cmp a b)) (tied_itself bytes_total box)
 

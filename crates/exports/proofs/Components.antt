@@ -1,4 +1,4 @@
--- The name under which a file is exported is one component of a path.
+-- An exported name is a single path component.
 use Rattle.std.proofs.Common.{◌≡◌, ◌≢◌, ◌∙◌, ℕ, zero, suc, ◌+◌, ◌-◌, ◌^◌, ◌<◌, ◌≤◌, Bool, true, false, List, [], ◌∷◌, ◌++◌, length, get_or, refl, sym, ap, subst, arith, ⊎_elim, append_assoc, length-append}
 use Rattle.std.specs.Prelude.{IsTrue}
 use Rattle.std.specs.Fmt.{decimal}
@@ -43,7 +43,7 @@ untrue : (b : Bool) → (b ≡ false → ⊥) → b ≡ true
 untrue true never = refl
 untrue false never = absurd (never refl)
 
--- what is said of the part of a name
+-- the properties of the part of a name
 record IsFine (part : List ℕ) : Type 0 where
   some : 0 < length part
   short : length part ≤ 200

@@ -10,7 +10,7 @@ behind name i h e =
     let at : drop i name ≡ 47 ∷ drop (suc i) name = drop-cons name i 0 h ∙ (λ k. e k ∷ drop (suc i) name) in
     sym (take-append-drop i name) ∙ ap (λ t. take i name ++ t) (subst (λ n. drop i name ≡ 47 ∷ drop n name) (sym (add-one i)) at)
 
--- what stands behind the last slash
+-- the part after the last slash
 pub last_behind : (name : List ℕ) (i : ℕ) → NoneAfter (Passes (is_byte 47) name) 0 (length name) i → Passes (is_byte 47) name i
     → IsLastPart name (take (length name - (i + 1)) (drop (i + 1) name))
 last_behind name i after is =

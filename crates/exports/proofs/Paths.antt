@@ -1,4 +1,4 @@
--- Paths of exported files: what their bytes are, and which folders bear the names of their boxes.
+-- Paths of exported files: their bytes, and which folders have the names of their boxes.
 use Rattle.std.proofs.Common.{◌≡◌, ◌≢◌, ◌∙◌, inl, inr, codes, ℕ, zero, suc, ◌-◌, ◌^◌, ◌<◌, ◌≤◌, Bool, true, false, List, [], ◌∷◌, ◌++◌, length, get_or, refl, sym, ap, subst, arith, ⊎_elim, length-append}
 use Rattle.std.specs.Prelude.{◌&&◌, IsTrue, slice_index}
 use Rattle.std.specs.List.{list_all}

@@ -1,4 +1,4 @@
--- What is sent of files, one behind another.
+-- Sending files one after another.
 use Rattle.std.proofs.Common.{◌≡◌, ◌∙◌, ℕ, Bool, true, false, cond, List, [], ◌∷◌, ◌++◌, Option, Some, None, Result, Ok, Err, refl, sym, ap, subst, append_assoc, append-nil}
 use Rattle.std.specs.FinMap.{get}
 use Rattle.std.specs.List.{AllZip}
@@ -84,7 +84,7 @@ not_put T fault.Files is = absurd is
 not_put T fault.Sums is = absurd is
 not_put T fault.Memory is = refl
 
--- nothing was done, since the asking failed
+-- nothing was done, because asking the keeper failed
 pub asking_failed : {T : Type 0} (s : State) (o : Shown) (e : ExportFault) (xs : List (Place × File)) → IsOfAsking e
     → SendsFiles {T = T} s (if_put {T = T} (Err e) xs) o o (Err e)
 asking_failed {T} s o e xs is = subst (λ (b : Bool). SendsFiles {T = T} s (cond b xs []) o o (Err e)) (sym (not_put T e is)) (none_sent s o (Err e))
@@ -115,7 +115,7 @@ one_sent s x p row sum old new r false is_put is_row is_sum put files sums = rec
   sums = sums;
 }
 
--- the file was sent that was told of the place
+-- the file that the keeper returned for the place was sent
 pub told_sent : {T : Type 0} (s : State) (place : Place) (row : FileRow) (f : File) (folder name path text sum : List ℕ) (old new : Shown) (r : Result T ExportFault)
     → IsSound s → IsFileAt s place (Some row) → get s.files place ≡ Some f
     → IsFolderName place.box folder → IsExportName row.receipt.number place.name name → path ≡ folder ++ 47 ∷ name

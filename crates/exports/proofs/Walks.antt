@@ -1,4 +1,4 @@
--- A walk through files that sends each.
+-- A walk that sends each file.
 use Rattle.std.proofs.Common.{◌≡◌, ◌∙◌, Bool, true, false, cond, List, [], ◌∷◌, ◌++◌, Option, Some, None, Ok, Err, refl, sym, ap, subst, append-nil}
 use Rattle.std.specs.Prelude.{⊤, IsSome}
 use Rattle.std.specs.FinMap.{FinMap, get, entries, entries_sorted, find, get-entries}
@@ -11,7 +11,7 @@ use Rattle.lists.proofs.Walk.{Cut, begins, ends, moves}
 use Rattle.exports.specs.Exports.{IsAmong, SendsFiles, SendsFirst, Shown}
 use Rattle.exports.proofs.SentFiles.{none_sent, sent_joined, sent_whole}
 
--- none was sent
+-- no file was sent
 pub none_first : {U F : Type 0} (s : State) (all : List (Place × File)) (o : Shown) (f : F) → SendsFirst {T = U} s all o o (Err f)
 none_first s all o f = record {
   first = [];
@@ -64,7 +64,7 @@ module _ (s : State) (m : FinMap place_cmp File) where
         sends = sent_joined s it.done ((k, x) ∷ []) old mid new tt (Ok tt) it.sends (sent_whole s ((k, x) ∷ []) mid new u (Ok tt) (sends x (get-entries m k ∙ there)));
       }
 
-  -- the next file broke off: before it was put, or behind that
+  -- the next file failed, before or after it was put
   pub walk_stops : {U E : Type 0} (after k : Place) (old mid new : Shown) (u : U) (e : E) (b : Bool) → Walked after old mid → IsNext place_cmp (IsAmong m) after (Some k)
       → ((f : File) → get m k ≡ Some f → SendsFiles {T = U} s (cond b ((k, f) ∷ []) []) mid new (Err e)) → SendsFirst {T = U} s (entries m) old new (Err e)
   walk_stops after k old mid new u e true it next sends =

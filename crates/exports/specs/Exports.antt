@@ -17,21 +17,21 @@ use Rattle.exports.specs.Names.{IsExportName, IsFolderName}
 
 -- ---- which files
 
--- the files of this box; all, where none is named
+-- the files of this box, or all files if no box is named
 abbrev pub files_in : Option (List ℕ) → State → FinMap place_cmp File
 files_in None s = s.files
 files_in (Some box) s = retain_keys s.files (λ place. same_bytes place.box box)
 
--- a file of these stands at the place
+-- one of these files is at the place
 abbrev pub IsAmong : FinMap place_cmp File → Place → Type 0
 IsAmong files place = IsSome (get files place)
 
--- the place is one of this box; any, where none is named
+-- the place is in this box; any place if no box is named
 abbrev pub IsIn : Option (List ℕ) → Place → Type 0
 IsIn None place = ⊤
 IsIn (Some box) place = place.box ≡ box
 
--- the place before all files of this box; before all, where none is named
+-- the place before all files of this box, or before all files if no box is named
 abbrev pub start_in : Option (List ℕ) → Place
 start_in None = record { box = []; name = [] }
 start_in (Some box) = record { box = box; name = [] }
@@ -41,7 +41,7 @@ named_box box = option_map (λ b. b.now) box
 
 -- ---- one file
 
--- where a file is exported that stands at the place with this receipt: the folder of the box, `/`, and its name
+-- the export path of the file at this place with this receipt number: the box's folder, `/`, and the exported name
 pub record IsPath (place : Place) (number : ℕ) (path : List ℕ) : Type 0 where
   pub folder : List ℕ
   pub is_folder : IsFolderName place.box folder
@@ -58,7 +58,7 @@ abbrev pub export_head : List (List ℕ)
 export_head = codes "path" ∷ codes "box" ∷ codes "name" ∷ codes "receipt" ∷ codes "length" ∷ codes "sha256" ∷ codes "moment"
     ∷ codes "key" ∷ []
 
--- the record of a file that is exported to the path, with its receipt
+-- the record of a file that is exported to this path
 pub record IsRecord (path : List ℕ) (place : Place) (f : File) (receipt : Receipt) (fields : List (List ℕ)) : Type 0 where
   pub moment : List ℕ
   pub is_moment : WritesMoment moment receipt.moment
@@ -83,7 +83,7 @@ pub record IsSum (file : Place × File) (text : List ℕ) : Type 0 where
 
 -- ---- an export
 
--- what stands in the folder and was written of the two lists, where that is known
+-- the folder's files and the text written to each list, if known
 pub record Shown : Type 0 where
   pub folder : Option (List PutFile)
   pub files : Option (List ℕ)
@@ -92,7 +92,8 @@ pub record Shown : Type 0 where
 abbrev pub shown : Option (List PutFile) → Option (List ℕ) → Option (List ℕ) → Shown
 shown folder files sums = record { folder = folder; files = files; sums = sums }
 
--- each of these files was put, once and in order; and of their rows and their sums a beginning was written, at a success all
+-- each of these files was put, once and in order; a beginning of their rows and of their sums was written, on success all of
+-- them
 pub record SendsFiles {T E : Type 0} (s : State) (first : List (Place × File)) (old new : Shown) (result : Result T E) : Type 0 where
   pub puts : List PutFile
   pub are_puts : AllZip IsPut first puts
@@ -104,14 +105,15 @@ pub record SendsFiles {T E : Type 0} (s : State) (first : List (Place × File)) 
   pub are_sums : AreLines IsSum first sum_lines
   pub sums : Sends sum_lines old.sums new.sums result
 
--- so of the first of these files, at a success of all
+-- the same for the first of these files, on success for all of them
 pub record SendsFirst {T E : Type 0} (s : State) (all : List (Place × File)) (old new : Shown) (result : Result T E) : Type 0 where
   pub first : List (Place × File)
   pub are_first : AreFirst all first result
   pub sends : SendsFiles s first old new result
 
--- The first of these files were put, each once under its path with its own bytes, in order; at a success all. Of the head, the rows
--- and the sums of just those a beginning was written, at a success the whole: so no row and no sum tells of a file that was not put.
+-- The first of these files were put, each once under its path with its own bytes, in order. On success all were put. A
+-- beginning of the header line and of just their rows and sums was written, on success all of it. So no row and no sum is about
+-- a file that was not put.
 pub record Exports {T E : Type 0} (s : State) (all : List (Place × File)) (old new : Shown) (result : Result T E) : Type 0 where
   pub first : List (Place × File)
   pub are_first : AreFirst all first result

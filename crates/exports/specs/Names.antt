@@ -1,4 +1,4 @@
--- Under which names files are exported.
+-- The names of exported files.
 use Rattle.std.specs.Prelude.{◌≡◌, ◌≢◌, ◌⊎◌, ◌==◌, ◌||◌, not, ℕ, ◌+◌, ◌-◌, ◌<◌, ◌≤◌, Bool, IsTrue, nat_le, List, [], ◌∷◌, ◌++◌, length, take, decimal, slice_index, codes, IsUtf8}
 use Rattle.std.specs.Str.{IsCharBoundary}
 
@@ -6,13 +6,13 @@ use Rattle.std.specs.Str.{IsCharBoundary}
 abbrev pub is_plain : ℕ → Bool
 is_plain b = not (nat_le b 31 || b == 127 || b == 47 || b == 92 || b == 58 || b == 42 || b == 63 || b == 34 || b == 60 || b == 62 || b == 124)
 
--- what follows the last slash of a name; the name itself, where it has none
+-- the part after the last slash of a name; the name itself if it has no slash
 pub record IsLastPart (name part : List ℕ) : Type 0 where
   pub before : List ℕ
   pub cut : (name ≡ part) ⊎ (name ≡ before ++ 47 ∷ part)
   pub no_slash : (i : ℕ) → i < length part → slice_index part i ≢ 47
 
--- as many characters of UTF-8 as n bytes hold
+-- as many whole UTF-8 characters as fit in n bytes
 pub record AreCharacters (n : ℕ) (text front : List ℕ) : Type 0 where
   pub size : ℕ
   pub is : front ≡ take size text
@@ -20,7 +20,7 @@ pub record AreCharacters (n : ℕ) (text front : List ℕ) : Type 0 where
   pub whole : IsCharBoundary text size
   pub most : (i : ℕ) → size < i → i ≤ n → IsCharBoundary text i → ⊥
 
--- as many characters as 200 bytes hold; none, where the bytes are no text
+-- as many whole characters as fit in 200 bytes; empty if the bytes are not UTF-8
 pub record IsFront (part front : List ℕ) : Type 0 where
   pub text : IsUtf8 part → AreCharacters 200 part front
   pub other : (IsUtf8 part → ⊥) → front ≡ []
@@ -29,26 +29,26 @@ pub record IsFront (part front : List ℕ) : Type 0 where
 abbrev pub AreDots : List ℕ → ℕ → Type 0
 AreDots text n = (i : ℕ) → i < n → slice_index text i ≡ 46
 
--- the byte of this index may stand in a file's name: it is plain, it is none of the dots at the beginning, and no dot and no space
--- at the end
+-- the byte at this index is allowed in a file's name: it is plain, not one of the dots at the beginning, and not a dot or a
+-- space at the end
 pub record MayStand (text : List ℕ) (i : ℕ) : Type 0 where
   pub plain : IsTrue (is_plain (slice_index text i))
   pub begun : AreDots text (i + 1) → ⊥
   pub no_dot : i + 1 ≡ length text → slice_index text i ≢ 46
   pub no_space : i + 1 ≡ length text → slice_index text i ≢ 32
 
--- these are the first bytes of the front: each that may stand in its place, and `_` for each other one
+-- these are the first bytes of the front: each allowed byte as it is, and `_` for each other byte
 pub record AreCleaned (front part : List ℕ) : Type 0 where
   pub size : length part ≤ length front
   pub kept : (i : ℕ) → i < length part → MayStand front i → slice_index part i ≡ slice_index front i
   pub other : (i : ℕ) → i < length part → (MayStand front i → ⊥) → slice_index part i ≡ 95
 
--- the whole front, cleaned; `_`, where it has no bytes
+-- the whole front, cleaned; `_` if it is empty
 pub record IsPart (front part : List ℕ) : Type 0 where
   pub none : length front ≡ 0 → part ≡ 95 ∷ []
   pub some : 0 < length front → AreCleaned front part × (length part ≡ length front)
 
--- the number, `-`, and what is taken of the name
+-- the number, `-`, and the cleaned last part of the name
 pub record IsExportName (number : ℕ) (name text : List ℕ) : Type 0 where
   pub last : List ℕ
   pub is_last : IsLastPart name last
@@ -58,15 +58,15 @@ pub record IsExportName (number : ℕ) (name text : List ℕ) : Type 0 where
   pub is_part : IsPart front part
   pub is : text ≡ decimal number ++ 45 ∷ part
 
--- what the folder of a box is called: as the box, but for one that has the name of a list beside the folders, whether letters are told
--- apart by their case or not
+-- the folder's name before cleaning: the box's name, except for a box named like a list beside the folders, even if case is
+-- ignored
 abbrev pub IsCalled : List ℕ → List ℕ → Type 0
 IsCalled box name =
     ((box ≡ codes "files.csv") × (name ≡ codes "files_csv"))
     ⊎ (((box ≡ codes "sha256sums") × (name ≡ codes "sha256_sums"))
     ⊎ ((box ≢ codes "files.csv") × (box ≢ codes "sha256sums") × (name ≡ box)))
 
--- the folder of a box: what it is called, cleaned alike. So a box `..` has no path out.
+-- the folder's name, cleaned like the name of a file. So a box `..` gives no path to the outside.
 pub record IsFolderName (box text : List ℕ) : Type 0 where
   pub called : List ℕ
   pub is_called : IsCalled box called
@@ -74,7 +74,8 @@ pub record IsFolderName (box text : List ℕ) : Type 0 where
   pub is_front : IsFront called front
   pub is_part : IsPart front text
 
--- one component of a path: each byte is plain, so none is a slash; it is neither `.` nor `..`, and has no dot and no space at its end
+-- a single path component: each byte is plain, so none is a slash; it is neither `.` nor `..`, and does not end with a dot or a
+-- space
 pub record IsComponent (text : List ℕ) : Type 0 where
   pub some : 0 < length text
   pub short : length text ≤ 255

@@ -10,7 +10,7 @@ pub enum ExportFault {
     /// The keeper failed.
     #[error("{0}")]
     Keep(KeepFault),
-    /// A file was not put.
+    /// A file could not be put.
     #[error("{0}")]
     Put(PutFault),
     /// A write of `files.csv` failed.
@@ -19,7 +19,7 @@ pub enum ExportFault {
     /// A write of `SHA256SUMS` failed.
     #[error("cannot write SHA256SUMS")]
     Sums,
-    /// Memory was refused.
+    /// Memory ran out.
     #[error("out of memory")]
     Memory,
 }

@@ -27,7 +27,7 @@ use std::alloc::Global;
 use std::io::Write;
 use wire::{Counted, send};
 
-// The place before all files of this box, or before all.
+// The place before all files of this box. Without a box, the place before all files.
 fn first_place(alloc: Global, in_box: Option<&[u8]>) -> Result<FilePlace, ExportFault>
     ensures start { IfOk result (λ p. place_in p ≡ start_in (named_box in_box.entry)) }
     ensures memory { IfErr result (λ f. f ≡ ExportFault.Memory) }
@@ -45,7 +45,7 @@ fn first_place(alloc: Global, in_box: Option<&[u8]>) -> Result<FilePlace, Export
     })
 }
 
-// The first file behind this place.
+// The first file after this place.
 fn next_of_all<K: Rolls>(
     alloc: Global,
     keeper: &mut K,
@@ -63,7 +63,7 @@ fn next_of_all<K: Rolls>(
     }
 }
 
-// The first file of the box behind this name.
+// The first file of the box after this name.
 fn next_of_box<K: Rolls>(
     alloc: Global,
     keeper: &mut K,
@@ -87,7 +87,7 @@ fn next_of_box<K: Rolls>(
     }
 }
 
-// The first file of the box behind this place, or of all.
+// The first file of the box after this place. Without a box, the first of all files after it.
 fn next_place<K: Rolls>(
     alloc: Global,
     keeper: &mut K,
@@ -109,7 +109,7 @@ fn next_place<K: Rolls>(
     }
 }
 
-// The file of this place.
+// The file at this place.
 fn file_at<K: Rolls>(keeper: &mut K, place: &FilePlace) -> Result<FileRow, ExportFault>
     ensures value { (s : State) → Meant K.Keeper keeper.old keeper.new s
         → IfOk result (λ file. IsFileAt s (place_in place.now) (Some file)) }
@@ -123,7 +123,7 @@ fn file_at<K: Rolls>(keeper: &mut K, place: &FilePlace) -> Result<FileRow, Expor
     }
 }
 
-// Puts a file, and writes what tells of it.
+// Puts a file, and writes its row and its sum.
 fn write_file<F: Folder, W: Write, V: Write>(
     texts: &ExportTexts,
     file: &FileRow,
@@ -157,7 +157,7 @@ fn write_file<F: Folder, W: Write, V: Write>(
     }
 }
 
-// Exports the file of this place.
+// Exports the file at this place.
 fn export_file<K: Rolls, F: Folder, W: Write, V: Write>(
     alloc: Global,
     keeper: &mut K,
@@ -180,7 +180,7 @@ fn export_file<K: Rolls, F: Folder, W: Write, V: Write>(
     write_file(&texts, &file, folder, files, sums)
 }
 
-// Exports the files of this box, or all.
+// Exports the files of this box, or all files.
 fn export_files<K: Rolls, F: Folder, W: Write, V: Write>(
     alloc: Global,
     keeper: &mut K,
@@ -208,7 +208,7 @@ fn export_files<K: Rolls, F: Folder, W: Write, V: Write>(
     Err(ExportFault::Memory)
 }
 
-// Writes the head of `files.csv`.
+// Writes the header line of `files.csv`.
 fn send_head<W: Write>(alloc: Global, files: &mut Counted<W>) -> Result<(), ExportFault>
     ensures sent { Sends (line export_head)
         (W.contents files.old.inner) (W.contents files.new.inner) result }
@@ -223,16 +223,16 @@ fn send_head<W: Write>(alloc: Global, files: &mut Counted<W>) -> Result<(), Expo
     }
 }
 
-/// Exports the files of an office that stand, or those of one box, ascending by their boxes and then by their names. Each is put into
-/// the folder under its path, which is the folder of its box (`folder_name`) and its name there (`export_name`). In `files` each has a
-/// row under the head `path,box,name,receipt,length,sha256,moment,key`: its path, its box and its name, the number of its receipt,
-/// its length in bytes, its digest in 64 lower-case digits, the moment as `20130524T000000Z`, and the id of the key that brought it. In
-/// `sums` each has a line, of its digest, two spaces and its path, as `sha256sum` checks it.
+/// Exports the current files of an office, or those of one box, sorted by box and then by name. The path of a file is the
+/// folder of its box (`folder_name`) and its name there (`export_name`). `files` gets a row per file under the header line
+/// `path,box,name,receipt,length,sha256,moment,key`: the path, the box, the name, the receipt's number, the length in bytes,
+/// the digest in 64 lower-case hex digits, the moment like `20130524T000000Z`, and the id of the key that uploaded the file.
+/// `sums` gets a line per file that `sha256sum` can check: the digest, two spaces and the path.
 ///
 /// # Errors
 ///
-/// `Keep` where the keeper failed, `Put` where a file was not put, `Files` and `Sums` where a write did, and `Memory` where memory
-/// was refused. The files that came before are put then, and of their rows and their lines a beginning is written.
+/// `Keep` if the keeper failed, `Put` if a file could not be put, `Files` or `Sums` if a write failed, `Memory` if memory ran
+/// out. The earlier files are then in the folder, and a beginning of their rows and their sums is written.
 pub fn export<K: Rolls, F: Folder, W: Write, V: Write>(
     alloc: Global,
     keeper: &mut K,

@@ -1,11 +1,11 @@
-//! The folder that files are put into.
+//! The folder that the files are exported to.
 ghost use Rattle.std.specs.Prelude.{◌∷◌, [], ◌++◌, List, None, OnErr, OnOk, Option};
 ghost use Rattle.exports.specs.Folders.{Adds, PutFile};
 ghost use Rattle.exports.specs.Names.{IsComponent};
 
 use thiserror::Error;
 
-/// Why a file was not put.
+/// Why a file could not be put.
 #[derive(Clone, Copy, Debug, PartialEq, Eq, Error)]
 pub enum PutFault {
     /// A file of this path is there already.
@@ -14,22 +14,21 @@ pub enum PutFault {
     /// The file could not be made or written whole.
     #[error("cannot write")]
     Write,
-    /// A growth was refused.
+    /// Memory ran out.
     #[error("out of memory")]
     Memory,
 }
 
-/// A folder of folders, into which files are put.
+/// A folder of folders that hold the files.
 pub trait Folder {
-    /// The files that were put whole, in their order, where they are known.
+    /// The files that were put whole, in order, if known.
     ghost holds: { Self → Option (List PutFile) } = { λ _. None };
 
-    /// Puts a file of this name and these bytes into the folder of this name. Both names are one component of a path each: so
-    /// nothing is put outside.
+    /// Puts a file with these bytes into a folder. Both names are a single path component, so nothing is put outside.
     ///
     /// # Errors
     ///
-    /// The file was not put whole: a part of it may be there.
+    /// The file was not put whole. A part of it may be there.
     fn put(&mut self, folder: &[u8], name: &[u8], bytes: &[u8]) -> Result<(), PutFault>
         requires folder { IsComponent folder.now }
         requires name { IsComponent name.now }

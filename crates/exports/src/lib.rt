@@ -1,4 +1,4 @@
-//! The files of an office, as files of a folder: under which names, and the lists of them.
+//! The export of an office's files to a folder: their names, and the lists about them.
 #![tactic(auto)]
 
 mod export_fault;

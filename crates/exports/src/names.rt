@@ -1,4 +1,4 @@
-//! Under which name a file is exported.
+//! The names of exported files.
 ghost use Rattle.std.specs.Prelude.{◌≡◌, ℕ, List, ◌⊎◌, ◌++◌, ◌∷◌, [], ◌<◌, ◌≤◌, ◌↔◌, IfOk, IsTrue, decimal, length, slice_index};
 ghost use Rattle.exports.specs.Names.{is_plain, AreDots, IsCalled, IsComponent, IsExportName, IsFolderName, IsFront, IsLastPart, IsPart, MayStand};
 
@@ -7,13 +7,13 @@ use memchr::memrchr;
 use std::alloc::{AllocError, Global};
 use std::str;
 
-/// The most bytes that are taken of a file's name.
+/// The most bytes of a file's name that are used.
 const MOST_PART: usize = 200;
 
-/// What stands in the place of a byte that may not stand there.
+/// The replacement for a byte that is not allowed.
 const STAND_IN: u8 = b'_';
 
-// What follows the last slash.
+// The part after the last slash.
 fn last_part(name: &[u8]) -> &[u8]
     ensures { IsLastPart name.now result.now }
 {
@@ -23,7 +23,7 @@ fn last_part(name: &[u8]) -> &[u8]
     }
 }
 
-// As many characters as 200 bytes hold; none, where the bytes are no text.
+// As many whole characters as fit in 200 bytes. Empty if the bytes are not UTF-8.
 fn front(part: &[u8]) -> &[u8]
     ensures { IsFront part.now result.now }
 {
@@ -33,7 +33,7 @@ fn front(part: &[u8]) -> &[u8]
     }
 }
 
-// Whether the byte may stand in a name: it is no control byte, and none of `/ \ : * ? " < > |`.
+// Whether the byte is allowed in a name: no control byte, and none of `/ \ : * ? " < > |`.
 fn is_plain(byte: u8) -> bool
     ensures { result ≡ is_plain byte }
 {
@@ -43,7 +43,7 @@ fn is_plain(byte: u8) -> bool
     )
 }
 
-// How many dots the text begins with.
+// The number of dots at the beginning of the text.
 fn dots(text: &[u8]) -> usize
     ensures bound { result ≤ length text.now }
     ensures are { AreDots text.now result }
@@ -57,7 +57,7 @@ fn dots(text: &[u8]) -> usize
     text.len()
 }
 
-// Whether the byte of this index may stand there, where so many dots are at the beginning.
+// Whether the byte at this index is allowed there. `dots` is the number of dots at the beginning.
 fn may_stand(text: &[u8], dots: usize, index: usize) -> bool
     requires inside { index < length text.now }
     requires are { AreDots text.now dots }
@@ -69,7 +69,7 @@ fn may_stand(text: &[u8], dots: usize, index: usize) -> bool
     is_plain(byte) && index >= dots && !(is_last && (byte == b'.' || byte == b' '))
 }
 
-// The byte of this index, or `_` where it may not stand there.
+// The byte at this index, or `_` if it is not allowed there.
 fn cleaned(text: &[u8], dots: usize, index: usize) -> u8
     requires inside { index < length text.now }
     requires are { AreDots text.now dots }
@@ -84,7 +84,7 @@ fn cleaned(text: &[u8], dots: usize, index: usize) -> u8
     }
 }
 
-// Puts the text behind what is there, with `_` for each byte that may not stand in its place, and for a text of no bytes.
+// Appends the text, with `_` for each byte that is not allowed in its place. Appends `_` for an empty text.
 fn push_part(text: &[u8], name: &mut Vec<u8>) -> Result<(), AllocError>
     ensures { IfOk result (λ done. (part : List ℕ) × IsPart text.now part
         × (name.new.items ≡ name.old.items ++ part)) }
@@ -100,10 +100,9 @@ fn push_part(text: &[u8], name: &mut Vec<u8>) -> Result<(), AllocError>
     Ok(())
 }
 
-/// Under which name a file is exported that stands under this name, with the receipt of this number: the number, `-`, and the
-/// last part of the name, which is what follows the last `/`. Of a part of more than 200 bytes the first characters are taken, as
-/// many as 200 bytes hold; of bytes that are no UTF-8 none. Then `_` stands for each control byte, each of `\ : * ? " < > |`, each
-/// dot at the beginning, and a dot or a space at the end; and for a part of which nothing is left.
+/// The exported name of a file: its receipt's number, `-`, and the part of its name after the last `/`. The part is cut to as
+/// many whole characters as fit in 200 bytes, and is empty if it is not UTF-8. `_` replaces each control byte, each of `\ : * ?
+/// " < > |`, each dot at the beginning, a dot or a space at the end, and an empty part.
 ///
 /// # Errors
 ///
@@ -119,7 +118,7 @@ pub fn export_name(alloc: Global, number: u64, name: &[u8]) -> Result<Vec<u8>, A
     Ok(text)
 }
 
-// What the folder of a box is called: not as a list that lies beside it, whether letters are told apart by their case or not.
+// The folder's name before cleaning. It differs from the names of the lists beside the folders, even if case is ignored.
 fn called<'a>(in_box: &'a [u8]) -> &'a [u8]
     ensures { IsCalled in_box.now result.now }
 {
@@ -132,9 +131,9 @@ fn called<'a>(in_box: &'a [u8]) -> &'a [u8]
     in_box
 }
 
-/// The name of the folder into which the files of a box are exported: the name of the box, with `_` for each dot at the beginning,
-/// and for one at the end. A box that has the name of a list beside the folders has it with a `_` within: `files_csv`,
-/// `sha256_sums`. In the name of no box stands a `_`, so distinct boxes have distinct folders.
+/// The name of the folder for a box's files: the box's name, with `_` for each dot at the beginning and for a dot at the end. A
+/// box named like a list beside the folders gets `files_csv` or `sha256_sums`. No box name has a `_`, so different boxes have
+/// different folders.
 ///
 /// # Errors
 ///

@@ -1,4 +1,4 @@
-//! The texts that tell of an exported file.
+//! The texts about an exported file.
 ghost use Rattle.std.specs.Prelude.{◌≡◌, ◌++◌, ◌∷◌, [], IfErr, IfOk, List, ℕ};
 ghost use Rattle.hex.specs.Hex.{encode_lower};
 ghost use Rattle.sigv4.specs.Hmac.{sha256};
@@ -19,7 +19,7 @@ use sigv4::Sha;
 use std::alloc::{AllocError, Global};
 use wire::hex_digits;
 
-/// The head of `files.csv`.
+/// The header line of `files.csv`.
 pub(crate) const EXPORT_HEAD: [&[u8]; 8] = [
     b"path", b"box", b"name", b"receipt", b"length", b"sha256", b"moment", b"key",
 ];
@@ -35,7 +35,7 @@ pub(crate) struct ExportPath {
     pub(crate) text: Vec<u8>,
 }
 
-/// What tells of an exported file.
+/// The texts about an exported file.
 #[derive(Drop)]
 pub(crate) struct ExportTexts {
     /// Where it is exported.
@@ -46,7 +46,7 @@ pub(crate) struct ExportTexts {
     pub(crate) sum: Vec<u8>,
 }
 
-// Where the file of this place and this receipt is exported.
+// Where the file at this place, with this receipt number, is exported.
 fn export_path(alloc: Global, place: &FilePlace, number: u64) -> Result<ExportPath, AllocError>
     ensures folder { IfOk result (λ p. IsFolderName (place_in place.now).box p.folder.items
         × IsComponent p.folder.items) }
@@ -62,7 +62,7 @@ fn export_path(alloc: Global, place: &FilePlace, number: u64) -> Result<ExportPa
     Ok(ExportPath { folder, name, text })
 }
 
-// The row of a file, with the digits of its digest.
+// The row of a file in `files.csv`. `digits` is its digest in hex.
 fn row_text<'a>(
     alloc: Global,
     place: &'a FilePlace,
@@ -94,7 +94,7 @@ fn row_text<'a>(
     }
 }
 
-// The line of a file in `SHA256SUMS`, with the digits of its digest.
+// The line of a file in `SHA256SUMS`. `digits` is its digest in hex.
 fn sum_text(alloc: Global, path: &[u8], digits: &[u8; 64]) -> Result<Vec<u8>, AllocError>
     ensures { IfOk result (λ text. text.items ≡ digits.now ++ (32 ∷ 32 ∷ path.now) ++ 10 ∷ []) }
 {
@@ -105,7 +105,7 @@ fn sum_text(alloc: Global, path: &[u8], digits: &[u8; 64]) -> Result<Vec<u8>, Al
     Ok(text)
 }
 
-/// What tells of the file that stands at this place.
+/// The texts about the file at this place.
 pub(crate) fn export_texts(
     alloc: Global,
     place: &FilePlace,

@@ -1,4 +1,4 @@
--- The boxes of a limited key, told one after another in their order.
+-- The boxes of a limited key, listed in order.
 use Rattle.std.proofs.Common.{◌≡◌, ◌∙◌, ℕ, List, [], ◌∷◌, ◌++◌, length, Some, None, Contains, inl, inr, refl, sym, ap, subst, arith, length-append}
 use Rattle.std.specs.Prelude.{◌⊎◌}
 use Rattle.std.specs.List.{AllByRecursion}
@@ -18,7 +18,7 @@ use Rattle.lists.proofs.NextFiles.{box_behind}
 use Rattle.lists.proofs.Orders.{not_itself, turned}
 
 module _ {K : Type 0} (R : K → K → Ordering) where
-  -- Those that are told stand, in their order; each other that stands is behind this key.
+  -- The listed keys satisfy `Stands` and are sorted. Every other key that satisfies it comes after this key.
   pub record Told (Stands : K → Type 0) (told : List K) (after : K) : Type 0 where
     pub each : (k : K) → Contains told k → Stands k
     pub ascend : IsStrictlySortedBy R told
@@ -84,7 +84,7 @@ module _ {K : Type 0} (R : K → K → Ordering) where
             go Equal e = inl (subst (Contains (told ++ k ∷ [])) (same k x e) (Contains-push told k))
             go Greater e = absurd (least x there less (total.antisymm x k ∙ turned (R k x) e))
 
--- ---- the last of those that are told
+-- ---- the last listed key
 
 no_end : (front : List (List ℕ)) (last : List ℕ) → [] ≡ front ++ last ∷ [] → ⊥
 no_end front last e = omega (arith, ap length e, length-append front (last ∷ []))

@@ -1,4 +1,4 @@
--- Which file comes next, by its box and then by its name.
+-- Which file comes next, in the order of boxes and then names.
 use Rattle.std.proofs.Common.{◌≡◌, ◌∙◌, ℕ, ◌<◌, List, [], ◌∷◌, length, Option, Some, None, inl, inr, refl, sym, ap, subst, arith}
 use Rattle.std.specs.Prelude.{◌⊎◌}
 use Rattle.std.specs.declared.cmp.Ordering.{Ordering}
@@ -43,7 +43,7 @@ parts a b less =
     other : Greater ≡ Less → ⊥
     other e = cc
 
--- ---- what stands
+-- ---- keys, boxes and files that exist
 
 name_there : (s : State) (place : Place) → IsSound s → IsFile s place → 0 < length place.name
 name_there s place sound there =
@@ -73,7 +73,7 @@ place_behind s place sound there = go (bytes_cmp [] place.box) refl
 box_there : (s : State) (place : Place) → IsSound s → IsFile s place → IsBox s place.box
 box_there s place sound there = let (f, is) = there_is _ there in file_in_box s place f sound is
 
--- ---- the file behind a place
+-- ---- the file after a place
 
 -- it is the next of the same box
 pub next_in_box : (s : State) (box name : List ℕ) (n : List ℕ) → IsNext bytes_cmp (IsFileIn s box) name (Some n)
@@ -91,7 +91,7 @@ next_in_box s box name n (stands, behind, least) = (
     go k there (inr a) (inl b) = not_itself bytes_total box (subst (λ t. bytes_cmp t box ≡ Less) (sym a.0) b)
     go k there (inr a) (inr b) = least k.name (subst (λ t. IsFile s (at t k.name)) (sym a.0) there) a.1 b.1
 
--- where there is none in the box, it is the first of the boxes behind
+-- if the box has no later file, it is the first file of the later boxes
 pub next_past : (s : State) (box name : List ℕ) (found : Option Place) → IsNext bytes_cmp (IsFileIn s box) name None
     → IsFirstPast s box found → IsNext place_cmp (IsFile s) (at box name) found
 next_past s box name None none past = λ k there after. go k there (parts (at box name) k after)
@@ -109,9 +109,9 @@ next_past s box name (Some f) none (stands, behind, least) = (
     go k there before (inl l) = least k (there, l) (by_box (at box []) k l) before
     go k there before (inr e) = none k.name (subst (λ t. IsFile s (at t k.name)) (sym e.0) there) e.1
 
--- ---- the first file of the boxes behind a box
+-- ---- the first file of the boxes after a box
 
--- the boxes up to here hold none
+-- the boxes up to here have no file
 pub record IsPast (s : State) (box here : List ℕ) : Type 0 where
   pub reached : (here ≡ box) ⊎ (bytes_cmp box here ≡ Less)
   pub none : (place : Place) → IsFile s place → bytes_cmp box place.box ≡ Less → bytes_cmp here place.box ≡ Less

@@ -10,6 +10,6 @@ turned Less e = absurd cc
 turned Equal e = absurd cc
 turned Greater e = refl
 
--- none is before itself
+-- no key is less than itself
 pub not_itself : {K : Type 0} {R : K → K → Ordering} → IsTotalOrder R → (k : K) → R k k ≡ Less → ⊥
 not_itself total k less = let tied = tied_itself total k in cc

@@ -1,4 +1,4 @@
--- Texts in a row.
+-- Joined texts.
 use Rattle.std.proofs.Common.{◌≡◌, ◌∙◌, ℕ, ◌+◌, ◌<◌, ◌-◌, List, [], ◌∷◌, ◌++◌, length, get_or, drop, map, Some, Vec, sym, ap, arith}
 use Rattle.std.specs.Prelude.{slice_get}
 use Rattle.std.specs.List.{join_with_byte}
@@ -18,11 +18,11 @@ last_cut (y ∷ xs) x is =
     let long : length (y ∷ xs) - 1 ≡ length xs = omega arith in
     last_at y xs x (is ∙ ap (λ (i : ℕ). slice_get (y ∷ xs) i) long)
 
--- the first text, and the byte before each other one
+-- the first text, and then each other text after the byte
 pub joined_first : (byte : ℕ) (text : List ℕ) (texts : List (List ℕ)) → join_with_byte byte (text ∷ texts) ≡ text ++ joined_behind (byte ∷ []) byte texts
 joined_first byte text texts = joined_behind-nothing byte (text ∷ texts) ∙ joined_behind-cons [] byte text texts
 
--- what is left at a text
+-- the remaining texts at an index
 pub joined_at : (byte : ℕ) (texts : List (Vec ℕ Global)) (i : ℕ) (d : Vec ℕ Global) → i < length texts
     → joined_behind (byte ∷ []) byte (map (λ t. t.items) (drop i texts))
     ≡ byte ∷ ((get_or texts i d).items ++ joined_behind (byte ∷ []) byte (map (λ t. t.items) (drop (i + 1) texts)))

@@ -1,4 +1,4 @@
--- The lines of what a keeper told of a state.
+-- The lines of a keeper's answers about a state.
 use Rattle.std.proofs.Common.{◌≡◌, ◌∙◌, ℕ, List, [], ◌∷◌, Some, decimal, refl, sym, ap, subst, arith}
 use Rattle.std.specs.Prelude.{option_map, slice_get}
 use Rattle.std.specs.FinMap.{get}
@@ -50,7 +50,7 @@ receipt_once s n q r a b =
     let place : a.place ≡ b.place = omega (arith, a.counted, b.counted) in
     same_Some q r (sym a.listed ∙ ap (λ (i : ℕ). slice_get s.receipts i) place ∙ b.listed)
 
--- the receipt that was told of a place
+-- the receipt that the keeper returned for a place
 pub told_listed : (s : State) (place : Place) (row : ReceiptRow) → IsReceiptAt s place (Some row) → HasReceipt s row.number (receipt_in row)
 told_listed s place row told = told.receipt row refl
 

@@ -1,4 +1,4 @@
--- A walk through the entries of a finite map, in the order of their keys.
+-- A walk through the entries of a finite map, in key order.
 use Rattle.std.proofs.Common.{◌≡◌, ◌∙◌, Bool, true, false, cond, List, [], ◌∷◌, ◌++◌, Option, Some, None, refl, sym, ap, subst, append_assoc}
 use Rattle.std.specs.Prelude.{T, ◌&&◌, IsSome}
 use Rattle.std.specs.List.{AllByRecursion}
@@ -39,24 +39,24 @@ some_of None h = absurd (no_true h)
 some_of (Some x) h = (x, refl)
 
 module _ {K X : Type 0} (R : K → K → Ordering) where
-  -- these entries are not behind the key
+  -- these entries do not come after the key
   abbrev pub ArePassed : K → List (K × X) → Type 0
   ArePassed after es = AllByRecursion (λ (e : K × X). R after e.0 ≡ Less → ⊥) es
 
-  -- the entries are cut at the key: those of the front are not behind it, and those of the rest are
+  -- the entries are cut at the key: those in front do not come after it, and the rest does
   pub record Cut (after : K) (es done rest : List (K × X)) : Type 0 where
     pub joined : es ≡ done ++ rest
     pub passed : ArePassed after done
     pub behind : T (below_all R after rest)
 
   module _ (total : IsTotalOrder R) (same : IsAntisymmetric R) where
-    -- an entry stands under its key
+    -- an entry is found under its key
     found_there : (done : List (K × X)) (e : K × X) (rest : List (K × X)) → IsSome (find R e.0 (done ++ e ∷ rest))
     found_there [] e rest = some_is _ e.1 (ap (λ r. cond (is_eq r) (Some e.1) (find R e.0 rest)) (tied_itself total e.0))
     found_there (d ∷ done) e rest =
         elim (eq_by_cmp R e.0 d.0) as (λ b. IsSome (cond b (Some d.1) (find R e.0 (done ++ e ∷ rest)))) [ true ↦ refl | false ↦ found_there done e rest ]
 
-    -- a key that is behind is none of the passed entries'
+    -- a later key is not among the passed entries
     not_passed : (after k : K) (done rest : List (K × X)) → ArePassed after done → R after k ≡ Less → find R k (done ++ rest) ≡ find R k rest
     not_passed after k [] rest passed less = refl
     not_passed after k (d ∷ done) rest passed less =
@@ -66,7 +66,7 @@ module _ {K X : Type 0} (R : K → K → Ordering) where
           | Greater ↦ λ e. not_passed after k done rest passed.1 less
         ] refl
 
-    -- what stands among entries behind a key is behind it
+    -- a key found among later entries is later
     stands_behind : (x k : K) (es : List (K × X)) → T (below_all R x es) → IsSome (find R k es) → R x k ≡ Less
     stands_behind x k [] below some = absurd (no_true some)
     stands_behind x k (e ∷ es) below some =
@@ -80,7 +80,7 @@ module _ {K X : Type 0} (R : K → K → Ordering) where
     sorted_rest [] rest sorted = sorted
     sorted_rest (d ∷ done) rest sorted = sorted_rest done rest (second _ _ sorted)
 
-    -- what was passed is passed still, further on
+    -- passed entries stay passed at a later key
     still_passed : (after k : K) (done : List (K × X)) → R after k ≡ Less → ArePassed after done → ArePassed k done
     still_passed after k [] less passed = tt
     still_passed after k (d ∷ done) less passed = ((λ l. passed.0 (total.trans after k d.0 less l)), still_passed after k done less passed.1)
@@ -89,7 +89,7 @@ module _ {K X : Type 0} (R : K → K → Ordering) where
     passed_push k x [] passed = ((λ l. not_itself total k l), tt)
     passed_push k x (d ∷ done) passed = (passed.0, passed_push k x done passed.1)
 
-    -- all are behind the key: the cut is at the front
+    -- all entries come after the key: the cut is at the front
     all_behind : (x : K) (es : List (K × X)) → T (is_sorted R es) → ((k : K) → IsSome (find R k es) → R x k ≡ Less) → T (below_all R x es)
     all_behind x [] sorted behind = tt
     all_behind x (e ∷ es) sorted behind =
@@ -102,14 +102,14 @@ module _ {K X : Type 0} (R : K → K → Ordering) where
     pub begins : (after : K) (es : List (K × X)) → T (is_sorted R es) → ((k : K) → IsSome (find R k es) → R after k ≡ Less) → Cut after es [] es
     begins after es sorted behind = record { joined = refl; passed = tt; behind = all_behind after es sorted behind }
 
-    -- nothing is behind: the rest is empty
+    -- no later key: the rest is empty
     pub ends : (after : K) (es done rest : List (K × X)) → Cut after es done rest
         → IsNext R (λ k. IsSome (find R k es)) after None → rest ≡ []
     ends after es done [] cut none = refl
     ends after es done (e ∷ rest) cut none =
         absurd (none e.0 (subst (λ xs. IsSome (find R e.0 xs)) (sym cut.joined) (found_there done e rest)) (less _ (first _ _ cut.behind)))
 
-    -- the next key is the first of the rest, and the cut moves behind it
+    -- the next key is the first of the rest, and the cut moves past it
     pub moves : (after : K) (es done rest : List (K × X)) (k : K) → T (is_sorted R es) → Cut after es done rest
         → IsNext R (λ q. IsSome (find R q es)) after (Some k)
         → (x : X) × (more : List (K × X)) × (find R k es ≡ Some x) × Cut k es (done ++ (k, x) ∷ []) more

@@ -1,4 +1,4 @@
--- A list that is written on a walk through the entries of a finite map.
+-- Writing a list while walking through the entries of a finite map.
 use Rattle.std.proofs.Common.{◌≡◌, ◌∙◌, ℕ, List, [], ◌∷◌, ◌++◌, Option, Some, None, Result, Ok, Err, refl, sym, subst}
 use Rattle.std.specs.Prelude.{IsSome, ⊤}
 use Rattle.std.specs.declared.cmp.Ordering.{Ordering}
@@ -13,9 +13,9 @@ use Rattle.rolls.specs.Next.{IsNext}
 use Rattle.lists.specs.Written.{SendsLines, WritesList}
 use Rattle.lists.proofs.Walk.{Cut, begins, ends, moves}
 
--- ---- the head, and the lines behind it
+-- ---- the header line and the lines after it
 
--- the head broke off
+-- writing the header line failed
 pub head_breaks : {A T U E F : Type 0} (head : List (List ℕ)) (IsLine : A → List ℕ → Type 0) (all : List A) (old new : Option (List ℕ)) (e : E) (f : F)
     → Sends {T = T} (line head) old new (Err e) → WritesList {T = U} head IsLine all old new (Err f)
 head_breaks head IsLine all old new e f sent = record {
@@ -48,14 +48,14 @@ module _ {K X : Type 0} {R : K → K → Ordering} (m : FinMap R X) (IsLine : K 
     pub lines : AreLines IsLine done text
     pub sent : Sends {T = ⊤} {E = ⊤} text old new (Ok tt)
 
-  -- a key stands in the map
+  -- the map has the key
   abbrev pub InMap : K → Type 0
   InMap k = IsSome (get m k)
 
   among : (after : K) (found : Option K) → IsNext R InMap after found → IsNext R (λ k. IsSome (find R k (entries m))) after found
   among after found next = subst (λ (g : K → Option X). IsNext R (λ k. IsSome (g k)) after found) (λ i k. get-entries m k i) next
 
-  -- whatever broke off
+  -- the walk stopped for any reason
   pub walk_breaks : {U F : Type 0} (after : K) (old new : Option (List ℕ)) (f : F) → Walked after old new → SendsLines {T = U} IsLine (entries m) old new (Err f)
   walk_breaks after old new f it = record {
     first = it.done;
@@ -100,7 +100,7 @@ module _ {K X : Type 0} {R : K → K → Ordering} (m : FinMap R X) (IsLine : K 
           sent = sends_both it.text line old mid new tt (Ok tt) it.sent (sends_whole u _ sent);
         }
 
-    -- the line of the next entry broke off
+    -- writing the line of the next entry failed
     pub walk_stops : {T U E F : Type 0} (after k : K) (line : List ℕ) (old mid new : Option (List ℕ)) (u : U) (e : E) (f : F) → Walked after old mid
         → IsNext R InMap after (Some k) → ((x : X) → get m k ≡ Some x → IsLine (k, x) line) → Sends {T = T} line mid new (Err e)
         → SendsLines {T = U} IsLine (entries m) old new (Err f)

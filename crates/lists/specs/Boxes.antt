@@ -12,7 +12,7 @@ abbrev pub boxes_head : List (List ℕ)
 boxes_head = codes "box" ∷ codes "opens" ∷ codes "closes" ∷ codes "days" ∷ codes "from" ∷ codes "to" ∷ codes "quota"
     ∷ codes "files" ∷ codes "mode" ∷ codes "rule" ∷ codes "used" ∷ codes "count" ∷ []
 
--- the record of a box under this name, with these settings, that holds so many bytes and so many files
+-- the record of a box with this name and these settings that holds `bytes` bytes and `files` files
 pub record IsBoxRecord (name : List ℕ) (b : Settings) (bytes files : ℕ) (fields : List (List ℕ)) : Type 0 where
   pub opens : List ℕ
   pub closes : List ℕ
@@ -22,7 +22,7 @@ pub record IsBoxRecord (name : List ℕ) (b : Settings) (bytes files : ℕ) (fie
       ∷ decimal b.quota ∷ decimal b.max_files ∷ mode_word b.mode ∷ join_with_byte 32 (rule_words b.rule) ∷ decimal bytes
       ∷ decimal files ∷ []
 
--- the line of a box under its name
+-- the line of a box, given with its name
 abbrev pub IsBoxLine : State → List ℕ × Settings → List ℕ → Type 0
 IsBoxLine s it text = (fields : List (List ℕ)) × IsBoxRecord it.0 it.1 (used s it.0) (count s it.0) fields × (text ≡ line fields)
 

@@ -10,7 +10,7 @@ use Rattle.desk.specs.Lists.{line}
 abbrev pub files_head : List (List ℕ)
 files_head = codes "box" ∷ codes "name" ∷ codes "length" ∷ codes "sha256" ∷ codes "receipt" ∷ codes "moment" ∷ codes "key" ∷ []
 
--- the record of the file that stands at a place: what it holds, and when and by whom its receipt says that it came
+-- the record of the file at a place: length and digest, and its receipt's moment and key
 pub record IsFileRecord (s : State) (place : Place) (f : File) (fields : List (List ℕ)) : Type 0 where
   pub receipt : Receipt
   pub listed : HasReceipt s f.receipt receipt
@@ -19,11 +19,11 @@ pub record IsFileRecord (s : State) (place : Place) (f : File) (fields : List (L
   pub are : fields ≡ place.box ∷ place.name ∷ decimal (length f.bytes) ∷ encode_lower (sha256 f.bytes) ∷ decimal f.receipt
       ∷ moment ∷ receipt.key ∷ []
 
--- the line of a file under its place
+-- the line of a file, given with its place
 abbrev pub IsFileLine : State → Place × File → List ℕ → Type 0
 IsFileLine s file text = (fields : List (List ℕ)) × IsFileRecord s file.0 file.1 fields × (text ≡ line fields)
 
--- the record of a place with a receipt and its number
+-- the record of a place and a numbered receipt
 pub record IsPlacedRecord (place : Place) (receipt : ℕ × Receipt) (fields : List (List ℕ)) : Type 0 where
   pub moment : List ℕ
   pub is_moment : WritesMoment moment receipt.1.moment

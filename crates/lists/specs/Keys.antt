@@ -20,11 +20,11 @@ pub record AreLimits (s : State) (id : List ℕ) (boxes : List (List ℕ)) : Typ
   pub each : (box : List ℕ) → Contains boxes box ↔ IsLimitedTo s id box
   pub ascend : IsStrictlySortedBy bytes_cmp boxes
 
--- the last of the texts; the empty text, where there is none
+-- the last text, or the empty text if there is none
 abbrev pub IsLast : List (List ℕ) → List ℕ → Type 0
 IsLast texts last = ((texts ≡ []) × (last ≡ [])) ⊎ ((front : List (List ℕ)) × (texts ≡ front ++ last ∷ []))
 
--- the line of a key under its id
+-- the line of a key, given with its id
 abbrev pub IsKeyLine : State → List ℕ × Key → List ℕ → Type 0
 IsKeyLine s key text = (boxes : List (List ℕ)) × AreLimits s key.0 boxes
     × (text ≡ line (key.0 ∷ role_word key.1.role ∷ answer_word key.1.revoked ∷ join_with_byte 32 boxes ∷ []))

@@ -1,4 +1,4 @@
--- Where the files lie, in their order.
+-- The places of the files, in order.
 use Rattle.std.specs.Prelude.{◌≡◌, ℕ, List, [], Option}
 use Rattle.std.specs.declared.cmp.Ordering.TheVariants.{Less}
 use Rattle.sigtext.specs.Bytes.{bytes_cmp}
@@ -9,7 +9,7 @@ use Rattle.lists.specs.declared.places.FilePlace.{FilePlace}
 abbrev pub place_in : FilePlace → Place
 place_in p = record { box = p.in_box.items; name = p.name.items }
 
--- the first of the files whose boxes are behind this one
+-- the first file in the boxes after this one
 abbrev pub IsFirstPast : State → List ℕ → Option Place → Type 0
 IsFirstPast s box found =
     IsNext place_cmp (λ place. IsFile s place × (bytes_cmp box place.box ≡ Less)) (record { box = box; name = [] }) found

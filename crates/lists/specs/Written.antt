@@ -1,15 +1,16 @@
--- What was written of a list whose lines tell of entries, one line each.
+-- Writing a list with one line per entry.
 use Rattle.std.specs.Prelude.{◌≡◌, ℕ, List, [], ◌++◌, Option, Result, OnOk}
 use Rattle.wire.specs.Sending.{Sends}
 use Rattle.desk.specs.Lists.{AreLines, IsTable}
 
--- these are the first of all; at a success all
+-- these are the first of all entries; on success they are all
 pub record AreFirst {A T E : Type 0} (all first : List A) (result : Result T E) : Type 0 where
   pub rest : List A
   pub cut : all ≡ first ++ rest
   pub whole : OnOk result (rest ≡ [])
 
--- the head and the lines of the first entries were written, the last of them perhaps in part; at a success those of all
+-- the header line and the lines of the first entries were written, the last one perhaps in part; on success all lines were
+-- written
 pub record WritesList {A T E : Type 0} (head : List (List ℕ)) (IsLine : A → List ℕ → Type 0) (all : List A) (old new : Option (List ℕ)) (result : Result T E) : Type 0 where
   pub first : List A
   pub are_first : AreFirst all first result
@@ -17,7 +18,7 @@ pub record WritesList {A T E : Type 0} (head : List (List ℕ)) (IsLine : A → 
   pub table : IsTable head IsLine first text
   pub sent : Sends text old new result
 
--- the same of the lines alone
+-- the same for the lines alone
 pub record SendsLines {A T E : Type 0} (IsLine : A → List ℕ → Type 0) (all : List A) (old new : Option (List ℕ)) (result : Result T E) : Type 0 where
   pub first : List A
   pub are_first : AreFirst all first result

@@ -23,22 +23,22 @@ use std::alloc::Global;
 use std::io::Write;
 use wire::Counted;
 
-/// The head of a list of boxes.
+/// The header line of a list of boxes.
 const BOXES_HEAD: [&[u8]; 12] = [
     b"box", b"opens", b"closes", b"days", b"from", b"to", b"quota", b"files", b"mode", b"rule",
     b"used", b"count",
 ];
 
-/// A box as it is listed.
+/// A box in the list.
 #[derive(Drop)]
 struct ListedBox {
     name: Vec<u8>,
     row: BoxRow,
-    /// What it holds.
+    /// The bytes and files that it holds.
     totals: Totals,
 }
 
-// The first box behind this name.
+// The first box after this name.
 fn next_box<K: Rolls>(keeper: &mut K, after: &[u8]) -> Result<Option<ListedBox>, ListFault>
     ensures next { (s : State) → Meant K.Keeper keeper.old keeper.new s → IfOk result (λ found.
         IsNext bytes_cmp (IsBox s) after.now (option_map (λ b. b.name.items) found)) }
@@ -122,15 +122,15 @@ fn send_boxes<K: Rolls, W: Write>(
     Err(ListFault::Memory)
 }
 
-/// Writes the boxes of an office as a list in CSV, ascending by their names. The head is
-/// `box,opens,closes,days,from,to,quota,files,mode,rule,used,count`: the box's name, two moments as `20130524T000000Z`, a digit
-/// for each day from Monday on, two times as `HHmm`, how many bytes and files it may hold, `keep` or `replace`, its name rule as
-/// `any`, `ends .pdf,.zip` or `begins offer-`, and how many bytes and files it holds.
+/// Writes the boxes of an office as CSV, sorted by name. The header line is
+/// `box,opens,closes,days,from,to,quota,files,mode,rule,used,count`: the name, two moments like `20130524T000000Z`, a digit for
+/// each day from Monday on, two times like `HHmm`, the most bytes and files, `keep` or `replace`, the name rule as `any`, `ends
+/// .pdf,.zip` or `begins offer-`, and the bytes and files that the box holds.
 ///
 /// # Errors
 ///
-/// `Keep` where the keeper failed, `Write` where a write did, `Memory` where memory was refused. What was written is then a
-/// beginning of the list.
+/// `Keep` if the keeper failed, `Write` if a write failed, `Memory` if memory ran out. The output is then a beginning of the
+/// list.
 pub fn list_boxes<K: Rolls, W: Write>(
     alloc: Global,
     keeper: &mut K,

@@ -23,19 +23,19 @@ use std::alloc::Global;
 use std::io::Write;
 use wire::{Counted, hex_digits};
 
-/// The head of a list of files.
+/// The header line of a list of files.
 const FILES_HEAD: [&[u8]; 7] = [
     b"box", b"name", b"length", b"sha256", b"receipt", b"moment", b"key",
 ];
 
-/// A file as it is listed.
+/// A file in the list.
 #[derive(Drop)]
 struct ListedFile {
     place: FilePlace,
     receipt: ReceiptRow,
 }
 
-// The first file behind this place.
+// The first file after this place.
 fn next_listed<K: Rolls>(
     alloc: Global,
     keeper: &mut K,
@@ -109,14 +109,14 @@ fn send_files<K: Rolls, W: Write>(
     Err(ListFault::Memory)
 }
 
-/// Writes the files of an office that stand as a list in CSV, ascending by their boxes and then by their names. The head is
-/// `box,name,length,sha256,receipt,moment,key`: the file's box, name and length in bytes, its digest in 64 lower-case digits,
-/// the number of its receipt, the receipt's moment as `20130524T000000Z`, and the id of the key that brought the file.
+/// Writes the current files of an office as CSV, sorted by box and then by name. The header line is
+/// `box,name,length,sha256,receipt,moment,key`: the box, the name, the length in bytes, the digest in 64 lower-case hex digits,
+/// the receipt's number, the receipt's moment like `20130524T000000Z`, and the id of the key that uploaded the file.
 ///
 /// # Errors
 ///
-/// `Keep` where the keeper failed, `Write` where a write did, `Memory` where memory was refused. What was written is then a
-/// beginning of the list.
+/// `Keep` if the keeper failed, `Write` if a write failed, `Memory` if memory ran out. The output is then a beginning of the
+/// list.
 pub fn list_files<K: Rolls, W: Write>(
     alloc: Global,
     keeper: &mut K,

@@ -23,10 +23,10 @@ use std::alloc::Global;
 use std::io::Write;
 use wire::Counted;
 
-/// The head of a list of keys.
+/// The header line of a list of keys.
 const KEYS_HEAD: [&[u8]; 4] = [b"key", b"role", b"revoked", b"boxes"];
 
-/// A key as it is listed.
+/// A key in the list.
 #[derive(Drop)]
 struct ListedKey {
     id: Vec<u8>,
@@ -35,7 +35,7 @@ struct ListedKey {
     boxes: Vec<Vec<u8>>,
 }
 
-// The last of the texts; the empty text, where there is none.
+// The last text, or the empty text if there is none.
 fn last_of(texts: &[Vec<u8>]) -> &[u8]
     ensures { IsLast (map (λ t. t.items) texts.now) result.now }
 {
@@ -66,7 +66,7 @@ fn boxes_of<K: Rolls>(alloc: Global, keeper: &mut K, id: &[u8]) -> Result<Vec<Ve
     Err(ListFault::Memory)
 }
 
-// The first key behind this id.
+// The first key after this id.
 fn next_key<K: Rolls>(
     alloc: Global,
     keeper: &mut K,
@@ -139,14 +139,14 @@ fn send_keys<K: Rolls, W: Write>(
     Err(ListFault::Memory)
 }
 
-/// Writes the keys of an office as a list in CSV, ascending by their ids. The head is `key,role,revoked,boxes`: the key's id,
-/// `clerk` or `link`, `yes` or `no`, and the names of the boxes that it is limited to, ascending, one space apart; no name, where
-/// it is not limited. The secrets are not told.
+/// Writes the keys of an office as CSV, sorted by id. The header line is `key,role,revoked,boxes`: the id, `clerk` or `link`,
+/// `yes` or `no`, and the names of the boxes that the key is limited to, sorted and separated by a space. The last field is
+/// empty if the key has no limit. Secrets are not written.
 ///
 /// # Errors
 ///
-/// `Keep` where the keeper failed, `Write` where a write did, `Memory` where memory was refused. What was written is then a
-/// beginning of the list.
+/// `Keep` if the keeper failed, `Write` if a write failed, `Memory` if memory ran out. The output is then a beginning of the
+/// list.
 pub fn list_keys<K: Rolls, W: Write>(
     alloc: Global,
     keeper: &mut K,

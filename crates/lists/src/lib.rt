@@ -1,4 +1,4 @@
-//! Lists of what an office keeps, in CSV: its keys, its boxes and its files.
+//! Lists of an office's keys, boxes and files, in CSV.
 #![tactic(auto)]
 
 mod box_list;

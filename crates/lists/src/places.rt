@@ -1,4 +1,4 @@
-//! Where the files lie, in their order.
+//! The places of the files, in order.
 ghost use Rattle.std.specs.Prelude.{IfErr, IfOk, option_map};
 ghost use Rattle.boxes.specs.State.{place_cmp, Place, State};
 ghost use Rattle.keeper.specs.Bound.{StaysBy};
@@ -11,7 +11,7 @@ use desk::ListFault;
 use rolls::Rolls;
 use std::alloc::Global;
 
-/// Where a file lies.
+/// The place of a file.
 #[derive(Debug, Drop)]
 pub struct FilePlace {
     /// The name of the box.
@@ -20,7 +20,7 @@ pub struct FilePlace {
     pub name: Vec<u8>,
 }
 
-// The first file of the boxes behind this one.
+// The first file in the boxes after this one.
 fn file_past<K: Rolls>(
     alloc: Global,
     keeper: &mut K,
@@ -49,12 +49,12 @@ fn file_past<K: Rolls>(
     Err(ListFault::Memory)
 }
 
-/// The first file behind this place: by its box, and then by its name. The place need not be one of a file: every file comes
-/// behind the place of two empty texts.
+/// The first file after this place, in the order of boxes and then names. There need not be a file at this place. Every file
+/// comes after the place of two empty texts.
 ///
 /// # Errors
 ///
-/// `Keep` where the keeper failed, `Memory` where memory was refused.
+/// `Keep` if the keeper failed, `Memory` if memory ran out.
 pub fn next_file<K: Rolls>(
     alloc: Global,
     keeper: &mut K,

@@ -1,4 +1,4 @@
-//! The words of a list's fields.
+//! The texts of a list's fields.
 ghost use Rattle.std.specs.Prelude.{◌≡◌, ◌+◌, ◌%◌, IfOk, map};
 ghost use Rattle.std.specs.List.{join_with_byte};
 ghost use Rattle.boxes.specs.Rows.{name_rule_of};
@@ -38,7 +38,7 @@ pub(crate) fn answer_text<'a>(answer: bool) -> &'a [u8]
     }
 }
 
-// 1 where the box is open on the day.
+// `1` if the box is open on the day, else `0`.
 fn digit_of(is_open: bool) -> u8
     ensures { result ≡ day_digit is_open }
 {
@@ -48,7 +48,7 @@ fn digit_of(is_open: bool) -> u8
     }
 }
 
-/// A digit for each day, Monday first: 1 where the box is open on it.
+/// A digit for each day, Monday first: `1` if the box is open on it, else `0`.
 pub(crate) fn days_text(days: &[bool; 7]) -> [u8; 7]
     ensures { result ≡ days_word days.now }
 {
@@ -93,7 +93,7 @@ pub(crate) fn minute_text(minute: u16) -> [u8; 4]
     ]
 }
 
-/// The texts in a row, this byte between each two.
+/// The texts joined, with this byte between them.
 pub(crate) fn joined(alloc: Global, texts: &[Vec<u8>], between: u8) -> Result<Vec<u8>, AllocError>
     ensures { IfOk result (λ text.
         text.items ≡ join_with_byte between (map (λ t. t.items) texts.now)) }

@@ -1,4 +1,4 @@
-//! A listener that counts what it did.
+//! A listener that counts the connections it opens and closes.
 ghost use Rattle.std.specs.Prelude.{◌≡◌, ◌++◌, ◌∷◌, [], IfOk, List, true};
 ghost use Rattle.peers.specs.Counts.{Counts};
 ghost use Rattle.sockets.specs.Listening.{Event, closed};
@@ -13,18 +13,18 @@ use std::os::fd::{AsRawFd, RawFd};
 use std::{io, time};
 use wire::{Gathered, Outbox};
 
-/// A listener that counts what it did. A count stays at 2^64 - 1.
+/// A listener that counts the connections it opens and closes. A count stops at 2^64 - 1.
 #[derive(Drop)]
 pub struct Counting<L> {
     inner: L,
-    /// How many connections it handed out the ends of.
+    /// Connections opened.
     pub opened: u64,
-    /// How many were given back to it.
+    /// Connections closed.
     pub closed: u64,
 }
 
 impl<L> Counting<L> {
-    /// Counts from now on what the listener does.
+    /// Starts both counts at 0.
     pub fn new(inner: L) -> Counting<L>
         ensures inner { result.inner ≡ inner }
         ensures none { (result.opened ≡ 0) × (result.closed ≡ 0) }
@@ -84,8 +84,8 @@ impl<L: Listener> Listener for Counting<L> {
     }
 }
 
-/// Serves the connections of a listener that counts, and gives it back: it opened as many as came, and was given back as many once
-/// all have gone.
+/// Serves the connections of a listener, and returns it with its counts. It has opened every connection that came. It has
+/// closed as many if all connections are gone.
 pub fn serve_counted<K: Keeper, C: Clock, R: time::Clock>(
     rt: &R,
     poll: Poll,

@@ -1,5 +1,4 @@
-//! Tests over sockets: peers and the loop that serves them, in one process. It gives a listener that counts, by which they tell what
-//! went on.
+//! Tests over sockets, with the peers and the serving loop in one process. The crate exports a counting listener for them.
 #![tactic(auto)]
 
 mod counting;

@@ -1,4 +1,4 @@
-//! Peers over loopback. They send all that they send before they are served.
+//! Peers over loopback. They send everything before they are served.
 use crate::counting::{Counting, serve_counted};
 use mio::Poll;
 use office::{FixedClock, Seat};
@@ -11,7 +11,7 @@ use std::time::Duration;
 use trials::published::{DATE, NO_BOX, REQUEST, make_office};
 use wire::{Gathered, Outbox};
 
-// So many connections, of which so many may be open at a time, within a second of patience.
+// Limits of `connections` connections, at most `open` open at a time, and a timeout of one second.
 fn limits(connections: u64, open: usize) -> Limits {
     Limits {
         connections,
@@ -20,7 +20,7 @@ fn limits(connections: u64, open: usize) -> Limits {
     }
 }
 
-// So many connections at a listener, of which so many may be open at a time.
+// Serves `connections` connections, at most `open` at a time.
 fn served(
     rt: &HostRuntime,
     listener: TcpListener,
@@ -35,7 +35,7 @@ fn served(
     Ok(serve(rt, poll, &mut office, listener, limits, &mut clock).outcome?)
 }
 
-// The same of a listener that counts.
+// The same with a counting listener.
 fn counted(
     rt: &HostRuntime,
     listener: TcpListener,
@@ -51,14 +51,14 @@ fn counted(
     Ok((served.outcome?, served.listener))
 }
 
-// The two ends of a connection that is there.
+// The reading and the writing end of a waiting connection.
 fn opened(rt: &HostRuntime, listener: &mut TcpListener) -> Result<(TcpEnd, TcpEnd), Fail> {
     let stream = Listener::accept(listener)?.ok_or("no connection")?;
     let ends = Listener::open(listener, rt.alloc(), stream).map_err(|unready| unready.error)?;
     Ok(ends)
 }
 
-// All that a peer is sent.
+// Everything that is sent to the peer.
 fn taken(rt: &HostRuntime, peer: &mut TcpStream) -> Result<Vec<u8>, Fail> {
     let mut answers = Vec::new(rt.alloc());
     peer.read_to_end(&mut answers)?;

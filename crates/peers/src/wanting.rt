@@ -1,4 +1,4 @@
-//! A listener of a system that has no descriptor for a while.
+//! A listener while the system has no descriptor left.
 use mio::Poll;
 use office::{FixedClock, Seat};
 use sigv4::Moment;
@@ -13,21 +13,21 @@ use std::time::Duration;
 use trials::published::{DATE, REQUEST, make_office};
 use wire::{Gathered, Outbox};
 
-/// The number by which the system says that it has no descriptor left.
+/// The system's error number for "no descriptor left" (ENFILE).
 const NO_DESCRIPTOR: i32 = 23;
 
-// A listener that accepts so many, and then nobody for so many calls.
+// A listener that accepts `before` connections, and then fails `fails` times.
 #[derive(Drop)]
 struct Wanting {
     inner: TcpListener,
     before: u64,
     fails: u64,
-    // How many connections were given back in the meantime.
+    // Connections closed while it fails.
     gone: u64,
 }
 
 impl Wanting {
-    // Whether nobody can be accepted now.
+    // Whether accepting fails now.
     fn is_wanting(&self) -> bool {
         self.before == 0 && self.fails > 0
     }
@@ -85,8 +85,8 @@ impl Listener for Wanting {
     }
 }
 
-// Of eight that are silent one goes for the want. It does not help, so the next go a tenth of a second apart, one for two calls at
-// the most, and not one after another until all have gone.
+// One of eight idle connections is closed to free a descriptor. That does not help. So the next ones are closed a tenth of a
+// second apart, at most one per two calls, and not all at once.
 #[test]
 fn where_it_does_not_help_the_others_stay(rt: HostRuntime) -> Result<(), Fail> {
     let inner = TcpListener::bind(&rt, "127.0.0.1:0")?;

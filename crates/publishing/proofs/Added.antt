@@ -1,4 +1,4 @@
--- A receipt that is added to what is published.
+-- Adding a receipt to a published manifest.
 use Rattle.std.proofs.Common.{◌≡◌, ◌∙◌, ℕ, ◌+◌, List, [], ◌∷◌, ◌++◌, length, Option, None, Some, Result, Ok, Err, OnOk, OnErr, refl, sym, ap, subst, append_assoc, arith}
 use Rattle.boxes.specs.State.{Receipt, State}
 use Rattle.boxes.specs.Rows.{numbered}
@@ -22,12 +22,12 @@ pub on_err_more : {T E A B : Type 0} (r : Result T E) → OnErr r A → (A → B
 on_err_more (Ok x) a more = tt
 on_err_more (Err e) a more = more a
 
--- a change of the rules is one whatever is staged
+-- a change allowed with the staged bytes is allowed whatever is staged
 pub may_change : (Stages : List ℕ → Type 0) (s : State) (c : Change) (after : State) → IsChangeOf Stages s c after → MayChange s c after
 may_change Stages s (change.SetFile f) after is = (is.0, tt, is.2)
 may_change Stages s (change.Desk c) after is = is
 
--- a command of the desk leaves the receipts
+-- a desk command does not change the receipts
 pub same_receipts : (s after : State) (c : Command) → CommandStep s c after → after.receipts ≡ s.receipts
 same_receipts s _ _ (key_added id role secret) = refl
 same_receipts s _ _ (key_revoked id k there) = refl
@@ -41,7 +41,7 @@ pub published_as : (s after : State) (contents : Option (List ℕ)) → after.re
 published_as s after None same published = tt
 published_as s after (Some text) same published = subst (λ rs. IsTable manifest_head IsReceiptLine (numbered 1 rs) text) (sym same) published
 
--- the receipts of a state in which a file is set
+-- the receipts after a file is set
 receipts_with : (s after : State) (f : NewFile) (bytes : List ℕ) → IsFileSet s f bytes after → numbered 1 after.receipts ≡ numbered 1 s.receipts ++ set_receipt f ∷ []
 receipts_with s after f bytes set =
     let number : 1 + length s.receipts ≡ f.number = omega (arith, set.file.number) in

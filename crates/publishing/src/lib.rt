@@ -1,4 +1,4 @@
-//! A keeper that publishes: the manifest of its office stands beside it, and each new receipt is added there.
+//! A keeper that publishes the manifest of its office, and adds each new receipt to it.
 #![tactic(auto)]
 
 mod publisher;

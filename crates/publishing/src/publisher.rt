@@ -17,21 +17,21 @@ use std::alloc::{AllocError, Global};
 use std::io::Write;
 use wire::Counted;
 
-/// Hands each call on to a keeper, and adds each receipt that an upload makes to a manifest that stands on a sheet. Where that
-/// fails a line on `err` says so, once, and the keeper goes on without it.
+/// Passes each call on to a keeper, and adds the receipt of each upload to a manifest on a sheet. If that fails, one line on
+/// `err` says so, and the keeper goes on without the manifest.
 #[derive(Drop)]
 pub struct Publisher<'k, K, S: Drop, E: Drop> {
     pub(crate) keeper: &'k mut K,
     pub(crate) sheet: S,
     pub(crate) err: E,
-    // Whether the manifest on the sheet is whole so far.
+    // Whether the manifest on the sheet is complete so far.
     pub(crate) is_whole: bool,
     pub(crate) alloc: Global,
 }
 
 impl<'k, K: Keeper, S: Sheet + Drop, E: Write + Drop> Publisher<'k, K, S, E> {
-    /// Puts the manifest of what is kept on a sheet where nothing stands. It is in memory as a whole meanwhile. Where the keeper
-    /// or the sheet fails, or memory is refused, that is told, and the manifest is not whole.
+    /// Writes the manifest of the keeper's office to an empty sheet. The whole manifest is held in memory meanwhile. If the
+    /// keeper or the sheet fails, or memory runs out, a line on `err` says so, and the manifest is not complete.
     pub fn begin(alloc: Global, keeper: &'k mut K, sheet: S, err: E) -> Publisher<'k, K, S, E>
         ensures keeper { result.keeper.ghost_name ≡ keeper.entry.ghost_name }
         ensures means { (s : State) → K.means keeper.entry.now s → IsBlank (S.text sheet)
@@ -66,7 +66,7 @@ impl<'k, K: Keeper, S: Sheet + Drop, E: Write + Drop> Publisher<'k, K, S, E> {
         publisher
     }
 
-    /// Whether the manifest on the sheet is that of what is kept.
+    /// Whether the sheet holds the manifest of the keeper's office.
     pub fn is_whole(&self) -> bool
         ensures whole { result ≡ self.now.is_whole }
         ensures published { (s : State)
@@ -78,7 +78,7 @@ impl<'k, K: Keeper, S: Sheet + Drop, E: Write + Drop> Publisher<'k, K, S, E> {
     }
 }
 
-// The manifest of what is kept.
+// The manifest of the keeper's office.
 fn manifest_text<K: Keeper>(alloc: Global, keeper: &mut K) -> Result<Vec<u8>, ListFault>
     ensures text { (s : State) → K.means keeper.old s → IsSound s → K.is_honest keeper.new
         → IfOk result (λ text. IsPublished s (Some text.items)) }
@@ -102,7 +102,7 @@ fn receipt_text(alloc: Global, file: &NewFile<'_>) -> Result<Vec<u8>, ListFault>
     }
 }
 
-// The receipt of a file that is set.
+// The receipt of a file.
 fn new_receipt(alloc: Global, file: &NewFile<'_>) -> Result<ReceiptRow, AllocError>
     ensures { IfOk result (λ r. numbered_receipt r ≡ set_receipt file.now) }
 {
@@ -118,7 +118,7 @@ fn new_receipt(alloc: Global, file: &NewFile<'_>) -> Result<ReceiptRow, AllocErr
 }
 
 impl<K, S: Sheet + Drop, E: Write + Drop> Publisher<'_, K, S, E> {
-    /// Nothing is added any more, which is told.
+    /// Gives the manifest up and says so on `err`. No more lines are added.
     pub fn give_up(&mut self)
         ensures sheet { self.new.sheet ≡ self.old.sheet }
         ensures none { self.new.is_whole ≡ false }
@@ -128,7 +128,7 @@ impl<K, S: Sheet + Drop, E: Write + Drop> Publisher<'_, K, S, E> {
         let _ = writeln!(self.err, "drop: cannot write the manifest");
     }
 
-    // Puts a text on the sheet.
+    // Adds a text to the sheet.
     fn put(&mut self, text: &[u8])
         ensures keeper { self.new.keeper ≡ self.old.keeper }
         ensures whole { IsTrue self.new.is_whole → IsTrue self.old.is_whole }
@@ -140,7 +140,7 @@ impl<K, S: Sheet + Drop, E: Write + Drop> Publisher<'_, K, S, E> {
         }
     }
 
-    // Adds the line of the receipt that a change made, if it made one.
+    // Adds the line of the change's receipt, if the change made one.
     pub(crate) fn note(&mut self, change: &Change<'_>)
         ensures keeper { self.new.keeper ≡ self.old.keeper }
         ensures whole { IsTrue self.new.is_whole → IsTrue self.old.is_whole }

@@ -1,4 +1,4 @@
-//! The keeper that publishes meets the trait.
+//! `Publisher` implements `Keeper`.
 ghost use Rattle.std.specs.Prelude.{IsTrue};
 ghost use Rattle.boxes.specs.Sound.{IsSound};
 ghost use Rattle.publishing.specs.Published.{IsPublished};

@@ -1,15 +1,15 @@
-//! What a manifest is published on.
+//! Where a manifest is published.
 ghost use Rattle.std.specs.Prelude.{Some, ℕ, List, Option};
 ghost use Rattle.publishing.specs.Published.{Adds};
 
 use std::io;
 
-/// What a manifest is published on: a file, say. Bytes are added at its end.
+/// Where a manifest is published, for example a file. Bytes are appended.
 pub trait Sheet {
-    /// What stands on it, where that is known.
+    /// The text on it, if known.
     ghost text: { Self → Option (List ℕ) };
 
-    /// Adds these bytes. The error is that not all of them could be added.
+    /// Appends these bytes. On an error only a beginning of them may be there.
     fn add(&mut self, bytes: &[u8]) -> io::Result<()>
         ensures { Adds bytes.now (text self.old) (text self.new) result };
 }

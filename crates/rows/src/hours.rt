@@ -1,11 +1,11 @@
-//! Rows of `boxes`: opening hours, and the names that a box takes.
+//! Rows for `boxes`: opening hours and allowed names.
 use crate::row::{Line, Row, RowFault};
 use boxes::{BoxRow, Mode, NameRule, name_fits, open_at};
 use sigv4::Moment;
 use std::alloc::{AllocError, Global};
 use std::str;
 
-/// Whether the row is one of these calls; then it is answered.
+/// Answers the row if it is one of these calls, else returns `false`.
 pub(crate) fn answer(alloc: Global, row: &Row<'_>, line: &mut Line) -> Result<bool, RowFault> {
     match row.call {
         "open_at" => open(row, line)?,
@@ -36,7 +36,7 @@ fn seconds(word: &[u8]) -> Result<Moment, RowFault> {
     Moment::new(seconds).ok_or(RowFault::Malformed)
 }
 
-// Seven marks, `1` for a day on which the box is open.
+// Reads seven marks, `1` for each day on which the box is open.
 fn days(word: &[u8]) -> Result<[bool; 7], RowFault> {
     let Ok(marks) = <&[u8; 7]>::try_from(word) else {
         return Err(RowFault::Malformed);
@@ -62,7 +62,7 @@ fn hours(row: &Row<'_>) -> Result<BoxRow, RowFault> {
     })
 }
 
-/// `OPENS CLOSES DAYS FROM TO EAST` and moments in seconds: whether such a box is open at each of them.
+/// `OPENS CLOSES DAYS FROM TO EAST` and moments in seconds: for each moment, whether such a box is open.
 fn open(row: &Row<'_>, line: &mut Line) -> Result<(), RowFault> {
     let hours = hours(row)?;
     let east = signed(row.word(5)?)?;
@@ -81,7 +81,7 @@ fn copies(alloc: Global, texts: &[Vec<u8>]) -> Result<Vec<Vec<u8>>, AllocError> 
     Ok(all)
 }
 
-/// `any NAME`, `ends NAME TEXT..` or `begins NAME TEXT`: whether the rule takes the name.
+/// `any NAME`, `ends NAME TEXT..` or `begins NAME TEXT`: whether the rule allows the name.
 fn fits(alloc: Global, row: &Row<'_>, line: &mut Line) -> Result<(), RowFault> {
     let texts = row.words().get(2..).unwrap_or_default();
     let rule = match row.word(0)? {

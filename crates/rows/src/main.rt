@@ -1,5 +1,5 @@
-//! Answers a table of calls, for tests: for each line of standard input one line of standard output. A line is
-//! the name of a call and its words (`row`). Lines that begin with `#`, and empty ones, are printed as they are.
+//! Answers a table of calls, for tests: one line of standard output for each line of standard input. An input line is the name
+//! of a call and its words (see `row`). Empty lines and lines that begin with `#` are copied.
 #![tactic(auto)]
 
 mod hours;
@@ -13,7 +13,7 @@ use row::{Line, Row, RowFault};
 use std::alloc::Global;
 use std::io;
 
-/// What the row's call says.
+/// The answer to a row.
 fn answer(alloc: Global, text: &str) -> Result<Line, RowFault> {
     let row = Row::read(alloc, text)?;
     let mut line = Line::new(alloc);

@@ -1,10 +1,10 @@
-//! Rows of `wire`: heads of messages, and answers.
+//! Rows for `wire`: request heads and answers.
 use crate::row::{Line, Row, RowFault};
 use crate::texts::refusal_named;
 use std::alloc::Global;
 use wire::{Answer, Counted, MOST_FIELDS, NO_FIELD, Reply, head_end, put_answer, read_head};
 
-/// Whether the row is one of these calls; then it is answered.
+/// Answers the row if it is one of these calls, else returns `false`.
 pub(crate) fn answer(alloc: Global, row: &Row<'_>, line: &mut Line) -> Result<bool, RowFault> {
     match row.call {
         "head_end" => end_of_head(alloc, row, line)?,
@@ -18,7 +18,7 @@ pub(crate) fn answer(alloc: Global, row: &Row<'_>, line: &mut Line) -> Result<bo
     Ok(true)
 }
 
-/// Bytes: `some` and the length of the head in front, or `none`.
+/// Bytes: `some` and the length of the request head that they begin with, or `none`.
 fn end_of_head(alloc: Global, row: &Row<'_>, line: &mut Line) -> Result<(), RowFault> {
     match head_end(row.word(0)?) {
         Some(end) => {
@@ -30,7 +30,7 @@ fn end_of_head(alloc: Global, row: &Row<'_>, line: &mut Line) -> Result<(), RowF
     Ok(())
 }
 
-/// Bytes: the method, the target and the fields of the head that they are, or `none`.
+/// The bytes of a request head: its method, target and header fields, or `none`.
 fn read(row: &Row<'_>, line: &mut Line) -> Result<(), RowFault> {
     let mut fields = [NO_FIELD; MOST_FIELDS];
     let Some(head) = read_head(row.word(0)?, &mut fields) else {
@@ -51,7 +51,7 @@ fn refused(row: &Row<'_>) -> Result<Answer, RowFault> {
     Ok(Answer::refused(refusal, is_head(row, 1)?))
 }
 
-/// A receipt's number, the file's length, its digest of 32 bytes, and the method.
+/// A receipt's number, the file's length, its 32-byte digest, and the method.
 fn kept(row: &Row<'_>) -> Result<Answer, RowFault> {
     let reply = Reply::Kept {
         number: row.number(0)?,
@@ -62,7 +62,7 @@ fn kept(row: &Row<'_>) -> Result<Answer, RowFault> {
     Ok(Answer { reply, is_head })
 }
 
-/// A receipt's number, the digest of 32 bytes, a file's bytes, and the method.
+/// A receipt's number, the 32-byte digest, the file's bytes, and the method.
 fn found(alloc: Global, row: &Row<'_>) -> Result<Answer, RowFault> {
     let reply = Reply::Found {
         number: row.number(0)?,
@@ -82,7 +82,7 @@ fn done(row: &Row<'_>) -> Result<Answer, RowFault> {
     })
 }
 
-// Whether the word at this place is `HEAD`; any other method is none.
+// Whether the word at this index is `HEAD`.
 fn is_head(row: &Row<'_>, at: usize) -> Result<bool, RowFault> {
     Ok(row.word(at)? == b"HEAD".as_slice())
 }
@@ -91,7 +91,7 @@ fn digest(word: &[u8]) -> Result<[u8; 32], RowFault> {
     <[u8; 32]>::try_from(word).map_err(|_| RowFault::Malformed)
 }
 
-/// The answer's text, whether it is refusal 40, and the number of faults that were counted.
+/// Puts the answer's text, whether it is refusal 40, and the number of counted faults.
 fn put(alloc: Global, answer: &Answer, line: &mut Line) -> Result<(), RowFault> {
     let mut writer = Counted::new(Vec::new(alloc));
     let sent = put_answer(answer, &mut writer);

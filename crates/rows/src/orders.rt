@@ -1,4 +1,4 @@
-//! Rows of `links`: links that are written, and links that are judged.
+//! Rows for `links`: writing and checking links.
 use crate::row::{Line, Row, RowFault};
 use crate::texts::want_of_memory;
 use links::{LinkFault, LinkKey, LinkOrder, Method, OrderParam, inspect, judge, write_link};
@@ -6,7 +6,7 @@ use sigtext::{Field, Refusal, Target};
 use sigv4::{Allowance, LastKey, Moment};
 use std::alloc::{AllocError, Global};
 
-/// Whether the row is one of these calls; then it is answered.
+/// Answers the row if it is one of these calls, else returns `false`.
 pub(crate) fn answer(alloc: Global, row: &Row<'_>, line: &mut Line) -> Result<bool, RowFault> {
     match row.call {
         "write_link" => write(alloc, row, line)?,
@@ -18,14 +18,14 @@ pub(crate) fn answer(alloc: Global, row: &Row<'_>, line: &mut Line) -> Result<bo
     Ok(true)
 }
 
-// What stands before a link.
+// The text before a link.
 const FRONT: &[u8] = b"GET ";
 
-// The words of an order before its parameters and headers.
+// The number of words before the parameters and header fields.
 const FIRST_PAIR: usize = 9;
 
-/// `METHOD PATH START EXPIRES HOST REGION ID SECRET COUNT`, so many parameters, and headers, a name and a value
-/// each: what stands there behind `GET ` then. A fault is told before it.
+/// `METHOD PATH START EXPIRES HOST REGION ID SECRET COUNT`, then `COUNT` parameters and any header fields, each a name and a
+/// value: `GET ` with the link appended. On a fault, its name comes first.
 fn write(alloc: Global, row: &Row<'_>, line: &mut Line) -> Result<(), RowFault> {
     let mut out = Vec::from_slice(alloc, FRONT)?;
     let count = usize::try_from(row.number(8)?).unwrap_or(usize::MAX);
@@ -81,7 +81,7 @@ fn write_to(
     Ok(write_link(alloc, &order, &key, row.word(4)?, row.word(5)?, out))
 }
 
-/// A text: `some` and the text of the method that it names, or `none`.
+/// A text: `some` and the method that it names, or `none`.
 fn read_method(row: &Row<'_>, line: &mut Line) -> Result<(), RowFault> {
     let Some(method) = Method::read(row.word(0)?) else {
         return Ok(line.put(b"none")?);
@@ -90,13 +90,13 @@ fn read_method(row: &Row<'_>, line: &mut Line) -> Result<(), RowFault> {
     Ok(line.put(method.text())?)
 }
 
-/// `METHOD TARGET SECRET MOMENT` and fields: the key id of a link that is admitted.
+/// `METHOD TARGET SECRET MOMENT` and header fields: the access key id, if the link is accepted.
 fn judge_link(alloc: Global, row: &Row<'_>, line: &mut Line) -> Result<(), RowFault> {
     let fields = row.fields(alloc, 4)?;
     judge_fields(alloc, row, Allowance::none(), &fields, line)
 }
 
-/// `METHOD TARGET SECRET MOMENT ALLOWANCE` and fields: the same, by an office that has this allowance.
+/// `METHOD TARGET SECRET MOMENT ALLOWANCE` and header fields: the same, with this allowance for clocks that run ahead.
 fn judge_early(alloc: Global, row: &Row<'_>, line: &mut Line) -> Result<(), RowFault> {
     let allowance = Allowance::new(row.number(4)?).ok_or(RowFault::Malformed)?;
     let fields = row.fields(alloc, 5)?;

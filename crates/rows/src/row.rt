@@ -1,23 +1,23 @@
-//! One line of the table, and the line that answers it.
+//! A line of the table, and the line that answers it.
 use percent_encoding::{AsciiSet, CONTROLS, ascii_set, percent_decode, percent_encode};
 use sigtext::{Field, Refusal, TextFault};
 use std::alloc::{AllocError, Global};
 use std::fmt;
 
-// The bytes that are written as `%` and two digits, beside those past ASCII.
+// The ASCII bytes that are percent-encoded. Bytes above ASCII always are.
 const ESCAPED: AsciiSet = ascii_set!(CONTROLS.add(b' ').add(b'"').add(b'%'));
 
-// How a text without bytes is written.
+// How an empty word is written.
 const EMPTY: &str = "\"\"";
 
-/// Why a row has no other answer.
+/// Why a row has no proper answer.
 #[derive(Clone, Copy, Debug, PartialEq, Eq)]
 pub(crate) enum RowFault {
-    /// The row names no call, or lacks words.
+    /// The row has an unknown call, or a missing or malformed word.
     Malformed,
-    /// Memory was refused.
+    /// Memory ran out.
     Memory,
-    /// The call answered with this refusal.
+    /// The call returned this refusal.
     Refused(Refusal),
 }
 
@@ -52,8 +52,8 @@ impl From<TextFault> for RowFault {
     }
 }
 
-/// The name of a call and its words, without their escapes. In the table one space stands before each word; a
-/// byte may be written as `%` and two hexadecimal digits, and a word without bytes as `""`.
+/// The name of a call and its decoded words. In the table each word follows one space. Bytes may be percent-encoded, and an
+/// empty word is written `""`.
 #[derive(Drop)]
 pub(crate) struct Row<'a> {
     pub(crate) call: &'a str,
@@ -77,7 +77,7 @@ impl<'a> Row<'a> {
         &self.words
     }
 
-    /// The word at this place, counted from 0.
+    /// The word at this index, counted from 0.
     pub(crate) fn word(&self, at: usize) -> Result<&[u8], RowFault> {
         match self.words.get(at) {
             Some(word) => Ok(word),
@@ -85,7 +85,7 @@ impl<'a> Row<'a> {
         }
     }
 
-    /// The number that the word at this place writes.
+    /// The decimal number at this index.
     pub(crate) fn number(&self, at: usize) -> Result<u64, RowFault> {
         let Ok(text) = str::from_utf8(self.word(at)?) else {
             return Err(RowFault::Malformed);
@@ -93,7 +93,7 @@ impl<'a> Row<'a> {
         text.parse::<u64>().map_err(|_| RowFault::Malformed)
     }
 
-    /// The fields that the words from this place on name: a name and a value in turn.
+    /// The words from this index on as fields: a name and a value in turn.
     pub(crate) fn fields(&self, alloc: Global, from: usize) -> Result<Vec<Field<'_>>, RowFault> {
         let mut fields = Vec::new(alloc);
         for pair in self.words.get(from..).unwrap_or_default().chunks(2) {
@@ -116,7 +116,7 @@ fn unescaped(alloc: Global, piece: &str) -> Result<Vec<u8>, AllocError> {
     Ok(word)
 }
 
-/// An answer: words, escaped as those of a row.
+/// An answer: words, encoded like those of a row.
 #[derive(Debug, Drop)]
 pub(crate) struct Line {
     text: String,
@@ -129,7 +129,7 @@ impl Line {
         }
     }
 
-    /// Puts a word at the end.
+    /// Appends a word.
     pub(crate) fn put(&mut self, word: &[u8]) -> Result<(), AllocError> {
         if !self.text.is_empty() {
             self.text.push(' ')?;
@@ -140,12 +140,12 @@ impl Line {
         percent_encode(word, ESCAPED).append_to(&mut self.text)
     }
 
-    /// Puts `true` or `false`.
+    /// Appends `true` or `false`.
     pub(crate) fn put_bool(&mut self, value: bool) -> Result<(), AllocError> {
         self.put(if value { b"true" } else { b"false" })
     }
 
-    /// Puts a number in decimal digits.
+    /// Appends a number in decimal digits.
     pub(crate) fn put_number(&mut self, alloc: Global, number: u64) -> Result<(), AllocError> {
         let digits = format!(in alloc; "{number}")?;
         self.put(digits.as_bytes())

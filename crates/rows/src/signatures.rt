@@ -1,4 +1,4 @@
-//! Rows of `sigv4`: hashes, moments, credentials, signing keys and signatures.
+//! Rows for `sigv4`: hashes, moments, credential scopes, signing keys and signatures.
 use crate::row::{Line, Row, RowFault};
 use crate::texts::parts_of;
 use hex::encode_to_slice;
@@ -6,7 +6,7 @@ use sigtext::{ByteSink, Field};
 use sigv4::{Hmac, Moment, Scope, Sha, derive, is_key_id, is_region, is_secret, signature};
 use std::alloc::{AllocError, Global};
 
-/// Whether the row is one of these calls; then it is answered.
+/// Answers the row if it is one of these calls, else returns `false`.
 pub(crate) fn answer(alloc: Global, row: &Row<'_>, line: &mut Line) -> Result<bool, RowFault> {
     match row.call {
         "sha" => sha(row, line)?,
@@ -34,7 +34,7 @@ fn digits(digest: [u8; 32]) -> [u8; 64] {
     digits
 }
 
-/// Pieces of a message: its digest.
+/// Pieces of a message: its SHA-256 digest.
 fn sha(row: &Row<'_>, line: &mut Line) -> Result<(), RowFault> {
     let mut sha = Sha::new();
     for piece in row.words() {
@@ -50,14 +50,14 @@ fn take_each<S: ByteSink>(pieces: &[Vec<u8>], sink: &mut S) -> Result<(), AllocE
     Ok(())
 }
 
-/// Pieces of a message, which the hasher takes as a sink: its digest.
+/// The same, with the hasher used as a sink.
 fn sha_take(row: &Row<'_>, line: &mut Line) -> Result<(), RowFault> {
     let mut sha = Sha::new();
     take_each(row.words(), &mut sha)?;
     Ok(line.put(&digits(sha.finish()))?)
 }
 
-/// The digests of the message cut at each place, each that differs from the one before.
+/// The digests of the message when it is cut at each index. A digest equal to the one before is left out.
 fn sha_cut(message: &[u8], line: &mut Line) -> Result<(), AllocError> {
     let mut before = [0; 64];
     for cut in 0..=message.len() {
@@ -73,7 +73,7 @@ fn sha_cut(message: &[u8], line: &mut Line) -> Result<(), AllocError> {
     Ok(())
 }
 
-/// A key and pieces of a message: its code.
+/// A key and pieces of a message: its HMAC.
 fn hmac(row: &Row<'_>, line: &mut Line) -> Result<(), RowFault> {
     let mut hmac = Hmac::new(row.word(0)?);
     for piece in row.words().get(1..).unwrap_or_default() {
@@ -82,14 +82,14 @@ fn hmac(row: &Row<'_>, line: &mut Line) -> Result<(), RowFault> {
     Ok(line.put(&digits(hmac.finish()))?)
 }
 
-/// A key and pieces of a message, which the hasher takes as a sink: its code.
+/// The same, with the hasher used as a sink.
 fn hmac_take(row: &Row<'_>, line: &mut Line) -> Result<(), RowFault> {
     let mut hmac = Hmac::new(row.word(0)?);
     take_each(row.words().get(1..).unwrap_or_default(), &mut hmac)?;
     Ok(line.put(&digits(hmac.finish()))?)
 }
 
-/// The codes of the message cut at each place, each that differs from the one before.
+/// The HMACs of the message when it is cut at each index. One equal to the one before is left out.
 fn hmac_cut(key: &[u8], message: &[u8], line: &mut Line) -> Result<(), AllocError> {
     let mut before = [0; 64];
     for cut in 0..=message.len() {
@@ -113,7 +113,7 @@ fn put_moment(alloc: Global, found: Option<Moment>, line: &mut Line) -> Result<(
     line.put(&moment.text())
 }
 
-/// A text of 16 bytes: the seconds of the moment that it writes, and its text; or `none`.
+/// A text of 16 bytes: its moment in seconds, and the moment's text; or `none`.
 fn moment(alloc: Global, row: &Row<'_>, line: &mut Line) -> Result<(), RowFault> {
     let Ok(text) = row.word(0)?.try_into() else {
         return Err(RowFault::Malformed);
@@ -121,12 +121,12 @@ fn moment(alloc: Global, row: &Row<'_>, line: &mut Line) -> Result<(), RowFault>
     Ok(put_moment(alloc, Moment::read(text), line)?)
 }
 
-/// A number of seconds: the seconds of the moment, and its text; or `none`.
+/// A number of seconds: the moment in seconds, and its text; or `none`.
 fn moment_at(alloc: Global, row: &Row<'_>, line: &mut Line) -> Result<(), RowFault> {
     Ok(put_moment(alloc, Moment::new(row.number(0)?), line)?)
 }
 
-/// `CREDENTIAL DATE`: the key id, the day and the region.
+/// `CREDENTIAL DATE`: the access key id, the day and the region.
 fn scope(row: &Row<'_>, line: &mut Line) -> Result<(), RowFault> {
     let scope = Scope::read(row.word(0)?, row.word(1)?)?;
     line.put(scope.key_id)?;
@@ -140,7 +140,7 @@ fn signing_key(row: &Row<'_>, line: &mut Line) -> Result<(), RowFault> {
     Ok(line.put(&digits(derive(row.word(0)?, &scope)))?)
 }
 
-/// `SECRET CREDENTIAL DATE METHOD TARGET NAMES` and fields: the signature of the request.
+/// `SECRET CREDENTIAL DATE METHOD TARGET NAMES` and header fields: the request's signature.
 fn sign(alloc: Global, row: &Row<'_>, line: &mut Line) -> Result<(), RowFault> {
     let fields = row.fields(alloc, 6)?;
     let signed = signature_of(alloc, row, &fields)?;

@@ -1,4 +1,4 @@
-//! Rows of `sigtext`: refusals, escapes, targets, parameters, and what is signed.
+//! Rows for `sigtext`: refusals, percent-encoding, targets, query parameters and canonical requests.
 use crate::row::{Line, Row, RowFault};
 use sigtext::{
     Field, Params, Parts, Refusal, SignedNames, Slash, Target, canonical_into, decodes_to,
@@ -6,7 +6,7 @@ use sigtext::{
 };
 use std::alloc::Global;
 
-/// Whether the row is one of these calls; then it is answered.
+/// Answers the row if it is one of these calls, else returns `false`.
 pub(crate) fn answer(alloc: Global, row: &Row<'_>, line: &mut Line) -> Result<bool, RowFault> {
     match row.call {
         "refusal" => columns(alloc, row, line)?,
@@ -27,7 +27,7 @@ pub(crate) fn answer(alloc: Global, row: &Row<'_>, line: &mut Line) -> Result<bo
     Ok(true)
 }
 
-// Each refusal, by the name of its variant.
+// Each refusal with the name of its variant.
 const REFUSALS: [(&str, Refusal); 37] = [
     ("HeadMalformed", Refusal::HeadMalformed),
     ("HeadTooLong", Refusal::HeadTooLong),
@@ -78,7 +78,7 @@ pub(crate) fn refusal_named(name: &[u8]) -> Result<Refusal, RowFault> {
     Err(RowFault::Malformed)
 }
 
-/// `NAME`: the number, the word, the status and the text of the refusal of this name.
+/// `NAME`: the number, the word, the status and the text of this refusal.
 fn columns(alloc: Global, row: &Row<'_>, line: &mut Line) -> Result<(), RowFault> {
     let refusal = refusal_named(row.word(0)?)?;
     line.put_number(alloc, u64::from(refusal.number()))?;
@@ -87,8 +87,8 @@ fn columns(alloc: Global, row: &Row<'_>, line: &mut Line) -> Result<(), RowFault
     Ok(line.put(refusal.text().as_bytes())?)
 }
 
-/// `kept TEXT` or `encoded TEXT`, by what is done with `/`, and perhaps what stands in front: what stands there
-/// then.
+/// `kept TEXT` or `encoded TEXT`, which says what is done with `/`, and perhaps a front text: the front with the encoded text
+/// appended.
 fn encode(alloc: Global, row: &Row<'_>, line: &mut Line) -> Result<(), RowFault> {
     let slash = match row.word(0)? {
         b"kept" => Slash::Kept,
@@ -103,7 +103,7 @@ fn encode(alloc: Global, row: &Row<'_>, line: &mut Line) -> Result<(), RowFault>
     Ok(line.put(&out)?)
 }
 
-/// Memory was refused, and what stood there stands there still.
+/// The fault when memory ran out: `Memory` if the output is unchanged, as it must be, else `Malformed`.
 pub(crate) fn want_of_memory(found: &[u8], before: &[u8]) -> RowFault {
     if found == before {
         RowFault::Memory
@@ -112,7 +112,7 @@ pub(crate) fn want_of_memory(found: &[u8], before: &[u8]) -> RowFault {
     }
 }
 
-/// `TEXT`: the decoded path, and the raw names and values in order.
+/// `TEXT`: the decoded path, and the raw query parameters in order.
 fn target(alloc: Global, row: &Row<'_>, line: &mut Line) -> Result<(), RowFault> {
     let target = Target::read(row.word(0)?)?;
     let mut path = Vec::new(alloc);
@@ -125,7 +125,7 @@ fn target(alloc: Global, row: &Row<'_>, line: &mut Line) -> Result<(), RowFault>
     Ok(())
 }
 
-/// `TARGET TEXT`: the text with the decoded path behind it.
+/// `TARGET TEXT`: the text with the decoded path appended.
 fn path_into(alloc: Global, row: &Row<'_>, line: &mut Line) -> Result<(), RowFault> {
     let front = row.word(1)?;
     let target = Target::read(row.word(0)?)?;
@@ -136,7 +136,7 @@ fn path_into(alloc: Global, row: &Row<'_>, line: &mut Line) -> Result<(), RowFau
     Ok(line.put(&out)?)
 }
 
-/// `TARGET NAME`: `some` and the raw value of the parameter of this name, or `none`.
+/// `TARGET NAME`: `some` and the raw value of this query parameter, or `none`.
 fn param(alloc: Global, row: &Row<'_>, line: &mut Line) -> Result<(), RowFault> {
     let target = Target::read(row.word(0)?)?;
     match Params::read(alloc, &target)?.get(row.word(1)?) {
@@ -149,7 +149,7 @@ fn param(alloc: Global, row: &Row<'_>, line: &mut Line) -> Result<(), RowFault> 
     Ok(())
 }
 
-/// `TARGET`: the canonical query.
+/// `TARGET`: the canonical query string.
 fn query(alloc: Global, row: &Row<'_>, line: &mut Line) -> Result<(), RowFault> {
     let target = Target::read(row.word(0)?)?;
     let mut text = Vec::new(alloc);
@@ -157,7 +157,7 @@ fn query(alloc: Global, row: &Row<'_>, line: &mut Line) -> Result<(), RowFault> 
     Ok(line.put(&text)?)
 }
 
-/// `NAME` and fields: `some` and the name and value of the only field of this name, or `none`.
+/// `NAME` and header fields: `some` and the name and value of the only field of this name, or `none`.
 fn one_field(alloc: Global, row: &Row<'_>, line: &mut Line) -> Result<(), RowFault> {
     let fields = row.fields(alloc, 1)?;
     match only_field(&fields, row.word(0)?) {
@@ -171,8 +171,7 @@ fn one_field(alloc: Global, row: &Row<'_>, line: &mut Line) -> Result<(), RowFau
     Ok(())
 }
 
-/// What the signature of a request covers: the words from this place on are its method, its target and the names of
-/// its signed headers.
+/// The signed parts of a request. The words from this index on are the method, the target and the names of the signed headers.
 pub(crate) fn parts_of<'a>(
     alloc: Global,
     row: &'a Row<'_>,
@@ -195,7 +194,7 @@ pub(crate) fn parts_of<'a>(
     })
 }
 
-/// `METHOD TARGET NAMES` and fields: the canonical request of these signed names.
+/// `METHOD TARGET NAMES` and header fields: the canonical request with these signed headers.
 fn canonical(alloc: Global, row: &Row<'_>, line: &mut Line) -> Result<(), RowFault> {
     let fields = row.fields(alloc, 3)?;
     let text = canonical_request(alloc, row, &fields)?;

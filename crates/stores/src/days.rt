@@ -1,9 +1,9 @@
-//! What an office does in a day, over any keeper.
+//! A day of an office, over any keeper.
 use boxes::{Change, Command};
 use keeper::{KeepFault, Keeper};
 use trials::errands::{begin, set_file};
 
-/// The box is closed at a moment, a file dropped, and the key `k2` revoked.
+/// Closes the box, drops a file, and revokes the key `k2`.
 fn end<K: Keeper>(keeper: &mut K) -> Result<(), KeepFault> {
     keeper.apply(&Change::Desk(Command::CloseBox {
         name: b"in",
@@ -16,7 +16,7 @@ fn end<K: Keeper>(keeper: &mut K) -> Result<(), KeepFault> {
     keeper.apply(&Change::Desk(Command::RevokeKey { id: b"k2" }))
 }
 
-/// What stands at the end of a day.
+/// The office's state at the end of a day.
 #[derive(Debug, Drop, PartialEq)]
 pub(crate) struct Day {
     clerks: u64,
@@ -29,7 +29,7 @@ pub(crate) struct Day {
     dropped: Option<(u64, usize)>,
 }
 
-/// What stands at the end of `a_day`.
+/// The office's state at the end of `a_day`.
 pub(crate) const THAT_DAY: Day = Day {
     clerks: 1,
     next_number: 5,
@@ -55,7 +55,7 @@ fn look<K: Keeper>(keeper: &mut K) -> Result<Day, KeepFault> {
     })
 }
 
-// The number of the receipt of a file of the box `in`, and the file's length.
+// The receipt number and the length of a file of the box `in`.
 fn standing<K: Keeper>(keeper: &mut K, name: &[u8]) -> Result<Option<(u64, usize)>, KeepFault> {
     Ok(
         keeper
@@ -64,7 +64,7 @@ fn standing<K: Keeper>(keeper: &mut K, name: &[u8]) -> Result<Option<(u64, usize
     )
 }
 
-/// The morning of a day in an office that begins: a key, a box, a file that is replaced, and two more files.
+/// The morning of a day in a new office: adds a key, a box, a file that is then replaced, and two more files.
 pub(crate) fn a_morning<K: Keeper>(keeper: &mut K) -> Result<(), KeepFault> {
     begin(keeper)?;
     set_file(keeper, b"a.txt", b"abc")?;
@@ -74,7 +74,7 @@ pub(crate) fn a_morning<K: Keeper>(keeper: &mut K) -> Result<(), KeepFault> {
     Ok(())
 }
 
-/// The whole day: then the box is closed, a file dropped, and a key revoked.
+/// The whole day: the morning, and then the box is closed, a file dropped, and a key revoked.
 pub(crate) fn a_day<K: Keeper>(keeper: &mut K) -> Result<Day, KeepFault> {
     a_morning(keeper)?;
     end(keeper)?;

@@ -1,4 +1,4 @@
-//! Office files that are damaged by SQL, and mended.
+//! Office files that are damaged by SQL, and repaired.
 use crate::days::a_day;
 use crate::files::{OfficeTrial, try_in_memory};
 use crate::opening::open;
@@ -16,7 +16,7 @@ use trials::published::{ID, SECRET};
 use trials::rows::holds;
 use trials::telling::told;
 
-/// What breaks an office after `a_day`, whatever its version, and what mends it.
+/// Statements that damage an office of any version after `a_day`, and their repairs.
 pub(crate) const DAMAGES: [(&str, &str); 9] = [
     (
         "UPDATE receipts SET number = 9 WHERE number = 4",
@@ -56,7 +56,7 @@ pub(crate) const DAMAGES: [(&str, &str); 9] = [
     ),
 ];
 
-// What breaks the tables of version 2, and what mends them.
+// Statements that damage the tables of version 2, and their repairs.
 const SECOND_DAMAGES: [(&str, &str); 7] = [
     ("DELETE FROM rules", "INSERT INTO rules VALUES (1, 0)"),
     (
@@ -79,7 +79,7 @@ const SECOND_DAMAGES: [(&str, &str); 7] = [
     ("CREATE VIEW more AS SELECT id FROM keys", "DROP VIEW more"),
 ];
 
-// What makes an office one of another version, whatever else is broken, and what mends it.
+// Statements that set another version, some with more damage, and their repairs.
 const VERSIONS: [(&str, &str); 5] = [
     (
         "UPDATE office SET version = 1",
@@ -103,7 +103,7 @@ const VERSIONS: [(&str, &str); 5] = [
     ),
 ];
 
-// What the tables bar, where the key `k2` is limited to the box `in`.
+// Statements that the tables' constraints refuse, if the key `k2` is limited to the box `in`.
 const BARRED: [&str; 11] = [
     "UPDATE rules SET allowance = 901",
     "UPDATE rules SET allowance = -1",
@@ -118,7 +118,7 @@ const BARRED: [&str; 11] = [
     "INSERT INTO staged VALUES (0, 'text')",
 ];
 
-// The connection, after the office was broken and so refused.
+// Damages the office, and expects that opening it fails. Returns the connection.
 fn refused<S: Alter + Drop>(
     alloc: Global,
     mut conn: Connection<S>,
@@ -138,7 +138,7 @@ fn refused<S: Alter + Drop>(
     }
 }
 
-// The same, after it was mended and opened.
+// The same, and then repairs the office and opens it.
 fn mended<S: Alter + Drop>(
     alloc: Global,
     conn: Connection<S>,
@@ -151,7 +151,7 @@ fn mended<S: Alter + Drop>(
     Ok(open(alloc, conn)?.close())
 }
 
-// The same of each of these damages.
+// The same for each of these damages.
 fn each_mended<S: Alter + Drop>(
     alloc: Global,
     mut conn: Connection<S>,
@@ -164,7 +164,7 @@ fn each_mended<S: Alter + Drop>(
     Ok(conn)
 }
 
-// Each damage of an office in which a day was spent.
+// Tries each damage on an office after `a_day`.
 fn each_damage<S: Alter + Drop>(mut office: Office<SqlKeeper<S>>) -> Result<(), Fail> {
     a_day(&mut office.keeper)?;
     let Office { keeper, alloc, .. } = office;
@@ -174,7 +174,7 @@ fn each_damage<S: Alter + Drop>(mut office: Office<SqlKeeper<S>>) -> Result<(), 
     Ok(())
 }
 
-// Fails where one of the statements is run.
+// Fails if one of the statements succeeds.
 fn bar_each<S: Alter>(conn: &mut Connection<S>) -> Result<(), Fail> {
     for statement in BARRED {
         if conn.execute(statement, &[]).is_ok() {
@@ -184,7 +184,7 @@ fn bar_each<S: Alter>(conn: &mut Connection<S>) -> Result<(), Fail> {
     Ok(())
 }
 
-// Statements that are barred, and leave the office as it was.
+// Expects that the statements are refused, and that the office stays unchanged.
 fn bars<S: Alter + Drop>(mut office: Office<SqlKeeper<S>>) -> Result<(), Fail> {
     begin(&mut office.keeper)?;
     holds(Step::LimitKey.run(&mut office)?, "not limited")?;
@@ -200,7 +200,7 @@ fn bars<S: Alter + Drop>(mut office: Office<SqlKeeper<S>>) -> Result<(), Fail> {
     holds(told(alloc, &mut keeper)? == before, "another office")
 }
 
-// Making an office where one is.
+// Expects that a second office can't be made in the same file.
 fn made_twice<S: Alter + Drop>(alloc: Global, conn: Connection<S>) -> Result<(), Fail> {
     match SqlKeeper::create(alloc, conn, office_row(1), ID, SECRET) {
         Ok(_) => Err("made twice".into()),
@@ -212,7 +212,7 @@ fn made_twice<S: Alter + Drop>(alloc: Global, conn: Connection<S>) -> Result<(),
     }
 }
 
-// What is tried of an office whose file is broken, or made again.
+// Trials of damage, of constraints, and of making an office twice.
 #[derive(Drop)]
 enum Breaking {
     EachDamage,

@@ -1,4 +1,4 @@
-//! Office files on disks in memory, and rows and a day over them, also where a call is refused.
+//! Office files on disks in memory. A day and the test rows run over them, also with refused calls.
 use crate::days::{THAT_DAY, a_day};
 use crate::opening::stays;
 use boxes::OfficeRow;
@@ -16,14 +16,14 @@ use trials::published::{ID, SECRET};
 use trials::rows::{ROWS, Row, holds};
 use trials::watched::Watched;
 
-/// What is tried of a new office file. `try_in_memory` alone names the disks that it lies on: a check of each function that
-/// names a store is twenty times as dear as one over any.
+/// A trial of a new office file. Only `try_in_memory` names the type of its disks. To check a function that names a store takes
+/// twenty times as long as to check a generic one.
 pub(crate) trait OfficeTrial {
-    /// Tries it, and tells whether it came to its end.
+    /// Runs the trial. Whether it came to its end.
     fn run<D: Disk + Drop>(self, office: Office<SqlKeeper<FileStore<D>>>) -> Result<bool, Fail>;
 }
 
-/// A connection to files, which are of a database or empty.
+/// Connects to the files, which hold a database or are empty.
 pub(crate) fn connect<D: Disk + Drop>(
     alloc: Global,
     files: Files<D>,
@@ -37,7 +37,7 @@ pub(crate) fn connect<D: Disk + Drop>(
     }
 }
 
-// A new office that is set so, with the clerk's key alone.
+// A new office with these settings, and only the clerk's key.
 fn begun<S: Alter + Drop>(
     alloc: Global,
     conn: Connection<S>,
@@ -49,7 +49,7 @@ fn begun<S: Alter + Drop>(
     }
 }
 
-// Tries it of an office in such files.
+// Runs a trial of a new office in these files.
 fn try_in<D: Disk + Drop, T: OfficeTrial + Drop>(
     alloc: Global,
     files: Files<D>,
@@ -60,7 +60,7 @@ fn try_in<D: Disk + Drop, T: OfficeTrial + Drop>(
     trial.run(begun(alloc, conn, office)?)
 }
 
-/// Tries it of a new office file that is set so.
+/// Runs a trial of a new office file with these settings, in memory.
 pub(crate) fn try_in_memory<T: OfficeTrial + Drop>(
     alloc: Global,
     office: OfficeRow,
@@ -88,7 +88,7 @@ impl OfficeTrial for DayTrial {
     }
 }
 
-// What an office is set to.
+// The settings of an office.
 #[derive(Drop)]
 struct SettingTrial {
     office: OfficeRow,
@@ -123,7 +123,7 @@ impl OfficeTrial for RowTrial {
     }
 }
 
-// A request, of whose calls one is refused. It came to its end where it makes fewer.
+// A request with one refused call. It came to its end if it makes fewer calls.
 #[derive(Drop)]
 struct CallTrial {
     errand: Errand,
@@ -168,7 +168,7 @@ fn rows_are_answered_from_a_file(rt: HostRuntime) -> Result<(), Fail> {
     Ok(())
 }
 
-// How many calls an errand makes; each is refused in turn.
+// Refuses each call of an errand in turn. Returns the number of calls.
 fn calls_of(alloc: Global, errand: Errand) -> Result<u64, Fail> {
     for call in 1..20u64 {
         if try_in_memory(alloc, office_row(0), CallTrial { errand, call })? {
@@ -183,7 +183,7 @@ fn each_call_is_refused_in_turn(rt: HostRuntime) -> Result<(), Fail> {
     let mut refused = 0u64;
     for errand in ERRANDS {
         let calls = calls_of(rt.alloc(), errand)?;
-        // The key and the change are the fewest.
+        // At least the query for the key, and the change.
         assert!(rt; calls >= 2, "{errand:?}");
         refused = refused.saturating_add(calls);
     }

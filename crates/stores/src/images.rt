@@ -1,4 +1,4 @@
-//! The two files of a database as bytes: what is done with them on disks of which one may stop, and what is left of them.
+//! The two files of a database as bytes, jobs on disks of which one may stop, and what the jobs leave.
 use crate::files::connect;
 use crate::first_office::{Making, make_first};
 use crate::steps::{Step, run_over};
@@ -18,7 +18,7 @@ pub(crate) struct Image {
     pub(crate) db: Vec<u8>,
 }
 
-/// Files without a byte.
+/// Two empty files.
 pub(crate) fn empty_image(alloc: Global) -> Image {
     Image {
         log: Vec::new(alloc),
@@ -33,21 +33,21 @@ pub(crate) enum Side {
     Database,
 }
 
-/// One disk takes so many calls and no more.
+/// One disk stops after this number of calls.
 #[derive(Clone, Copy, Debug)]
 pub(crate) struct Stop {
     pub(crate) side: Side,
     pub(crate) calls: u64,
 }
 
-/// Both disks take all calls.
+/// Neither disk stops.
 pub(crate) const NO_STOP: Stop = Stop {
     side: Side::Log,
     calls: u64::MAX,
 };
 
 impl Stop {
-    // How many calls a disk takes.
+    // How many calls this disk takes.
     fn calls_of(self, side: Side) -> u64 {
         if self.side == side {
             self.calls
@@ -57,7 +57,7 @@ impl Stop {
     }
 }
 
-// A disk that holds these bytes for good, and takes so many calls.
+// A disk with these bytes synced, which takes `calls` calls.
 fn disk_of(alloc: Global, bytes: &[u8], calls: u64) -> Result<Fuse<Memory>, Fail> {
     let mut disk = Memory::new(alloc);
     disk.write_at(0, bytes)?;
@@ -65,7 +65,7 @@ fn disk_of(alloc: Global, bytes: &[u8], calls: u64) -> Result<Fuse<Memory>, Fail
     Ok(Fuse::new(disk, calls))
 }
 
-// Disks of these bytes, of which one stops.
+// Disks with these bytes. One of them may stop.
 fn disks_of(alloc: Global, log: &[u8], db: &[u8], stop: Stop) -> Result<Files<Fuse<Memory>>, Fail> {
     Ok(Files {
         log: disk_of(alloc, log, stop.calls_of(Side::Log))?,
@@ -73,7 +73,7 @@ fn disks_of(alloc: Global, log: &[u8], db: &[u8], stop: Stop) -> Result<Files<Fu
     })
 }
 
-// What the two disks hold.
+// The bytes of the two disks.
 fn image_of(alloc: Global, disks: &Files<Fuse<Memory>>) -> Result<Image, AllocError> {
     Ok(Image {
         log: Vec::from_slice(alloc, disks.log.inner().bytes())?,
@@ -81,31 +81,31 @@ fn image_of(alloc: Global, disks: &Files<Fuse<Memory>>) -> Result<Image, AllocEr
     })
 }
 
-/// What is done with two files, which are closed after it.
+/// A job on the two files. The files are closed after it.
 #[derive(Clone, Copy)]
 pub(crate) enum Job<'a> {
-    /// An office of version 1 is made.
+    /// Make an office of version 1.
     MakeFirst(Making),
-    /// These statements are run.
+    /// Run these statements.
     Write(&'a str),
-    /// These steps are done.
+    /// Do these steps.
     Steps(&'a [Step]),
-    /// They are opened, and what is in them is found.
+    /// Open the files and see what is in them.
     Look,
 }
 
-/// What is found in two files. An office tells what every question is answered.
+/// What is in the two files. For an office: all its answers as text.
 #[derive(Drop, PartialEq)]
 pub(crate) enum Found {
-    /// No part of an office.
+    /// No office, and no part of one.
     Nothing,
-    /// An office of version 1, and what it tells once it is taken over to version 2.
+    /// An office of version 1, with its answers after the migration to version 2.
     First(Vec<u8>),
     /// An office of version 2.
     Second(Vec<u8>),
 }
 
-// What came of a job: how many steps were acknowledged, why the file was refused, or what was found; and the disks after it.
+// The result of a job: the number of acknowledged steps, why the file was refused, what was found, and the disks after it.
 #[derive(Drop)]
 struct Done<D: Disk + Drop> {
     steps: usize,
@@ -114,7 +114,7 @@ struct Done<D: Disk + Drop> {
     disks: Files<D>,
 }
 
-// Copies the log into the file, as the program does at its end, and gives both back.
+// Closes the connection as the program does at its end: copies the log into the database file. Returns the files.
 fn closed<D: Disk + Drop>(conn: Connection<FileStore<D>>) -> Files<D> {
     match conn.close_files() {
         Ok(files) => files,
@@ -122,7 +122,7 @@ fn closed<D: Disk + Drop>(conn: Connection<FileStore<D>>) -> Files<D> {
     }
 }
 
-// Opens the files, does the steps, and closes them.
+// Opens the files, does the steps, and closes the files.
 fn run_on<D: Disk + Drop>(alloc: Global, disks: Files<D>, steps: &[Step]) -> Result<Done<D>, Fail> {
     if !disks.may_be_used() {
         return Err("no disk".into());
@@ -142,7 +142,7 @@ fn run_on<D: Disk + Drop>(alloc: Global, disks: Files<D>, steps: &[Step]) -> Res
     })
 }
 
-// Does what writes by statements.
+// Does a job that runs statements.
 fn write_by<S: Alter>(conn: &mut Connection<S>, job: Job<'_>) -> Result<(), sqlite::Error> {
     match job {
         Job::MakeFirst(making) => make_first(conn, making),
@@ -163,7 +163,7 @@ fn write_on<D: Disk + Drop>(alloc: Global, disks: Files<D>, job: Job<'_>) -> Res
     })
 }
 
-// There is no part of an office: one can be made.
+// Checks that there is no part of an office, by making one.
 fn is_bare<S: Alter + Drop>(alloc: Global, conn: Connection<S>) -> Result<Connection<S>, Fail> {
     match SqlKeeper::create(alloc, conn, office_row(0), ID, SECRET) {
         Ok(keeper) => Ok(keeper.close()),
@@ -171,7 +171,7 @@ fn is_bare<S: Alter + Drop>(alloc: Global, conn: Connection<S>) -> Result<Connec
     }
 }
 
-// What an office tells that is taken over to version 2.
+// Migrates an office to version 2. Returns its answers.
 fn migrated<S: Alter + Drop>(
     alloc: Global,
     conn: Connection<S>,
@@ -186,7 +186,7 @@ fn migrated<S: Alter + Drop>(
     }
 }
 
-// What is found by a connection.
+// What is in the database.
 fn find<S: Alter + Drop>(
     alloc: Global,
     conn: Connection<S>,
@@ -206,7 +206,7 @@ fn find<S: Alter + Drop>(
     }
 }
 
-// Opens the files, and finds what is in them.
+// Opens the files and sees what is in them.
 fn look_at<D: Disk + Drop>(alloc: Global, disks: Files<D>) -> Result<Done<D>, Fail> {
     let (found, conn) = find(alloc, connect(alloc, disks)?)?;
     Ok(Done {
@@ -217,7 +217,7 @@ fn look_at<D: Disk + Drop>(alloc: Global, disks: Files<D>) -> Result<Done<D>, Fa
     })
 }
 
-// Does the job with the files.
+// Does the job on the files.
 fn do_job<D: Disk + Drop>(alloc: Global, disks: Files<D>, job: Job<'_>) -> Result<Done<D>, Fail> {
     match job {
         Job::MakeFirst(_) | Job::Write(_) => write_on(alloc, disks, job),
@@ -226,13 +226,13 @@ fn do_job<D: Disk + Drop>(alloc: Global, disks: Files<D>, job: Job<'_>) -> Resul
     }
 }
 
-// Whether a disk takes no more calls.
+// Whether the disk has stopped.
 fn has_stopped<D: Disk>(disk: &mut D) -> bool {
     !disk.may_be_used() || disk.len().is_err()
 }
 
-/// What a job leaves: how many steps were acknowledged, why the file was refused, or what was found; whether a disk stopped;
-/// and the files, as they were written, and without what was not synced.
+/// The result of a job: the number of acknowledged steps, why the file was refused, what was found, whether a disk stopped, the
+/// files as written, and the files after a crash that loses all unsynced writes.
 #[derive(Drop)]
 pub(crate) struct Outcome {
     pub(crate) steps: usize,
@@ -243,7 +243,7 @@ pub(crate) struct Outcome {
     pub(crate) synced: Image,
 }
 
-/// Does the job with files of these bytes, of which one stops. This function alone names the disks of a database that stop.
+/// Does the job on files with these bytes. One of them may stop. Only this function names the type of the stopping disks.
 pub(crate) fn job_on(
     alloc: Global,
     log: &[u8],
@@ -272,12 +272,12 @@ pub(crate) fn job_on(
     })
 }
 
-/// What the job leaves of files that do not stop.
+/// The result of the job on files that do not stop.
 pub(crate) fn done_with(alloc: Global, image: &Image, job: Job<'_>) -> Result<Outcome, Fail> {
     job_on(alloc, &image.log, &image.db, NO_STOP, job)
 }
 
-/// What is found in two files.
+/// What is in two files.
 pub(crate) fn found_in(alloc: Global, log: &[u8], db: &[u8]) -> Result<Found, Fail> {
     let outcome = job_on(alloc, log, db, NO_STOP, Job::Look)?;
     Ok(outcome.found.ok_or("nothing was looked for")?)

@@ -1,4 +1,4 @@
-//! Tests of the office file, over disks in memory. The crate gives nothing.
+//! Tests of the office file, over disks in memory. The crate exports nothing.
 #![tactic(auto)]
 
 #[cfg(test)]

@@ -1,4 +1,4 @@
-//! Office files of version 1 that are taken over to version 2, and those that are not.
+//! The migration of office files from version 1 to version 2, and files that it refuses.
 use crate::faults::DAMAGES;
 use crate::first_office::{Making, first_in_memory};
 use crate::images::{Found, Image, Job, Outcome, done_with, empty_image, found_in};
@@ -14,7 +14,7 @@ use trials::telling::told;
 
 const MIGRATE: [Step; 1] = [Step::Migrate];
 
-// A day that begins with it.
+// A session that begins with the migration.
 const SESSION: [Step; 5] = [
     Step::Migrate,
     Step::Ask(Errand::LimitKey),
@@ -23,7 +23,7 @@ const SESSION: [Step; 5] = [
     Step::DropFile,
 ];
 
-// What makes an office of version 2 that has an allowance and a limit.
+// The steps that make an office of version 2 with an allowance and a limit.
 const LIMITED: [Step; 5] = [
     Step::Create,
     Step::Begin,
@@ -32,7 +32,7 @@ const LIMITED: [Step; 5] = [
     Step::Allow,
 ];
 
-// What breaks an office file of version 1, by its numbers, its texts or its tables.
+// Statements that damage the numbers, texts or tables of an office file of version 1.
 const FIRST_DAMAGES: [&str; 14] = [
     "UPDATE receipts SET length = 1048577 WHERE number = 4",
     "UPDATE receipts SET length = -1 WHERE number = 4",
@@ -50,7 +50,7 @@ const FIRST_DAMAGES: [&str; 14] = [
     "DROP TABLE pieces",
 ];
 
-// The same of one that bars no number.
+// The same for an office file without constraints on numbers.
 const LOOSE_DAMAGES: [&str; 6] = [
     "UPDATE keys SET role = 7 WHERE id = 'k2'",
     "UPDATE keys SET revoked = 2 WHERE id = 'k2'",
@@ -60,7 +60,7 @@ const LOOSE_DAMAGES: [&str; 6] = [
     "INSERT INTO office VALUES (2, 1, 60)",
 ];
 
-// What makes it an office of another version, whatever else is broken.
+// Statements that set another version, some with more damage.
 const VERSIONS: [&str; 4] = [
     "UPDATE office SET version = 3",
     "UPDATE office SET version = 0",
@@ -68,42 +68,42 @@ const VERSIONS: [&str; 4] = [
     "UPDATE office SET version = 3; CREATE TABLE rules (id INTEGER PRIMARY KEY NOT NULL) STRICT",
 ];
 
-// What the office of `first_in_memory` tells.
+// The answers of the office of `first_in_memory`.
 fn first_told(alloc: Global) -> Result<Vec<u8>, Fail> {
     told(alloc, &mut first_in_memory(alloc)?.keeper)
 }
 
-// What the office of `LIMITED` tells.
+// The answers of the office of `LIMITED`.
 fn limited_told(alloc: Global) -> Result<Vec<u8>, Fail> {
     let mut office = begun(alloc, 0)?;
     run_each(&mut office, &LIMITED)?;
     told(alloc, &mut office.keeper)
 }
 
-// What the job leaves, opened and closed again: the log is then as short as it can be.
+// The files after the job, opened and closed once more. The log is then as short as possible.
 fn settled(alloc: Global, image: &Image, job: Job<'_>) -> Result<Image, Fail> {
     let left = done_with(alloc, image, job)?.written;
     Ok(done_with(alloc, &left, Job::Write(""))?.written)
 }
 
-// The file of that office.
+// The files of the office of version 1.
 fn first_image(alloc: Global, making: Making) -> Result<Image, Fail> {
     settled(alloc, &empty_image(alloc), Job::MakeFirst(making))
 }
 
-// A file is taken over.
+// Migrates the files.
 fn taken_over(alloc: Global, image: &Image) -> Result<Image, Fail> {
     let outcome = done_with(alloc, image, Job::Steps(&MIGRATE))?;
     holds(outcome.steps == 1, "not taken over")?;
     settled(alloc, &outcome.written, Job::Write(""))
 }
 
-// What is found in the file.
+// What is in the files.
 fn found_at(alloc: Global, image: &Image) -> Result<Found, Fail> {
     found_in(alloc, &image.log, &image.db)
 }
 
-// A file that these statements wrote last is refused for this fault, and stays as it is.
+// Expects that the migration refuses the files with this fault, and leaves them unchanged. `sql` is for the message.
 fn refuses(alloc: Global, image: &Image, sql: &str, want: OpenFault) -> Result<(), Fail> {
     let outcome = done_with(alloc, image, Job::Steps(&MIGRATE))?;
     if outcome.steps > 0 || outcome.fault != Some(want) {
@@ -115,14 +115,14 @@ fn refuses(alloc: Global, image: &Image, sql: &str, want: OpenFault) -> Result<(
     Ok(())
 }
 
-// The file that these statements leave of this one; it is refused.
+// Runs the statements, and expects that the migration refuses the files. Returns them.
 fn refused_after(alloc: Global, image: &Image, sql: &str, want: OpenFault) -> Result<Image, Fail> {
     let broken = settled(alloc, image, Job::Write(sql))?;
     refuses(alloc, &broken, sql, want)?;
     Ok(broken)
 }
 
-// The file is refused after each of these.
+// The same for each of these damages.
 fn refuses_each(
     alloc: Global,
     image: &Image,
@@ -170,7 +170,7 @@ fn no_damaged_office_is_taken_over(rt: HostRuntime) -> Result<(), Fail> {
     refused_after(alloc, &empty_image(alloc), "", OpenFault::Shape)?;
     let image = first_image(alloc, Making::Exact)?;
     refuses_each(alloc, &image, &FIRST_DAMAGES, OpenFault::Shape)?;
-    // The tables of version 1 under the number 2, and those of version 2 under the number 1.
+    // The tables of version 1 with the number 2, and those of version 2 with the number 1.
     refused_after(
         alloc,
         &image,
@@ -234,7 +234,7 @@ fn migrating_what_is_new_stops(rt: HostRuntime) -> Result<(), Fail> {
     Ok(())
 }
 
-// Whether a file is one that this outcome may leave: taken over, or as it was. A disk that failed leaves either.
+// Whether the outcome may leave these files: migrated, or unchanged. After a disk fault both are allowed.
 fn may_leave(alloc: Global, outcome: &Outcome, image: &Image) -> Result<bool, Fail> {
     let found = found_at(alloc, image)?;
     let stays = found == Found::First(first_told(alloc)?);

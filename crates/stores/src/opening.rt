@@ -9,7 +9,7 @@ use std::test::Fail;
 use trials::rows::holds;
 use trials::telling::told;
 
-/// Opens an office by its connection.
+/// Opens the office of a connection.
 pub(crate) fn open<S: Alter + Drop>(
     alloc: Global,
     conn: Connection<S>,
@@ -20,7 +20,7 @@ pub(crate) fn open<S: Alter + Drop>(
     }
 }
 
-// Copies the log into the file, and opens both again.
+// Copies the log into the database file, and opens both again.
 fn open_anew<D: Disk + Drop>(
     alloc: Global,
     conn: Connection<FileStore<D>>,
@@ -31,7 +31,7 @@ fn open_anew<D: Disk + Drop>(
     }
 }
 
-/// The office answers every question as before when it was opened again, by the same connection and by its files.
+/// Expects the same answers from the office after it is opened again, by the same connection and from its files.
 pub(crate) fn stays<D: Disk + Drop>(
     alloc: Global,
     office: Office<SqlKeeper<FileStore<D>>>,

@@ -1,4 +1,4 @@
-//! Files of many sizes, and what rows of large ones leave in the tables. The digests are by `sha256sum`.
+//! Files of many sizes, and the tables after the rows for large files. The digests come from `sha256sum`.
 use crate::files::{OfficeTrial, try_in_memory};
 use crate::opening::{open, stays};
 use keeper::Keeper;
@@ -15,7 +15,7 @@ use trials::published::DATE;
 use trials::rows::{Row, holds, upload};
 use trials::watched::Watched;
 
-// Files of so many bytes `a`: their paths and receipts.
+// Files of `a` bytes: their sizes, paths and receipts.
 const FILES: [(usize, &[u8], &[u8]); 5] = [
     (
         1_000_000,
@@ -44,7 +44,7 @@ const FILES: [(usize, &[u8], &[u8]); 5] = [
     ),
 ];
 
-// How many pieces each has, and how long the shortest one is; 0 where there is none.
+// The name of each file, its number of pieces, and the length of the shortest piece, or 0.
 const PIECES: [(&str, i64, i64); 5] = [
     ("1", 16, 16_960),
     ("2", 1, 65_536),
@@ -62,7 +62,7 @@ fn upload_all<K: Keeper>(office: &mut Office<K>) -> Result<(), Fail> {
     Ok(())
 }
 
-// The number that SQL asks of a file.
+// The number that the query returns for a file.
 fn number<S: Alter>(conn: &mut Connection<S>, sql: &str, name: &str) -> Result<i64, Fail> {
     Ok(conn.query_row(sql, params![name])?.get(0)?)
 }
@@ -81,7 +81,7 @@ fn cut_as_owed<S: Alter>(conn: &mut Connection<S>) -> Result<(), Fail> {
     Ok(())
 }
 
-// A number of the one box.
+// The number that the query returns.
 fn total<S: Alter>(conn: &mut Connection<S>, sql: &str) -> Result<i64, Fail> {
     Ok(conn.query_row(sql, &[])?.get(0)?)
 }
@@ -97,7 +97,7 @@ fn has_totals<S: Alter>(conn: &mut Connection<S>, used: i64, count: i64) -> Resu
     )
 }
 
-// Files are cut into pieces, and stay so.
+// Checks that files are cut into pieces, also after the office is opened again.
 fn cuts<D: Disk + Drop>(mut office: Office<SqlKeeper<FileStore<D>>>) -> Result<(), Fail> {
     upload_all(&mut office)?;
     let Office { keeper, alloc, .. } = office;
@@ -107,13 +107,13 @@ fn cuts<D: Disk + Drop>(mut office: Office<SqlKeeper<FileStore<D>>>) -> Result<(
     stays(alloc, Office::new(alloc, open(alloc, conn)?))
 }
 
-// The bytes of a file that is replaced are not counted.
+// Checks that the bytes of a replaced file are not counted.
 fn replaces<S: Alter + Drop>(mut office: Office<SqlKeeper<S>>) -> Result<(), Fail> {
     Row::Replacing.run(&mut office)?;
     has_totals(&mut office.keeper.close(), 3, 1)
 }
 
-// What a row of large files leaves: how many receipts and files there are, how many pieces, and how long the shortest one is.
+// For each row of large files, the numbers of receipts, files and pieces after it, and the length of the shortest piece.
 const LEFT: [(LargeRow, [i64; 4]); 5] = [
     (LargeRow::Comparing, [2, 2, 4, 3_392]),
     (LargeRow::BreakingOff, [0, 0, 0, 0]),
@@ -122,7 +122,7 @@ const LEFT: [(LargeRow, [i64; 4]); 5] = [
     (LargeRow::Refusing, [1, 1, 0, 0]),
 ];
 
-// What asks for these numbers.
+// The queries for these numbers.
 const COUNTS: [&str; 4] = [
     "SELECT COUNT(*) FROM receipts",
     "SELECT COUNT(*) FROM files",
@@ -130,7 +130,7 @@ const COUNTS: [&str; 4] = [
     "SELECT COALESCE(MIN(length(bytes)), 0) FROM pieces",
 ];
 
-// The tables have these numbers, and nothing is staged in one.
+// Checks these numbers, and that nothing is staged.
 fn has_left<S: Alter>(conn: &mut Connection<S>, numbers: [i64; 4]) -> Result<(), Fail> {
     for (sql, owed) in COUNTS.iter().zip(&numbers) {
         let found = total(conn, sql)?;
@@ -144,7 +144,7 @@ fn has_left<S: Alter>(conn: &mut Connection<S>, numbers: [i64; 4]) -> Result<(),
     )
 }
 
-// A row of large files is answered, leaves these numbers, and stays.
+// Runs a row of large files, checks these numbers, and opens the office again.
 fn answers<D: Disk + Drop>(
     office: Office<SqlKeeper<FileStore<D>>>,
     row: LargeRow,
@@ -159,7 +159,7 @@ fn answers<D: Disk + Drop>(
     stays(alloc, Office::new(alloc, open(alloc, conn)?))
 }
 
-// What is tried of the sizes of files.
+// Trials of the sizes of files.
 #[derive(Drop)]
 enum Sizing {
     Cuts,

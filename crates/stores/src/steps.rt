@@ -1,4 +1,4 @@
-//! What is done to an office file: it is made, taken over, changed, or asked by a connection.
+//! Steps on an office file: making, migration, changes and requests.
 use boxes::{Change, Command, Role};
 use keeper::{KeepFault, Keeper};
 use office::Office;
@@ -10,20 +10,20 @@ use trials::boxed::office_row;
 use trials::errands::{Errand, ROOMY, begin, set_file};
 use trials::published::{ID, SECRET};
 
-/// What is done to an office.
+/// A step on an office.
 #[derive(Clone, Copy, Debug, PartialEq, Eq)]
 pub(crate) enum Step {
-    /// It is made.
+    /// Makes the office.
     Create,
-    /// It is taken over to version 2.
+    /// Migrates the office to version 2.
     Migrate,
-    /// A key and a box are added.
+    /// Adds a key and a box.
     Begin,
-    /// A file of the bytes `abc` is set.
+    /// Sets a file of the bytes `abc`.
     SetFirst,
-    /// A file of a new name is set.
+    /// Sets a file with a new name.
     SetNew,
-    /// A file of two pieces is set in the place of another.
+    /// Replaces a file by one of two pieces.
     Replace,
     AddKey,
     RevokeKey,
@@ -32,11 +32,11 @@ pub(crate) enum Step {
     DropFile,
     LimitKey,
     Allow,
-    /// A request by a good link comes.
+    /// Sends a request by a valid link.
     Ask(Errand),
 }
 
-/// The steps that are commands of the desk.
+/// The steps that are desk commands.
 pub(crate) const COMMANDS: [Step; 7] = [
     Step::AddKey,
     Step::RevokeKey,
@@ -47,7 +47,7 @@ pub(crate) const COMMANDS: [Step; 7] = [
     Step::Allow,
 ];
 
-/// Sessions of requests, of which the first and the last change the office.
+/// Sessions of requests. The first and the last request of each change the office.
 pub(crate) const SESSIONS: [&[Step]; 4] = [
     &[
         Step::Ask(Errand::First),
@@ -76,7 +76,7 @@ const EMPTY: [Step; 1] = [Step::Begin];
 
 const WITH_A_FILE: [Step; 2] = [Step::Begin, Step::SetFirst];
 
-// The command of a step that is one.
+// The command of a step that is a desk command. Not for `AddBox`.
 fn command_of(step: Step) -> Option<Command<'static>> {
     match step {
         Step::AddKey => Some(Command::AddKey {
@@ -109,7 +109,7 @@ fn add_box<K: Keeper>(keeper: &mut K) -> Result<(), KeepFault> {
     }))
 }
 
-/// The steps before these, in an office that was made.
+/// The steps that prepare a new office for these steps.
 pub(crate) fn earlier_of(steps: &[Step]) -> &'static [Step] {
     match steps.first() {
         None | Some(Step::Create | Step::Migrate) => &[],
@@ -119,7 +119,7 @@ pub(crate) fn earlier_of(steps: &[Step]) -> &'static [Step] {
 }
 
 impl Step {
-    /// Does the step to an office; tells whether that was acknowledged.
+    /// Does the step on an office. Whether it was acknowledged.
     pub(crate) fn run<K: Keeper>(self, office: &mut Office<K>) -> Result<bool, Fail> {
         if let Some(command) = command_of(self) {
             return Ok(office.keeper.apply(&Change::Desk(command)).is_ok());
@@ -132,13 +132,13 @@ impl Step {
             Step::Replace => Ok(set_file(keeper, b"a.txt", &[b'a'; 70_000]).is_ok()),
             Step::AddBox => Ok(add_box(keeper).is_ok()),
             Step::Ask(errand) => errand.run(office),
-            // It is done as the office is opened.
+            // Done when the office is opened.
             _ => Ok(true),
         }
     }
 }
 
-/// How many steps an office acknowledges: the first that it does not is the last.
+/// Does the steps up to the first that is not acknowledged. Returns how many were acknowledged.
 pub(crate) fn run_each<K: Keeper>(office: &mut Office<K>, steps: &[Step]) -> Result<usize, Fail> {
     let mut done = 0usize;
     for step in steps {
@@ -150,7 +150,7 @@ pub(crate) fn run_each<K: Keeper>(office: &mut Office<K>, steps: &[Step]) -> Res
     Ok(done)
 }
 
-/// What came of steps by a connection: how many were acknowledged, or why the office was not opened.
+/// The result of steps over a connection: the number of acknowledged steps, or why the office was not opened.
 #[derive(Drop)]
 pub(crate) struct Ran<S: Alter + Drop> {
     pub(crate) steps: usize,
@@ -158,7 +158,7 @@ pub(crate) struct Ran<S: Alter + Drop> {
     pub(crate) conn: Connection<S>,
 }
 
-// The office of a connection, made or taken over where that is the first step, and else opened.
+// Opens the office of a connection. Makes or migrates it if that is the first step.
 fn opened<S: Alter + Drop>(
     alloc: Global,
     conn: Connection<S>,
@@ -171,7 +171,7 @@ fn opened<S: Alter + Drop>(
     }
 }
 
-/// Does the steps by a connection.
+/// Does the steps over a connection.
 pub(crate) fn run_over<S: Alter + Drop>(
     alloc: Global,
     conn: Connection<S>,

@@ -1,4 +1,4 @@
-//! A disk stops at each of its calls in turn, and the office is opened again from what is left.
+//! Crash tests: a disk stops at each of its calls in turn, and the office is opened again from the files that are left.
 use crate::first_office::{Making, first_in_memory};
 use crate::images::{
     Found, Image, Job, Outcome, Side, Stop, done_with, empty_image, found_in, job_on,
@@ -14,7 +14,7 @@ use trials::errands::Errand;
 use trials::rows::holds;
 use trials::telling::told;
 
-// The office in memory that these steps begin with.
+// The office in memory before these steps.
 fn office_for(alloc: Global, steps: &[Step]) -> Result<Office<Shelf>, Fail> {
     if let Some(Step::Migrate) = steps.first() {
         return first_in_memory(alloc);
@@ -26,7 +26,7 @@ fn office_for(alloc: Global, steps: &[Step]) -> Result<Office<Shelf>, Fail> {
     Ok(office)
 }
 
-// What is found in the file of an office that tells this, before these steps.
+// What must be in the files before these steps. `text` is the answers of the office.
 fn found_before(steps: &[Step], text: Vec<u8>) -> Found {
     match steps.first() {
         Some(Step::Create) => Found::Nothing,
@@ -35,7 +35,7 @@ fn found_before(steps: &[Step], text: Vec<u8>) -> Found {
     }
 }
 
-// What is found before the first of these steps and after each, by the keeper in memory.
+// What must be in the files before the first step and after each step, from the keeper in memory.
 fn states_of(alloc: Global, steps: &[Step]) -> Result<Vec<Found>, Fail> {
     let mut office = office_for(alloc, steps)?;
     let before = told(alloc, &mut office.keeper)?;
@@ -48,7 +48,7 @@ fn states_of(alloc: Global, steps: &[Step]) -> Result<Vec<Found>, Fail> {
     Ok(states)
 }
 
-// The files that these steps begin with.
+// The files before these steps.
 fn image_for(alloc: Global, steps: &[Step]) -> Result<Image, Fail> {
     let empty = empty_image(alloc);
     match steps.first() {
@@ -63,8 +63,8 @@ fn image_for(alloc: Global, steps: &[Step]) -> Result<Image, Fail> {
     }
 }
 
-// What a run leaves, of which one disk stopped, or none: how many steps were acknowledged, and the files, as they were
-// written, and without what was not synced.
+// The result of a run: the number of acknowledged steps, whether a disk stopped, the files as written, and the files after a
+// crash that loses all unsynced writes.
 #[derive(Drop)]
 struct Left {
     stop: Stop,
@@ -75,7 +75,7 @@ struct Left {
 }
 
 impl Left {
-    // The bytes of the file whose disk stops.
+    // The bytes on the disk that stops.
     fn stopping(&self) -> &[u8] {
         match self.stop.side {
             Side::Log => &self.written.log,
@@ -84,7 +84,7 @@ impl Left {
     }
 }
 
-// Where two texts differ first, and how many bytes there are from there to where they differ last.
+// The first index at which two texts differ, and the number of bytes from there to the last difference.
 fn change(before: &[u8], after: &[u8]) -> (usize, usize) {
     let same = before.iter().zip(after).take_while(|(a, b)| a == b).count();
     let ends = before.iter().rev().zip(after.iter().rev());
@@ -96,7 +96,7 @@ fn change(before: &[u8], after: &[u8]) -> (usize, usize) {
     (same, after.len().saturating_sub(same).saturating_sub(tail))
 }
 
-// A write that broke off: the first of its bytes are those after it, and the others those before it.
+// A torn write: the first `len` bytes are the new ones, and the rest are the old ones.
 fn torn(alloc: Global, before: &[u8], after: &[u8], len: usize) -> Result<Vec<u8>, AllocError> {
     let (new, _) = after.split_at(len.min(after.len()));
     let mut bytes = Vec::from_slice(alloc, new)?;
@@ -104,7 +104,7 @@ fn torn(alloc: Global, before: &[u8], after: &[u8], len: usize) -> Result<Vec<u8
     Ok(bytes)
 }
 
-/// How many stops there were, and in how many states of the files the office was opened.
+/// The number of stops, and of the states of the files in which the office was opened.
 #[derive(Clone, Copy)]
 pub(crate) struct Count {
     pub(crate) stops: u64,
@@ -125,7 +125,7 @@ const NONE: Count = Count {
     states: 0,
 };
 
-/// Steps, the files that they begin with, and what is found before them and after each.
+/// Steps, the files before them, and what must be in the files before them and after each.
 #[derive(Drop)]
 pub(crate) struct Plan<'a> {
     pub(crate) steps: &'a [Step],
@@ -134,7 +134,7 @@ pub(crate) struct Plan<'a> {
 }
 
 impl<'a> Plan<'a> {
-    /// Steps in an office that was made for them.
+    /// A plan for steps in an office that is prepared for them.
     pub(crate) fn new(alloc: Global, steps: &'a [Step]) -> Result<Plan<'a>, Fail> {
         Ok(Plan {
             steps,
@@ -143,7 +143,7 @@ impl<'a> Plan<'a> {
         })
     }
 
-    // Does the steps on disks of which one may stop.
+    // Does the steps on disks. One disk may stop.
     fn left(&self, alloc: Global, stop: Stop) -> Result<Left, Fail> {
         let job = Job::Steps(self.steps);
         let Outcome {
@@ -170,7 +170,7 @@ impl<'a> Plan<'a> {
         })
     }
 
-    // The office of these files is the one after the steps that were acknowledged, or after the next one.
+    // Expects that the files hold the office after the acknowledged steps, or after one step more.
     fn pass(&self, alloc: Global, left: &Left, log: &[u8], db: &[u8]) -> Result<(), Fail> {
         let found = found_in(alloc, log, db)?;
         let next = left.done.saturating_add(1);
@@ -180,7 +180,7 @@ impl<'a> Plan<'a> {
         Err(("another office", self.steps.get(left.done), left.stop).into())
     }
 
-    // Each file is as it was written, or has lost what was not synced; in how many states that is.
+    // Checks each combination of files as written and files without unsynced writes. Returns the number of combinations.
     fn pass_each(&self, alloc: Global, left: &Left) -> Result<u64, Fail> {
         let Left {
             written,
@@ -202,8 +202,8 @@ impl<'a> Plan<'a> {
         Ok(u64::from(1 + u8::from(logs_differ)) * u64::from(1 + u8::from(dbs_differ)))
     }
 
-    // The call at which the disk stopped is a write that broke off after each eighth of its bytes; in how many states
-    // that is. The next stop is one call later, and shows what the whole write leaves.
+    // Checks a torn write at the call at which the disk stopped, after each eighth of its bytes. Returns the number of states.
+    // The next stop is one call later, so it has the bytes of the whole write.
     fn pass_torn(&self, alloc: Global, left: &Left, next: &Left) -> Result<u64, Fail> {
         let (first, len) = change(left.stopping(), next.stopping());
         if len == 0 {
@@ -220,7 +220,7 @@ impl<'a> Plan<'a> {
         Ok(7)
     }
 
-    // A stop of one disk at each count of calls, up to the first at which there is none; there are some.
+    // Stops one disk at each number of calls, up to the first number at which it does not stop. Fails if it never stops.
     fn each_stop(&self, alloc: Global, side: Side) -> Result<Count, Fail> {
         let mut last = self.left(alloc, Stop { side, calls: 0 })?;
         let mut states = self.pass_each(alloc, &last)?;
@@ -240,7 +240,7 @@ impl<'a> Plan<'a> {
         Err("stops without end".into())
     }
 
-    /// Stops of each of the two disks.
+    /// Stops each of the two disks in turn.
     pub(crate) fn stop_both(&self, alloc: Global) -> Result<Count, Fail> {
         let first = found_in(alloc, &self.image.log, &self.image.db)?;
         holds(
@@ -252,12 +252,12 @@ impl<'a> Plan<'a> {
     }
 }
 
-// Stops of each of the two disks.
+// Stops each of the two disks in turn.
 fn stop_each(alloc: Global, steps: &[Step]) -> Result<Count, Fail> {
     Plan::new(alloc, steps)?.stop_both(alloc)
 }
 
-// The same of each step alone.
+// The same for each step alone.
 fn stop_alone(alloc: Global, steps: &[Step]) -> Result<Count, Fail> {
     let mut count = NONE;
     for step in steps {
@@ -332,7 +332,7 @@ fn other_commands_by_request_stop(rt: HostRuntime) -> Result<(), Fail> {
     Ok(())
 }
 
-// The same of sessions.
+// The same for sessions.
 fn stop_sessions(alloc: Global, sessions: &[&[Step]]) -> Result<Count, Fail> {
     let mut count = NONE;
     for steps in sessions {

@@ -1,4 +1,4 @@
-//! Answers over writers that are slow or fail, and the writes that they take.
+//! Answers to writers that are slow or fail, and how many writes they need.
 use sigtext::Refusal;
 use std::alloc::{AllocError, Global};
 use std::test::Fail;
@@ -23,14 +23,14 @@ const DONE: &[u8] =
 const EXPIRED: &[u8] =
     b"HTTP/1.1 403 Forbidden\r\nContent-Type: text/plain\r\nContent-Length: 37\r\n\r\nAccessDenied 23 the link has expired\n";
 
-// The heads of a file's answer around its length, which is left out.
+// The head of a file's answer before and after the length.
 const BEFORE_LENGTH: &[u8] =
     b"HTTP/1.1 200 OK\r\nContent-Type: application/octet-stream\r\nContent-Length: ";
 
 const AFTER_LENGTH: &[u8] =
     b"\r\nX-Drop-Receipt: 1\r\nX-Drop-Sha256: ba7816bf8f01cfea414140de5dae2223b00361a396177a9cb410ff61f20015ad\r\n\r\n";
 
-// What a writer has got, whether the call succeeded, and how many faults are counted.
+// The bytes that a writer got, the call's result, and the number of counted faults.
 #[derive(Drop)]
 struct Sent {
     text: Vec<u8>,
@@ -38,7 +38,7 @@ struct Sent {
     faults: u64,
 }
 
-// The answer over a writer that takes so many bytes at once, and so many in all.
+// Sends the answer to a writer that takes `at_once` bytes per write and `room` bytes in all.
 fn sent_by(alloc: Global, answer: &Answer, at_once: usize, room: usize) -> Sent {
     let mut writer = Counted::new(Sink::new(alloc, at_once, room));
     let outcome = put_answer(answer, &mut writer);
@@ -65,7 +65,7 @@ fn found(bytes: Vec<u8>) -> Answer {
     })
 }
 
-// So many bytes: the numbers from 0 to 250, over and over.
+// `len` bytes that repeat 0 to 250.
 fn some_bytes(alloc: Global, len: usize) -> Result<Vec<u8>, AllocError> {
     let mut bytes = Vec::new(alloc);
     let mut next: u8 = 0;
@@ -76,7 +76,7 @@ fn some_bytes(alloc: Global, len: usize) -> Result<Vec<u8>, AllocError> {
     Ok(bytes)
 }
 
-// The answer of so many bytes, whose length is written so.
+// The expected answer with `len` bytes. `digits` is the length in decimal.
 fn owed(alloc: Global, digits: &[u8], len: usize) -> Result<Vec<u8>, AllocError> {
     let mut text = Vec::from_slice(alloc, BEFORE_LENGTH)?;
     text.extend_from_slice(digits)?;
@@ -157,7 +157,7 @@ fn a_short_answer_is_one_write(rt: HostRuntime) -> Result<(), Fail> {
     Ok(())
 }
 
-// A text of up to 4096 bytes is one write, and a longer one two: the head of a file of 4 digits has 181 bytes.
+// An answer of up to 4096 bytes is one write, a longer one two. With a length of 4 digits the head has 181 bytes.
 #[test]
 fn a_file_is_sent_with_its_head(rt: HostRuntime) -> Result<(), Fail> {
     let alloc = rt.alloc();

@@ -1,4 +1,4 @@
-//! A stream of two requests and one that breaks off, of which one read or one write goes wrong, each in turn.
+//! A stream of two requests and one that breaks off. Each read and each write fails in turn.
 use office::{Counted, FixedClock, SessionEnd};
 use sigv4::Moment;
 use std::alloc::Global;
@@ -7,8 +7,8 @@ use trials::fakes::{FailsAt, Sink, Source, StopsAt};
 use trials::published::{DATE, NO_BOX, REQUEST, broken_off, broken_off_answers, make_office};
 use trials::rows::holds;
 
-// How many bytes go at once, and what goes wrong: the read or the write of a number, counted from 1 on, where it is
-// not 0. A write fails or takes none.
+// A connection that moves `at_once` bytes per call. The read and the write of these numbers, counted from 1, go wrong; 0 means
+// none. A write fails or takes no byte.
 #[derive(Clone, Copy, Debug)]
 struct Line {
     at_once: usize,
@@ -17,7 +17,7 @@ struct Line {
     fails: bool,
 }
 
-// All goes right.
+// A connection without faults.
 const RIGHT: Line = Line {
     at_once: 4096,
     read: 0,
@@ -48,7 +48,7 @@ impl Line {
     }
 }
 
-// The stream, and what is owed for it whole.
+// The stream, and the expected answers.
 #[derive(Drop)]
 struct Talk {
     stream: Vec<u8>,
@@ -64,8 +64,8 @@ fn talk_over(alloc: Global) -> Result<Talk, Fail> {
     })
 }
 
-// What a session leaves: its end, how many bytes it was given, what it wrote, how many reads and writes it made, and
-// how many of them are counted as faults.
+// The result of a session: its end, the bytes that it read and wrote, its reads and writes, and its counted read and write
+// faults.
 #[derive(Drop)]
 struct Left {
     end: SessionEnd,
@@ -92,7 +92,7 @@ impl Talk {
         })
     }
 
-    // A run over this connection and one on which all goes right: the second is served rightly.
+    // Runs this connection and then one without faults. The second must get the right answers.
     fn goes_on(&self, alloc: Global, line: Line, text: &[u8]) -> Result<(), Fail> {
         let mut connections = [
             line.connect(alloc, &self.stream),
@@ -112,12 +112,12 @@ impl Talk {
         )
     }
 
-    // All is answered.
+    // Whether everything is answered.
     fn is_whole(&self, left: &Left) -> bool {
         left.end == SessionEnd::Refused(6) && left.text == self.want && left.faults == (0, 0)
     }
 
-    // The session ended at the read that fails: exactly the messages that came whole are answered.
+    // Expects that the session ended at the failing read, and that exactly the complete messages are answered.
     fn ends_at_read(&self, left: &Left, line: Line) -> Result<(), Fail> {
         let answered = (left.given / REQUEST.len()).saturating_mul(NO_BOX.len());
         let text = self.want.get(..answered).unwrap_or(b"");
@@ -129,7 +129,7 @@ impl Talk {
         )
     }
 
-    // The session ended at the write that stops: a part of what is owed was written.
+    // Expects that the session ended at the failing write, with a part of the answers written.
     fn ends_at_write(&self, left: &Left, line: Line) -> Result<(), Fail> {
         let is_part = self.want.starts_with(&left.text) && left.text.len() < self.want.len();
         holds(left.end == SessionEnd::WriteFault, "another end")?;
@@ -140,7 +140,7 @@ impl Talk {
         )
     }
 
-    // How many reads there are; each fails in turn.
+    // Makes each read fail in turn. Returns the number of reads.
     fn reads(&self, alloc: Global, at_once: usize) -> Result<u64, Fail> {
         for read in 1..1000u64 {
             let line = Line {
@@ -159,7 +159,7 @@ impl Talk {
         Err("reads without end".into())
     }
 
-    // How many writes there are; each fails or takes none in turn.
+    // Makes each write fail or take no byte in turn. Returns the number of writes.
     fn writes(&self, alloc: Global, at_once: usize, fails: bool) -> Result<u64, Fail> {
         for write in 1..1000u64 {
             let line = Line {
@@ -186,7 +186,7 @@ fn each_read_fails_in_turn(rt: HostRuntime) -> Result<(), Fail> {
     let few = talk.reads(rt.alloc(), 4096)?;
     let many = talk.reads(rt.alloc(), 11)?;
     println!(rt; "{few} and {many} reads")?;
-    // One read gives all, and one tells the end.
+    // One read gets everything, and one finds the end.
     assert_eq!(rt; few, 2);
     assert!(rt; many >= 60);
     Ok(())

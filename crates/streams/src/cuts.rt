@@ -1,4 +1,4 @@
-//! Streams that are cut at every place, over an office without boxes: answers and ends stay the same.
+//! Streams that are cut at every index, over an office without boxes. Answers and ends stay the same.
 use crate::feeds::{long_head, many_fields};
 use office::SessionEnd;
 use sigv4::Moment;
@@ -23,7 +23,7 @@ const NO_CODINGS: &[u8] =
 pub(crate) const NOT_SIGNED: &[u8] =
     b"HTTP/1.1 403 Forbidden\r\nContent-Type: text/plain\r\nContent-Length: 41\r\n\r\nAccessDenied 9 the request is not signed\n";
 
-// Whether the stream, so many bytes of it a read, is answered so and ends so.
+// Whether the stream, with `at_once` bytes per read, gets this answer and this end.
 fn is_given(
     alloc: Global,
     stream: &[u8],
@@ -41,7 +41,7 @@ fn is_given(
     Ok(got.end == end && got.text.as_slice() == want)
 }
 
-// Whether the stream is answered so and ends so, read byte by byte, in one piece and cut once at each place.
+// Whether the stream gets this answer and this end, read byte by byte, in one piece, and cut at each index.
 fn is_answered(alloc: Global, stream: &[u8], want: &[u8], end: SessionEnd) -> Result<bool, Fail> {
     let moment = Moment::read(DATE).ok_or("no moment")?;
     let mut is_so = is_given(alloc, stream, 1, want, end)?;
@@ -95,7 +95,7 @@ fn transfer_codings_whatever_the_length(rt: HostRuntime) -> Result<(), Fail> {
     Ok(())
 }
 
-// So many times this byte.
+// `len` times this byte.
 fn line_of(alloc: Global, byte: u8, len: usize) -> Result<Vec<u8>, Fail> {
     let mut line = Vec::new(alloc);
     for _ in 0..len {

@@ -1,4 +1,4 @@
-//! Uploads and fetches over streams that are cut or fail, and by other keys.
+//! Uploads and fetches over streams that are cut or fail.
 use boxes::Mode;
 use keeper::Keeper;
 use office::{Counted, FixedClock, ListedClock, SessionEnd};
@@ -11,21 +11,21 @@ use trials::fakes::{Cut, Sink, Source};
 use trials::owed::{FIRST_ABC, FOUND_ABC, NO_BODY_HERE, SECOND_X};
 use trials::published::{DATE, EXPIRED};
 
-// An upload of `abc`, and the fetch of it, in one stream.
+// An upload of `abc` and its fetch, in one stream.
 fn put_and_get(alloc: Global) -> Result<Vec<u8>, Fail> {
     let mut stream = put(alloc, b"/in/a.txt", b"abc")?;
     stream.extend_from_slice(&bare(alloc, b"GET", b"/in/a.txt")?)?;
     Ok(stream)
 }
 
-// The answers to those two, one behind the other.
+// The answers to those two requests.
 fn both(alloc: Global) -> Result<Vec<u8>, Fail> {
     let mut text = Vec::from_slice(alloc, FIRST_ABC)?;
     text.extend_from_slice(FOUND_ABC)?;
     Ok(text)
 }
 
-// What an office with an open box writes to a reader, and how the session ends.
+// What an office with an open box answers, and how the session ends.
 fn exchange<R: Read + Drop>(alloc: Global, reader: R) -> Result<(Vec<u8>, SessionEnd), Fail> {
     let moment = Moment::read(DATE).ok_or("no moment")?;
     let mut office = make_office(alloc, 0, &settings(Mode::Keep, 100, 2))?;

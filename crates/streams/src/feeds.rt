@@ -1,4 +1,4 @@
-//! Feeds over streams that are cut, slow, or break off or a rule.
+//! Feeds over streams that are cut, are slow, break off or break a rule.
 use sigtext::Refusal;
 use std::alloc::Global;
 use std::io::Read;
@@ -9,7 +9,7 @@ use wire::{Counted, Feed, MOST_FIELDS, MOST_HEAD, NO_FIELD, Piece, Step, WireFau
 
 pub(crate) const GET: &[u8] = b"GET /b HTTP/1.1\r\n\r\n";
 
-/// A PUT of a body of so many bytes, 0 to 250 over and over, and a GET behind it.
+/// A PUT with a body of `size` bytes that repeat 0 to 250, and then a GET.
 pub(crate) fn two_messages(alloc: Global, size: usize) -> Result<Vec<u8>, Fail> {
     let mut stream = Vec::new(alloc);
     let head = format!(in alloc; "PUT /a HTTP/1.1\r\nContent-Length: {size}\r\n\r\n")?;
@@ -19,7 +19,7 @@ pub(crate) fn two_messages(alloc: Global, size: usize) -> Result<Vec<u8>, Fail> 
     Ok(stream)
 }
 
-/// A head of so many bytes: 31 at least.
+/// A request head of `size` bytes. `size` is at least 31.
 pub(crate) fn long_head(alloc: Global, size: usize) -> Result<Vec<u8>, Fail> {
     let mut head = Vec::new(alloc);
     head.extend_from_slice(b"GET /a HTTP/1.1\r\nX-Long: ")?;
@@ -30,7 +30,7 @@ pub(crate) fn long_head(alloc: Global, size: usize) -> Result<Vec<u8>, Fail> {
     Ok(head)
 }
 
-/// A head of so many fields.
+/// A request head with `count` header fields.
 pub(crate) fn many_fields(alloc: Global, count: usize) -> Result<Vec<u8>, Fail> {
     let mut head = Vec::new(alloc);
     head.extend_from_slice(b"GET /a HTTP/1.1\r\n")?;
@@ -41,16 +41,16 @@ pub(crate) fn many_fields(alloc: Global, count: usize) -> Result<Vec<u8>, Fail> 
     Ok(head)
 }
 
-// What was told of a head.
+// What a feed reports about a request head.
 #[derive(Clone, Copy, Debug)]
 struct Told {
-    // Whether it is the whole text of `GET`.
+    // Whether its text is `GET`.
     is_get: bool,
     has_length: bool,
     length: usize,
 }
 
-// What a feed tells next.
+// The feed's next step.
 fn next<R: Read>(feed: &mut Feed<'_, R>) -> Result<Step<Told>, WireFault> {
     let mut text = [0; MOST_HEAD];
     let mut fields = [NO_FIELD; MOST_FIELDS];
@@ -67,7 +67,7 @@ fn next<R: Read>(feed: &mut Feed<'_, R>) -> Result<Step<Told>, WireFault> {
     }
 }
 
-// The pieces of the body that is open, joined, and the length of the longest.
+// The pieces of the open body joined, and the length of the longest piece.
 fn joined(alloc: Global, feed: &mut Feed<'_, Source<'_>>) -> Result<(Vec<u8>, usize), Fail> {
     let mut bytes = Vec::new(alloc);
     let mut longest = 0;
@@ -84,8 +84,8 @@ fn joined(alloc: Global, feed: &mut Feed<'_, Source<'_>>) -> Result<(Vec<u8>, us
     Err("the body has no end".into())
 }
 
-// Whether the stream, so many bytes of it at once, is a PUT of such a body in pieces of at most 65536 bytes, and a
-// GET, and then ends.
+// Whether the stream, with `at_once` bytes per read, is such a PUT with pieces of at most 65536 bytes, then a GET, then the
+// end.
 fn is_fed(alloc: Global, stream: &[u8], size: usize, at_once: usize) -> Result<bool, Fail> {
     let mut reader = Counted::new(Source {
         rest: stream,
@@ -126,7 +126,7 @@ fn a_body_of_the_greatest_size_comes_whole(rt: HostRuntime) -> Result<(), Fail> 
     Ok(())
 }
 
-/// What the feed of a stream, so many bytes of it at once, tells first; `None` for a head.
+/// The refusal that is the feed's first step, with `at_once` bytes per read. `None` for any other step.
 fn refusal_of(alloc: Global, stream: &[u8], at_once: usize) -> Option<Refusal> {
     let mut reader = Counted::new(Source {
         rest: stream,

@@ -1,4 +1,4 @@
-//! Uploads of large bodies that break off, and the rows of such bodies, over the keeper in memory.
+//! Large uploads that break off, and the test rows for large bodies, over the keeper in memory.
 use crate::staging::make_watched;
 use office::Office;
 use std::alloc::Global;
@@ -10,7 +10,7 @@ use trials::rows::holds;
 use trials::staged::{MOST, SIZE, body, breaks_off, is_unstaged, upload_of};
 use trials::watched::Watched;
 
-// An upload comes no further than this front of it, and then its stream ends or a read fails. Nothing is staged then.
+// An upload breaks off after this front: its stream ends or a read fails. Expects that nothing is staged then.
 fn comes_to_here(alloc: Global, front: &[u8], at_once: usize, fails: bool) -> Result<(), Fail> {
     let mut office = make_watched(alloc, 10_000_000)?;
     let broken = Source {

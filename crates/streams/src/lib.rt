@@ -1,5 +1,5 @@
-//! Tests over readers, writers, sinks and keepers that are slow, fail or say something else: what no row of data can
-//! say. They stand in a crate of their own, so that what `trials` gives is proved once. The crate gives nothing.
+//! Tests over readers, writers, sinks and keepers that are slow, fail or answer wrongly. No row of data can express them. They
+//! have their own crate, so that `trials` is proved once. The crate exports nothing.
 #![tactic(auto)]
 
 #[cfg(test)]

@@ -1,4 +1,4 @@
-//! Lists over readers and writers that are slow or fail, over a keeper that fails, and of more receipts than are held at a
+//! Lists over readers and writers that are slow or fail, over a keeper that fails, and with more receipts than are held at a
 //! time.
 use crate::keepers::failing;
 use crate::link_lists::{ASKED, WRITTEN, linked};
@@ -19,7 +19,7 @@ use trials::published::DATE;
 use trials::rows::{holds, upload};
 use wire::Counted;
 
-// A list that an office writes which took `abc`.
+// A list from an office that accepted `abc`.
 #[derive(Clone, Copy, Debug)]
 enum List {
     Manifest,
@@ -28,7 +28,7 @@ enum List {
 }
 
 impl List {
-    // What is read for it.
+    // The input.
     fn read(self) -> &'static [u8] {
         match self {
             List::Manifest => b"",
@@ -37,7 +37,7 @@ impl List {
         }
     }
 
-    // What is owed.
+    // The expected output.
     fn owed(self) -> &'static [u8] {
         match self {
             List::Manifest => MANIFEST,
@@ -55,14 +55,14 @@ impl List {
     }
 }
 
-// That office.
+// An office that accepted `abc`.
 fn took_abc(alloc: Global) -> Result<Office<Shelf>, Fail> {
     let mut office = make_office(alloc, 0, &settings(Mode::Keep, 100, 2))?;
     upload(&mut office, b"/in/a.txt", b"abc", DATE, FIRST_ABC)?;
     Ok(office)
 }
 
-// The list is whole, however much is read and written at once.
+// Expects the whole list for any sizes of reads and writes.
 fn comes_whole(office: &mut Office<Shelf>, list: List) -> Result<(), Fail> {
     for (read, written) in [(1, 1), (1, 4096), (2, 7), (7, 2), (4096, 1)] {
         let mut source = Source {
@@ -101,7 +101,7 @@ fn a_byte_order_mark_is_passed_over_in_pieces(rt: HostRuntime) -> Result<(), Fai
     Ok(())
 }
 
-// A read of the list fails behind each of its bytes.
+// Makes the read fail after each byte of the list in turn.
 fn reads_fail(office: &mut Office<Shelf>, list: List, at_once: usize) -> Result<(), Fail> {
     let whole = list.read();
     for place in 0..whole.len() {
@@ -121,7 +121,7 @@ fn reads_fail(office: &mut Office<Shelf>, list: List, at_once: usize) -> Result<
     Ok(())
 }
 
-// It fails behind them all: each row that was read is answered.
+// Makes the read fail after the last byte. Expects an answer to every row.
 fn the_last_read_fails(office: &mut Office<Shelf>, list: List) -> Result<(), Fail> {
     let mut source = Source {
         rest: list.read(),
@@ -144,7 +144,7 @@ fn a_failed_read_is_told(rt: HostRuntime) -> Result<(), Fail> {
     Ok(())
 }
 
-// A writer has room for each beginning of the list, and then fails.
+// Makes the writer fail after each byte of the output in turn.
 fn writes_fail(office: &mut Office<Shelf>, list: List, at_once: usize) -> Result<(), Fail> {
     let owed = list.owed();
     for room in 0..owed.len() {
@@ -239,7 +239,7 @@ fn a_keeper_that_fails_is_told(rt: HostRuntime) -> Result<(), Fail> {
     Ok(())
 }
 
-// An office with many receipts of one file, its manifest, and what stands of it.
+// An office with many receipts for one file, its manifest, and the comparison of the manifest.
 #[derive(Drop)]
 struct Many {
     office: Office<Shelf>,
@@ -248,7 +248,7 @@ struct Many {
 }
 
 impl Many {
-    // The digest is by Python's `hashlib`.
+    // The digest comes from Python's `hashlib`.
     fn new(alloc: Global, count: usize) -> Result<Many, Fail> {
         let mut office = make_office(alloc, 0, &settings(Mode::Replace, 100, 2))?;
         let mut receipts = Vec::from_slice(alloc, RECEIPTS)?;

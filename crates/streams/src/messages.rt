@@ -1,4 +1,4 @@
-//! Heads of streams that are cut, slow, or break off or a rule, and bodies that nobody keeps.
+//! Request heads from streams that are cut, are slow, break off or break a rule, and skipped bodies.
 ghost use Rattle.std.specs.Prelude.{◌≡◌, IfOk, IsTrue};
 ghost use Rattle.wire.specs.Feeds.{place_of};
 ghost use Rattle.wire.specs.Whole.{MayBegin};
@@ -14,23 +14,23 @@ use wire::{
     read_opening, skip_body,
 };
 
-// What reading a stream to its end gave.
+// The result of reading a stream to its end.
 #[derive(Debug, Drop)]
 struct Outcome {
-    // The heads that came, one behind another.
+    // The request heads, joined together.
     text: Vec<u8>,
-    // How many bytes the bodies had that came whole.
+    // The total size of the complete bodies.
     skipped: usize,
-    // How many messages came, and how many of them told a length.
+    // The number of messages, and of those with a `Content-Length`.
     messages: usize,
     lengths: usize,
-    // What came in place of the next message; for a body that lacks this is refusal 6.
+    // What came instead of the next message. Refusal 6 after an incomplete body.
     end: Result<Came<'static>, WireFault>,
     faults: u64,
 }
 
 impl Outcome {
-    // Reads a message, of whose body nothing is kept; tells whether another may follow.
+    // Reads a message and skips its body. Whether another message may follow.
     fn read_one(&mut self, feed: &mut Feed<'_, Source<'_>>) -> Result<bool, Fail>
         requires { MayBegin (place_of feed.old) }
         ensures { IfOk result (λ goes_on. IsTrue goes_on → MayBegin (place_of feed.new)) }
@@ -47,7 +47,7 @@ impl Outcome {
         Ok(false)
     }
 
-    // Reads the body of a message that was opened.
+    // Skips the body of an opened message.
     fn read_body(
         &mut self,
         feed: &mut Feed<'_, Source<'_>>,
@@ -77,7 +77,7 @@ impl Outcome {
     }
 }
 
-// Reads message after message, and keeps the heads alone.
+// Reads all messages, and keeps only the heads.
 fn read_all(alloc: Global, reader: Source<'_>) -> Result<Outcome, Fail> {
     let mut reader = Counted::new(reader);
     let mut feed = Feed::new(alloc, &mut reader);
@@ -98,7 +98,7 @@ fn read_all(alloc: Global, reader: Source<'_>) -> Result<Outcome, Fail> {
     Ok(got)
 }
 
-// The same of a stream of which so many bytes come at once.
+// The same for a stream with `at_once` bytes per read.
 fn read_stream(alloc: Global, stream: &[u8], at_once: usize, fails: bool) -> Result<Outcome, Fail> {
     let source = Source {
         rest: stream,
@@ -108,7 +108,7 @@ fn read_stream(alloc: Global, stream: &[u8], at_once: usize, fails: bool) -> Res
     read_all(alloc, source)
 }
 
-// The heads of the two messages of a stream whose body has so many bytes.
+// The heads of a stream's two messages. The first body has `size` bytes.
 fn heads(alloc: Global, stream: &[u8], size: usize) -> Result<Vec<u8>, Fail> {
     let behind = stream.len().saturating_sub(GET.len());
     let front = stream.get(..behind.saturating_sub(size)).unwrap_or(b"");
@@ -117,7 +117,7 @@ fn heads(alloc: Global, stream: &[u8], size: usize) -> Result<Vec<u8>, Fail> {
     Ok(heads)
 }
 
-// Whether such a stream, so many bytes of it at once, comes whole.
+// Whether such a stream, with `at_once` bytes per read, is read completely.
 fn comes_whole(alloc: Global, stream: &[u8], size: usize, at_once: usize) -> Result<bool, Fail> {
     let got = read_stream(alloc, stream, at_once, false)?;
     let heads = heads(alloc, stream, size)?;

@@ -12,7 +12,7 @@ const NO_TRANSFER_CODING: &[u8] =
 fn runs_a_list_of_connections(rt: HostRuntime) -> Result<(), Fail> {
     let alloc = rt.alloc();
     let first = Moment::read(DATE).ok_or("no moment")?;
-    // A refusal of the stream takes no moment.
+    // A refusal for the stream does not ask the clock.
     let late = Moment::read(b"20130525T000000Z").ok_or("no moment")?;
     let others = [late, first, late];
     let mut clock = ListedClock::new(first, &others);

@@ -18,11 +18,11 @@ const FIELDS: [Field<'static>; 2] = [
     },
 ];
 
-// The path and the query as `urllib.parse.quote` of Python 3 writes what `unquote_to_bytes` reads.
+// The path and the query are those of Python 3's `urllib.parse.quote` after `unquote_to_bytes`.
 const CANONICAL: &[u8] =
     b"PUT\n/%E2%82%AC/x%20y~%2A\na%2Bb=c%2Fd%21&x=\nhost:example.com\nx-amz-meta-a:v 1\n\nhost;x-amz-meta-a\nUNSIGNED-PAYLOAD";
 
-// Takes the bytes of so many calls, and then fails.
+// Takes the bytes of `calls` calls, and then fails.
 #[derive(Drop)]
 struct Failing {
     calls: usize,
@@ -50,7 +50,7 @@ impl ByteSink for Failing {
     ghost joins = { λ s t u a b p q. appends_both s.taken.items t.taken.items u.taken.items a b p q };
 }
 
-/// What the signature of that request covers.
+/// The signed parts of that request.
 fn parts(alloc: Global) -> Result<Parts<'static>, Fail> {
     let target = Target::read(TARGET).ok().ok_or("no target")?;
     let names = SignedNames::read(b"host;x-amz-meta-a")?;

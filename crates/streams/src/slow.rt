@@ -1,18 +1,19 @@
-//! Readers and writers that would have one wait, or fail, at a turn of their own.
+//! Readers and writers that block or fail at given calls.
 use std::alloc::Global;
 use std::io;
 use std::io::{ErrorKind, Read, Write};
 
-/// A call of a reader or of a writer.
+/// The result of a read or a write.
 #[derive(Clone, Copy)]
 pub(crate) enum Turn {
-    /// It moves so many bytes at most.
+    /// At most this many bytes are moved.
     Moves(usize),
-    /// It fails so.
+    /// An error of this kind.
     Fails(ErrorKind),
 }
 
-/// Has these turns, and then moves all. Reads give the bytes that are left, and writes are kept. It counts its calls.
+/// Answers its first calls with these turns, and later calls move up to 4096 bytes. Reads give the remaining bytes, and written
+/// bytes are kept. Counts its calls.
 #[derive(Drop)]
 pub(crate) struct Slow<'a> {
     turns: &'a [Turn],
@@ -31,7 +32,7 @@ impl<'a> Slow<'a> {
         }
     }
 
-    // How many bytes this call moves at most.
+    // The most bytes that this call moves.
     fn most(&mut self) -> io::Result<usize> {
         let turn = self.turns.get(self.calls).copied();
         self.calls = self.calls.saturating_add(1);
@@ -64,7 +65,7 @@ impl Write for Slow<'_> {
     }
 }
 
-/// Whether the call failed so.
+/// Whether the call failed with this kind of error.
 pub(crate) fn fails(call: io::Result<usize>, kind: ErrorKind) -> bool {
     call.is_err_and(|error| error.kind() == kind)
 }

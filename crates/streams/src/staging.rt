@@ -1,5 +1,5 @@
-//! Uploads whose bodies are staged piece by piece: over a keeper that refuses each call in turn, over readers that give any
-//! number of bytes at once, and past a quota. Receipts are by Python's `hashlib`.
+//! Uploads that are staged in pieces: over a keeper that refuses each call in turn, over readers with any number of bytes per
+//! read, and over a quota. The receipts come from Python's `hashlib`.
 use boxes::Mode;
 use keeper::{Keeper, Shelf};
 use office::{Office, SessionEnd};
@@ -14,14 +14,14 @@ use trials::staged::{SIZE, body, is_unstaged, left_by, source, upload_of};
 use trials::telling::told;
 use trials::watched::Watched;
 
-// The receipt of so many bytes as the second one.
+// The receipt number 2, for 200000 bytes.
 const SECOND: &[u8] =
     b"HTTP/1.1 200 OK\r\nContent-Type: text/plain\r\nContent-Length: 82\r\n\r\nreceipt 2 200000 e24bc62381f1224fbbb74688663f8f9743b9680b193edd666835e97b06e730eb\n";
 
-/// An office in memory that is watched.
+/// A watched office in memory.
 pub(crate) type WatchedOffice = Office<Watched<Shelf>>;
 
-/// One with a box `in` of so many bytes at most, and in it a file `a2.txt` without bytes.
+/// A watched office with a box `in` of this quota, which has an empty file `a2.txt`.
 pub(crate) fn make_watched(alloc: Global, quota: u64) -> Result<WatchedOffice, Fail> {
     let office = begun(alloc, 0)?;
     let mut office = Office::new(alloc, Watched::new(office.keeper));
@@ -30,17 +30,16 @@ pub(crate) fn make_watched(alloc: Global, quota: u64) -> Result<WatchedOffice, F
     Ok(office)
 }
 
-// What became of an upload of which one call of the keeper was to be refused.
+// The result of an upload with one keeper call to be refused.
 #[derive(Clone, Copy, Debug, PartialEq, Eq)]
 enum Outcome {
-    // It makes fewer calls, and got its receipt.
+    // The upload makes fewer calls, and got its receipt.
     Done,
-    // The call was refused. So many pieces had come, with this one where it was to stage one.
+    // The call was refused. The number counts the `stage` calls up to it.
     Refused(u64),
 }
 
-// Refuses the call of this number, of those that the upload makes. It is then answered with 40, the office stays as it was,
-// and the same upload gets its receipt at the second time.
+// Refuses one keeper call of the upload, counted from 1. Expects answer 40, an unchanged office, and a receipt for the retry.
 fn refused_at(alloc: Global, stream: &[u8], at_once: usize, call: u64) -> Result<Outcome, Fail> {
     let mut office = make_watched(alloc, 1_000_000)?;
     let before = told(alloc, &mut office.keeper)?;
@@ -58,7 +57,7 @@ fn refused_at(alloc: Global, stream: &[u8], at_once: usize, call: u64) -> Result
     left.comes_to(TRY_AGAIN, SessionEnd::Refused(40))?;
     holds(drops <= 1, "let go of twice")?;
     holds(calls == call.saturating_add(drops), "another call")?;
-    // A question before the body, or the first piece: the rest is not read.
+    // If a call before the body or the first piece is refused, the rest is not read.
     holds(pieces > 1 || left.unread >= 40_000, "read on")?;
     let stays = told(alloc, &mut office.keeper)? == before;
     holds(stays, "another office behind a refusal")?;
@@ -70,7 +69,7 @@ fn refused_at(alloc: Global, stream: &[u8], at_once: usize, call: u64) -> Result
     Ok(Outcome::Refused(pieces))
 }
 
-// How many calls the upload makes; each is refused in turn, also the first that stages bytes.
+// Refuses each keeper call of the upload in turn, also the first `stage`. Returns the number of calls.
 fn calls_of(alloc: Global, stream: &[u8], at_once: usize) -> Result<u64, Fail> {
     let mut first_pieces = 0;
     for call in 1..100u64 {
@@ -93,7 +92,7 @@ fn each_call_of_a_staged_upload_is_refused_in_turn(rt: HostRuntime) -> Result<()
     let many = calls_of(alloc, &stream, 4096)?;
     let few = calls_of(alloc, &stream, 1_000_000)?;
     println!(rt; "{many} and {few} calls")?;
-    // Two questions before the body, the beginning, four pieces of at most 65536 bytes and the change are the fewest.
+    // At least two queries before the body, `stage_begin`, four pieces of at most 65536 bytes, and the change.
     assert!(rt; few >= 8 && many > few);
     Ok(())
 }

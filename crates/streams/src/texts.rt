@@ -1,11 +1,11 @@
-//! Texts over writers that are slow or broken.
+//! Texts to writers that are slow or broken.
 use sigtext::Refusal;
 use std::alloc::Global;
 use trials::fakes::Sink;
 use trials::published::NO_BOX;
 use wire::{Answer, Counted, WireFault, put_answer, send};
 
-// Whether `hello` over a writer that takes so many bytes at once, and so many in all, leaves this.
+// Whether sending `hello` to a writer that takes `at_once` bytes per write and `room` bytes in all gives this result and text.
 fn leaves(
     alloc: Global,
     at_once: usize,
@@ -40,7 +40,7 @@ fn no_byte_needs_no_write(rt: HostRuntime) {
     assert_eq!(rt; writer.faults(), 0);
 }
 
-// What a writer gets that takes so many bytes at once, and so many in all; and how many faults are counted.
+// The bytes that a writer gets that takes `at_once` bytes per write and `room` bytes in all, and the number of counted faults.
 fn answered(alloc: Global, at_once: usize, room: usize) -> (Vec<u8>, u64) {
     let answer = Answer::refused(Refusal::NoSuchBox, false);
     let mut writer = Counted::new(Sink::new(alloc, at_once, room));

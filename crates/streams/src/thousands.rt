@@ -1,4 +1,4 @@
-//! Streams of a thousand messages and more, over an office without boxes: how a session ends, and how few calls it makes.
+//! Streams of a thousand messages and more, over an office without boxes: how the session ends, and how few calls it makes.
 use crate::cuts::NOT_SIGNED;
 use office::{Counted, FixedClock, SessionEnd};
 use sigv4::Moment;
@@ -11,7 +11,7 @@ use trials::fakes::{Cut, FailsAt, Sink, Source, StopsAt};
 use trials::published::{DATE, NO_BOX, REQUEST, joined, make_office};
 use trials::rows::holds;
 
-// A short request, of eighteen bytes.
+// A short request of 18 bytes.
 const SHORT: &[u8] = b"GET / HTTP/1.1\r\n\r\n";
 
 // The text a thousand times.
@@ -23,7 +23,7 @@ fn thousand(alloc: Global, text: &[u8]) -> Result<Vec<u8>, Fail> {
     Ok(texts)
 }
 
-// What a session left: its end, what it wrote, and in how many writes.
+// The result of a session: its end, its output, and the number of writes.
 #[derive(Drop)]
 struct Left {
     end: SessionEnd,
@@ -31,7 +31,7 @@ struct Left {
     writes: u64,
 }
 
-// A session over this reader, whose answers are all taken.
+// Runs a session over this reader. The writer takes all answers.
 fn serve<R: Read>(alloc: Global, reader: &mut Counted<R>) -> Result<Left, Fail> {
     let mut office = make_office(alloc)?;
     let mut writer = Counted::new(StopsAt {
@@ -49,7 +49,7 @@ fn serve<R: Read>(alloc: Global, reader: &mut Counted<R>) -> Result<Left, Fail> 
     })
 }
 
-// Whether these messages and more, so many bytes of them a read, are served so: each answer in one write. The reads.
+// Expects these answers to these messages, one write per answer, with `at_once` bytes per read. Returns the number of reads.
 fn reads_of(
     alloc: Global,
     messages: &[u8],
@@ -87,8 +87,8 @@ fn a_thousand_messages_take_few_calls(rt: HostRuntime) -> Result<(), Fail> {
     Ok(())
 }
 
-// Whether a stream of more than a thousand messages is served so, each answer in one write, where it is cut once at each
-// of these places.
+// Whether a stream of more than a thousand messages gets these answers, one write per answer, if it is cut at each of these
+// indexes.
 fn is_cut_so(
     alloc: Global,
     stream: &[u8],
@@ -107,7 +107,7 @@ fn is_cut_so(
     Ok(is_so)
 }
 
-// Whether a thousand and one of the short requests are served so, cut once at each of these places.
+// The same for a thousand and one short requests.
 fn are_short_cut_so(alloc: Global, places: Range<usize>) -> Result<bool, Fail> {
     let owed = thousand(alloc, NOT_SIGNED)?;
     let stream = joined(alloc, &[&thousand(alloc, SHORT)?, SHORT])?;
@@ -126,7 +126,7 @@ fn the_short_are_cut_at_each_place_from_the_501st_on(rt: HostRuntime) -> Result<
     Ok(())
 }
 
-// Whether a thousand messages and more are served so, cut once at each place of the message of this number.
+// The same for a thousand messages and a part of one more, cut at each index of message number `message`, counted from 0.
 fn is_cut_in(alloc: Global, message: usize) -> Result<bool, Fail> {
     let owed = thousand(alloc, NO_BOX)?;
     let stream = joined(alloc, &[&thousand(alloc, REQUEST)?, b"GET /"])?;
@@ -141,7 +141,7 @@ fn a_thousand_are_cut_at_each_place_of_the_first(rt: HostRuntime) -> Result<(), 
     Ok(())
 }
 
-// The buffer of a feed has room for 222 of these messages and the beginning of the next one.
+// The feed's buffer holds 222 of these messages and the beginning of the next one.
 #[test]
 fn a_thousand_are_cut_at_each_place_of_the_223rd(rt: HostRuntime) -> Result<(), Fail> {
     assert!(rt; is_cut_in(rt.alloc(), 222)?);
@@ -154,7 +154,7 @@ fn a_thousand_are_cut_at_each_place_of_the_last(rt: HostRuntime) -> Result<(), F
     Ok(())
 }
 
-// Gives a text again and again, without an end.
+// Repeats a text without an end.
 #[derive(Drop)]
 struct Endless<'a> {
     text: &'a [u8],

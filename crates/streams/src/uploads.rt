@@ -1,4 +1,4 @@
-//! Rows over the keeper in memory, also where it refuses a call, and the last hours of a box.
+//! Test rows over the keeper in memory, also with refused calls, and the last opening hours of a box.
 use boxes::{BoxRow, Mode};
 use office::Office;
 use std::alloc::Global;
@@ -21,7 +21,7 @@ fn rows_are_answered_in_memory(rt: HostRuntime) -> Result<(), Fail> {
     Ok(())
 }
 
-// How many calls an errand makes; each is refused in turn.
+// Refuses each call of an errand in turn. Returns the number of calls.
 fn calls_of(alloc: Global, errand: Errand) -> Result<u64, Fail> {
     for call in 1..20u64 {
         let office = begun(alloc, 0)?;
@@ -37,7 +37,7 @@ fn each_call_is_refused_in_turn(rt: HostRuntime) -> Result<(), Fail> {
     let mut refused = 0u64;
     for errand in ERRANDS {
         let calls = calls_of(rt.alloc(), errand)?;
-        // The key and the change are the fewest.
+        // At least the query for the key, and the change.
         assert!(rt; calls >= 2, "{errand:?}");
         refused = refused.saturating_add(calls);
     }
@@ -45,8 +45,8 @@ fn each_call_is_refused_in_turn(rt: HostRuntime) -> Result<(), Fail> {
     Ok(())
 }
 
-// What an office so far east of UTC, with this box alone, answers at a moment to an upload of `abc` by a link that
-// begins at another.
+// The answer of an office `east` minutes east of UTC, with only this box, to an upload of `abc`. The link is valid from
+// `start`, and the upload comes at `at`.
 fn upload_at(
     alloc: Global,
     east: i16,
@@ -72,7 +72,7 @@ fn the_last_hours_are_those_of_the_year_10000(rt: HostRuntime) -> Result<(), Fai
     let at = b"99991231T235958Z";
     let mut row = settings(Mode::Keep, 100, 2);
     row.closes = 253_402_300_799;
-    // There it is Saturday, 13:59.
+    // At the office it is Saturday, 13:59.
     row.days = [false, false, false, false, false, true, false];
     row.from_minute = 839;
     row.to_minute = 840;

@@ -1,4 +1,4 @@
-//! Readers that are read ahead, and writers whose bytes wait: none is waited for.
+//! Readers that are read ahead, and writers with buffered bytes. No call blocks.
 use crate::slow::{Slow, Turn, fails};
 use std::io;
 use std::io::{ErrorKind, Read, Write};

@@ -1,4 +1,4 @@
-//! An office with a box, and requests for it by links that are written here.
+//! An office with a box, and requests for it by presigned URLs that are signed here.
 use crate::fakes::{Sink, Source};
 use crate::published::{DATE, ID, SECRET};
 use boxes::{BoxRow, Change, Command, Mode, NameRule, OfficeRow};
@@ -35,7 +35,7 @@ pub fn add_box<K: Keeper>(keeper: &mut K, row: &BoxRow) -> Result<(), KeepFault>
     keeper.apply(&Change::Desk(Command::AddBox { name: b"in", row }))
 }
 
-/// An office whose clock is so many minutes east of UTC, and that forgives no clock.
+/// The settings of an office whose clock is `east` minutes east of UTC, without an allowance for clocks that run ahead.
 pub fn office_row(east: i16) -> OfficeRow {
     OfficeRow {
         east,
@@ -43,7 +43,7 @@ pub fn office_row(east: i16) -> OfficeRow {
     }
 }
 
-/// An office in memory, whose clock is so many minutes east of UTC, with the clerk's key alone.
+/// An office in memory, whose clock is `east` minutes east of UTC. It has the clerk's key only.
 pub fn begun(alloc: Global, east: i16) -> Result<Office<Shelf>, Fail> {
     let keeper = Shelf::new(alloc, office_row(east), ID, SECRET)?;
     Ok(Office::new(alloc, keeper))
@@ -56,7 +56,7 @@ pub fn make_office(alloc: Global, east: i16, row: &BoxRow) -> Result<Office<Shel
     Ok(office)
 }
 
-/// A request by a link of seven days; without a body it tells no length.
+/// A request by a presigned URL that is valid for seven days. Without a body it has no `Content-Length`.
 #[derive(Clone, Copy)]
 pub struct Asked<'a> {
     pub key: LinkKey<'a>,
@@ -142,7 +142,7 @@ pub fn order(alloc: Global, line: &[u8]) -> Result<Vec<u8>, Fail> {
     asked.message(alloc)
 }
 
-/// What a session at a moment writes, and how it ends.
+/// What a session at this moment writes, and how it ends.
 pub fn sent<K: Keeper>(
     office: &mut Office<K>,
     stream: &[u8],
@@ -155,7 +155,7 @@ pub fn sent<K: Keeper>(
     Ok((writer.inner.text, end))
 }
 
-/// What a session at a moment writes that reads the stream to its end.
+/// What a session at this moment writes. The session must read the stream to its end.
 pub fn reply<K: Keeper>(
     office: &mut Office<K>,
     stream: &[u8],

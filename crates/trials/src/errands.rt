@@ -1,4 +1,4 @@
-//! Requests of each kind, one at a time, and what is owed for each, over any keeper.
+//! One request of each kind and its expected answer, over any keeper.
 use crate::boxed::{add_box, bare, order, put, sent};
 use crate::owed::{DONE, FIRST_ABC, FOUND_ABC, SECOND_ABD, SECOND_X};
 use crate::published::{DATE, ID, TRY_AGAIN};
@@ -12,7 +12,7 @@ use sigv4::Sha;
 use std::alloc::Global;
 use std::test::Fail;
 
-/// A box that takes other bytes, always open, of so many bytes and files at most.
+/// A box that allows replacing files and is always open, with a quota and a limit of files.
 pub const ROOMY: BoxRow = BoxRow {
     opens: 0,
     closes: 253_402_300_799,
@@ -25,7 +25,7 @@ pub const ROOMY: BoxRow = BoxRow {
     rule: NameRule::Any,
 };
 
-// The most bytes that are staged at once.
+// The most bytes staged in one call.
 const MOST_PIECE: usize = 65536;
 
 /// Stages these bytes, in pieces.
@@ -37,7 +37,7 @@ pub(crate) fn stage_all<K: Keeper>(keeper: &mut K, bytes: &[u8]) -> Result<(), K
     Ok(())
 }
 
-/// Sets a file of the box `in`, by the next receipt.
+/// Sets a file of the box `in` under the next receipt number. Returns that number.
 pub fn set_file<K: Keeper>(keeper: &mut K, name: &[u8], bytes: &[u8]) -> Result<u64, KeepFault> {
     let number = keeper.next_number()?;
     let mut sha = Sha::new();
@@ -56,7 +56,7 @@ pub fn set_file<K: Keeper>(keeper: &mut K, name: &[u8], bytes: &[u8]) -> Result<
     Ok(number)
 }
 
-/// A key `k2` and a box `in` are added.
+/// Adds a key `k2` and a box `in`.
 pub fn begin<K: Keeper>(keeper: &mut K) -> Result<(), KeepFault> {
     keeper.apply(&Change::Desk(Command::AddKey {
         id: b"k2",
@@ -66,14 +66,14 @@ pub fn begin<K: Keeper>(keeper: &mut K) -> Result<(), KeepFault> {
     add_box(keeper, &ROOMY)
 }
 
-/// A request by the clerk's key to an office that began, and has a file `a.txt` of the bytes `abc`.
+/// A request by the clerk's key to an office after `begin`, which has a file `a.txt` of the bytes `abc`.
 #[derive(Clone, Copy, Debug, PartialEq, Eq)]
 pub enum Errand {
-    /// The upload of that file, where there is none yet.
+    /// The upload of that file. The file is not there yet.
     First,
     /// An upload of a new name.
     Upload,
-    /// An upload of other bytes in the place of the file's.
+    /// An upload that replaces the file's bytes.
     Replace,
     /// An upload of the file's own bytes.
     Repeat,
@@ -104,12 +104,12 @@ pub const ERRANDS: [Errand; 12] = [
 ];
 
 impl Errand {
-    /// Whether the file is there before.
+    /// Whether the file is there before the request.
     pub fn has_file(self) -> bool {
         self != Errand::First
     }
 
-    // The command of an errand that is one.
+    // The command line of an errand that is a desk command.
     fn line(self) -> &'static [u8] {
         match self {
             Errand::AddKey => b"key add k3 clerk s3cr3t",
@@ -144,7 +144,7 @@ impl Errand {
         }
     }
 
-    /// Whether it is answered with what is owed; else it is answered with 40, which ends the session.
+    /// Whether the errand gets the expected answer. Otherwise the answer must be refusal 40, which ends the session.
     pub fn run<K: Keeper>(self, office: &mut Office<K>) -> Result<bool, Fail> {
         let stream = self.stream(office.alloc)?;
         let (text, end) = sent(office, &stream, DATE)?;
@@ -156,8 +156,8 @@ impl Errand {
         Ok(false)
     }
 
-    /// Whether the keeper of an office that begins refuses the call of this number, of those that the errand makes.
-    /// The errand is then answered with 40, the office stays as it was, and the same errand is done at the second time.
+    /// Makes the keeper refuse one call of the errand, counted from 1. `false` if the errand makes fewer calls. When the call
+    /// is refused, the answer must be 40, the office must stay unchanged, and a retry must succeed.
     pub fn is_refused_at<K: Keeper + Drop>(
         self,
         alloc: Global,
@@ -177,7 +177,7 @@ impl Errand {
             holds(office.keeper.faults == 0, "a fault beside an answer")?;
             return Ok(false);
         }
-        // What was staged is let go of.
+        // Staged bytes are dropped.
         holds(office.keeper.drops <= 1, "let go of twice")?;
         holds(
             office.keeper.calls == call.saturating_add(office.keeper.drops),

@@ -1,5 +1,5 @@
-//! Rows of files that are staged in more than one piece, up to the greatest, and of bodies that are not staged, over any
-//! keeper that is watched. Digests are by `sha256sum`.
+//! Test rows over any watched keeper: files staged in more than one piece, up to the greatest size, and bodies that are not
+//! staged. The digests come from `sha256sum`.
 use crate::boxed::{Asked, add_box, bare, put, settings};
 use crate::errands::{set_file, stage_all};
 use crate::owed::{
@@ -17,31 +17,31 @@ use office::{Office, SessionEnd};
 use std::alloc::Global;
 use std::test::Fail;
 
-// How many bytes come of an upload that breaks off.
+// How many bytes of the body arrive before an upload breaks off.
 const SHORTER: usize = 150_000;
 
-// The quota of a box that the greatest body fills.
+// The quota of a box that one body of the greatest size fills.
 const QUOTA: u64 = 8_388_608;
 
-// The least number of bytes that a body may not have in version 1 of the office file.
+// One byte more than version 1 of the office file allows for a body.
 const MIDDLING: usize = 1_048_577;
 
-// The head of an upload of a byte more than the greatest body has.
+// The request head of an upload one byte longer than the greatest body.
 const TOO_LONG_A_BODY: &[u8] =
     b"PUT /in/a.txt HTTP/1.1\r\nHost: files.example\r\nContent-Length: 8388609\r\n\r\n";
 
-/// A row: an office without boxes, whose clerk has the published key, takes a box and is asked.
+/// A test row. An office without boxes, whose clerk has the published key, gets a box and then requests.
 #[derive(Clone, Copy, Debug, PartialEq, Eq)]
 pub enum LargeRow {
-    /// The bytes of a file are told from others as they are staged.
+    /// Staged bytes are compared with the bytes of a file.
     Comparing,
     /// An upload breaks off in its body.
     BreakingOff,
-    /// It comes again whole, and another one breaks off.
+    /// The upload is retried whole, and another upload breaks off.
     ComingWhole,
-    /// The greatest upload fills its box, and gets one receipt, however often it comes.
+    /// The greatest upload fills its box. A retry gets the same receipt.
     Filling,
-    /// Bodies that are not signed, or are too large, are not staged.
+    /// Bodies with a wrong signature, or too large, are not staged.
     Refusing,
 }
 
@@ -55,7 +55,7 @@ pub const LARGE_ROWS: [LargeRow; 5] = [
 ];
 
 impl LargeRow {
-    /// Asks the office; fails where it answers something else than what is owed, or where something stays staged.
+    /// Runs the row. Fails if an answer is not the expected one, or if bytes stay staged.
     pub fn run<K: Keeper>(self, office: &mut Office<Watched<K>>) -> Result<(), Fail> {
         add_box(&mut office.keeper, &settings(Mode::Keep, QUOTA, 5))?;
         match self {
@@ -68,7 +68,7 @@ impl LargeRow {
     }
 }
 
-// Whether the bytes of the file `a.txt` are these, which are staged for that.
+// Stages these bytes. Whether they equal the file `a.txt`.
 fn equals<K: Keeper>(keeper: &mut K, bytes: &[u8]) -> Result<bool, Fail> {
     stage_all(keeper, bytes)?;
     Ok(keeper.staged_equals(b"in", b"a.txt")?)
@@ -85,7 +85,7 @@ fn comparing<K: Keeper>(alloc: Global, keeper: &mut K) -> Result<(), Fail> {
     bytes.pop();
     bytes.pop();
     holds(!equals(keeper, &bytes)?, "a byte fewer is the same")?;
-    // No other byte of the file is this one.
+    // This byte does not occur in the file.
     bytes.push(251)?;
     holds(!equals(keeper, &bytes)?, "another last byte is the same")?;
     keeper.stage_drop()?;
@@ -95,7 +95,7 @@ fn comparing<K: Keeper>(alloc: Global, keeper: &mut K) -> Result<(), Fail> {
     holds(told(alloc, keeper)? == before, "another office")
 }
 
-// The beginning of an upload to this path, which breaks off in its body.
+// An upload to this path that breaks off in its body.
 fn broken_upload<'a>(alloc: Global, path: &'a [u8]) -> Result<Vec<u8>, Fail> {
     let bytes = body(alloc, SIZE)?;
     let mut stream = put(alloc, path, &bytes)?;
@@ -132,7 +132,7 @@ fn filling<K: Keeper>(office: &mut Office<Watched<K>>) -> Result<(), Fail> {
     counts(&mut office.keeper, 3, QUOTA, 2)
 }
 
-// An upload of so many bytes that another secret signs, and a fetch behind it.
+// An upload of `size` bytes, signed with another secret, and then a fetch.
 fn unsigned_upload(alloc: Global, size: usize) -> Result<Vec<u8>, Fail> {
     let bytes = body(alloc, size)?;
     let unsigned = Asked {
@@ -151,7 +151,7 @@ fn unsigned_upload(alloc: Global, size: usize) -> Result<Vec<u8>, Fail> {
     Ok(stream)
 }
 
-// A body that is not signed is read and let go of; one that is too large is not read.
+// A body with a wrong signature is read and thrown away. A body that is too large is not read.
 fn refusing<K: Keeper>(office: &mut Office<Watched<K>>) -> Result<(), Fail> {
     let alloc = office.alloc;
     set_file(&mut office.keeper, b"a2.txt", b"")?;

@@ -1,6 +1,6 @@
-//! What tests stand on: readers, writers, sinks and keepers that are slow, fail or say something else, and rows that are
-//! asked of any keeper. The tests over the keeper in memory are those of `crates/streams`, over an office file those of
-//! `crates/stores`. All other calls are tried by the rows of `crates/rows` and by the program's own runs (`ci`).
+//! Test helpers: readers, writers, sinks and keepers that are slow, fail or answer wrongly, and test rows for any keeper.
+//! `crates/streams` runs them over the keeper in memory, `crates/stores` over an office file. All other calls are tested by the
+//! rows of `crates/rows` and by runs of the program itself (`ci`).
 #![tactic(auto)]
 
 pub mod boxed;

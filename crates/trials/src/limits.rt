@@ -1,4 +1,5 @@
-//! Keys that are limited to boxes, and an office that forgives clocks that run ahead. What is owed stands in `owed`.
+//! Keys that are limited to boxes, and an office with an allowance for clocks that run ahead. The expected answers are in
+//! `owed`.
 use crate::boxed::{add_box, settings};
 use crate::owed::{DONE, FIRST_ABC, HEAD_OF_NO_CLERK, NO_CLERK, NO_COMMAND, NO_FILE, NOT_POSSIBLE};
 use crate::published::{DATE, EXPIRED, NO_BOX, NOT_YET, REQUEST};
@@ -8,13 +9,13 @@ use keeper::Keeper;
 use office::Office;
 use std::test::Fail;
 
-// It answers so to a fetch by the key `k2`.
+// Expects this answer to a fetch by the key `k2`.
 fn fetch_by_link<K: Keeper>(office: &mut Office<K>, path: &[u8], want: &[u8]) -> Result<(), Fail> {
     let stream = by_link(office.alloc, b"GET", path, None)?;
     expect(office, &stream, DATE, want)
 }
 
-/// A limited key reaches its boxes alone, there or not; a second limit adds a box.
+/// A limited key reaches only its boxes, whether the other box exists or not. A second limit adds a box.
 pub(crate) fn limiting<K: Keeper>(office: &mut Office<K>) -> Result<(), Fail> {
     add_box(&mut office.keeper, &settings(Mode::Keep, 100, 2))?;
     let second = b"box add b2 20130101T000000Z 20130601T000000Z 1111111 0000 2400 100 2 keep any";
@@ -26,7 +27,7 @@ pub(crate) fn limiting<K: Keeper>(office: &mut Office<K>) -> Result<(), Fail> {
     expect(office, &put, DATE, FIRST_ABC)?;
     let other = by_link(office.alloc, b"PUT", b"/b2/a.txt", Some(b"abc"))?;
     expect(office, &other, DATE, NO_CLERK)?;
-    // The key is asked before the length.
+    // The key is checked before the length.
     let without_length = by_link(office.alloc, b"PUT", b"/b2/a.txt", None)?;
     expect(office, &without_length, DATE, NO_CLERK)?;
     fetch_by_link(office, b"/b2/x", NO_CLERK)?;
@@ -47,7 +48,7 @@ pub(crate) fn limiting<K: Keeper>(office: &mut Office<K>) -> Result<(), Fail> {
     counts(&mut office.keeper, 2, 3, 1)
 }
 
-// Limits that are not possible, and a line that is none.
+// Limits that are not possible, and a line that is not a command.
 fn refusing<K: Keeper>(office: &mut Office<K>) -> Result<(), Fail> {
     obey(office, b"key limit k2 in", NOT_POSSIBLE)?;
     obey(office, b"key limit k2 none", NOT_POSSIBLE)?;
@@ -56,7 +57,7 @@ fn refusing<K: Keeper>(office: &mut Office<K>) -> Result<(), Fail> {
     obey(office, b"key limit k2", NO_COMMAND)
 }
 
-/// A link begins earlier by the allowance, and ends when it did.
+/// The allowance makes a link valid earlier. Its end does not move.
 pub(crate) fn allowing<K: Keeper>(office: &mut Office<K>) -> Result<(), Fail> {
     expect(office, REQUEST, b"20130523T235959Z", NOT_YET)?;
     obey(office, b"office allow 900", DONE)?;

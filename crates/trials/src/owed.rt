@@ -1,4 +1,4 @@
-//! What is owed for uploads and fetches: the texts of refusals, and digests by Python's `hashlib`.
+//! The expected answers to uploads and fetches. The digests come from Python's `hashlib`.
 
 pub const TOO_LARGE: &[u8] =
     b"HTTP/1.1 400 Bad Request\r\nContent-Type: text/plain\r\nContent-Length: 39\r\nConnection: close\r\n\r\nEntityTooLarge 5 the body is too large\n";
@@ -15,7 +15,7 @@ pub const NO_SIGNATURE: &[u8] =
 pub const NO_CLERK: &[u8] =
     b"HTTP/1.1 403 Forbidden\r\nContent-Type: text/plain\r\nContent-Length: 40\r\n\r\nAccessDenied 24 the key may not do this\n";
 
-/// The same to a HEAD.
+/// The same for a HEAD.
 pub const HEAD_OF_NO_CLERK: &[u8] =
     b"HTTP/1.1 403 Forbidden\r\nContent-Type: text/plain\r\nContent-Length: 40\r\n\r\n";
 
@@ -79,7 +79,7 @@ pub const FIRST_EMPTY: &[u8] =
 pub const SECOND_EMPTY: &[u8] =
     b"HTTP/1.1 200 OK\r\nContent-Type: text/plain\r\nContent-Length: 77\r\n\r\nreceipt 2 0 e3b0c44298fc1c149afbf4c8996fb92427ae41e4649b934ca495991b7852b855\n";
 
-/// The receipt of 200000 bytes 0 to 250, over and over.
+/// The receipt of 200000 bytes that repeat 0 to 250.
 pub const FIRST_OF_SIZE: &[u8] =
     b"HTTP/1.1 200 OK\r\nContent-Type: text/plain\r\nContent-Length: 82\r\n\r\nreceipt 1 200000 e24bc62381f1224fbbb74688663f8f9743b9680b193edd666835e97b06e730eb\n";
 

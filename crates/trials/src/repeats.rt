@@ -1,5 +1,5 @@
-//! Uploads that come again: after a lost answer, by another key, after the file was dropped or replaced, and by a
-//! link that is no longer good. What is owed stands in `owed`.
+//! Retried uploads: after a lost answer, by another key, after the file was dropped or replaced, and by a link that is no
+//! longer valid. The expected answers are in `owed`.
 use crate::boxed::{add_box, put, settings};
 use crate::fakes::{Sink, Source};
 use crate::owed::{CLOSED, DONE, FIRST_ABC, REVOKED, SECOND_ABC, SECOND_ABD, THIRD_ABC};
@@ -12,10 +12,10 @@ use office::{Counted, FixedClock, Office, SessionEnd};
 use sigv4::Moment;
 use std::test::Fail;
 
-// A week after `DATE`, when its links have expired.
+// A week after `DATE`, when the links of that date have expired.
 const WEEK_LATER: &[u8; 16] = b"20130531T000000Z";
 
-// A session writes ten bytes of its answer.
+// A session whose writer fails after ten bytes of the answer.
 fn loses_its_answer<K: Keeper>(office: &mut Office<K>, stream: &[u8]) -> Result<(), Fail> {
     let moment = Moment::read(DATE).ok_or("no moment")?;
     let mut reader = Counted::new(Source::whole(stream));
@@ -28,7 +28,7 @@ fn loses_its_answer<K: Keeper>(office: &mut Office<K>, stream: &[u8]) -> Result<
     )
 }
 
-/// The answer is lost, and the same request gets it on a new connection.
+/// The answer is lost. A retry on a new connection gets it.
 pub(crate) fn losing<K: Keeper>(office: &mut Office<K>) -> Result<(), Fail> {
     add_box(&mut office.keeper, &settings(Mode::Keep, 100, 2))?;
     let stream = put(office.alloc, b"/in/a.txt", b"abc")?;
@@ -37,7 +37,7 @@ pub(crate) fn losing<K: Keeper>(office: &mut Office<K>) -> Result<(), Fail> {
     counts(&mut office.keeper, 2, 3, 1)
 }
 
-/// Another key gets the receipt of the first.
+/// The same upload by another key gets the first receipt.
 pub(crate) fn sharing<K: Keeper>(office: &mut Office<K>) -> Result<(), Fail> {
     add_box(&mut office.keeper, &settings(Mode::Keep, 100, 2))?;
     obey(office, b"key add k2 link s3cr3t", DONE)?;
@@ -50,7 +50,7 @@ pub(crate) fn sharing<K: Keeper>(office: &mut Office<K>) -> Result<(), Fail> {
     holds(receipt.key.as_slice() == ID, "another key")
 }
 
-/// A file that was dropped comes again as a new one, and not once the box has closed.
+/// A dropped file can be uploaded again and gets a new receipt, but not after the box has closed.
 pub(crate) fn dropping<K: Keeper>(office: &mut Office<K>) -> Result<(), Fail> {
     add_box(&mut office.keeper, &settings(Mode::Keep, 100, 2))?;
     upload(office, b"/in/a.txt", b"abc", DATE, FIRST_ABC)?;
@@ -62,7 +62,7 @@ pub(crate) fn dropping<K: Keeper>(office: &mut Office<K>) -> Result<(), Fail> {
     counts(&mut office.keeper, 3, 0, 0)
 }
 
-/// Bytes that were replaced come again as new ones.
+/// Replaced bytes can be uploaded again and get a new receipt.
 pub(crate) fn returning<K: Keeper>(office: &mut Office<K>) -> Result<(), Fail> {
     add_box(&mut office.keeper, &settings(Mode::Replace, 100, 2))?;
     upload(office, b"/in/a.txt", b"abc", DATE, FIRST_ABC)?;
@@ -72,7 +72,7 @@ pub(crate) fn returning<K: Keeper>(office: &mut Office<K>) -> Result<(), Fail> {
     counts(&mut office.keeper, 4, 3, 1)
 }
 
-/// A link that has expired, and one of a key that is revoked, bring nothing again, and change nothing.
+/// An expired link and a link of a revoked key get no receipt, and change nothing.
 pub(crate) fn outliving<K: Keeper>(office: &mut Office<K>) -> Result<(), Fail> {
     add_box(&mut office.keeper, &settings(Mode::Keep, 100, 2))?;
     upload(office, b"/in/a.txt", b"abc", DATE, FIRST_ABC)?;

@@ -1,4 +1,4 @@
-//! Worked rows: what is asked of an office that begins, and what is owed for it, over any keeper.
+//! Test rows: requests to a new office and their expected answers, over any keeper.
 use crate::boxed::{Asked, CLERK, add_box, bare, order, put, reply, sent, settings};
 use crate::limits::{allowing, limiting};
 use crate::lists::lists;
@@ -17,47 +17,47 @@ use std::alloc::Global;
 use std::str;
 use std::test::Fail;
 
-// One second after the moment of the links.
+// One second after the date of the links.
 const LATER: &[u8; 16] = b"20130524T000001Z";
 
-/// A row: an office without boxes, whose clerk has the published key, takes a box and is asked.
+/// A test row. An office without boxes, whose clerk has the published key, gets a box and then requests.
 #[derive(Clone, Copy, Debug, PartialEq, Eq)]
 pub enum Row {
     /// The published request finds no box.
     Published,
-    /// A body breaks off behind two requests.
+    /// A body breaks off after two requests.
     BreakingOff,
-    /// Uploads get receipts until the box is full; a repeat gets its receipt after closing time.
+    /// Uploads get receipts until the box is full. A retry gets its receipt even after closing time.
     Closing,
-    /// Other bytes don't take a name.
+    /// A file can't be replaced.
     Keeping,
-    /// Other bytes take a name.
+    /// A file can be replaced.
     Replacing,
-    /// An upload tells its length, which may be none.
+    /// An upload must state its length, which may be 0.
     Lengths,
-    /// A quota is of all bytes.
+    /// The quota limits the sum of all sizes.
     Quota,
-    /// Hours are those of the office's clock.
+    /// Opening hours follow the office's clock.
     Hours,
-    /// A path is taken as it is.
+    /// A path is not normalized.
     Paths,
-    /// A name has 1024 bytes at most.
+    /// A name has at most 1024 bytes.
     Names,
-    /// A link's key puts and fetches until it is revoked.
+    /// A link key can upload and fetch until it is revoked.
     Keys,
-    /// A file is fetched with its receipt.
+    /// A fetch returns the file and its receipt.
     Fetches,
-    /// Receipts are listed, and of each is told what stands of it.
+    /// The manifest lists the receipts, and its comparison tells the state of each.
     Lists,
-    /// An answer is lost, and the upload comes again.
+    /// An answer is lost, and the upload is retried.
     Losing,
-    /// An upload comes again by another key.
+    /// An upload is repeated by another key.
     Sharing,
-    /// An upload comes again after its file was dropped.
+    /// An upload is repeated after its file was dropped.
     Dropping,
-    /// An upload comes again after other bytes.
+    /// An upload is repeated after its file was replaced.
     Returning,
-    /// An upload comes again by a link that is no longer good.
+    /// An upload is repeated by a link that is no longer valid.
     Outliving,
     /// A key is limited to boxes.
     Limiting,
@@ -90,7 +90,7 @@ pub const ROWS: [Row; 20] = [
 ];
 
 impl Row {
-    /// How many minutes east of UTC the office's clock is.
+    /// The office's clock, in minutes east of UTC.
     pub fn east(self) -> i16 {
         match self {
             Row::Hours => 60,
@@ -98,7 +98,7 @@ impl Row {
         }
     }
 
-    /// Asks the office; fails where it answers something else than what is owed.
+    /// Runs the row. Fails if an answer is not the expected one.
     pub fn run<K: Keeper>(self, office: &mut Office<K>) -> Result<(), Fail> {
         match self {
             Row::Published => expect(office, REQUEST, DATE, NO_BOX),
@@ -125,12 +125,12 @@ impl Row {
     }
 }
 
-/// Fails where something does not hold.
+/// Fails with this name if the condition is false.
 pub fn holds(what: bool, name: &'static str) -> Result<(), Fail> {
     if what { Ok(()) } else { Err(name.into()) }
 }
 
-/// The office answers a stream at a moment with these bytes.
+/// Expects this answer to a stream at this moment.
 pub fn expect<K: Keeper>(
     office: &mut Office<K>,
     stream: &[u8],
@@ -145,7 +145,7 @@ pub fn expect<K: Keeper>(
     }
 }
 
-/// It answers so to an upload by the clerk's key at a moment.
+/// Expects this answer to an upload by the clerk's key at this moment.
 pub fn upload<K: Keeper>(
     office: &mut Office<K>,
     path: &[u8],
@@ -157,7 +157,7 @@ pub fn upload<K: Keeper>(
     expect(office, &stream, at, want)
 }
 
-/// It answers so to a request without a body by the clerk's key.
+/// Expects this answer to a request without a body by the clerk's key.
 pub fn ask<K: Keeper>(
     office: &mut Office<K>,
     method: &[u8],
@@ -168,13 +168,13 @@ pub fn ask<K: Keeper>(
     expect(office, &stream, DATE, want)
 }
 
-/// It answers so to a command of the clerk's.
+/// Expects this answer to a desk command by the clerk's key.
 pub fn obey<K: Keeper>(office: &mut Office<K>, line: &[u8], want: &[u8]) -> Result<(), Fail> {
     let stream = order(office.alloc, line)?;
     expect(office, &stream, DATE, want)
 }
 
-/// The next receipt has this number, and the box so many bytes and files.
+/// Checks the number of the next receipt, and the box's total bytes and files.
 pub(crate) fn counts<K: Keeper>(
     keeper: &mut K,
     next: u64,
@@ -186,7 +186,7 @@ pub(crate) fn counts<K: Keeper>(
     holds(keeper.next_number()? == next, "another number")
 }
 
-// A file stands under this name.
+// Checks that there is a file of this name.
 fn stands<K: Keeper>(keeper: &mut K, name: &[u8]) -> Result<(), Fail> {
     holds(keeper.file(b"in", name)?.is_some(), "no file")
 }
@@ -240,7 +240,7 @@ fn quota<K: Keeper>(office: &mut Office<K>) -> Result<(), Fail> {
     counts(&mut office.keeper, 3, 3, 2)
 }
 
-// An upload by a link that begins a day before.
+// An upload by a link whose date is a day earlier.
 fn upload_early<'a, K: Keeper>(
     office: &mut Office<K>,
     path: &'a [u8],

@@ -1,5 +1,4 @@
-//! Uploads that are staged in some pieces: their bytes, what a session over a source leaves, and uploads that break off,
-//! over any keeper that is watched.
+//! Uploads that are staged in several pieces, and uploads that break off, over any watched keeper.
 use crate::boxed::put;
 use crate::fakes::{Sink, Source};
 use crate::owed::NO_WHOLE_BODY;
@@ -13,13 +12,13 @@ use sigv4::Moment;
 use std::alloc::Global;
 use std::test::Fail;
 
-/// How many bytes an upload has that is staged in some pieces.
+/// The size of an upload that is staged in several pieces.
 pub const SIZE: usize = 200_000;
 
-/// The greatest number of bytes of a body.
+/// The greatest size of a body in bytes.
 pub const MOST: usize = 8_388_608;
 
-/// So many bytes: 0 to 250, over and over.
+/// `size` bytes that repeat 0 to 250.
 pub fn body(alloc: Global, size: usize) -> Result<Vec<u8>, Fail> {
     let mut body = Vec::new(alloc);
     let mut byte = 0;
@@ -35,7 +34,7 @@ pub fn upload_of(alloc: Global, bytes: &[u8]) -> Result<Vec<u8>, Fail> {
     put(alloc, b"/in/a.txt", bytes)
 }
 
-/// So many bytes of the stream a read, and then its end.
+/// A source that gives `at_once` bytes per read, and then ends.
 pub fn source(rest: &[u8], at_once: usize) -> Source<'_> {
     Source {
         rest,
@@ -44,24 +43,24 @@ pub fn source(rest: &[u8], at_once: usize) -> Source<'_> {
     }
 }
 
-/// What a session leaves.
+/// The result of a session.
 #[derive(Debug, Drop)]
 pub struct Left {
     text: Vec<u8>,
     end: SessionEnd,
-    /// How many bytes of the stream it did not read.
+    /// How many bytes of the stream were not read.
     pub unread: usize,
 }
 
 impl Left {
-    /// The session wrote this, and ended so.
+    /// Expects that the session wrote this text and ended so.
     pub fn comes_to(&self, text: &[u8], end: SessionEnd) -> Result<(), Fail> {
         holds(self.text.as_slice() == text, "another answer")?;
         holds(self.end == end, "another end")
     }
 }
 
-/// A session over this source.
+/// Runs a session over this source.
 pub fn left_by<K: Keeper>(office: &mut Office<K>, source: Source<'_>) -> Result<Left, Fail> {
     let moment = Moment::read(DATE).ok_or("no moment")?;
     let mut reader = Counted::new(source);
@@ -74,13 +73,13 @@ pub fn left_by<K: Keeper>(office: &mut Office<K>, source: Source<'_>) -> Result<
     })
 }
 
-/// Nothing is staged: what is staged are the bytes of the file `a2.txt` of the box `in`, which has none.
+/// Whether nothing is staged: the staged bytes equal those of the empty file `a2.txt` of the box `in`.
 pub fn is_unstaged<K: Keeper>(keeper: &mut K) -> Result<bool, Fail> {
     Ok(keeper.staged_equals(b"in", b"a2.txt")?)
 }
 
-/// The source has an upload that breaks off in its body. It is refused, or unanswered where a read fails; what was staged is
-/// let go of, and the office is as it was.
+/// The source has an upload that breaks off in its body. It must be refused, or get no answer if a read fails. The staged bytes
+/// must be dropped, and the office must stay unchanged.
 pub fn breaks_off<K: Keeper>(
     office: &mut Office<Watched<K>>,
     broken: Source<'_>,

@@ -1,11 +1,11 @@
-//! What a keeper answers to every question, as one text.
+//! All answers of a keeper, as one text.
 use crate::published::ID;
 use boxes::{FileRow, KeyRow, ReceiptRow};
 use keeper::Keeper;
 use std::alloc::Global;
 use std::test::Fail;
 
-// Every key, box and file that a test here names, and one of each that none adds.
+// Every key, box and file that these tests name, and one of each that no test adds.
 const KEYS: [&[u8]; 4] = [ID, b"k2", b"k3", b"k4"];
 
 const BOXES: [&[u8]; 4] = [b"in", b"out", b"b2", b"none"];
@@ -97,7 +97,7 @@ fn put_receipts<K: Keeper>(
     Ok(())
 }
 
-/// All answers, one behind another.
+/// All answers of the keeper, joined together.
 pub fn told<K: Keeper>(alloc: Global, keeper: &mut K) -> Result<Vec<u8>, Fail> {
     let office = keeper.settings()?;
     let (east, allowance) = (office.east, office.allowance.seconds());

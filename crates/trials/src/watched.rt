@@ -1,28 +1,28 @@
-//! A keeper round another, which counts its calls and those that fail, and can refuse one.
+//! A keeper that counts the calls to another keeper and their faults, and can refuse one call.
 ghost use Rattle.std.specs.Prelude.{◌≡◌, IfErr};
 ghost use Rattle.sigtext.specs.Counts.{CountsErrors};
 
 use boxes::{BoxRow, Change, FileRow, KeyRow, OfficeRow, ReceiptRow, Totals};
 use keeper::{KeepFault, Keeper};
 
-/// Passes each call on, but for the one that it refuses; no state is claimed of it.
+/// Passes each call on, except the one that it refuses. Its contract claims no state.
 #[derive(Drop)]
 pub struct Watched<K> {
     pub inner: K,
-    /// How many calls came since the last `refuse`.
+    /// Calls since the last `refuse`.
     pub calls: u64,
-    /// How many of them staged bytes, or were to.
+    /// Calls of `stage` since then.
     pub pieces: u64,
-    /// How many of them let go of what was staged.
+    /// Calls of `stage_drop` since then that were not refused.
     pub drops: u64,
-    /// How many calls failed.
+    /// Calls that failed.
     pub faults: u64,
-    // The number of the call that is refused; 0 where none is.
+    // The number of the call to refuse, or 0.
     refused: u64,
 }
 
 impl<K> Watched<K> {
-    /// Refuses no call.
+    /// A keeper that refuses no call.
     pub fn new(inner: K) -> Watched<K> {
         Watched {
             inner,
@@ -34,7 +34,7 @@ impl<K> Watched<K> {
         }
     }
 
-    /// Refuses the call of this number, counted from 1 on, from now.
+    /// Resets the counters, and refuses the call of this number from now on, counted from 1.
     pub fn refuse(&mut self, call: u64) {
         self.calls = 0;
         self.pieces = 0;
@@ -42,7 +42,7 @@ impl<K> Watched<K> {
         self.refused = call;
     }
 
-    // A call comes; it may be refused.
+    // Counts a call, and refuses it if it is the one.
     fn enter(&mut self) -> Result<(), KeepFault>
         ensures kind { IfErr result (λ f. f ≡ KeepFault.Store) }
         ensures count { CountsErrors self.old.faults self.new.faults result }
@@ -55,7 +55,7 @@ impl<K> Watched<K> {
         Err(KeepFault::Store)
     }
 
-    // The inner keeper's answer, of which an error is counted.
+    // Returns the inner keeper's answer, and counts an error.
     fn leave<T>(&mut self, outcome: Result<T, KeepFault>) -> Result<T, KeepFault>
         ensures same { result ≡ outcome }
         ensures count { CountsErrors self.old.faults self.new.faults result }
