@@ -1,4 +1,4 @@
-//! What fails on a wire.
+//! Faults on the wire.
 use thiserror::Error;
 
 /// What failed on a wire.
