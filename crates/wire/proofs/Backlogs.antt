@@ -76,7 +76,7 @@ pub grown : (before came : List ℕ) → (came ≡ [] → ⊥) → length before
 grown before [] some = absurd (some refl)
 grown before (x ∷ came) some = omega (arith, length-append before (x ∷ came))
 
--- the bytes that a reader gave wait behind those that waited
+-- the bytes that a reader gave wait after those that waited
 pub prepend-more : (r s : Option (List ℕ)) (before came : List ℕ) → Consumes r s came → Keeps (prepend_known before r) (prepend_known (before ++ came) s)
 prepend-more None s before came h = tt
 prepend-more (Some x) None before came h = absurd h

@@ -17,7 +17,7 @@ HasFailed g = IsSome g.fault
 abbrev pub KeepsFault : {S : Type 0} → Gathered S → Gathered S → Type 0
 KeepsFault old new = new.fault ≡ old.fault
 
--- n more bytes fit behind those that are ahead without more memory
+-- n more bytes fit after those that were read ahead, without more memory
 abbrev pub HasRoomFor : {S : Type 0} → ℕ → Gathered S → Type 0
 HasRoomFor n g = length (ahead_in g) + n ≤ vec_capacity g.bytes
 

@@ -151,7 +151,7 @@ impl Backlog {
         self.start = 0;
     }
 
-    // Reads once, behind the waiting bytes at the front of the buffer.
+    // Reads once, after the waiting bytes at the front of the buffer.
     fn read_behind<R: Read>(&mut self, reader: &mut Counted<R>) -> Result<bool, WireFault>
         requires front { self.old.start ≡ 0 }
         requires room { length (waiting self.old) < vec_len self.old.bytes }

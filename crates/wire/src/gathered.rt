@@ -13,7 +13,7 @@ use std::io::{ErrorKind, Read};
 /// those bytes are given, fails with the same error. A read that would only wait has not failed.
 #[derive(Drop)]
 pub struct Gathered<S> {
-    /// The reader. Its bytes come behind those that were read ahead.
+    /// The reader. Its bytes follow those that were read ahead.
     pub inner: S,
     alloc: Global,
     bytes: Vec<u8>,
@@ -115,7 +115,7 @@ impl<S: Read> Gathered<S> {
         }
     }
 
-    /// Takes memory for n more bytes behind those that were read ahead.
+    /// Takes memory for n more bytes after those that were read ahead.
     ///
     /// # Errors
     ///

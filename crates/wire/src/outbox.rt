@@ -16,7 +16,7 @@ use std::io::{ErrorKind, Write};
 /// returns it.
 #[derive(Drop)]
 pub struct Outbox<S> {
-    /// The writer. The waiting bytes come behind those that it holds.
+    /// The writer. The waiting bytes follow those that it holds.
     pub inner: S,
     alloc: Global,
     bytes: Vec<u8>,
