@@ -131,7 +131,7 @@ first_record s t xs ys f p (q, found, first, rest) is =
     let same : q ≡ p = cc in
     sym (ap (λ (r : OneRecord). r.0) same) ∙ sym first
 
--- records behind the first
+-- records after the first
 pub reached_behind : (s t u : Place) (xs ys zs : List ℕ) (f : List (List ℕ)) (rows : List (List (List ℕ))) → Reached default_config s xs (f ∷ []) t ys → Reached default_config t ys rows u zs
     → Reached default_config s xs (f ∷ rows) u zs
 unfolding Reached

@@ -54,7 +54,7 @@ no_empty_word (DropFile place) is = differ 0 _ _ 107 102 (text_of _ _ is) refl r
 no_empty_word (LimitKey id box) is = differ 4 _ _ 32 108 (text_of _ _ is) refl refl (λ e. omega arith)
 no_empty_word (SetAllowance seconds) is = let t = text_of (codes "key  revoke k2") (SetAllowance seconds) is in differ 0 _ _ 107 111 t.2 refl refl (λ e. omega arith)
 
--- a space behind the last word
+-- a space after the last word
 pub no_space_behind : (c : Command) → IsCommand (codes "key revoke k2 ") c → HasForm c → ⊥
 no_space_behind c is form =
     let revoked : HasForm (RevokeKey (codes "k2 ")) = subst HasForm (revoked_key (codes "k2 ") c is) form in

@@ -7,11 +7,11 @@ use Rattle.wire.specs.declared.outbox.Outbox.{Outbox}
 abbrev pub waits_out : {S : Type 0} → Outbox S → List ℕ
 waits_out o = drop o.start o.bytes.items
 
--- a write failed, or took none of some bytes
+-- a write failed, or took nothing of a non-empty buffer
 abbrev pub WriteFailed : {S : Type 0} → Outbox S → Type 0
 WriteFailed o = IsSome o.fault
 
--- no write failed, and none took none of some bytes
+-- no write failed, and each took some of the bytes that it was given
 abbrev pub NoneFailed : {S : Type 0} → Outbox S → Type 0
 NoneFailed o = IsNone o.fault
 

@@ -12,8 +12,8 @@ use std::io;
 use std::io::{ErrorKind, Write};
 
 /// Takes bytes for a writer that may not accept them now. These wait in memory, and `send` sends them. A
-/// write that fails, or takes none of some bytes, ends the writing: its error is kept, and each later write
-/// returns it.
+/// write that fails, or takes nothing of a non-empty buffer, ends the writing: its error is kept, and each
+/// later write returns it.
 #[derive(Drop)]
 pub struct Outbox<S> {
     /// The writer. The waiting bytes follow those that it holds.
@@ -34,7 +34,7 @@ pub enum Sending {
     Sent,
     /// Some bytes wait. The writer may take them later.
     Waits,
-    /// A write failed, or took none of some bytes.
+    /// A write failed, or took nothing of a non-empty buffer.
     Failed,
 }
 
@@ -63,7 +63,7 @@ impl<S: Write> Outbox<S> {
         &self.bytes[self.start..]
     }
 
-    /// Whether a write failed, or took none of some bytes. The waiting bytes are then never sent.
+    /// Whether a write failed, or took nothing of a non-empty buffer. The waiting bytes are then never sent.
     pub fn has_failed(&self) -> bool
         ensures { IsTrue result ↔ WriteFailed self.now }
     {
@@ -140,8 +140,8 @@ impl<S: Write> Write for Outbox<S> {
     /// # Errors
     ///
     /// The error that ended the writing, at that write and each later one; `WriteZero` if the writer took
-    /// none of some bytes. `OutOfMemory` if memory was refused for bytes that would wait: none of them was
-    /// taken then, and the writing has not ended.
+    /// nothing of a non-empty buffer. `OutOfMemory` if memory was refused for bytes that would wait: none of
+    /// them was taken then, and the writing has not ended.
     fn write(&mut self, buf: &[u8]) -> io::Result<usize>
         ensures bound { WritesAtMost result buf.now }
         ensures bytes { WriteAppends (handed_over S.contents self.old)
@@ -184,7 +184,7 @@ impl<S: Write> Write for Outbox<S> {
 }
 
 // Offers the bytes to a writer once. Returns how many it took, or `None` if it takes none now. Any other
-// error is returned, and `WriteZero` if it took none of some bytes.
+// error is returned, and `WriteZero` if it took nothing of a non-empty buffer.
 fn offer<S: Write>(writer: &mut S, bytes: &[u8]) -> io::Result<Option<usize>>
     ensures some { IfOk result (λ taken. IfSome taken (λ n. 0 < length bytes.now → 0 < n)) }
     ensures taken { IfOk result (λ taken. IfSome taken (λ n. (n ≤ length bytes.now)
