@@ -25,7 +25,7 @@ lines_push IsLine [] text x one none is = (one, [], is, refl, rw none (sym (appe
 lines_push IsLine (y ∷ ys) text x one (first, rest, is_first, are, joined) is =
     (first, rest ++ one, is_first, lines_push IsLine ys rest x one are is, ap (λ t. t ++ one) joined ∙ append_assoc first rest one)
 
--- lines behind lines
+-- lines followed by more lines
 pub lines_joined : {A : Type 0} (IsLine : A → List ℕ → Type 0) (xs ys : List A) (text more : List ℕ) → AreLines IsLine xs text → AreLines IsLine ys more
     → AreLines IsLine (xs ++ ys) (text ++ more)
 unfolding AreLines
@@ -49,16 +49,16 @@ sends_whole u r sent = record { front = sent.front; is_front = sent.is_front; wr
 pub sends_nothing : {T E : Type 0} (old : Option (List ℕ)) {r : Result T E} → Sends [] old old r
 sends_nothing old {r} = record { front = []; is_front = record { rest = []; joined = refl }; written = Appends-nil old; whole = on_ok r refl }
 
--- the front of a text broke off, whatever is told of it
+-- writing broke off within a text, whatever error tells it
 pub sends_err : {T U E F : Type 0} {text : List ℕ} {old new : Option (List ℕ)} (e : E) (f : F) → Sends {T = T} text old new (Err e) → Sends {T = U} text old new (Err f)
 sends_err e f sent = record { front = sent.front; is_front = sent.is_front; written = sent.written; whole = tt }
 
--- a text behind one that was written whole
+-- a text follows one that was written whole
 pub sends_then : {T E : Type 0} (front rest : List ℕ) (old mid new : Option (List ℕ)) (u : T) (last : Result ⊤ ⊤)
     → Sends {T = T} {E = E} front old mid (Ok u) → Sends rest mid new last → Sends (front ++ rest) old new last
 sends_then front rest old mid new u last first second = sends_both front rest old mid new tt last (sends_whole u (Ok tt) first) second
 
--- of no rows there is the head alone
+-- a table without rows is its head
 pub none_table : {A : Type 0} (head : List (List ℕ)) (IsLine : A → List ℕ → Type 0) → IsTable head IsLine [] (line head)
 none_table head IsLine = record { lines = []; are = lines_none IsLine; is = sym (append-nil (line head)) }
 
@@ -80,7 +80,7 @@ of_writing_broke T (fault.Row n) is = absurd is
 of_writing_broke T (fault.Keep f) is = absurd is
 of_writing_broke T fault.Read is = absurd is
 
--- the head stood
+-- a fault of writing is not the fault of another head
 pub of_writing_headed : {T : Type 0} {P : Type 0} (e : ListFault) → IsOfWriting e → ◌≡◌ {A = Result T ListFault} (Err e) (Err fault.Head) → P
 of_writing_headed {T} {P} e is same = absurd (go e is (same_fault e fault.Head same))
   where
@@ -90,7 +90,7 @@ of_writing_headed {T} {P} e is same = absurd (go e is (same_fault e fault.Head s
     go : (f : ListFault) → IsOfWriting f → f ≡ fault.Head → ⊥
     go f of p = subst IsOfWriting p of
 
--- no record was answered, and nothing written
+-- no record was answered, and nothing was written
 pub unanswered : {T W : Type 0} (head out_head : List (List ℕ)) (Form : List (List ℕ) → Type 0) (Known : W → Type 0) (IsLine : W → List (List ℕ) → List ℕ → Type 0) (read old : Option (List ℕ)) (e : ListFault)
     → all_sent {T = T} (Err e) ≡ Err tt → ((text : List ℕ) → read ≡ Some text → ListTells {T = T} head Form text [] (Err e)) → AnswersList {T = T} head out_head Form Known IsLine read old old (Err e)
 unanswered head out_head Form Known IsLine read old e broke tells = record {
@@ -123,7 +123,7 @@ of_writing_tells T head Form text (fault.Row n) is begins = absurd is
 of_writing_tells T head Form text (fault.Keep f) is begins = absurd is
 of_writing_tells T head Form text fault.Read is begins = absurd is
 
--- the first record of a text is one alone
+-- a text has only one first record
 pub first_record : (s t : Place) (xs ys : List ℕ) (f : List (List ℕ)) (p : OneRecord) → Reached default_config s xs (f ∷ []) t ys → next_record default_config s [] [] xs ≡ Some p → p.0 ≡ f
 unfolding Reached
 first_record s t xs ys f p (q, found, first, rest) is =
@@ -131,14 +131,14 @@ first_record s t xs ys f p (q, found, first, rest) is =
     let same : q ≡ p = cc in
     sym (ap (λ (r : OneRecord). r.0) same) ∙ sym first
 
--- records behind the first
+-- records after the first
 pub reached_behind : (s t u : Place) (xs ys zs : List ℕ) (f : List (List ℕ)) (rows : List (List (List ℕ))) → Reached default_config s xs (f ∷ []) t ys → Reached default_config t ys rows u zs
     → Reached default_config s xs (f ∷ rows) u zs
 unfolding Reached
 reached_behind s t u xs ys zs f rows (p, found, first, (state, rest)) more =
     (p, found, first, subst (λ a. Reached default_config a p.2 rows u zs) (sym state) (subst (λ b. Reached default_config t b rows u zs) (sym rest) more))
 
--- what is told of the records behind the head is told of the list
+-- a result that holds for the records after the head holds for the whole list
 pub behind_tells : {T : Type 0} (head : List (List ℕ)) (Form : List (List ℕ) → Type 0) (text : List ℕ) (t : Place) (ys : List ℕ) (rows : List (List (List ℕ))) (r : Result T ListFault)
     → Reached default_config StartRecord (strip_bom text) (head ∷ []) t ys → TellsRest Form t ys rows r → ListTells head Form text rows r
 behind_tells head Form text t ys rows (Ok x) first (u, zs, more, none) = (u, zs, reached_behind _ _ _ _ _ _ _ _ first more, none)

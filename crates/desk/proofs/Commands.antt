@@ -1,4 +1,4 @@
--- The texts of commands, by their kinds.
+-- The texts of commands, by kind.
 use Rattle.std.proofs.Common.{◌≡◌, ℕ, List, [], ◌∷◌, ◌++◌, drop, refl, sym, ap, subst, ◌∙◌, arith}
 use Rattle.std.specs.Prelude.{codes}
 use Rattle.std.specs.List.{join_with_byte}
@@ -13,7 +13,7 @@ use Rattle.boxes.specs.Commands.{HasForm}
 use Rattle.desk.specs.Texts.{role_word, IsNumber, SaysSettings, Says, adds_key, revokes_key, adds_box, closes_box, drops_file, limits_key, sets_allowance, IsCommand}
 use Rattle.desk.proofs.Words.{differ, word_lacks}
 
--- the text of the command, its words written out
+-- the text of the command, with its words written out
 abbrev pub IsTextOf : List ℕ → Command → Type 0
 IsTextOf text (AddKey id role secret) = text ≡ codes "key add " ++ (id ++ 32 ∷ (role_word role ++ 32 ∷ secret))
 IsTextOf text (RevokeKey id) = text ≡ codes "key revoke " ++ id
@@ -24,7 +24,7 @@ IsTextOf text (DropFile place) = text ≡ codes "file drop " ++ (place.box ++ 32
 IsTextOf text (LimitKey id box) = text ≡ codes "key limit " ++ (id ++ 32 ∷ box)
 IsTextOf text (SetAllowance seconds) = (word : List ℕ) × IsNumber word seconds × (text ≡ codes "office allow " ++ word)
 
--- settings are said by a word and more
+-- settings are stated by at least one word
 pub join_settings : (name : List ℕ) (words : List (List ℕ)) (settings : Settings) → SaysSettings words settings
     → join_with_byte 32 (name ∷ words) ≡ name ++ 32 ∷ join_with_byte 32 words
 join_settings name words settings says =
@@ -42,7 +42,7 @@ says_text text words c (sets_allowance word seconds number) is = (word, number, 
 pub text_of : (text : List ℕ) (c : Command) → IsCommand text c → IsTextOf text c
 text_of text c is = says_text text is.words c is.says is.is
 
--- ---- what stands behind the first two words
+-- ---- what follows the first two words
 
 pub record IsAddedKey (words : List ℕ) (c : Command) : Type 0 where
   pub id : List ℕ
@@ -200,7 +200,7 @@ set_allowance word (SetAllowance seconds) is =
       number = subst (λ (x : List ℕ). IsNumber x seconds) (sym (ap (λ (x : List ℕ). drop 13 x) t.2)) t.1;
     }
 
--- ---- and back
+-- ---- the converse
 
 pub writes_key : (words id rest word secret : List ℕ) (role : Role) → words ≡ id ++ 32 ∷ rest → rest ≡ word ++ 32 ∷ secret → word ≡ role_word role
     → IsCommand (codes "key add " ++ words) (AddKey id role secret)

@@ -1,4 +1,4 @@
--- Texts that are commands, and texts that are none.
+-- Texts that are commands, and texts that are not.
 use Rattle.std.proofs.Common.{◌≡◌, ◌<◌, ◌≤◌, ℕ, true, List, [], ◌∷◌, ◌++◌, get_or, drop, refl, sym, ap, subst, ◌∙◌, Some, arith, lit<, lit≤}
 use Rattle.std.specs.Prelude.{codes, IsUtf8}
 use Rattle.std.specs.List.{AllByRecursion, join_with_byte}
@@ -54,7 +54,7 @@ no_empty_word (DropFile place) is = differ 0 _ _ 107 102 (text_of _ _ is) refl r
 no_empty_word (LimitKey id box) is = differ 4 _ _ 32 108 (text_of _ _ is) refl refl (λ e. omega arith)
 no_empty_word (SetAllowance seconds) is = let t = text_of (codes "key  revoke k2") (SetAllowance seconds) is in differ 0 _ _ 107 111 t.2 refl refl (λ e. omega arith)
 
--- a space behind the last word
+-- a space after the last word
 pub no_space_behind : (c : Command) → IsCommand (codes "key revoke k2 ") c → HasForm c → ⊥
 no_space_behind c is form =
     let revoked : HasForm (RevokeKey (codes "k2 ")) = subst HasForm (revoked_key (codes "k2 ") c is) form in
@@ -102,7 +102,7 @@ a_second_later = record {
 pub is_100 : IsNumber (codes "100") 100
 is_100 = record { digits = record { some = lit< tt; short = lit≤ tt; each = refl }; first = λ rest e. absurd (differ 0 _ _ 49 48 e refl refl (λ f. omega arith)); value = refl }
 
--- 0 itself has no other digit
+-- 0 has no other digits
 pub is_0 : IsNumber (codes "0") 0
 is_0 = record { digits = record { some = lit< tt; short = lit≤ tt; each = refl }; first = λ rest e. sym (ap (λ (t : List ℕ). drop 1 t) e); value = refl }
 
@@ -163,7 +163,7 @@ closes_in = record {
 pub closing_has_form : HasForm (CloseBox (codes "in") 1369353601)
 closing_has_form = (record { some = lit< tt; short = lit≤ tt; each = refl }, lit≤ tt)
 
--- what the nine texts behind `box add in ` say
+-- what the nine texts after `box add in ` state
 pub record SaysNine (texts : List (List ℕ)) : Type 0 where
   pub words : List (List ℕ)
   pub settings : Settings
@@ -190,7 +190,7 @@ no_minute_60 c is form =
     let tens : 54 ≡ get_or (minute_word s.settings.from_minute) 2 0 = ap (λ (t : List ℕ). get_or t 2 0) from in
     omega (arith, tens)
 
--- nor has 1 a zero before it
+-- the number 1 has no zero in front of it
 pub no_number_01 : (n : ℕ) → IsNumber (codes "01") n → ⊥
 no_number_01 n is = let rest : codes "1" ≡ [] = is.first (codes "1") refl in absurd cc
 
@@ -237,14 +237,14 @@ allowed_900_has_form = lit≤ tt
 pub allows_0 : IsCommand (codes "office allow 0") (SetAllowance 0)
 allows_0 = record { words = codes "office" ∷ codes "allow" ∷ codes "0" ∷ []; says = sets_allowance (codes "0") 0 is_0; is = refl }
 
--- a second more
+-- 901 seconds are too many
 pub no_allowance_901 : (c : Command) → IsCommand (codes "office allow 901") c → HasForm c → ⊥
 no_allowance_901 c is form =
     let a = set_allowance (codes "901") c is in
     let bound : a.seconds ≤ 900 = subst HasForm a.command form in
     omega (arith, ints, bound, a.number.value)
 
--- a zero before a number, and before 0 itself
+-- no zero stands in front of a number, or in front of 0 itself
 no_zero_before : (rest : List ℕ) (c : Command) → IsCommand (codes "office allow 0" ++ rest) c → (rest ≡ [] → ⊥) → ⊥
 no_zero_before rest c is some = let a = set_allowance (48 ∷ rest) c is in some (a.number.first rest refl)
 

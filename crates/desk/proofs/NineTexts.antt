@@ -1,4 +1,4 @@
--- The words of a box's settings, and what they say.
+-- The words of a box's settings, and their meaning.
 use Rattle.std.proofs.Common.{◌≡◌, ℕ, eqb, false, List, [], ◌∷◌, ◌++◌, get_or, drop, refl, sym, ap, subst, ◌∙◌, Some, Option, arith, All}
 use Rattle.std.specs.Prelude.{codes, IfSome}
 use Rattle.std.specs.List.{AllByRecursion, join_with_byte, slice_split}
@@ -14,7 +14,7 @@ use Rattle.desk.specs.Lines.{texts_of, SayRow}
 use Rattle.desk.specs.declared.settings.SettingsWords.{SettingsWords}
 use Rattle.desk.proofs.Words.{differ, word_lacks, moment_lacks_space, days_lack_space, minute_lacks_space, mode_lacks_space}
 
--- what holds of the value that is there
+-- a property of the value that is there
 pub some_at : {X : Type 0} (Q : X → Type 0) (o : Option X) (x : X) → o ≡ Some x → IfSome o Q → Q x
 some_at Q o x is holds = subst (λ (p : Option _). IfSome p Q) is holds
 
@@ -24,7 +24,7 @@ pub without_commas : (texts : List (List ℕ)) → AllByRecursion (IsRuleText 32
 without_commas [] h = tt
 without_commas (text ∷ texts) h = (tested 44 text (word_lacks is_rule_byte 32 text 44 refl h.0.word), without_commas texts h.1)
 
--- the texts behind `ends ` are the rule's
+-- the texts after `ends ` are those of the rule
 pub ends_once : (words list : List ℕ) (texts : List (List ℕ)) (r : NameRule) → words ≡ codes "ends " ++ list → texts ≡ slice_split (λ b. eqb b 44) list
     → IsNameRule r → words ≡ join_with_byte 32 (rule_words r) → Ends texts ≡ r
 ends_once words list texts AnyName front split form is = absurd (differ 0 _ _ 101 97 (sym front ∙ is) refl refl (λ e. omega arith))
@@ -35,7 +35,7 @@ ends_once words list texts (Begins text) front split form is = absurd (differ 0 
 
 -- ---- the settings
 
--- the nine texts, the rule's words as one
+-- the nine texts, with the rule's words as one
 abbrev pub nine_texts : (words : List (List ℕ)) (b : Settings) → SaysSettings words b → List (List ℕ)
 nine_texts words b s =
     s.opens ∷ s.closes ∷ days_word b.days ∷ minute_word b.from_minute ∷ minute_word b.to_minute ∷ s.quota ∷ s.max_files ∷ mode_word b.mode
@@ -62,7 +62,7 @@ cut_settings text found words b s is cuts =
     (mode_lacks_space b.mode)
     (is ∙ ap (join_with_byte 32) s.are ∙ rule_as_one s.opens s.closes (days_word b.days) (minute_word b.from_minute) (minute_word b.to_minute) s.quota s.max_files (mode_word b.mode) b.rule)
 
--- the nine texts say the settings
+-- the nine texts state the settings
 pub nine_say : (w : SettingsWords) (words : List (List ℕ)) (b : Settings) (s : SaysSettings words b) → texts_of w ≡ nine_texts words b s
     → SayRow w b × (w.rule.now ≡ join_with_byte 32 (rule_words b.rule))
 nine_say w words b s is =
@@ -80,7 +80,7 @@ nine_say w words b s is =
       at 8,
     )
 
--- texts that say settings and a rule are said by one text
+-- settings and a rule are stated by one text
 pub say_settings : (text : List ℕ) (w : SettingsWords) (a : Settings) → text ≡ join_with_byte 32 (texts_of w) → SayRow w a → (r : NameRule)
     → w.rule.now ≡ join_with_byte 32 (rule_words r)
     → (words : List (List ℕ)) × SaysSettings words (record a { rule = r }) × (text ≡ join_with_byte 32 words)
@@ -102,7 +102,7 @@ say_settings text w a is says r rule = (
       ∙ sym (rule_as_one w.opens.now w.closes.now (days_word a.days) (minute_word a.from_minute) (minute_word a.to_minute) w.quota.now w.max_files.now (mode_word a.mode) r),
 )
 
--- settings that are the same but for the rule, with the rule
+-- settings that are equal except for the rule, with the rule put in
 pub with_rule : (a b : Settings) (r : NameRule) → ◌≡◌ {A = Option Settings} (Some a) (Some (record b { rule = AnyName })) → ◌≡◌ {A = Option NameRule} (Some r) (Some b.rule)
     → ◌≡◌ {A = Option Settings} (Some (record a { rule = r })) (Some b)
 with_rule a b r same rule =

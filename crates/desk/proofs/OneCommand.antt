@@ -1,4 +1,4 @@
--- A text is one command at most.
+-- A text stands for at most one command.
 use Rattle.std.proofs.Common.{◌≡◌, ℕ, zero, suc, List, [], ◌∷◌, ◌++◌, length, get_or, drop, refl, sym, ap, subst, ◌∙◌, Option, Some, arith}
 use Rattle.std.specs.Prelude.{codes, option_map}
 use Rattle.std.specs.List.{AllByRecursion, join_with_byte}
@@ -21,7 +21,7 @@ use Rattle.desk.proofs.Commands.{text_of, IsAddedKey, added_key, revoked_key, Is
 
 -- ---- settings
 
--- the texts before the first n spaces, and the text behind them
+-- the texts before the first n spaces, and the text after them
 unfoldable pub cut_spaces : ℕ → List ℕ → Option (List (List ℕ))
 cut_spaces zero text = Some (text ∷ [])
 cut_spaces (suc n) text = cut 32 text >>= (λ p. option_map (λ (t : List (List ℕ)). p.0 ∷ t) (cut_spaces n p.1))
@@ -38,7 +38,7 @@ cuts_joined (word ∷ words) last lack =
     ∙ ap (λ o. o >>= (λ p. option_map (λ (t : List (List ℕ)). p.0 ∷ t) (cut_spaces (length words) p.1))) (cut_at 32 word (join_with_byte 32 (words ++ last ∷ [])) (tested 32 word lack.0))
     ∙ ap (option_map (λ (t : List (List ℕ)). word ∷ t)) (cuts_joined words last lack.1)
 
--- the first eight spaces cut a text that says settings into the nine texts
+-- the first eight spaces cut a text that states settings into the nine texts
 pub cuts_settings : (text : List ℕ) (words : List (List ℕ)) (b : Settings) (s : SaysSettings words b) → text ≡ join_with_byte 32 words → cut_spaces 8 text ≡ Some (nine_texts words b s)
 cuts_settings text words b s is =
     cut_settings text (cut_spaces 8 text) words b s is (λ opens closes days from to quota max_files mode rule l1 l2 l3 l4 l5 l6 l7 l8 joined.

@@ -32,7 +32,7 @@ none : {X : Type 0} (k : ℕ) → ◌≡◌ {A = List X} (take k []) []
 none zero = refl
 none (suc k) = refl
 
--- a front, and the portion behind it
+-- a front and the portion after it make a longer front
 pub take_portion : {X : Type 0} (n m : ℕ) (xs : List X) → take n xs ++ take m (drop n xs) ≡ take (n + m) xs
 take_portion zero m xs = ap (λ k. take k xs) zero_more
   where
@@ -44,7 +44,7 @@ take_portion (suc n) m (x ∷ xs) = ap (λ t. x ∷ t) (take_portion n m xs) ∙
     one_more : suc (n + m) ≡ suc n + m
     one_more = omega arith
 
--- fronts that are the whole list
+-- fronts that both are the whole list
 pub take_whole : {X : Type 0} (n m : ℕ) (xs : List X) → length xs ≤ n → length xs ≤ m → take n xs ≡ take m xs
 take_whole n m xs a b = take_all n xs a ∙ sym (take_all m xs b)
 
@@ -54,7 +54,7 @@ portion_moments s from most rows sound are =
     let all = all_numbered (IsReceipt s) (λ r. IsMoment r.moment) (λ r is. is.moment) 1 s.receipts sound.receipts in
     subst (AllByRecursion HasMoment) (sym are) (all_take HasMoment most _ (all_drop HasMoment (from - 1) _ all))
 
--- the lines of a portion behind those of the receipts before it
+-- the lines of a portion, appended to those of the receipts before it
 pub behind_portion : (s : State) (from most : ℕ) (rows : List (ℕ × Receipt)) (text more : List ℕ) → rows ≡ receipts_from s from most
     → AreLines IsReceiptLine (take (from - 1) (numbered 1 s.receipts)) text → AreLines IsReceiptLine rows more
     → AreLines IsReceiptLine (take (from - 1 + most) (numbered 1 s.receipts)) (text ++ more)
@@ -63,7 +63,7 @@ behind_portion s from most rows text more are before lines =
     let joined : take (from - 1) ns ++ rows ≡ take (from - 1 + most) ns = ap (λ r. take (from - 1) ns ++ r) are ∙ take_portion (from - 1) most ns in
     subst (λ xs. AreLines IsReceiptLine xs (text ++ more)) joined (lines_joined IsReceiptLine (take (from - 1) ns) rows text more before lines)
 
--- the front up to the next portion, also where that would begin past the last number
+-- the front up to the next portion, even if that would begin past the last number
 pub front_behind : (s : State) (from most to : ℕ) → 1 ≤ from → most ≡ 256 → to ≡ min (from + most) 18446744073709551615 → length s.receipts + 1 < 18446744073709551616
     → take (from - 1 + most) (numbered 1 s.receipts) ≡ take (to - 1) (numbered 1 s.receipts)
 front_behind s from most to first is next short = go (cases_lt (from + most) 18446744073709551616)

@@ -6,7 +6,7 @@ use Rattle.std.specs.Prelude.{◌↔◌, IsUtf8}
 use Rattle.std.specs.List.{AllByRecursion}
 use Rattle.csv.specs.Records.{field_at, AllText}
 
--- lists as long as one another, with the same at each place
+-- lists of the same length are equal if they agree at each place
 pub same_places : (xs ys : List (List ℕ)) → length xs ≡ length ys → ((k : ℕ) → k < length ys → field_at xs k ≡ field_at ys k) → xs ≡ ys
 unfolding field_at
 same_places [] [] long each = refl
@@ -17,14 +17,14 @@ same_places (x ∷ xs) (y ∷ ys) long each =
     let rest : xs ≡ ys = same_places xs ys (omega (arith, long)) (λ k less. each (suc k) (omega (arith, less))) in
     λ i. first i ∷ rest i
 
--- what stands at a place of the list
+-- the text at a place of the list
 pub at_place : {A : Type 0} (f : A → List ℕ) (xs : List A) (i : ℕ) (d : A) → i < length xs → field_at (map f xs) i ≡ Some (f (get_or xs i d))
 unfolding field_at
 at_place f [] i d less = absurd (omega (arith, less))
 at_place f (x ∷ xs) zero d less = refl
 at_place f (x ∷ xs) (suc i) d less = at_place f xs i d (omega (arith, less))
 
--- what was set
+-- the text that was set
 pub at_set : {A : Type 0} (f : A → List ℕ) (xs : List A) (i : ℕ) (x : A) → i < length xs → field_at (map f (slice_set xs i x)) i ≡ Some (f x)
 unfolding field_at
 at_set f [] i x less = absurd (omega (arith, less))
@@ -39,7 +39,7 @@ before_set f (y ∷ xs) zero k x less = absurd (omega (arith, less))
 before_set f (y ∷ xs) (suc i) zero x less = refl
 before_set f (y ∷ xs) (suc i) (suc k) x less = before_set f xs i k x (omega (arith, less))
 
--- one place more
+-- agreeing at one more place
 pub one_more : (xs ys : List (List ℕ)) (i : ℕ) → ((k : ℕ) → k < i → field_at xs k ≡ field_at ys k) → field_at xs i ≡ field_at ys i
     → (k : ℕ) → k < i + 1 → field_at xs k ≡ field_at ys k
 one_more xs ys i before here k less =
@@ -48,7 +48,7 @@ one_more xs ys i before here k less =
     last : i ≡ k → field_at xs k ≡ field_at ys k
     last e = subst (λ n. field_at xs n ≡ field_at ys n) e here
 
--- each of the texts is UTF-8
+-- each text is UTF-8
 pub each_text : {A : Type 0} (f : A → List ℕ) (xs : List A) → AllByRecursion (λ x. IsUtf8 (f x)) xs ↔ AllText (map f xs)
 unfolding AllText
 each_text f [] = (λ h. tt, λ h. tt)

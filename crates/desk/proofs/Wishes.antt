@@ -5,7 +5,7 @@ use Rattle.sigv4.specs.Dates.{WritesMoment}
 use Rattle.links.specs.Forms.{IsExpiry}
 use Rattle.desk.specs.LinkLists.{IsLinkRow}
 
--- where all of a list is known, so is each text of it
+-- if the whole list is known, each of its texts is known
 text_at : (texts : List (Bor (List ℕ))) (fields : List (List ℕ)) (d : Bor (List ℕ)) (i : ℕ) → map (λ t. t.now) texts ≡ fields → get_or fields i d.now ≡ (get_or texts i d).now
 text_at texts fields d i are = sym (ap (λ fs. get_or fs i d.now) are) ∙ get_or-map (λ t. t.now) texts i d
 

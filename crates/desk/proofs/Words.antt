@@ -39,7 +39,7 @@ cut_once c text a b word rest parts first is =
     let other = ap (cut c) is ∙ cut_at c word rest (tested c word first) in
     some_pair_parts a word b rest (sym one ∙ other)
 
--- what stands behind a front that was stripped
+-- what follows a prefix that was stripped
 pub behind_front : (text front : List ℕ) (r : Option (Bor (List ℕ))) (rest : Bor (List ℕ)) → r ≡ Some rest
     → MatchOption r (pointwise nat_eq (take (length front) text) front ≡ false) (λ x. (pointwise nat_eq (take (length front) text) front ≡ true) × (x.now ≡ drop (length front) text) × (length x.now + length front ≡ length text))
     → text ≡ front ++ rest.now
@@ -47,7 +47,7 @@ behind_front text front r rest is stripped = MatchOption-at_some _ _ rest is (st
 
 -- ---- texts that lack a byte
 
--- a word lacks each byte that its test bars
+-- a word lacks each byte that its test forbids
 pub word_lacks : (test : ℕ → Bool) (n : ℕ) (text : List ℕ) (c : ℕ) → test c ≡ false → IsWord test n text → Lacks c text
 word_lacks test n text c barred word k d within here =
     let passes : test (get_or text k d) ≡ true = AllPass-from_list_all test text word.each k d within in
@@ -78,7 +78,7 @@ time_lacks time = ((λ e. omega arith), ((λ e. omega arith), ((λ e. omega arit
 pub moment_lacks_space : (text : List ℕ) (moment : ℕ) → WritesMoment text moment → Lacks 32 text
 moment_lacks_space text moment w = subst (Lacks 32) (sym w.written) (All-from_recursion (λ b. b ≡ 32 → ⊥) (civil_time_text w.time) (time_lacks w.time))
 
--- ---- words that tell what they say
+-- ---- words and what they stand for
 
 -- equal texts have equal bytes
 pub differ : (i : ℕ) (a b : List ℕ) (x y : ℕ) → a ≡ b → get_or a i 0 ≡ x → get_or b i 0 ≡ y → (x ≡ y → ⊥) → ⊥

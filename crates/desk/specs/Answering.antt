@@ -1,4 +1,4 @@
--- How a list is answered by an `Answerer`, which reads it from a reader that counts its faults.
+-- How an `Answerer` answers a list that comes from a reader that counts its faults.
 use Rattle.std.specs.Prelude.{ℕ, List, map, Option, Result}
 use Rattle.csv.specs.Reading.{reader_source}
 use Rattle.csv.specs.declared.reader.Reader.{Reader}
@@ -12,7 +12,7 @@ use Rattle.desk.specs.declared.list_fault.ListFault.{ListFault}
 abbrev pub left_in : {R : Type 0} → (R → Option (List ℕ)) → Counted R → Option (List ℕ)
 left_in remaining counted = remaining counted.inner
 
--- how many reads failed
+-- the number of reads that failed
 abbrev pub failed_reads : {R : Type 0} → Reader (Counted R) → ℕ
 failed_reads reader = (reader_source reader).faults
 
@@ -22,16 +22,16 @@ head_read heads = map (λ f. f.now) heads.read.now
 abbrev pub head_written : Heads → List (List ℕ)
 head_written heads = map (λ f. f.now) heads.written.now
 
--- the world that the answerer knew, where whatever it was answered is honest
+-- a world that the answerer knew, if everything it was told is honest
 abbrev pub Knew : {A : Type 0} (a : Ghosts A) → A → A → a.World → Type 0
 Knew a old new w = a.knows old w × a.is_honest new
 
--- the records to come are answered so by the answerer
+-- the answerer answers the remaining records like this
 abbrev pub AnswersRestBy : {A R : Type 0} → Ghosts A → A → A → (R → Option (List ℕ)) → Reader (Counted R) → Option (List ℕ) → Option (List ℕ)
     → Result (Unit {0}) ListFault → Type 0
 AnswersRestBy a before after remaining reader = AnswersRest a.has_form (Knew a before after) (a.is_line before) (left_in remaining) reader
 
--- the whole list is answered so
+-- the answerer answers the whole list like this
 abbrev pub AnswersListBy : {A : Type 0} → Ghosts A → A → A → Heads → Option (List ℕ) → Option (List ℕ) → Option (List ℕ)
     → Result (Unit {0}) ListFault → Type 0
 AnswersListBy a before after heads = AnswersList (head_read heads) (head_written heads) a.has_form (Knew a before after) (a.is_line before)

@@ -1,4 +1,4 @@
--- What a keeper leaves that is asked several times.
+-- What several questions leave of a keeper.
 use Rattle.std.proofs.Common.{◌≡◌, Ok, Err, inl, inr, refl, subst, ap}
 use Rattle.std.specs.Prelude.{◌⊎◌, ℕ, ⊤, Result}
 use Rattle.sigtext.specs.Counts.{CountsErrors}
@@ -16,7 +16,7 @@ same_error : {T : Type 0} (f g : KeepFault) → ◌≡◌ {A = Result T KeepFaul
 same_error f g e = cc
 
 module _ {K : Type 0} (k : Ghosts K) where
-  -- a sound state that it meant before, where it is honest after
+  -- a sound state that the keeper meant before, if it is honest after
   abbrev pub Meant : K → K → State → Type 0
   Meant old new s = k.means old s × IsSound s × k.is_honest new
 
@@ -36,7 +36,7 @@ module _ {K : Type 0} {means : K → State → Type 0} {is_honest is_open : K �
     whole = λ s m h w. w;
   }
 
-  -- one question after another
+  -- two questions in a row
   pub stays_joined : {T : Type 0} (a b c : K) (r : Result T KeepFault) → Stays {T = ⊤} means is_honest is_open faults leaves leaves_whole has_store a b (Ok tt) → Stays means is_honest is_open faults leaves leaves_whole has_store b c r → Stays means is_honest is_open faults leaves leaves_whole has_store a c r
   stays_joined a b c r p q = record {
     same = λ s m. q.same s (p.same s m);

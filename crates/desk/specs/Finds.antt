@@ -1,4 +1,4 @@
--- What a call says of what it finds, where it may find nothing, or fail.
+-- What a call that may find nothing, or fail, says of what it finds.
 use Rattle.std.specs.Prelude.{Option, Result, IfOk, IfSome}
 
 -- what was found has the property

@@ -1,4 +1,4 @@
--- What a desk command that was read means.
+-- The meaning of a desk command that was read.
 use Rattle.std.specs.Prelude.{◌≡◌, ◌⊎◌, ℕ, List, [], ◌∷◌, ◌++◌, codes, Option, Some, option_map}
 use Rattle.sigv4.specs.Dates.{WritesMoment}
 use Rattle.boxes.specs.Commands.{HasForm}
@@ -19,21 +19,21 @@ said (line.DropFile box name) = DropFile (record { box = box.now; name = name.no
 said (line.LimitKey id box) = LimitKey id.now box.now
 said (line.SetAllowance seconds) = SetAllowance seconds
 
--- the line is the text's command
+-- the line is the command that the text stands for
 abbrev pub SaysCommand : List ℕ → DeskLine → Type 0
 SaysCommand text l = IsCommand text (said l)
 
--- where the text is a command of the form, it was found
+-- if the text stands for a well-formed command, that command was found
 abbrev pub FindsCommand : List ℕ → Option DeskLine → Type 0
 FindsCommand text found = (c : Command) → IsCommand text c → HasForm c → option_map said found ≡ Some c
 
--- the nine texts of a box's settings; the rule's is of one word or two
+-- the nine texts of a box's settings; the rule's text has one word or two
 abbrev pub texts_of : SettingsWords → List (List ℕ)
 texts_of w =
     w.opens.now ∷ w.closes.now ∷ w.days.now ∷ w.from.now ∷ w.to.now ∷ w.quota.now ∷ w.max_files.now ∷ w.mode.now
     ∷ w.rule.now ∷ []
 
--- the texts, but the rule's, say what the box is set to
+-- the texts say what the box is set to, all but its rule
 pub record SayRow (w : SettingsWords) (b : Settings) : Type 0 where
   pub opens : WritesMoment w.opens.now b.opens
   pub closes : WritesMoment w.closes.now b.closes
@@ -44,10 +44,10 @@ pub record SayRow (w : SettingsWords) (b : Settings) : Type 0 where
   pub max_files : IsNumber w.max_files.now b.max_files
   pub mode : w.mode.now ≡ mode_word b.mode
 
--- ` ends ` or ` begins ` stands in the text
+-- ` ends ` or ` begins ` occurs in the text
 abbrev pub HasRuleWord : List ℕ → Type 0
 HasRuleWord text = (front rest : List ℕ) × ((text ≡ front ++ (codes " ends " ++ rest)) ⊎ (text ≡ front ++ (codes " begins " ++ rest)))
 
--- `box add `, and a text in which one of them stands
+-- the text begins with `box add `, and one of the two words occurs after it
 abbrev pub HasListedRule : List ℕ → Type 0
 HasListedRule line = (words : List ℕ) × (line ≡ codes "box add " ++ words) × HasRuleWord words

@@ -30,14 +30,14 @@ pub record Signing : Type 0 where
 abbrev pub signing_of : LinkKey → List ℕ → List ℕ → Signing
 signing_of key host region = record { key_id = key.id.now; secret = key.secret.now; host = host; region = region }
 
--- each has its form
+-- each of them is well formed
 pub record CanSign (g : Signing) : Type 0 where
   pub host : IsWord is_visible 255 g.host
   pub region : IsRegion g.region
   pub key_id : IsKeyId g.key_id
   pub secret : IsSecret g.secret
 
--- a link that is asked for
+-- a link to write
 pub record Wish : Type 0 where
   pub method : Method
   pub box : List ℕ
@@ -48,7 +48,7 @@ pub record Wish : Type 0 where
 abbrev pub wish_of : code.Wish → Wish
 wish_of w = record { method = w.method; box = w.in_box.now; name = w.name.now; start = w.start; expires = w.expires }
 
--- the record asks for it
+-- the record asks for this link
 pub record IsWish (fields : List (List ℕ)) (w : Wish) : Type 0 where
   pub start : List ℕ
   pub expires : List ℕ
@@ -78,11 +78,11 @@ terms g w = record {
   region = g.region;
 }
 
--- `http://`, the host and the target of a link that is asked for
+-- the whole text of a wanted link: `http://`, the host and the target
 abbrev pub IsLinkText : Signing → Wish → List ℕ → Type 0
 IsLinkText g w text = (target : List ℕ) × IsLinkFor (terms g w) target × (text ≡ codes "http://" ++ g.host ++ target)
 
--- the record, and behind it `http://`, the host and the link's target
+-- the record followed by the whole text of its link
 abbrev pub IsLinkLine : Signing → List (List ℕ) → List ℕ → Type 0
 IsLinkLine g fields text = (w : Wish) × (target : List ℕ) × IsWish fields w × IsLinkFor (terms g w) target
     × (text ≡ line (fields ++ (codes "http://" ++ g.host ++ target) ∷ []))

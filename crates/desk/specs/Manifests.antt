@@ -1,4 +1,4 @@
--- Manifests: the receipts of an office, and what stands of them.
+-- Manifests: the receipts of an office, and how they compare with its files.
 use Rattle.std.specs.Prelude.{◌≡◌, ℕ, ◌≤◌, List, [], ◌∷◌, ◌++◌, length, codes, decimal, Option, Some, Result, OnOk}
 use Rattle.std.specs.FinMap.{get}
 use Rattle.hex.specs.Hex.{encode_lower}
@@ -19,7 +19,7 @@ use Rattle.desk.specs.declared.comparing.Comparison.TheVariants as comparison
 abbrev pub manifest_head : List (List ℕ)
 manifest_head = codes "receipt" ∷ codes "box" ∷ codes "name" ∷ codes "length" ∷ codes "sha256" ∷ codes "moment" ∷ codes "key" ∷ []
 
--- the record of a receipt with its number
+-- the record of a receipt with this number
 pub record IsRecordOf (receipt : ℕ × Receipt) (fields : List (List ℕ)) : Type 0 where
   pub moment : List ℕ
   pub is_moment : WritesMoment moment receipt.1.moment
@@ -29,7 +29,7 @@ pub record IsRecordOf (receipt : ℕ × Receipt) (fields : List (List ℕ)) : Ty
 abbrev pub IsReceiptLine : ℕ × Receipt → List ℕ → Type 0
 IsReceiptLine receipt text = (fields : List (List ℕ)) × IsRecordOf receipt fields × (text ≡ line fields)
 
--- what a manifest's record says
+-- what a record of a manifest says
 pub record Entry : Type 0 where
   pub number : ℕ  -- of the receipt
   pub place : Place
@@ -39,7 +39,7 @@ pub record Entry : Type 0 where
 abbrev pub entry_of : comparing.Entry → Entry
 entry_of e = record { number = e.number; place = record { box = e.in_box.now; name = e.name.now }; size = e.size; digest = e.digest.now }
 
--- the record says so. Its moment and its key may be any texts.
+-- The record says what the entry holds. Its moment and its key may be any texts.
 pub record IsEntry (fields : List (List ℕ)) (e : Entry) : Type 0 where
   pub number : List ℕ
   pub size : List ℕ
@@ -54,19 +54,19 @@ pub record IsEntry (fields : List (List ℕ)) (e : Entry) : Type 0 where
   pub texts : AllText fields
   pub are : fields ≡ number ∷ e.place.box ∷ e.place.name ∷ size ∷ e.digest ∷ moment ∷ key ∷ []
 
--- the texts that say this word of an entry
+-- the texts of the line that gives this word for an entry
 abbrev pub texts_with : comparing.Entry → List ℕ → List (List ℕ)
 texts_with e word = e.number_text.now ∷ e.in_box.now ∷ e.name.now ∷ word ∷ []
 
 abbrev pub IsManifestRow : List (List ℕ) → Type 0
 IsManifestRow fields = (e : Entry) × IsEntry fields e
 
--- under the entry's place stands this file, with the entry's receipt
+-- this file is at the entry's place, and has the entry's receipt
 pub record Stands (s : State) (e : Entry) (f : File) : Type 0 where
   pub there : get s.files e.place ≡ Some f
   pub receipt : f.receipt ≡ e.number
 
--- the file's bytes are as many as the entry says, and have its digest
+-- the file has the length and the digest that the entry says
 pub record IsSame (e : Entry) (f : File) : Type 0 where
   pub size : length f.bytes ≡ e.size
   pub digest : encode_lower (sha256 f.bytes) ≡ e.digest
@@ -84,20 +84,21 @@ word_of comparison.Gone = codes "gone"
 abbrev pub findings_head : List (List ℕ)
 findings_head = codes "receipt" ∷ codes "box" ∷ codes "name" ∷ codes "state" ∷ []
 
--- what stands of the record's file
+-- the line that tells how the record compares with the office
 abbrev pub IsComparisonLine : State → List (List ℕ) → List ℕ → Type 0
 IsComparisonLine s fields text = (e : Entry) × (is : IsEntry fields e) × (found : Comparison) × IsComparison s e found
     × (text ≡ line (is.number ∷ e.place.box ∷ e.place.name ∷ word_of found ∷ []))
 
 -- ---- what a manifest says of an office
 
--- these are the first receipts, with their numbers; at a success all
+-- these are the first receipts, with their numbers; at a success they are all
 pub record AreFirst {T E : Type 0} (s : State) (first : List (ℕ × Receipt)) (result : Result T E) : Type 0 where
   pub rest : List (ℕ × Receipt)
   pub receipts : numbered 1 s.receipts ≡ first ++ rest
   pub all : OnOk result (rest ≡ [])
 
--- the head and the lines of the first receipts were written, the last of them perhaps in part; at a success those of all
+-- The head and the lines of the first receipts were written, the last of them perhaps in part. At a success
+-- the lines of all receipts were written.
 pub record WritesManifest {T E : Type 0} (s : State) (old new : Option (List ℕ)) (result : Result T E) : Type 0 where
   pub first : List (ℕ × Receipt)
   pub are_first : AreFirst s first result
@@ -105,7 +106,7 @@ pub record WritesManifest {T E : Type 0} (s : State) (old new : Option (List ℕ
   pub table : IsTable manifest_head IsReceiptLine first text
   pub sent : Sends text old new result
 
--- the same of the lines alone
+-- the same for the lines alone
 pub record SendsReceipts {T E : Type 0} (s : State) (old new : Option (List ℕ)) (result : Result T E) : Type 0 where
   pub first : List (ℕ × Receipt)
   pub are_first : AreFirst s first result

@@ -24,7 +24,7 @@ abbrev pub day_digit : Bool → ℕ
 day_digit true = 49
 day_digit false = 48
 
--- a digit for each day: 1 where the box is open on it
+-- a digit for each day: 1 if the box is open on it
 abbrev pub days_word : List Bool → List ℕ
 days_word days = map day_digit days
 
@@ -32,20 +32,20 @@ days_word days = map day_digit days
 abbrev pub minute_word : ℕ → List ℕ
 minute_word minute = two_digits (minute / 60) ++ two_digits (minute % 60)
 
--- digits without a leading zero, but for the number 0. No number of a command has more than 13.
+-- Digits without a leading zero, except for the number 0. No number in a command has more than 13.
 pub record IsNumber (text : List ℕ) (n : ℕ) : Type 0 where
   pub digits : IsWord is_ascii_digit 13 text
   pub first : (rest : List ℕ) → text ≡ 48 ∷ rest → rest ≡ []
   pub value : n ≡ digits_value 10 text
 
--- the texts of a rule are joined by commas
+-- the texts of a rule, joined by commas
 abbrev pub rule_words : NameRule → List (List ℕ)
 rule_words AnyName = codes "any" ∷ []
 rule_words (Ends texts) = codes "ends" ∷ join_with_byte 44 texts ∷ []
 rule_words (Begins text) = codes "begins" ∷ text ∷ []
 
--- the words of a box's settings: when it opens and closes, its days and hours, its quota and its most files, its mode
--- and its name rule
+-- the words of a box's settings: when it opens and closes, its days and hours, its quota, its greatest number
+-- of files, its mode and its name rule
 pub record SaysSettings (words : List (List ℕ)) (b : Settings) : Type 0 where
   pub opens : List ℕ
   pub closes : List ℕ
@@ -58,7 +58,7 @@ pub record SaysSettings (words : List (List ℕ)) (b : Settings) : Type 0 where
   pub are : words ≡ opens ∷ closes ∷ days_word b.days ∷ minute_word b.from_minute ∷ minute_word b.to_minute
       ∷ quota ∷ max_files ∷ mode_word b.mode ∷ rule_words b.rule
 
--- the text is those words, one space apart
+-- the text is these words, joined by single spaces
 abbrev pub SpellsSettings : List ℕ → Settings → Type 0
 SpellsSettings text b = (words : List (List ℕ)) × SaysSettings words b × (text ≡ join_with_byte 32 words)
 
@@ -76,7 +76,7 @@ pub data Says : List (List ℕ) → Command → Type 0 where
   sets_allowance : (text : List ℕ) (seconds : ℕ) → IsNumber text seconds
       → Says (codes "office" ∷ codes "allow" ∷ text ∷ []) (SetAllowance seconds)
 
--- the text is the command's: its words, one space apart
+-- the text is the command's words, joined by single spaces
 pub record IsCommand (text : List ℕ) (command : Command) : Type 0 where
   pub words : List (List ℕ)
   pub says : Says words command

@@ -1,4 +1,4 @@
-//! What gives each record of a list its answer.
+//! The trait of what answers each record of a list.
 ghost use Rattle.std.specs.Prelude.{ℕ, List, ⊤, Result, Ok, IfOk, IfErr, IfNone};
 ghost use Rattle.csv.specs.Records.{fields_of};
 ghost use Rattle.keeper.specs.declared.keep.KeepFault.{KeepFault};
@@ -9,34 +9,34 @@ use crate::list_fault::ListFault;
 use csv::ByteRecord;
 use std::alloc::Global;
 
-/// The heads of a list that is read and of the one that is written.
+/// The head of the list that is read, and that of the list that is written.
 #[derive(Clone, Copy)]
 pub(crate) struct Heads<'a> {
     pub(crate) read: &'a [&'a [u8]],
     pub(crate) written: &'a [&'a [u8]],
 }
 
-/// Gives each record of a list its answer.
+/// Answers each record of a list.
 pub(crate) trait Answerer {
-    /// What an answer may depend on, beside the record.
+    /// What an answer may depend on besides the record.
     ghost World: { Type 0 };
 
-    /// The record is of the form.
+    /// The record has the right form.
     ghost has_form: { List (List ℕ) → Type 0 };
 
-    /// Before a call this is the world.
+    /// The answerer knows this world before a call.
     ghost knows: { Self → World → Type 0 };
 
-    /// Whatever was answered so far holds of that world.
+    /// All answers so far are true of that world.
     ghost is_honest: { Self → Type 0 };
 
     /// The line answers the record in this world.
     ghost is_line: { Self → World → List (List ℕ) → List ℕ → Type 0 };
 
-    /// What calls leave, whatever they answer: what a keeper below said is told.
+    /// What calls leave unchanged, whatever they answer. The result is that of the keeper below.
     ghost stays: { Self → Self → Result ⊤ KeepFault → Type 0 };
 
-    /// The line that answers a record, where that is of the form.
+    /// The line that answers a record; `None` if the record does not have the right form.
     fn answer(&mut self, alloc: Global, row: &ByteRecord) -> Result<Option<Vec<u8>>, ListFault>
         ensures line { (w : World) → knows self.old w → is_honest self.new
             → IfFound result (λ text. is_line self.old w (fields_of row.now) text.items) }
@@ -45,22 +45,22 @@ pub(crate) trait Answerer {
         ensures stays { stays self.old self.new (by_keeper result) }
         ensures fault { IfErr result IsOfAnswering };
 
-    /// Nothing was asked.
+    /// This holds if nothing was asked.
     ghost unasked: { (a : Self) → stays a a (Ok tt) };
 
-    /// One call after another.
+    /// Two calls in a row.
     ghost joins: { (a b c : Self) (r : Result ⊤ KeepFault)
         → stays a b (Ok tt) → stays b c r → stays a c r };
 
-    /// The world stays.
+    /// The world stays the same.
     ghost same: { (a b : Self) (w : World) (r : Result ⊤ KeepFault)
         → stays a b r → knows a w → knows b w };
 
-    /// What is honest now was so before.
+    /// An answerer that is honest after a call was honest before it.
     ghost honest: { (a b : Self) (r : Result ⊤ KeepFault)
         → stays a b r → is_honest b → is_honest a };
 
-    /// What answers a record is the same at all times.
+    /// The answer to a record does not change over time.
     ghost steady: { (a b : Self) (r : Result ⊤ KeepFault)
         → (w : World) (fields : List (List ℕ)) (text : List ℕ) → stays a b r
         → is_line b w fields text → is_line a w fields text };

@@ -16,7 +16,7 @@ use std::alloc::Global;
 use std::io::{Read, Write};
 use wire::Counted;
 
-/// Answers the records that are to come, one after another.
+/// Answers the remaining records in order.
 fn answer_records<R: Read, W: Write, A: Answerer>(
     alloc: Global,
     reader: &mut Reader<Counted<R>>,
@@ -46,7 +46,7 @@ fn answer_records<R: Read, W: Write, A: Answerer>(
     Err(ListFault::Memory)
 }
 
-// Answers the whole list that a reader is to read.
+// Answers a whole list from a reader at its start.
 fn answer_read<R: Read, W: Write, A: Answerer>(
     alloc: Global,
     reader: &mut Reader<Counted<R>>,
@@ -76,7 +76,8 @@ fn answer_read<R: Read, W: Write, A: Answerer>(
     answer_records(alloc, reader, row, answerer, out)
 }
 
-/// Answers a list: where its head is the one, another head is written, and then the answer of each record.
+/// Answers a list. If it begins with the expected head, writes the other head, then the answer to each
+/// record.
 pub(crate) fn answer_list<R: Read, W: Write, A: Answerer>(
     alloc: Global,
     input: R,

@@ -1,4 +1,4 @@
-//! What stands of a manifest.
+//! Comparing a manifest with the files that the office has.
 ghost use Rattle.std.specs.Prelude.{◌≡◌, ◌≢◌, ◌↔◌, IsTrue, IfErr, IfOk, IfSome, IfNone, Err, Option, length};
 ghost use Rattle.std.proofs.Common.{refl, ◌∙◌};
 ghost use Rattle.csv.specs.Records.{fields_of};
@@ -29,7 +29,7 @@ use std::alloc::Global;
 use std::io::{Read, Write};
 use wire::{Counted, hex_digits};
 
-/// The head of what is found.
+/// The head of the list of results.
 const FINDINGS_HEAD: [&[u8]; 4] = [b"receipt", b"box", b"name", b"state"];
 
 /// The most digits of a receipt's number.
@@ -38,14 +38,14 @@ const MOST_NUMBER_DIGITS: usize = 10;
 /// The most digits of a length.
 const MOST_LENGTH_DIGITS: usize = 7;
 
-/// What stands of a receipt's file.
+/// How a manifest's entry compares with the files of the office.
 #[derive(Clone, Copy, Debug, PartialEq, Eq)]
 pub(crate) enum Comparison {
-    /// The file stands, as the manifest says.
+    /// The file is as the manifest says.
     Standing,
-    /// A file stands under the receipt, of another length or digest.
+    /// A file has this receipt, but its length or its digest differs.
     Differs,
-    /// No file stands under the receipt.
+    /// No file has this receipt.
     Gone,
 }
 
@@ -61,7 +61,7 @@ impl Comparison {
     }
 }
 
-/// What a record of a manifest says.
+/// What a record of a manifest says of a file.
 #[derive(Clone, Copy)]
 pub(crate) struct Entry<'a> {
     number_text: &'a [u8],
@@ -73,7 +73,7 @@ pub(crate) struct Entry<'a> {
     digest: &'a [u8],
 }
 
-// What the record says, where it is of the form.
+// The entry in this record, if the record is well formed.
 fn read_entry(row: &ByteRecord) -> Option<Entry<'_>>
     ensures some { IfSome result (λ e. (is : IsEntry (fields_of row.now) (entry_of e))
         × (is.number ≡ e.number_text.now)) }
@@ -113,7 +113,7 @@ fn is_same(entry: &Entry<'_>, file: &FileRow) -> bool
         && hex_digits(Sha::digest(&file.bytes)).as_slice() == entry.digest
 }
 
-// What stands of an entry, where this file stands in its place.
+// Compares an entry with the file at its place, if there is one.
 fn find(entry: &Entry<'_>, standing: &Option<FileRow>) -> Comparison
     ensures { (s : State) → IsFileAt s (entry_of entry.now).place standing.now
         → IsComparison s (entry_of entry.now) result }
@@ -130,7 +130,7 @@ fn find(entry: &Entry<'_>, standing: &Option<FileRow>) -> Comparison
     }
 }
 
-// The line that says this word of an entry.
+// The line that gives this word for an entry.
 fn entry_line<'a>(alloc: Global, entry: &Entry<'a>, word: &'a [u8]) -> Result<Vec<u8>, ListFault>
     ensures line { IfOk result (λ text. text.items ≡ line (texts_with entry.now word.now)) }
     ensures memory { IfErr result (λ f. f ≡ ListFault.Memory) }
@@ -138,7 +138,7 @@ fn entry_line<'a>(alloc: Global, entry: &Entry<'a>, word: &'a [u8]) -> Result<Ve
     line_of(alloc, &[entry.number_text, entry.in_box, entry.name, word])
 }
 
-/// Tells of each entry what stands of it.
+/// Answers each entry of a manifest with its state.
 #[derive(Drop)]
 struct Comparer<'k, K> {
     keeper: &'k mut K,
@@ -190,23 +190,24 @@ impl<'k, K: Keeper> Comparer<'k, K> {
     }
 }
 
-/// Compares a manifest with what stands. The list in CSV begins with the head of a manifest. In each row behind it all seven
-/// texts are UTF-8; the receipt has 1 to 10 digits and the length 1 to 7, with no zero in front of others, and a receipt is
-/// not 0; the digest has 64 lower-case hexadecimal digits. What is written begins with the head `receipt,box,name,state`, and
-/// has a row for each row, in order, which ends in its state:
+/// Compares a manifest with the files of the office. The list in CSV begins with the head of a manifest. In
+/// each later row all seven texts are UTF-8. The receipt has 1 to 10 digits and is not 0. The length has 1 to
+/// 7 digits. Neither has a leading zero, except a length of `0`. The digest has 64 lower-case hexadecimal
+/// digits. The output begins with the head `receipt,box,name,state`, and has one row for each row of the
+/// manifest, in order. Its state is one of:
 ///
-/// - `standing`: the file of this box and name has this receipt, this length and this digest;
+/// - `standing`: the file with this box and name has this receipt, length and digest;
 /// - `differs`: it has this receipt, but another length or digest;
-/// - `gone`: there is none, or it has another receipt.
+/// - `gone`: there is no such file, or it has another receipt.
 ///
-/// The reader is given back, with the number of its reads that failed.
+/// The reader is returned with the number of its reads that failed.
 ///
 /// # Errors
 ///
-/// `Head` where the first row of the list is another, or missing; then nothing was written. `Row` with the number of the first
-/// row behind the head that is not of the form; then the head and the answers of the rows before it were written. `Keep`,
-/// `Read`, `Write` where the keeper, a read or a write failed, and `Memory` where memory was refused; what was written is then
-/// a beginning of the answers' text.
+/// `Head` if the first row is another or missing. Nothing was written then. `Row` with the number of the
+/// first malformed row, counted without the head. The head and the answers to the rows before it were written
+/// then. `Keep` if the keeper failed, `Read` if a read failed, `Write` if a write failed, `Memory` if memory
+/// was refused. A prefix of the answers' text was written then.
 pub fn compare<R: Read, K: Keeper, W: Write>(
     alloc: Global,
     input: R,

@@ -4,7 +4,7 @@ ghost use Rattle.boxes.specs.Commands.{HasForm};
 ghost use Rattle.boxes.specs.Steps.{Command};
 ghost use Rattle.desk.specs.Texts.{IsCommand};
 
-/// A text is one command at most.
+/// A text stands for at most one command.
 pub fn law_of_commands()
     ensures one { (text : List ℕ) (a b : Command) → IsCommand text a → HasForm a
         → IsCommand text b → HasForm b → b ≡ a }

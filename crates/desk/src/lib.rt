@@ -1,4 +1,4 @@
-//! The desk: what a clerk says to the office, and the lists that a clerk is given.
+//! The desk: the commands of a clerk, and the lists that a clerk gets.
 #![tactic(auto)]
 
 mod answerer;

@@ -5,7 +5,7 @@ ghost use Rattle.desk.specs.Lines.{said};
 
 use boxes::{BoxRow, Command, Role};
 
-/// A desk command, as it was read. Its texts stand in the line; the settings of a box stand by themselves.
+/// A desk command as it was read. Its texts are slices of the line; the settings of a box are owned.
 #[derive(Drop)]
 pub enum DeskLine<'a> {
     /// `key add ID ROLE SECRET`.
@@ -23,7 +23,7 @@ pub enum DeskLine<'a> {
         name: &'a [u8],
         row: BoxRow,
     },
-    /// `box close NAME MOMENT`, the moment in seconds since 1970-01-01T00:00:00Z.
+    /// `box close NAME MOMENT`, with the moment in seconds since 1970-01-01T00:00:00Z.
     CloseBox {
         name: &'a [u8],
         moment: u64,
@@ -45,7 +45,7 @@ pub enum DeskLine<'a> {
 }
 
 impl DeskLine<'_> {
-    /// The command, as the rules of the desk take it.
+    /// The command, in the form that the rules of the desk take.
     pub fn command(&self) -> Command<'_>
         ensures { command_of result ≡ said self.now }
     {

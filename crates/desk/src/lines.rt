@@ -25,7 +25,7 @@ pub fn write_line(fields: &[&[u8]], writer: &mut Writer<Vec<u8>>) -> Result<(), 
     }
 }
 
-/// What was written to memory.
+/// The text that was written to memory.
 pub fn text_of(writer: Writer<Vec<u8>>) -> Result<Vec<u8>, ListFault>
     ensures text { IfOk result (λ text. Some text.items ≡ written_by writer) }
     ensures memory { IfErr result (λ f. f ≡ ListFault.Memory) }
@@ -36,7 +36,7 @@ pub fn text_of(writer: Writer<Vec<u8>>) -> Result<Vec<u8>, ListFault>
     }
 }
 
-/// The line of a record.
+/// The line of a record, as a new text.
 pub fn line_of(alloc: Global, fields: &[&[u8]]) -> Result<Vec<u8>, ListFault>
     ensures line { IfOk result (λ text. text.items ≡ line (map (λ f. f.now) fields.now)) }
     ensures memory { IfErr result (λ f. f ≡ ListFault.Memory) }
@@ -46,7 +46,7 @@ pub fn line_of(alloc: Global, fields: &[&[u8]]) -> Result<Vec<u8>, ListFault>
     text_of(writer)
 }
 
-/// Writes a text, or a beginning of it.
+/// Writes a text. After a failed write only a prefix of it was written.
 pub fn send_text<W: Write>(text: &[u8], out: &mut Counted<W>) -> Result<(), ListFault>
     ensures sent { Sends text.now (W.contents out.old.inner) (W.contents out.new.inner) result }
     ensures count { CountsErrors out.old.faults out.new.faults (by_writer result) }
@@ -58,7 +58,7 @@ pub fn send_text<W: Write>(text: &[u8], out: &mut Counted<W>) -> Result<(), List
     }
 }
 
-/// Writes the line of a record, or a beginning of it.
+/// Writes the line of a record. After a failure only a prefix of it was written.
 pub fn send_line<W: Write>(
     alloc: Global,
     fields: &[&[u8]],

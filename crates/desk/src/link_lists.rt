@@ -1,4 +1,4 @@
-//! Many links at once.
+//! Writing many links at once.
 ghost use Rattle.std.specs.Prelude.{◌≡◌, ◌↔◌, ◌∷◌, ◌++◌, ℕ, List, ⊤, IsTrue, IfErr, IfOk, IfSome, IfNone, Ok, Err, codes, map};
 ghost use Rattle.std.proofs.Common.{refl, subst, ◌∙◌};
 ghost use Rattle.sigtext.specs.Counts.{CountsErrors};
@@ -19,13 +19,13 @@ use std::alloc::{AllocError, Global};
 use std::io::{Read, Write};
 use wire::Counted;
 
-/// The head of a list of links that are asked for.
+/// The head of a list of links to write.
 const LINKS_HEAD: [&[u8]; 5] = [b"method", b"box", b"name", b"start", b"expires"];
 
-/// The head of a list of links that were written.
+/// The head of the list of written links.
 const WRITTEN_LINKS_HEAD: [&[u8]; 6] = [b"method", b"box", b"name", b"start", b"expires", b"link"];
 
-/// A link that is asked for.
+/// A link to write.
 #[derive(Clone, Copy)]
 pub(crate) struct Wish<'a> {
     method: Method,
@@ -35,7 +35,7 @@ pub(crate) struct Wish<'a> {
     expires: u64,
 }
 
-// The link that the record asks for, where it is of the form.
+// The link that the record asks for, if the record is well formed.
 fn read_wish<'a>(texts: &[&'a [u8]; 5]) -> Option<Wish<'a>>
     ensures some { IfSome result (λ w. IsWish (map (λ t. t.now) texts.now) (wish_of w)) }
     ensures none { IfNone result (IsLinkRow (map (λ t. t.now) texts.now) → ⊥) }
@@ -56,7 +56,7 @@ fn read_wish<'a>(texts: &[&'a [u8]; 5]) -> Option<Wish<'a>>
     })
 }
 
-// The path of a file.
+// The path of a file: `/BOX/NAME`.
 fn path_of(alloc: Global, in_box: &[u8], name: &[u8]) -> Result<Vec<u8>, AllocError>
     ensures { IfOk result (λ path. path.items ≡ 47 ∷ in_box.now ++ 47 ∷ name.now) }
 {
@@ -67,14 +67,14 @@ fn path_of(alloc: Global, in_box: &[u8], name: &[u8]) -> Result<Vec<u8>, AllocEr
     Ok(path)
 }
 
-// Whether links can be signed so.
+// Whether links can be signed with this key, host and region.
 fn can_sign(key: &LinkKey<'_>, host: &[u8], region: &[u8]) -> bool
     ensures { IsTrue result ↔ CanSign (signing_of key.now host.now region.now) }
 {
     is_host(host) && is_region(region) && is_key_id(key.id) && is_secret(key.secret)
 }
 
-/// Writes links with a key, for a host.
+/// Writes links with a key for a host.
 #[derive(Drop)]
 struct Signer<'a> {
     key: LinkKey<'a>,
@@ -84,7 +84,7 @@ struct Signer<'a> {
 }
 
 impl Signer<'_> {
-    // `http://`, the host and the link.
+    // The whole link: `http://`, the host and the target.
     fn link(&self, alloc: Global, wish: &Wish<'_>) -> Result<Vec<u8>, ListFault>
         requires { (fields : List (List ℕ)) × IsWish fields (wish_of wish.now) }
         ensures link { IfOk result (λ text. IsLinkText
@@ -114,7 +114,7 @@ impl Signer<'_> {
     }
 }
 
-// What stands before a link's target.
+// The part of a link before its target.
 fn front_of(alloc: Global, host: &[u8]) -> Result<Vec<u8>, AllocError>
     ensures { IfOk result (λ text. text.items ≡ codes "http://" ++ host.now) }
 {
@@ -163,18 +163,19 @@ impl Answerer for Signer<'_> {
         subst (λ g. IsLinkLine (signing_of g.key g.host.now g.region.now) fields text) p.0 l };
 }
 
-/// Writes a link for each row of a list in CSV, as `links::write_link` does. The list's head is `method,box,name,start,expires`;
-/// each row has `PUT`, `GET` or `HEAD`, the name of a box, a file's name, a moment as `20130524T000000Z`, and 1 to 604800 seconds
-/// without a leading zero. Whether the box is there isn't asked. For each row, in its order, the row is written again, and
-/// behind it `http://`, the host and the link's target, under a head with the column `link` more. The reader is given back,
-/// with the number of its reads that failed.
+/// Writes a link for each row of a list in CSV, as `links::write_link` does. The list's head is
+/// `method,box,name,start,expires`. Each row has `PUT`, `GET` or `HEAD`, the name of a box, a file's name, a
+/// moment like `20130524T000000Z`, and 1 to 604800 seconds without a leading zero. The box need not exist.
+/// The output has the same rows in order, each with the link (`http://`, the host and the target) in an
+/// additional last column `link`. The reader is returned with the number of its reads that failed.
 ///
 /// # Errors
 ///
-/// `Order` where the key, the host or the region is not of the form; then nothing was read or written. `Head` where the first
-/// row of the list is another, or missing; then nothing was written. `Row` with the number of the first row behind the head
-/// that is not of the form; then the head and the links of the rows before it were written. `Read`, `Write` where a read or a
-/// write failed, and `Memory` where memory was refused; what was written is then a beginning of the links' text.
+/// `Order` if the key, the host or the region is malformed. Nothing was read or written then. `Head` if the
+/// first row is another or missing. Nothing was written then. `Row` with the number of the first malformed
+/// row, counted without the head. The head and the links of the rows before it were written then. `Read` if a
+/// read failed, `Write` if a write failed, `Memory` if memory was refused. A prefix of the links' text was
+/// written then.
 pub fn links_from<R: Read, W: Write>(
     alloc: Global,
     input: R,

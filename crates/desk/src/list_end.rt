@@ -1,12 +1,12 @@
-//! How a list ended that was read.
+//! The result of reading a list.
 use crate::list_fault::ListFault;
 use wire::Counted;
 
-/// How a list ended that was read, and the reader.
+/// The result of answering a list, and its reader.
 #[derive(Drop)]
 pub struct ListEnd<R> {
-    /// Why the list was not answered whole, if it was not.
+    /// Why the list was not answered in full, if it was not.
     pub end: Result<(), ListFault>,
-    /// The reader that was given, and how many of its reads failed since.
+    /// The reader, with the number of its reads that failed.
     pub reader: Counted<R>,
 }

@@ -1,18 +1,18 @@
-//! Why a list was not written, or not answered, whole.
+//! Why a list was not written or answered in full.
 
 use keeper::KeepFault;
 use thiserror::Error;
 
-/// Why a list was not written, or not answered, whole. What was written is a beginning of its text.
+/// Why a list was not written or answered in full. A prefix of its text was written.
 #[derive(Clone, Copy, Debug, PartialEq, Eq, Error)]
 pub enum ListFault {
-    /// The key, the host or the region has no form in which a link could be written.
+    /// The key, the host or the region is malformed, so no link can be written.
     #[error("the key, the host or the region is malformed")]
     Order,
-    /// The first row of the list is not its head, or there is none.
+    /// The first row of the list is not the head, or there are no rows.
     #[error("the first row is not the head")]
     Head,
-    /// This row, counted from 1 behind the head, is not of the form. Those before it were answered.
+    /// This row is malformed. Rows are counted from 1, without the head. The rows before it were answered.
     #[error("row {0} is refused")]
     Row(u64),
     /// The keeper failed.

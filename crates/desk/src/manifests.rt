@@ -1,4 +1,4 @@
-//! The manifest of an office: its receipts, as a list.
+//! The manifest of an office: the list of its receipts.
 ghost use Rattle.std.specs.Prelude.{◌≡◌, ℕ, ◌+◌, List, Some, length, map, IfErr, IfOk, OnOk};
 ghost use Rattle.std.specs.List.{AllByRecursion};
 ghost use Rattle.std.specs.Io.KnownBytes.{Appends};
@@ -27,13 +27,14 @@ pub(crate) const MANIFEST_HEAD: [&[u8]; 7] = [
     b"receipt", b"box", b"name", b"length", b"sha256", b"moment", b"key",
 ];
 
-/// How many receipts are held at a time.
+/// How many receipts are held in memory at a time.
 const PORTION: u16 = 256;
 
-/// The text of the last moment there is.
+/// The text of the last possible moment.
 const LAST_MOMENT: &[u8; 16] = b"99991231T235959Z";
 
-/// The text of a moment, in seconds since 1970-01-01T00:00:00Z: of one past the last, the last.
+/// The text of a moment, given in seconds since 1970-01-01T00:00:00Z. A moment past the last possible one
+/// gets the text of the last one.
 pub fn moment_text(seconds: u64) -> [u8; 16]
     ensures { IsMoment seconds → WritesMoment result seconds }
 {
@@ -66,11 +67,11 @@ fn write_receipt(receipt: &ReceiptRow, writer: &mut Writer<Vec<u8>>) -> Result<(
     write_line(&fields, writer)
 }
 
-/// The lines of these receipts in a manifest, without its head.
+/// The lines of these receipts in a manifest, without the head.
 ///
 /// # Errors
 ///
-/// `Memory` where memory was refused.
+/// `Memory` if memory was refused.
 pub fn receipts_text(alloc: Global, receipts: &[ReceiptRow]) -> Result<Vec<u8>, ListFault>
     ensures lines { AllByRecursion HasMoment (map numbered_receipt receipts.now)
         → IfOk result (λ text. AreLines IsReceiptLine (map numbered_receipt receipts.now) text.items) }
@@ -83,7 +84,7 @@ pub fn receipts_text(alloc: Global, receipts: &[ReceiptRow]) -> Result<Vec<u8>, 
     text_of(writer)
 }
 
-// Writes the lines of the receipts from the first to the one before `end`.
+// Writes the lines of all receipts with numbers below `end`.
 fn send_receipts<K: Keeper, W: Write>(
     alloc: Global,
     keeper: &mut K,
@@ -109,14 +110,15 @@ fn send_receipts<K: Keeper, W: Write>(
     Ok(())
 }
 
-/// Writes the receipts of an office as a list in CSV, one behind another from the first on. The head is
-/// `receipt,box,name,length,sha256,moment,key`: the receipt's number, the file's box, name and length in bytes, its digest in 64
-/// lower-case digits, the moment as `20130524T000000Z`, and the id of the key. No more than 256 receipts are held at a time.
+/// Writes the receipts of an office as a list in CSV, in order from the first. The head is
+/// `receipt,box,name,length,sha256,moment,key`: the receipt's number; the file's box, name and length in
+/// bytes; its digest in 64 lower-case digits; the moment, like `20130524T000000Z`; the key's id. At most 256
+/// receipts are held in memory at a time.
 ///
 /// # Errors
 ///
-/// `Keep` where the keeper failed, `Write` where a write did, `Memory` where memory was refused. What was written is then a
-/// beginning of the list.
+/// `Keep` if the keeper failed, `Write` if a write failed, `Memory` if memory was refused. A prefix of the
+/// list was written then.
 pub fn manifest<K: Keeper, W: Write>(
     alloc: Global,
     keeper: &mut K,

@@ -12,7 +12,7 @@ use links::read_moment;
 use sigtext::cut;
 use std::alloc::{AllocError, Global};
 
-// What follows `key add `.
+// Reads what follows `key add `.
 fn read_key(words: &[u8]) -> Option<DeskLine<'_>>
     ensures some { IfSome result (SaysCommand (codes "key add " ++ words.now)) }
     ensures all { FindsCommand (codes "key add " ++ words.now) result }
@@ -23,7 +23,7 @@ fn read_key(words: &[u8]) -> Option<DeskLine<'_>>
     Some(DeskLine::AddKey { id, role, secret })
 }
 
-// What follows `box add `.
+// Reads what follows `box add `.
 fn read_box(alloc: Global, words: &[u8]) -> Result<Option<DeskLine<'_>>, AllocError>
     ensures some { IfFound result (SaysCommand (codes "box add " ++ words.now)) }
     ensures all { IfOk result (FindsCommand (codes "box add " ++ words.now)) }
@@ -38,7 +38,7 @@ fn read_box(alloc: Global, words: &[u8]) -> Result<Option<DeskLine<'_>>, AllocEr
     }
 }
 
-// What follows `box close `.
+// Reads what follows `box close `.
 fn read_closing(words: &[u8]) -> Option<DeskLine<'_>>
     ensures some { IfSome result (SaysCommand (codes "box close " ++ words.now)) }
     ensures all { FindsCommand (codes "box close " ++ words.now) result }
@@ -48,7 +48,7 @@ fn read_closing(words: &[u8]) -> Option<DeskLine<'_>>
     Some(DeskLine::CloseBox { name, moment })
 }
 
-// What follows `file drop `. The name is all that stands behind the box, spaces too.
+// Reads what follows `file drop `. The name is everything after the box, including spaces.
 fn read_drop(words: &[u8]) -> Option<DeskLine<'_>>
     ensures some { IfSome result (SaysCommand (codes "file drop " ++ words.now)) }
     ensures all { FindsCommand (codes "file drop " ++ words.now) result }
@@ -57,7 +57,7 @@ fn read_drop(words: &[u8]) -> Option<DeskLine<'_>>
     Some(DeskLine::DropFile { in_box, name })
 }
 
-// What follows `key limit `.
+// Reads what follows `key limit `.
 fn read_limit(words: &[u8]) -> Option<DeskLine<'_>>
     ensures some { IfSome result (SaysCommand (codes "key limit " ++ words.now)) }
     ensures all { FindsCommand (codes "key limit " ++ words.now) result }
@@ -66,7 +66,7 @@ fn read_limit(words: &[u8]) -> Option<DeskLine<'_>>
     Some(DeskLine::LimitKey { id, in_box })
 }
 
-// What follows `office allow `.
+// Reads what follows `office allow `.
 fn read_allowance(word: &[u8]) -> Option<DeskLine<'_>>
     ensures some { IfSome result (SaysCommand (codes "office allow " ++ word.now)) }
     ensures all { FindsCommand (codes "office allow " ++ word.now) result }
@@ -75,7 +75,7 @@ fn read_allowance(word: &[u8]) -> Option<DeskLine<'_>>
     Some(DeskLine::SetAllowance { seconds })
 }
 
-// One of the seven forms, whatever the forms of what it names.
+// Reads one of the seven commands. Does not check the forms of names, ids and secrets.
 fn read_line(alloc: Global, line: &[u8]) -> Result<Option<DeskLine<'_>>, AllocError>
     ensures some { IfFound result (SaysCommand line.now) }
     ensures all { IfOk result (FindsCommand line.now) }
@@ -105,26 +105,27 @@ fn read_line(alloc: Global, line: &[u8]) -> Result<Option<DeskLine<'_>>, AllocEr
     }
 }
 
-/// Reads a desk command: words with one space between them, in one of seven forms. ID, SECRET and the names of boxes
-/// and files have the forms that the office asks of them (`boxes::has_form`).
+/// Reads a desk command: words separated by single spaces, in one of seven forms. ID, SECRET and the names of
+/// boxes and files must have the forms that the office asks for (`boxes::has_form`).
 ///
 /// - `key add ID ROLE SECRET`, where ROLE is `clerk` or `link`;
 /// - `key revoke ID`;
-/// - `box add NAME OPENS CLOSES DAYS FROM TO QUOTA FILES MODE RULE`, with OPENS and CLOSES as `20130524T000000Z`, DAYS
-///   seven digits 0 or 1, Monday first, FROM and TO as `HHmm`, FROM before TO and TO up to `2400`, QUOTA in bytes, up to
-///   1000000000000, FILES up to 1000000, both without leading zeros, though `0` itself may stand, MODE `keep` or `replace`,
-///   and RULE `any`, `ends T,T,..` with 1 to 8 endings of 1 to 32 bytes, or `begins T` with a beginning of 1 to 64 bytes;
-///   a T is UTF-8 with no comma, space or control byte in it;
-/// - `box close NAME MOMENT`, with MOMENT as OPENS;
-/// - `file drop BOX NAME`, where NAME runs to the end and may hold spaces;
+/// - `box add NAME OPENS CLOSES DAYS FROM TO QUOTA FILES MODE RULE`. OPENS and CLOSES are moments like
+///   `20130524T000000Z`. DAYS is seven digits, each 0 or 1, Monday first. FROM and TO are times `HHmm`, FROM
+///   before TO, and TO at most `2400`. QUOTA is a number of bytes up to 1000000000000, and FILES a number up
+///   to 1000000; neither has a leading zero, except `0` itself. MODE is `keep` or `replace`. RULE is `any`,
+///   `ends T,T,..` with 1 to 8 endings of 1 to 32 bytes, or `begins T` with a beginning of 1 to 64 bytes.
+///   Each T is UTF-8 without commas, spaces or control bytes;
+/// - `box close NAME MOMENT`, with MOMENT written like OPENS;
+/// - `file drop BOX NAME`, where NAME runs to the end of the line and may contain spaces;
 /// - `key limit ID BOX`;
-/// - `office allow SECONDS`, with SECONDS up to 900, without leading zeros, though `0` itself may stand.
+/// - `office allow SECONDS`, with SECONDS up to 900 and no leading zero, except `0` itself.
 ///
-/// None where the line is no command.
+/// `None` if the line is not a command.
 ///
 /// # Errors
 ///
-/// Memory was refused. It is asked for by `box add` with a rule `ends` or `begins` alone.
+/// Memory was refused. Only `box add` with a rule `ends` or `begins` takes memory.
 pub fn read_command(alloc: Global, line: &[u8]) -> Result<Option<DeskLine<'_>>, AllocError>
     ensures some { IfFound result (λ l. SaysCommand line.now l × HasForm (said l)) }
     ensures all { IfOk result (FindsCommand line.now) }

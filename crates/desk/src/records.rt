@@ -12,7 +12,7 @@ use std::io::Read;
 use std::str;
 use wire::Counted;
 
-/// Reads the next record, if there is one. The reader's count tells whether a read failed.
+/// Reads the next record. Returns whether there was one. The reader's count tells whether a read failed.
 pub(crate) fn next_record<R: Read>(
     reader: &mut Reader<Counted<R>>,
     row: &mut ByteRecord,
@@ -34,7 +34,7 @@ pub(crate) fn next_record<R: Read>(
     }
 }
 
-/// Reads the fields of a record of as many as there are texts.
+/// Reads the fields of a record into `texts`. Returns false if their numbers differ.
 pub(crate) fn read_fields<'a>(row: &'a ByteRecord, texts: &mut [&'a [u8]]) -> bool
     ensures found { IsTrue result ↔ (length (fields_of row.now) ≡ length texts.old) }
     ensures are { IsTrue result → map (λ t. t.now) texts.new ≡ fields_of row.now }

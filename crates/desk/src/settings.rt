@@ -17,7 +17,7 @@ use links::read_moment;
 use sigtext::cut;
 use std::alloc::{AllocError, Global};
 
-/// The words of a box's settings, as they stand. The rule's are all behind the mode.
+/// The words of a box's settings. `rule` holds everything after the mode.
 #[derive(Clone, Copy, Debug)]
 pub(crate) struct SettingsWords<'a> {
     pub(crate) opens: &'a [u8],
@@ -61,7 +61,7 @@ fn cut_words(text: &[u8]) -> Option<SettingsWords<'_>>
     })
 }
 
-// The texts of a list that are joined by commas.
+// Splits a list of texts at its commas.
 fn read_texts(alloc: Global, list: &[u8]) -> Result<Vec<Vec<u8>>, AllocError>
     ensures { IfOk result (λ texts.
         map (λ t. t.items) texts.items ≡ slice_split (λ b. b == 44) list.now) }
@@ -73,7 +73,7 @@ fn read_texts(alloc: Global, list: &[u8]) -> Result<Vec<Vec<u8>>, AllocError>
     Ok(texts)
 }
 
-// The rule of these words: `any`, `ends T,T,..` or `begins T`.
+// Reads a name rule: `any`, `ends T,T,..` or `begins T`.
 fn read_rule(alloc: Global, words: &[u8]) -> Result<Option<NameRule>, AllocError>
     ensures some { IfFound result (λ r. words.now ≡ join_with_byte 32 (rule_words (name_rule_of r))) }
     ensures all { IfOk result (λ found. (r : state.NameRule) → IsNameRule r
@@ -93,7 +93,7 @@ fn read_rule(alloc: Global, words: &[u8]) -> Result<Option<NameRule>, AllocError
     }
 }
 
-// The settings of these words, where any name is taken.
+// Reads the settings in these words, all but the name rule, which is set to any name.
 fn read_row(words: &SettingsWords<'_>) -> Option<BoxRow>
     ensures some { IfSome result (λ row. SayRow words.now (settings_of row)
         × ((settings_of row).rule ≡ AnyName)) }
@@ -121,7 +121,7 @@ fn read_row(words: &SettingsWords<'_>) -> Option<BoxRow>
     })
 }
 
-/// The settings of a box: `OPENS CLOSES DAYS FROM TO QUOTA FILES MODE RULE`.
+/// Reads the settings of a box: `OPENS CLOSES DAYS FROM TO QUOTA FILES MODE RULE`.
 pub(crate) fn read_settings(alloc: Global, text: &[u8]) -> Result<Option<BoxRow>, AllocError>
     ensures some { IfFound result (λ row. SpellsSettings text.now (settings_of row)) }
     ensures all { IfOk result (λ found. (words : List (List ℕ)) (b : Settings) → SaysSettings words b

@@ -1,4 +1,4 @@
-//! The words that a desk command says by: roles, modes, days, minutes and numbers.
+//! The words in a desk command: roles, modes, days, minutes and numbers.
 ghost use Rattle.std.specs.Prelude.{◌≡◌, ◌+◌, ◌/◌, ◌%◌, ◌<◌, ℕ, Bool, List, IfSome, IfNone, length};
 ghost use Rattle.boxes.specs.declared.rows.Role as role;
 ghost use Rattle.boxes.specs.declared.rows.Mode as mode;
@@ -33,7 +33,7 @@ pub(crate) fn read_mode(word: &[u8]) -> Option<Mode>
     }
 }
 
-// One day: 1 where the box is open on it, 0 where it is not.
+// One day: `1` if the box is open on it, `0` if it is not.
 fn read_day(digit: u8) -> Option<bool>
     ensures some { IfSome result (λ day. digit ≡ day_digit day) }
     ensures none { IfNone result ((day : Bool) → digit ≡ day_digit day → ⊥) }
@@ -45,7 +45,7 @@ fn read_day(digit: u8) -> Option<bool>
     }
 }
 
-/// Seven digits 0 or 1, Monday first.
+/// Seven digits, each 0 or 1, Monday first.
 pub(crate) fn read_days(word: &[u8]) -> Option<[bool; 7]>
     ensures some { IfSome result (λ days. word.now ≡ days_word days) }
     ensures none { IfNone result
@@ -65,7 +65,7 @@ pub(crate) fn read_days(word: &[u8]) -> Option<[bool; 7]>
     ])
 }
 
-// The number of two digits.
+// The number that two digits spell.
 fn read_two(high: u8, low: u8) -> Option<u16>
     ensures some { IfSome result
         (λ n. (n < 100) × (high ≡ 48 + n / 10 % 10) × (low ≡ 48 + n % 10)) }
@@ -78,7 +78,7 @@ fn read_two(high: u8, low: u8) -> Option<u16>
     }
 }
 
-/// The minute of a day, as HHmm.
+/// The minute of a day, written `HHmm`.
 pub(crate) fn read_minute(word: &[u8]) -> Option<u16>
     ensures some { IfSome result (λ m. word.now ≡ minute_word m) }
     ensures bound { IfSome result (λ m. m < 6000) }
@@ -96,7 +96,7 @@ pub(crate) fn read_minute(word: &[u8]) -> Option<u16>
     }
 }
 
-/// A whole number of 1 to 13 digits without a leading zero, but for `0` itself.
+/// A whole number of 1 to 13 digits. Only `0` itself may begin with a zero.
 pub(crate) fn read_number(text: &[u8]) -> Option<u64>
     ensures some { IfSome result (IsNumber text.now) }
     ensures none { IfNone result ((n : ℕ) → IsNumber text.now n → ⊥) }

@@ -1,4 +1,4 @@
--- A link is admitted exactly where some parts hold every rule up to number 23.
+-- A link is admitted exactly if some parts obey every rule up to 23.
 use Rattle.std.proofs.Common.{◌≡◌, ℕ, ◌≤◌, Option, Some, None, inr, refl, sym, subst, arith}
 use Rattle.std.specs.Prelude.{⊤, IsFalse, IsSome, IfSome}
 use Rattle.sigtext.specs.declared.refusal.Refusal.{Refusal}
@@ -15,14 +15,14 @@ any : {X : Type 0} (o : Option X) → IfSome o (λ x. ⊤)
 any None = tt
 any (Some x) = tt
 
--- what the rules from number 24 on say of one refusal
+-- what the rules from 24 on say of one refusal
 record Later (s : State) (r : Request) (now : ℕ) (q : Refusal) (p : LinkValues) : Type 0 where
   pub form : FormRule q s r p
   pub put : IsPut r → UploadRule q s (upload_of r now p)
   pub fetch : IsFetch r → FetchRule q s (place_of p.path)
   pub post : IsPost r → DeskRule q s p
 
--- nothing, up to number 23
+-- nothing, up to rule 23
 later : (s : State) (r : Request) (now : ℕ) (p : LinkValues) (q : Refusal) → number_of q ≤ 23 → Later s r now q p
 later s r now p rule.HeadMalformed le = record { form = tt; put = λ _. (tt, inr (any _)); fetch = λ _. tt; post = λ _. tt }
 later s r now p rule.HeadTooLong le = record { form = tt; put = λ _. (tt, inr (any _)); fetch = λ _. tt; post = λ _. tt }

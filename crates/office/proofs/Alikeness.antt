@@ -1,4 +1,4 @@
--- Requests that are alike hold the same rules, and are answered alike.
+-- Requests that are alike obey the same rules and get the same answer.
 use Rattle.std.proofs.Common.{◌≡◌, ℕ, ◌≤◌, Bool, true, List, [], ◌∷◌, Option, Some, None, refl, sym, ap, subst, ◌∙◌, ◌⊎◌, inl, inr, ⊎_elim, arith}
 use Rattle.std.specs.Prelude.{IsFalse, IsTrue, IsSome, IfSome, filter, not, codes}
 use Rattle.std.proofs.lemmas.Bool.{cases_lt, cases_Bool, cond-true, cond-false}
@@ -39,9 +39,9 @@ use Rattle.office.specs.Answering.{AcceptsRequest, Replies, AnswersRequest, is_h
 use Rattle.office.specs.Offices.{IsAnswered, IsTheAnswer}
 use Rattle.office.specs.Rules.{IsPut, IsFetch, known, judged_at, place_of, upload_of, FormRule, DeskRule, Asks, Rule}
 
--- ---- the parameters beside the signature
+-- ---- the parameters other than the signature
 
--- what passes the one test passes the other, so that the other may be made first
+-- everything that passes the first test passes the second, so the second may be applied first
 twice : {X : Type 0} (t u : X → Bool) → ((x : X) → t x ≡ true → u x ≡ true) → (xs : List X) → filter t (filter u xs) ≡ filter t xs
 twice t u h [] = refl
 twice {X} t u h (x ∷ xs) =
@@ -62,7 +62,7 @@ is_covered p = not (same_bytes p.name (codes "X-Amz-Signature"))
 desk_covered : (p : Param) → is_desk p ≡ true → is_covered p ≡ true
 desk_covered p e = subst (λ (name : List ℕ). not (same_bytes name (codes "X-Amz-Signature")) ≡ true) (sym ((bytes_eq-Decides p.name (codes "desk")).0 e)) refl
 
--- the parameter `desk` is one of those that are signed
+-- the parameter `desk` is among the signed ones
 desk_signed : (params : List Param) → params_named (codes "desk") (signed_params params) ≡ params_named (codes "desk") params
 desk_signed params = twice is_desk is_covered desk_covered params
 
@@ -117,7 +117,7 @@ module _ (st : State) (r s : Request) (now : ℕ) (p q : LinkValues) (h : IsTheS
   some_too None by = tt
   some_too (Some k) by = signed_too k.secret by
 
-  -- a rule of the link that says something of its key id
+  -- a rule of the link that depends on its key id
   at_key : (P : Option KnownKey → Type 0) → P (known st p.key_id) → P (known st q.key_id)
   at_key P has = subst (λ (id : List ℕ). P (known st id)) h.says.key_id has
 
@@ -186,7 +186,7 @@ module _ (st : State) (r s : Request) (now : ℕ) (p q : LinkValues) (h : IsTheS
 
 -- ---- answers
 
--- the rules before the key's hold of the parts of a well-formed request
+-- the rules before those on keys hold for the parts of a well-formed request
 up_to_key : (st : State) (r : Request) (now : ℕ) (p : LinkValues) → IsWellFormed r p → HoldBefore (Rule st r now) rule.KeyUnknown p
 up_to_key st r now p formed =
     link_rules st r now p rule.KeyUnknown (omega arith) formed
@@ -256,11 +256,11 @@ common r other h = record {
   length = h.length;
 }
 
--- what a request is replied is replied to each request that is like it
+-- the reply to a request is also the reply to each request like it
 pub replied_alike : (s after : State) (r other : Request) (now : ℕ) (said : Said) → AreAlike r other → Replies s r now said after → Replies s other now said after
 replied_alike s after r other now said h replied = replied_too s r other now h.mine h.its h.formed h.other_formed (common r other h) said after replied
 
--- what a request is answered is the one answer to each request that is like it
+-- the answer to a request is the only answer to each request like it
 pub the_answer : (means : State → Type 0) (s : State) (r other : Request) (now : ℕ) (a : Answer) → AreAlike r other → IsAnswered means s r now a → IsTheAnswer means s other now a
 the_answer means s r other now a h answered told =
     let (after, left, is) = answered told in

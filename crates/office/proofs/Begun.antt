@@ -1,4 +1,4 @@
--- Which steps the bytes may show in which a message has begun.
+-- The steps that are possible when a message has begun.
 use Rattle.std.proofs.Common.{◌≡◌, ◌++◌, ℕ, List, [], true, arith, lit<, refl, sym, subst, codes}
 use Rattle.httparse.specs.Grammar.{RequestHead, ReadsRequest}
 use Rattle.httparse.proofs.GrammarLemmas.{request_unique}

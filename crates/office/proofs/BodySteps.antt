@@ -1,4 +1,4 @@
--- What one step of a session gives behind a head that was read.
+-- One step of a session after a head was read.
 use Rattle.std.proofs.Common.{◌≡◌, ◌≢◌, ◌↔◌, ◌∙◌, ◌≤◌, ◌<◌, ℕ, Bool, true, false, List, [], ◌++◌, length, replicate, Option, None, Some, Result, Ok, Err, inl, inr, refl, sym, subst}
 use Rattle.std.specs.Prelude.{IfSome, IsTrue, OnErr}
 use Rattle.std.proofs.lemmas.Bool.{false≢true}
@@ -54,7 +54,7 @@ opens_with text has_length size o body len = record {
   tells = subst (λ (n : ℕ). HeadAnnounces text o.head has_length n) (sym len) o.tells;
 }
 
--- a request that was well formed is readable, whatever its body
+-- a well-formed request is readable with any body
 pub readable_of : (head : RequestHead) (has_length : Bool) (body other : List ℕ) (p : LinkValues) → IsWellFormed (request_of head has_length body) p → IsReadable (request_of head has_length other)
 readable_of head has_length body other p formed =
     record { served = formed rule.Method; path = p.path; params = p.params; target = formed rule.Target; named = (formed rule.NotSigned, (formed rule.Parameters).no_other) }
@@ -65,11 +65,11 @@ upload_readable s head has_length body other (Ok f) foresees upload = readable_o
 upload_readable s head has_length body other (Err q) foresees upload = absurd upload
 
 module _ (s : State) (size : ℕ) (known mid : Option (List ℕ)) (foreseen : Result Prospect Refusal) (to_head : Bool) (x : IsExpected s size known mid foreseen to_head) where
-  -- the body came whole
+  -- the whole body came
   abbrev pub next_message : (new : Option (List ℕ)) (body : List ℕ) → length body ≡ size → Consumes mid new body → IsNextMessage x.text x.has_length body known new
   next_message new body len taken = message_joined known mid new x.text body x.has_length (opens_with x.text x.has_length size x.opening.opens body len) x.opening.front taken
 
-  -- it did not
+  -- the body ended early
   pub lacks : 0 < size → IfSome mid (λ rest. length rest < size) → OfStream known (λ stream. Next stream (frame.Refused rule.BodyIncomplete) [])
   lacks some few = lacking_joined known mid x.text x.has_length size x.opening.opens x.opening.front some few
 
@@ -87,9 +87,9 @@ module _ (s : State) (size : ℕ) (known mid : Option (List ℕ)) (foreseen : Re
       let body = replicate size 0 in
       has_begun given (upload_readable s x.opening.opens.head x.has_length body [] foreseen (x.foresees body (length-replicate size 0)) upload)
 
--- ---- a body that came whole
+-- ---- a whole body
 
--- the body that came, which of an upload is staged
+-- the body that came; the body of an upload is staged
 pub record CameWhole {R K : Type 0} (remaining : R → Option (List ℕ)) (size : ℕ) (old new : Feed R) (k : Ghosts K) (keeper : K) (foreseen : Result Prospect Refusal) (b : Body) : Type 0 where
   pub body : List ℕ
   pub taken : TakesBody remaining size old new body
@@ -114,9 +114,9 @@ came_whole remaining size old new k keeper foreseen true b small is came stages 
 came_whole remaining size old new k keeper foreseen false b small is came stages len =
     record { body = came.0; taken = came.1; staged = λ upload. absurd (false≢true (is.1 upload)) }
 
--- ---- steps behind a head
+-- ---- steps after a head
 
--- how a session goes on, by what became of a message
+-- how a session goes on, by how a message ended
 abbrev pub end_of : Handled → Option SessionEnd
 end_of handled.Answered = None
 end_of handled.GaveUp = Some (Refused 40)
@@ -133,7 +133,7 @@ module _ {R C K : Type 0} (remaining : R → Option (List ℕ)) (size : ℕ) (ol
   handled_step handled.GaveUp body m handles = gave_up_step gives p known reader output output' clock clock' k b c s x.text x.has_length body (waits_in new) m handles
   handled_step handled.Broken body m handles = broken_step gives p known reader output output' clock clock' k b c s x.text x.has_length body (waits_in new) m handles
 
-  -- the body came whole, and the message was handled
+  -- the whole body came, and the message was handled
   pub whole_step : (h : Handled) (told : Body) → CameWhole remaining size old new k b foreseen told → Before k a b s
       → ((r : Request) → Foresees s r foreseen → (foreseen ≢ Err rule.TryAgain) → to_head ≡ is_head r → (IsUpload foreseen → AreStaged k b r.body told) → Handles gives clock clock' output output' k b c s r h)
       → Steps gives p known (left remaining new) reader output output' clock clock' k a c s (end_of h)
@@ -151,7 +151,7 @@ module _ {R C K : Type 0} (remaining : R → Option (List ℕ)) (size : ℕ) (ol
       gave_up_reading_step gives p known (left remaining new) (remaining (reader_of new).inner) output output' clock k a b s e (x.text ++ given) (leaves_given_up k a b s gave_up quiet kept)
       (read_on s size known (left remaining old) foreseen to_head x (remaining (reader_of new).inner) given taken) (inr (upload_begun s size known (left remaining old) foreseen to_head x given upload)) closed
 
-  -- the stream ended in the body
+  -- the stream ended within the body
   pub lacking_step : (e : SessionEnd) (mid : K) (upload : Bool) → Quiet k a mid ⊥ → Quiet k mid b (MayGiveUp k mid b e) → WasKept k a b s → LacksBody remaining size old new → (IsTrue upload → IsUpload foreseen)
       → LeavesOff output output' k mid b upload e → Steps gives p known (left remaining new) (remaining (reader_of new).inner) output output' clock clock k a b s (Some e)
   lacking_step e mid upload first second kept lacking is (inl (closed, rest)) =
@@ -163,7 +163,7 @@ module _ {R C K : Type 0} (remaining : R → Option (List ℕ)) (size : ℕ) (ol
 
 module _ {R C K T : Type 0} (remaining : R → Option (List ℕ)) (size : ℕ) (old new : Feed R) (gives : C → ℕ → C → Type 0) (p : Place) (known output : Option (List ℕ)) (clock : C) (k : Ghosts K) (a b : K) (s : State)
     (foreseen : Result Prospect Refusal) (to_head : Bool) (x : IsExpected s size known (left remaining old) foreseen to_head) where
-  -- a read failed in the body, and what was staged of it was let go
+  -- a read failed within the body, and what was staged of it was dropped
   pub broken_off_step : (result : Result T KeepFault) (upload : Bool) (given : List ℕ) → Quiet k a b (IsFault result) → OnErr result (Rose (k.faults a) (k.faults b)) → WasKept k a b s → OnErr result (IsTrue upload) → (IsTrue upload → IsUpload foreseen)
       → Consumes (left remaining old) (remaining (reader_of new).inner) given → length given < size → Steps gives p known (left remaining new) (remaining (reader_of new).inner) output output clock clock k a b s (Some ReadFault)
   broken_off_step (Ok done) upload given quiet rose kept asked is taken few =
@@ -174,7 +174,7 @@ module _ {R C K T : Type 0} (remaining : R → Option (List ℕ)) (size : ℕ) (
       (read_on s size known (left remaining old) foreseen to_head x (remaining (reader_of new).inner) given taken) (awaits s size known (left remaining old) foreseen to_head x given few)
       (upload_begun s size known (left remaining old) foreseen to_head x given (is asked))
 
--- a head was read, and refusal 40 closed the connection before its body was
+-- a head was read, and refusal 40 closed the connection before the body was
 pub head_given_up_step : {R C K : Type 0} (remaining : R → Option (List ℕ)) (feed : Feed R) (gives : C → ℕ → C → Type 0) (p : Place) (known output output' : Option (List ℕ)) (clock : C) (k : Ghosts K) (a b : K) (s : State)
     (text : List ℕ) (has_length : Bool) (size : ℕ) (x : IsOpening text has_length size known (left remaining feed)) (e : SessionEnd) (gave_up : Type 0) → Quiet k a b gave_up → WasKept k a b s
     → IsReadable (request_of x.opens.head has_length []) → IsClosed output output' rule.TryAgain e

@@ -1,4 +1,4 @@
--- What goes on in slots, one thing after another.
+-- Several changes of slots in order.
 use Rattle.std.proofs.Common.{◌≡◌, ◌<◌, ℕ, true, false, inl, inr, refl, List, [], ◌∷◌, ◌++◌, ◌+◌, Option, None, Some, length, get_or, set, subst, ap, ◌∙◌, sym, append_assoc, arith}
 use Rattle.std.specs.Prelude.{is_some}
 use Rattle.std.proofs.lemmas.List.{append-nil, get_or_default, length-append, length_push, set-get_or}
@@ -13,7 +13,7 @@ use Rattle.office.proofs.SeatTurns.{none_of}
 use Rattle.office.proofs.Ties.{none_is, some_is}
 
 module _ {R W : Type 0} (remaining : R → Option (List ℕ)) (contents : W → Option (List ℕ)) where
-  -- some changes, and then others
+  -- some changes followed by others
   pub changes_then : (a b c : List (Option (Seat R W))) (came gone more went : List (Seat R W)) → Changes remaining contents a b came gone → Changes remaining contents b c more went
       → Changes remaining contents a c (came ++ more) (gone ++ went)
   changes_then a b _ came gone _ _ first crowd.same =
@@ -44,7 +44,8 @@ module _ {R W : Type 0} (remaining : R → Option (List ℕ)) (contents : W → 
         path_j (λ l (f : gone ≡ l). numbers_after (subst (λ m. Changes remaining contents old new came m) f x) n numbers ≡ numbers_after x n numbers)
         (ap (λ (y : Changes remaining contents old new came gone). numbers_after y n numbers) (subst_refl (λ m. Changes remaining contents old new came m) x)) e
 
-  -- behind some changes, and then others, they are those behind the others, begun with those behind the first
+  -- After two lists of changes the numbers are those after the second list, starting from those after the
+  -- first.
   pub numbers_then : (a b c : List (Option (Seat R W))) (came gone more went : List (Seat R W)) (n m : ℕ) (numbers : ℕ → ℕ) → m ≡ n + length came
       → (first : Changes remaining contents a b came gone) (then : Changes remaining contents b c more went)
       → numbers_after then m (numbers_after first n numbers) ≡ numbers_after (changes_then a b c came gone more went first then) n numbers
@@ -65,7 +66,7 @@ module _ {R W : Type 0} (remaining : R → Option (List ℕ)) (contents : W → 
       numbers_then a b now came gone more went n m numbers is first before
       ∙ sym (same_gone a (set now p None) n numbers (came ++ more) ((gone ++ went) ++ seat ∷ []) (gone ++ (went ++ seat ∷ [])) all (append_assoc gone went (seat ∷ [])))
 
-  -- where nobody came, they stay
+  -- if no connection came, the numbers are unchanged
   pub numbers_stay : (a b : List (Option (Seat R W))) (came gone : List (Seat R W)) (n : ℕ) (numbers : ℕ → ℕ) → length came ≡ 0 → (x : Changes remaining contents a b came gone)
       → numbers_after x n numbers ≡ numbers
   numbers_stay a _ _ _ n numbers none crowd.same = refl
@@ -78,7 +79,7 @@ module _ {R W : Type 0} (remaining : R → Option (List ℕ)) (contents : W → 
     abbrev By : G → G → List (Option (Seat R W)) → List (Option (Seat R W)) → Option Due → Type 0
     By i j a b due = ChangesBy remaining contents met gave i j a b due
 
-    -- no turn was due behind the first
+    -- no turn was due after the first changes
     pub by_then : (i j k : G) (a b c : List (Option (Seat R W))) (due : Option Due) → By i j a b None → By j k b c due → By i k a c due
     by_then i j k a b c due first then came gone h =
         let x = first came gone h in
@@ -93,7 +94,7 @@ module _ {R W : Type 0} (remaining : R → Option (List ℕ)) (contents : W → 
               (y.4 mid given (subst (gave j mid) (append-nil given) (x.4 numbers given g))),
         )
 
-    -- nobody comes or goes
+    -- no connection comes or goes
     pub by_same : (i j : G) (a b : List (Option (Seat R W))) (due : Option Due) → ((came gone : List (Seat R W)) → met i came gone → met j came gone)
         → ((numbers : ℕ → ℕ) (given : List ℕ) → gave i numbers given → gave j numbers (given ++ whose_turn numbers due)) → Changes remaining contents a b [] [] → By i j a b due
     by_same i j a b due still gives changes came gone h = (
@@ -108,17 +109,17 @@ module _ {R W : Type 0} (remaining : R → Option (List ℕ)) (contents : W → 
   pub by_comes : (a : List (Option (Seat R W))) (p : ℕ) (d : Option (Seat R W)) (new : Seat R W) → p < length a → get_or a p d ≡ None → IsNew new → Changes remaining contents a (set a p (Some new)) (new ∷ []) []
   by_comes a p d new lt free is = crowd.comes a [] [] p new crowd.same lt (get_or_default a p None d lt ∙ free) is
 
-  -- the slot is made free
+  -- the slot is freed
   pub by_goes : (a : List (Option (Seat R W))) (p : ℕ) (d there : Option (Seat R W)) → p < length a → get_or a p d ≡ there → Changes remaining contents a (set a p None) [] (those_of there)
   by_goes a p d None lt at =
       subst (λ l. Changes remaining contents a l [] []) (sym (ap (set a p) (sym at) ∙ set-get_or a p d)) crowd.same
   by_goes a p d (Some seat) lt at = crowd.goes a [] [] p seat crowd.same lt (get_or_default a p None d lt ∙ at)
 
-  -- what stands in the slot stays
+  -- the content of the slot is unchanged
   pub by_kept : (a : List (Option (Seat R W))) (p : ℕ) (d : Option (Seat R W)) → Changes remaining contents a (set a p (get_or a p d)) [] []
   by_kept a p d = subst (λ l. Changes remaining contents a l [] []) (sym (set-get_or a p d)) crowd.same
 
-  -- what was done to the open one in the slot is such a change
+  -- what was done to the open connection in the slot is such a change
   pub by_done : (done : Seat R W → Seat R W → Type 0) (told : Type 0) (a b : List (Option (Seat R W))) (p : ℕ) → p < length a → DoneAt remaining done told a b p → Changes remaining contents a b [] []
   by_done done told a b p lt (inl (seat, at, is_open, after, g, so, new)) =
       subst (λ l. Changes remaining contents a l [] []) (sym new) (crowd.gathers a [] [] p seat after crowd.same lt at is_open g)
@@ -131,11 +132,11 @@ module _ {R W : Type 0} (remaining : R → Option (List ℕ)) (contents : W → 
 
 module _ {R W : Type 0} (remaining : R → Option (List ℕ)) (done : Seat R W → Seat R W → Type 0) (told : Type 0) (a : List (Option (Seat R W))) (p : ℕ) (d : Option (Seat R W)) (lt : p < length a)
     (seat : Seat R W) (at : get_or a p d ≡ Some seat) (end : Option SessionEnd) (is_end : end ≡ seat.end) where
-  -- it was done to the open one there
+  -- it was done to the open connection there
   pub done_there : is_some end ≡ false → (after : Seat R W) → Gathers remaining seat after → done seat after → DoneAt remaining done told a (set a p (Some after)) p
   done_there is_open after g so = inl (seat, get_or_default a p None d lt ∙ at, sym is_end ∙ none_of end is_open, after, g, so, refl)
 
-  -- the one there has ended
+  -- the connection there has ended
   pub done_to_ended : is_some end ≡ true → (b : List (Option (Seat R W))) → b ≡ set a p (Some seat) → told → DoneAt remaining done told a b p
   done_to_ended over b kept is = inr (
     λ other there is_open.
@@ -146,13 +147,13 @@ module _ {R W : Type 0} (remaining : R → Option (List ℕ)) (done : Seat R W �
     is,
   )
 
--- none is there
+-- there is no connection
 pub done_to_none : {R W : Type 0} (remaining : R → Option (List ℕ)) (done : Seat R W → Seat R W → Type 0) (told : Type 0) (a b : List (Option (Seat R W))) (p : ℕ) (d : Option (Seat R W)) → p < length a
     → get_or a p d ≡ None → b ≡ set a p (get_or a p d) → told → DoneAt remaining done told a b p
 done_to_none remaining done told a b p d lt free kept is =
     inr (λ other there is_open. none_is other (sym free ∙ sym (get_or_default a p None d lt) ∙ there), kept ∙ set-get_or a p d, is)
 
--- what was written to the one there was sent on
+-- what was written to the connection there was sent
 pub sent_there : {R W : Type 0} (contents : W → Option (List ℕ)) (done : Seat R W → Seat R W → Type 0) (told : Type 0) (a : List (Option (Seat R W))) (p : ℕ) (d : Option (Seat R W)) → p < length a
     → (seat after : Seat R W) → get_or a p d ≡ Some seat → Sends contents seat after → done seat after → SentAt contents done told a (set a p (Some after)) p
 sent_there contents done told a p d lt seat after at g so = inl (seat, get_or_default a p None d lt ∙ at, after, g, so, refl)

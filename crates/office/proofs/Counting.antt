@@ -1,4 +1,4 @@
--- How many of the turns each connection has, and how many moments a turn tells.
+-- How many turns each connection has, and how many moments a turn tells.
 use Rattle.std.proofs.Common.{◌≡◌, ◌<◌, ◌≤◌, ◌+◌, ℕ, zero, suc, true, false, cond, List, [], ◌∷◌, ◌++◌, length, get_or, map, set, Option, refl, sym, ap, ◌∙◌, arith}
 use Rattle.std.specs.Prelude.{⊤, is_some, nat_eq}
 use Rattle.std.specs.List.{AllByRecursion, sum_by}
@@ -17,11 +17,11 @@ over_if e = cond (is_some e) 1 0
 abbrev one_by : ℕ → Turn → ℕ
 one_by i t = cond (nat_eq t.which i) 1 0
 
--- how many turns it took
+-- how many turns the connection took
 abbrev pub took_of : Sitting → ℕ
 took_of x = x.served + over_if x.end
 
--- each connection, from the number i on, has as many of the turns as it took
+-- each connection, from number i on, has as many turns as it took
 abbrev pub AllTook : List Turn → ℕ → List Sitting → Type 0
 AllTook turns i [] = ⊤
 AllTook turns i (x ∷ xs) = (turns_by i turns ≡ took_of x) × AllTook turns (suc i) xs
@@ -33,7 +33,7 @@ pub record Counts (turns : List Turn) (xs : List Sitting) (whose : List ℕ) : T
   pub each : AllTook turns 0 xs
   pub all : length turns ≡ sum_by took_of xs
 
--- ---- one turn more
+-- ---- one more turn
 
 by_more : (i : ℕ) (turns : List Turn) (t : Turn) → turns_by i (turns ++ t ∷ []) ≡ turns_by i turns + one_by i t
 by_more i turns t = sum_by_push (one_by i) turns t
@@ -71,7 +71,7 @@ counts_turn turns xs t d new lt one more h = record {
   all = let sums = sum_by-set took_of xs t.which new d lt in omega (arith, sums, more, h.all, length_push turns t);
 }
 
--- ---- one of them changes, and no turn is taken
+-- ---- one connection changes without a turn
 
 still_took : (turns : List Turn) (i p : ℕ) (d new : Sitting) (xs : List Sitting) → p < length xs → took_of new ≡ took_of (get_or xs p d) → AllTook turns i xs → AllTook turns i (set xs p new)
 still_took turns i p d new [] lt same h = absurd (omega (arith, lt))
@@ -86,7 +86,7 @@ counts_still turns xs p d new lt same h = record {
   all = let sums = sum_by-set took_of xs p new d lt in omega (arith, sums, same, h.all);
 }
 
--- ---- a connection more
+-- ---- one more connection
 
 first_took : (x : Sitting) → IsFirst x → took_of x ≡ 0
 first_took x is =

@@ -1,4 +1,4 @@
--- Connections that come, are served in turn, and go: what each change, and each turn, makes of them.
+-- Connections that come, are served in turns, and go: the effect of each change and each turn.
 use Rattle.std.proofs.Common.{◌≡◌, ◌<◌, ◌+◌, ℕ, zero, suc, Bool, true, false, cond, List, [], ◌∷◌, ◌++◌, IsPermutation, length, get_or, map, set, Option, Some, None, refl, sym, ap, subst, ◌∙◌, append_assoc, arith}
 use Rattle.std.specs.Prelude.{is_some, not, slice_get}
 use Rattle.std.specs.List.{count_by}
@@ -65,14 +65,14 @@ module _ {R W : Type 0} where
       let same : one_if c.end ≡ one_if n.end = ap one_if are.0 in
       omega (arith, rest, same, faults_first n ns, threads_first c cs)
 
--- ---- one that has a slot
+-- ---- a connection in a slot
 
 stands : {X : Type 0} (l : List X) (n : ℕ) (x : X) → slice_get l n ≡ Some x → get_or l n x ≡ x
 stands [] n x is = refl
 stands (y ∷ l) zero x is = let e : y ≡ x = cc in e
 stands (y ∷ l) (suc n) x is = stands l n x is
 
--- the numbers of those whose turns they are
+-- the numbers of the connections that have the turns
 whose_are : (first : ℕ) (turns : List Turn) → map (λ (t : Turn). first + t.which) turns ≡ map (λ n. first + n) (map (λ (t : Turn). t.which) turns)
 whose_are first [] = refl
 whose_are first (t ∷ ts) = ap (λ (l : List ℕ). (first + t.which) ∷ l) (whose_are first ts)
@@ -176,7 +176,7 @@ module _ {R W : Type 0} (remaining : R → Option (List ℕ)) (contents : W → 
         faulty = t.faulty;
       }
 
-      -- what went on between two turns
+      -- the changes between two turns
       pub changes_more : (old new : List (Option (Seat R W))) (numbers : ℕ → ℕ) (came gone more went : List (Seat R W)) (n : ℕ) → n ≡ first + length came
           → (changes : Changes remaining contents old new more went) → Still old numbers came gone → Still new (numbers_after changes n numbers) (came ++ more) (gone ++ went)
       changes_more old _ numbers came gone _ _ n is crowd.same t =
@@ -227,7 +227,7 @@ module _ {R W : Type 0} (remaining : R → Option (List ℕ)) (contents : W → 
       slot_turns p _ _ _ seat lt at there is_open (crowd.taken old new turn tells) t =
           takes_more p old new lt at (subst (λ (x : Seat R W). x.end ≡ None) (sym (some_is old seat there)) is_open) turn tells t
 
-      -- the same of a slot whose turn is due
+      -- the same for a slot whose turn is due
       pub turned_more : (faults' p : ℕ) (now : Option (Seat R W)) (failed : Bool) → IsOpenAt slots p → faults' ≡ faults + cond failed 1 0
           → TurnsSlot gives remaining contents clock' clock'' k keeper' keeper'' mid after (slot_at slots p) now failed → Now slots numbers came gone given clock' keeper' faults mid
           → Now (set slots p now) numbers came gone (given ++ numbers p ∷ []) clock'' keeper'' faults' after
@@ -263,7 +263,7 @@ module _ {R W : Type 0} (remaining : R → Option (List ℕ)) (contents : W → 
           faulty = t.faulty ∙ faults_of remaining contents came t.seats w.threads w.served;
         }
 
-    -- nothing came yet
+    -- no connection came yet
     pub crowd_starts : (slots : List (Option (Seat R W))) (numbers : ℕ → ℕ) → ((p : ℕ) → slot_at slots p ≡ None) → Now slots numbers [] [] [] clock keeper 0 s
     crowd_starts slots numbers free = record {
       seats = [];

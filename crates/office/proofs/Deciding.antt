@@ -1,4 +1,4 @@
--- Which rule past number 18 is the least that fails, for a well-formed request.
+-- Which rule after 18 is the first that fails for a well-formed request.
 use Rattle.std.proofs.Common.{◌≡◌, ℕ, ◌+◌, ◌<◌, ◌≤◌, true, List, [], ◌∷◌, Option, Some, None, Result, Ok, Err, refl, sym, ap, subst, ◌∙◌, ◌⊎◌, inl, inr, ⊎_elim, arith}
 use Rattle.std.specs.Prelude.{◌≢◌, IsFalse, IsTrue, IsSome, IfSome, IsSomeAnd, MatchResult, option_map, codes}
 use Rattle.std.proofs.lemmas.Bool.{cases_lt}
@@ -44,7 +44,7 @@ pub fetch_no_post : (r : Request) → IsFetch r → IsPost r → ⊥
 fetch_no_post r (inl get) post = let e = head_is 71 80 (69 ∷ 84 ∷ []) (79 ∷ 83 ∷ 84 ∷ []) (sym get ∙ post) in omega (arith, e)
 fetch_no_post r (inr head) post = let e = head_is 72 80 (69 ∷ 65 ∷ 68 ∷ []) (79 ∷ 83 ∷ 84 ∷ []) (sym head ∙ post) in omega (arith, e)
 
--- ---- rules of small numbers
+-- ---- rules with small numbers
 
 upload_rule : (s : State) (u : Upload) (q : Refusal) → number_of q < 27 → UploadRule q s u
 upload_rule s u rule.NoSuchBox lt = absurd (omega arith)
@@ -90,7 +90,7 @@ form_rule s r p rule.LengthMissing lt = absurd (omega arith)
 form_rule s r p rule.BodyNotTaken lt = absurd (omega arith)
 form_rule s r p _ lt = tt
 
--- up to number 27 no rule of boxes and of the desk is asked
+-- up to 27 no rule of boxes or of the desk applies
 rules_before : (s : State) (r : Request) (now : ℕ) (p : LinkValues) (n : Refusal) → number_of n ≤ 27 → ((q : Refusal) → number_of q < number_of n → HeadRule q r p)
     → ((q : Refusal) → number_of q < number_of n → LinkRule q (known s p.key_id) r (judged_at s now) p) → ((q : Refusal) → number_of q < number_of n → FormRule q s r p) → HoldBefore (Rule s r now) n p
 rules_before s r now p n most formed link form q lt = record {
@@ -102,7 +102,7 @@ rules_before s r now p n most formed link form q lt = record {
   post = λ post. desk_rule s p q (omega arith);
 }
 
--- the same up to number 24, where no rule of the form is asked
+-- the same up to 24, before the rules of the form
 pub link_rules : (s : State) (r : Request) (now : ℕ) (p : LinkValues) (n : Refusal) → number_of n ≤ 24 → IsWellFormed r p
     → ((q : Refusal) → number_of q < number_of n → LinkRule q (known s p.key_id) r (judged_at s now) p) → HoldBefore (Rule s r now) n p
 link_rules s r now p n most formed link =
@@ -136,7 +136,7 @@ head_first s r now q f =
       fails = λ other hold bad. f.fails other (λ x lt. (hold x lt).head) bad.head;
     }
 
--- parts that hold the rules before the key's are the parts
+-- parts that obey the rules before those on keys are the parts of the request
 pub same_parts : (s : State) (r : Request) (now : ℕ) (p other : LinkValues) (n : Refusal) → 19 ≤ number_of n → IsWellFormed r p → HoldBefore (Rule s r now) n other → other ≡ p
 same_parts s r now p other n least formed hold = parts_before r p other formed (λ q lt. (hold q (omega arith)).head)
 
@@ -162,7 +162,7 @@ key_unknown s r now p formed none = record {
       none_some (known s p.key_id) (known_none s p.key_id none) (subst (λ (q : LinkValues). IsSome (known s q.key_id)) same bad.link);
 }
 
--- the key stands: what a rule says of it
+-- the key exists: what a rule says of it
 at_key : (s : State) (p : LinkValues) (k : Key) (P : KnownKey → Type 0) → get s.keys p.key_id ≡ Some k → P (record { secret = k.secret; revoked = k.revoked }) → IfSome (known s p.key_id) P
 at_key s p k P there h = subst (λ (o : Option KnownKey). IfSome o P) (sym (known_some s p.key_id k there)) h
 
@@ -183,7 +183,7 @@ key_revoked s r now p k formed there revoked = record {
       clash k.revoked unrevoked revoked;
 }
 
--- a key that stands unrevoked
+-- a key that exists and is not revoked
 pub record HasKey (s : State) (p : LinkValues) (k : Key) : Type 0 where
   pub there : get s.keys p.key_id ≡ Some k
   pub unrevoked : IsFalse k.revoked
@@ -230,7 +230,7 @@ link_holds s r now p k a q =
     link_before (known s p.key_id) r (judged_at s now) p (number_of q + 1) (λ lt. some_key s p k a.there) (λ lt. at_key s p k (λ x. IsFalse x.revoked) a.there a.unrevoked)
     (λ lt. at_key s p k (λ x. IsSignedBy x.secret r p) a.there a.signed) (λ lt. a.begun) (λ lt. a.not_over) q (omega arith)
 
--- the role of the key that stands
+-- the role of the key that exists
 its_role : (o : Option Key) (k : Key) (P : Role → Type 0) → o ≡ Some k → IfSome o (λ x. P x.role) → P k.role
 its_role None k P e h = absurd cc
 its_role (Some x) k P e h = let is : x ≡ k = cc in subst (λ (y : Key). P y.role) is h
@@ -239,7 +239,7 @@ some_role : (o : Option Key) (k : Key) (P : Role → Type 0) → o ≡ Some k �
 some_role None k P e h = absurd cc
 some_role (Some x) k P e h = let is : k ≡ x = cc in subst (λ (y : Key). P y.role) is h
 
--- the role of the key that is limited
+-- the role of a limited key
 limited_role : (o : Option Key) (k : Key) → o ≡ Some k → IsSomeAnd o (λ x. x.role ≡ Link) → k.role ≡ Link
 limited_role None k e h = absurd h
 limited_role (Some x) k e h = let is : x ≡ k = cc in ap (λ (y : Key). y.role) (sym is) ∙ h
@@ -262,14 +262,14 @@ module _ (s : State) (r : Request) (now : ℕ) (p : LinkValues) (k : Key) (a : I
         barred (subst (λ (q : LinkValues). MaySend s r q) same bad.form);
   }
 
-  -- a clerk may send whatever there is
+  -- a clerk may send anything
   pub clerk_may : IsSound s → k.role ≡ Clerk → MaySend s r p
   clerk_may sound clerk = record {
     desk = λ post. some_role (get s.keys p.key_id) k (λ x. x ≡ Clerk) a.there clerk;
     boxes = λ uses limited. absurd (clerk_unlimited s p.key_id k sound a.there clerk limited);
   }
 
-  -- what is no POST may be sent where the key may use the box
+  -- anything but a POST may be sent if the key may use the box
   pub box_used : (IsPost r → ⊥) → MayUse s p.key_id (place_of p.path).box → MaySend s r p
   box_used no_post may = record { desk = λ post. absurd (no_post post); boxes = λ uses. may }
 
@@ -279,14 +279,14 @@ module _ (s : State) (r : Request) (now : ℕ) (p : LinkValues) (k : Key) (a : I
   pub no_clerk_posts : IsPost r → (k.role ≡ Clerk → ⊥) → MaySend s r p → ⊥
   no_clerk_posts post other may = other (its_role (get s.keys p.key_id) k (λ x. x ≡ Clerk) a.there (may.desk post))
 
-  -- those of the form before number 25
+  -- the rules of the form before 25
   early_form : MaySend s r p → (q : Refusal) → number_of q < 25 → FormRule q s r p
   early_form may rule.RoleNotAllowed lt = may
   early_form may rule.LengthMissing lt = absurd (omega arith)
   early_form may rule.BodyNotTaken lt = absurd (omega arith)
   early_form may _ lt = tt
 
-  -- those before number 26
+  -- the rules of the form before 26
   late_form : MaySend s r p → (IsPut r → ⊥) → (q : Refusal) → number_of q < 26 → FormRule q s r p
   late_form may no_put rule.RoleNotAllowed lt = may
   late_form may no_put rule.LengthMissing lt = λ put. absurd (no_put put)
@@ -307,7 +307,7 @@ module _ (s : State) (r : Request) (now : ℕ) (p : LinkValues) (k : Key) (a : I
     fails = λ o hold bad. full (bad.form no_put);
   }
 
-  -- the rules of the form, of what they ask
+  -- the rules of the form follow from what they ask for
   pub form_holds : MaySend s r p → (IsPut r → IsTrue r.has_length) → (r.method ≢ codes "PUT" → r.body ≡ []) → (q : Refusal) → FormRule q s r p
   form_holds may given bare rule.RoleNotAllowed = may
   form_holds may given bare rule.LengthMissing = given
@@ -317,7 +317,7 @@ module _ (s : State) (r : Request) (now : ℕ) (p : LinkValues) (k : Key) (a : I
   pub reaches_boxes : ((q : Refusal) → FormRule q s r p) → ReachesBoxes s r now p
   reaches_boxes form = record { head = a.well_formed; link = link_holds s r now p k a; form = form }
 
-  -- what was found of the form
+  -- the result of checking the form
   pub all_checked : {T : Type 0} (result : Result T Refusal) → MatchResult result (λ done. (q : Refusal) → FormRule q s r p) (λ q. IsFirstToFail (Rule s r now) q)
       → MatchResult result (λ done. ReachesBoxes s r now p) (λ q. (q ≢ rule.TryAgain) → IsFirstToFail (Rule s r now) q)
   all_checked (Ok done) form = reaches_boxes form
@@ -397,7 +397,7 @@ module _ (s : State) (r : Request) (now : ℕ) (p : LinkValues) (reached : Reach
     post = λ _. rules x lt;
   }
 
-  -- no command is asked
+  -- no command is asked for
   pub no_command : IsPost r → ((command : Command) → Asks p command → ⊥) → IsFirstToFail (Rule s r now) rule.CommandMalformed
   no_command post none = record {
     parts = p;
@@ -413,7 +413,7 @@ module _ (s : State) (r : Request) (now : ℕ) (p : LinkValues) (reached : Reach
   is_asked command asks rule.CommandNotPossible lt = absurd (omega arith)
   is_asked command asks _ lt = tt
 
-  -- a command is asked, and none that is asked is possible
+  -- a command is asked for, and no command that is asked for is possible
   pub no_possible : IsPost r → (command : Command) → Asks p command → ((other : Command) → Asks p other → IsPossible s other → ⊥)
       → IsFirstToFail (Rule s r now) rule.CommandNotPossible
   no_possible post command asks none = record {
@@ -430,7 +430,7 @@ module _ (s : State) (r : Request) (now : ℕ) (p : LinkValues) (reached : Reach
   is_possible command asks possible rule.CommandNotPossible = (command, asks, possible)
   is_possible command asks possible _ = tt
 
-  -- a command that is possible is asked
+  -- a possible command is asked for
   pub holds_post : IsPost r → (command : Command) → Asks p command → IsPossible s command → AllHold (Rule s r now) p
   holds_post post command asks possible q = record {
     head = reached.head q;

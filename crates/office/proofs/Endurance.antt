@@ -1,4 +1,4 @@
--- How what a crash may leave adds up over calls.
+-- What a crash may leave after several calls.
 use Rattle.std.proofs.Common.{◌≡◌, ◌∙◌, ℕ, ◌⊎◌, ⊎_elim, inl, inr, Result, Ok, Err, refl, sym, subst}
 use Rattle.std.specs.Prelude.{◌≢◌, IfErr, OnErr}
 use Rattle.sigtext.specs.declared.refusal.Refusal.{Refusal}
@@ -25,12 +25,12 @@ widened : {A B C : Type 0} → A ⊎ B → A ⊎ B ⊎ C
 widened (inl a) = inl a
 widened (inr b) = inr (inl b)
 
--- what was there before was there, or is the standing state
+-- an earlier result was possible before, or is the current state
 earlier : {A B S C : Type 0} → (A → B ⊎ S) → A ⊎ S ⊎ C → B ⊎ S ⊎ C
 earlier f (inl a) = widened (f a)
 earlier f (inr x) = inr x
 
--- what was there before is one of these, too
+-- an earlier result is one of these too
 settled : {A B C : Type 0} → (A → B ⊎ C) → A ⊎ B ⊎ C → B ⊎ C
 settled f (inl a) = f a
 settled f (inr x) = x
@@ -52,7 +52,7 @@ module _ {K : Type 0} {k : Ghosts K} where
   pub then_adds : {a b c : K} {s : State} → AddsStanding k a b s → AddsStanding k b c s → AddsStanding k a c s
   then_adds x y = record { adds = λ t at. joined (x.adds t) (y.adds t at); whole = λ w. y.whole (x.whole w) }
 
-  -- nothing new is less than what was asked for
+  -- nothing new is a special case of what was asked for
   pub adds_less : {a b : K} {s : State} {D : State → Type 0} → AddsStanding k a b s → AddsAsked k a b s D
   adds_less x = record { adds = λ t at. widened (x.adds t at); whole = x.whole }
 
@@ -69,7 +69,7 @@ module _ {K : Type 0} {k : Ghosts K} where
   then_lasts x (changed alone) = changed alone
   then_lasts x (unchanged same y) = unchanged same (then_adds x y)
 
-  -- what lasted over one call lasts through
+  -- what survives one call survives several
   pub through : {a b : K} {s after : State} → Lasts k a b s after → LastsThrough k a b s after
   through (changed alone) = changed_once alone.alone alone.whole
   through (unchanged same adds) = never_changed same adds
@@ -79,7 +79,7 @@ module _ {K : Type 0} {k : Ghosts K} where
   through_after x (changed_once alone whole) = changed_once alone whole
   through_after x (never_changed same y) = never_changed same (then_adds x y)
 
-  -- one after another
+  -- two lists of calls in a row
   pub then_through : {a b c : K} {s mid after : State} → LastsThrough k a b s mid → LastsThrough k b c mid after → LastsThrough k a c s after
   then_through x (changed_once alone whole) = changed_once alone whole
   then_through {after = after} (changed_once alone whole) (never_changed same y) =
@@ -87,7 +87,7 @@ module _ {K : Type 0} {k : Ghosts K} where
   then_through {a = a} {b = b} {c = c} {s = s} {mid = mid} (never_changed first x) (never_changed same y) =
       never_changed (same ∙ first) (then_adds x (subst (λ (z : State). AddsStanding k b c z) first y))
 
-  -- ---- whatever was given up
+  -- ---- if anything may have been given up
 
   then_asks : {a b c : K} {s : State} {D : State → Type 0} → AddsAsked k a b s D → AddsAsked k b c s D → AddsAsked k a c s D
   then_asks x y = record { adds = λ t at. joined (x.adds t) (y.adds t at); whole = λ w. y.whole (x.whole w) }
@@ -105,7 +105,7 @@ module _ {K : Type 0} {k : Ghosts K} where
   survives_through (changed_once alone whole) = some_change (λ t at. inl (alone t at)) whole
   survives_through (never_changed same adds) = no_change same (adds_less adds)
 
-  -- one after another
+  -- two lists of calls in a row
   pub then_survives : {a b c : K} {s mid after : State} → Survives k a b s mid → Survives k b c mid after → Survives k a c s after
   then_survives x (some_change alone whole) = some_change alone whole
   then_survives {a = a} {c = c} {s = s} (some_change alone whole) (no_change same y) =
@@ -113,9 +113,9 @@ module _ {K : Type 0} {k : Ghosts K} where
   then_survives {b = b} {c = c} (no_change first x) (no_change same y) =
       no_change (same ∙ first) (then_asks x (subst (λ (z : State). AddsAsked k b c z (IsOneMore z)) first y))
 
-  -- ---- of one call
+  -- ---- one call
 
-  -- a question came before the reply
+  -- a question before the reply
   pub then_replied : {a b : K} (c : K) (s : State) (r : Request) (now : ℕ) (result : Result Reply Refusal) → AddsStanding k a b s
       → IsReplied (Endures k b c s) s r now result → IsReplied (Endures k a c s) s r now result
   then_replied c s r now (Ok x) adds is =
@@ -123,14 +123,14 @@ module _ {K : Type 0} {k : Ghosts K} where
       (is.0, is.1, is.2, record { means = record { meant = left.means.meant; lasts = then_lasts adds left.means.lasts }; sound = left.sound }, is.4)
   then_replied c s r now (Err q) adds is = is
 
-  -- a question came before the answer
+  -- a question before the answer
   pub then_answered : {a b : K} (c : K) (s : State) (r : Request) (now : ℕ) (answer : Answer) → AddsStanding k a b s
       → IsAnswered (Endures k b c s) s r now answer → IsAnswered (Endures k a c s) s r now answer
   then_answered c s r now answer adds is = λ other.
       let x = is other in
       (x.0, record { means = record { meant = x.1.means.meant; lasts = then_lasts adds x.1.means.lasts }; sound = x.1.sound }, x.2)
 
-  -- a state that endures is meant
+  -- a state that survives a crash is the one that the keeper means
   pub meant_only : {a b : K} (s : State) (r : Request) (now : ℕ) (answer : Answer) → IsAnswered (Endures k a b s) s r now answer → IsAnswered (k.means b) s r now answer
   meant_only s r now answer is = λ other. let x = is other in (x.0, record { means = x.1.means.meant; sound = x.1.sound }, x.2)
 
@@ -139,7 +139,7 @@ module _ {K : Type 0} {k : Ghosts K} where
   then_refused c s r now (Ok x) adds is = tt
   then_refused c s r now (Err q) adds is = (then_asked adds is.0, λ other. then_adds adds (is.1 other))
 
-  -- refused, and nothing was changed
+  -- the request was refused, and nothing was changed
   pub refused_same : {a b : K} {s : State} {r : Request} {now : ℕ} (q : Refusal) → AddsStanding k a b s
       → AddsAsked k a b s (IsAsked s r now) × ((q ≢ rule.TryAgain) → AddsStanding k a b s)
   refused_same q adds = (adds_less adds, λ other. adds)
@@ -154,7 +154,7 @@ module _ {K : Type 0} {k : Ghosts K} where
       → AddsAsked k a b s (IsAsked s r now) × ((rule.TryAgain ≢ rule.TryAgain) → AddsStanding k a b s)
   refused_asked asked = (asked, λ other. absurd (other refl))
 
-  -- a change that was asked for was made, or was not
+  -- a change that was asked for was made, or it was not
   pub unset : {T : Type 0} {a b : K} (c : K) (s after : State) (r : Request) (now : ℕ) (result : Result T Refusal) → AddsStanding k a b s
       → OnErr result (LeavesEither k.leaves k.leaves_whole b c s after) → IfErr result (λ q. q ≡ rule.TryAgain) → IsAsked s r now after → RefusedLasts k a c s r now result
   unset c s after r now (Ok x) adds either again asked = tt

@@ -1,4 +1,4 @@
--- What follows from what was foreseen of a message.
+-- Consequences of what was foreseen of a message.
 use Rattle.std.proofs.Common.{◌≡◌, ◌≢◌, ℕ, Result, Ok, Err, ap, refl, sym, subst, ◌∙◌}
 use Rattle.std.specs.Prelude.{IfErr, IfOk, IsErr, OnErr, OnOk, is_err, true, false}
 use Rattle.keeper.specs.declared.keep.KeepFault.{KeepFault}
@@ -43,7 +43,7 @@ ok_is x y result a b = cc
 
 -- ---- a reply that is given once nothing is staged any more, or refusal 40
 
--- what was to be refused is refused so
+-- a message that was to be refused is refused
 pub denied : (means : State → Type 0) (s : State) (r : Request) (now : ℕ) (q : Refusal) (result : Result Reply Refusal) → (result ≢ Err rule.TryAgain → result ≡ Err q)
     → (q ≢ rule.TryAgain → IsFirstToFail (Rule s r now) q) → IsReplied means s r now result
 denied means s r now q (Ok x) gives fails = absurd (ok_no_err x q (Ok x) refl (gives (ok_no_err x rule.TryAgain (Ok x) refl)))
@@ -51,12 +51,12 @@ denied means s r now q (Err y) gives fails = λ other.
     let same : y ≡ q = err_is y q (Err y) refl (gives (λ again. other (err_is y rule.TryAgain (Err y) refl again))) in
     subst (IsFirstToFail (Rule s r now)) (sym same) (fails (λ again. other (same ∙ again)))
 
--- it is replied nothing
+-- it gets no reply
 pub no_reply : (P : Reply → Type 0) (q : Refusal) (result : Result Reply Refusal) → (result ≢ Err rule.TryAgain → result ≡ Err q) → IfOk result P
 no_reply P q (Ok x) gives = absurd (ok_no_err x q (Ok x) refl (gives (ok_no_err x rule.TryAgain (Ok x) refl)))
 no_reply P q (Err y) gives = tt
 
--- what was to be replied is replied
+-- a message that was to get a reply gets it
 pub told : (means : State → Type 0) (s : State) (r : Request) (now : ℕ) (x : Reply) (result : Result Reply Refusal) → (result ≢ Err rule.TryAgain → result ≡ Ok x)
     → IsReplied means s r now (Ok x) → IsReplied means s r now result
 told means s r now x (Ok y) gives is =
@@ -86,15 +86,15 @@ weaker_ok (Err e) f is = tt
 -- ---- what was foreseen, within the window of the link
 
 module _ (s : State) (r : Request) (f : Prospect) (is : IsForeseen s r f) (now : ℕ) (admitted : IsAdmitted s r now is.parts is.key) where
-  -- the errand that it comes to
+  -- the errand of the message
   pub errand_of : (e : Errand) → f.errand ≡ Ok e → IsErrandOf s r is.parts e × ReachesBoxes s r now is.parts
   errand_of e same = let x = subst (ComesTo s r is.parts is.key) same is.comes in (x.0, x.1 now admitted)
 
-  -- or the refusal
+  -- or its refusal
   pub refused_of : (q : Refusal) → f.errand ≡ Err q → q ≢ rule.TryAgain → IsFirstToFail (Rule s r now) q
   refused_of q same other = subst (ComesTo s r is.parts is.key) same is.comes other now admitted
 
--- ---- what of a message that was not answered can be read
+-- ---- what can be read of a message that was not answered
 
 pub upload_readable : (r : Request) (foreseen : Result Prospect Refusal) → IsUpload foreseen → IsReadOf r foreseen → IsReadable r
 upload_readable r (Ok f) upload is = readable_of r is.0 is.1.well_formed

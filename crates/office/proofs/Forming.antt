@@ -13,7 +13,7 @@ use Rattle.office.specs.Rules.{IsPut, IsFetch}
 pub link_no_clerk : Link ≡ Clerk → ⊥
 link_no_clerk e = cc
 
--- the method of a text
+-- the method with this text
 pub is_put : (m : Method) → method_text m ≡ codes "PUT" → m ≡ method.Put
 is_put method.Put e = refl
 is_put method.Get e = let x = head_is 71 80 (69 ∷ 84 ∷ []) (85 ∷ 84 ∷ []) e in absurd (omega (arith, x))
@@ -26,7 +26,7 @@ is_post method.Get e = let x = head_is 71 80 (69 ∷ 84 ∷ []) (79 ∷ 83 ∷ 8
 is_post method.Head e = let x = head_is 72 80 (69 ∷ 65 ∷ 68 ∷ []) (79 ∷ 83 ∷ 84 ∷ []) e in absurd (omega (arith, x))
 is_post method.Post e = refl
 
--- what is no POST uses a box
+-- any request but a POST uses a box
 pub uses_boxes : (r : Request) (m : Method) → r.method ≡ method_text m → (m ≡ method.Post → ⊥) → IsPut r ⊎ IsFetch r
 uses_boxes r method.Put is other = inl is
 uses_boxes r method.Get is other = inr (inl is)

@@ -1,4 +1,4 @@
--- What became of a message, by what was sent.
+-- How a message ended, by what was sent.
 use Rattle.std.proofs.Common.{◌≡◌, ◌≢◌, ℕ, Bool, false, List, [], Option, Result, Ok, Err, refl, ap, subst, ◌∙◌, ⊎_elim, inl, inr}
 use Rattle.std.specs.Io.KnownBytes.{Appends}
 use Rattle.sigtext.specs.declared.refusal.Refusal.TheVariants as rule
@@ -36,14 +36,14 @@ closes_always : (is_head : Bool) → answer_text is_head (said.Refused rule.TryA
 unfolding answer_text
 closes_always is_head = refl
 
--- refusal 40 is one text for every method
+-- refusal 40 has the same text for every method
 again_written : (a : Answer) → IsTryAgain a → whole_text a ≡ closing rule.TryAgain
 again_written a e = ap (λ r. answer_text a.is_head (said_of r)) e ∙ closes_always a.is_head
 
 held_up : {K : Type 0} {k : Ghosts K} {keeper keeper' : K} {gave_up : Type 0} → HoldsUnless k keeper keeper' gave_up → k.is_honest keeper' → (gave_up → ⊥) → HoldsUp k false keeper keeper'
 held_up rest honest other = (rest.counted other, λ was. rest.opened honest was other)
 
--- refusal 40 was written, or its writing broke off
+-- refusal 40 was written, or writing it broke off
 pub sent_again : (old new : Option (List ℕ)) (a : Answer) (h : Handled) → IsSent old new a h → IsTryAgain a → MayBeGivenUp h
 sent_again old new a Answered sent again = absurd (sent.0 again)
 sent_again old new a GaveUp sent again = inl refl
@@ -83,7 +83,7 @@ same_request text found head method target headers has_length body is_found is_h
     ∙ ap (λ (x : List Header). record { method = found.method; target = found.target; headers = x; has_length = has_length; body = body }) c
     ∙ ap (λ (x : RequestHead). request_of x has_length body) once
 
--- what was foreseen of a request tells that it is readable, unless it was refused
+-- what was foreseen of a request shows that the request is readable, unless it was refused
 pub read_of : (s : State) (r : Request) (foreseen : Result Prospect Refusal) → Foresees s r foreseen → foreseen ≢ Err rule.TryAgain → IsReadOf r foreseen
 read_of s r (Ok f) foresees other = (foresees.parts, foresees.link)
 read_of s r (Err q) foresees other = λ is. absurd (other (ap Err is))

@@ -16,7 +16,7 @@ module _ {K : Type 0} {k : Ghosts K} where
     never_less = x.never_less;
   }
 
-  -- one call after another, of which the first did not give up
+  -- two calls in a row; the first did not give up
   pub holds_then : {a b c : K} {gave_up : Type 0} → HoldsUnless k a b ⊥ → HoldsUnless k b c gave_up → HoldsUnless k a c gave_up
   holds_then x y = record {
     honest = λ honest. x.honest (y.honest honest);

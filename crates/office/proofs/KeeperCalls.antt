@@ -1,4 +1,4 @@
--- Calls of a keeper that leave the state, one after another, and what they leave staged.
+-- Several calls of a keeper that leave the state unchanged, and what they leave staged.
 use Rattle.std.proofs.Common.{◌≡◌, ◌≤◌, Bool, true, false, [], ◌⊎◌, ⊎_elim, inl, inr, Result, Ok, Err, refl, arith}
 use Rattle.std.specs.Prelude.{IsFalse, IsTrue, OnOk}
 use Rattle.std.specs.Result.{is_err}
@@ -14,21 +14,21 @@ use Rattle.office.proofs.Endurance.{asked_standing, then_adds}
 use Rattle.office.proofs.Holding.{holds_less, holds_then}
 use Rattle.office.proofs.Unstaged.{asked_holds, ends_before, ends_later, failed_holds, then_holds}
 
--- of a call that was no error
+-- a property of a call without an error
 pub on_ok : {T E : Type 0} (P : Type 0) (b : Bool) (result : Result T E) → b ≡ is_err result → b ≡ false → OnOk result P → P
 on_ok P b (Ok x) is false_is holds = holds
 on_ok P b (Err e) is false_is holds = absurd cc
 
 -- ---- calls that leave the state
 
--- The state is meant still, a crash leaves nothing new but the standing state, and the keeper holds up.
+-- The state is unchanged, a crash leaves nothing new except the current state, and the keeper holds up.
 pub record Quiet {K : Type 0} (k : Ghosts K) (old new : K) (gave_up : Type 0) : Type 0 where
   pub means : (s : State) → k.means old s → k.means new s
   pub crash : (s : State) → k.means old s → k.is_honest new → AddsStanding k old new s
   pub rest : HoldsUnless k old new gave_up
 
 module _ {K : Type 0} {k : Ghosts K} where
-  -- a question, whatever it was answered
+  -- a question, whatever its answer
   called_holds : {T : Type 0} {a b : K} (result : Result T KeepFault) → StaysBy k a b result → HoldsUnless k a b (IsFault result)
   called_holds {a = a} {b = b} (Ok x) rest = asked_holds k a b x rest
   called_holds {a = a} {b = b} (Err f) rest = failed_holds k a b f rest tt
@@ -46,7 +46,7 @@ module _ {K : Type 0} {k : Ghosts K} where
     rest = holds_then x.rest y.rest;
   }
 
-  -- one of them may have given up
+  -- one of two calls may have given up
   pub quiet_both : {a b c : K} {one other : Type 0} → Quiet k a b one → Quiet k b c other → Quiet k a c (one ⊎ other)
   quiet_both x y = record {
     means = λ s means. y.means s (x.means s means);
@@ -54,15 +54,15 @@ module _ {K : Type 0} {k : Ghosts K} where
     rest = then_holds x.rest y.rest (λ none gave_up. none (inl gave_up)) (λ none gave_up. none (inr gave_up));
   }
 
--- ---- what stays staged
+-- ---- what is still staged
 
--- nothing does, over a call that keeps what is staged unless something is to be staged
+-- nothing is, after a call that keeps what is staged unless something is to be staged
 pub unstaged_after : {K : Type 0} (k : Ghosts K) (a b c : K) (upload : Bool) → k.faults b ≡ k.faults a → (IsFalse upload → KeepsStaged k.stages a b) → (IsTrue upload → EndsUnstaged k b c)
     → StaysUnstaged k b c → StaysUnstaged k a c
 unstaged_after k a b c true same keeps ends stays = λ none. ends_later k a b c (omega (arith, same)) (ends refl)
 unstaged_after k a b c false same keeps ends stays = λ none. ends_later k a b c (omega (arith, same)) (stays (keeps refl [] none))
 
--- one call after another, whatever they gave up
+-- two calls in a row, whatever they gave up
 pub unstaged_then : {K : Type 0} (k : Ghosts K) (a b c : K) → StaysUnstaged k a b → k.faults a ≤ k.faults b → StaysUnstaged k b c → k.faults b ≤ k.faults c → StaysUnstaged k a c
 unstaged_then k a b c first less second more = λ none.
     ⊎_elim (λ (still : k.stages b []). ends_later k a b c less (second still)) (λ (rose : Rose (k.faults a) (k.faults b)). ends_before k a b c rose more) (first none)

@@ -1,4 +1,4 @@
--- Refusal 40 is answered where a session gave up alone: no rule of a message is reported by it, and none of framing.
+-- Only a session that gave up answers refusal 40. No rule of a message and no rule of framing reports it.
 use Rattle.std.proofs.Common.{◌≡◌, ◌≢◌, ℕ, List, Option, None, Some, inr, subst}
 use Rattle.std.specs.Prelude.{IfSome, ⊤}
 use Rattle.sigtext.specs.declared.refusal.Refusal.{Refusal}
@@ -30,14 +30,14 @@ shown_other (step.Kept number receipt) q e = cc
 shown_other (step.Found number receipt bytes) q e = cc
 shown_other step.Done q e = cc
 
--- by the rules a message is replied something else
+-- by the rules a message gets another reply
 pub never_replied : (s after : State) (r : Request) (now : ℕ) (reply : Said) → Replies s r now reply after → reply ≢ said.Refused rule.TryAgain
 never_replied s _ r now _ (refuses q fails) e =
     let f = subst (λ (x : Refusal). IsFirstToFail (Rule s r now) x) (refused_is q rule.TryAgain e) fails in
     f.fails f.parts f.before (rule_holds s r now f.parts)
 never_replied s _ r now _ (accepts reply after _) e = shown_other reply rule.TryAgain e
 
--- and where a stream holds no message, it is refused by something else
+-- if a stream holds no message, it gets another refusal
 pub never_framed : (stream rest : List ℕ) (q : Refusal) → Next stream (frame.Refused q) rest → q ≢ rule.TryAgain
 never_framed stream _ _ (frame.too_long long none) e = cc
 never_framed stream _ _ (frame.malformed front rest is none) e = cc

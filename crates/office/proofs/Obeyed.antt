@@ -1,4 +1,4 @@
--- What a message to the desk is replied, by what became of its line.
+-- The reply to a message to the desk, by the result of its line.
 use Rattle.std.proofs.Common.{◌≡◌, ℕ, List, [], ◌∷◌, codes, Ok, refl, sym, ap, subst, ◌∙◌}
 use Rattle.sigtext.specs.declared.refusal.Refusal.TheVariants as rule
 use Rattle.sigtext.specs.Request.{Request}
@@ -56,7 +56,7 @@ module _ (means : State → Type 0) (s : State) (r : Request) (now : ℕ) (p : L
     pub not_obeyed : IsImpossibleLine s line → IsFirstToFail (Rule s r now) rule.CommandNotPossible
     not_obeyed told = no_possible s r now p reached is_post told.command (asks told.command told.tells) (λ other asked. told.none other (tells other asked))
 
-  -- the path is another one, or no command is given
+  -- the path is another, or no command is given
   pub elsewhere : (p.path ≡ 47 ∷ [] → ⊥) → IsFirstToFail (Rule s r now) rule.CommandMalformed
   elsewhere other = no_command s r now p reached is_post (λ command asked. other asked.at_desk)
 

@@ -73,14 +73,14 @@ named_again rule.CommandMalformed = refl
 named_again rule.CommandNotPossible = refl
 named_again rule.TryAgain = refl
 
--- no two refusals have one number
+-- no two refusals have the same number
 number_once : (p q : Refusal) → number_of q ≡ number_of p → q ≡ p
 number_once p q e = sym (named_again q) ∙ ap (λ n. get_or named (n - 1) rule.TryAgain) e ∙ named_again p
 
 apart : (m n : ℕ) → (m < n → ⊥) → (n < m → ⊥) → m ≡ n
 apart m n a b = ⊎_elim (λ less. absurd (a less)) (λ least. ⊎_elim (λ less. absurd (b less)) (λ more. omega (arith, least, more)) (cases_lt n m)) (cases_lt m n)
 
--- one rule is the least that fails
+-- only one rule is the first that fails
 first_once : {P : Type 0} (R : Refusal → P → Type 0) (p q : Refusal) → IsFirstToFail R p → IsFirstToFail R q → q ≡ p
 first_once R p q f g =
     number_once p q (apart (number_of q) (number_of p)
@@ -127,7 +127,7 @@ module _ (s : State) (r : Request) (now : ℕ) where
   one_parts : (p q : LinkValues) → AllHold (Rule s r now) p → AllHold (Rule s r now) q → q ≡ p
   one_parts p q a b = parts_once r p q (λ x. (a x).head) (λ x. (b x).head)
 
-  -- what is accepted is not refused
+  -- an accepted request is not refused
   not_refused : (q : Refusal) (reply : step.StepReply) (after : State) → IsFirstToFail (Rule s r now) q → AcceptsRequest s r now reply after → ⊥
   not_refused q _ _ f (put p reply after all is_put does) = f.fails p (λ x lt. all x) (all q)
   not_refused q _ _ f (fetch p reply after all is_fetch does) = f.fails p (λ x lt. all x) (all q)

@@ -1,4 +1,4 @@
--- Where a path that is cut at a slash points.
+-- The place of a path that is cut at a slash.
 use Rattle.std.proofs.Common.{◌≡◌, ℕ, List, [], ◌∷◌, ◌++◌, ap, sym, ◌∙◌}
 use Rattle.std.specs.Prelude.{◌==◌, drop}
 use Rattle.std.specs.List.{before_first, after_first}
@@ -13,7 +13,7 @@ cut_place path rest in_box name is parts lacks =
     ∙ ap (λ (x : List ℕ). record { box = before_first (λ b. b == 47) (in_box ++ 47 ∷ name); name = x }) (sym (after_first-at 47 in_box name (λ i lt. lacks i 0 lt)))
     ∙ ap (λ (t : List ℕ). record { box = before_first (λ b. b == 47) t; name = after_first (λ b. b == 47) t }) (sym parts ∙ is)
 
--- without one
+-- without a second slash
 pub whole_place : (path rest : List ℕ) → rest ≡ drop 1 path → Lacks 47 rest → record { box = rest; name = [] } ≡ place_of path
 whole_place path rest is lacks =
     ap (λ (x : List ℕ). record { box = x; name = [] }) (sym (before_first-Lacks 47 rest (λ i lt. lacks i 0 lt)))

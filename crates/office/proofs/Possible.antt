@@ -1,4 +1,4 @@
--- A command that is possible has a step, and what was decided of it.
+-- A possible command has a step, and what was decided about it.
 use Rattle.std.proofs.Common.{◌≡◌, false, Option, Some, None, Result, Ok, Err, ℕ, List, refl, ap, subst}
 use Rattle.std.specs.Prelude.{◌≢◌, OnOk, IsSome, IsSomeAnd, is_err}
 use Rattle.std.specs.FinMap.{get}
@@ -31,7 +31,7 @@ step_of s (DropFile place) possible = (_, file_dropped place)
 step_of s (LimitKey id box) possible = (_, key_limited id box)
 step_of s (SetAllowance seconds) possible = (_, allowance_set seconds)
 
--- no error was given
+-- there was no error
 pub decided : {T : Type 0} (s : State) (command : Command) (result : Result T Refusal) → DecidesCommand s command result → is_err result ≡ false → IsPossible s command
 decided s command (Ok done) possible none = possible
 decided s command (Err q) refused none = absurd cc
@@ -39,7 +39,7 @@ decided s command (Err q) refused none = absurd cc
 pub obeys : (s : State) (command : Command) → HasForm command → IsPossible s command → (after : State) × IsObeyed s command after
 obeys s command form possible = let x = step_of s command possible in (x.0, record { form = form; possible = possible; step = x.1 })
 
--- what became of the command that the line is
+-- the result of the command that the line stands for
 pub obeyed_by : {T : Type 0} (means : State → Type 0) (s : State) (line : List ℕ) (result : Result T DeskFault) (command : Command) → IsDeskLine line command
     → ((other : Command) → IsDeskLine line other → other ≡ command) → OnOk result ((after : State) × IsObeyed s command after × IsLeft means after)
     → (result ≡ Err fault.NotPossible → IsPossible s command → ⊥) → result ≢ Err fault.Malformed → result ≢ Err (fault.Kept Full) → IsObeyedBy means s line result

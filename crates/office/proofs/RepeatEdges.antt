@@ -1,5 +1,5 @@
--- What the promise on uploads that come again covers: which acts leave a file, that the acts of a run are nothing but its
--- messages, and an upload whose answer was lost.
+-- What the promise on repeated uploads covers: which acts leave a file, that the acts of a run are exactly
+-- its messages, and an upload whose answer was lost.
 use Rattle.std.proofs.Common.{◌≡◌, ◌∙◌, ◌+◌, ℕ, suc, length, None, Bool, true, false, List, [], ◌∷◌, ◌++◌, codes, refl, sym, ap, subst}
 use Rattle.std.specs.Prelude.{◌≢◌}
 use Rattle.std.specs.FinMap.{get}
@@ -41,7 +41,7 @@ refused_done : (q : Refusal) → Refused q ≡ Done → ⊥
 refused_done q e = cc
 
 module _ (place : Place) (bytes : List ℕ) (a : Act) where
-  -- one that was refused
+  -- an act that was refused
   pub refused_leaves : (q : Refusal) → a.reply ≡ Refused q → LeavesFile place bytes a
   refused_leaves q refused = record {
     same = λ other up got. absurd (refused_kept q got.number got.size got.digits (sym refused ∙ got.is));
@@ -72,7 +72,7 @@ module _ (place : Place) (bytes : List ℕ) (a : Act) where
       not_dropped = λ d. absurd (put_no_post a.request puts d.post);
     }
 
-    -- a desk command that drops no file there
+    -- a desk command that does not drop this file
     pub command_leaves : IsPost a.request → (command : Command) → Asks p command → command ≢ DropFile place → LeavesFile place bytes a
     command_leaves posts command asks other_command = record {
       same = λ other up got. absurd (put_no_post a.request up.put posts);
@@ -81,14 +81,14 @@ module _ (place : Place) (bytes : List ℕ) (a : Act) where
           other_command (sym (command_asked p command (DropFile place) asks (subst (λ (x : LinkValues). Asks x (DropFile place)) one d.asks)));
     }
 
--- ---- the same reply to uploads is the same text
+-- ---- the same reply to uploads has the same text
 
 pub same_text : (a b : Act) → IsPut a.request → IsPut b.request → b.reply ≡ a.reply → text_of b ≡ text_of a
 same_text a b puts puts' same =
     ap (λ (m : List ℕ). answer_text (same_bytes m (codes "HEAD")) b.reply) (puts' ∙ sym puts)
     ∙ ap (answer_text (same_bytes a.request.method (codes "HEAD"))) same
 
--- ---- acts that are a connection's make its session, and those of connections their run
+-- ---- the acts of a connection make its session, and those of several connections make their run
 
 gave_up : (n : ℕ) (stream rest : List ℕ) (s : State) (r : Request) (now : ℕ) (out : List ℕ) (e : SessionEnd) → Next stream (frame.Message r) rest → IsReadable r
     → IsLastRefusal out e → Session (suc n) stream s (now ∷ []) out e true s
@@ -110,7 +110,7 @@ session_of _ _ _ _ _ _ _ _ _ (act.lost n stream rest s a front next from begins)
     let answers : AnswersRequest a.before a.request a.now (text_of a) a.after = record { reply = a.reply; replies = by_rules.1; is = refl } in
     session.write_failed n stream rest s a.after a.request a.now (text_of a) front next (subst (λ x. AnswersRequest x a.request a.now (text_of a) a.after) from answers) begins
 
--- the acts of a session, and those behind it
+-- the acts of a session, and those after it
 acts_parted : (n : ℕ) (stream : List ℕ) (s : State) (moments out : List ℕ) (e : SessionEnd) (given_up : Bool) (here : List Act) (mid : State) (more : List Act) (after : State)
     → AreSessionActs n stream s moments out e given_up here mid → Acts s (here ++ more) after → Acts s here mid × Acts mid more after
 acts_parted _ _ _ _ _ _ _ _ _ more after (act.over n stream s out e given_up h) acts = (refl, acts)
@@ -126,7 +126,7 @@ run_of s after (c ∷ cs) moments acts (first, others, here, more, mid, joined, 
     let x = acts_parted most_messages c.stream s first c.answers c.end c.gave_up here mid more after are (subst (λ (t : List Act). Acts s t after) parted by_rules) in
     (first, others, mid, joined, session_of most_messages c.stream s first c.answers c.end c.gave_up here mid are x.0, run_of mid after cs others more rest x.1)
 
--- ---- an example: an upload's answer was lost, and on the next connection it came again
+-- ---- an example: an upload's answer was lost, and the upload is repeated on the next connection
 
 module _ (s mid after : State) (first second : List ℕ) (r q : Request) (now later : ℕ) (text front again : List ℕ) (next : Next first (frame.Message r) []) (next' : Next second (frame.Message q) [])
     (answers : AnswersRequest s r now text mid) (begins : IsBeginning front text) (answers' : AnswersRequest mid q later again after) where
@@ -152,7 +152,7 @@ module _ (s mid after : State) (first second : List ℕ) (r q : Request) (now la
   abbrev second_act : Act
   second_act = record { before = mid; request = q; now = later; reply = answers'.reply; after = after }
 
-  -- its whole text is the one of which a beginning was written, and nothing was changed
+  -- The text of the second answer is the one of which a prefix was written before, and nothing was changed.
   pub lost_then_again : (place : Place) (bytes : List ℕ) → IsUploadOf place bytes lost_act → GotReceipt lost_act → IsUploadOf place bytes second_act → (again ≡ text) × (after ≡ mid)
   lost_then_again place bytes up got up' =
       let once = repeats_once s (lost_act ∷ second_act ∷ []) after (refl, answers.replies, (refl, answers'.replies, refl)) [] [] [] lost_act second_act place bytes refl up got tt up' in
@@ -163,7 +163,7 @@ module _ (s mid after : State) (first second : List ℕ) (r q : Request) (now la
 no_drop : (name : List ℕ) (moment : ℕ) (place : Place) → CloseBox name moment ≢ DropFile place
 no_drop name moment place e = cc
 
--- the box was closed, and the upload comes again
+-- the box was closed, and the upload is repeated
 pub closed_then_again : (s after : State) (first close second : Act) (place : Place) (bytes : List ℕ) (p : LinkValues) (moment : ℕ) → Acts s (first ∷ close ∷ second ∷ []) after
     → IsUploadOf place bytes first → GotReceipt first → ReachesBoxes close.before close.request close.now p → IsPost close.request → Asks p (CloseBox place.box moment)
     → IsUploadOf place bytes second → (second.reply ≡ first.reply) × (second.after ≡ second.before)
@@ -171,7 +171,7 @@ closed_then_again s after first close second place bytes p moment acts up got re
     repeats_once s (first ∷ close ∷ second ∷ []) after acts [] (close ∷ []) [] first second place bytes refl up got
     (command_leaves place bytes close p reaches posts (CloseBox place.box moment) asks (no_drop place.box moment place), tt) up'
 
--- where no file stands, as after one was dropped, an upload that gets a receipt gets a new one
+-- if there is no file, for example after it was dropped, an upload that gets a receipt gets a new one
 new_step : (s : State) (u : Upload) (reply : step.StepReply) (after : State) → get s.files u.place ≡ None → UploadStep s u reply after
     → shown reply ≡ Kept (length s.receipts + 1) (length u.bytes) (encode_lower (sha256 u.bytes))
 new_step s u _ _ none (again f r there holds listed) = absurd (some_none f (sym there ∙ none))

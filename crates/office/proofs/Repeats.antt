@@ -1,4 +1,4 @@
--- Over a whole run an upload acts once.
+-- An upload acts once over a whole run.
 use Rattle.std.proofs.Common.{◌≡◌, ◌∙◌, ℕ, suc, ◌+◌, Bool, List, [], ◌∷◌, ◌++◌, codes, length, refl, sym, ap, subst, append_assoc}
 use Rattle.std.specs.Prelude.{⊤}
 use Rattle.std.specs.List.{AllByRecursion}
@@ -34,7 +34,7 @@ use Rattle.office.proofs.Standing.{StandsWith, command_keeps, upload_keeps, uplo
 abbrev the_act : State → Request → ℕ → Said → State → Act
 the_act s r now reply after = record { before = s; request = r; now = now; reply = reply; after = after }
 
--- a request that holds every rule reaches the boxes
+-- a request that obeys every rule reaches the boxes
 reached : (s : State) (r : Request) (now : ℕ) (p : LinkValues) → AllHold (Rule s r now) p → ReachesBoxes s r now p
 reached s r now p all = record { head = λ q. (all q).head; link = λ q. (all q).link; form = λ q. (all q).form }
 
@@ -44,7 +44,7 @@ kept_reply : (s t : State) (r : Request) (now : ℕ) (u : Upload) (reply : step.
 kept_reply s t r now u _ _ (again f x there holds listed) = record { number = f.receipt; size = x.size; digits = encode_lower x.digest; is = refl }
 kept_reply s t r now u _ _ (taken new) = record { number = length s.receipts + 1; size = length u.bytes; digits = encode_lower (sha256 u.bytes); is = refl }
 
--- parts of a request ask one command at most
+-- the parts of a request ask for at most one command
 pub command_asked : (p : LinkValues) (a b : Command) → Asks p a → Asks p b → b ≡ a
 command_asked p a b x y =
     let same = same_value p.params (codes "desk") y.text x.text y.given x.given in
@@ -84,7 +84,7 @@ module _ (place : Place) (bytes : List ℕ) where
   accepted_stands s r now _ _ (fetch p reply after all is_fetch does) up = absurd (fetch_no_put r is_fetch up.put)
   accepted_stands s r now _ _ (post p command after all is_post asks does) up = absurd (put_no_post r up.put is_post)
 
-  -- an upload that got a receipt stands with it
+  -- after an upload got a receipt the file is there with it
   act_stands : (s : State) (r : Request) (now : ℕ) (reply : Said) (after : State) → Replies s r now reply after
       → IsUploadOf place bytes (the_act s r now reply after) → GotReceipt (the_act s r now reply after) → StandsWith place bytes reply after
   act_stands s r now _ _ (refuses q first) up got = let is = got.is in absurd cc
@@ -102,7 +102,7 @@ module _ (place : Place) (bytes : List ℕ) where
     accepted_again _ _ (fetch q reply after all is_fetch does) = absurd (fetch_no_put r is_fetch is_put)
     accepted_again _ _ (post q command after all is_post asks does) = absurd (put_no_post r is_put is_post)
 
-    -- where its bytes stand it gets their receipt
+    -- if its bytes are there already, it gets their receipt
     replied_again : (reply : Said) (after : State) → Replies s r now reply after → (reply ≡ said) × (after ≡ s)
     replied_again _ _ (refuses q first) = absurd (first.fails p (λ x lt. rules_hold x) (rules_hold q))
     replied_again _ _ (accepts reply after accepted) = accepted_again reply after accepted
@@ -114,9 +114,9 @@ module _ (place : Place) (bytes : List ℕ) where
       replied_again said a.before a.request a.now up.parts up.put up.reaches
       (subst (λ (b : List ℕ). StandsWith (place_of up.parts.path) b said a.before) (sym up.brings) here) a.reply a.after replies
 
-  -- ---- acts one after another
+  -- ---- acts in order
 
-  -- the file stands where the upload comes again
+  -- the file is still there when the upload is repeated
   still_stands : (said : Said) (s : State) (between later : List Act) (a : Act) (after : State) → Acts s (between ++ a ∷ later) after
       → AllByRecursion (LeavesFile place bytes) between → StandsWith place bytes said s
       → StandsWith place bytes said a.before × Replies a.before a.request a.now a.reply a.after
@@ -146,20 +146,20 @@ pub record HasActs (n : ℕ) (stream : List ℕ) (s : State) (moments out : List
   pub are : AreSessionActs n stream s moments out e gave_up acts after
   pub by_rules : Acts s acts after
 
--- none of them is one whose answer is written whole
+-- no act has an answer that was written in full
 abbrev pub NoneAnswered : {n : ℕ} {stream : List ℕ} {s : State} {moments out : List ℕ} {e : SessionEnd} {gave_up : Bool} {acts : List Act} {after : State}
     → AreSessionActs n stream s moments out e gave_up acts after → Type 0
 NoneAnswered (act.answered n stream rest s after a acts moments out e gave_up next is more) = ⊥
 NoneAnswered _ = ⊤
 
--- the acts of a session that its first step ends
+-- the acts of a session that ends in its first step
 pub record LastActs (n : ℕ) (stream : List ℕ) (s : State) (moments out : List ℕ) (e : SessionEnd) (gave_up : Bool) (after : State) : Type 0 where
   pub acts : List Act
   pub are : AreSessionActs n stream s moments out e gave_up acts after
   pub none : NoneAnswered are
   pub by_rules : Acts s acts after
 
--- none
+-- no acts
 over : (n : ℕ) (stream : List ℕ) (s : State) (out : List ℕ) (e : SessionEnd) (gave_up : Bool) → Session n stream s [] out e gave_up s → LastActs n stream s [] out e gave_up s
 over n stream s out e gave_up h = record { acts = []; are = act.over n stream s out e gave_up h; none = tt; by_rules = refl }
 

@@ -1,4 +1,4 @@
--- What an upload and a fetch are replied, by what was decided of them.
+-- The replies to an upload and to a fetch, by what was decided about them.
 use Rattle.std.proofs.Common.{◌≡◌, ◌≤◌, ℕ, List, Option, Some, None, Result, Ok, Err, length, ◌+◌, refl, sym, ap, subst, ◌∙◌}
 use Rattle.std.specs.Prelude.{IsSome, IfErr, IfOk, OnOk}
 use Rattle.std.specs.FinMap.{get}
@@ -34,7 +34,7 @@ use Rattle.office.specs.Replying.{IsReceiptFor, IsReplied}
 use Rattle.office.specs.Rules.{IsPut, IsFetch, Rule, known, place_of, upload_of}
 use Rattle.office.proofs.Deciding.{known_none, none_some, holds_put, holds_fetch, first_put, first_fetch}
 
--- a key that is known stands
+-- a known key exists
 there : (s : State) (id : List ℕ) (o : Option Key) → get s.keys id ≡ o → IsSome (known s id) → IsSome (get s.keys id)
 there s id None e h = let is : known s id ≡ None = known_none s id e in absurd (none_some (known s id) is h)
 there s id (Some k) e h = subst (λ (x : Option Key). IsSome x) (sym e) refl
@@ -64,7 +64,7 @@ module _ (means : State → Type 0) (s : State) (r : Request) (now : ℕ) (p : L
   pub not_put : (q : Refusal) → IsPut r → DecidesUpload s (upload_of r now p) (uploading.Refused q) → IsFirstToFail (Rule s r now) q
   not_put q is_put decided = first_put s r now p reached q is_put decided
 
-  -- the file that is to be set
+  -- the file to set
   pub sets : (f : NewFile) → IsBrought s (upload_of r now p) → DecidesUpload s (upload_of r now p) (uploading.Taken f)
       → IsFileSet s f r.body (after_upload s (upload_of r now p))
   sets f brings decided =
@@ -96,7 +96,7 @@ module _ (means : State → Type 0) (s : State) (r : Request) (now : ℕ) (p : L
             ∙ ap (λ (d : List ℕ). said.Kept (length s.receipts + 1) (length r.body) (encode_lower d)) file.digest,
       )
 
-  -- what became of the file that was to be set
+  -- the result of setting the file
   pub set_replied : (f : NewFile) (result : Result Reply Refusal) → IsPut r → DecidesUpload s (upload_of r now p) (uploading.Taken f) → IfOk result (IsReceiptFor f)
       → IfErr result (λ q. q ≡ rule.TryAgain) → OnOk result (IsLeft means (after_upload s (upload_of r now p))) → IsReplied means s r now result
   set_replied f (Ok x) is_put decided receipt none left = subst (λ (y : Reply). IsReplied means s r now (Ok y)) (sym receipt) (kept f is_put left decided)

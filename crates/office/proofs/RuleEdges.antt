@@ -15,7 +15,7 @@ use Rattle.desk.specs.Texts.{IsCommand}
 use Rattle.office.specs.Rules.{judged_at, place_of, MaySend, FormRule, Asks}
 use Rattle.office.proofs.Deciding.{fetch_no_post, head_is}
 
--- the name is all behind the second slash, further slashes and dots too
+-- the name is everything after the second slash, including further slashes and dots
 place_of_name : place_of (codes "/in/a/../b c") ≡ record { box = codes "in"; name = codes "a/../b c" }
 place_of_name = refl
 
@@ -31,11 +31,11 @@ place_of_no_box = refl
 place_of_root : place_of (codes "/") ≡ record { box = []; name = [] }
 place_of_root = refl
 
--- the desk is at `/` alone
+-- the desk is only at `/`
 asks_at_desk : (p : LinkValues) (command : Command) (text : List ℕ) → p.path ≡ codes "/" → HasValue p.params (codes "desk") text → IsCommand text command → HasForm command → Asks p command
 asks_at_desk p command text at given is form = record { at_desk = at; text = text; given = given; is_command = is; form = form }
 
--- a request of this method and body, with a Content-Length or without one
+-- a request with this method and body, with or without a Content-Length
 abbrev request_by : List ℕ → Bool → List ℕ → Request
 request_by method has_length body = record { method = method; target = []; headers = []; has_length = has_length; body = body }
 
@@ -73,7 +73,7 @@ b2_in e = let x = head_is 98 105 (50 ∷ []) (110 ∷ []) e in omega (arith, x)
 none_in : ◌≡◌ {A = List ℕ} [] (codes "in") → ⊥
 none_in e = cc
 
--- a key that is limited to the box `in` reaches it, and no other, there or not
+-- a key that is limited to the box `in` reaches it and no other, whether it exists or not
 module _ (s : State) (nobody : s.limits ≡ empty) (p : LinkValues) (k2 : p.key_id ≡ codes "k2") where
   reaches_its_box : p.path ≡ codes "/in/x" → MaySend (one s nobody) (request_by (codes "GET") false []) p
   reaches_its_box at = record {
@@ -96,7 +96,7 @@ module _ (s : State) (nobody : s.limits ≡ empty) (p : LinkValues) (k2 : p.key_
       (subst (λ (id : List ℕ). MayUse (one s nobody) id []) k2
       (subst (λ (path : List ℕ). MayUse (one s nobody) p.key_id (place_of path).box) at (may.boxes (inr (inr refl)))))
 
--- an allowance of 900 seconds: a link begins as much earlier, and not a second more; and it ends when it did
+-- With an allowance of 900 seconds a link begins exactly that much earlier. Its end does not change.
 module _ (s : State) (allowed : s.allowance ≡ 900) (now : ℕ) where
   begun_early : HasBegun (judged_at s now) (now + 900)
   begun_early = omega (arith, allowed)

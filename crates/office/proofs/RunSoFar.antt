@@ -1,4 +1,4 @@
--- A run as far as it has come, and one connection more.
+-- A run so far, and one more connection.
 use Rattle.std.proofs.Common.{◌≡◌, ℕ, suc, Bool, true, false, ◌+◌, ◌<◌, ◌≤◌, cond, List, [], ◌∷◌, ◌++◌, length, take, drop, set, get_or, Option, refl, sym, ap, subst, ◌∙◌, append_assoc, arith}
 use Rattle.std.specs.List.{count_by, sum_by}
 use Rattle.std.specs.Io.KnownBytes.{Appends}
@@ -56,7 +56,7 @@ held_open : {K : Type 0} (k : Ghosts K) (gave_up : Bool) (old new : K) → gave_
 held_open k true old new is held = absurd cc
 held_open k false old new is held = held.1
 
--- a keeper means one state, if it is open
+-- an open keeper means only one state
 abbrev pub MeansOne : {K : Type 0} → Ghosts K → K → Type 0
 MeansOne k keeper = (s t : State) → k.is_open keeper → k.means keeper s → k.means keeper t → s ≡ t
 
@@ -132,7 +132,7 @@ as_at_first old now i d lt lt' same =
     tails : {X : Type 0} (x y : X) (xs ys : List X) → x ∷ xs ≡ y ∷ ys → xs ≡ ys
     tails x y xs ys e = cc
 
--- the others stay
+-- the others are unchanged
 pub others_stay : {X : Type 0} (old now : List X) (i : ℕ) (d new : X) → i < length old → i < length now → drop i now ≡ drop i old → drop (i + 1) (set now i new) ≡ drop (i + 1) old
 others_stay old now i d new lt lt' same = drop-set-lt (i + 1) now i new (omega arith) ∙ (as_at_first old now i d lt lt' same).1
 

@@ -1,4 +1,4 @@
--- Connections that are served one after another are served in turn, too.
+-- Connections that are served one after another are also served in turns.
 use Rattle.std.proofs.Common.{◌≡◌, ◌<◌, ◌≤◌, ◌+◌, ℕ, suc, Bool, true, false, cond, List, [], ◌∷◌, ◌++◌, length, map, Option, Some, ⊎_elim, inl, inr, refl, sym, ap, subst, ◌∙◌, arith}
 use Rattle.std.specs.Prelude.{nat_eq}
 use Rattle.std.specs.List.{AllByRecursion}
@@ -21,7 +21,7 @@ speaks_of _ _ _ _ _ _ _ _ _ (act.answered n stream rest s after a acts moments o
     said.answered n stream rest a acts moments out (Some e) gave_up next (speaks_of n rest a.after moments out e gave_up acts after more)
 speaks_of _ _ _ _ _ _ _ _ _ (act.lost n stream rest s a front next is begins) = said.lost n stream rest a front next begins
 
--- so is it where none of them is answered whole
+-- the same if none of them is answered in full
 pub none_whole : (n : ℕ) (stream : List ℕ) (s : State) (moments out : List ℕ) (e : SessionEnd) (gave_up : Bool) (acts : List Act) (after : State)
     → (x : AreSessionActs n stream s moments out e gave_up acts after) → NoneAnswered x → AnswersNone (speaks_of n stream s moments out e gave_up acts after x)
 unfolding speaks_of
@@ -30,7 +30,7 @@ none_whole _ _ _ _ _ _ _ _ _ (act.given_up n stream rest s r now out e next read
 none_whole _ _ _ _ _ _ _ _ _ (act.answered n stream rest s after a acts moments out e gave_up next is more) none = absurd none
 none_whole _ _ _ _ _ _ _ _ _ (act.lost n stream rest s a front next is begins) none = tt
 
--- what was done was done at the moments that were told
+-- the acts were done at the moments that were told
 pub tied_of : (n : ℕ) (stream : List ℕ) (acts : List Act) (moments out : List ℕ) (e : Option SessionEnd) (gave_up : Bool) → Speaks n stream acts moments out e gave_up → AreTied moments acts
 tied_of _ _ _ _ _ _ _ (said.still_open n) = inl refl
 tied_of _ _ _ _ _ _ _ (said.over n stream s out e gave_up h) = inl refl
@@ -54,7 +54,7 @@ same_is i = grind arith
 pub less_is_not : (i j : ℕ) → i < j → nat_eq i j ≡ false
 less_is_not i j lt = grind (arith, lt)
 
--- turns of later connections alone
+-- turns of later connections only
 abbrev Later : ℕ → ℕ → List Turn → Type 0
 Later low high turns = AllByRecursion (λ t. (low ≤ t.which) × (t.which < high)) turns
 
@@ -78,7 +78,7 @@ others_spoken t ts j (c ∷ cs) lt h =
       others_spoken t ts (suc j) cs (omega arith) h.1,
     )
 
--- the turns of a run, whose connections are counted from i on
+-- the turns of a run whose connections are numbered from i on
 record HasTurns (s : State) (cs : List Connection) (moments : List ℕ) (after : State) (i : ℕ) : Type 0 where
   pub turns : List Turn
   pub order : Acts s (acts_in turns) after

@@ -1,4 +1,4 @@
--- Seats in turn: what they are as sittings, and what a turn makes of them.
+-- Seats in turns: how they relate to sittings, and the effect of a turn.
 use Rattle.std.proofs.Common.{◌≡◌, ◌<◌, ◌≤◌, ◌+◌, ℕ, zero, suc, Bool, true, false, List, [], ◌∷◌, ◌++◌, length, get_or, map, set, Option, Some, None, refl, sym, ap, subst, ◌∙◌, arith, inl, inr}
 use Rattle.std.specs.Prelude.{⊤, is_some}
 use Rattle.std.specs.List.{AllByRecursion, sum_by}
@@ -47,7 +47,7 @@ pub some_of : (e : Option SessionEnd) → is_some e ≡ true → (x : SessionEnd
 some_of None h = absurd cc
 some_of (Some x) h = (x, refl)
 
--- the same step, told of the same places and bytes
+-- the same step, with equal places and bytes
 pub steps_by : {C K : Type 0} (gives : C → ℕ → C → Type 0) (p p' : Place) (old old' new new' reader reader' output output' : Option (List ℕ)) (clock clock' : C) (k : Ghosts K) (keeper keeper' : K) (s : State) (e : Option SessionEnd)
     → p ≡ p' → old ≡ old' → new ≡ new' → reader ≡ reader'
     → Steps gives p old new reader output output' clock clock' k keeper keeper' s e → Steps gives p' old' new' reader' output output' clock clock' k keeper keeper' s e
@@ -57,7 +57,7 @@ steps_by gives p p' old old' new new' reader reader' output output' clock clock'
     (subst (λ x. Steps gives p old x reader' output output' clock clock' k keeper keeper' s e) en
     (subst (λ x. Steps gives p old new x output output' clock clock' k keeper keeper' s e) er h)))
 
--- the step of a feed that stood as its seat's
+-- the step of a feed that stood where its seat's feed stood
 pub steps_of : {C K R W : Type 0} (gives : C → ℕ → C → Type 0) (remaining : R → Option (List ℕ)) (seat : Seat R W) (standing : Standing) (new reader output output' : Option (List ℕ)) (clock clock' : C) (k : Ghosts K) (keeper keeper' : K)
     (s : State) (e e' : Option SessionEnd) → standing ≡ seat.standing → e ≡ e'
     → Steps gives (stood_at standing) (prepend_known (ahead_of standing) (remaining seat.reader.inner)) new reader output output' clock clock' k keeper keeper' s e
@@ -78,7 +78,7 @@ tells_then (Some e) a b c x y z f g = record {
 }
 
 module _ {R W : Type 0} where
-  -- since it was so at first
+  -- counted since the beginning
   abbrev pub TellsSince : Seat R W → Seat R W → Type 0
   TellsSince first now = TellsStep now.end first.reader now.reader first.writer now.writer
 
@@ -103,7 +103,7 @@ module _ {R W : Type 0} where
   tell_more (f ∷ fs) (n ∷ ns) zero d new lt t h = (tells_since f n new n.end refl h.0 t, h.1)
   tell_more (f ∷ fs) (n ∷ ns) (suc p) d new lt t h = (h.0, tell_more fs ns p d new (omega (arith, lt)) t h.1)
 
-  -- what was sent on is told by no fault
+  -- sending waiting bytes counts no fault
   sent_tells : (contents : W → Option (List ℕ)) (first old new : Seat R W) (e : Option SessionEnd) → old.end ≡ e → Sends contents old new → TellsSince first old → TellsSince first new
   sent_tells contents first old new None is g f =
       let h : TellsStep None first.reader old.reader first.writer old.writer = subst (λ e. TellsStep e first.reader old.reader first.writer old.writer) is f in
@@ -158,7 +158,8 @@ module _ {R W : Type 0} (remaining : R → Option (List ℕ)) (contents : W → 
   AreSittings (f ∷ fs) (n ∷ ns) (x ∷ xs) = (x ≡ sitting_of f n x.gave_up) × AreSittings fs ns xs
   AreSittings fs ns xs = ⊥
 
-  -- one that stands there: its connection as it was at first, and that another seat of the same connection may stand there
+  -- The sitting in place p: its connection as it was at first, and that another seat of the same connection
+  -- may take the place.
   record StandsThere (fs ns : List (Seat R W)) (xs : List Sitting) (p : ℕ) (now : Seat R W) (x : Sitting) : Type 0 where
     pub first : Seat R W
     pub is : x ≡ sitting_of first now x.gave_up
@@ -192,7 +193,7 @@ module _ {R W : Type 0} (remaining : R → Option (List ℕ)) (contents : W → 
     pub are : AreSittings fs ns sittings
     pub so_far : SoFar gives k sittings whose clock clock' keeper keeper' s after
 
-  -- it is the same, where so many were served, and it ended so
+  -- the sitting is the same if as many messages were served and the connection ended the same way
   same_sitting : (first new : Seat R W) (served : ℕ) (e : Option SessionEnd) (gave_up : Bool) → new.served ≡ served → new.end ≡ e
       → record (sitting_of first new gave_up) { served = served; end = e } ≡ sitting_of first new gave_up
   same_sitting first new served e gave_up same is =
@@ -233,7 +234,7 @@ module _ {R W : Type 0} (remaining : R → Option (List ℕ)) (contents : W → 
 
   -- ---- between two turns
 
-  -- it is the same, but for what was sent on
+  -- the sitting is the same except for what was sent
   sent_is : (first old new : Seat R W) (gave_up : Bool) → Sends contents old new → sent_on (sitting_of first old gave_up) (contents new.writer.inner) ≡ sitting_of first new gave_up
   sent_is first old new gave_up g =
       ap (λ (l : Standing). record (sitting_of first new gave_up) { left = prepend_known (ahead_of l) (remaining old.reader.inner); reader = remaining old.reader.inner; served = old.served; end = old.end }) (sym g.standing)
@@ -280,7 +281,7 @@ module _ {R W : Type 0} (remaining : R → Option (List ℕ)) (contents : W → 
           (record { all = refl; unwritten = refl; none = is.none; open_still = is.open_still; marked = refl });
     }
 
-  -- what is gathered is told by no fault
+  -- reading ahead counts no fault
   pub gathers_tell : (old new : Seat R W) → old.end ≡ None → Gathers remaining old new → TellsTurn old new
   gathers_tell old new is_open g =
       let both : TellsStep None old.reader new.reader old.writer new.writer = (g.read, ap (λ (w : Counted W). w.faults) g.writer) in
@@ -314,7 +315,7 @@ module _ {R W : Type 0} (remaining : R → Option (List ℕ)) (contents : W → 
         are_threads fs ns xs cs a.1 b.1 t.1,
       )
 
-  -- ---- how many turns they took
+  -- ---- how many turns the connections took
 
   same_took : (first now : Seat R W) (x : Sitting) → x ≡ sitting_of first now x.gave_up → took_of x ≡ turns_of now
   same_took first now x is = ap took_of is
@@ -336,7 +337,7 @@ module _ {R W : Type 0} (remaining : R → Option (List ℕ)) (contents : W → 
   sums_alike (f ∷ fs) (n ∷ ns) (x ∷ xs) a =
       omega (arith, sum_by-cons took_of x xs, sum_by-cons turns_of n ns, same_took f n x a.0, sums_alike fs ns xs a.1)
 
-  -- The connections were served in turn, in this order, and these are their threads.
+  -- The connections were served in turns in this order, and these are their threads.
   pub record Weaves {C K : Type 0} (gives : C → ℕ → C → Type 0) (k : Ghosts K) (fs ns : List (Seat R W)) (whose : List ℕ) (clock clock' : C) (keeper keeper' : K) (s after : State) : Type 0 where
     pub threads : List Thread
     pub moments : List ℕ

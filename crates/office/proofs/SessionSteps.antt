@@ -1,4 +1,4 @@
--- What one step of a session gives, and a step before the steps that follow.
+-- One step of a session, and a step before the steps that follow.
 use Rattle.std.proofs.Common.{◌≡◌, ◌<◌, ◌≤◌, ◌+◌, ◌-◌, ℕ, suc, Bool, true, false, List, [], ◌∷◌, ◌++◌, length, Option, Some, None, ◌⊎◌, inl, inr, refl, sym, ap, subst, ◌∙◌, append_assoc, arith}
 use Rattle.std.proofs.lemmas.List.{append-nil}
 use Rattle.std.specs.Io.KnownBytes.{Appends, Consumes, IsAtEnd, prepend_known}
@@ -32,7 +32,7 @@ use Rattle.office.specs.Sessions.{EndsAtOnce, HasBegunMessage, Session, MayGiveU
 use Rattle.office.specs.Sessions as session
 use Rattle.office.specs.Stepping.{Goes, IsClosed, Steps, ToCome}
 
--- ---- known bytes, one part after another
+-- ---- known bytes, part by part
 
 consumes_more : (a b c : Option (List ℕ)) (x y : List ℕ) → Consumes a b x → Consumes b c y → Consumes a c (x ++ y)
 consumes_more None b c x y h k = tt
@@ -60,12 +60,12 @@ stream_more false (Refused number) a b c x y h k = known_more a b x y h k
 stream_more false Limit a b c x y h k = known_more a b x y h k
 stream_more false WriteFault a b c x y h k = known_more a b x y h k
 
--- those that wait are taken too, as far as the reader is asked
+-- taking the waiting bytes leaves what the reader has
 all_taken : (reader : Option (List ℕ)) (waits : List ℕ) → Consumes (prepend_known waits reader) reader waits
 all_taken None waits = tt
 all_taken (Some xs) waits = refl
 
--- what is left, where it is known
+-- what is left, if it is known
 abbrev rest_of : Option (List ℕ) → List ℕ
 rest_of None = []
 rest_of (Some xs) = xs
@@ -86,17 +86,17 @@ brought_by fields old new reader p x y is h = subst (λ (z : Came). Brings z fie
 pub broke_off_by : (p : Place) (old reader : Option (List ℕ)) (x y : WireFault) → x ≡ y → BreaksOff x p old reader → BreaksOff y p old reader
 broke_off_by p old reader x y is h = subst (λ (z : WireFault). BreaksOff z p old reader) is h
 
--- ---- a step, and those that follow
+-- ---- a step and those that follow
 
 holds_more : {K : Type 0} (k : Ghosts K) (a b c : K) (gave_up : Bool) → HoldsUp k false a b → HoldsUp k gave_up b c → HoldsUp k gave_up a c
 holds_more k a b c true x y = let same = x.0 in omega (arith, same, y)
 holds_more k a b c false x y = (y.0 ∙ x.0, λ was. y.1 (x.1 was))
 
--- no session that ends otherwise than by a failed read gave up so
+-- an end other than a failed read asks for nothing more
 pub held_to : {K : Type 0} (k : Ghosts K) (a b : K) (gave_up : Bool) (e : SessionEnd) → HoldsUp k gave_up a b → (e ≡ ReadFault → ⊥) → HoldsUpTo k gave_up e a b
 held_to k a b gave_up e held other = (held, λ gave is. absurd (other is))
 
--- a call before that counted nothing
+-- an earlier call that counted nothing
 pub held_more_to : {K : Type 0} (k : Ghosts K) (a b c : K) (gave_up : Bool) (e : SessionEnd) → HoldsUp k false a b → HoldsUpTo k gave_up e b c → HoldsUpTo k gave_up e a c
 held_more_to k a b c gave_up e x (held, rose) =
     (holds_more k a b c gave_up x held, λ gave is. subst (λ (n : ℕ). Rose n (k.faults c)) x.0 (rose gave is))
@@ -119,7 +119,7 @@ ended_no_read e = cc
 truncated_no_read : Truncated ≡ ReadFault → ⊥
 truncated_no_read e = cc
 
--- refusal 40, or its beginning, says nothing of a crash
+-- refusal 40, or a prefix of it, says nothing of a crash
 given_no_more : {P : Type 0} (e : SessionEnd) → (e ≡ ReadFault → ⊥) → (true ≡ false) ⊎ (e ≡ ReadFault) → P
 given_no_more e other (inl none) = absurd cc
 given_no_more e other (inr is) = absurd (other is)
@@ -154,7 +154,7 @@ nothing_written : (a : Option (List ℕ)) → Appends a a []
 nothing_written None = tt
 nothing_written (Some p) = sym (append-nil p)
 
--- no message is served any more
+-- no more messages are served
 pub serves_none : {C K : Type 0} (gives : C → ℕ → C → Type 0) (left reader output : Option (List ℕ)) (clock : C) (k : Ghosts K) (keeper : K) (s : State) → Serves 0 gives left reader output output clock clock k keeper keeper s s Limit
 serves_none gives left reader output clock k keeper s = record {
   stream = rest_of left;
@@ -174,7 +174,7 @@ pub none_ends : {C K : Type 0} (gives : C → ℕ → C → Type 0) (left reader
 unfolding serves_none
 none_ends gives left reader output clock k keeper s = tt
 
--- what ends in its first step takes one moment at most
+-- a session that ends in its first step takes at most one moment
 pub few_moments : {n : ℕ} {stream : List ℕ} {s : State} {moments out : List ℕ} {e : SessionEnd} {gave_up : Bool} {after : State}
     → (x : Session n stream s moments out e gave_up after) → EndsAtOnce x → length moments ≤ 1
 few_moments (session.served n stream rest s mid after r now moments text out e gave_up next answers more) once = absurd once
@@ -270,7 +270,7 @@ pub record Leaves {K : Type 0} (k : Ghosts K) (old new : K) (s : State) (gave_up
   pub held : HoldsUp k gave_up old new
   pub adds : AddsStanding k old new s
 
--- calls that leave the state
+-- calls that leave the state unchanged
 pub leaves_quiet : {K : Type 0} (k : Ghosts K) (old new : K) (s : State) (gave_up : Type 0) → Quiet k old new gave_up → WasKept k old new s → (gave_up → ⊥) → Leaves k old new s false
 leaves_quiet k old new s gave_up quiet kept other = record {
   keeps = record { means = quiet.means s kept.means; sound = kept.sound };
@@ -289,12 +289,12 @@ leaves_given_up k old new s gave_up quiet kept = record {
 pub leaves_still : {K : Type 0} (k : Ghosts K) (keeper : K) (s : State) (gave_up : Bool) → IsLeft (k.means keeper) s → Leaves k keeper keeper s gave_up
 leaves_still k keeper s gave_up keeps = record { keeps = keeps; held = holds_still k keeper gave_up; adds = still }
 
--- a step without a message that ends the session
+-- a step without a message, which ends the session
 abbrev pub LastStep : ℕ → List ℕ → State → List ℕ → SessionEnd → Bool → Type 0
 LastStep n stream s text e gave_up = (x : Session (suc n) stream s [] text e gave_up s) × EndsAtOnce x
 
 module _ {C K : Type 0} (gives : C → ℕ → C → Type 0) (p : Place) (left left' reader output output' : Option (List ℕ)) (clock : C) (k : Ghosts K) (keeper keeper' : K) (s : State) where
-  -- the session ends, and the state stays
+  -- the session ends, and the state is unchanged
   pub ends : (e : SessionEnd) (gave_up : Bool) (stream text : List ℕ) → Leaves k keeper keeper' s gave_up → (gave_up ≡ true → e ≡ ReadFault → Rose (k.faults keeper) (k.faults keeper')) → IsStream gave_up e left reader stream → Appends output output' text
       → ((n : ℕ) → ToCome p (suc n) → LastStep n stream s text e gave_up) → Steps gives p left left' reader output output' clock clock k keeper keeper' s (Some e)
   ends e gave_up stream text leaves rose read written whole = (
@@ -335,7 +335,7 @@ module _ {C K : Type 0} (gives : C → ℕ → C → Type 0) (p : Place) (left l
   why_reading n front (inl (fresh, none)) all = inl (all fresh, none)
   why_reading n front (inr a) all = inr a
 
-  -- refusal 40 closed the connection before a message was read whole
+  -- refusal 40 closed the connection before a whole message was read
   pub gave_up_reading_step : (e : SessionEnd) (front : List ℕ) → Leaves k keeper keeper' s true → Consumes left reader front → ((p ≡ place.Fresh) × (front ≡ [])) ⊎ HasBegunMessage front
       → IsClosed output output' rule.TryAgain e → Steps gives p left left' reader output output' clock clock k keeper keeper' s (Some e)
   gave_up_reading_step (Refused number) front leaves taken why closed =
@@ -364,14 +364,14 @@ module _ {C K : Type 0} (gives : C → ℕ → C → Type 0) (p : Place) (left l
       ends gives p left left' reader output output clock k keeper keeper' s ReadFault false front [] leaves (λ gave is. absurd (false_no_true gave)) taken (nothing_written output)
       (λ n _. (session.read_failed n front s none, tt))
 
-  -- the same where the keeper counted a fault
+  -- the same if the keeper counted a fault
   pub read_failed_giving_up_step : (front : List ℕ) → Leaves k keeper keeper' s true → Rose (k.faults keeper) (k.faults keeper') → Consumes left reader front → Awaits front → HasBegunMessage front
       → Steps gives p left left' reader output output clock clock k keeper keeper' s (Some ReadFault)
   read_failed_giving_up_step front leaves rose taken none begun =
       ends gives p left left' reader output output clock k keeper keeper' s ReadFault true front [] leaves (λ gave is. rose) taken (nothing_written output)
       (λ n _. (session.read_failed_giving_up n front s none begun, tt))
 
--- ---- calls before a step that change nothing
+-- ---- earlier calls that change nothing
 
 -- the keeper counted nothing, and a crash leaves nothing new
 pub record Before {K : Type 0} (k : Ghosts K) (old new : K) (s : State) : Type 0 where
@@ -379,7 +379,7 @@ pub record Before {K : Type 0} (k : Ghosts K) (old new : K) (s : State) : Type 0
   pub open_still : k.is_open old → k.is_open new
   pub adds : AddsStanding k old new s
 
--- calls that leave the state, and did not give up
+-- calls that leave the state unchanged and did not give up
 pub before_quiet : {K : Type 0} (k : Ghosts K) (a b : K) (s : State) (gave_up : Type 0) → Quiet k a b gave_up → (gave_up → ⊥) → k.means a s → k.is_honest b → Before k a b s
 before_quiet k a b s gave_up quiet other means honest =
     record { faults = quiet.rest.counted other; open_still = λ was. quiet.rest.opened honest was other; adds = quiet.crash s means honest }
@@ -431,8 +431,8 @@ steps_after gives p left left' reader output output' clock clock' k a b c s (Som
 
 -- ---- the messages so far
 
--- What follows the messages so far makes the session whole. left, output, clock, keeper and s: at first; those with a
--- dash: now.
+-- Everything that can follow the messages so far completes the session. left, output, clock, keeper and s: at
+-- first; those with a dash: now.
 pub record Follows {C K : Type 0} (gives : C → ℕ → C → Type 0) (counter : ℕ) (left left' output output' : Option (List ℕ)) (clock clock' : C) (k : Ghosts K) (keeper keeper' : K) (s mid : State) : Type 0 where
   pub whole : (n : ℕ) (reader last : Option (List ℕ)) (end : C) (sum : K) (after : State) (e : SessionEnd) → n + counter ≡ session.most_messages
       → Serves n gives left' reader output' last clock' end k keeper' sum mid after e → Serves session.most_messages gives left reader output last clock end k keeper sum s after e
@@ -463,7 +463,7 @@ module _ {C K : Type 0} (gives : C → ℕ → C → Type 0) (counter : ℕ) (le
 
 -- ---- the feed of a reader
 
--- a new feed has left what its reader has
+-- a new feed has left exactly what its reader has
 pub fresh_left : (waits : List ℕ) (known : Option (List ℕ)) → waits ≡ [] → prepend_known waits known ≡ known
 fresh_left waits None empty = refl
 fresh_left waits (Some xs) empty = ap (λ (t : List ℕ). Some (t ++ xs)) empty

@@ -1,4 +1,4 @@
--- A connection as it is now, among others, and what a turn makes of it.
+-- One connection among others as it is now, and the effect of a turn on it.
 use Rattle.std.proofs.Common.{◌≡◌, ◌≤◌, ◌+◌, ℕ, suc, Bool, true, false, List, [], ◌∷◌, ◌++◌, Option, Some, None, sym, ap, subst, ◌∙◌, append_assoc, arith}
 use Rattle.std.proofs.KnownBytes.{Appends-kept, Appends-nil, Appends-trans, Consumes-kept, Consumes-nil, Consumes-trans}
 use Rattle.std.specs.Io.KnownBytes.{Appends, Consumes, Keeps}
@@ -13,8 +13,8 @@ use Rattle.office.specs.Stepping.{Goes}
 use Rattle.office.specs.declared.connections.session.SessionEnd.{SessionEnd}
 use Rattle.office.specs.declared.connections.session.SessionEnd.TheVariants.{Ended, Truncated, Refused, Limit, ReadFault, WriteFault}
 
--- Known bytes: of its stream at first, left of it in all, and left in its reader; of its answers at first and now. How many
--- messages were served, how it ended, and whether it gave up.
+-- Known bytes: of its stream at first, what is left of it in all, and what is left in its reader; of its
+-- answers at first and now. Also how many messages were served, how it ended, and whether it gave up.
 pub record Sitting : Type 0 where
   pub input : Option (List ℕ)
   pub left : Option (List ℕ)
@@ -25,7 +25,8 @@ pub record Sitting : Type 0 where
   pub end : Option SessionEnd
   pub gave_up : Bool
 
--- What holds of one that is open: so much was taken and written in these turns of it; and whatever turns follow make the whole.
+-- An open connection: what was taken and written in these turns, and that all turns that can follow complete
+-- it.
 pub record Heard (x : Sitting) (turns : List Turn) : Type 0 where
   pub front : List ℕ
   pub text : List ℕ
@@ -36,7 +37,7 @@ pub record Heard (x : Sitting) (turns : List Turn) : Type 0 where
   pub follows : (n m : ℕ) (stream : List ℕ) (later : List Turn) (out : List ℕ) (e : Option SessionEnd) (gave_up : Bool) → n + x.served ≡ m
       → SpeaksInTurns n stream later out e gave_up → SpeaksInTurns m (front ++ stream) (turns ++ later) (text ++ out) e gave_up
 
--- the same of one that ended
+-- the same for a connection that ended
 pub record Closed (x : Sitting) (e : SessionEnd) (turns : List Turn) : Type 0 where
   pub stream : List ℕ
   pub answers : List ℕ
@@ -48,11 +49,11 @@ abbrev pub SitsSo : Option SessionEnd → Sitting → List Turn → Type 0
 SitsSo None x turns = Heard x turns
 SitsSo (Some e) x turns = Closed x e turns
 
--- since it was so at first, it had these turns
+-- these are its turns since the beginning
 abbrev pub Sits : Sitting → List Turn → Type 0
 Sits x turns = SitsSo x.end x turns
 
--- ---- known bytes, one part after another
+-- ---- known bytes, part by part
 
 known_more : (a b : Option (List ℕ)) (x y : List ℕ) → Consumes a b x → IsKnown b y → IsKnown a (x ++ y)
 known_more None b x y h k = tt
@@ -81,9 +82,9 @@ open_sits x turns is h = subst (λ e. SitsSo e x turns) is h
 pub sits_open : (x : Sitting) (turns : List Turn) → x.end ≡ None → Heard x turns → Sits x turns
 sits_open x turns is h = subst (λ e. SitsSo e x turns) (sym is) h
 
--- ---- one that is new
+-- ---- a new connection
 
--- nothing of it was served
+-- none of its messages was served
 pub record IsFirst (x : Sitting) : Type 0 where
   pub all : x.left ≡ x.input
   pub unwritten : x.written ≡ x.output
@@ -102,7 +103,7 @@ first_sits x is = sits_open x [] is.open_still (record {
   follows = λ n m stream later out e gave_up sum sp. let same : n ≡ m = omega (arith, sum, is.none) in subst (λ k. SpeaksInTurns k stream later out e gave_up) same sp;
 })
 
--- ---- bytes of it are sent on
+-- ---- waiting bytes are sent
 
 abbrev pub sent_on : Sitting → Option (List ℕ) → Sitting
 sent_on x written = record x { written = written }
@@ -128,7 +129,7 @@ sent_so x written turns (Some e) holds h = record {
 pub sent_sits : (x : Sitting) (written : Option (List ℕ)) (turns : List Turn) → Keeps x.written written → Sits x turns → Sits (sent_on x written) turns
 sent_sits x written turns holds h = sent_so x written turns x.end holds h
 
--- ---- bytes of it are read ahead
+-- ---- bytes are read ahead
 
 abbrev pub gathered : Sitting → Option (List ℕ) → Option (List ℕ) → Sitting
 gathered x left reader = record x { left = left; reader = reader }
@@ -174,7 +175,7 @@ module _ {C K : Type 0} {gives : C → ℕ → C → Type 0} {k : Ghosts K} (x :
         (ap (λ (x : List ℕ). h.text ++ (x ++ out)) text_is ∙ sym (append_assoc h.text g.text out)) all;
   }
 
--- ---- it ends
+-- ---- the connection ends
 
 abbrev pub closed : Sitting → Option (List ℕ) → Option (List ℕ) → Option (List ℕ) → SessionEnd → Bool → Sitting
 closed x left reader written e gave_up = record x { left = left; reader = reader; written = written; end = Some e; gave_up = gave_up }

@@ -1,4 +1,4 @@
--- Whether staged bytes stand already, by the receipt of what stands.
+-- Whether the staged bytes are already stored, by the receipt of what is there.
 use Rattle.std.proofs.Common.{◌≡◌, ◌∙◌, ℕ, List, true, Option, Some, None, length, refl, ap, subst}
 use Rattle.std.specs.Cmp.Lexicographic.{pointwise}
 use Rattle.std.specs.Prelude.{option_map, nat_eq, IsSomeAnd}
@@ -14,7 +14,7 @@ use Rattle.boxes.specs.Steps.{HasReceipt}
 use Rattle.boxes.specs.Views.{IsReceiptAt}
 use Rattle.office.proofs.Standing.{receipt_once}
 
--- what stands there
+-- the file that is there
 record Holds (s : State) (u : Upload) : Type 0 where
   file : File
   there : get s.files u.place ≡ Some file
@@ -30,13 +30,13 @@ some_is x y e = cc
 none_is : (x : ℕ) → None ≡ Some x → ⊥
 none_is x e = cc
 
--- where there is no receipt, nothing stands
+-- if there is no receipt, there is no file
 pub none_stands : (s : State) (u : Upload) → IsReceiptAt s u.place None → Stands s u → ⊥
 none_stands s u is stands =
     let h = found s u (get s.files u.place) refl stands in
     none_is h.file.receipt (is.there ∙ ap (option_map (λ (f : File). f.receipt)) h.there)
 
--- the receipt of bytes that stand is of their length and their digest
+-- the receipt of stored bytes has their length and their digest
 pub its_receipt : (s : State) (u : Upload) (row : ReceiptRow) → IsSound s → IsReceiptAt s u.place (Some row) → Stands s u
     → (row.size ≡ length u.bytes) × (row.digest ≡ sha256 u.bytes)
 its_receipt s u row sound is stands =
@@ -46,6 +46,6 @@ its_receipt s u row sound is stands =
     let same = receipt_once s h.file.receipt (receipt_in row) f.receipt (subst (λ (n : ℕ). HasReceipt s n (receipt_in row)) number (is.receipt row refl)) f.listed in
     (ap (λ (r : Receipt). r.size) same ∙ f.size ∙ ap length h.bytes, ap (λ (r : Receipt). r.digest) same ∙ f.digest ∙ ap sha256 h.bytes)
 
--- digests that are the same are told to be
+-- equal digests compare as equal
 pub digests_same : (a b : List ℕ) → a ≡ b → pointwise nat_eq a b ≡ true
 digests_same a b same = subst (λ (x : List ℕ). pointwise nat_eq a x ≡ true) same (nat_list_eq_equiv.refl a)

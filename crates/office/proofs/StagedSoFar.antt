@@ -9,7 +9,7 @@ use Rattle.wire.specs.Feeds.{left, place_of}
 use Rattle.wire.specs.declared.feed.Feed.{Feed}
 use Rattle.wire.specs.declared.feed.Place.TheVariants as place
 
--- of the body of size bytes that was open some came, it is open still, and these are staged and were hashed
+-- some of the open body of size bytes came and is still open; these bytes are staged and hashed
 pub record HasStaged {R K : Type 0} (remaining : R → Option (List ℕ)) (size : ℕ) (old new : Feed R) (k : Ghosts K) (keeper : K) (sha : Sha) : Type 0 where
   pub given : List ℕ
   pub fits : length given ≤ size
@@ -19,7 +19,7 @@ pub record HasStaged {R K : Type 0} (remaining : R → Option (List ℕ)) (size 
   pub hashed : ShaHolds sha given
   pub octets : AreBytes given
 
--- a front of the bytes is staged, and this is the rest
+-- a prefix of the bytes is staged, and this is the rest
 pub record HasStagedFront {K : Type 0} (k : Ghosts K) (keeper : K) (bytes rest : List ℕ) : Type 0 where
   pub given : List ℕ
   pub staged : k.stages keeper given

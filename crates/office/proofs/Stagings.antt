@@ -1,4 +1,4 @@
--- A body that is staged piece after piece, and how its reading ends.
+-- A body that is staged piece by piece, and how reading it ends.
 use Rattle.std.proofs.Common.{◌≡◌, ◌<◌, ◌≤◌, ◌+◌, ◌-◌, ℕ, List, [], ◌∷◌, ◌++◌, length, Option, Result, Ok, Err, arith, ap, subst, ◌∙◌, length-append}
 use Rattle.std.proofs.KnownBytes.{Consumes-kept, Consumes-nil, Consumes-trans, Keeps-refl}
 use Rattle.std.specs.Borrow.{Bor}
@@ -30,12 +30,12 @@ bytes_joined : (xs ys : List ℕ) → AreBytes xs → AreBytes ys → AreBytes (
 bytes_joined [] ys a b = b
 bytes_joined (x ∷ xs) ys a b = (a.0, bytes_joined xs ys a.1 b)
 
--- what waits was taken from the reader, too
+-- the waiting bytes were taken from the reader too
 pub reader_taken : (start reader : Option (List ℕ)) (given waits : List ℕ) → Consumes start (prepend_known waits reader) given → Consumes start reader (given ++ waits)
 reader_taken start reader given waits taken =
     Consumes-trans start (prepend_known waits reader) reader given waits taken (consumes_waiting (prepend_known waits reader) reader waits (Keeps-refl (prepend_known waits reader)))
 
--- nothing was read, but what waits
+-- nothing was read except what waits
 pub nothing_read : (reader : Option (List ℕ)) (waits : List ℕ) → (given : List ℕ) × Consumes (prepend_known waits reader) reader given
 nothing_read reader waits = (waits, consumes_waiting (prepend_known waits reader) reader waits (Keeps-refl (prepend_known waits reader)))
 
@@ -58,7 +58,7 @@ broken_given size n q start known reader waits given fault.Memory taken both g =
 broken_given size n q start known reader waits given fault.Write taken both g = absurd g
 
 module _ {R K : Type 0} {remaining : R → Option (List ℕ)} {size : ℕ} {k : Ghosts K} where
-  -- it was read so far
+  -- the body was read this far
   abbrev pub as_skipped : {first here : Feed R} {keeper : K} {sha : Sha} → HasStaged remaining size first here k keeper sha → HasSkipped remaining size first here
   as_skipped h = record { given = h.given; fits = h.fits; open_still = h.open_still; taken = h.taken }
 
@@ -110,7 +110,7 @@ module _ {R K : Type 0} {remaining : R → Option (List ℕ)} {size : ℕ} {k : 
       let reader = remaining (reader_of next).inner in
       (m.given ++ waits_in next, reader_taken (left remaining first) reader m.given (waits_in next) m.taken)
 
-  -- the body is whole
+  -- the body is complete
   pub stages_whole : (first here next : Feed R) (keeper : K) (sha : Sha) (result : Result (Piece (Bor (List ℕ))) WireFault) (digest : List ℕ) → HasStaged remaining size first here k keeper sha
       → result ≡ Ok piece.Done
       → GivesPiece (place_of here) (left remaining here) (part result) (place_of next) (waits_in next) (remaining (reader_of next).inner)
@@ -142,7 +142,7 @@ module _ {R K : Type 0} {remaining : R → Option (List ℕ)} {size : ℕ} {k : 
       let b = broken_given size n (place_of next) (left remaining first) (left remaining here) reader (waits_in next) h.given f h.taken both g in
       (h.given, b.0, b.1)
 
-  -- the stream ended
+  -- the stream ended within the body
   pub stages_lacking : (first here next : Feed R) (keeper : K) (sha : Sha) (result : Result (Piece (Bor (List ℕ))) WireFault) (r : Refusal) → HasStaged remaining size first here k keeper sha
       → result ≡ Ok (piece.Refused r)
       → GivesPiece (place_of here) (left remaining here) (part result) (place_of next) (waits_in next) (remaining (reader_of next).inner)

@@ -1,4 +1,4 @@
--- A file that stands with its receipt: which steps leave it, and what an upload of its bytes is answered.
+-- A file that is stored with its receipt: which steps keep it, and the answer to an upload of its bytes.
 use Rattle.std.proofs.Common.{◌≡◌, ◌∙◌, ◌≤◌, ℕ, zero, suc, ◌+◌, List, [], ◌∷◌, ◌++◌, length, true, false, cond, Option, Some, None, inl, refl, sym, ap, subst, arith}
 use Rattle.std.specs.Prelude.{slice_get, IsSome, IsNone, IfSome, IsSomeAnd}
 use Rattle.std.specs.FinMap.{get, insert, remove, get-insert, get-remove}
@@ -17,7 +17,7 @@ use Rattle.boxes.proofs.Lookups.{bytes_same, bytes_total, equal_is, place_total}
 use Rattle.wire.specs.Answers.{Said}
 use Rattle.office.specs.Answering.{shown}
 
--- these bytes stand at the place, in a box that takes the name, and their receipt is what is said
+-- these bytes are stored at the place, in a box that takes the name, and said is their receipt
 pub record StandsWith (place : Place) (bytes : List ℕ) (said : Said) (s : State) : Type 0 where
   pub file : File
   pub there : get s.files place ≡ Some file
@@ -31,7 +31,7 @@ pub record StandsWith (place : Place) (bytes : List ℕ) (said : Said) (s : Stat
   pub named : IsName place.name
   pub fits : Fits box.rule place.name
 
--- what stands at the place in the one state stands in the other, and so do the receipts, and the name rule of the box
+-- the file at the place, the receipts and the name rule of the box are the same in both states
 record Keeps (place : Place) (s t : State) : Type 0 where
   file : get t.files place ≡ get s.files place
   receipts : (n : ℕ) (r : Receipt) → HasReceipt s n r → HasReceipt t n r
@@ -86,7 +86,7 @@ some_and {X = X} P o x e h = subst (λ (p : Option X). IsSomeAnd p P) (sym e) h
 pub same_some : {X : Type 0} (x y : X) (o : Option X) → o ≡ Some x → o ≡ Some y → x ≡ y
 same_some x y o e f = cc
 
--- a number has one receipt
+-- a number has at most one receipt
 pub receipt_once : (s : State) (n : ℕ) (r q : Receipt) → HasReceipt s n r → HasReceipt s n q → r ≡ q
 receipt_once s n r q h k =
     let counted = h.counted in
@@ -96,7 +96,7 @@ receipt_once s n r q h k =
 
 -- ---- desk commands
 
--- each command keeps the file, but the one that drops it
+-- each command keeps the file, except the one that drops it
 pub command_keeps : (place : Place) (bytes : List ℕ) (said : Said) (s : State) (command : Command) (after : State) → IsPossible s command → (command ≡ DropFile place → ⊥)
     → CommandStep s command after → StandsWith place bytes said s → StandsWith place bytes said after
 command_keeps place bytes said s command after possible other does h = carried place bytes said s after (keeps command after possible other does) h
@@ -167,7 +167,7 @@ upload_keeps place bytes said s u _ _ same (taken new) h =
     file : File
     file = record { bytes = u.bytes; receipt = length s.receipts + 1 }
 
--- an upload that is accepted stands, with the receipt that it is answered
+-- an accepted upload is stored, with the receipt of its answer
 pub upload_stands : (s : State) (u : Upload) (reply : step.StepReply) (after : State) → ((q : Refusal) → UploadRule q s u) → UploadStep s u reply after
     → StandsWith u.place u.bytes (shown reply) after
 upload_stands s u _ _ rules (again f r there holds listed) =
@@ -212,7 +212,7 @@ place_rule place bytes said s h rule.NameTooLong = h.short
 place_rule place bytes said s h rule.NameNotAllowed = (h.named, of_some (λ b. Fits b.rule place.name) (get s.boxes place.box) h.box h.in_box h.fits)
 place_rule place bytes said s h _ = tt
 
--- where its bytes stand no rule refuses an upload
+-- if its bytes are there already, no rule refuses an upload
 pub upload_rules : (said : Said) (s : State) (u : Upload) → StandsWith u.place u.bytes said s → (q : Refusal) → UploadRule q s u
 upload_rules said s u h q = (place_rule u.place u.bytes said s h q, inl (stands said s u h))
 

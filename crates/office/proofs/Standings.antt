@@ -1,4 +1,4 @@
--- Which connections went and which stand in slots, in one list: what becomes of it where a slot changes.
+-- The connections that went and those in slots, as one list, and how it changes when a slot changes.
 use Rattle.std.proofs.Common.{◌≡◌, ◌<◌, ℕ, zero, suc, List, [], ◌∷◌, ◌++◌, length, get_or, set, take, drop, remove, swap, IsPermutation, Option, Some, None, refl, sym, ap, subst, ◌∙◌, append_assoc, set-set, get_or-set_same, get_or-set_other, length-set, ⊎_elim, arith}
 use Rattle.std.proofs.lemmas.Bool.{cases_eq}
 use Rattle.std.proofs.lemmas.List.{set-get_or, set_comm, set_split}
@@ -12,7 +12,8 @@ module _ {X : Type 0} where
   set_parts : (l : List X) (n : ℕ) (x : X) → n < length l → IsPermutation (set l n x) (x ∷ remove l n)
   set_parts l n x lt = subst (λ (m : List X). IsPermutation m (x ∷ remove l n)) (sym (set_split l n x lt)) (IsPermutation-middle (take n l) x (drop (suc n) l))
 
-  -- an exchange of two places, where another was put into the first of them before, or into the second behind
+  -- swapping two places, after another item was put into the first, is swapping them and then putting it into
+  -- the second
   swap_first : (l : List X) (i j : ℕ) (x : X) → i < length l → j < length l → swap (set l i x) i j ≡ set (swap l i j) j x
   swap_first l i j x lt lt' =
       let m = set l i x in
@@ -31,7 +32,7 @@ module _ {X : Type 0} where
   swap_flips : (l : List X) (i j : ℕ) (d : X) → (i ≡ j → ⊥) → i < length l → j < length l → swap l i j ≡ swap l j i
   swap_flips l i j d ne lt lt' = sym (swap_is l i j d lt lt') ∙ set_comm l i j (get_or l j d) (get_or l i d) ne ∙ swap_is l j i d lt' lt
 
-  -- where another was put into a third
+  -- the same when another item was put into a third place
   swap_other : (l : List X) (i j k : ℕ) (x : X) → (k ≡ i → ⊥) → (k ≡ j → ⊥) → i < length l → j < length l → swap (set l k x) i j ≡ set (swap l i j) k x
   swap_other l i j k x ni nj lt lt' =
       let m = set l k x in
@@ -43,9 +44,10 @@ module _ {X : Type 0} where
       ∙ set_comm (set l i (get_or l j x)) k j x (get_or l i x) nj
       ∙ ap (λ (n : List X). set n k x) (swap_is l i j x lt lt')
 
-  -- ---- another in a place
+  -- ---- putting another item into a place
 
-  -- One stands in the list, which with any other in its place has this one and what xs has.
+  -- The list holds this item. With any other item in its place, the list is a permutation of that item and
+  -- xs.
   abbrev Stands : X → List X → List X → Type 0
   Stands old xs l = (k : ℕ) × (k < length l) × (old ≡ get_or l k old) × ((new : X) → IsPermutation (new ∷ xs) (set l k new))
 
@@ -88,7 +90,7 @@ module _ {X : Type 0} where
         (cases_eq s.0 j))
         (cases_eq s.0 i)
 
-    -- one before both, and another in its place
+    -- one item before both lists, and another in its place
     stands_before : (ys : List X) → Stands old xs (old ∷ ys) → (new : X) → IsPermutation (new ∷ xs) (new ∷ ys)
     stands_before ys (zero, lt, is, so) new = so new
     stands_before ys (suc k, lt, is, so) new =
@@ -103,7 +105,7 @@ module _ {X : Type 0} where
 
   -- ---- slots
 
-  -- the one in a slot, and those in the others
+  -- the item in a slot, and those in the other slots
   slot_parts : (slots : List (Option X)) (p : ℕ) (x : X) → p < length slots → IsPermutation (standing_in (set slots p (Some x))) (x ∷ standing_in (set slots p None))
   slot_parts [] p x lt = absurd (omega (arith, lt))
   slot_parts (o ∷ slots) zero x lt = IsPermutation-refl (x ∷ standing_in slots)
@@ -119,11 +121,11 @@ module _ {X : Type 0} where
   slot_comes : (slots : List (Option X)) (p : ℕ) (new : X) → p < length slots → slot_at slots p ≡ None → IsPermutation (standing_in (set slots p (Some new))) (new ∷ standing_in slots)
   slot_comes slots p new lt free = subst (λ (l : List (Option X)). IsPermutation (standing_in (set slots p (Some new))) (new ∷ standing_in l)) (slot_stays slots p None free) (slot_parts slots p new lt)
 
-  -- one before those that stand, and behind those that went
+  -- an item before those that stand, and after those that went
   between_both : (gone standing rest : List X) (x : X) → IsPermutation standing (x ∷ rest) → IsPermutation (gone ++ standing) (x ∷ gone ++ rest)
   between_both gone standing rest x parts = IsPermutation-trans _ _ _ (IsPermutation-append_right gone standing (x ∷ rest) parts) (IsPermutation-middle gone x rest)
 
-  -- ---- all that came
+  -- ---- all connections that came
 
   pub all_none : (slots : List (Option X)) → ((p : ℕ) → slot_at slots p ≡ None) → IsPermutation [] ([] ++ standing_in slots)
   all_none slots free = subst (λ (l : List X). IsPermutation [] l) (sym (none_stands slots free)) (IsPermutation-refl [])
@@ -133,13 +135,13 @@ module _ {X : Type 0} where
       none_stands (o ∷ slots) free = ap (λ (v : Option X). those_of v ++ standing_in slots) (free 0) ∙ none_stands slots (λ p. free (suc p))
 
   module _ (seats gone : List X) (slots : List (Option X)) (all : IsPermutation seats (gone ++ standing_in slots)) (p : ℕ) (lt : p < length slots) where
-    -- one more comes into a slot that is free
+    -- one more comes into a free slot
     pub all_comes : (new : X) → slot_at slots p ≡ None → IsPermutation (seats ++ new ∷ []) (gone ++ standing_in (set slots p (Some new)))
     all_comes new free =
         IsPermutation-trans _ _ _ (IsPermutation-to_front seats new)
         (IsPermutation-trans _ _ _ (IsPermutation-cons new _ _ all) (IsPermutation-sym _ _ (between_both gone _ (standing_in slots) new (slot_comes slots p new lt free))))
 
-    -- the one in a slot goes
+    -- the connection in a slot goes
     pub all_goes : (old : X) → slot_at slots p ≡ Some old → IsPermutation seats ((gone ++ old ∷ []) ++ standing_in (set slots p None))
     all_goes old at =
         subst (IsPermutation seats) (sym (append_assoc gone (old ∷ []) (standing_in (set slots p None)))) (IsPermutation-trans _ _ _ all (IsPermutation-append_right gone _ _ (slot_goes slots p old lt at)))

@@ -1,4 +1,4 @@
--- Connections that have a slot among all that came: which of them they are.
+-- The connections in slots, and their places among all that came.
 use Rattle.std.proofs.Common.{⊎_elim, ◌≡◌, ◌<◌, ◌+◌, ℕ, zero, suc, true, false, cond, List, [], ◌∷◌, ◌++◌, length, set, Option, Some, None, refl, sym, ap, ◌∙◌, arith}
 use Rattle.std.specs.Prelude.{nat_eq, slice_get}
 use Rattle.std.specs.List.{AllByRecursion}
@@ -16,7 +16,7 @@ pub number_there : (p n : ℕ) (number : ℕ → ℕ) (q : ℕ) → (q ≡ p →
 unfolding number_of
 number_there p n number q ne = let not : nat_eq q p ≡ false = grind (arith, ne) in ap (λ b. cond b n (number q)) not
 
--- ---- what stands in a list
+-- ---- items of a list
 
 pub some_is : {X : Type 0} (a b : X) → Some a ≡ Some b → a ≡ b
 some_is a b e = cc
@@ -63,12 +63,13 @@ module _ {X : Type 0} where
 
   -- ---- the ties
 
-  -- Each in a slot is the one of its number, and each has a number of its own.
+  -- The connection in each slot is the one with the slot's number, and no two slots have the same number.
   pub record Ties (slots : List (Option X)) (number : ℕ → ℕ) (all : List X) : Type 0 where
     pub each : (p : ℕ) (x : X) → slot_at slots p ≡ Some x → slice_get all (number p) ≡ Some x
     pub apart : (p q : ℕ) (a b : X) → slot_at slots p ≡ Some a → slot_at slots q ≡ Some b → number p ≡ number q → p ≡ q
 
-  -- each in a slot has the number of the slot; in all it is as many less as came before them all
+  -- the connection in each slot has the slot's number; its index in the list is less by the count of those
+  -- before
   abbrev pub AreNumbered : List (Option X) → (ℕ → ℕ) → ℕ → (ℕ → ℕ) → Type 0
   AreNumbered slots numbers first number = (p : ℕ) (x : X) → slot_at slots p ≡ Some x → numbers p ≡ first + number p
 
@@ -79,7 +80,7 @@ module _ {X : Type 0} where
     there : (v : Option X) (q : ℕ) → (q ≡ p → ⊥) → slot_at (set slots p v) q ≡ slot_at slots q
     there v q ne = get_or-set_other slots p q v None ne
 
-    -- another takes the place of the one that stands there
+    -- another takes the place of the connection there
     module _ (old new : X) (at : slot_at slots p ≡ Some old) where
       had : (q : ℕ) (a : X) → slot_at (set slots p (Some new)) q ≡ Some a → (b : X) × (slot_at slots q ≡ Some b)
       had q a now = ⊎_elim (λ (e : q ≡ p). (old, ap (slot_at slots) e ∙ at)) (λ (ne : q ≡ p → ⊥). (a, sym (there (Some new) q ne) ∙ now)) (cases_eq q p)
@@ -105,7 +106,7 @@ module _ {X : Type 0} where
       pub numbered_set : (numbers : ℕ → ℕ) (first : ℕ) → AreNumbered slots numbers first number → AreNumbered (set slots p (Some new)) numbers first number
       numbered_set numbers first h = λ q a now. let was = had q a now in h q was.0 was.1
 
-    -- one more comes there
+    -- one more connection comes there
     module _ (new : X) where
       each_comes : (q : ℕ) (a : X) → slot_at (set slots p (Some new)) q ≡ Some a → slice_get (all ++ new ∷ []) (number_of p (length all) number q) ≡ Some a
       each_comes q a now =
@@ -151,7 +152,7 @@ module _ {X : Type 0} where
           omega (arith, number_there p n numbers q ne, number_there p (length all) number q ne, was))
           (cases_eq q p)
 
-    -- the one there goes
+    -- the connection there goes
     apart_from : (q : ℕ) (a : X) → slot_at (set slots p None) q ≡ Some a → q ≡ p → ⊥
     apart_from q a now e = none_is a (sym (here None q e) ∙ now)
 
@@ -169,7 +170,7 @@ module _ {X : Type 0} where
 
   -- ---- the ends
 
-  -- none has a slot, and none came
+  -- no connection is in a slot, and none came
   pub ties_none : (slots : List (Option X)) → ((p : ℕ) → slot_at slots p ≡ None) → Ties slots (λ p. p) []
   ties_none slots free = record {
     each = λ p x at. absurd (none_is x (sym (free p) ∙ at));

@@ -13,11 +13,11 @@ told_fixed c later (m ∷ moments) t =
     let others : moments ≡ replicate (length moments) c.moment = rest ∙ ap (λ (n : ℕ). replicate (length moments) n) same in
     ap (λ (n : ℕ). n ∷ moments) t.1.0 ∙ ap (λ (ms : List ℕ). c.moment ∷ ms) others
 
--- what stands behind one moment
+-- what follows one moment
 abbrev Next : ListedClock → ListedClock → List ℕ → Type 0
 Next c d others = NextOf c.first others d.first d.others.now
 
--- by the moment that comes next, and those after it
+-- by the next moment and those after it
 told_from : (c later : ListedClock) (first : ℕ) (others : List ℕ) (moments : List ℕ) → c.first ≡ first → c.others.now ≡ others → TellsMoments TellsNext c moments later → moments ≡ listed (length moments) first others
 told_from c later first others [] a b t = refl
 told_from c later first [] (m ∷ moments) a b t =

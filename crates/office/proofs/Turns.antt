@@ -1,4 +1,4 @@
--- Connections served in turn, and one more.
+-- Connections that were served in order, and one more.
 use Rattle.std.proofs.Common.{◌≡◌, ℕ, zero, suc, ◌+◌, ◌<◌, cond, List, [], ◌∷◌, ◌++◌, length, map, replicate, slice_index_or, Bor, Option, Some, Result, Ok, Err, refl, sym, ap, subst, ◌∙◌, append_assoc, arith}
 use Rattle.std.proofs.KnownBytes.{Appends-nil, Appends-trans}
 use Rattle.std.specs.Prelude.{slice_get}
@@ -57,13 +57,13 @@ turn_more gives output mid_output output' input input' clock clock' k keeper kee
       faulty = counted ∙ ap (λ k. k + cond (is_fault e) 1 0) t.faulty ∙ sym (count_more t.connections c);
     }
 
--- none was served yet over a keeper
+-- none was served yet, over a keeper
 pub none_over : {K : Type 0} (k : Ghosts K) (keeper : K) (output : Option (List ℕ)) (s : State) (moment : ℕ) → MeansOne k keeper → IsLeft (k.means keeper) s
     → InTurnOver k keeper keeper output output s s moment 0 0
 unfolding no_turn
 none_over k keeper output s moment one left = record { turn = no_turn output s moment; opened = none_opened k keeper s one left; survives = survives_same still }
 
--- one more was served over the keeper
+-- one more was served, over a keeper
 pub over_more : {C K : Type 0} (gives : C → ℕ → C → Type 0) (output mid_output output' input input' : Option (List ℕ)) (clock clock' : C) (k : Ghosts K) (first keeper keeper' : K) (s mid after : State)
     (moment n n' faults faults' : ℕ) (e : SessionEnd) → MeansOne k keeper' → IsLeft (k.means keeper') after → InTurnOver k first keeper output mid_output s mid moment n faults
     → ((moments : List ℕ) (later : C) → TellsMoments gives clock moments later → moments ≡ replicate (length moments) moment)
@@ -76,13 +76,13 @@ over_more gives output mid_output output' input input' clock clock' k first keep
   survives = then_survives t.survives served.survives;
 }
 
--- whatever became of the keeper
+-- the turns, whatever the keeper does
 pub turns_only : {K : Type 0} (k : Ghosts K) (keeper keeper' : K) (output output' : Option (List ℕ)) (s after : State) (moment : ℕ) (streams : List (Bor (List ℕ))) (result : Result ℕ (Bor (List ℕ)))
     → TakesTurns (InTurnOver k keeper keeper' output output' s after moment) streams result → TakesTurns (InTurn output output' s after moment) streams result
 turns_only k keeper keeper' output output' s after moment streams (Ok faults) t = t.turn
 turns_only k keeper keeper' output output' s after moment streams (Err name) t = (t.0, t.1, t.2.turn, t.3)
 
--- the name at which a loop over names stands
+-- the name that a loop over names has reached
 pub name_at : (xs : List (Bor (List ℕ))) (i : ℕ) (d : Bor (List ℕ)) → i < length xs → slice_get (map (λ t. t.now) xs) i ≡ Some (slice_index_or xs i d).now
 name_at [] i d within = absurd (omega arith)
 name_at (x ∷ xs) zero d within = refl

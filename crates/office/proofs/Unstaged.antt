@@ -1,4 +1,4 @@
--- How the keeper holds up over several calls, and that nothing stays staged.
+-- How the keeper holds up over several calls, and that nothing is left staged.
 use Rattle.std.proofs.Common.{◌≡◌, ℕ, ◌≤◌, Option, None, Some, Result, Ok, Err, inl, inr, arith, refl, sym, List, ◌∙◌}
 use Rattle.std.specs.Prelude.{IsSomeAnd, OnErr}
 use Rattle.std.proofs.lemmas.Bool.{cases_lt}
@@ -15,7 +15,7 @@ use Rattle.office.specs.Connections.{MayGiveUp}
 use Rattle.office.specs.Premise.{EndsUnstaged, HoldsUnless, IsFault}
 use Rattle.office.proofs.Holding.{holds_less, holds_then}
 
--- a count that did not fall before rose over both
+-- if the count did not fall before a rise, it rose over both
 pub rose_later : (a b c : ℕ) → a ≤ b → Rose b c → Rose a c
 rose_later a b c least (inl more) = inl (omega (arith, least, more))
 rose_later a b c least (inr (top, same)) =
@@ -24,7 +24,7 @@ rose_later a b c least (inr (top, same)) =
       | inr most ↦ let e : a ≡ b = omega (arith, least, most) in inr (e ∙ top, same ∙ sym e)
     ]
 
--- a count that rose did not fall behind
+-- if the count did not fall after a rise, it rose over both
 pub rose_before : (a b c : ℕ) → Rose a b → b ≤ c → Rose a c
 rose_before a b c (inl less) most = inl (omega (arith, less, most))
 rose_before a b c (inr (top, same)) most =
@@ -37,12 +37,12 @@ pub rose_least : (a b : ℕ) → Rose a b → a ≤ b
 rose_least a b (inl less) = omega (arith, less)
 rose_least a b (inr (top, same)) = omega (arith, same)
 
--- nothing is staged in the end, whatever came before
+-- nothing is staged in the end, whatever was staged before
 pub ends_later : {K : Type 0} (k : Ghosts K) (a b c : K) → k.faults a ≤ k.faults b → EndsUnstaged k b c → EndsUnstaged k a c
 ends_later k a b c least (inl none) = inl none
 ends_later k a b c least (inr rose) = inr (rose_later (k.faults a) (k.faults b) (k.faults c) least rose)
 
--- a fault that was counted stays
+-- a counted fault stays counted
 pub ends_before : {K : Type 0} (k : Ghosts K) (a b c : K) → Rose (k.faults a) (k.faults b) → k.faults b ≤ k.faults c → EndsUnstaged k a c
 ends_before k a b c rose most = inr (rose_before (k.faults a) (k.faults b) (k.faults c) rose most)
 
@@ -55,7 +55,7 @@ asked_holds k a b x rest = record {
   never_less = let same = rest.count.ok in omega (arith, same);
 }
 
--- one that failed
+-- a question that failed
 pub failed_holds : {K T : Type 0} {P : Type 0} (k : Ghosts K) (a b : K) (f : KeepFault) → StaysBy {T = T} k a b (Err f) → P → HoldsUnless k a b P
 failed_holds k a b f rest is = record {
   honest = rest.honest;
@@ -64,9 +64,9 @@ failed_holds k a b f rest is = record {
   never_less = rose_least (k.faults a) (k.faults b) rest.count.err;
 }
 
--- ---- where a session may have given up
+-- ---- sessions that may have given up
 
--- the same over calls before, of which the count did not fall
+-- the same after earlier calls whose count did not fall
 pub may_later : {K : Type 0} (k : Ghosts K) (a b c : K) (e : SessionEnd) → k.faults a ≤ k.faults b → MayGiveUp k b c e → MayGiveUp k a c e
 may_later k a b c e least (inl refused) = inl refused
 may_later k a b c e least (inr (inl write)) = inr (inl write)
@@ -76,7 +76,7 @@ pub some_may_later : {K : Type 0} (k : Ghosts K) (a b c : K) (end : Option Sessi
 some_may_later k a b c None least may = absurd may
 some_may_later k a b c (Some e) least may = may_later k a b c e least may
 
--- a read failed, and then what was staged was let go, or was not
+-- a read failed, and then what was staged was dropped or was not
 pub broke_off_holds : {K T : Type 0} (k : Ghosts K) (a b c : K) (result : Result T KeepFault) → HoldsUnless k a b ⊥ → HoldsUnless k b c (IsFault result) → OnErr result (Rose (k.faults b) (k.faults c))
     → HoldsUnless k a c (MayGiveUp k a c ReadFault)
 broke_off_holds k a b c (Ok done) x y rose = holds_less (λ none. absurd none) (holds_then x y)
@@ -92,7 +92,7 @@ pub asked_nothing : {K P : Type 0} (k : Ghosts K) (a : K) → HoldsUnless k a a 
 asked_nothing k a = record { honest = λ is. is; opened = λ is was not. was; counted = λ not. refl; never_less = omega arith }
 
 module _ {K : Type 0} {k : Ghosts K} where
-  -- one call after another
+  -- two calls in a row
   pub then_holds : {a b c : K} {P Q R : Type 0} → HoldsUnless k a b P → HoldsUnless k b c Q → ((R → ⊥) → P → ⊥) → ((R → ⊥) → Q → ⊥) → HoldsUnless k a c R
   then_holds x y f g = record {
     honest = λ is. x.honest (y.honest is);
@@ -101,6 +101,6 @@ module _ {K : Type 0} {k : Ghosts K} where
     never_less = let low = x.never_less in let high = y.never_less in omega (arith, low, high);
   }
 
-  -- what was staged is staged behind a call that keeps it
+  -- what was staged is still staged after a call that keeps it
   pub staged_later : {a b : K} {bytes : List ℕ} {body : Body} → KeepsStaged k.stages a b → AreStaged k a bytes body → AreStaged k b bytes body
   staged_later {bytes = bytes} keeps are = record { staged = keeps bytes are.staged; octets = are.octets; short = are.short; length_is = are.length_is; digest = are.digest }

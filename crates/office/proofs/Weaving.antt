@@ -1,4 +1,4 @@
--- The turns of connections so far, and one more; a connection more; and what they are in the end.
+-- The turns of connections so far, one more turn, one more connection, and the result in the end.
 use Rattle.std.proofs.Common.{◌≡◌, ◌<◌, ◌≤◌, ◌+◌, ◌-◌, ◌⊎◌, ℕ, zero, suc, Bool, true, false, cond, List, [], ◌∷◌, ◌++◌, length, get_or, set, Option, Some, None, refl, sym, ap, subst, ◌∙◌, append_assoc, arith, inl, inr}
 use Rattle.std.specs.Prelude.{nat_eq, ⊤}
 use Rattle.std.specs.List.{AllByRecursion}
@@ -28,7 +28,7 @@ use Rattle.office.proofs.Unstaged.{rose_before, rose_later}
 use Rattle.office.proofs.RunTurns.{acts_joined, less_is_not, none_whole, same_is, speaks_of, tied_of}
 use Rattle.office.proofs.Sitting.{Sitting, Sits, SitsSo, IsFirst, act_of, answered, answered_sits, closed, closed_sits, first_sits, gathered, gathered_sits, open_sits, sent_on, sent_sits, sits_open}
 
--- ---- one turn more at the end
+-- ---- one more turn at the end
 
 acts_more : (turns : List Turn) (t : Turn) → acts_in (turns ++ t ∷ []) ≡ acts_in turns ++ t.acts
 acts_more [] t = append-nil t.acts
@@ -59,7 +59,7 @@ tied_more (u ∷ turns) t h one = (h.0, tied_more turns t h.1 one)
 
 -- ---- the connections
 
--- each connection, from the number i on: its turns made it what it is
+-- each connection, from number i on, is the result of its turns
 abbrev pub AllSit : List Turn → ℕ → List Sitting → Type 0
 AllSit turns i [] = ⊤
 AllSit turns i (x ∷ xs) = Sits x (own_turns i turns) × AllSit turns (suc i) xs
@@ -81,26 +81,27 @@ one_turns turns t i (suc p) d new (x ∷ xs) is lt moves h =
     let other : nat_eq t.which i ≡ false = grind (arith, is) in
     (sits_still turns t i x other h.0, one_turns turns t (suc i) p d new xs (omega (arith, is)) (omega (arith, lt)) moves h.1)
 
--- one of them changes, and no turn is taken
+-- one connection changes, and no turn is taken
 one_changes : (turns : List Turn) (i p : ℕ) (d new : Sitting) (xs : List Sitting) → p < length xs
     → ((own : List Turn) → Sits (get_or xs p d) own → Sits new own) → AllSit turns i xs → AllSit turns i (set xs p new)
 one_changes turns i p d new [] lt moves h = absurd (omega (arith, lt))
 one_changes turns i zero d new (x ∷ xs) lt moves h = (moves (own_turns i turns) h.0, h.1)
 one_changes turns i (suc p) d new (x ∷ xs) lt moves h = (h.0, one_changes turns (suc i) p d new xs (omega (arith, lt)) moves h.1)
 
--- what an open one that stands there is
+-- what is known of an open connection
 pub heard_at : (turns : List Turn) (i p : ℕ) (d : Sitting) (xs : List Sitting) → p < length xs → (get_or xs p d).end ≡ None → AllSit turns i xs → (get_or xs p d).gave_up ≡ false
 heard_at turns i p d [] lt is h = absurd (omega (arith, lt))
 heard_at turns i zero d (x ∷ xs) lt is h = (open_sits x (own_turns i turns) is h.0).marked
 heard_at turns i (suc p) d (x ∷ xs) lt is h = heard_at turns (suc i) p d xs (omega (arith, lt)) is h.1
 
--- what holds of all of them still held of all where one was set that had held it
+-- If a property holds for the old item and for all items after a change, it holds for all items before the
+-- change and for the new item.
 all_unset : (P : Sitting → Type 0) (xs : List Sitting) (p : ℕ) (d new : Sitting) → p < length xs → P (get_or xs p d) → AllByRecursion P (set xs p new) → AllByRecursion P xs × P new
 all_unset P [] p d new lt had h = absurd (omega (arith, lt))
 all_unset P (x ∷ xs) zero d new lt had h = ((had, h.1), h.0)
 all_unset P (x ∷ xs) (suc p) d new lt had h = let rest = all_unset P xs p d new (omega (arith, lt)) had h.1 in ((h.0, rest.0), rest.1)
 
--- the same, where it holds of what was set as of what stood there
+-- The same for a property that the old item has if the new one has it.
 all_as : (P : Sitting → Type 0) (xs : List Sitting) (p : ℕ) (d new : Sitting) → p < length xs → (P new → P (get_or xs p d)) → AllByRecursion P (set xs p new) → AllByRecursion P xs
 all_as P [] p d new lt so h = tt
 all_as P (x ∷ xs) zero d new lt so h = (so h.0, h.1)
@@ -121,7 +122,7 @@ NotGivenUp x = x.gave_up ≡ false
 abbrev pub LastsAt : Sitting → Type 0
 LastsAt x = (x.gave_up ≡ false) ⊎ (x.end ≡ Some ReadFault)
 
--- where it gave up at a failed read, the keeper's count rose
+-- if the connection gave up at a failed read, the keeper's count rose
 abbrev pub RoseAt : ℕ → ℕ → Sitting → Type 0
 RoseAt before behind x = x.gave_up ≡ true → x.end ≡ Some ReadFault → Rose before behind
 
@@ -173,7 +174,7 @@ set_length [] p new = refl
 set_length (x ∷ xs) zero new = refl
 set_length (x ∷ xs) (suc p) new = ap suc (set_length xs p new)
 
--- what was done and told in a last turn
+-- the acts and moments of a last turn
 last_turn : (n : ℕ) (stream : List ℕ) (t : Turn) (acts : List Act) (moments out : List ℕ) (e : SessionEnd) (gave_up : Bool) → t.moments ≡ moments → t.acts ≡ acts
     → (x : Speaks n stream acts moments out (Some e) gave_up) → AnswersNone x → (last : Speaks n stream t.acts t.moments out (Some e) gave_up) × AnswersNone last
 last_turn n stream t acts moments out e gave_up told acted x none =
@@ -181,7 +182,7 @@ last_turn n stream t acts moments out e gave_up told acted x none =
     (subst (λ l. (last : Speaks n stream acts l out (Some e) gave_up) × AnswersNone last) (sym told) (x, none))
 
 module _ {C K : Type 0} (gives : C → ℕ → C → Type 0) (k : Ghosts K) where
-  -- a turn of one that stands there
+  -- a turn of one of the connections
   record Moves (x new : Sitting) (clock clock' : C) (keeper keeper' : K) (mid after : State) : Type 0 where
     pub acts : List Act
     pub moments : List ℕ
@@ -222,7 +223,7 @@ module _ {C K : Type 0} (gives : C → ℕ → C → Type 0) (k : Ghosts K) wher
         survives = then_survives f.survives t.survives;
       }
 
-  -- nobody came yet
+  -- no connection came yet
   pub starts : (clock : C) (keeper : K) (s : State) → SoFar gives k [] [] clock clock keeper keeper s s
   starts clock keeper s = record {
     turns = [];
@@ -240,7 +241,7 @@ module _ {C K : Type 0} (gives : C → ℕ → C → Type 0) (k : Ghosts K) wher
   }
 
   module _ {whose : List ℕ} (xs : List Sitting) (clock clock' : C) (keeper keeper' : K) (s mid : State) (f : SoFar gives k xs whose clock clock' keeper keeper' s mid) where
-    -- ---- one of them has a turn
+    -- ---- one connection has a turn
 
     module _ (p : ℕ) (d x : Sitting) (lt : p < length xs) (at : get_or xs p d ≡ x) (is_open : x.end ≡ None) where
       unmarked : x.gave_up ≡ false
@@ -271,7 +272,7 @@ module _ {C K : Type 0} (gives : C → ℕ → C → Type 0) (k : Ghosts K) wher
             survives = survives_through g.lasts;
           }))
 
-      -- it ends
+      -- the connection ends
       pub closed_more : (left reader written : Option (List ℕ)) (clock'' : C) (keeper'' : K) (after : State) (n : ℕ) (e : SessionEnd) → n + x.served ≡ most_messages
           → (v : Serves n gives x.left reader x.written written clock' clock'' k keeper' keeper'' mid after e) → EndsAtOnce v.session
           → SoFar gives k (set xs p (closed x left reader written e v.gave_up)) (whose ++ p ∷ []) clock clock'' keeper keeper'' s after
@@ -304,7 +305,7 @@ module _ {C K : Type 0} (gives : C → ℕ → C → Type 0) (k : Ghosts K) wher
           ends_so (inl is) = inl is
           ends_so (inr is) = inr (some_end e ReadFault is)
 
-      -- bytes of it are read ahead
+      -- bytes of the connection are read ahead
       pub gathered_more : (left reader : Option (List ℕ)) → Keeps x.left left → SoFar gives k (set xs p (gathered x left reader)) whose clock clock' keeper keeper' s mid
       gathered_more left reader keeps = record {
         turns = f.turns;
@@ -322,7 +323,7 @@ module _ {C K : Type 0} (gives : C → ℕ → C → Type 0) (k : Ghosts K) wher
         survives = f.survives;
       }
 
-    -- bytes that were written to one that stands there are sent on
+    -- waiting bytes of one of the connections are sent
     pub sent_more : (p : ℕ) (d : Sitting) (written : Option (List ℕ)) → p < length xs → Keeps (get_or xs p d).written written → SoFar gives k (set xs p (sent_on (get_or xs p d) written)) whose clock clock' keeper keeper' s mid
     sent_more p d written lt holds =
         let x = get_or xs p d in
@@ -342,7 +343,7 @@ module _ {C K : Type 0} (gives : C → ℕ → C → Type 0) (k : Ghosts K) wher
           survives = f.survives;
         }
 
-    -- ---- a connection more
+    -- ---- one more connection
 
     none_own : (i n : ℕ) (turns : List Turn) → n ≤ i → AllByRecursion (λ t. t.which < n) turns → [] ≡ own_turns i turns
     none_own i n [] le h = refl
@@ -364,7 +365,8 @@ module _ {C K : Type 0} (gives : C → ℕ → C → Type 0) (k : Ghosts K) wher
     longer [] x = omega arith
     longer (y ∷ ys) x = let rest = longer ys x in omega (arith, rest)
 
-    -- A connection that comes between two turns is one more in the list, and all that was said of the others stays.
+    -- A connection that comes between two turns is added to the list. Everything known of the others still
+    -- holds.
     pub opens : (x : Sitting) → IsFirst x → SoFar gives k (xs ++ x ∷ []) whose clock clock' keeper keeper' s mid
     opens x new = record {
       turns = f.turns;
@@ -383,7 +385,7 @@ module _ {C K : Type 0} (gives : C → ℕ → C → Type 0) (k : Ghosts K) wher
 
 -- ---- the end
 
--- the thread of one that stands there
+-- the thread of one of the connections
 pub record IsThreadOf (x : Sitting) (c : Thread) : Type 0 where
   pub end : c.end ≡ x.end
   pub marked : c.gave_up ≡ x.gave_up
@@ -395,7 +397,7 @@ AreThreadsOf [] [] = ⊤
 AreThreadsOf (x ∷ xs) (c ∷ cs) = IsThreadOf x c × AreThreadsOf xs cs
 AreThreadsOf xs cs = ⊥
 
--- what is spoken turn by turn is spoken
+-- what is spoken turn by turn is spoken as a whole
 spoken_of : (n : ℕ) (stream : List ℕ) (turns : List Turn) (out : List ℕ) (e : Option SessionEnd) (gave_up : Bool) → SpeaksInTurns n stream turns out e gave_up
     → Speaks n stream (acts_in turns) (moments_in turns) out e gave_up
 spoken_of _ _ _ _ _ _ (said.no_more n) = said.still_open n
@@ -482,7 +484,7 @@ all_threads turns i (x ∷ xs) h =
       many = ap suc cs.many;
     }
 
--- The connections were served in turn, by an order of all their messages.
+-- The connections were served in turns, by one order of all their messages.
 pub record Woven {C : Type 0} (gives : C → ℕ → C → Type 0) (xs : List Sitting) (whose : List ℕ) (clock clock' : C) (s mid : State) : Type 0 where
   pub threads : List Thread
   pub moments : List ℕ
@@ -508,7 +510,7 @@ finishes gives k xs clock clock' keeper keeper' s mid f =
       counts = f.counts;
     }
 
--- ---- what holds of all threads held of all connections
+-- ---- properties of all threads are properties of all connections
 
 pub none_gave_up : (xs : List Sitting) (cs : List Thread) → AreThreadsOf xs cs → AllByRecursion (λ (c : Thread). c.gave_up ≡ false) cs → AllByRecursion NotGivenUp xs
 none_gave_up [] [] are h = tt

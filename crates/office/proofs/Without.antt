@@ -1,4 +1,4 @@
--- A run is one without the messages that were answered with refusal 40, too.
+-- A run is also a run without the messages that were answered with refusal 40.
 use Rattle.std.proofs.Common.{◌≡◌, ◌<◌, ◌≤◌, ℕ, suc, Bool, true, false, List, [], ◌∷◌, ◌++◌, inl, inr, refl, sym, ap, ◌∙◌, append_assoc, arith}
 use Rattle.sigtext.specs.Request.{Request}
 use Rattle.sigtext.specs.declared.refusal.Refusal.TheVariants as rule
@@ -16,7 +16,7 @@ use Rattle.office.specs.declared.connections.session.SessionEnd.TheVariants.{End
 
 -- ---- a message does not depend on what follows it
 
--- the bytes of a message, which are one whatever follows
+-- the bytes of a message, which do not depend on what follows
 pub record IsMessage (stream : List ℕ) (r : Request) (rest : List ℕ) : Type 0 where
   pub text : List ℕ
   pub joined : stream ≡ text ++ rest
@@ -45,7 +45,7 @@ message_text stream rest _ (frame.whole head has_length n body _ has small size)
 
 -- ---- sessions
 
--- what a session that gave up was before it did
+-- a session that gave up, as it was before that
 pub record IsSessionCut (n : ℕ) (stream : List ℕ) (s : State) (moments answers : List ℕ) (e : SessionEnd) (after : State) : Type 0 where
   pub front : List ℕ
   pub rest : List ℕ
@@ -61,7 +61,7 @@ pub record IsSessionCut (n : ℕ) (stream : List ℕ) (s : State) (moments answe
   pub refused : IsGivenUpBy last e
   pub before : Session n front s told written Ended false after
 
--- it gave up at the first message that was to come
+-- the session gave up at its first message
 at_once : (n : ℕ) (stream : List ℕ) (s : State) (moments answers : List ℕ) (e : SessionEnd) → GivesUp [] stream moments
     → (suc n < most_messages → (read : List ℕ) → GivesUp read stream moments) → IsGivenUpBy answers e → IsSessionCut (suc n) stream s moments answers e s
 at_once n stream s moments answers e gives_up later refused = record {
@@ -122,7 +122,7 @@ session_cut _ stream s _ _ _ _ _ (session.write_failed_giving_up_reading n _ _ f
 
 -- ---- runs
 
--- a connection before a run without what was answered with refusal 40: as it was, or cut
+-- A connection before a run without what was answered with refusal 40: unchanged or cut.
 one_more : (s mid after : State) (c : Connection) (cs : List Connection) (first others : List ℕ) (gave_up : Bool) → c.gave_up ≡ gave_up
     → Session most_messages c.stream s first c.answers c.end gave_up mid → RunsWithout mid cs others after → RunsWithout s (c ∷ cs) (first ++ others) after
 one_more s mid after c cs first others false is here w = record {
@@ -160,7 +160,7 @@ runs_without s after (c ∷ cs) moments (first, others, mid, joined, here, more)
     let w = one_more s mid after c cs first others c.gave_up refl here (runs_without mid after cs others more) in
     record { connections = w.connections; told = w.told; without = rw joined w.without; run = w.run }
 
--- ---- an example: of two messages the first was answered, and at the second the session gave up
+-- ---- an example: the first of two messages was answered, and the session gave up at the second
 
 module _ (s mid : State) (stream rest more text : List ℕ) (q r : Request) (now later : ℕ) (first : Next stream (frame.Message q) rest) (answered : AnswersRequest s q now text mid)
     (second : Next rest (frame.Message r) more) (readable : IsReadable r) where

@@ -1,4 +1,4 @@
--- Connections that were served in turn were so without what was answered with refusal 40, too.
+-- Connections that were served in turns were also served in turns without what was answered with refusal 40.
 use Rattle.std.proofs.Common.{◌≡◌, ◌<◌, ◌≤◌, ◌⊎◌, ℕ, suc, Bool, true, false, cond, List, [], ◌∷◌, ◌++◌, length, map, Option, Some, inl, inr, refl, sym, ap, subst, ◌∙◌, append_assoc, arith}
 use Rattle.std.specs.Prelude.{nat_eq}
 use Rattle.std.specs.List.{AllByRecursion}
@@ -17,7 +17,7 @@ use Rattle.office.specs.declared.connections.session.SessionEnd.{SessionEnd}
 use Rattle.office.specs.declared.connections.session.SessionEnd.TheVariants.{Ended}
 use Rattle.office.proofs.Without.{message_text, session_cut}
 
--- ---- moments are those of acts, unless one was given up
+-- ---- moments are those of acts, unless a message was given up
 
 abbrev nows : List Act → List ℕ
 nows acts = map (λ (a : Act). a.now) acts
@@ -28,7 +28,7 @@ spoken_at _ _ _ _ _ _ (said.over n stream s out e gave_up h) = refl
 spoken_at _ _ _ _ _ _ (said.answered n stream rest a acts moments out e gave_up next more) = ap (λ (t : List ℕ). a.now ∷ t) (spoken_at n rest acts moments out e more)
 spoken_at _ _ _ _ _ _ (said.lost n stream rest a front next begins) = refl
 
--- a turn in which no moment was given up
+-- a turn without the moment of a message that was given up
 abbrev only_acts : List Turn → List Turn
 only_acts [] = []
 only_acts (t ∷ ts) = record t { moments = nows t.acts } ∷ only_acts ts
@@ -141,7 +141,7 @@ spoken_cut s _ _ _ _ _ e most (said.answered n stream rest a acts moments out _ 
 
 -- ---- the connections
 
--- one that gave up has ended
+-- a connection that gave up has ended
 gave_up_ended : (n : ℕ) (stream : List ℕ) (acts : List Act) (moments out : List ℕ) (e : Option SessionEnd) → Speaks n stream acts moments out e true → (x : SessionEnd) × (e ≡ Some x)
 gave_up_ended _ _ _ _ _ _ (said.over n stream s out e _ h) = (e, refl)
 gave_up_ended _ _ _ _ _ _ (said.given_up n stream rest r now out e next readable last) = (e, refl)

@@ -1,4 +1,4 @@
--- A request whose link is admitted, and one that comes to the rules of boxes and of the desk.
+-- Requests whose link is admitted, and requests that reach the rules of boxes and of the desk.
 use Rattle.std.specs.Prelude.{◌≡◌, ℕ, IsFalse, Some}
 use Rattle.std.specs.FinMap.{get}
 use Rattle.sigtext.specs.declared.refusal.Refusal.{Refusal}
@@ -18,7 +18,7 @@ pub record IsAdmitted (s : State) (r : Request) (now : ℕ) (p : LinkValues) (k 
   pub begun : HasBegun (judged_at s now) p.start
   pub not_over : IsNotOver (judged_at s now) p.start p.expires
 
--- the rules of numbers 7 to 26 hold of the request with these parts
+-- rules 7 to 26 hold for the request with these parts
 pub record ReachesBoxes (s : State) (r : Request) (now : ℕ) (p : LinkValues) : Type 0 where
   pub head : IsWellFormed r p
   pub link : (q : Refusal) → LinkRule q (known s p.key_id) r (judged_at s now) p

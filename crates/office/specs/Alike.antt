@@ -5,9 +5,9 @@ use Rattle.links.specs.WellFormed.{LinkValues, IsWellFormed}
 use Rattle.links.specs.Alike.{SameText}
 use Rattle.office.specs.Rules.{IsPut}
 
--- Both are well formed, one text is the canonical request of both, and signature text and body are the same; and for a
--- PUT also whether a Content-Length was given. All else of their heads is free: how target and field names are spelled,
--- the order of parameters and fields, and fields that are not signed.
+-- Both are well formed and have the same canonical request, signature and body; for a PUT it is also the same
+-- whether a Content-Length was given. Everything else in their heads may differ: the spelling of the target
+-- and of field names, the order of parameters and fields, and fields that are not signed.
 pub record AreAlike (r other : Request) : Type 0 where
   pub mine : LinkValues
   pub its : LinkValues

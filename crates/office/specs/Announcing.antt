@@ -1,10 +1,10 @@
--- What a message announces before its body: its request with each body that it may have.
+-- The request of a message before its body came, with each possible body.
 use Rattle.std.specs.Prelude.{ℕ, List, map}
 use Rattle.sigtext.specs.Fields.{header_of}
 use Rattle.sigtext.specs.Request.{Request}
 use Rattle.office.specs.declared.requests.announced.Announced.{Announced}
 
--- the request that the message is with this body
+-- the request of the message with this body
 abbrev pub request_with : Announced → List ℕ → Request
 request_with message body = record {
   method = message.method.now;

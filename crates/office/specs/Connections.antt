@@ -1,4 +1,4 @@
--- What a session says of its reader, its writer, its clock and its keeper.
+-- What a session does to its reader, its writer, its clock and its keeper.
 use Rattle.std.specs.Prelude.{◌≡◌, ◌≢◌, ◌⊎◌, ℕ, List, [], ◌∷◌, Bool, true, false, count_by, Option, Some, None, ⊤}
 use Rattle.std.specs.Io.KnownBytes.{Appends, Consumes, IsAtEnd}
 use Rattle.std.specs.List.{AllByRecursion}
@@ -14,18 +14,18 @@ use Rattle.office.specs.Repeats.{ActsOnce}
 use Rattle.office.specs.Sessions.{Session, Connection, Run}
 use Rattle.office.specs.WithoutTryAgain.{RunsWithout}
 
--- the clock told these moments, one after another
+-- the clock told these moments in order
 abbrev pub TellsMoments : {C : Type 0} → (C → ℕ → C → Type 0) → C → List ℕ → C → Type 0
 TellsMoments gives c [] d = c ≡ d
 TellsMoments {C} gives c (moment ∷ moments) d = (e : C) × gives c moment e × TellsMoments gives e moments d
 
--- the known bytes are these
+-- the bytes are equal to the known bytes, if any are known
 abbrev pub IsKnown : Option (List ℕ) → List ℕ → Type 0
 IsKnown None bytes = ⊤
 IsKnown (Some known) bytes = bytes ≡ known
 
--- the stream that a session is about: where a read failed, and where the session gave up, the bytes that
--- were read; else all that the reader had. A session that ends with the stream has read all of it.
+-- The stream of a session. If a read failed or the session gave up, it is the bytes that were read; otherwise
+-- all that the reader had. A session that ends with the stream has read all of it.
 abbrev pub IsStream : Bool → SessionEnd → Option (List ℕ) → Option (List ℕ) → List ℕ → Type 0
 IsStream true e old new stream = Consumes old new stream
 IsStream false ReadFault old new stream = Consumes old new stream
@@ -35,18 +35,18 @@ IsStream false (Refused number) old new stream = IsKnown old stream
 IsStream false Limit old new stream = IsKnown old stream
 IsStream false WriteFault old new stream = IsKnown old stream
 
--- the session may have given up: refusal 40 closed it, or the writing of an answer broke off, or a read failed and the keeper
--- counted a fault
+-- the session may have given up: refusal 40 closed it, or writing an answer broke off, or a read failed and
+-- the keeper counted a fault
 abbrev pub MayGiveUp : {K : Type 0} → Ghosts K → K → K → SessionEnd → Type 0
 MayGiveUp k old new e = (e ≡ Refused 40) ⊎ (e ≡ WriteFault) ⊎ ((e ≡ ReadFault) × Rose (k.faults old) (k.faults new))
 
--- the keeper held up; and where a read failed, something was given up only where the keeper counted a fault
+-- The keeper held up. If a read failed, something was given up only if the keeper counted a fault.
 abbrev pub HoldsUpTo : {K : Type 0} → Ghosts K → Bool → SessionEnd → K → K → Type 0
 HoldsUpTo k gave_up e old new = HoldsUp k gave_up old new × (gave_up ≡ true → e ≡ ReadFault → Rose (k.faults old) (k.faults new))
 
--- What was read, which moments were told, what was written, that the keeper held up, and that these are a session of up to n
--- messages. Where nothing was given up, and at a failed read, the state after outlasts a crash; and whatever was given up, a crash
--- leaves it but for one request more.
+-- What was read, told and written, and that this is a session of up to n messages in which the keeper held
+-- up. If nothing was given up, or if a read failed, the state after survives a crash. In any case a crash
+-- leaves that state, or that state with one more request.
 pub record Serves {C K : Type 0} (n : ℕ) (gives : C → ℕ → C → Type 0) (input input' output output' : Option (List ℕ)) (clock clock' : C)
     (k : Ghosts K) (keeper keeper' : K) (s after : State) (e : SessionEnd) : Type 0 where
   pub stream : List ℕ
@@ -61,14 +61,14 @@ pub record Serves {C K : Type 0} (n : ℕ) (gives : C → ℕ → C → Type 0) 
   pub survives : Survives k keeper keeper' s after
   pub session : Session n stream s moments answers e gave_up after
 
--- A fault of the reader or the writer that was counted is the end that is told, and no other end is told as one.
+-- If a fault of the reader or the writer was counted, the end tells it, and no other end counts as a fault.
 pub record TellsFaults {R W : Type 0} (e : SessionEnd) (reader reader' : Counted R) (writer writer' : Counted W) : Type 0 where
   pub read : e ≡ ReadFault → Rose reader.faults reader'.faults
   pub not_read : (e ≢ ReadFault) → reader'.faults ≡ reader.faults
   pub written : e ≡ WriteFault → Rose writer.faults writer'.faults
   pub not_written : (e ≢ WriteFault) → writer'.faults ≡ writer.faults
 
--- each connection of the list as it was served: what its reader gave, what its writer was given, and what its
+-- each connection of the list as it was served: what its reader gave, what was written to it, and what its
 -- end tells
 abbrev pub AreServed : {R W : Type 0} → (R → Option (List ℕ)) → (W → Option (List ℕ)) → List (Counted R × Counted W) → List (Counted R × Counted W) → List Connection → Type 0
 AreServed remaining contents [] [] [] = ⊤
@@ -77,7 +77,7 @@ AreServed remaining contents (old ∷ olds) (new ∷ news) (c ∷ cs) =
     × TellsFaults c.end old.0 new.0 old.1 new.1 × AreServed remaining contents olds news cs
 AreServed remaining contents olds news cs = ⊥
 
--- the keeper over the connections, one after another
+-- the keeper over the connections in order
 abbrev pub HoldsUpOver : {K : Type 0} → Ghosts K → List Connection → K → K → Type 0
 HoldsUpOver k [] old new = new ≡ old
 HoldsUpOver {K} k (c ∷ cs) old new = (mid : K) × HoldsUpTo k c.gave_up c.end old mid × HoldsUpOver k cs mid new
@@ -85,11 +85,11 @@ HoldsUpOver {K} k (c ∷ cs) old new = (mid : K) × HoldsUpTo k c.gave_up c.end 
 abbrev pub NoneGaveUp : List Connection → Type 0
 NoneGaveUp cs = AllByRecursion (λ c. c.gave_up ≡ false) cs
 
--- where no connection gave up, a keeper that was open is open, and means this state after and no other
+-- if no connection gave up, a keeper that was open is open and means exactly this state
 abbrev pub StaysOpen : {K : Type 0} → Ghosts K → List Connection → K → K → State → Type 0
 StaysOpen k cs old new after = NoneGaveUp cs → k.is_open old → k.is_open new × ((t : State) → k.means new t → t ≡ after)
 
--- the connection ended by a read or a write that failed
+-- the connection ended by a failed read or write
 abbrev pub is_fault : SessionEnd → Bool
 is_fault ReadFault = true
 is_fault WriteFault = true
@@ -98,9 +98,9 @@ is_fault Truncated = false
 is_fault (Refused number) = false
 is_fault Limit = false
 
--- the whole run: the connections in order, their moments, the state after, how the keeper held up, what a crash leaves, and how
--- many connections ended by a fault; and that it is a run without what was answered with refusal 40, too, and one in which an
--- upload acts once
+-- The whole run: the connections in order, their moments, the state after, how the keeper held up, what a
+-- crash leaves, and how many connections ended by a fault. It is also a run without the messages answered
+-- with refusal 40, and an upload acts once in it.
 pub record Runs {C R W K : Type 0} (gives : C → ℕ → C → Type 0) (remaining : R → Option (List ℕ)) (contents : W → Option (List ℕ)) (clock clock' : C)
     (old new : List (Counted R × Counted W)) (k : Ghosts K) (keeper keeper' : K) (s after : State) (faults : ℕ) : Type 0 where
   pub connections : List Connection

@@ -1,4 +1,4 @@
--- Connections that come, are served in turn, and go: each has a slot while it is there.
+-- Connections that come, are served in turns, and go. Each has a slot while it is there.
 use Rattle.std.specs.Prelude.{◌≡◌, ◌≢◌, ◌<◌, ◌+◌, ◌⊎◌, ℕ, Bool, false, cond, nat_eq, List, [], ◌∷◌, ◌++◌, IsPermutation, length, map, slice_set, slice_index_or, Option, Some, None}
 use Rattle.std.specs.List.{AllByRecursion, count_by, flat_map, sum_by}
 use Rattle.boxes.specs.State.{State}
@@ -12,7 +12,7 @@ use Rattle.office.specs.Interleaved.{Interleaved, SpeakInTurns, Thread, acts_in}
 use Rattle.office.specs.Repeats.{RepeatsOnce}
 use Rattle.office.specs.Seats.{AreThreads, Gathers, HaveTurns, IsNew, LastsOver, Sends, StaysSo, TakesTurn, TellsOneMoment, TellsTurn, turns_of}
 
--- what stands in the slot at p
+-- the content of slot p
 abbrev pub slot_at : {X : Type 0} → List (Option X) → ℕ → Option X
 slot_at slots p = slice_index_or slots p None
 
@@ -20,39 +20,40 @@ slot_at slots p = slice_index_or slots p None
 abbrev pub NoneIsFree : {X : Type 0} → List (Option X) → ℕ → Type 0
 NoneIsFree slots n = (p : ℕ) → p < n → slot_at slots p ≢ None
 
--- What may go on in the slots between two turns, one thing after another: which connections came, as they came, and which went,
--- as they were then. remaining: what a reader has left; contents: what a writer holds.
+-- What may happen in the slots between two turns, one change after another. The last two arguments are the
+-- connections that came, as they came, and those that went, as they were then. remaining: what a reader has
+-- left; contents: what a writer holds.
 pub data Changes {R W : Type 0} (remaining : R → Option (List ℕ)) (contents : W → Option (List ℕ)) (old : List (Option (Seat R W)))
     : List (Option (Seat R W)) → List (Seat R W) → List (Seat R W) → Type 0 where
   same : Changes remaining contents old old [] []
-  -- a new connection comes into a slot that is free
+  -- a new connection comes into a free slot
   comes : (now : List (Option (Seat R W))) (came gone : List (Seat R W)) (p : ℕ) (new : Seat R W) → Changes remaining contents old now came gone
       → p < length now → slot_at now p ≡ None → IsNew new → Changes remaining contents old (slice_set now p (Some new)) (came ++ new ∷ []) gone
-  -- bytes of an open one are read ahead
+  -- bytes of an open connection are read ahead
   gathers : (now : List (Option (Seat R W))) (came gone : List (Seat R W)) (p : ℕ) (seat new : Seat R W) → Changes remaining contents old now came gone
       → p < length now → slot_at now p ≡ Some seat → seat.end ≡ None → Gathers remaining seat new → Changes remaining contents old (slice_set now p (Some new)) came gone
-  -- bytes that were written to one are sent on, whether it has ended or not
+  -- bytes that were written to a connection are sent, whether it has ended or not
   sends : (now : List (Option (Seat R W))) (came gone : List (Seat R W)) (p : ℕ) (seat new : Seat R W) → Changes remaining contents old now came gone
       → p < length now → slot_at now p ≡ Some seat → Sends contents seat new → Changes remaining contents old (slice_set now p (Some new)) came gone
-  -- one goes, whether it has ended or not
+  -- a connection goes, whether it has ended or not
   goes : (now : List (Option (Seat R W))) (came gone : List (Seat R W)) (p : ℕ) (seat : Seat R W) → Changes remaining contents old now came gone
       → p < length now → slot_at now p ≡ Some seat → Changes remaining contents old (slice_set now p None) came (gone ++ seat ∷ [])
 
--- the one that is there, if there is one
+-- the connection that is there, if any
 abbrev pub those_of : {X : Type 0} → Option X → List X
 those_of None = []
 those_of (Some x) = x ∷ []
 
--- those of each slot, in the order of the slots
+-- the connections in the slots, in order
 abbrev pub standing_in : {X : Type 0} → List (Option X) → List X
 standing_in slots = flat_map those_of slots
 
--- The number of a connection is how many came before it. These are the numbers of slots, of each that of the one that came into it
--- last; and n is that of the one in the slot at p.
+-- A connection's number is the count of connections before it. numbers holds for each slot the number of the
+-- last connection that came into it. Here n is that of slot p.
 unfoldable pub number_of : ℕ → ℕ → (ℕ → ℕ) → ℕ → ℕ
 number_of p n numbers q = cond (nat_eq q p) n (numbers q)
 
--- the numbers of the slots behind such changes; n: how many came before them
+-- the numbers of the slots after these changes; n: the count of connections before the changes
 abbrev pub numbers_after : {R W : Type 0} {remaining : R → Option (List ℕ)} {contents : W → Option (List ℕ)} {old new : List (Option (Seat R W))} {came gone : List (Seat R W)}
     → Changes remaining contents old new came gone → ℕ → (ℕ → ℕ) → ℕ → ℕ
 numbers_after same n numbers = numbers
@@ -61,13 +62,13 @@ numbers_after (gathers now came gone p seat new before within at is_open gathere
 numbers_after (sends now came gone p seat new before within at sent) n numbers = numbers_after before n numbers
 numbers_after (goes now came gone p seat before within at) n numbers = numbers_after before n numbers
 
--- whose turn is due, if one is
+-- the connection whose turn is due, if any
 abbrev pub whose_turn : (ℕ → ℕ) → Option Due → List ℕ
 whose_turn numbers None = []
 whose_turn numbers (Some due) = numbers due.index ∷ []
 
--- The same around a crowd, and the turn that is due then. met: which connections came so far, and which went; gave: the numbers of
--- the slots, and whose turns it gave so far.
+-- The same changes around a crowd, and the turn that is then due. met: the connections that came and went so
+-- far; gave: the numbers of the slots, and the turns given so far.
 abbrev pub ChangesBy : {G R W : Type 0} → (R → Option (List ℕ)) → (W → Option (List ℕ)) → (G → List (Seat R W) → List (Seat R W) → Type 0) → (G → (ℕ → ℕ) → List ℕ → Type 0)
     → G → G → List (Option (Seat R W)) → List (Option (Seat R W)) → Option Due → Type 0
 ChangesBy {R = R} {W = W} remaining contents met gave before after old new due =
@@ -76,53 +77,55 @@ ChangesBy {R = R} {W = W} remaining contents met gave before after old new due =
     × ((numbers : ℕ → ℕ) (given : List ℕ) → gave before numbers given
     → gave after (numbers_after changes (length came) numbers) (given ++ whose_turn (numbers_after changes (length came) numbers) due))
 
--- Bytes of the open connection in the slot at p were read ahead, or put back, so, and nothing else was done to it, and the other
--- slots stay. Or none there is open: all stay, and this is told.
+-- Either bytes of the open connection in slot p were read ahead or put back in this way, nothing else was
+-- done to it, and the other slots are unchanged. Or there is no open connection: all slots are unchanged, and
+-- told holds.
 abbrev pub DoneAt : {R W : Type 0} → (R → Option (List ℕ)) → (Seat R W → Seat R W → Type 0) → Type 0 → List (Option (Seat R W)) → List (Option (Seat R W)) → ℕ → Type 0
 DoneAt {R} {W} remaining done told old new p =
     ((seat : Seat R W) × (slot_at old p ≡ Some seat) × (seat.end ≡ None)
     × (after : Seat R W) × Gathers remaining seat after × done seat after × (new ≡ slice_set old p (Some after)))
     ⊎ (((seat : Seat R W) → slot_at old p ≡ Some seat → seat.end ≡ None → ⊥) × (new ≡ old) × told)
 
--- Bytes that were written to the connection in the slot at p were sent on, so, whether it has ended or not, and nothing else was
--- done to it, and the other slots stay. Or none is there: all stay, and this is told.
+-- Either bytes that were written to the connection in slot p were sent in this way, nothing else was done to
+-- it, and the other slots are unchanged. It may have ended. Or there is no connection: all slots are
+-- unchanged, and told holds.
 abbrev pub SentAt : {R W : Type 0} → (W → Option (List ℕ)) → (Seat R W → Seat R W → Type 0) → Type 0 → List (Option (Seat R W)) → List (Option (Seat R W)) → ℕ → Type 0
 SentAt {R} {W} contents done told old new p =
     ((seat : Seat R W) × (slot_at old p ≡ Some seat)
     × (after : Seat R W) × Sends contents seat after × done seat after × (new ≡ slice_set old p (Some after)))
     ⊎ ((slot_at old p ≡ None) × (new ≡ old) × told)
 
--- the connection ended by a read or a write that failed
+-- the connection ended by a failed read or write
 abbrev pub is_fault_end : Option SessionEnd → Bool
 is_fault_end None = false
 is_fault_end (Some e) = is_fault e
 
--- it ended so in this turn
+-- the connection ended like that in this turn
 abbrev pub fails_now : Option SessionEnd → Option SessionEnd → Bool
 fails_now None new = is_fault_end new
 fails_now (Some e) new = false
 
--- the slot at p has a connection that is open
+-- slot p holds an open connection
 abbrev pub IsOpenAt : {R W : Type 0} → List (Option (Seat R W)) → ℕ → Type 0
 IsOpenAt {R} {W} slots p = (p < length slots) × (seat : Seat R W) × (slot_at slots p ≡ Some seat) × (seat.end ≡ None)
 
--- What becomes of a slot in a turn, and whether its connection ended by a fault in it.
+-- What a turn makes of a slot, and whether its connection ended by a fault in the turn.
 pub data TurnsSlot {C K R W : Type 0} (gives : C → ℕ → C → Type 0) (remaining : R → Option (List ℕ)) (contents : W → Option (List ℕ)) (clock clock' : C) (k : Ghosts K) (keeper keeper' : K)
     (s after : State) : Option (Seat R W) → Option (Seat R W) → Bool → Type 0 where
-  -- it is free, and nothing was done
+  -- the slot is free, and nothing was done
   nobody : clock' ≡ clock → keeper' ≡ keeper → after ≡ s → TurnsSlot gives remaining contents clock clock' k keeper keeper' s after None None false
   taken : (old new : Seat R W) → TakesTurn gives remaining contents old new clock clock' k keeper keeper' s after → TellsTurn old new
       → TurnsSlot gives remaining contents clock clock' k keeper keeper' s after (Some old) (Some new) (fails_now old.end new.end)
 
--- These connections came, as they came, and were served in turn; of them those went, as they were then, and the others stand in
--- the slots: whose turns were taken, the moments, each connection, the state after, how the keeper held up, what outlasts a
--- crash, and how many ended by a fault; and an upload acts once over all of them. first: how many came before them all; given: of
--- each turn, in their order, the number of its connection.
+-- These connections came and were served in turns. Some of them went, as they were then, and the others stand
+-- in the slots. The record gives the turns, the moments, each connection, the state after, how the keeper
+-- held up, what survives a crash, and how many ended by a fault. An upload acts once over all of them. first:
+-- the count of connections before these; given: for each turn, in order, the number of its connection.
 pub record ServesCrowd {C K R W : Type 0} (gives : C → ℕ → C → Type 0) (remaining : R → Option (List ℕ)) (contents : W → Option (List ℕ)) (came gone : List (Seat R W)) (slots : List (Option (Seat R W)))
     (clock clock' : C) (k : Ghosts K) (keeper keeper' : K) (first : ℕ) (given : List ℕ) (faults : ℕ) (s after : State) : Type 0 where
-  -- each of those that came as it was at last
+  -- each connection that came, as it was last
   pub seats : List (Seat R W)
-  -- each of those that came, as it was at last, went or stands in a slot, and no other: of each as many
+  -- the connections that came are exactly those that went and those that stand in the slots
   pub all : IsPermutation seats (gone ++ standing_in slots)
   -- each turn was taken
   pub taken : length given ≡ sum_by turns_of seats
@@ -131,11 +134,13 @@ pub record ServesCrowd {C K R W : Type 0} (gives : C → ℕ → C → Type 0) (
   pub told : TellsMoments gives clock moments clock'
   pub served : AreThreads remaining contents came seats threads
   pub run : Interleaved s threads moments after
-  -- the turns of the order are those of the crowd; each connection has as many of them as it took, and one tells one moment at most
+  -- The turns of the order are those of the crowd. Each connection has as many as it took. Each turn tells at
+  -- most one moment.
   pub whose : map (λ t. first + t.which) run.turns ≡ given
   pub each_counted : HaveTurns run.turns 0 seats
   pub one_moment : AllByRecursion TellsOneMoment run.turns
-  -- each turn of a connection answers one message whole, but for the one in which it ends, which answers none whole and is its last
+  -- Each turn of a connection answers exactly one message in full, except the turn in which it ends. That one
+  -- is its last and answers none in full.
   pub by_turns : SpeakInTurns run.turns 0 threads
   pub repeats : RepeatsOnce (acts_in run.turns)
   pub stays : StaysSo k threads keeper keeper' after

@@ -1,4 +1,5 @@
--- What is known of a request before its moment: all but the window of its link, and what its body decides.
+-- What is known of a request before its moment: everything except the window of its link and what its body
+-- decides.
 use Rattle.std.specs.Prelude.{◌≡◌, ◌≢◌, ◌≤◌, ℕ, List, length, IsFalse, Some, option_map, Result, Ok, Err, ⊤}
 use Rattle.std.specs.FinMap.{get}
 use Rattle.sigtext.specs.Bytes.{AreBytes}
@@ -23,30 +24,31 @@ use Rattle.office.specs.Admitted.{IsAdmitted, ReachesBoxes}
 use Rattle.office.specs.Readable.{IsReadable}
 use Rattle.office.specs.Rules.{IsPut, IsPost, IsFetch, Rule, place_of}
 
--- the request's link has these parts, and this key, which is there and unrevoked, signed it
+-- the request's link has these parts, and this key signed it, which exists and is not revoked
 pub record IsSigned (s : State) (r : Request) (p : LinkValues) (k : Key) : Type 0 where
   pub well_formed : IsWellFormed r p
   pub there : get s.keys p.key_id ≡ Some k
   pub unrevoked : IsFalse k.revoked
   pub signed : IsSignedBy k.secret r p
 
--- it is refused so, at whatever moment
+-- the request is refused like this at any moment
 abbrev pub IsAlwaysRefused : State → Request → Refusal → Type 0
 IsAlwaysRefused s r q = (q ≢ rule.TryAgain) → (now : ℕ) → IsFirstToFail (Rule s r now) q
 
--- the errand is that of the request's method; the box of an upload is the state's, and its place holds the rules 27 to 29
+-- The errand is that of the request's method. For an upload, the box is that of the state, and the place
+-- obeys rules 27 to 29.
 abbrev pub IsErrandOf : State → Request → LinkValues → Errand → Type 0
 IsErrandOf s r p (errand.Put path in_box) =
     IsPut r × (path.items ≡ p.path) × (option_map settings_of in_box ≡ get s.boxes (place_of p.path).box) × ((q : Refusal) → PlaceRule q s (place_of p.path))
 IsErrandOf s r p errand.Fetch = IsFetch r
 IsErrandOf s r p errand.Post = IsPost r
 
--- within the window of its link the request reaches the rules of its errand, or it is refused so
+-- within the window of its link the request reaches the rules of its errand, or it is refused like this
 abbrev pub ComesTo : State → Request → LinkValues → Key → Result Errand Refusal → Type 0
 ComesTo s r p k (Ok e) = IsErrandOf s r p e × ((now : ℕ) → IsAdmitted s r now p k → ReachesBoxes s r now p)
 ComesTo s r p k (Err q) = (q ≢ rule.TryAgain) → (now : ℕ) → IsAdmitted s r now p k → IsFirstToFail (Rule s r now) q
 
--- what was foreseen of a request of which the rules 7 to 21 hold
+-- what was foreseen of a request that obeys rules 7 to 21
 pub record IsForeseen (s : State) (r : Request) (f : Prospect) : Type 0 where
   pub parts : LinkValues
   pub link : IsLinkOf f.link r parts
@@ -54,12 +56,12 @@ pub record IsForeseen (s : State) (r : Request) (f : Prospect) : Type 0 where
   pub signed : IsSigned s r parts key
   pub comes : ComesTo s r parts key f.errand
 
--- the same, or the refusal that it earns at whatever moment
+-- the same, or the refusal that the request gets at any moment
 abbrev pub Foresees : State → Request → Result Prospect Refusal → Type 0
 Foresees s r (Ok f) = IsForeseen s r f
 Foresees s r (Err q) = IsAlwaysRefused s r q
 
--- its link was read; or, where memory was refused for that, it is readable
+-- The link was read. If memory was refused for that, the request is readable.
 abbrev pub IsReadOf : Request → Result Prospect Refusal → Type 0
 IsReadOf r (Ok f) = (p : LinkValues) × IsLinkOf f.link r p
 IsReadOf r (Err q) = q ≡ rule.TryAgain → IsReadable r
@@ -75,7 +77,7 @@ abbrev pub IsUpload : Result Prospect Refusal → Type 0
 IsUpload (Ok f) = IsPutting f.errand
 IsUpload (Err q) = ⊥
 
--- the bytes are staged, and what is known of them is theirs
+-- the bytes are staged, and the body's length and digest are theirs
 pub record AreStaged {K : Type 0} (k : Ghosts K) (keeper : K) (bytes : List ℕ) (b : Body) : Type 0 where
   pub staged : k.stages keeper bytes
   pub octets : AreBytes bytes

@@ -14,12 +14,12 @@ use Rattle.office.specs.Premise.{HoldsUp, IsLeft}
 use Rattle.office.specs.Readable.{IsReadable}
 use Rattle.office.specs.Sessions.{closing}
 
--- refusal 40 was written, or the writing broke off
+-- refusal 40 was written, or writing broke off
 abbrev pub MayBeGivenUp : Handled → Type 0
 MayBeGivenUp h = (h ≡ GaveUp) ⊎ (h ≡ Broken)
 
--- a message that is the request r was handled at a moment: it was answered or given up, or the answer's
--- writing broke off
+-- The message with the request r was handled at a moment. It was answered or given up, or writing the answer
+-- broke off.
 pub data Handles {C K : Type 0} (gives : C → ℕ → C → Type 0) (clock clock' : C) (output output' : Option (List ℕ)) (k : Ghosts K) (keeper keeper' : K) (s : State) (r : Request)
     : Handled → Type 0 where
   answered : (now : ℕ) (text : List ℕ) (after : State) → gives clock now clock' → Appends output output' text → HoldsUp k false keeper keeper' → LastsThrough k keeper keeper' s after → IsLeft (k.means keeper') after → AnswersRequest s r now text after

@@ -1,4 +1,4 @@
--- Connections that are open at once: each turn serves messages of one of them.
+-- Connections that are open at once. Each turn serves messages of one of them.
 use Rattle.std.specs.Prelude.{◌≡◌, ◌<◌, ◌⊎◌, ℕ, suc, Bool, true, false, cond, nat_eq, List, [], ◌∷◌, ◌++◌, length, map, Option, Some, None, ⊤}
 use Rattle.std.specs.List.{AllByRecursion, count_by, filter}
 use Rattle.sigtext.specs.Bytes.{IsBeginning}
@@ -13,7 +13,7 @@ use Rattle.office.specs.WithoutTryAgain.{IsLastRefusal}
 use Rattle.office.specs.declared.connections.session.SessionEnd.{SessionEnd}
 use Rattle.office.specs.declared.connections.session.SessionEnd.TheVariants.{WriteFault}
 
--- one turn: whose it is, which moments were told in it, and what was done for its messages
+-- one turn: its connection, the moments that were told in it, and the acts for its messages
 pub record Turn : Type 0 where
   pub which : ℕ
   pub moments : List ℕ
@@ -28,7 +28,7 @@ abbrev pub moments_in : List Turn → List ℕ
 moments_in [] = []
 moments_in (t ∷ ts) = t.moments ++ moments_in ts
 
--- those of the turns of one connection
+-- the acts and moments of one connection
 abbrev pub own_acts : ℕ → List Turn → List Act
 own_acts i [] = []
 own_acts i (t ∷ ts) = cond (nat_eq t.which i) t.acts [] ++ own_acts i ts
@@ -41,16 +41,16 @@ own_moments i (t ∷ ts) = cond (nat_eq t.which i) t.moments [] ++ own_moments i
 abbrev pub own_turns : ℕ → List Turn → List Turn
 own_turns i turns = filter (λ t. nat_eq t.which i) turns
 
--- how many of the turns are those of one connection
+-- how many turns one connection has
 abbrev pub turns_by : ℕ → List Turn → ℕ
 turns_by i turns = count_by (λ t. nat_eq t.which i) turns
 
--- the moments are those of the acts, and one more at most, at which a message was given up
+-- the moments are those of the acts, and possibly one more, at which a message was given up
 abbrev pub AreTied : List ℕ → List Act → Type 0
 AreTied moments acts = (moments ≡ map (λ a. a.now) acts) ⊎ ((moment : ℕ) × (moments ≡ map (λ a. a.now) acts ++ moment ∷ []))
 
--- A connection as it was served: it ended so, or it is open still, or was closed between two messages. Where it did not end,
--- the stream is what was taken.
+-- A connection as it was served. It ended, or it is still open, or it was closed between two messages. If it
+-- did not end, the stream is what was taken of it.
 pub record Thread : Type 0 where
   pub stream : List ℕ
   pub answers : List ℕ
@@ -60,33 +60,34 @@ pub record Thread : Type 0 where
 abbrev pub thread_of : Connection → Thread
 thread_of c = record { stream = c.stream; answers = c.answers; end = Some c.end; gave_up = c.gave_up }
 
--- Of up to n further messages of a stream these acts were done, at these moments, in the order of the stream; the answers are
--- theirs, and the end is the stream's. Of the states between them nothing is said: acts of other connections stand there.
+-- These acts were done for up to n more messages of a stream, at these moments, in the order of the stream.
+-- The answers are theirs, and the end is that of the stream. Nothing is said of the states between the acts,
+-- because acts of other connections come in between.
 pub data Speaks : ℕ → List ℕ → List Act → List ℕ → List ℕ → Option SessionEnd → Bool → Type 0 where
-  -- it did not end, and nothing more of it was taken
+  -- the connection did not end, and nothing more of it was taken
   still_open : (n : ℕ) → Speaks n [] [] [] [] None false
-  -- no message takes a moment any more; that is the same from whichever state
+  -- no further message takes a moment; this is the same from any state
   over : (n : ℕ) (stream : List ℕ) (s : State) (out : List ℕ) (e : SessionEnd) (gave_up : Bool)
       → Session n stream s [] out e gave_up s → Speaks n stream [] [] out (Some e) gave_up
-  -- the message is given up, and all that is written is refusal 40, or a beginning of it
+  -- the message is given up, and all that is written is refusal 40 or a prefix of it
   given_up : (n : ℕ) (stream rest : List ℕ) (r : Request) (now : ℕ) (out : List ℕ) (e : SessionEnd)
       → Next stream (frame.Message r) rest → IsReadable r → IsLastRefusal out e → Speaks (suc n) stream [] (now ∷ []) out (Some e) true
-  -- an act, whose answer is written whole, and what follows it
+  -- an act whose answer is written in full, and what follows it
   answered : (n : ℕ) (stream rest : List ℕ) (a : Act) (acts : List Act) (moments out : List ℕ) (e : Option SessionEnd) (gave_up : Bool)
       → Next stream (frame.Message a.request) rest → Speaks n rest acts moments out e gave_up
       → Speaks (suc n) stream (a ∷ acts) (a.now ∷ moments) (text_of a ++ out) e gave_up
-  -- the last act, whose answer is lost: a beginning of it is written, and then a write fails
+  -- the last act, whose answer is lost: a prefix of it is written, then a write fails
   lost : (n : ℕ) (stream rest : List ℕ) (a : Act) (front : List ℕ) → Next stream (frame.Message a.request) rest
       → IsBeginning front (text_of a) → Speaks (suc n) stream (a ∷ []) (a.now ∷ []) front (Some WriteFault) false
 
--- none of these acts is one whose answer is written whole
+-- no act has an answer that was written in full
 abbrev pub AnswersNone : {n : ℕ} {stream : List ℕ} {acts : List Act} {moments out : List ℕ} {e : Option SessionEnd} {gave_up : Bool}
     → Speaks n stream acts moments out e gave_up → Type 0
 AnswersNone (answered n stream rest a acts moments out e gave_up next more) = ⊥
 AnswersNone _ = ⊤
 
--- The same, turn by turn. A turn answers one message whole, and the connection goes on; or it is its last one, in which it ends,
--- and answers none whole.
+-- The same turn by turn. A turn answers one message in full and the connection goes on. Or it is the last
+-- one, in which the connection ends and no message is answered in full.
 pub data SpeaksInTurns : ℕ → List ℕ → List Turn → List ℕ → Option SessionEnd → Bool → Type 0 where
   no_more : (n : ℕ) → SpeaksInTurns n [] [] [] None false
   goes_on : (n : ℕ) (stream rest : List ℕ) (t : Turn) (a : Act) (turns : List Turn) (out : List ℕ) (e : Option SessionEnd) (gave_up : Bool)
@@ -95,25 +96,25 @@ pub data SpeaksInTurns : ℕ → List ℕ → List Turn → List ℕ → Option 
   ends : (n : ℕ) (stream : List ℕ) (t : Turn) (out : List ℕ) (e : SessionEnd) (gave_up : Bool)
       → (last : Speaks n stream t.acts t.moments out (Some e) gave_up) → AnswersNone last → SpeaksInTurns n stream (t ∷ []) out (Some e) gave_up
 
--- each connection, from the number i on, so
+-- each connection, from number i on, is served like this
 abbrev pub SpeakInTurns : List Turn → ℕ → List Thread → Type 0
 SpeakInTurns turns i [] = ⊤
 SpeakInTurns turns i (c ∷ cs) =
     SpeaksInTurns most_messages c.stream (own_turns i turns) c.answers c.end c.gave_up × SpeakInTurns turns (suc i) cs
 
--- each connection, from the number i on: its own acts, in their order, are those of its stream
+-- for each connection, from number i on: its own acts, in order, are those of its stream
 abbrev pub AreSpoken : List Turn → ℕ → List Thread → Type 0
 AreSpoken turns i [] = ⊤
 AreSpoken turns i (c ∷ cs) =
     Speaks most_messages c.stream (own_acts i turns) (own_moments i turns) c.answers c.end c.gave_up × AreSpoken turns (suc i) cs
 
--- There is one order of all messages: by the rules of the machine it leads from the state to the state after, and each
--- connection is what its own messages make of it.
+-- There is one order of all messages. By the rules of the machine it leads from the state to the state after,
+-- and each connection is what its own messages make of it.
 pub record Interleaved (s : State) (threads : List Thread) (moments : List ℕ) (after : State) : Type 0 where
   pub turns : List Turn
   pub order : Acts s (acts_in turns) after
   pub told : moments ≡ moments_in turns
-  -- in each turn what was done was done at the moments that were told in it
+  -- the acts of each turn were done at the moments that were told in it
   pub tied : AllByRecursion (λ t. AreTied t.moments t.acts) turns
   pub within : AllByRecursion (λ t. t.which < length threads) turns
   pub each : AreSpoken turns 0 threads

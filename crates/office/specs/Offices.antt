@@ -1,4 +1,4 @@
--- What an office's answer is.
+-- What an office answers.
 use Rattle.std.specs.Prelude.{◌≡◌, ℕ, List}
 use Rattle.sigtext.specs.declared.refusal.Refusal.TheVariants as rule
 use Rattle.sigtext.specs.Request.{Request}
@@ -9,15 +9,16 @@ use Rattle.wire.specs.Shown.{whole_text}
 use Rattle.office.specs.Answering.{AnswersRequest}
 use Rattle.office.specs.Premise.{IsLeft}
 
--- it is refusal 40
+-- the answer is refusal 40
 abbrev pub IsTryAgain : Answer → Type 0
 IsTryAgain a = a.reply ≡ reply.Refused rule.TryAgain
 
--- unless it is refusal 40: the text is the machine's, and the keeper means the state after it, which is sound
+-- Unless the answer is refusal 40, its text is that of the machine, and the keeper means the state after it,
+-- which is sound.
 abbrev pub IsAnswered : (State → Type 0) → State → Request → ℕ → Answer → Type 0
 IsAnswered means s r now a = (IsTryAgain a → ⊥) → (after : State) × IsLeft means after × AnswersRequest s r now (whole_text a) after
 
--- the same, and it is the machine's only one: neither another text nor another state after is the machine's
+-- the same, and it is the machine's only answer: no other text and no other state after are possible
 abbrev pub IsTheAnswer : (State → Type 0) → State → Request → ℕ → Answer → Type 0
 IsTheAnswer means s r now a =
     (IsTryAgain a → ⊥) → (after : State) × IsLeft means after × AnswersRequest s r now (whole_text a) after

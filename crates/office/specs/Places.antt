@@ -1,4 +1,4 @@
--- What a `FilePlace` means.
+-- The place that a `FilePlace` stands for.
 use Rattle.boxes.specs.State.{Place}
 use Rattle.office.specs.declared.requests.places.FilePlace.{FilePlace}
 

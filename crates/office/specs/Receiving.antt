@@ -1,4 +1,4 @@
--- A body that was staged.
+-- Staged bodies.
 use Rattle.std.specs.Prelude.{◌≡◌, ℕ, List, Option}
 use Rattle.sigtext.specs.Bytes.{AreBytes}
 use Rattle.sigv4.specs.Hmac.{sha256}
@@ -6,7 +6,7 @@ use Rattle.keeper.specs.declared.keep.Keeper.{Ghosts}
 use Rattle.wire.specs.Whole.{TakesBody}
 use Rattle.wire.specs.declared.feed.Feed.{Feed}
 
--- the body of size bytes that was open came whole and is staged, and this is its digest
+-- the open body of size bytes came whole and is staged, and this is its digest
 pub record StagesBody {R K : Type 0} (remaining : R → Option (List ℕ)) (size : ℕ) (old new : Feed R) (k : Ghosts K) (keeper : K) (digest : List ℕ) : Type 0 where
   pub body : List ℕ
   pub taken : TakesBody remaining size old new body

@@ -1,4 +1,4 @@
--- Over whole runs an upload acts once: sent again, it gets the same receipt and changes nothing.
+-- An upload acts once over a whole run: sent again, it gets the same receipt and changes nothing.
 use Rattle.std.specs.Prelude.{◌≡◌, ℕ, suc, Bool, true, false, List, [], ◌∷◌, ◌++◌}
 use Rattle.std.specs.List.{AllByRecursion}
 use Rattle.sigtext.specs.Bytes.{IsBeginning}
@@ -26,7 +26,7 @@ pub record Act : Type 0 where
   pub reply : Said
   pub after : State
 
--- by the rules of the machine, one after another, from a state to a state
+-- the acts follow the rules of the machine in order, from a state to a state
 abbrev pub Acts : State → List Act → State → Type 0
 Acts s [] after = after ≡ s
 Acts s (a ∷ acts) after = (a.before ≡ s) × Replies a.before a.request a.now a.reply a.after × Acts a.after acts after
@@ -37,37 +37,37 @@ text_of a = answer_text (is_head a.request) a.reply
 
 -- ---- the acts of a run
 
--- The acts of a session of up to n messages, from a state to a state. Each message that took a moment and was not given up
--- is one, in order. stream, moments, out, e and gave_up: as a session's.
+-- The acts of a session of up to n messages, from a state to a state. Each message that took a moment and was
+-- not given up is one act, in order. stream, moments, out, e and gave_up are those of the session.
 pub data AreSessionActs : ℕ → List ℕ → State → List ℕ → List ℕ → SessionEnd → Bool → List Act → State → Type 0 where
-  -- no message takes a moment any more
+  -- no further message takes a moment
   over : (n : ℕ) (stream : List ℕ) (s : State) (out : List ℕ) (e : SessionEnd) (gave_up : Bool)
       → Session n stream s [] out e gave_up s → AreSessionActs n stream s [] out e gave_up [] s
-  -- the message is given up, and all that is written is refusal 40, or a beginning of it
+  -- the message is given up, and all that is written is refusal 40 or a prefix of it
   given_up : (n : ℕ) (stream rest : List ℕ) (s : State) (r : Request) (now : ℕ) (out : List ℕ) (e : SessionEnd)
       → Next stream (frame.Message r) rest → IsReadable r → IsLastRefusal out e
       → AreSessionActs (suc n) stream s (now ∷ []) out e true [] s
-  -- an act, whose answer is written whole, and the acts after it
+  -- an act whose answer is written in full, and the acts after it
   answered : (n : ℕ) (stream rest : List ℕ) (s after : State) (a : Act) (acts : List Act) (moments out : List ℕ)
       (e : SessionEnd) (gave_up : Bool) → Next stream (frame.Message a.request) rest → a.before ≡ s
       → AreSessionActs n rest a.after moments out e gave_up acts after
       → AreSessionActs (suc n) stream s (a.now ∷ moments) (text_of a ++ out) e gave_up (a ∷ acts) after
-  -- the last act, whose answer is lost: a beginning of it is written, and then a write fails
+  -- the last act, whose answer is lost: a prefix of it is written, then a write fails
   lost : (n : ℕ) (stream rest : List ℕ) (s : State) (a : Act) (front : List ℕ) → Next stream (frame.Message a.request) rest
       → a.before ≡ s → IsBeginning front (text_of a)
       → AreSessionActs (suc n) stream s (a.now ∷ []) front WriteFault false (a ∷ []) a.after
 
--- the acts of the connections, one connection after another
+-- the acts of the connections, in order
 abbrev pub AreActs : State → List Connection → List ℕ → List Act → State → Type 0
 AreActs s [] moments acts after = (moments ≡ []) × (acts ≡ []) × (after ≡ s)
 AreActs s (c ∷ cs) moments acts after =
     (first others : List ℕ) × (here more : List Act) × (mid : State) × (moments ≡ first ++ others) × (acts ≡ here ++ more)
     × AreSessionActs most_messages c.stream s first c.answers c.end c.gave_up here mid × AreActs mid cs others more after
 
--- ---- uploads that come again
+-- ---- repeated uploads
 
--- The act is an upload of these bytes to this place, for which the rules of numbers 7 to 26 hold. Of the rules on boxes
--- and files nothing is said.
+-- The act is an upload of these bytes to this place that obeys rules 7 to 26. Nothing is said of the rules on
+-- boxes and files.
 pub record IsUploadOf (place : Place) (bytes : List ℕ) (a : Act) : Type 0 where
   pub parts : LinkValues
   pub reaches : ReachesBoxes a.before a.request a.now parts
@@ -82,7 +82,7 @@ pub record GotReceipt (a : Act) : Type 0 where
   pub digits : List ℕ
   pub is : a.reply ≡ Kept number size digits
 
--- the act is a desk command that drops the file at this place, and is done
+-- the act is a desk command that drops the file at this place, and it is done
 pub record DropsFile (place : Place) (a : Act) : Type 0 where
   pub parts : LinkValues
   pub reaches : ReachesBoxes a.before a.request a.now parts
@@ -90,13 +90,15 @@ pub record DropsFile (place : Place) (a : Act) : Type 0 where
   pub asks : Asks parts (DropFile place)
   pub done : a.reply ≡ Done
 
--- the act is no upload of other bytes to this place that got a receipt, and drops no file there
+-- the act is not an upload of other bytes to this place that got a receipt, and it does not drop the file
+-- there
 pub record LeavesFile (place : Place) (bytes : List ℕ) (a : Act) : Type 0 where
   pub same : (other : List ℕ) → IsUploadOf place other a → GotReceipt a → other ≡ bytes
   pub not_dropped : DropsFile place a → ⊥
 
--- An upload got a receipt, and no act since then put other bytes in its place or dropped its file. Then a further upload of
--- its bytes to its place gets this receipt, and changes nothing: after closing time too, and where the box is full.
+-- Suppose an upload got a receipt, and no act since then put other bytes in its place or dropped its file.
+-- Then a further upload of its bytes to its place gets this receipt and changes nothing, even after closing
+-- time or if the box is full.
 abbrev pub RepeatsOnce : List Act → Type 0
 RepeatsOnce acts =
     (earlier between later : List Act) (first again : Act) (place : Place) (bytes : List ℕ)
@@ -104,7 +106,7 @@ RepeatsOnce acts =
     → AllByRecursion (LeavesFile place bytes) between → IsUploadOf place bytes again
     → (again.reply ≡ first.reply) × (again.after ≡ again.before)
 
--- the acts of the connections, which are a run of the machine in which an upload acts once
+-- the acts of the connections are a run of the machine in which an upload acts once
 pub record ActsOnce (s : State) (cs : List Connection) (moments : List ℕ) (after : State) : Type 0 where
   pub acts : List Act
   pub are : AreActs s cs moments acts after

@@ -1,4 +1,4 @@
--- A connection that is replayed: from a state, at one moment.
+-- Replaying a connection: from a state, at one moment.
 use Rattle.std.specs.Prelude.{◌≡◌, ◌≢◌, ℕ, Bool, false, List, [], ◌∷◌, ◌++◌, length, map, slice_get, Option, Some, Result, MatchResult, replicate, ⊤}
 use Rattle.std.specs.Borrow.{Bor}
 use Rattle.std.specs.List.{count_by}
@@ -11,7 +11,7 @@ use Rattle.office.specs.Connections.{IsStream, StaysOpen, is_fault}
 use Rattle.office.specs.Crashes.{Survives}
 use Rattle.office.specs.Sessions.{Connection, Run, Session, most_messages}
 
--- what was read and written is a session from the state, each of whose messages was handled at the moment
+-- what was read and written is a session from the state in which each message was handled at the moment
 pub record Replays (input input' output output' : Option (List ℕ)) (s : State) (moment : ℕ) (e : SessionEnd) : Type 0 where
   pub stream : List ℕ
   pub messages : ℕ
@@ -22,7 +22,7 @@ pub record Replays (input input' output output' : Option (List ℕ)) (s : State)
   pub written : Appends output output' answers
   pub session : Session most_messages stream s (replicate messages moment) answers e gave_up after
 
--- the answers to all the bytes; where the session gave up, to those that were read before it did
+-- the answers to all the bytes or, if the session gave up, to those that were read before it did
 pub record IsReplay (bytes : List ℕ) (s : State) (moment : ℕ) (answers : List ℕ) (e : SessionEnd) : Type 0 where
   pub front : List ℕ
   pub rest : List ℕ
@@ -33,18 +33,18 @@ pub record IsReplay (bytes : List ℕ) (s : State) (moment : ℕ) (answers : Lis
   pub after : State
   pub session : Session most_messages front s (replicate messages moment) answers e gave_up after
 
--- all of them are this moment
+-- all of them equal this moment
 abbrev pub AreAll : ℕ → List ℕ → Type 0
 AreAll moment [] = ⊤
 AreAll moment (m ∷ moments) = (m ≡ moment) × AreAll moment moments
 
--- the answers of the connections, one behind another
+-- the answers of the connections in order
 abbrev pub answers_in : List Connection → List ℕ
 answers_in [] = []
 answers_in (c ∷ cs) = c.answers ++ answers_in cs
 
--- what was written is the answers of n connections, which were served one after another from the state, each message at the
--- moment; this is the state after, and so many of them ended by a fault
+-- What was written is the answers of n connections. They were served in order from the state, each message at
+-- the moment. after is the state after, and faults of them ended by a fault.
 pub record InTurn (output output' : Option (List ℕ)) (s after : State) (moment n faults : ℕ) : Type 0 where
   pub connections : List Connection
   pub moments : List ℕ
@@ -54,14 +54,15 @@ pub record InTurn (output output' : Option (List ℕ)) (s after : State) (moment
   pub many : length connections ≡ n
   pub faulty : faults ≡ count_by (λ c. is_fault c.end) connections
 
--- the same, over a keeper: where none of the connections gave up, it is open if it was; and what a crash leaves, whichever did
+-- The same over a keeper. If no connection gave up, it is open if it was before. survives says what a crash
+-- leaves in any case.
 pub record InTurnOver {K : Type 0} (k : Ghosts K) (keeper keeper' : K) (output output' : Option (List ℕ)) (s after : State) (moment n faults : ℕ) : Type 0 where
   pub turn : InTurn output output' s after moment n faults
   pub opened : StaysOpen k turn.connections keeper keeper' after
   pub survives : Survives k keeper keeper' s after
 
--- All the streams were served in turn, where the result counts the faults; or those before the one that it names. Served n
--- faults: n connections were served in turn, and so many of them ended by a fault.
+-- Either all streams were served in order, and the result counts the faults, or those before the stream that
+-- it names. Served n faults: n connections were served in order, and faults of them ended by a fault.
 abbrev pub TakesTurns : (ℕ → ℕ → Type 0) → List (Bor (List ℕ)) → Result ℕ (Bor (List ℕ)) → Type 0
 TakesTurns Served streams result = MatchResult result
     (λ faults. Served (length streams) faults)

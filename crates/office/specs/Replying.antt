@@ -1,4 +1,4 @@
--- What a request is replied, before the reply is written as an answer.
+-- The reply to a request, before it is written as an answer.
 use Rattle.std.specs.Prelude.{◌≡◌, ◌≢◌, ℕ, Result, Ok, Err}
 use Rattle.sigtext.specs.declared.refusal.Refusal.{Refusal}
 use Rattle.sigtext.specs.declared.refusal.Refusal.TheVariants as rule
@@ -14,8 +14,8 @@ use Rattle.office.specs.Answering.{AcceptsRequest, shown}
 use Rattle.office.specs.Premise.{IsLeft}
 use Rattle.office.specs.Rules.{Rule}
 
--- the request is accepted, this is its reply, and the keeper means the state after it; or, unless memory was
--- refused or the keeper counted a fault, it is refused by the least rule that fails
+-- Either the request is accepted, this is its reply, and the keeper means the state after it. Or it is
+-- refused by the first rule that fails, unless memory was refused or the keeper counted a fault.
 abbrev pub IsReplied : (State → Type 0) → State → Request → ℕ → Result Reply Refusal → Type 0
 IsReplied means s r now (Ok x) = (step : StepReply) × (after : State) × AcceptsRequest s r now step after × IsLeft means after × (said_of x ≡ shown step)
 IsReplied means s r now (Err q) = (q ≢ rule.TryAgain) → IsFirstToFail (Rule s r now) q

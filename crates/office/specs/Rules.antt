@@ -1,4 +1,4 @@
--- All rules of numbers 7 to 36, over a state, a request and a moment.
+-- All rules from 7 to 36, over a state, a request and a moment.
 use Rattle.std.specs.Prelude.{◌≡◌, ◌≢◌, ℕ, ◌⊎◌, ◌==◌, IsTrue, List, [], ◌∷◌, drop, codes, Option, IfSome, option_map, ⊤}
 use Rattle.std.specs.List.{before_first, after_first}
 use Rattle.std.specs.FinMap.{get}
@@ -26,35 +26,36 @@ IsPost r = r.method ≡ codes "POST"
 abbrev pub IsFetch : Request → Type 0
 IsFetch r = (r.method ≡ codes "GET") ⊎ (r.method ≡ codes "HEAD")
 
--- the box stands between the first `/` and the second, or the end; the name is what follows the second
+-- the box is between the first `/` and the second, or the end; the name is everything after the second
 abbrev pub place_of : List ℕ → Place
 place_of path = record { box = before_first (λ b. b == 47) (drop 1 path); name = after_first (λ b. b == 47) (drop 1 path) }
 
--- what the state says of a key id
+-- what the state knows of a key id
 abbrev pub known : State → List ℕ → Option KnownKey
 known s id = option_map (λ k. record { secret = k.secret; revoked = k.revoked }) (get s.keys id)
 
--- a moment, with the office's allowance
+-- a moment with the office's allowance
 abbrev pub judged_at : State → ℕ → Now
 judged_at s now = moment_with s.allowance now
 
--- the upload that a request is
+-- the upload that a request asks for
 abbrev pub upload_of : Request → ℕ → LinkValues → Upload
 upload_of r now p = record { place = place_of p.path; bytes = r.body; now = now; key = p.key_id }
 
--- POST is a clerk's; PUT, GET and HEAD ask that the key may use the path's box, there or not
+-- POST is for clerks only; for PUT, GET and HEAD the key must be allowed to use the path's box, whether the
+-- box exists or not
 pub record MaySend (s : State) (r : Request) (p : LinkValues) : Type 0 where
   pub desk : IsPost r → IfSome (get s.keys p.key_id) (λ k. k.role ≡ Clerk)
   pub boxes : IsPut r ⊎ IsFetch r → MayUse s p.key_id (place_of p.path).box
 
--- 24 to 26: what the key may send, and whether a body belongs to the method
+-- Rules 24 to 26: what the key may send, and whether the method takes a body.
 abbrev pub FormRule : Refusal → State → Request → LinkValues → Type 0
 FormRule rule.RoleNotAllowed s r p = MaySend s r p
 FormRule rule.LengthMissing s r p = IsPut r → IsTrue r.has_length
 FormRule rule.BodyNotTaken s r p = (r.method ≢ codes "PUT") → r.body ≡ []
 FormRule _ s r p = ⊤
 
--- the path is `/`, and the parameter `desk` holds this command, which has its form
+-- the path is `/`, and the parameter `desk` holds this command, which is well formed
 pub record Asks (p : LinkValues) (command : Command) : Type 0 where
   pub at_desk : p.path ≡ 47 ∷ []
   pub text : List ℕ
@@ -62,13 +63,14 @@ pub record Asks (p : LinkValues) (command : Command) : Type 0 where
   pub is_command : IsCommand text command
   pub form : HasForm command
 
--- 35 and 36
+-- rules 35 and 36
 abbrev pub DeskRule : Refusal → State → LinkValues → Type 0
 DeskRule rule.CommandMalformed s p = (command : Command) × Asks p command
 DeskRule rule.CommandNotPossible s p = (command : Command) × Asks p command × IsPossible s command
 DeskRule _ s p = ⊤
 
--- the rule that this refusal reports. A refusal of framing, and that of want of memory, have none.
+-- The rule that this refusal reports. Refusals of framing have none, and neither has the one for lack of
+-- memory.
 pub record Rule (s : State) (r : Request) (now : ℕ) (q : Refusal) (p : LinkValues) : Type 0 where
   pub head : HeadRule q r p
   pub link : LinkRule q (known s p.key_id) r (judged_at s now) p

@@ -1,4 +1,4 @@
--- Connections that are served in turn, as they were and as they are.
+-- Connections that are served in turns, before and after.
 use Rattle.std.specs.Prelude.{◌≡◌, ◌≤◌, ◌+◌, ◌⊎◌, ℕ, suc, Bool, true, false, cond, is_some, List, [], ◌∷◌, length, Option, Some, None, ⊤}
 use Rattle.std.specs.Io.KnownBytes.{Appends, Consumes, Keeps, prepend_known}
 use Rattle.std.specs.List.{AllByRecursion}
@@ -15,16 +15,17 @@ use Rattle.office.specs.Interleaved.{Thread, Turn, turns_by}
 use Rattle.office.specs.Sessions.{EndsAtOnce, most_messages}
 use Rattle.office.specs.Stepping.{Goes, TellsStep}
 
--- what is left of its stream: the bytes that its feed read and did not take, and those that its reader has
+-- what is left of its stream: the bytes that its feed read and did not take, followed by those that its
+-- reader has
 abbrev pub left_of : {R W : Type 0} → (R → Option (List ℕ)) → Seat R W → Option (List ℕ)
 left_of remaining seat = prepend_known (ahead_of seat.standing) (remaining seat.reader.inner)
 
--- no message of it was served
+-- none of its messages was served
 pub record IsNew {R W : Type 0} (seat : Seat R W) : Type 0 where
   pub none : seat.served ≡ 0
   pub open_still : seat.end ≡ None
 
--- Bytes of it were read ahead, or put back, and nothing else was done.
+-- Bytes of the connection were read ahead or put back. Nothing else was done.
 pub record Gathers {R W : Type 0} (remaining : R → Option (List ℕ)) (old new : Seat R W) : Type 0 where
   pub place : stood_at new.standing ≡ stood_at old.standing
   pub keeps : Keeps (left_of remaining old) (left_of remaining new)
@@ -33,7 +34,7 @@ pub record Gathers {R W : Type 0} (remaining : R → Option (List ℕ)) (old new
   pub served : new.served ≡ old.served
   pub end : new.end ≡ old.end
 
--- Bytes that were written to it were sent on, whether it has ended or not, and nothing else was done.
+-- Bytes that were written to the connection were sent, whether it has ended or not. Nothing else was done.
 pub record Sends {R W : Type 0} (contents : W → Option (List ℕ)) (old new : Seat R W) : Type 0 where
   pub standing : new.standing ≡ old.standing
   pub reader : new.reader ≡ old.reader
@@ -45,14 +46,15 @@ pub record Sends {R W : Type 0} (contents : W → Option (List ℕ)) (old new : 
 -- One turn of a connection.
 pub data TakesTurn {C K R W : Type 0} (gives : C → ℕ → C → Type 0) (remaining : R → Option (List ℕ)) (contents : W → Option (List ℕ)) (old new : Seat R W) (clock clock' : C)
     (k : Ghosts K) (keeper keeper' : K) (s after : State) : Type 0 where
-  -- it had ended, and nothing was done
+  -- it had ended before, and nothing was done
   had_ended : (e : SessionEnd) → old.end ≡ Some e → new ≡ old → clock' ≡ clock → keeper' ≡ keeper → after ≡ s
       → TakesTurn gives remaining contents old new clock clock' k keeper keeper' s after
   -- its next message was answered, and it goes on
   went_on : old.end ≡ None → new.end ≡ None → new.served ≡ old.served + 1
       → Goes gives (left_of remaining old) (left_of remaining new) (contents old.writer.inner) (contents new.writer.inner) clock clock' k keeper keeper' s after
       → TakesTurn gives remaining contents old new clock clock' k keeper keeper' s after
-  -- it ended, as a session of the n messages does that were to come at most, and did not go on behind a message
+  -- It ended like a session of n messages, where n is the most that were still to come. It did not go on
+  -- after a message.
   ended : (n : ℕ) (e : SessionEnd) → old.end ≡ None → new.end ≡ Some e → new.served ≡ old.served → n + old.served ≡ most_messages
       → (serves : Serves n gives (left_of remaining old) (remaining new.reader.inner) (contents old.writer.inner) (contents new.writer.inner) clock clock' k keeper keeper' s after e)
       → EndsAtOnce serves.session → TakesTurn gives remaining contents old new clock clock' k keeper keeper' s after
@@ -65,12 +67,12 @@ TellsTurnOf (Some e) old new = new ≡ old
 abbrev pub TellsTurn : {R W : Type 0} → Seat R W → Seat R W → Type 0
 TellsTurn old new = TellsTurnOf old.end old new
 
--- the stream of a connection that ended, or of one that did not
+-- the stream of a connection, whether it ended or not
 abbrev pub IsStreamOf : Bool → Option SessionEnd → Option (List ℕ) → Option (List ℕ) → Option (List ℕ) → List ℕ → Type 0
 IsStreamOf gave_up None input left reader stream = Consumes input left stream
 IsStreamOf gave_up (Some e) input left reader stream = IsStream gave_up e input reader stream
 
--- each connection as it was served: what its reader gave, what its writer was given, and what its end tells
+-- each connection as it was served: what its reader gave, what was written to it, and what its end tells
 abbrev pub AreThreads : {R W : Type 0} → (R → Option (List ℕ)) → (W → Option (List ℕ)) → List (Seat R W) → List (Seat R W) → List Thread → Type 0
 AreThreads remaining contents [] [] [] = ⊤
 AreThreads remaining contents (old ∷ olds) (new ∷ news) (c ∷ cs) =
@@ -82,27 +84,27 @@ AreThreads remaining contents olds news cs = ⊥
 abbrev pub NoThreadGaveUp : List Thread → Type 0
 NoThreadGaveUp threads = AllByRecursion (λ c. c.gave_up ≡ false) threads
 
--- Where no connection gave up, the keeper's count stays, and one that was open is open and means this state and no other. Where one
--- gave up at a failed read, the count rose.
+-- If no connection gave up, the keeper's count is unchanged, and a keeper that was open is open and means
+-- exactly this state. If a connection gave up at a failed read, the count rose.
 pub record StaysSo {K : Type 0} (k : Ghosts K) (threads : List Thread) (keeper keeper' : K) (after : State) : Type 0 where
   pub counted : NoThreadGaveUp threads → k.faults keeper' ≡ k.faults keeper
   pub rose : AllByRecursion (λ c. c.gave_up ≡ true → c.end ≡ Some ReadFault → Rose (k.faults keeper) (k.faults keeper')) threads
   pub opened : NoThreadGaveUp threads → k.is_open keeper → k.is_open keeper' × ((t : State) → k.means keeper' t → t ≡ after)
 
--- where nothing was given up but at a failed read, the state after outlasts a crash
+-- if nothing was given up except at a failed read, the state after survives a crash
 abbrev pub LastsOver : {K : Type 0} → Ghosts K → List Thread → K → K → State → State → Type 0
 LastsOver k threads keeper keeper' s after =
     AllByRecursion (λ c. (c.gave_up ≡ false) ⊎ (c.end ≡ Some ReadFault)) threads → LastsThrough k keeper keeper' s after
 
--- how many turns a connection took: one for each message after which it went on, and the one in which it ended
+-- the number of turns of a connection: one for each message after which it went on, and one in which it ended
 abbrev pub turns_of : {R W : Type 0} → Seat R W → ℕ
 turns_of seat = seat.served + cond (is_some seat.end) 1 0
 
--- each connection, from the number i on, has as many of the turns as it took
+-- each connection, from number i on, has as many turns as it took
 abbrev pub HaveTurns : {R W : Type 0} → List Turn → ℕ → List (Seat R W) → Type 0
 HaveTurns turns i [] = ⊤
 HaveTurns turns i (seat ∷ seats) = (turns_by i turns ≡ turns_of seat) × HaveTurns turns (suc i) seats
 
--- a turn tells one moment at most
+-- a turn tells at most one moment
 abbrev pub TellsOneMoment : Turn → Type 0
 TellsOneMoment turn = length turn.moments ≤ 1

@@ -1,4 +1,4 @@
--- What the writing of an answer leaves.
+-- What writing an answer does.
 use Rattle.std.specs.Prelude.{◌⊎◌, ℕ, List, Option}
 use Rattle.std.specs.Io.KnownBytes.{Appends}
 use Rattle.wire.specs.declared.answer.Answer.{Answer}
@@ -8,7 +8,7 @@ use Rattle.office.specs.declared.connections.handling.Handled.{Handled}
 use Rattle.office.specs.declared.connections.handling.Handled.TheVariants.{Answered, GaveUp, Broken}
 use Rattle.office.specs.Offices.{IsTryAgain}
 
--- the whole text was written, or a beginning of it
+-- the text was written, in full or in part
 abbrev pub IsSent : Option (List ℕ) → Option (List ℕ) → Answer → Handled → Type 0
 IsSent old new a Answered = (IsTryAgain a → ⊥) × Appends old new (whole_text a)
 IsSent old new a GaveUp = IsTryAgain a × Appends old new (whole_text a)

@@ -20,12 +20,12 @@ use Rattle.office.specs.Readable.{IsReadable}
 abbrev pub closing : Refusal → List ℕ
 closing q = answer_text false (answer.Refused q)
 
--- how many messages a connection is served
+-- the most messages on one connection
 abbrev pub most_messages : ℕ
 most_messages = 1000
 
--- A message has begun: a head that keeps the rules 1 to 5 stands whole at the front of the bytes, and its request is readable,
--- whatever its body.
+-- A message has begun: a whole head that obeys rules 1 to 5 is at the front of the bytes, and its request is
+-- readable with any body.
 pub record HasBegunMessage (bytes : List ℕ) : Type 0 where
   pub text : List ℕ
   pub given : List ℕ
@@ -35,14 +35,15 @@ pub record HasBegunMessage (bytes : List ℕ) : Type 0 where
   pub opens : Opens text has_length size
   pub readable : IsReadable (request_of opens.head has_length [])
 
--- Where a session may give up before a message was read whole, if up to n are to come. For the first buffer: as the first
--- thing of a connection, before anything was read. Or within a message that has begun.
+-- Where a session may give up before a whole message was read, if up to n are to come. Either it had no
+-- buffer: before anything was read on the connection. Or it was within a message that has begun.
 abbrev pub MayGiveUpReading : ℕ → List ℕ → Type 0
 MayGiveUpReading n stream = ((n ≡ most_messages) × (stream ≡ [])) ⊎ HasBegunMessage stream
 
--- Up to n further messages of a stream are served from a state. This takes the moments, one for each
--- message that was read whole, writes the bytes, ends so, and leaves the last state. The mark says
--- whether the session gave up: whether refusal 40 is its last answer, written or begun, or a fault took its place.
+-- Up to n more messages of a stream are served from a state. The arguments after the state are the moments,
+-- one for each message that was read whole; the bytes written; the end; whether the session gave up; and the
+-- last state. A session gave up if refusal 40 is its last answer, written in full or in part, or if a fault
+-- took the place of that answer.
 pub data Session : ℕ → List ℕ → State → List ℕ → List ℕ → SessionEnd → Bool → State → Type 0 where
   limit : (stream : List ℕ) (s : State) → Session zero stream s [] [] Limit false s
   ended : (n : ℕ) (stream : List ℕ) (s : State) → Next stream frame.Ended [] → Session (suc n) stream s [] [] Ended false s
@@ -55,14 +56,14 @@ pub data Session : ℕ → List ℕ → State → List ℕ → List ℕ → Sess
   -- memory was refused, or the keeper counted a fault, at a message
   gave_up_at : (n : ℕ) (stream rest : List ℕ) (s : State) (r : Request) (now : ℕ) → Next stream (frame.Message r) rest → IsReadable r
       → Session (suc n) stream s (now ∷ []) (closing rule.TryAgain) (Refused 40) true s
-  -- memory was refused, or the keeper counted a fault, before a message was read whole
+  -- memory was refused, or the keeper counted a fault, before a whole message was read
   gave_up_reading : (n : ℕ) (stream : List ℕ) (s : State) → MayGiveUpReading (suc n) stream
       → Session (suc n) stream s [] (closing rule.TryAgain) (Refused 40) true s
-  -- a read failed, and the bytes read before it don't tell the next step
+  -- a read failed, and the bytes before it do not tell the next step
   read_failed : (n : ℕ) (stream : List ℕ) (s : State) → Awaits stream → Session (suc n) stream s [] [] ReadFault false s
-  -- the same, and the keeper counted a fault as it let go of what it was given of the body
+  -- the same, and the keeper counted a fault while it dropped what it had of the body
   read_failed_giving_up : (n : ℕ) (stream : List ℕ) (s : State) → Awaits stream → HasBegunMessage stream → Session (suc n) stream s [] [] ReadFault true s
-  -- a write failed, and a beginning of the answer was written; the request has taken effect, or was refused
+  -- A write failed, and a prefix of the answer was written. The request took effect, or was refused.
   write_failed : (n : ℕ) (stream rest : List ℕ) (s after : State) (r : Request) (now : ℕ) (text front : List ℕ)
       → Next stream (frame.Message r) rest → AnswersRequest s r now text after → IsBeginning front text
       → Session (suc n) stream s (now ∷ []) front WriteFault false after
@@ -73,7 +74,7 @@ pub data Session : ℕ → List ℕ → State → List ℕ → List ℕ → Sess
   write_failed_giving_up_reading : (n : ℕ) (stream : List ℕ) (s : State) (front : List ℕ) → MayGiveUpReading (suc n) stream
       → IsBeginning front (closing rule.TryAgain) → Session (suc n) stream s [] front WriteFault true s
 
--- Its first step ends it: it does not go on behind a message.
+-- The session ends in its first step: it does not go on after a message.
 abbrev pub EndsAtOnce : {n : ℕ} {stream : List ℕ} {s : State} {moments out : List ℕ} {e : SessionEnd} {gave_up : Bool} {after : State}
     → Session n stream s moments out e gave_up after → Type 0
 EndsAtOnce (served n stream rest s mid after r now moments text out e gave_up next answers more) = ⊥
@@ -86,7 +87,7 @@ pub record Connection : Type 0 where
   pub end : SessionEnd
   pub gave_up : Bool
 
--- the connections one after another
+-- the connections in order, one session each
 abbrev pub Run : State → List Connection → List ℕ → State → Type 0
 Run s [] moments after = (moments ≡ []) × (after ≡ s)
 Run s (c ∷ cs) moments after =

@@ -1,4 +1,4 @@
--- What one step of a session does: it handles a message, or it ends the session.
+-- One step of a session: it handles a message, or it ends the session.
 use Rattle.std.specs.Prelude.{◌≡◌, ◌≢◌, ◌⊎◌, ℕ, suc, Bool, List, ◌++◌, length, Option, Some, None, false, IsTrue, Result, Err}
 use Rattle.std.specs.Io.KnownBytes.{Appends, Consumes}
 use Rattle.sigtext.specs.Bytes.{IsBeginning}
@@ -23,7 +23,8 @@ use Rattle.office.specs.Foreseeing.{Foresees}
 use Rattle.office.specs.Premise.{HoldsUnless, HoldsUp, IsLeft}
 use Rattle.office.specs.Sessions.{EndsAtOnce, closing, most_messages}
 
--- One message was answered, and the session goes on. left and left': what is left of the stream before and after.
+-- One message was answered, and the session goes on. left and left': what was left of the stream before and
+-- after.
 pub record Goes {C K : Type 0} (gives : C → ℕ → C → Type 0) (left left' output output' : Option (List ℕ)) (clock clock' : C) (k : Ghosts K) (keeper keeper' : K)
     (s after : State) : Type 0 where
   pub front : List ℕ
@@ -38,12 +39,12 @@ pub record Goes {C K : Type 0} (gives : C → ℕ → C → Type 0) (left left' 
   pub held : HoldsUp k false keeper keeper'
   pub lasts : LastsThrough k keeper keeper' s after
 
--- up to n messages are to come of a feed that stands there: all of a connection's, where it is fresh
+-- up to n messages are to come of a feed at p; if the feed is fresh, n is the limit for a connection
 abbrev pub ToCome : Place → ℕ → Type 0
 ToCome p n = p ≡ place.Fresh → n ≡ most_messages
 
--- A step goes on behind one message, or it ends the session, however many messages were to come, and goes on behind none. p: where
--- the feed stood before; reader: what the reader has now.
+-- A step goes on after one message. Or it ends the session, however many messages were to come, and goes on
+-- after none. p: where the feed stood before; reader: what the reader has now.
 abbrev pub Steps : {C K : Type 0} → (C → ℕ → C → Type 0) → Place → Option (List ℕ) → Option (List ℕ) → Option (List ℕ) → Option (List ℕ) → Option (List ℕ) → C → C → Ghosts K → K → K → State → Option SessionEnd → Type 0
 Steps gives p left left' reader output output' clock clock' k keeper keeper' s None =
     (after : State) × IsLeft (k.means keeper') after × Goes gives left left' output output' clock clock' k keeper keeper' s after
@@ -51,19 +52,19 @@ Steps gives p left left' reader output output' clock clock' k keeper keeper' s (
     (after : State) × IsLeft (k.means keeper') after × ((n : ℕ) → ToCome p (suc n)
     → (serves : Serves (suc n) gives left reader output output' clock clock' k keeper keeper' s after e) × EndsAtOnce serves.session)
 
--- the faults that were counted in a step
+-- the faults that a step counted
 abbrev pub TellsStep : {R W : Type 0} → Option SessionEnd → Counted R → Counted R → Counted W → Counted W → Type 0
 TellsStep None reader reader' writer writer' = (reader'.faults ≡ reader.faults) × (writer'.faults ≡ writer.faults)
 TellsStep (Some e) reader reader' writer writer' = TellsFaults e reader reader' writer writer'
 
--- the closing answer of the refusal was written, or a beginning of it
+-- the closing answer of the refusal was written, in full or in part
 abbrev pub IsClosed : Option (List ℕ) → Option (List ℕ) → Refusal → SessionEnd → Type 0
 IsClosed old new q (Refused number) = (number ≡ number_of q) × Appends old new (closing q)
 IsClosed old new q WriteFault = (front : List ℕ) × Appends old new front × IsBeginning front (closing q)
 IsClosed old new q _ = ⊥
 
--- A head was read that announces a body of this size, and this was foreseen of its message, whatever the body. known: what was
--- left of the stream before the head, and left: what is left behind it.
+-- A head was read that announces a body of this size, and this was foreseen of its message with any body.
+-- known: what was left of the stream before the head; left: what is left after it.
 pub record IsExpected (s : State) (size : ℕ) (known left : Option (List ℕ)) (foreseen : Result Prospect Refusal) (to_head : Bool) : Type 0 where
   pub text : List ℕ
   pub has_length : Bool
@@ -72,7 +73,8 @@ pub record IsExpected (s : State) (size : ℕ) (known left : Option (List ℕ)) 
   pub tells : foreseen ≢ Err rule.TryAgain
   pub head : (body : List ℕ) → to_head ≡ is_head (request_of opening.opens.head has_length body)
 
--- Refusal 6 closed the connection, and the keeper counted nothing; or refusal 40, and what was to be staged is not.
+-- Either refusal 6 closed the connection, and the keeper counted nothing. Or refusal 40 closed it, and the
+-- upload is not staged.
 abbrev pub LeavesOff : {K : Type 0} → Option (List ℕ) → Option (List ℕ) → Ghosts K → K → K → Bool → SessionEnd → Type 0
 LeavesOff output output' k old new is_upload e =
     (IsClosed output output' rule.BodyIncomplete e × HoldsUnless k old new ⊥)

@@ -11,25 +11,27 @@ use Rattle.office.specs.Sessions.{HasBegunMessage, Session, Connection, Run, clo
 use Rattle.office.specs.declared.connections.session.SessionEnd.{SessionEnd}
 use Rattle.office.specs.declared.connections.session.SessionEnd.TheVariants.{Ended, Refused, ReadFault, WriteFault}
 
--- Where a connection gave up: what of its stream was answered, what was left, and the moments that it took there. This
--- was at a readable message, at one moment; or within one that had begun, or before anything was read, at none.
+-- Where a connection gave up: what was answered of its stream, what was left, and the moments that it took
+-- there. It was at a readable message, with one moment; or within a message that had begun, or before
+-- anything was read, with none.
 pub data GivesUp (front rest : List ℕ) : List ℕ → Type 0 where
   at_message : (r : Request) (now : ℕ) (more : List ℕ) → Next rest (frame.Message r) more → IsReadable r → GivesUp front rest (now ∷ [])
   within_message : HasBegunMessage rest → GivesUp front rest []
   before_all : front ≡ [] → rest ≡ [] → GivesUp front rest []
 
--- refusal 40 was the last answer: it was written, or a beginning of it where the write failed
+-- refusal 40 was the last answer: it was written in full, or in part if the write failed
 abbrev pub IsLastRefusal : List ℕ → SessionEnd → Type 0
 IsLastRefusal last (Refused number) = (number ≡ 40) × (last ≡ closing rule.TryAgain)
 IsLastRefusal last WriteFault = IsBeginning last (closing rule.TryAgain)
 IsLastRefusal last _ = ⊥
 
--- the last answer of a connection that gave up: refusal 40, or none where a read failed
+-- the last answer of a connection that gave up: refusal 40, or none if a read failed
 abbrev pub IsGivenUpBy : List ℕ → SessionEnd → Type 0
 IsGivenUpBy last e = IsLastRefusal last e ⊎ ((last ≡ []) × (e ≡ ReadFault))
 
--- d is the connection c, which gave up, as it is where its stream ends before the message at which c gave up: all
--- before that is answered as it was, and refusal 40 is not written. moments and told: those of c and of d.
+-- The connection c gave up. d is c with its stream cut before the message at which c gave up: everything
+-- before that is answered as it was, and refusal 40 is not written. moments and told: the moments of c and of
+-- d.
 pub record IsCutShort (c d : Connection) (moments told : List ℕ) : Type 0 where
   pub rest : List ℕ
   pub others : List ℕ
@@ -43,12 +45,12 @@ pub record IsCutShort (c d : Connection) (moments told : List ℕ) : Type 0 wher
   pub ended : d.end ≡ Ended
   pub unmarked : d.gave_up ≡ false
 
--- the connection is served so from a state, at these moments, and leaves this state
+-- the connection is served from a state, at these moments, and leaves this state
 abbrev pub IsServed : State → Connection → List ℕ → State → Type 0
 IsServed s c moments after = Session most_messages c.stream s moments c.answers c.end c.gave_up after
 
--- A run, and the same without what was answered with refusal 40: a connection that did not give up stays as it is, and
--- one that did is cut. Each is served from the same state as before, and leaves the same state.
+-- A run, and the same run without what was answered with refusal 40. A connection that did not give up is
+-- unchanged, and one that did is cut. Each is served from the same state as before and leaves the same state.
 pub data IsWithout : State → List Connection → List ℕ → List Connection → List ℕ → State → Type 0 where
   none : (s : State) → IsWithout s [] [] [] [] s
   stays : (s mid after : State) (c : Connection) (cs ds : List Connection) (first ms ns : List ℕ) → c.gave_up ≡ false → IsServed s c first mid
@@ -56,7 +58,8 @@ pub data IsWithout : State → List Connection → List ℕ → List Connection 
   cut : (s mid after : State) (c d : Connection) (cs ds : List Connection) (first told ms ns : List ℕ) → IsCutShort c d first told → IsServed s c first mid → IsServed s d told mid
       → IsWithout mid cs ms ds ns after → IsWithout s (c ∷ cs) (first ++ ms) (d ∷ ds) (told ++ ns) after
 
--- the connections without what was answered with refusal 40 are a run too, from the same state and to the same state
+-- without what was answered with refusal 40 the connections are also a run, from the same state to the same
+-- state
 pub record RunsWithout (s : State) (cs : List Connection) (moments : List ℕ) (after : State) : Type 0 where
   pub connections : List Connection
   pub told : List ℕ

@@ -1,4 +1,4 @@
--- Connections that were served in turn, without the messages that were answered with refusal 40.
+-- Connections that were served in turns, without the messages that were answered with refusal 40.
 use Rattle.std.specs.Prelude.{◌≡◌, ◌⊎◌, ℕ, suc, true, false, List, [], ◌∷◌, ◌++◌, Some, ⊤}
 use Rattle.boxes.specs.State.{State}
 use Rattle.office.specs.Interleaved.{Interleaved, Thread, Turn, acts_in, own_moments}
@@ -6,8 +6,9 @@ use Rattle.office.specs.WithoutTryAgain.{GivesUp, IsGivenUpBy}
 use Rattle.office.specs.declared.connections.session.SessionEnd.{SessionEnd}
 use Rattle.office.specs.declared.connections.session.SessionEnd.TheVariants.{Ended}
 
--- d is the connection c, which gave up, as it is where its stream ends before the message at which c gave up: all before that is
--- answered as it was, and refusal 40 is not written. moments and told: those of c and of d.
+-- The connection c gave up. d is c with its stream cut before the message at which c gave up: everything
+-- before that is answered as it was, and refusal 40 is not written. moments and told: the moments of c and of
+-- d.
 pub record IsThreadCut (c d : Thread) (moments told : List ℕ) : Type 0 where
   pub rest : List ℕ
   pub others : List ℕ
@@ -23,7 +24,8 @@ pub record IsThreadCut (c d : Thread) (moments told : List ℕ) : Type 0 where
   pub ended : d.end ≡ Some Ended
   pub unmarked : d.gave_up ≡ false
 
--- each connection, from the number i on, is as it was at the same moments, if it did not give up; and else it is cut
+-- each connection, from number i on, is unchanged with the same moments if it did not give up, and otherwise
+-- is cut
 abbrev pub AreCut : List Turn → List Turn → ℕ → List Thread → List Thread → Type 0
 AreCut turns others i [] [] = ⊤
 AreCut turns others i (c ∷ cs) (d ∷ ds) =
@@ -31,8 +33,8 @@ AreCut turns others i (c ∷ cs) (d ∷ ds) =
     × AreCut turns others (suc i) cs ds
 AreCut turns others i cs ds = ⊥
 
--- The connections without what was answered with refusal 40 were served in turn, too, from the same state to the same state, and
--- the same was done for the other messages in the same order.
+-- Without the messages answered with refusal 40 the connections were also served in turns, from the same
+-- state to the same state, with the same acts for the other messages in the same order.
 pub record InterleavedWithout (s : State) (threads : List Thread) (moments : List ℕ) (after : State) (run : Interleaved s threads moments after) : Type 0 where
   pub others : List Thread
   pub told : List ℕ

@@ -5,10 +5,10 @@ use sigv4::Moment;
 
 /// A clock that tells moments.
 pub trait Clock {
-    /// What one call may tell, and the clock after it.
+    /// The moment that a call may tell, and the clock after it.
     ghost now_gives: { Self → ℕ → Self → Type 0 };
 
-    /// The moment now.
+    /// The current moment.
     fn now(&mut self) -> Moment
         ensures { now_gives self.old result self.new };
 }
@@ -23,7 +23,7 @@ impl FixedClock {
     ghost use Rattle.std.specs.Prelude.{◌≡◌, ℕ, List, length, replicate};
     ghost use Rattle.office.specs.Connections.{TellsMoments};
 
-    /// A clock that tells this moment, however often it is asked.
+    /// A clock that always tells this moment.
     pub fn new(moment: Moment) -> FixedClock
         ensures { (moments : List ℕ) (later : FixedClock)
             → TellsMoments ⟦<FixedClock as Clock>⟧.now_gives result moments later
@@ -43,12 +43,12 @@ impl Clock for FixedClock {
     }
 }
 
-/// A clock that tells the moments of a list one after another, and repeats the last.
+/// A clock that tells the moments of a list in order and repeats the last.
 #[derive(Clone, Copy, Debug)]
 pub struct ListedClock<'a> {
-    // The moment that is told next.
+    // The next moment.
     first: Moment,
-    // Those after it.
+    // The moments after it.
     others: &'a [Moment],
 }
 
@@ -57,7 +57,7 @@ impl<'a> ListedClock<'a> {
     ghost use Rattle.office.specs.Clocks.{listed};
     ghost use Rattle.office.specs.Connections.{TellsMoments};
 
-    /// A clock that tells the first moment, then the others in their order, and then the last of them for ever.
+    /// A clock that tells the first moment, then the others in order, and then the last one forever.
     pub fn new(first: Moment, others: &'a [Moment]) -> ListedClock<'a>
         ensures { (moments : List ℕ) (later : ListedClock)
             → TellsMoments ⟦<ListedClock<'a> as Clock>⟧.now_gives result moments later

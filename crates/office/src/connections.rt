@@ -1,4 +1,4 @@
-//! Connections: one, a list of them, and a listener's; each message of one is a request.
+//! Connections: one, a list of them, and those of a listener. Each message of a connection is a request.
 pub mod crowding;
 mod handling;
 mod receiving;

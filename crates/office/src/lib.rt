@@ -1,4 +1,5 @@
-//! The office: one request, one connection, a list of connections, and a listener's, over any keeper.
+//! The office over any keeper: one request, one connection, a list of connections, and the connections of a
+//! listener.
 #![tactic(auto)]
 
 pub mod clocks;

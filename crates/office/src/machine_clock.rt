@@ -1,4 +1,4 @@
-//! The clock of the machine that the program runs on.
+//! The clock of the machine that runs the program.
 ghost use Rattle.std.specs.Prelude.{◌≡◌, min};
 
 use crate::clocks::Clock;
@@ -9,15 +9,15 @@ use std::time::SystemTime;
 /// 9999-12-31T23:59:59Z, in seconds since 1970.
 const LAST_SECOND: u64 = 253_402_300_799;
 
-/// The machine's clock, in whole seconds of UTC: before 1970, or where it can't be read, it tells the first moment, and
-/// after 9999 the last.
+/// The machine's clock, in whole seconds of UTC. It tells the first moment before 1970 or if the clock can't
+/// be read, and the last moment after 9999.
 #[derive(Clone, Copy)]
 pub struct MachineClock<'a, R: time::Clock> {
     rt: &'a R,
 }
 
 impl<'a, R: time::Clock> MachineClock<'a, R> {
-    /// The clock of the machine that the program runs on.
+    /// The clock of the machine that runs the program.
     pub fn new(rt: &'a R) -> MachineClock<'a, R> {
         MachineClock { rt }
     }
@@ -34,7 +34,7 @@ impl<R: time::Clock> Clock for MachineClock<'_, R> {
     }
 }
 
-// The machine's seconds since 1970, 0 before it or where its clock can't be read.
+// The machine's seconds since 1970; 0 before 1970 or if its clock can't be read.
 fn seconds_of<R: time::Clock>(rt: &R) -> u64 {
     let Ok(time) = SystemTime::now(rt) else {
         return 0;
@@ -45,7 +45,7 @@ fn seconds_of<R: time::Clock>(rt: &R) -> u64 {
     }
 }
 
-// The moment of these seconds, or the last moment.
+// The moment with these seconds, at most the last moment.
 fn moment_at(seconds: u64) -> Moment
     ensures { result ≡ min seconds 253402300799 }
 {

@@ -6,18 +6,18 @@ use std::alloc::Global;
 /// An office over a keeper.
 #[derive(Drop)]
 pub struct Office<K> {
-    /// Keeps what the office holds.
+    /// Stores what the office holds.
     pub keeper: K,
-    /// Where each answer's memory comes from.
+    /// The allocator for each answer.
     pub alloc: Global,
-    // Most links are signed by the key that the link before was.
+    // The signing key of the last link. Most links use the same key as the link before.
     pub(crate) last_key: LastKey,
 }
 
 impl<K: Keeper> Office<K> {
     ghost use Rattle.std.specs.Prelude.{◌≡◌};
 
-    /// An office over this keeper, which it holds as it is.
+    /// An office over this keeper, with what the keeper holds.
     pub fn new(alloc: Global, keeper: K) -> Office<K>
         ensures { result.keeper ≡ keeper }
     {

@@ -1,4 +1,4 @@
-//! One request: what it is answered, and what it changes.
+//! One request: its answer, and what it changes.
 mod admitting;
 pub(crate) mod announced;
 pub mod answering;

@@ -1,4 +1,4 @@
--- Slots that are free, or become so.
+-- Slots that are free, or become free.
 use Rattle.std.proofs.Common.{⊎_elim, ◌≡◌, ◌≤◌, ◌↔◌, Bool, true, false, ◌<◌, ◌+◌, ◌++◌, ◌⊎◌, ◌∙◌, ap, inl, inr, length, slice_set, subst, sym, Some, ℕ, suc, zero, List, [], ◌∷◌, Option, None, refl, arith}
 use Rattle.std.specs.Prelude.{IfSome}
 use Rattle.std.proofs.lemmas.Bool.{cases_lt}
@@ -15,7 +15,7 @@ use Rattle.wire.specs.declared.outbox.Sending.{Sending}
 use Rattle.wire.specs.declared.outbox.Sending.TheVariants as sending
 use Rattle.sockets.specs.Accepting.{IsSettled, IsThrough, MayGo}
 
--- where it is false that one more may be counted, none may
+-- if one more can't be counted, the count is at its limit
 pub no_more : (n : ℕ) (may : Bool) → may ≡ true ↔ (n < 18446744073709551615) → may ≡ false → 18446744073709551615 ≤ n
 no_more n may tells is = ⊎_elim (λ (lt : n < 18446744073709551615). absurd (cc (tells.1 lt, is))) (λ (le : 18446744073709551615 ≤ n). le) (cases_lt n 18446744073709551615)
 
@@ -26,7 +26,7 @@ free_more [] all (suc p) = refl
 free_more (x ∷ slots) all zero = all zero
 free_more (x ∷ slots) all (suc p) = free_more slots (λ q. all (suc q)) p
 
--- what holds below n and at n holds below the next number
+-- a property that holds below n and at n holds below n + 1
 pub up_to : (P : ℕ → Type 0) (n : ℕ) → ((p : ℕ) → p < n → P p) → P n → (p : ℕ) → p < n + 1 → P p
 up_to P zero all last zero lt = last
 up_to P zero all last (suc p) lt = absurd (omega (arith, lt))
@@ -34,13 +34,13 @@ up_to P (suc n) all last zero lt = all zero (omega arith)
 up_to P (suc n) all last (suc p) lt = up_to (λ q. P (suc q)) n (λ q l. all (suc q) (omega (arith, l))) last p (omega (arith, lt))
 
 module _ {X : Type 0} where
-  -- what was put there stands there
+  -- the slot holds what was put there
   pub set_there : (slots : List (Option X)) (p : ℕ) (x : Option X) → p < length slots → slot_at (slice_set slots p x) p ≡ x
   set_there [] p x lt = absurd (omega (arith, lt))
   set_there (y ∷ slots) zero x lt = refl
   set_there (y ∷ slots) (suc p) x lt = set_there slots p x (omega (arith, lt))
 
-  -- what is put there last, stands
+  -- the slot holds what was put there last
   pub set_again : (slots : List (Option X)) (p : ℕ) (x y : Option X) → slice_set (slice_set slots p x) p y ≡ slice_set slots p y
   set_again [] p x y = refl
   set_again (z ∷ slots) zero x y = refl
@@ -51,12 +51,12 @@ module _ {X : Type 0} where
   set_length (y ∷ slots) zero x = refl
   set_length (y ∷ slots) (suc p) x = omega (arith, set_length slots p x)
 
--- nothing is left of nothing
+-- nothing is left of an empty list
 nothing_left : (xs ys : List ℕ) → [] ≡ xs ++ ys → ys ≡ []
 nothing_left [] ys is = sym is
 nothing_left (x ∷ xs) ys is = absurd cc
 
--- one that was through is so still once bytes were sent on
+-- a connection that was through is still through after bytes were sent
 still_through : {E : Type 0} (given : Outbox E → Option (List ℕ)) (contents : E → Option (List ℕ)) (outcome : Sending) (a b : Seat (Gathered E) (Outbox E)) → Sends given a b → SendsOn contents a b outcome
     → IsThrough a → IsThrough b
 still_through given contents outcome a b sends on was = record {
@@ -73,7 +73,7 @@ still_through given contents outcome a b sends on was = record {
 
 module _ {E : Type 0} (given : Outbox E → Option (List ℕ)) (contents : E → Option (List ℕ)) (outcome : Sending) (told : Type 0) (old new : List (Option (Seat (Gathered E) (Outbox E)))) (p : ℕ)
     (sent : SentAt given (λ a b. SendsOn contents a b outcome) told old new p) where
-  -- the slots are as many
+  -- the number of slots is unchanged
   pub sent_length : length new ≡ length old
   sent_length = elim sent [
     | inl x ↦ ap length x.5 ∙ set_length old p (Some x.2)
@@ -87,7 +87,7 @@ module _ {E : Type 0} (given : Outbox E → Option (List ℕ)) (contents : E →
     | inr x ↦ is ∙ ap (λ l. slice_set l p None) x.1
   ]
 
-  -- Where nothing waits any more, or a write failed, the connection there may go, if it was through.
+  -- If no bytes wait any more, or a write failed, the connection may go, provided that it was through.
   pub sent_may_go : (outcome ≡ sending.Sent) ⊎ (outcome ≡ sending.Failed) → p < length old → IfSome (slot_at old p) (λ seat. IsThrough seat) → IfSome (slot_at new p) (λ seat. MayGo seat)
   sent_may_go is lt through = elim sent [
     | inl x ↦
@@ -98,7 +98,7 @@ module _ {E : Type 0} (given : Outbox E → Option (List ℕ)) (contents : E →
     | inr x ↦ subst (λ o. IfSome o (λ seat. MayGo seat)) (sym (ap (λ l. slot_at l p) x.1 ∙ x.0)) tt
   ]
 
--- where something waits still, a connection is there
+-- if bytes still wait, a connection is there
 pub sent_waits : {E : Type 0} (given : Outbox E → Option (List ℕ)) (contents : E → Option (List ℕ)) (outcome : Sending) (old new : List (Option (Seat (Gathered E) (Outbox E)))) (p : ℕ)
     → outcome ≡ sending.Waits → SentAt given (λ a b. SendsOn contents a b outcome) (outcome ≡ sending.Sent) old new p → SentAt given (λ a b. SendsOn contents a b sending.Waits) ⊥ old new p
 sent_waits given contents outcome old new p is (inl x) = inl (x.0, x.1, x.2, x.3, subst (λ o. SendsOn contents x.0 x.2 o) is x.4, x.5)

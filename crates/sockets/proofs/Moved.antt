@@ -1,4 +1,4 @@
--- What went on at the gate and in the slots, one thing after another.
+-- What happened at the gate and in the slots, in order.
 use Rattle.std.proofs.Common.{◌≡◌, ◌<◌, ◌∙◌, ◌+◌, ◌++◌, ◌⊎◌, ℕ, inl, inr, Bool, true, false, List, [], ◌∷◌, Option, None, Some, length, ap, append_assoc, refl, sym, subst, arith}
 use Rattle.std.specs.Prelude.{IfSome, cond, is_some}
 use Rattle.std.specs.List.{count_by}
@@ -32,12 +32,12 @@ none_is (Some x) is = absurd cc
 abbrev ones : Bool → ℕ
 ones b = cond b 1 0
 
--- how many wait: one, or none
+-- how many connections wait: one or none
 pub waits_one : {S : Type 0} (waits : Option S) (does : Bool) → does ≡ is_some waits → length (those_of waits) ≡ cond does 1 0
 waits_one None does is = ap ones (sym is)
 waits_one (Some x) does is = ap ones (sym is)
 
--- the one that was taken from its slot, went
+-- the connection that was taken from its slot went
 pub went_one : {R W : Type 0} {remaining : R → Option (List ℕ)} {contents : W → Option (List ℕ)} {old new : List (Option (Seat R W))} (o : Option (Seat R W)) (seat : Seat R W) → o ≡ Some seat
     → Changes remaining contents old new [] (those_of o) → Changes remaining contents old new [] (seat ∷ [])
 went_one {remaining = remaining} {contents = contents} {old = old} {new = new} o seat is changes = subst (λ x. Changes remaining contents old new [] (those_of x)) is changes
@@ -83,7 +83,7 @@ module _ {L S E : Type 0} (told : L → List (Event S E) → Type 0) (are_ends :
   pub passes_none : (g : Gate L S) → Passes told are_ends g g [] []
   passes_none g = passes_still g g refl refl refl refl refl refl (λ log is. is)
 
-  -- one event, by which nobody comes or goes
+  -- one event by which no connection comes or goes
   module _ (g h : Gate L S) (event : Event S E) (refused : ℕ)
       (step : (before : List (Event S E)) (cs gs : List (Seat (Gathered E) (Outbox E))) (n : ℕ) → Admits are_ends g.most before g.guest cs gs n
       → Admits are_ends g.most (before ++ event ∷ []) h.guest cs gs (n + refused)) where
@@ -103,7 +103,7 @@ module _ {L S E : Type 0} (told : L → List (Event S E) → Type 0) (are_ends :
       unsent = none_lack E unsent;
     }
 
-  -- one is accepted, and waits
+  -- a connection is accepted, and waits
   pub accepts_one : (g h : Gate L S) (stream : S) → g.guest ≡ None → h.guest ≡ Some stream → g.to_come ≡ h.to_come + 1 → h.most ≡ g.most → h.came ≡ g.came → h.gone ≡ g.gone → h.unsent ≡ g.unsent
       → ((log : List (Event S E)) → told g.listener log → told h.listener (log ++ accepted stream ∷ [])) → Passes told are_ends g h [] []
   accepts_one g h stream free waits to_come most came gone unsent tells = passes_by g h (accepted stream) 0
@@ -113,7 +113,7 @@ module _ {L S E : Type 0} (told : L → List (Event S E) → Type 0) (are_ends :
       (accepting.accepts before cs gs n stream (subst (λ w. Admits are_ends g.most before w cs gs n) free is))))
       (omega (arith, to_come, ap (λ w. length (those_of w)) free, ap (λ w. length (those_of w)) waits)) most came gone unsent tells
 
-  -- none can be accepted now, for a want
+  -- no connection can be accepted now because of a shortage
   pub misses_one : (g h : Gate L S) (e : Error) → h.guest ≡ g.guest → h.to_come ≡ g.to_come → h.most ≡ g.most → h.came ≡ g.came → h.gone ≡ g.gone → h.unsent ≡ g.unsent → IsWant e
       → ((log : List (Event S E)) → told g.listener log → told h.listener (log ++ missed e ∷ [])) → Passes told are_ends g h [] []
   misses_one g h e waits to_come most came gone unsent want tells = passes_by g h (missed e) 0
@@ -122,14 +122,14 @@ module _ {L S E : Type 0} (told : L → List (Event S E) → Type 0) (are_ends :
       (accepting.misses before h.guest cs gs n e (subst (λ w. Admits are_ends g.most before w cs gs n) (sym waits) is) want))
       (omega (arith, to_come, ap (λ w. length (those_of w)) waits)) most came gone unsent tells
 
-  -- one can't be accepted, for no want
+  -- a connection can't be accepted, not because of a shortage
   pub refuses_one : (g h : Gate L S) (e : Error) → h.guest ≡ g.guest → g.to_come ≡ h.to_come + 1 → h.most ≡ g.most → h.came ≡ g.came → h.gone ≡ g.gone → h.unsent ≡ g.unsent → (IsWant e → ⊥)
       → ((log : List (Event S E)) → told g.listener log → told h.listener (log ++ missed e ∷ [])) → Passes told are_ends g h [] []
   refuses_one g h e waits to_come most came gone unsent lasts tells = passes_by g h (missed e) 1
       (λ before cs gs n is. accepting.refuses before h.guest cs gs n e (subst (λ w. Admits are_ends g.most before w cs gs n) (sym waits) is) lasts)
       (omega (arith, to_come, ap (λ w. length (those_of w)) waits)) most came gone unsent tells
 
-  -- the ends of the one that waits can't be made now, for a want
+  -- the ends of the waiting connection can't be made now because of a shortage
   pub waits_on : (g h : Gate L S) (stream : S) (back : Option S) (e : Error) → g.guest ≡ Some stream → h.guest ≡ Some stream → h.to_come ≡ g.to_come → h.most ≡ g.most → h.came ≡ g.came
       → h.gone ≡ g.gone → h.unsent ≡ g.unsent → back ≡ Some stream → IsWant e
       → ((log : List (Event S E)) → told g.listener log → told h.listener (log ++ unready back e ∷ [])) → Passes told are_ends g h [] []
@@ -141,7 +141,7 @@ module _ {L S E : Type 0} (told : L → List (Event S E) → Type 0) (are_ends :
       (accepting.waits_on before stream cs gs n e (subst (λ w. Admits are_ends g.most before w cs gs n) waits is) want))))
       (omega (arith, to_come, ap (λ w. length (those_of w)) waits, ap (λ w. length (those_of w)) still)) most came gone unsent tells
 
-  -- the ends of the one that waits can't be made
+  -- the ends of the waiting connection can't be made
   pub turns_away : (g h : Gate L S) (stream : S) (back : Option S) (e : Error) → g.guest ≡ Some stream → h.guest ≡ None → h.to_come ≡ g.to_come → h.most ≡ g.most → h.came ≡ g.came
       → h.gone ≡ g.gone → h.unsent ≡ g.unsent → (back ≡ None) ⊎ (IsWant e → ⊥)
       → ((log : List (Event S E)) → told g.listener log → told h.listener (log ++ unready back e ∷ [])) → Passes told are_ends g h [] []
@@ -151,7 +151,7 @@ module _ {L S E : Type 0} (told : L → List (Event S E) → Type 0) (are_ends :
       (accepting.turns_away before stream cs gs n back e (subst (λ w. Admits are_ends g.most before w cs gs n) waits is) lost))
       (omega (arith, to_come, ap (λ w. length (those_of w)) waits, ap (λ w. length (those_of w)) free)) most came gone unsent tells
 
-  -- the ends of the one that waits can't be made: it waits on, or is turned away
+  -- the ends of the waiting connection can't be made: it keeps waiting, or is turned away
   pub puts_off : (g h : Gate L S) (told' : Entry) (stream : S) (back free : Option S) (e : Error) → g.guest ≡ Some stream → IfSome back (λ x. x ≡ stream)
       → ((told' ≡ entry.Wanting) × (x : S) × (back ≡ Some x) × IsWant e × (h.guest ≡ Some x)) ⊎ ((told' ≡ entry.Away) × ((back ≡ None) ⊎ (IsWant e → ⊥)) × (h.guest ≡ free)) → free ≡ None
       → h.to_come ≡ g.to_come → h.most ≡ g.most → h.came ≡ g.came → h.gone ≡ g.gone → h.unsent ≡ g.unsent
@@ -161,7 +161,7 @@ module _ {L S E : Type 0} (told : L → List (Event S E) → Type 0) (are_ends :
       waits_on g h stream back e waits (x.4 ∙ ap Some it) to_come most came gone unsent (x.2 ∙ ap Some it) x.3 tells
   puts_off g h told' stream back free e waits is (inr x) none to_come most came gone unsent tells = turns_away g h stream back e waits (x.2 ∙ none) to_come most came gone unsent x.1 tells
 
-  -- the one that waits comes
+  -- the waiting connection comes
   pub comes_in : (g h : Gate L S) (stream : S) (seat : Seat (Gathered E) (Outbox E)) (reader writer : E) → g.guest ≡ Some stream → h.guest ≡ None → h.to_come ≡ g.to_come → h.most ≡ g.most
       → h.came ≡ g.came + 1 → h.gone ≡ g.gone → h.unsent ≡ g.unsent → g.came < g.gone + g.most → are_ends stream reader writer → seat.reader.inner.inner ≡ reader → seat.writer.inner.inner ≡ writer → IsNew seat → IsUntouched seat
       → ((log : List (Event S E)) → told g.listener log → told h.listener (log ++ opened reader writer ∷ [])) → Passes told are_ends g h (seat ∷ []) []
@@ -185,7 +185,7 @@ module _ {L S E : Type 0} (told : L → List (Event S E) → Type 0) (are_ends :
     unsent = none_lack E unsent;
   }
 
-  -- one goes
+  -- a connection goes
   pub goes_out : (g h : Gate L S) (seat : Seat (Gathered E) (Outbox E)) → h.guest ≡ g.guest → h.to_come ≡ g.to_come → h.most ≡ g.most → h.came ≡ g.came → h.gone ≡ g.gone + 1 → h.unsent ≡ g.unsent + count_by lacks_answers (seat ∷ []) → MayGo seat
       → ((log : List (Event S E)) → told g.listener log → told h.listener (log ++ closed seat ∷ [])) → Passes told are_ends g h [] (seat ∷ [])
   goes_out g h seat guest to_come most came gone unsent may tells = record {
@@ -203,7 +203,7 @@ module _ {L S E : Type 0} (told : L → List (Event S E) → Type 0) (are_ends :
     unsent = unsent;
   }
 
-  -- this passed, and then that
+  -- two passages in a row
   pub passes_then : (f g h : Gate L S) (came more gone went : List (Seat (Gathered E) (Outbox E))) → Passes told are_ends f g came gone → Passes told are_ends g h more went
       → Passes told are_ends f h (came ++ more) (gone ++ went)
   passes_then f g h came more gone went x y = record {
@@ -228,7 +228,7 @@ module _ {L S E : Type 0} (told : L → List (Event S E) → Type 0) (are_ends :
     unsent = omega (arith, x.unsent, y.unsent, both_lack gone went);
   }
 
-  -- what passed since the gate began, and then this
+  -- what passed since the gate began, followed by this
   pub passed_then : (had : List (Event S E) → Type 0) (connections most : ℕ) (g h : Gate L S) (came more gone went : List (Seat (Gathered E) (Outbox E)))
       → HasPassed had connections most told are_ends g came gone → Passes told are_ends g h more went → HasPassed had connections most told are_ends h (came ++ more) (gone ++ went)
   passed_then had connections most g h came more gone went x y = record {
@@ -273,15 +273,15 @@ module _ {L S E : Type 0} (told : L → List (Event S E) → Type 0) (are_ends :
       changes_then remaining contents a b c x.0 x.1 y.0 y.1 x.3 y.3,
     )
 
-    -- nobody comes or goes
+    -- no connection comes or goes
     pub moves_still : (g : Gate L S) (a b : List (Option (Seat (Gathered E) (Outbox E)))) → Changes remaining contents a b [] [] → Moves told are_ends remaining contents g g a b
     moves_still g a b changes = ([], [], passes_none g, changes)
 
-    -- nothing goes on in the slots
+    -- nothing changes in the slots
     pub moves_called : (g h : Gate L S) (a : List (Option (Seat (Gathered E) (Outbox E)))) → Passes told are_ends g h [] [] → Moves told are_ends remaining contents g h a a
     moves_called g h a passes = ([], [], passes, same)
 
-    -- it is what a crowd says of itself
+    -- this is what a crowd says of itself
     pub moves_met : (had : List (Event S E) → Type 0) (connections most : ℕ) (g h : Gate L S) (a b : List (Option (Seat (Gathered E) (Outbox E)))) → Moves told are_ends remaining contents g h a b
         → (came gone : List (Seat (Gathered E) (Outbox E))) → HasPassed had connections most told are_ends g came gone
         → (more went : List (Seat (Gathered E) (Outbox E))) × HasPassed had connections most told are_ends h (came ++ more) (gone ++ went)

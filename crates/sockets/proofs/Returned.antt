@@ -1,4 +1,4 @@
--- What a service promises, of the same slots and the same bound.
+-- The promise of a service, for equal slots and an equal bound.
 use Rattle.std.proofs.Common.{◌≡◌, ◌++◌, ℕ, suc, zero, List, [], ◌∷◌, Option, ap, length, refl, subst, take, arith}
 use Rattle.keeper.specs.declared.keep.Keeper.{Ghosts}
 use Rattle.office.specs.declared.connections.seat.Seat.{Seat}
@@ -8,7 +8,7 @@ use Rattle.sockets.specs.Accepting.{ServesMany}
 use Rattle.sockets.specs.Listening.{Event}
 use Rattle.sockets.specs.declared.serving.Outcome.{Outcome}
 
--- the first ones are all of the first list
+-- the first items are all of the first list
 pub take_first : {X : Type 0} (xs ys : List X) (n : ℕ) → length xs ≡ n → take n (xs ++ ys) ≡ xs
 take_first [] ys zero is = refl
 take_first [] ys (suc n) is = absurd (omega (arith, is))

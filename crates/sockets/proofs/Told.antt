@@ -1,4 +1,4 @@
--- What is told of one that is let in, or of a read.
+-- What is told of a connection that is let in, and of a read.
 use Rattle.std.proofs.Common.{◌≡◌, ◌≤◌, ◌↔◌, ◌<◌, ◌-◌, ◌⊎◌, ◌∙◌, ◌++◌, ◌∷◌, [], Bool, true, false, ap, inl, inr, length, subst, sym, ℕ, List, Option, Some, None, Result, Ok, Err, refl, arith}
 use Rattle.std.specs.Prelude.{IfNone, IfSome, is_some}
 use Rattle.std.proofs.lemmas.List.{length-append}
@@ -19,7 +19,7 @@ use Rattle.sockets.specs.declared.gate.Entry.TheVariants as entry
 use Rattle.sockets.specs.declared.gate.Gate.{Gate}
 use Rattle.sockets.proofs.Freed.{set_there}
 
--- one that is handed back waits on, and one that is not waits no more
+-- a connection that is handed back keeps waiting, and one that is not waits no more
 pub put_off_so : {L S E : Type 0} (told : L → List (Event S E) → Type 0) (g h : Gate L S) (says : Entry) (stream : S) (back free : Option S) (e : Error) (slots : List (Option (Seat (Gathered E) (Outbox E))))
     → g.guest ≡ Some stream → IfSome back (λ x. x ≡ stream) → ((says ≡ entry.Wanting) × (x : S) × (back ≡ Some x) × IsWant e × (h.guest ≡ Some x)) ⊎ ((says ≡ entry.Away) × ((back ≡ None) ⊎ (IsWant e → ⊥)) × (h.guest ≡ free))
     → free ≡ None → h.to_come ≡ g.to_come → h.came ≡ g.came → h.gone ≡ g.gone → Tells told g.listener h.listener (unready back e ∷ []) → Enters told says g h slots slots
@@ -37,7 +37,7 @@ never_less remaining old new (Ok gathering.Waits) x = omega (arith, ap length x.
 never_less remaining old new (Ok gathering.Failed) x = omega (arith, ap length x.0)
 never_less remaining old new (Err e) x = omega (arith, ap length x.0)
 
--- where so many bytes came as are more ahead, it is told whether they are as many as might
+-- the result tells whether as many bytes came as possible, by how many more are ahead
 pub reads_so : {E T : Type 0} (left : Gathered E → Option (List ℕ)) (remaining : E → Option (List ℕ)) (outcome : Result Gathering T) (none : Type 0) (is_full : Bool) (n m before after : ℕ)
     (old new : List (Option (Seat (Gathered E) (Outbox E)))) (p : ℕ) → p < length old → n ≡ m → DoneAt left (λ a b. ReadsAhead remaining n a b outcome) none old new p
     → IfSome (slot_at old p) (λ s. before ≡ length (ahead_in s.reader.inner)) → IfSome (slot_at new p) (λ s. after ≡ length (ahead_in s.reader.inner)) → is_full ≡ true ↔ (m ≤ after - before)
@@ -49,7 +49,7 @@ reads_so left remaining outcome none is_full n m before after old new p lt same 
     inl (seat, at, open_still, b, gathers, record { reads = subst (λ k. ReadsAhead remaining k seat b outcome) same reads; full = (λ full. omega (arith, told.0 full, first, then, same, reads.most, never_less remaining seat.reader.inner b.reader.inner outcome reads.told), λ as_many. told.1 (omega (arith, first, then, as_many))) }, is)
 reads_so left remaining outcome none is_full n m before after old new p lt same (inr x) was now told = inr x
 
--- none is free where the first free one is none, and one is where it is one
+-- if there is no first free slot, no slot is free
 pub none_free : {X : Type 0} (found : Option ℕ) (slots : List (Option X)) → is_some found ≡ false → IfNone found (NoneIsFree slots (length slots)) → NoneIsFree slots (length slots)
 none_free None slots is free = free
 none_free (Some n) slots is free = absurd cc

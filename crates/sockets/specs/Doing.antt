@@ -1,4 +1,4 @@
--- What a deed does to the connection in a slot, and what is reported of it.
+-- What an action does to the connection in a slot, and its report.
 use Rattle.std.specs.Prelude.{◌≡◌, ◌≤◌, ◌↔◌, ◌⊎◌, ◌+◌, ℕ, Bool, true, List, Option, Result, Ok, Some, None, IsNone, IsOk, length, min, slice_set, ⊤}
 use Rattle.office.specs.Crowds.{DoneAt, SentAt, slot_at}
 use Rattle.office.specs.Slots.{Fails, MakesRoom, PutsBack, ReadsAhead, SendsOn}
@@ -15,19 +15,20 @@ use Rattle.sockets.specs.declared.deeds.Deed.TheVariants as deed
 use Rattle.sockets.specs.declared.deeds.Report.{Report}
 use Rattle.sockets.specs.declared.deeds.Report.TheVariants as report
 
--- the connection in the slot at p, if there is one, is not through
+-- slot p has a connection that is not through
 abbrev pub IsBusyAt : {E : Type 0} → List (Option (Seat (Gathered E) (Outbox E))) → ℕ → Type 0
 IsBusyAt {E} slots p = (seat : Seat (Gathered E) (Outbox E)) × (slot_at slots p ≡ Some seat) × (IsThrough seat → ⊥)
 
--- One read ahead of n bytes at the most told this, and whether as many came is told.
+-- Reading ahead once, at most n bytes, had this result. is_full tells whether n bytes came.
 pub record ReadsAsMuch {S W E : Type 0} (remaining : S → Option (List ℕ)) (n : ℕ) (a b : Seat (Gathered S) W) (result : Result Gathering E) (is_full : Bool) : Type 0 where
   pub reads : ReadsAhead remaining n a b result
   pub full : is_full ≡ true ↔ (length (ahead_in b.reader.inner) ≡ length (ahead_in a.reader.inner) + n)
 
--- It did this deed to the connection in the slot at p, and reports what came of it. One that was to go stays where something waits for
--- its peer. Or nothing was done: there is no such slot; or it was to go and is not through, or one more that goes could not be counted.
--- gone: how many went; most: how many bytes one read takes at the most; remaining, contents: what the ends of a connection have left, and hold; left, given: the same of its reader and
--- its writer.
+-- The action was done to the connection in slot p, and this is its report. A connection that was to be closed
+-- stays while bytes wait for its peer. Or nothing was done: there is no such slot, or the connection was to
+-- be closed but is not through, or no more closed connections can be counted. gone: how many were closed;
+-- most: the most bytes of one read; remaining, contents: what the ends of a connection have left and hold;
+-- left, given: the same for its reader and its writer.
 abbrev pub Does : {E : Type 0} → ℕ → ℕ → (E → Option (List ℕ)) → (E → Option (List ℕ)) → (Gathered E → Option (List ℕ)) → (Outbox E → Option (List ℕ)) → Deed → Report
     → List (Option (Seat (Gathered E) (Outbox E))) → List (Option (Seat (Gathered E) (Outbox E))) → ℕ → Type 0
 Does gone most remaining contents left given one report.Nothing old new p = (new ≡ old) × ((length old ≤ p) ⊎ ((one ≡ deed.Free) × (IsBusyAt old p ⊎ (18446744073709551615 ≤ gone))))

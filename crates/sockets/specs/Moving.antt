@@ -1,4 +1,4 @@
--- What went on at the gate and in the slots, and what was counted of it.
+-- What happened at the gate and in the slots, and what was counted.
 use Rattle.std.specs.Prelude.{◌≡◌, ◌+◌, ◌++◌, ℕ, List, Option, length}
 use Rattle.std.specs.List.{count_by}
 use Rattle.office.specs.Crowds.{Changes, those_of}
@@ -9,9 +9,9 @@ use Rattle.sockets.specs.Accepting.{Admits, lacks_answers}
 use Rattle.sockets.specs.Listening.{Event}
 use Rattle.sockets.specs.declared.gate.Gate.{Gate}
 
--- What passed a gate: these came, and those went. Whatever the listener had done before, with what it did now it admits them. Each
--- that came, was refused or waits is one of those to come. told: what a listener tells that it did; are_ends: what the ends of a
--- connection are.
+-- What passed a gate: these connections came, and those went. Added to whatever the listener had done before,
+-- its new events admit them. Each connection that came, was refused or waits is one of those to come. told:
+-- what a listener tells that it did; are_ends: which ends belong to a connection.
 pub record Passes {L S E : Type 0} (told : L → List (Event S E) → Type 0) (are_ends : S → E → E → Type 0) (old new : Gate L S) (more went : List (Seat (Gathered E) (Outbox E))) : Type 0 where
   pub events : List (Event S E)
   pub refused : ℕ
@@ -24,13 +24,14 @@ pub record Passes {L S E : Type 0} (told : L → List (Event S E) → Type 0) (a
   pub left : new.gone ≡ old.gone + length went
   pub unsent : new.unsent ≡ old.unsent + count_by lacks_answers went
 
--- the same, and what may go on in slots
+-- the same, with the changes of the slots
 abbrev pub Moves : {L S E : Type 0} → (L → List (Event S E) → Type 0) → (S → E → E → Type 0) → (Gathered E → Option (List ℕ)) → (Outbox E → Option (List ℕ)) → Gate L S → Gate L S
     → List (Option (Seat (Gathered E) (Outbox E))) → List (Option (Seat (Gathered E) (Outbox E))) → Type 0
 Moves {E = E} told are_ends remaining contents before after old new =
     (came gone : List (Seat (Gathered E) (Outbox E))) × Passes told are_ends before after came gone × Changes remaining contents old new came gone
 
--- What passed a gate since it began, when its listener had told this, so many were to come, and so many might be open.
+-- What passed a gate since it began with this listener's events, this many connections to come, and this many
+-- allowed to be open.
 pub record HasPassed {L S E : Type 0} (had : List (Event S E) → Type 0) (connections most : ℕ) (told : L → List (Event S E) → Type 0) (are_ends : S → E → E → Type 0) (gate : Gate L S)
     (came gone : List (Seat (Gathered E) (Outbox E))) : Type 0 where
   pub events : List (Event S E)

@@ -13,16 +13,17 @@ use Rattle.sockets.specs.declared.gate.Entry.{Entry}
 use Rattle.sockets.specs.declared.gate.Entry.TheVariants as entry
 use Rattle.sockets.specs.declared.gate.Gate.{Gate}
 
--- the listener did these things more; told: what a listener tells that it did
+-- the listener did these further things; told: what a listener tells that it did
 abbrev pub Tells : {L S E : Type 0} → (L → List (Event S E) → Type 0) → L → L → List (Event S E) → Type 0
 Tells {S = S} {E = E} told old new events = (log : List (Event S E)) → told old log → told new (log ++ events)
 
--- nobody was asked for, or let in
+-- no connection was asked for or let in
 abbrev pub Stays : {L S : Type 0} → Gate L S → Gate L S → Type 0
 Stays old new = (new.guest ≡ old.guest) × (new.to_come ≡ old.to_come) × (new.came ≡ old.came)
 
--- What it told of asking for a connection: one was accepted, and waits; one can't be accepted, for no want, or for a want; or the
--- listener did nothing. One less is to come where one was accepted or refused.
+-- What asking for a connection tells. A connection was accepted and waits; or it can't be accepted, with or
+-- without a shortage; or the listener did nothing. One less is to come if a connection was accepted or
+-- refused.
 abbrev pub Calls : {L S E : Type 0} → (L → List (Event S E) → Type 0) → Call → Gate L S → Gate L S → Type 0
 Calls {S = S} told call.Came old new =
     (old.guest ≡ None) × (stream : S) × (new.guest ≡ Some stream) × (suc new.to_come ≡ old.to_come) × Tells told old.listener new.listener (accepted stream ∷ [])
@@ -31,15 +32,16 @@ Calls told call.Refused old new =
 Calls told call.Wanting old new = (new.guest ≡ old.guest) × (new.to_come ≡ old.to_come) × (e : Error) × IsWant e × Tells told old.listener new.listener (missed e ∷ [])
 Calls told call.None old new = (new.guest ≡ old.guest) × (new.to_come ≡ old.to_come) × Tells told old.listener new.listener []
 
--- Why the one that waits waits on: no more can be counted; as many are open as may be; no slot is free; or its ends can't be made now,
--- for a want.
+-- Why the waiting connection keeps waiting: no more can be counted, or as many are open as allowed, or no
+-- slot is free, or its ends can't be made now because of a shortage.
 abbrev pub IsPutOff : {L S E X : Type 0} → (L → List (Event S E) → Type 0) → Gate L S → Gate L S → List (Option X) → Type 0
 IsPutOff told old new slots =
     (18446744073709551615 ≤ old.came) ⊎ (old.most ≤ old.came - old.gone) ⊎ NoneIsFree slots (length slots)
     ⊎ ((e : Error) × IsWant e × Tells told old.listener new.listener (unready old.guest e ∷ []))
 
--- What it told of letting in the one that waits: it came into this slot, which was free, untouched, and the other slots stay; or the
--- slots stay, and none waits any more, or it waits on.
+-- What letting in the waiting connection tells. It came untouched into this slot, which was free, and the
+-- other slots are unchanged. Or the slots are unchanged, and either no connection waits any more or it keeps
+-- waiting.
 abbrev pub Enters : {L S E : Type 0} → (L → List (Event S E) → Type 0) → Entry → Gate L S → Gate L S → List (Option (Seat (Gathered E) (Outbox E))) → List (Option (Seat (Gathered E) (Outbox E))) → Type 0
 Enters {E = E} told (entry.In p) old new slots slots' =
     (new.guest ≡ None) × (new.to_come ≡ old.to_come) × (new.gone ≡ old.gone) × (p < length slots) × (slot_at slots p ≡ None)

@@ -1,4 +1,4 @@
-//! Connections that come.
+//! Accepting connections.
 use crate::book::Book;
 use crate::gate::{Call, Entry};
 use crate::held::Held;
@@ -8,8 +8,9 @@ use crate::stages::{Stage, Step, Task};
 use std::time;
 
 impl<R: time::Clock, L: Listener> Book<'_, R, L> {
-    /// What is done next for one to come, where one may: one that waits is let in, or the listener is asked. Where no slot is free
-    /// the connection goes that is silent longest. None where nobody comes now.
+    /// The next step to take in a connection, if one may come: a waiting connection is let in, or the
+    /// listener is asked. If no slot is free, the connection that has been idle longest is closed. `None` if
+    /// no connection can come now.
     pub(crate) fn next_to_come(&mut self) -> Option<Step> {
         if self.door.has_guest() {
             if self.has_free_slot() {
@@ -36,7 +37,8 @@ impl<R: time::Clock, L: Listener> Book<'_, R, L> {
         self.door.is_open()
     }
 
-    // The connection that is silent longest goes, if one is. Else none comes in this round any more.
+    // Closes the connection that has been idle longest. If none is idle, no more connections come in this
+    // round.
     fn make_way(&mut self) -> Option<Task> {
         let way = self.way();
         if way.is_none() {
@@ -45,14 +47,15 @@ impl<R: time::Clock, L: Listener> Book<'_, R, L> {
         way
     }
 
-    // The connection that is silent longest, if one is: it goes.
+    // The task that closes the connection that has been idle longest, if one is idle.
     fn way(&self) -> Option<Task> {
         let index = self.most_silent()?;
         let deed = self.release(index)?;
         Some(Task { index, deed })
     }
 
-    // Memory or descriptors are wanting: none comes for a while, and one goes for that, unless the last one that went was of no help.
+    // Memory or descriptors are short: accepts none for a while, and closes an idle connection, unless
+    // closing the last one did not help.
     fn want(&mut self) -> Option<Task> {
         self.door.pause(self.now);
         if self.door.is_relieved(self.now) {
@@ -66,7 +69,7 @@ impl<R: time::Clock, L: Listener> Book<'_, R, L> {
         way
     }
 
-    /// The listener was asked, and no connection is let in at once.
+    /// The listener was asked. No connection is let in at once.
     pub(crate) fn called(&mut self, call: Call) -> Option<Task> {
         match call {
             Call::Came => self.make_way(),
@@ -89,7 +92,8 @@ impl<R: time::Clock, L: Listener> Book<'_, R, L> {
         }
     }
 
-    // A connection has come into this slot. What is there is read at once: only one of which nothing is may go for others.
+    // A connection came into this slot. Reads it at once, because only a connection with nothing to read
+    // counts as idle.
     fn opened(&mut self, slots: &[Option<Held<L::End>>], index: usize) -> Option<Task> {
         self.door.enter();
         self.taken = self.taken.saturating_add(1);

@@ -1,4 +1,5 @@
-//! What the loop keeps beside the slots: what each peer is at, which turns are due, and what the sockets told.
+//! What the loop stores besides the slots: the phase of each peer, the turns that are due, and what the
+//! sockets told.
 use crate::deeds::Deed;
 use crate::door::Door;
 use crate::held::{Held, seat_at};
@@ -19,13 +20,13 @@ use std::time::{Duration, Instant};
 use std::{io, mem, time};
 use wire::Room;
 
-/// The token of the listener. Every other one is the index of a slot.
+/// The token of the listener. Every other token is the index of a slot.
 pub(crate) const LISTENER: Token = Token(usize::MAX);
 
-/// How many bytes one read takes at the most.
+/// The most bytes that one read takes.
 pub(crate) const MOST_READ: usize = 65_536;
 
-/// What is kept beside the slots.
+/// What is stored besides the slots.
 #[derive(Drop)]
 pub(crate) struct Book<'a, R, L: Listener> {
     pub(crate) rt: &'a R,
@@ -33,12 +34,12 @@ pub(crate) struct Book<'a, R, L: Listener> {
     pub(crate) patience: Option<Duration>,
     pub(crate) poll: Poll,
     pub(crate) events: Events,
-    /// What the last wait told.
+    /// The events of the last poll.
     pub(crate) ready: Vec<Event>,
-    /// What is read comes by way of it.
+    /// The buffer for reads.
     pub(crate) buf: Vec<u8>,
     pub(crate) peers: Vec<Peer>,
-    /// How many slots have a connection.
+    /// How many slots hold a connection.
     pub(crate) taken: usize,
     pub(crate) rounds: Rounds,
     pub(crate) rooms: Rooms,
@@ -46,27 +47,27 @@ pub(crate) struct Book<'a, R, L: Listener> {
     pub(crate) stage: Stage,
     /// The room for the next turn, if there is one.
     pub(crate) room: Option<Room>,
-    /// The slot that had the last turn, until it is looked at.
+    /// The slot that had the last turn, until it is processed.
     pub(crate) turned: Option<usize>,
     pub(crate) now: Instant,
-    /// When it was last looked for what lasts too long.
+    /// When the timeouts were last checked.
     pub(crate) looked: Instant,
-    /// How many more reads the connection may have before others are read.
+    /// How many more times the connection may be read before others are.
     pub(crate) reads: usize,
-    /// Whether a connection was left that can be read on at once.
+    /// Whether a connection was left that can be read at once.
     pub(crate) is_behind: bool,
     /// Whether more answers wait than before.
     pub(crate) is_laden: bool,
-    // Whose connections stand in the slots.
+    // The listener of the connections in the slots.
     of: PhantomData<L>,
 }
 
 impl<'a, R: time::Clock, L: Listener> Book<'a, R, L> {
-    /// No connection has come.
+    /// A book without connections.
     ///
     /// # Errors
     ///
-    /// Memory was refused, or the poll does not take the listener, or the system can't tell what time it is.
+    /// Memory was refused, or the poll does not take the listener, or the system can't tell the time.
     pub(crate) fn new(
         rt: &'a R,
         poll: Poll,
@@ -107,7 +108,7 @@ impl<'a, R: time::Clock, L: Listener> Book<'a, R, L> {
 }
 
 impl<R: time::Clock, L: Listener> Book<'_, R, L> {
-    /// What the peer of the slot is at.
+    /// The phase of the peer in the slot.
     pub(crate) fn phase(&self, index: usize) -> Phase {
         match self.peers.get(index) {
             Some(peer) => peer.phase,
@@ -115,7 +116,7 @@ impl<R: time::Clock, L: Listener> Book<'_, R, L> {
         }
     }
 
-    /// A phase of the peer begins.
+    /// Starts a phase of the peer.
     pub(crate) fn enter(&mut self, index: usize, phase: Phase) {
         if let Some(peer) = self.peers.get_mut(index) {
             peer.phase = phase;
@@ -124,7 +125,7 @@ impl<R: time::Clock, L: Listener> Book<'_, R, L> {
         }
     }
 
-    /// A turn is due.
+    /// Makes a turn due.
     pub(crate) fn make_due(&mut self, index: usize) -> Option<Deed> {
         if self.phase(index) == Phase::Due {
             return None;
@@ -141,8 +142,8 @@ impl<R: time::Clock, L: Listener> Book<'_, R, L> {
         }
     }
 
-    // The slot has its turn in the next round, for which there is memory. One that was just accepted has its first in this one, if
-    // there is memory for that.
+    // Gives the slot a turn in the next round, for which there is memory. A connection that was just accepted
+    // has its first turn in this round, if there is memory for that.
     fn push(&mut self, index: usize) -> Result<(), AllocError> {
         let is_first = match self.peers.get_mut(index) {
             Some(peer) => mem::take(&mut peer.is_new),
@@ -155,7 +156,8 @@ impl<R: time::Clock, L: Listener> Book<'_, R, L> {
         self.rounds.push(index)
     }
 
-    /// The connection fails so from now on: its turn tells it; or it goes, if its session has ended.
+    /// Makes the connection fail. Its turn tells the failure; if its session has ended, the connection is
+    /// closed.
     pub(crate) fn give_up(
         &mut self,
         slots: &[Option<Held<L::End>>],
@@ -168,7 +170,7 @@ impl<R: time::Clock, L: Listener> Book<'_, R, L> {
         }
     }
 
-    /// The connection goes, if there is one.
+    /// Closes the connection, if there is one.
     pub(crate) fn release(&self, index: usize) -> Option<Deed> {
         if self.phase(index) == Phase::Free {
             return None;
@@ -176,7 +178,7 @@ impl<R: time::Clock, L: Listener> Book<'_, R, L> {
         Some(Deed::Free)
     }
 
-    /// Its slot is free, and nothing of the common room is its own.
+    /// The slot was freed. Its part of the shared room is returned.
     pub(crate) fn freed(&mut self, index: usize) {
         self.give_room_back(index);
         self.enter(index, Phase::Free);
@@ -184,7 +186,7 @@ impl<R: time::Clock, L: Listener> Book<'_, R, L> {
         self.door.end_pause();
     }
 
-    /// Gives back what the peer has of the common room.
+    /// Returns the peer's part of the shared room.
     pub(crate) fn give_room_back(&mut self, index: usize) {
         if let Some(peer) = self.peers.get_mut(index) {
             self.rooms.give_back(peer.room);

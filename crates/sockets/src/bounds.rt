@@ -1,4 +1,4 @@
-//! What lasts too long, and which connection is let go for a new one.
+//! The timeouts, and which connection makes way for a new one.
 use crate::book::Book;
 use crate::deeds::Deed;
 use crate::held::{Held, waiting_len};
@@ -8,14 +8,14 @@ use std::io::ErrorKind;
 use std::time;
 use std::time::{Duration, Instant};
 
-/// How many milliseconds a large body may bring less than `BODY_STEP` bytes where another waits for room.
+/// For how many milliseconds a large body may bring less than `BODY_STEP` bytes while another waits for room.
 const SHORT_MILLIS: u64 = 1000;
 
-/// How many bytes of answers may wait together before one is cut off.
+/// How many bytes of answers may wait in total before a connection is cut off.
 const MOST_WAITING: usize = 268_435_456;
 
 impl<R: time::Clock, L: Listener> Book<'_, R, L> {
-    /// What becomes of the connection in the slot, if it is over its bound.
+    /// The action on the connection in the slot, if it is over its timeout.
     pub(crate) fn end_of_patience(
         &mut self,
         slots: &[Option<Held<L::End>>],
@@ -31,8 +31,8 @@ impl<R: time::Clock, L: Listener> Book<'_, R, L> {
         }
     }
 
-    /// The connection that is silent longest between two messages, if one is. One that came since the last wait is none yet: what
-    /// it sent may be there, and was not told.
+    /// The connection that has been idle longest between two messages, if one is idle. A connection that came
+    /// since the last poll does not count yet, because bytes from it may be there without an event.
     pub(crate) fn most_silent(&self) -> Option<usize> {
         let mut oldest: Option<Lasting> = None;
         'slots: for (index, peer) in self.peers.iter().enumerate() {
@@ -43,7 +43,8 @@ impl<R: time::Clock, L: Listener> Book<'_, R, L> {
         Some(oldest?.index)
     }
 
-    /// The large body that has brought less than `BODY_STEP` bytes for longest, if that is too long where another waits for room.
+    /// The large body that has brought less than `BODY_STEP` bytes for the longest time, if that is too long
+    /// while another waits for room.
     pub(crate) fn slowest_body(&self) -> Option<usize> {
         let mut oldest: Option<Lasting> = None;
         'slots: for (index, peer) in self.peers.iter().enumerate() {
@@ -58,7 +59,8 @@ impl<R: time::Clock, L: Listener> Book<'_, R, L> {
         Some(slowest.index)
     }
 
-    /// Where more answers wait than there is memory for: the one of which nothing was taken for longest.
+    /// If more bytes of answers wait than allowed: the connection whose peer has accepted nothing for the
+    /// longest time.
     pub(crate) fn too_slow(&self, slots: &[Option<Held<L::End>>]) -> Option<usize> {
         let mut waiting: usize = 0;
         let mut oldest: Option<Lasting> = None;
@@ -75,14 +77,14 @@ impl<R: time::Clock, L: Listener> Book<'_, R, L> {
     }
 }
 
-// A slot, and from when on what its peer is at counts.
+// A slot, and since when the phase of its peer counts.
 #[derive(Clone, Copy)]
 struct Lasting {
     index: usize,
     since: Instant,
 }
 
-// The one that lasts longer: what was found, or this slot.
+// The one that has lasted longer: the one found so far, or this slot.
 fn older(found: Option<Lasting>, index: usize, since: Instant) -> Lasting {
     match found {
         Some(other) if other.since <= since => other,

@@ -1,4 +1,4 @@
-//! What is done to the connections in their slots.
+//! What the loop does to the connections in their slots.
 ghost use Rattle.std.specs.Prelude.{◌≡◌, ◌<◌, ◌≤◌, ◌↔◌, ℕ, [], length, min, true, IfSome, IsFalse, IsTrue, Ok};
 ghost use Rattle.office.specs.Crowds.{Changes, DoneAt, slot_at};
 ghost use Rattle.sockets.specs.Accepting.{IsThrough};
@@ -13,35 +13,35 @@ use std::io;
 use std::io::{ErrorKind, Read, Write};
 use wire::{Gathered, Gathering, Outbox, Room, Sending};
 
-/// What is done to a connection.
+/// An action on a connection.
 #[derive(Clone, Copy, Debug, PartialEq, Eq)]
 pub(crate) enum Deed {
-    /// So many bytes at the most are read ahead.
+    /// Reads at most this many bytes ahead.
     Gather(usize),
-    /// Memory is taken for so many bytes more that are read ahead.
+    /// Takes memory to read this many more bytes ahead.
     Reserve(usize),
-    /// What its feed did not take goes back to what is ahead.
+    /// Returns what the feed did not take to the bytes that are ahead.
     Settle,
-    /// Its reads fail so from now on, behind what is ahead.
+    /// Makes its reads fail like this, once the bytes that are ahead are given.
     Fail(ErrorKind),
-    /// What waits for its peer is sent on.
+    /// Sends the bytes that wait for the peer.
     Send,
-    /// It goes, once all was sent that waits for its peer.
+    /// Closes it, once all bytes that wait for the peer are sent.
     Free,
 }
 
-/// What came of it.
+/// The result of an action.
 #[derive(Drop)]
 pub(crate) enum Report {
-    /// A read ahead told this, or memory was refused; and whether the read took as much as it might.
+    /// The result of reading ahead, and whether the read took as many bytes as it could.
     Gathered(Result<Gathering, AllocError>, bool),
     /// Memory was taken, or refused.
     Reserved(Result<(), AllocError>),
-    /// Its feed let go of this room, if it had one.
+    /// The feed returned this room, if it had one.
     Settled(Option<Room>),
     /// Its reads fail.
     Failing,
-    /// So far it was sent.
+    /// The state of sending.
     Sent(Sending),
     /// Its slot is free.
     Freed,
@@ -54,7 +54,7 @@ impl<L: Listener> Gate<L, L::Stream> {
     ghost use Rattle.sockets.specs.Moving.{Moves};
     ghost use Rattle.sockets.specs.Telling.{Stays};
 
-    /// Does this to the connection in the slot. What is read comes by way of the buffer.
+    /// Does this to the connection in the slot. Bytes are read through the buffer.
     pub(crate) fn work(
         &mut self,
         slots: &mut [Option<Held<L::End>>],
@@ -88,8 +88,8 @@ impl<L: Listener> Gate<L, L::Stream> {
         }
     }
 
-    // Where the connection is through, sends on what waits. Where nothing waits any more then, or a write failed, it makes the slot
-    // free.
+    // If the connection is through, sends what waits. If no bytes wait then, or a write failed, frees the
+    // slot.
     fn let_go(&mut self, slots: &mut [Option<Held<L::End>>], index: usize) -> Report
         requires { index < length slots.old }
         ensures moves { Moves L.told L.are_ends ⟦<Gathered<L::End> as Read>⟧.remaining
@@ -124,8 +124,8 @@ fn is_through_at<S: Read + Write>(slots: &[Option<Held<S>>], index: usize) -> bo
     }
 }
 
-// Reads once ahead of the connection in the slot, so many bytes at the most, and no more than the buffer has room for: what was
-// there, and whether the read took as much as it might.
+// Reads ahead once for the connection in the slot: at most `size` bytes, and no more than fit into the
+// buffer. Returns the result, and whether the read took as many bytes as it could.
 fn gather<S: Read + Write>(
     slots: &mut [Option<Held<S>>],
     index: usize,
@@ -145,7 +145,7 @@ fn gather<S: Read + Write>(
     (outcome, is_as_much(came, size))
 }
 
-// Whether as many bytes came as might.
+// Whether as many bytes came as possible.
 fn is_as_much(came: usize, most: usize) -> bool
     ensures { result ≡ true ↔ (most ≤ came) }
 {

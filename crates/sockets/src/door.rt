@@ -2,24 +2,25 @@
 use crate::gate::Coming;
 use std::time::{Duration, Instant};
 
-/// How many milliseconds no connection is accepted once memory or descriptors were wanting, if none is closed before.
+/// For how many milliseconds no connection is accepted after memory or descriptors were short, unless a
+/// connection is closed earlier.
 const PAUSE_MILLIS: u64 = 100;
 
-/// Whether the listener may be asked for connections, and one that waits be let in.
+/// Whether the listener may be asked for connections, and whether a waiting connection may be let in.
 #[derive(Drop)]
 pub(crate) struct Door {
-    // Who may come still.
+    // Which connections may still come.
     coming: Coming,
-    // Whether connections may be there: an event comes once, and holds until an `accept` would wait.
+    // Whether connections may be there. An event comes once, and holds until an `accept` would wait.
     is_ready: bool,
-    // From when on none is accepted for want of memory or descriptors.
+    // Since when no connection is accepted because memory or descriptors are short.
     paused: Option<Instant>,
-    // When one went for such a want, which has not ended since.
+    // When a connection was closed because of a shortage that has not ended yet.
     relieved: Option<Instant>,
 }
 
 impl Door {
-    /// Connections may be there.
+    /// A door at which connections may wait.
     pub(crate) fn new() -> Door {
         Door {
             coming: Coming {
@@ -32,62 +33,62 @@ impl Door {
         }
     }
 
-    /// Takes down who may come still.
+    /// Stores which connections may still come.
     pub(crate) fn note(&mut self, coming: Coming) {
         self.coming = coming;
     }
 
-    /// Connections may be there.
+    /// Notes that connections may be there.
     pub(crate) fn knock(&mut self) {
         self.is_ready = true;
     }
 
-    /// None is there.
+    /// Notes that no connection is there.
     pub(crate) fn rest(&mut self) {
         self.is_ready = false;
     }
 
-    /// Whether no connection is to come any more.
+    /// Whether no more connections are to come.
     pub(crate) fn is_shut(&self) -> bool {
         self.coming.is_last && !self.coming.has_guest
     }
 
-    /// Whether it lets none come now for want of memory or descriptors.
+    /// Whether no connection may come now because memory or descriptors are short.
     pub(crate) fn is_paused(&self) -> bool {
         self.paused.is_some()
     }
 
-    /// Whether the listener can be asked for one at once.
+    /// Whether the listener can be asked for a connection at once.
     pub(crate) fn is_open(&self) -> bool {
         !self.coming.is_last && self.is_ready && !self.coming.has_guest && self.paused.is_none()
     }
 
-    /// Whether one waits that was accepted, and may be let in.
+    /// Whether an accepted connection waits and may be let in.
     pub(crate) fn has_guest(&self) -> bool {
         self.coming.has_guest && self.paused.is_none()
     }
 
-    /// Lets none come for a while: memory or descriptors are wanting.
+    /// Stops accepting for a while, because memory or descriptors are short.
     pub(crate) fn pause(&mut self, now: Instant) {
         self.paused = Some(now);
     }
 
-    /// One goes, for a want.
+    /// Notes that a connection is closed because of a shortage.
     pub(crate) fn relieve(&mut self, now: Instant) {
         self.relieved = Some(now);
     }
 
-    /// Whether one has just gone for a want that has not ended since.
+    /// Whether a connection was just closed because of a shortage that has not ended yet.
     pub(crate) fn is_relieved(&self, now: Instant) -> bool {
         lasts(self.relieved, now)
     }
 
-    /// A connection came in: the want has ended.
+    /// Notes that a connection came in, so the shortage has ended.
     pub(crate) fn enter(&mut self) {
         self.relieved = None;
     }
 
-    /// Ends a pause: a descriptor was closed.
+    /// Ends a pause, because a descriptor was closed.
     pub(crate) fn end_pause(&mut self) {
         self.paused = None;
     }
@@ -100,7 +101,7 @@ impl Door {
     }
 }
 
-// Whether the while that began then, if one did, lasts still.
+// Whether the pause since then, if there is one, is not over yet.
 fn lasts(since: Option<Instant>, now: Instant) -> bool {
     match since {
         Some(since) => now.duration_since(since) < Duration::from_millis(PAUSE_MILLIS),

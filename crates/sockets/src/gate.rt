@@ -1,4 +1,4 @@
-//! The gate: which connections are accepted, which of them come into a slot, and which go from one.
+//! The gate: which connections are accepted, which come into a slot, and which leave one.
 ghost use Rattle.std.specs.Prelude.{◌≡◌, ◌<◌, ◌≤◌, ◌⊎◌, ◌↔◌, ◌∷◌, ◌+◌, ◌-◌, ℕ, [], is_some, length, slice_set, false, true, IfSome, None, Some};
 ghost use Rattle.office.specs.Crowds.{Changes, slot_at};
 ghost use Rattle.office.specs.Seats.{IsNew};
@@ -13,53 +13,53 @@ use std::io;
 use std::io::{ErrorKind, Read, Write};
 use wire::{Gathered, Outbox};
 
-/// What came of asking for a connection.
+/// The result of asking for a connection.
 #[derive(Clone, Copy, Debug, PartialEq, Eq)]
 pub(crate) enum Call {
-    /// It was accepted, and waits to be let in.
+    /// A connection was accepted and waits to be let in.
     Came,
-    /// It could not be accepted.
+    /// A connection could not be accepted.
     Refused,
-    /// It can't be accepted now: memory or descriptors are wanting.
+    /// No connection can be accepted now, because memory or descriptors are short.
     Wanting,
-    /// None is there, or one waits, or none is to come.
+    /// No connection is there, or one waits already, or no more are to come.
     None,
 }
 
-/// What came of letting a connection in.
+/// The result of letting a connection in.
 #[derive(Clone, Copy, Debug, PartialEq, Eq)]
 pub(crate) enum Entry {
-    /// It came into the slot of this index.
+    /// It came into the slot at this index.
     In(usize),
-    /// It was turned away, or none waited.
+    /// It was turned away, or no connection waited.
     Away,
-    /// It waits still: memory, descriptors or a slot are wanting.
+    /// It still waits, because memory, descriptors or slots are short.
     Wanting,
 }
 
-/// Who may come still.
+/// Which connections may still come.
 #[derive(Clone, Copy, Debug, PartialEq, Eq)]
 pub(crate) struct Coming {
-    /// One that was accepted waits to be let in.
+    /// An accepted connection waits to be let in.
     pub(crate) has_guest: bool,
-    /// No more is to be accepted.
+    /// No more connections are to be accepted.
     pub(crate) is_last: bool,
 }
 
-/// The listener, the one of its connections that was accepted and stands in no slot yet, and how many came and went.
+/// The listener, an accepted connection that has no slot yet, and how many came and went.
 #[derive(Drop)]
 pub(crate) struct Gate<L, S> {
     listener: L,
     guest: Option<S>,
-    // How many are to be accepted still, with those that can't be.
+    // How many are still to be accepted, including those that fail.
     to_come: u64,
     // How many may be open at a time.
     most: usize,
     // How many came into a slot.
     pub(crate) came: u64,
-    // How many went from one.
+    // How many left a slot.
     pub(crate) gone: u64,
-    // How many of them lack answers.
+    // How many of those lack answers.
     pub(crate) unsent: u64,
     ghost lacking: { unsent ≤ gone },
 }
@@ -68,7 +68,7 @@ impl<L: Listener> Gate<L, L::Stream> {
     ghost use Rattle.sockets.specs.Moving.{Moves, Passes};
     ghost use Rattle.sockets.specs.Telling.{Calls, Enters, Stays};
 
-    /// So many are to come, and so many may be open at a time.
+    /// A gate for this many connections, of which at most `most` are open at a time.
     pub(crate) fn new(listener: L, connections: u64, most: usize) -> Gate<L, L::Stream>
         ensures listener { result.listener ≡ listener }
         ensures guest { result.guest ≡ None }
@@ -89,7 +89,7 @@ impl<L: Listener> Gate<L, L::Stream> {
         }
     }
 
-    /// The listener, how many are to be accepted still, and whether one waits.
+    /// Returns the listener, how many connections are still to be accepted, and whether one waits.
     pub(crate) fn close(self) -> (L, u64, bool)
         ensures listener { result.0 ≡ self.listener }
         ensures to_come { result.1 ≡ self.to_come }
@@ -99,7 +99,7 @@ impl<L: Listener> Gate<L, L::Stream> {
         (self.listener, self.to_come, waits)
     }
 
-    /// Who may come still.
+    /// Which connections may still come.
     pub(crate) fn coming(&self) -> Coming
         ensures guest { result.has_guest ≡ is_some self.now.guest }
         ensures last { result.is_last ≡ true ↔ (self.now.to_come ≡ 0) }
@@ -110,7 +110,7 @@ impl<L: Listener> Gate<L, L::Stream> {
         }
     }
 
-    /// Asks the listener for a connection, where none waits and one is to come.
+    /// Asks the listener for a connection, if none waits and one is to come.
     pub(crate) fn call(&mut self) -> Call
         ensures passes { Passes L.told L.are_ends self.old self.new [] [] }
         ensures told { Calls L.told result self.old self.new }
@@ -133,8 +133,8 @@ impl<L: Listener> Gate<L, L::Stream> {
         }
     }
 
-    /// Lets the one that waits into a slot that is free. Where none is, or memory or descriptors are wanting, it waits on; where its
-    /// ends can't be made it is turned away.
+    /// Lets the waiting connection into a free slot. It keeps waiting if no slot is free, or memory or
+    /// descriptors are short. It is turned away if its ends can't be made.
     pub(crate) fn let_in(&mut self, slots: &mut [Option<Held<L::End>>], alloc: Global) -> Entry
         ensures moves { Moves L.told L.are_ends ⟦<Gathered<L::End> as Read>⟧.remaining
             ⟦<Outbox<L::End> as Write>⟧.contents self.old self.new slots.old slots.new }
@@ -159,7 +159,8 @@ impl<L: Listener> Gate<L, L::Stream> {
         }
     }
 
-    // The ends of the one that waited can't be made for this error. It waits on, if it is there still and the want may end.
+    // The ends of the waiting connection can't be made, with this error. It keeps waiting if it still exists
+    // and the shortage may end.
     fn put_off(&mut self, stream: Option<L::Stream>, error: io::Error) -> Entry
         ensures told { ((result ≡ Entry.Wanting) × (same : L.Stream) × (stream ≡ Some same) × IsWant error × (self.new.guest ≡ Some same))
             ⊎ ((result ≡ Entry.Away) × ((stream ≡ None) ⊎ (IsWant error → ⊥)) × (self.new.guest ≡ self.old.guest)) }
@@ -177,7 +178,7 @@ impl<L: Listener> Gate<L, L::Stream> {
         Entry::Wanting
     }
 
-    // Whether fewer are open than may be.
+    // Whether fewer connections are open than allowed.
     fn may_open(&self) -> bool
         ensures few { result ≡ true → self.now.came < self.now.gone + self.now.most }
         ensures all { result ≡ false → self.now.most ≤ self.now.came - self.now.gone }
@@ -185,14 +186,14 @@ impl<L: Listener> Gate<L, L::Stream> {
         self.came.saturating_sub(self.gone) < self.most as u64
     }
 
-    /// Whether one more that goes can be counted.
+    /// Whether one more closed connection can be counted.
     pub(crate) fn may_go(&self) -> bool
         ensures { result ≡ true ↔ (self.now.gone < 18446744073709551615) }
     {
         self.gone < u64::MAX
     }
 
-    /// Makes the slot free: its connection is given back to the listener, which closes it.
+    /// Frees the slot. Its connection goes back to the listener, which closes it.
     pub(crate) fn free(&mut self, slots: &mut [Option<Held<L::End>>], index: usize)
         requires within { index < length slots.old }
         requires counted { self.old.gone < 18446744073709551615 }
@@ -210,7 +211,7 @@ impl<L: Listener> Gate<L, L::Stream> {
     }
 }
 
-// Puts a new connection into a slot that is free, as one is, and answers its index.
+// Puts a new connection into a free slot; there is one. Returns its index.
 fn seat_in<S: Read + Write + Drop>(slots: &mut [Option<Held<S>>], seat: Held<S>) -> usize
     requires new { IsNew seat }
     requires free { (p : ℕ) × (p < length slots.old) × (slot_at slots.old p ≡ None) }
@@ -226,8 +227,8 @@ fn seat_in<S: Read + Write + Drop>(slots: &mut [Option<Held<S>>], seat: Held<S>)
     }
 }
 
-// Whether it tells of a want that may end: of memory (12, or no number), of descriptors in the system (23) or in this process
-// (24), or of buffers (105).
+// Whether the error means a shortage that may end: of memory (12, or no number), of descriptors in the system
+// (23) or in this process (24), or of buffers (105).
 fn is_want(error: io::Error) -> bool
     ensures told { result ≡ true → IsWant error }
     ensures all { IsWant error → result ≡ true }

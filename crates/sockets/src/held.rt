@@ -1,4 +1,4 @@
-//! The connections in their slots, as the loop looks at them.
+//! The connections in their slots, as the loop sees them.
 ghost use Rattle.std.specs.Prelude.{◌≡◌, ◌≤◌, ◌↔◌, ◌∷◌, [], length, IfSome, IsSomeAnd, IsTrue};
 ghost use Rattle.std.specs.List.{count_by};
 ghost use Rattle.office.specs.Crowds.{slot_at};
@@ -24,7 +24,7 @@ pub(crate) fn seat_at<S>(slots: &[Option<Held<S>>], index: usize) -> Option<&Hel
     }
 }
 
-/// How many bytes are ahead of the connection in the slot.
+/// The number of bytes that were read ahead for the connection in the slot.
 pub(crate) fn ahead_len<S: Read>(slots: &[Option<Held<S>>], index: usize) -> usize
     ensures { IfSome (slot_at slots.now index) (λ seat. result ≡ length (ahead_in seat.reader.inner)) }
 {
@@ -34,7 +34,7 @@ pub(crate) fn ahead_len<S: Read>(slots: &[Option<Held<S>>], index: usize) -> usi
     }
 }
 
-/// How many bytes wait for its peer.
+/// The number of bytes that wait for the peer.
 pub(crate) fn waiting_len<S: Write>(slots: &[Option<Held<S>>], index: usize) -> usize {
     match seat_at(slots, index) {
         Some(seat) => seat.writer.inner.waiting().len(),
@@ -42,7 +42,7 @@ pub(crate) fn waiting_len<S: Write>(slots: &[Option<Held<S>>], index: usize) -> 
     }
 }
 
-// Whether nothing of it is ahead or waits, and no read of it has failed.
+// Whether no bytes are ahead or waiting, and no read has failed.
 fn is_idle<S: Read + Write>(seat: &Held<S>) -> bool
     ensures { IsTrue result ↔ IsIdle seat.now }
 {
@@ -51,7 +51,8 @@ fn is_idle<S: Read + Write>(seat: &Held<S>) -> bool
     is_read && seat.writer.inner.waiting().is_empty()
 }
 
-/// Whether it is idle or has ended; where it ended by a failed read, its reader failed.
+/// Whether the connection is through: it is idle or has ended and, if it ended by a failed read, its reader
+/// has failed.
 pub(crate) fn is_through<S: Read + Write>(seat: &Held<S>) -> bool
     ensures { IsTrue result ↔ IsThrough seat.now }
 {
@@ -62,21 +63,21 @@ pub(crate) fn is_through<S: Read + Write>(seat: &Held<S>) -> bool
     }
 }
 
-// Whether it ended by a write that failed.
+// Whether the connection ended by a failed write.
 fn is_write_fault(end: Option<SessionEnd>) -> bool
     ensures { result ≡ is_write_fault end }
 {
     matches!(end, Some(SessionEnd::WriteFault))
 }
 
-// Whether a write of it failed, so that an answer was not sent whole.
+// Whether a write failed, so that an answer was not sent in full.
 fn lacks_answers<S: Read + Write>(seat: &Held<S>) -> bool
     ensures { result ≡ lacks_answers seat.now }
 {
     seat.writer.inner.has_failed() || is_write_fault(seat.end())
 }
 
-/// 1 of a connection that lacks answers, and else 0.
+/// 1 if the connection lacks answers, otherwise 0.
 pub(crate) fn lacking<S: Read + Write>(seat: &Held<S>) -> u64
     ensures count { result ≡ count_by lacks_answers (seat.now ∷ []) }
     ensures most { result ≤ 1 }
@@ -84,7 +85,7 @@ pub(crate) fn lacking<S: Read + Write>(seat: &Held<S>) -> u64
     if lacks_answers(seat) { 1 } else { 0 }
 }
 
-/// A connection of which these are the ends. Nothing was read of it, or written to it.
+/// A connection with these ends. Nothing was read from it or written to it.
 pub(crate) fn new_seat<S: Read + Write>(alloc: Global, reader: S, writer: S) -> Held<S>
     ensures new { IsNew result }
     ensures reader { result.reader.inner.inner ≡ reader }

@@ -1,5 +1,6 @@
-//! Leaving: a socket that is closed over bytes that nobody read is reset, and its peer may lose the last answer. So the peer is
-//! told that no more comes, and what it still sends is taken for a while.
+//! Leaving a connection. If a socket is closed while unread bytes are there, the connection is reset and the
+//! peer may lose the last answer. So the peer is told that no more comes, and what it still sends is read for
+//! a while.
 use crate::book::Book;
 use crate::deeds::Deed;
 use crate::held::{Held, seat_at};
@@ -8,14 +9,14 @@ use crate::socket::{End, Listener};
 use std::io::ErrorKind;
 use std::{io, time};
 
-/// How many bytes are thrown away at the most.
+/// The most bytes that are discarded.
 const LAST_BYTES: usize = 262_144;
 
-/// How many reads take them at the most, one after another.
+/// The most reads in a row that discard them.
 const LAST_READS: usize = 64;
 
 impl<R: time::Clock, L: Listener> Book<'_, R, L> {
-    /// Begins to leave a connection whose session has ended, and for which nothing waits.
+    /// Starts to leave a connection whose session has ended and for which no bytes wait.
     pub(crate) fn leave(&mut self, slots: &[Option<Held<L::End>>], index: usize) -> Option<Deed> {
         let stream = &seat_at(slots, index)?.reader.inner.inner;
         if stream.end_writes().is_err() {
@@ -25,7 +26,8 @@ impl<R: time::Clock, L: Listener> Book<'_, R, L> {
         self.throw_away(slots, index)
     }
 
-    /// Takes what the peer of a connection that is left still sends. At its end the connection goes.
+    /// Discards what the peer of such a connection still sends. The connection is closed at the end of the
+    /// stream.
     pub(crate) fn throw_away(
         &mut self,
         slots: &[Option<Held<L::End>>],
@@ -43,7 +45,7 @@ impl<R: time::Clock, L: Listener> Book<'_, R, L> {
         self.release(index)
     }
 
-    // Reads once, and keeps nothing of it.
+    // Reads once and discards the bytes.
     fn read_last(&mut self, slots: &[Option<Held<L::End>>], index: usize) -> io::Result<usize> {
         match seat_at(slots, index) {
             Some(seat) if seat.end().is_some() => L::End::throw_away(seat, &mut self.buf),
@@ -51,7 +53,7 @@ impl<R: time::Clock, L: Listener> Book<'_, R, L> {
         }
     }
 
-    // Counts bytes that were thrown away. Whether more may be.
+    // Counts discarded bytes. Returns whether more may be discarded.
     fn count_last(&mut self, index: usize, n: usize) -> bool {
         let Some(peer) = self.peers.get_mut(index) else {
             return false;

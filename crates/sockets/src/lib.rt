@@ -1,4 +1,5 @@
-//! The sockets of a listener's peers around an office: one loop over all of them, in which no peer holds the others.
+//! The sockets of a listener's peers around an office. One loop serves all of them, and no peer holds up
+//! another.
 #![tactic(auto)]
 
 mod accepting;

@@ -1,52 +1,52 @@
 //! What is known of a peer between two turns.
 use std::time::{Duration, Instant};
 
-/// How long a body may bring less than `BODY_STEP` bytes.
+/// For how many seconds a body may bring less than `BODY_STEP` bytes.
 const BODY_SECONDS: u64 = 10;
 
-/// How many bytes a body brings at the least in that time, if so many are to come.
+/// The fewest bytes that a body brings in that time, if that many are to come.
 pub(crate) const BODY_STEP: usize = 65_536;
 
-/// How many seconds a connection is left to its peer once it was told that no more comes.
+/// For how many seconds a connection is kept after its peer was told that no more comes.
 const LAST_SECONDS: u64 = 1;
 
-/// What a connection is at.
+/// The phase of a connection.
 #[derive(Clone, Copy, Debug, PartialEq, Eq)]
 pub(crate) enum Phase {
-    /// There is none.
+    /// There is no connection.
     Free,
-    /// It is between two messages, and nothing is ahead.
+    /// The connection is idle between two messages, and nothing is ahead.
     Silent,
-    /// A part of a head is ahead.
+    /// Part of a head is ahead.
     Head,
-    /// A head is ahead, and the message waits for room. It is not read.
+    /// A head is ahead, and the message waits for room. Nothing is read.
     Waits {
-        /// How many bytes the message takes.
+        /// The length of the message in bytes.
         len: usize,
     },
-    /// A head is ahead, and its body comes.
+    /// A head is ahead, and its body is being read.
     Body {
-        /// How many bytes the message takes.
+        /// The length of the message in bytes.
         len: usize,
-        /// How many of them were ahead when the time began to count.
+        /// How many of the bytes were ahead when the time began to count.
         mark: usize,
     },
     /// A turn is due: a whole message is ahead, or the reader ended or failed.
     Due,
-    /// An answer waits until the peer takes it.
+    /// An answer waits for the peer to accept it.
     Answer {
-        /// How many bytes of it waited when the time began to count.
+        /// How many of its bytes waited when the time began to count.
         mark: usize,
     },
-    /// The session has ended. What the peer still sends is thrown away.
+    /// The session has ended. Bytes that the peer still sends are discarded.
     Leaving {
-        /// How many bytes were.
+        /// How many bytes were discarded.
         taken: usize,
     },
 }
 
 impl Phase {
-    /// How long it may last, if there is a bound.
+    /// The timeout of the phase, if it has one.
     pub(crate) fn bound(self, patience: Option<Duration>) -> Option<Duration> {
         match self {
             Phase::Free | Phase::Waits { .. } | Phase::Due => None,
@@ -57,24 +57,25 @@ impl Phase {
     }
 }
 
-/// A connection beside its slot.
+/// The state of a connection that is stored besides its slot.
 #[derive(Clone, Copy, Debug)]
 pub(crate) struct Peer {
-    /// What it is at.
+    /// The phase.
     pub(crate) phase: Phase,
-    /// From when on the time of the phase counts.
+    /// When the time of the phase began to count.
     pub(crate) since: Instant,
-    /// When bytes came last in the phase, or when it began.
+    /// When bytes last came in the phase, or when it began.
     pub(crate) heard: Instant,
-    /// Whether bytes, an end or a fault may be there to be read.
+    /// Whether bytes, an end or a fault may be there to read.
     pub(crate) is_ready: bool,
-    /// Whether the peer sends no more, or has failed. Behind what it sent is an end, which no event tells once more.
+    /// Whether the peer sends no more, or has failed. What it sent is followed by an end, and no further
+    /// event tells that end.
     pub(crate) is_closing: bool,
-    /// Whether its socket tells what can be read of it.
+    /// Whether its socket is registered with the poll.
     pub(crate) is_watched: bool,
     /// Whether no turn of it was due yet.
     pub(crate) is_new: bool,
-    /// How many bytes of the common room it has.
+    /// Its part of the shared room, in bytes.
     pub(crate) room: usize,
 }
 
@@ -93,7 +94,7 @@ impl Peer {
         }
     }
 
-    /// Whether the phase has lasted too long, or no byte of a body came for the patience.
+    /// Whether the phase has lasted too long, or no byte of a body came within the timeout.
     pub(crate) fn is_over(&self, patience: Option<Duration>, now: Instant) -> bool {
         let is_body = matches!(self.phase, Phase::Body { .. });
         has_passed(self.phase.bound(patience), self.since, now)
@@ -101,7 +102,7 @@ impl Peer {
     }
 }
 
-// Whether so much time has passed, if there is a bound.
+// Whether this much time has passed, if there is a bound.
 fn has_passed(bound: Option<Duration>, since: Instant, now: Instant) -> bool {
     match bound {
         Some(bound) => now.duration_since(since) >= bound,

@@ -1,4 +1,4 @@
-//! Reading ahead: a turn is due once a message is whole.
+//! Reading ahead. A turn is due once a message is complete.
 use crate::book::{Book, MOST_READ};
 use crate::deeds::Deed;
 use crate::held::{Held, ahead_len, seat_at};
@@ -10,11 +10,12 @@ use std::io::ErrorKind;
 use std::time;
 use wire::{Gathering, message_len};
 
-/// How many bytes one read takes of a head. What is read behind the head is ahead for the messages that follow.
+/// The most bytes that one read of a head takes. Bytes after the head are kept for the next messages.
 const HEAD_READ: usize = 4096;
 
 impl<R: time::Clock, L: Listener> Book<'_, R, L> {
-    /// Reads ahead of the connection, if bytes may be there and a message of it can be read on. Else its socket tells when they are.
+    /// Reads ahead, if bytes may be there and the message may be read on. Otherwise waits for the socket to
+    /// become readable.
     pub(crate) fn read(&mut self, slots: &[Option<Held<L::End>>], index: usize) -> Option<Deed> {
         let Some(size) = self.read_size(slots, index) else {
             return self.listen_to(slots, index);
@@ -27,7 +28,7 @@ impl<R: time::Clock, L: Listener> Book<'_, R, L> {
         Some(Deed::Gather(size))
     }
 
-    // How many bytes the next read takes at the most, if there may be one.
+    // The most bytes that the next read may take, if there may be a read.
     fn read_size(&self, slots: &[Option<Held<L::End>>], index: usize) -> Option<usize> {
         let peer = self.peers.get(index)?;
         if !peer.is_ready {
@@ -42,7 +43,7 @@ impl<R: time::Clock, L: Listener> Book<'_, R, L> {
         }
     }
 
-    /// A read ahead told this, and took as much as it might, or not.
+    /// A read ahead had this result. `is_full` tells whether it took as many bytes as it could.
     pub(crate) fn gathered(
         &mut self,
         slots: &[Option<Held<L::End>>],
@@ -61,7 +62,7 @@ impl<R: time::Clock, L: Listener> Book<'_, R, L> {
         }
     }
 
-    // Bytes came. Where a read took less than it might no more are there, but for an end that was told already.
+    // Bytes came. If the read was not full, no more bytes are there, except an end that was told already.
     fn note_bytes(&mut self, index: usize, is_full: bool) {
         if let Some(peer) = self.peers.get_mut(index) {
             peer.heard = self.now;
@@ -69,7 +70,7 @@ impl<R: time::Clock, L: Listener> Book<'_, R, L> {
         }
     }
 
-    // Nothing is there. Where nothing is ahead, no memory is kept.
+    // Nothing is there. If nothing is ahead, the memory is freed.
     fn note_wait(&mut self, index: usize) -> Option<Deed> {
         if let Some(peer) = self.peers.get_mut(index) {
             peer.is_ready = false;
@@ -77,7 +78,7 @@ impl<R: time::Clock, L: Listener> Book<'_, R, L> {
         Some(Deed::Settle)
     }
 
-    // What the bytes that came make due.
+    // Goes on after bytes came.
     fn advance(&mut self, slots: &[Option<Held<L::End>>], index: usize) -> Option<Deed> {
         let ahead = ahead_len(slots, index);
         match self.phase(index) {
@@ -91,8 +92,8 @@ impl<R: time::Clock, L: Listener> Book<'_, R, L> {
         self.read(slots, index)
     }
 
-    /// Judges what is ahead between two turns, nothing, a part of a message, or a whole one; and reads on where more is to come. Where
-    /// the reader has failed, a turn tells it.
+    /// Judges what is ahead between two turns: nothing, part of a message, or a whole message. Reads on if
+    /// more is to come. If the reader has failed, the next turn tells it.
     pub(crate) fn judge(&mut self, slots: &[Option<Held<L::End>>], index: usize) -> Option<Deed> {
         let reader = &seat_at(slots, index)?.reader.inner;
         if reader.has_failed() {
@@ -112,7 +113,7 @@ impl<R: time::Clock, L: Listener> Book<'_, R, L> {
         self.read(slots, index)
     }
 
-    // Room for a message is asked for.
+    // Asks for room for a message.
     fn ask_room(
         &mut self,
         slots: &[Option<Held<L::End>>],
@@ -132,7 +133,7 @@ impl<R: time::Clock, L: Listener> Book<'_, R, L> {
         None
     }
 
-    /// The body comes of a message that was given room.
+    /// Starts to read the body of a message that was given room.
     pub(crate) fn begin_large(
         &mut self,
         slots: &[Option<Held<L::End>>],
@@ -146,7 +147,7 @@ impl<R: time::Clock, L: Listener> Book<'_, R, L> {
         self.begin_body(slots, index, len)
     }
 
-    // The body comes: memory is taken for what is not ahead.
+    // Starts to read a body: takes memory for the bytes that are not ahead yet.
     fn begin_body(
         &mut self,
         slots: &[Option<Held<L::End>>],
@@ -158,7 +159,7 @@ impl<R: time::Clock, L: Listener> Book<'_, R, L> {
         Some(Deed::Reserve(len.saturating_sub(mark)))
     }
 
-    /// Memory for a body was taken, or refused.
+    /// Memory for a body was taken or refused.
     pub(crate) fn reserved(
         &mut self,
         slots: &[Option<Held<L::End>>],

@@ -1,41 +1,43 @@
-//! The memory that large messages have in common while they come.
+//! The memory that large messages share while they are read.
 use std::alloc::{AllocError, Global};
 use std::time::{Duration, Instant};
 
-/// How many bytes all that is ahead of all connections may take together.
+/// The most bytes that may be ahead on all connections together.
 const MOST_AHEAD: usize = 67_108_864;
 
-/// How many bytes each connection may have ahead for itself. A message that takes no more waits for nobody.
+/// The bytes that each connection may have ahead without asking. A message of at most this size never waits
+/// for room.
 pub(crate) const OWN_ROOM: usize = 16_384;
 
-/// How many seconds a message waits at the most while only shorter ones are given room.
+/// How many seconds a message may wait while only shorter messages get room.
 const SHORTER_SECONDS: u64 = 5;
 
 /// A slot that waits for room.
 #[derive(Clone, Copy, Debug)]
 struct Waiting {
     index: usize,
-    /// How many bytes its message takes.
+    /// The length of its message in bytes.
     len: usize,
     since: Instant,
 }
 
-/// Room for whole messages. A connection is given it before it reads the body, and keeps it until the message was served: so
-/// it never waits for more, and each that waits holds none. The shortest message is given room first, so that those who announce
-/// much and bring little hold nobody up; but of two one is the first that waits, if it has waited for five seconds. Where nobody has
-/// room, the next one gets it, however much it asks for.
+/// Room for whole messages. A connection gets room before it reads the body, and keeps it until the message
+/// is served. So it never waits for more, and a waiting connection holds no room. The shortest message goes
+/// first, so that peers that announce much and send little hold up no one. But every second time the one that
+/// has waited longest goes first, if it has waited for five seconds. If no connection has room, the next one
+/// gets it, however much it asks for.
 #[derive(Drop)]
 pub(crate) struct Rooms {
     most: usize,
     given: usize,
-    // The slots that wait, in the order in which they came.
+    // The slots that wait, oldest first.
     waiting: Vec<Waiting>,
-    // Whether the last one that was given room had it for its age.
+    // Whether the last slot got its room because of its age.
     was_old: bool,
 }
 
 impl Rooms {
-    /// Room beside what so many connections have for themselves.
+    /// The room that is left beside the own room of this many connections.
     pub(crate) fn beside(alloc: Global, connections: usize) -> Result<Rooms, AllocError> {
         Ok(Rooms {
             most: MOST_AHEAD.saturating_sub(connections.saturating_mul(OWN_ROOM)),
@@ -45,12 +47,12 @@ impl Rooms {
         })
     }
 
-    // Whether so much can be given.
+    // Whether this much can be given.
     fn has(&self, len: usize) -> bool {
         self.given == 0 || self.given.saturating_add(len) <= self.most
     }
 
-    /// Gives so much, if it is there and nobody waits. Whether it did.
+    /// Gives this much room, if it is available and no slot waits. Returns whether it did.
     pub(crate) fn take(&mut self, len: usize) -> bool {
         if !self.waiting.is_empty() || !self.has(len) {
             return false;
@@ -59,7 +61,7 @@ impl Rooms {
         true
     }
 
-    /// The slot waits for so much. The error is that memory was refused.
+    /// Puts the slot into the queue. The error means that memory was refused.
     pub(crate) fn wait(
         &mut self,
         index: usize,
@@ -70,7 +72,8 @@ impl Rooms {
         Ok(())
     }
 
-    /// Gives room to the next slot that waits, if what it asks for is there: the slot, and how much it was given.
+    /// Gives room to the next slot in the queue, if there is enough. Returns the slot and the size of its
+    /// room.
     pub(crate) fn serve(&mut self, now: Instant) -> Option<(usize, usize)> {
         let is_old = self.is_old(now);
         let at = if is_old { 0 } else { self.shortest()? };
@@ -84,7 +87,7 @@ impl Rooms {
         Some((index, len))
     }
 
-    // Whether the next one is the first that waits, for its age.
+    // Whether the oldest slot goes next because of its age.
     fn is_old(&self, now: Instant) -> bool {
         match self.waiting.first() {
             Some(first) if !self.was_old => {
@@ -94,7 +97,7 @@ impl Rooms {
         }
     }
 
-    // The place of the shortest that waits, of equal ones the first.
+    // The place of the shortest message in the queue, the first of equal ones.
     fn shortest(&self) -> Option<usize> {
         let mut least = self.waiting.first()?.len;
         let mut found = 0;
@@ -112,7 +115,7 @@ impl Rooms {
         !self.waiting.is_empty()
     }
 
-    /// So much is given back.
+    /// Returns this much room.
     pub(crate) fn give_back(&mut self, len: usize) {
         self.given = self.given.saturating_sub(len);
     }

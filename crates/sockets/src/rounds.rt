@@ -1,20 +1,20 @@
-//! Turns that are due: in each round a connection has one at the most.
+//! Turns that are due. A connection has at most one in each round.
 use std::alloc::{AllocError, Global};
 use std::mem;
 
-/// The slots whose turn is due, in the order in which they came to be so.
+/// The slots whose turn is due, oldest first.
 #[derive(Drop)]
 pub(crate) struct Rounds {
-    // Those of this round.
+    // The slots of this round.
     now: Vec<usize>,
     // How many of them had their turn.
     at: usize,
-    // Those of the next one.
+    // The slots of the next round.
     later: Vec<usize>,
 }
 
 impl Rounds {
-    /// None is due. There is memory for so many.
+    /// No turn is due. Memory is taken for this many.
     pub(crate) fn with_capacity(alloc: Global, most: usize) -> Result<Rounds, AllocError> {
         Ok(Rounds {
             now: Vec::with_capacity(alloc, most)?,
@@ -23,13 +23,13 @@ impl Rounds {
         })
     }
 
-    /// A turn of the slot is due in the next round. The error is that memory was refused.
+    /// Schedules a turn of the slot in the next round. The error means that memory was refused.
     pub(crate) fn push(&mut self, index: usize) -> Result<(), AllocError> {
         self.later.push(index)?;
         Ok(())
     }
 
-    /// A turn of the slot is due in this round still. The error is that memory was refused.
+    /// Schedules a turn of the slot in this round. The error means that memory was refused.
     pub(crate) fn push_now(&mut self, index: usize) -> Result<(), AllocError> {
         self.now.push(index)?;
         Ok(())
@@ -42,7 +42,7 @@ impl Rounds {
         Some(index)
     }
 
-    /// Whether the next round has none.
+    /// Whether the next round is empty.
     pub(crate) fn is_idle(&self) -> bool {
         self.later.is_empty()
     }

@@ -1,4 +1,4 @@
-//! Answers that wait until their peers take them.
+//! Answers that wait until their peers accept them.
 use crate::book::Book;
 use crate::deeds::Deed;
 use crate::held::{Held, ahead_len, seat_at, waiting_len};
@@ -12,7 +12,7 @@ use std::{io, time};
 use wire::{Room, Sending};
 
 impl<R: time::Clock, L: Listener> Book<'_, R, L> {
-    /// Its feed let go of this room. Behind a turn what was written and waits is sent.
+    /// The feed returned this room, if it had one. After a turn the waiting bytes are sent.
     pub(crate) fn settled(
         &mut self,
         slots: &[Option<Held<L::End>>],
@@ -35,7 +35,7 @@ impl<R: time::Clock, L: Listener> Book<'_, R, L> {
         Some(Deed::Send)
     }
 
-    /// So far it was sent. Once all was, the connection goes on.
+    /// A send had this result. Once all bytes are sent, the connection goes on.
     pub(crate) fn sent(
         &mut self,
         slots: &[Option<Held<L::End>>],
@@ -49,7 +49,7 @@ impl<R: time::Clock, L: Listener> Book<'_, R, L> {
         }
     }
 
-    // An answer waits: it is sent on when the peer has taken some of it.
+    // An answer waits. More of it is sent when the peer has accepted some.
     fn hold(&mut self, slots: &[Option<Held<L::End>>], index: usize) -> Option<Deed> {
         let waiting = waiting_len(slots, index);
         match self.phase(index) {
@@ -68,7 +68,7 @@ impl<R: time::Clock, L: Listener> Book<'_, R, L> {
         None
     }
 
-    // No answer waits any more: the next message is read, or the connection is left.
+    // No answer waits any more: reads the next message, or leaves the connection.
     fn go_on(&mut self, slots: &[Option<Held<L::End>>], index: usize) -> Option<Deed> {
         if matches!(self.phase(index), Phase::Answer { .. }) {
             if self.watch(slots, index, false).is_err() {
@@ -83,7 +83,7 @@ impl<R: time::Clock, L: Listener> Book<'_, R, L> {
         }
     }
 
-    /// Has the socket tell what can be read, if it does not yet.
+    /// Registers the socket for reads, if it is not registered yet.
     pub(crate) fn listen_to(
         &mut self,
         slots: &[Option<Held<L::End>>],
@@ -95,7 +95,7 @@ impl<R: time::Clock, L: Listener> Book<'_, R, L> {
         self.give_up(slots, index, ErrorKind::Other)
     }
 
-    // Has the socket tell what can be read, and, if answers wait, whether it takes more.
+    // Registers the socket for reads and, if answers wait, also for writes.
     fn watch(
         &mut self,
         slots: &[Option<Held<L::End>>],
@@ -119,7 +119,7 @@ impl<R: time::Clock, L: Listener> Book<'_, R, L> {
         registry.register(&mut SourceFd(&fd), Token(index), interests)
     }
 
-    /// Cuts a connection whose peer takes no answer: its writes fail from now on.
+    /// Cuts off a connection whose peer accepts no answer. Its writes fail from now on.
     pub(crate) fn cut(&mut self, slots: &[Option<Held<L::End>>], index: usize) -> Option<Deed> {
         let stream = &seat_at(slots, index)?.reader.inner.inner;
         let _ = stream.end_writes();
@@ -127,7 +127,7 @@ impl<R: time::Clock, L: Listener> Book<'_, R, L> {
     }
 }
 
-// Whether all that its peer had to say was read, and so nothing is there that a close would throw away.
+// Whether everything from the peer was read, so that a close throws nothing away.
 fn is_heard_out(end: SessionEnd) -> bool {
     matches!(end, SessionEnd::Ended | SessionEnd::Truncated)
 }

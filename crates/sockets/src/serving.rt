@@ -1,4 +1,4 @@
-//! A listener's connections, served by an office in turn.
+//! Serving a listener's connections in turns by an office.
 ghost use Rattle.std.specs.Prelude.{◌≡◌, ◌≤◌, ◌+◌, ℕ, List, cond, length, IfErr, IfOk, None, true};
 ghost use Rattle.office.specs.Crowds.{slot_at};
 ghost use Rattle.office.specs.Premise.{StaysUnstaged};
@@ -21,53 +21,58 @@ use std::time::Duration;
 use std::{io, time};
 use wire::{Gathered, Outbox};
 
-/// What is allowed to connections.
+/// The limits on connections.
 #[derive(Clone, Copy, Debug, PartialEq, Eq)]
 pub struct Limits {
-    /// How many are accepted in all at the most, with those that can't be.
+    /// The most connections that are accepted in all, including those that fail.
     pub connections: u64,
-    /// How long a peer may keep one waiting; without it there is no bound.
+    /// How long a peer may keep a connection waiting. Without it there is no timeout.
     pub patience: Option<Duration>,
-    /// How many may be open at a time, 1 at the least. Each takes a descriptor.
+    /// How many connections may be open at a time, at least 1. Each takes a descriptor.
     pub open: usize,
 }
 
-/// What came of it.
+/// The outcome of a service.
 #[derive(Clone, Copy, Debug, PartialEq, Eq)]
 pub struct Outcome {
     /// How many connections came.
     pub came: u64,
-    /// How many could not be accepted, or whose ends could not be made.
+    /// How many connections could not be accepted, or their ends could not be made.
     pub refused: u64,
-    /// How many of those that came ended by a failed read or write, also where the loop made it fail: of a peer that was too slow, or
-    /// for want of memory.
+    /// How many of those that came ended by a failed read or write. This includes those that the loop made
+    /// fail, because the peer was too slow or memory was short.
     pub faulty: u64,
-    /// How many of those that went lack answers: a write of such a one failed, so that an answer was not sent whole. Its session may
-    /// have ended well before. What the system took and the peer never got is not told.
+    /// How many closed connections lack answers: a write failed, so that an answer was not sent in full. The
+    /// session may have ended well before. Bytes that the system took but the peer never got are not counted.
     pub unsent: u64,
-    /// Whether all that were to come have come, or were refused, and have gone. The loop is made so that it is, unless it took
-    /// 2^64 - 1 steps or turns.
+    /// Whether all connections that were to come have come or were refused, and have gone. The loop is built
+    /// so that this is true, unless it took 2^64 - 1 steps or turns.
     pub is_whole: bool,
 }
 
-/// A listener behind a service, the connections that are left, and what came of it. E: one end of a connection.
+/// The listener after a service, the connections that are left, and the outcome. E: one end of a connection.
 #[derive(Drop)]
 pub struct Served<L, E> {
     /// The listener.
     pub listener: L,
-    /// The slots, with the connections that have not gone. None is left where the service was not broken off.
+    /// The slots, with the connections that have not gone. There are none unless the service broke off.
     pub slots: Vec<Option<Seat<Gathered<E>, Outbox<E>>>>,
-    /// What came of it. The error is that memory was refused, or that the system can't tell which sockets are ready, or what time it
-    /// is. The office, the clock and the listener are as they were then.
+    /// The outcome. The error means that memory was refused, or that the system can't tell which sockets are
+    /// ready or what time it is. The office, the clock and the listener are then as they were at that point.
     pub outcome: io::Result<Outcome>,
 }
 
-/// Accepts so many connections of a listener and serves them in turn, a message at a time, in one loop that waits for none of
-/// them. The poll, of which nothing is asked yet, tells which sockets are ready. It ends once all have come, or were refused, and
-/// have gone. There is one order of all messages, in which the machine leads from the state before to the state after; each
-/// connection's answers, and its end, are those of its own messages; and over all of them an upload acts once. The listener tells what it did: each connection that it accepted came, once and in order, or was
-/// refused, or waited when the loop broke off; and each that went was given back to it, as it was when it went, once all that was
-/// written to it was sent, or a write of that failed.
+/// Accepts `limits.connections` connections of a listener and serves them in turns, one message at a time, in
+/// one loop that waits for none of them. The poll tells which sockets are ready; it must be new. The loop
+/// ends once all connections have come or were refused, and have gone.
+///
+/// There is one order of all messages in which the machine leads from the state before to the state after.
+/// Each connection's answers and its end are those of its own messages. Over all connections an upload acts
+/// once.
+///
+/// The listener tells what it did. Each connection that it accepted came, once and in order, or was refused,
+/// or was still waiting when the loop broke off. Each connection that went was given back to the listener as
+/// it was then, after everything written to it was sent or a write failed.
 pub fn serve<K: Keeper, C: Clock, L: Listener, R: time::Clock>(
     rt: &R,
     poll: Poll,
@@ -117,7 +122,7 @@ pub fn serve<K: Keeper, C: Clock, L: Listener, R: time::Clock>(
     }
 }
 
-// What the loop keeps, and free slots.
+// The state of the loop, and free slots.
 fn prepare<'a, L: Listener, R: time::Clock>(
     rt: &'a R,
     poll: Poll,
@@ -133,7 +138,7 @@ fn prepare<'a, L: Listener, R: time::Clock>(
     Ok((book, slots))
 }
 
-// Serves so many of those that the listener accepts, and gives it back.
+// Serves this many connections that the listener accepts. Returns the listener.
 fn serve_through<K: Keeper, C: Clock, L: Listener, R: time::Clock, S: Start<L::Stream, L::End>>(
     office: &mut Office<K>,
     book: Book<'_, R, L>,
@@ -179,14 +184,14 @@ fn serve_through<K: Keeper, C: Clock, L: Listener, R: time::Clock, S: Start<L::S
     (listener, outcome)
 }
 
-// How many may be open at a time, where this is asked for.
+// How many may be open at a time if this many are asked for: at least one.
 fn at_least_one(n: usize) -> usize
     ensures { result ≡ at_least_one n }
 {
     if n == 0 { 1 } else { n }
 }
 
-// How many of all were refused, where so many are to come still, so many came, and one may wait.
+// How many of all were refused, if `to_come` are still to come, `came` came, and one may wait.
 fn refused_of(all: u64, to_come: u64, came: u64, waits: bool) -> u64
     ensures { (refused : ℕ) → all ≡ to_come + cond waits 1 0 + came + refused → result ≡ refused }
 {
@@ -202,7 +207,7 @@ fn are_all(one: bool, two: bool, three: bool) -> bool
     one && two && three
 }
 
-// Whether so many connections came, or could not be accepted.
+// Whether all connections came or could not be accepted.
 fn have_come(came: u64, refused: u64, connections: u64) -> bool
     ensures told { result ≡ true → came + refused ≡ connections }
     ensures all { came + refused ≡ connections → result ≡ true }
@@ -221,7 +226,7 @@ fn are_as_many(came: u64, gone: u64) -> bool
     came == gone
 }
 
-// So many slots, all of them free.
+// This many free slots.
 fn free_slots<S: Drop>(alloc: Global, n: usize) -> Result<Vec<Option<Held<S>>>, AllocError>
     ensures free { IfOk result (λ slots. (p : ℕ) → slot_at slots.items p ≡ None) }
     ensures room { IfOk result (λ slots. length slots.items ≡ n) }

@@ -1,4 +1,4 @@
-//! What is asked of a listener, and of the ends of the connections that it brings.
+//! The interface to a listener and to the two ends of each of its connections.
 ghost use Rattle.std.specs.Prelude.{◌≡◌, ◌++◌, ◌∷◌, [], IfErr, IfOk, IfSome, List, is_some, map, true};
 ghost use Rattle.office.specs.Crowds.{those_of};
 ghost use Rattle.sockets.specs.Listening.{Event, accepted, closed, missed, opened, unready};
@@ -12,24 +12,24 @@ use std::os::fd::{AsRawFd, OwnedFd, RawFd};
 use std::rc::Rc;
 use wire::{Gathered, Outbox};
 
-/// One end of a connection: what the peer sends is read from it, or what is written to it goes to the peer. Neither waits.
+/// One end of a connection, for reading from the peer or for writing to it. Neither waits.
 pub trait End: Read + Write + Drop {
-    /// The number by which the system knows its socket.
+    /// The file descriptor of its socket.
     fn raw_fd(&self) -> RawFd;
 
-    /// Tells the peer that no more is written. Each later write fails.
+    /// Tells the peer that no more is written. Later writes fail.
     ///
     /// # Errors
     ///
-    /// The connection is there no more.
+    /// The connection does not exist any more.
     fn end_writes(&self) -> io::Result<()>;
 
-    /// Reads once of a connection whose session has ended, by way of the buffer, and keeps nothing of it: how many bytes came, or 0
-    /// at the end.
+    /// Reads once, through the buffer, from a connection whose session has ended, and discards the bytes.
+    /// Returns how many bytes came, or 0 at the end.
     ///
     /// # Errors
     ///
-    /// The read failed; `WouldBlock` tells that nothing is there now.
+    /// The read failed. `WouldBlock` means that nothing is there now.
     fn throw_away(seat: &Seat<Gathered<Self>, Outbox<Self>>, buf: &mut [u8]) -> io::Result<usize>
         requires { is_some seat.now.end ≡ true };
 }
@@ -37,9 +37,9 @@ pub trait End: Read + Write + Drop {
 /// A connection whose ends could not be made.
 #[derive(Drop)]
 pub struct Unready<S> {
-    /// The connection, as it was, if it is there still.
+    /// The connection, if it still exists.
     pub stream: Option<S>,
-    /// Why.
+    /// The reason.
     pub error: io::Error,
 }
 
@@ -48,34 +48,34 @@ pub trait Listener: AsRawFd + Drop {
     /// A connection, as it was accepted.
     type Stream: Drop;
 
-    /// One of its ends.
+    /// One end of a connection.
     type End: End;
 
-    /// What it did so far, one thing after another.
+    /// What the listener did so far, in order.
     ghost told: { Self → List (Event Self.Stream Self.End) → Type 0 };
 
-    /// The two ends of a connection: the one that is read, and the one that is written to.
+    /// The two ends of a connection: the first is read, the second is written to.
     ghost are_ends: { Self.Stream → Self.End → Self.End → Type 0 };
 
-    /// Whether an `accept` waits where no connection is there.
+    /// Sets whether `accept` returns at once when no connection is there.
     ///
     /// # Errors
     ///
     /// The system refused it.
     fn set_nonblocking(&self, nonblocking: bool) -> io::Result<()>;
 
-    /// Accepts a connection. None where none is there now.
+    /// Accepts a connection. `None` if none is there now.
     ///
     /// # Errors
     ///
-    /// One could not be accepted.
+    /// A connection could not be accepted.
     fn accept(&mut self) -> io::Result<Option<Self::Stream>>
         ensures came { IfOk result (λ found. (log : List (Event Self.Stream Self.End))
             → told self.old log → told self.new (log ++ map accepted (those_of found))) }
         ensures missed { IfErr result (λ e. (log : List (Event Self.Stream Self.End))
             → told self.old log → told self.new (log ++ missed e ∷ [])) };
 
-    /// Hands out the ends of a connection. From now on its reads and writes do not wait.
+    /// Returns the two ends of a connection. Its reads and writes do not wait from now on.
     ///
     /// # Errors
     ///
@@ -92,22 +92,22 @@ pub trait Listener: AsRawFd + Drop {
         ensures unready { IfErr result (λ e. (log : List (Event Self.Stream Self.End))
             → told self.old log → told self.new (log ++ unready e.stream e.error ∷ [])) };
 
-    /// Takes back a connection, and closes it.
+    /// Takes back a connection and closes it.
     fn close(&mut self, seat: Seat<Gathered<Self::End>, Outbox<Self::End>>)
         ensures closed { (log : List (Event Self.Stream Self.End))
             → told self.old log → told self.new (log ++ closed seat ∷ []) };
 }
 
-/// One end of a TCP connection. The socket is closed once both have gone.
+/// One end of a TCP connection. The socket is closed when both ends are dropped.
 #[derive(Drop)]
 pub struct TcpEnd {
     stream: Rc<TcpStream>,
-    // Whether a read found its end. Behind it no other is asked for.
+    // Whether a read found the end of the stream. No read follows it.
     has_ended: bool,
 }
 
 impl TcpEnd {
-    // An end of this connection, of which nothing was read.
+    // An end of this connection, of which nothing was read yet.
     fn new(stream: Rc<TcpStream>) -> TcpEnd
         ensures { result.stream ≡ stream }
     {
@@ -159,18 +159,18 @@ impl End for TcpEnd {
     }
 }
 
-/// Has the connections of the listener send at once what is written to them: those that come from now on.
+/// Turns off Nagle's algorithm (`TCP_NODELAY`) for the connections that the listener accepts from now on.
 ///
 /// # Errors
 ///
-/// The system refused it, or descriptors are wanting.
+/// The system refused it, or descriptors are short.
 pub fn send_at_once(listener: &TcpListener) -> io::Result<()> {
-    // Of a listener on Linux a socket that is accepted takes the setting over.
+    // On Linux an accepted socket inherits this setting from its listener.
     let same = TcpStream::from(OwnedFd::from(listener.try_clone()?));
     same.set_nodelay(true)
 }
 
-// Both ends of the stream, by which it is owned; or the stream, where memory is refused.
+// Makes two ends that own the stream together. If memory is refused, returns the stream if it still exists.
 fn share(alloc: Global, stream: TcpStream) -> Result<(TcpEnd, TcpEnd), Option<TcpStream>>
     ensures ends { IfOk result (λ ends. (ends.0.stream.value ≡ stream) × (ends.1.stream.value ≡ stream)) }
     ensures back { IfErr result (λ back. IfSome back (λ same. same ≡ stream)) }

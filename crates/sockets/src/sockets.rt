@@ -20,20 +20,20 @@ use wire::{Gathered, Outbox, Room};
 pub(crate) struct Sockets<'a, R, L: Listener, S> {
     book: Book<'a, R, L>,
     gate: Gate<L, L::Stream>,
-    // How many turns it may give still.
+    // How many more turns it may give.
     turns: u64,
     start: PhantomData<S>,
     ghost few: { turns < 18446744073709551616 },
 }
 
-// What comes of a step.
+// The result of a step.
 #[derive(Drop)]
 enum Next {
-    // This is done, if anything is.
+    // Does this task, if there is one.
     Go(Option<Task>),
     // A turn is due.
     Turn(Due),
-    // No turn is to be taken any more.
+    // No more turns are due.
     Over,
 }
 
@@ -57,7 +57,7 @@ impl<'a, R: time::Clock, L: Listener, S: Start<L::Stream, L::End>> Sockets<'a, R
         self.gate
     }
 
-    // Does this, and answers what is done next.
+    // Does this task. Returns the next task, if there is one.
     fn work(&mut self, slots: &mut [Option<Held<L::End>>], task: Task) -> Option<Task>
         ensures moves { Moves L.told L.are_ends ⟦<Gathered<L::End> as Read>⟧.remaining
             ⟦<Outbox<L::End> as Write>⟧.contents self.old.gate self.new.gate slots.old slots.new }
@@ -69,7 +69,7 @@ impl<'a, R: time::Clock, L: Listener, S: Start<L::Stream, L::End>> Sockets<'a, R
         Some(Task { index, deed })
     }
 
-    // Asks the listener for a connection, and lets it in where a slot is free.
+    // Asks the listener for a connection, and lets it in if a slot is free.
     fn accept(&mut self, slots: &mut [Option<Held<L::End>>]) -> Option<Task>
         ensures moves { Moves L.told L.are_ends ⟦<Gathered<L::End> as Read>⟧.remaining
             ⟦<Outbox<L::End> as Write>⟧.contents self.old.gate self.new.gate slots.old slots.new }
@@ -81,7 +81,7 @@ impl<'a, R: time::Clock, L: Listener, S: Start<L::Stream, L::End>> Sockets<'a, R
         }
     }
 
-    // Lets the connection that waits into a slot.
+    // Lets the waiting connection into a slot.
     fn let_in(&mut self, slots: &mut [Option<Held<L::End>>]) -> Option<Task>
         ensures moves { Moves L.told L.are_ends ⟦<Gathered<L::End> as Read>⟧.remaining
             ⟦<Outbox<L::End> as Write>⟧.contents self.old.gate self.new.gate slots.old slots.new }
@@ -91,7 +91,7 @@ impl<'a, R: time::Clock, L: Listener, S: Start<L::Stream, L::End>> Sockets<'a, R
         self.book.entered(slots, entry)
     }
 
-    // Does the task, if there is one; or else goes on to what is next.
+    // Does the task, if there is one. Otherwise goes on to the next step.
     fn go(&mut self, slots: &mut [Option<Held<L::End>>], task: Option<Task>) -> Next
         ensures moves { Moves L.told L.are_ends ⟦<Gathered<L::End> as Read>⟧.remaining
             ⟦<Outbox<L::End> as Write>⟧.contents self.old.gate self.new.gate slots.old slots.new }
@@ -110,7 +110,7 @@ impl<'a, R: time::Clock, L: Listener, S: Start<L::Stream, L::End>> Sockets<'a, R
     }
 }
 
-// Whether an open connection is in the slot.
+// Whether the slot holds an open connection.
 fn is_open_at<S>(slots: &[Option<Held<S>>], index: usize) -> bool
     ensures { result ≡ true → IsOpenAt slots.now index }
 {

@@ -1,5 +1,5 @@
-//! The loop, a step at a time: turns, then what the sockets tell, what was left to be read, what lasts too long, what comes, and
-//! what waits for room.
+//! The loop, step by step. A round has these stages: turns; events of the sockets; reads that were left;
+//! timeouts; new connections; connections that wait for room.
 use crate::book::{Book, LISTENER};
 use crate::deeds::{Deed, Report};
 use crate::gate::Coming;
@@ -13,33 +13,33 @@ use std::time;
 use std::time::{Duration, Instant};
 use wire::Room;
 
-/// How many connections are accepted in a round.
+/// How many connections are accepted per round.
 const MOST_ACCEPTS: usize = 64;
 
-/// How many times a connection is read until others are.
+/// How many times a connection is read before others are.
 const MOST_READS: usize = 64;
 
-/// How many milliseconds pass between two looks for what lasts too long.
+/// How many milliseconds pass between two checks of the timeouts.
 const LOOK_MILLIS: u64 = 100;
 
-/// Where in a round the loop is.
+/// The stage of the round.
 #[derive(Clone, Copy, Debug, PartialEq, Eq)]
 pub(crate) enum Stage {
-    /// The turns of this round are given.
+    /// Gives the turns of this round.
     Turns,
-    /// What the sockets told is taken up, from this event on.
+    /// Handles the events of the poll, from this one on.
     Events(usize),
-    /// Connections are read on that were left, from this slot on.
+    /// Reads connections that were left, from this slot on.
     Behind(usize),
-    /// It is looked for what lasts too long, from this slot on.
+    /// Checks the timeouts, from this slot on.
     Look(usize),
-    /// So many more connections may be accepted.
+    /// Accepts connections, at most this many more.
     Accept(usize),
-    /// Room is given to those that wait for it.
+    /// Gives room to connections that wait for it.
     Rooms,
 }
 
-/// What is done to the connection in a slot.
+/// An action on the connection in a slot.
 #[derive(Clone, Copy, Debug, PartialEq, Eq)]
 pub(crate) struct Task {
     pub(crate) index: usize,
@@ -47,30 +47,30 @@ pub(crate) struct Task {
 }
 
 impl Task {
-    /// The connection goes.
+    /// Closes the connection.
     pub(crate) fn go(index: usize) -> Task {
         let deed = Deed::Free;
         Task { index, deed }
     }
 }
 
-/// What is next.
+/// The next step.
 #[derive(Drop)]
 pub(crate) enum Step {
-    /// This is done, if anything is.
+    /// Does this task, if there is one.
     Go(Option<Task>),
-    /// The listener is asked for a connection.
+    /// Asks the listener for a connection.
     Accept,
-    /// The one that waits is let into a slot.
+    /// Lets the waiting connection into a slot.
     LetIn,
     /// A turn is due.
     Turn(Due),
-    /// All have come and gone.
+    /// All connections have come and gone.
     Over,
 }
 
 impl<R: time::Clock, L: Listener> Book<'_, R, L> {
-    /// The turn before has left this room. What is done behind it, if there was one.
+    /// The last turn left this room. Returns the task that follows the turn, if there was one.
     pub(crate) fn behind_turn(&mut self, spare: Option<Room>) -> Option<Task> {
         if let Some(room) = spare {
             self.room = Some(room);
@@ -80,7 +80,7 @@ impl<R: time::Clock, L: Listener> Book<'_, R, L> {
         Some(Task { index, deed })
     }
 
-    /// What is next, where nothing is left to be done, and these may come.
+    /// The next step if no task is left. `coming` tells which connections may still come.
     pub(crate) fn step(&mut self, slots: &[Option<Held<L::End>>], coming: Coming) -> Step {
         self.door.note(coming);
         self.reads = MOST_READS;
@@ -94,7 +94,7 @@ impl<R: time::Clock, L: Listener> Book<'_, R, L> {
         }
     }
 
-    // The next turn of the round. Behind the last one it is waited for what the sockets tell.
+    // The next turn of the round. After the last turn, polls the sockets.
     fn step_turns(&mut self, slots: &[Option<Held<L::End>>]) -> Step {
         if let Some(index) = self.rounds.pop() {
             return self.turn(index);
@@ -106,7 +106,7 @@ impl<R: time::Clock, L: Listener> Book<'_, R, L> {
         self.step_events(slots, 0)
     }
 
-    // The turn of a slot, if it is due still.
+    // The turn of a slot, if it is still due.
     fn turn(&mut self, index: usize) -> Step {
         if self.phase(index) != Phase::Due {
             return Step::Go(None);
@@ -118,14 +118,14 @@ impl<R: time::Clock, L: Listener> Book<'_, R, L> {
         Step::Turn(Due { index, room })
     }
 
-    // Its turn comes in a later round: there is no memory for its room now.
+    // Moves the turn to a later round, because there is no memory for its room now.
     fn put_off(&mut self, index: usize) -> Step {
         self.enter(index, Phase::Silent);
         self.make_due(index);
         Step::Go(None)
     }
 
-    // The room for a turn, if memory is found.
+    // The room for a turn, if there is memory.
     fn take_room(&mut self) -> Option<Room> {
         match self.room.take() {
             Some(room) => Some(room),
@@ -133,12 +133,12 @@ impl<R: time::Clock, L: Listener> Book<'_, R, L> {
         }
     }
 
-    // This is done to the connection, if anything is.
+    // Does this to the connection, if there is something to do.
     fn go(&self, index: usize, deed: Option<Deed>) -> Step {
         Step::Go(deed.map(|deed| Task { index, deed }))
     }
 
-    // One of the events that the last wait told.
+    // Handles one event of the last poll.
     fn step_events(&mut self, slots: &[Option<Held<L::End>>], at: usize) -> Step {
         let Some(event) = self.told(at) else {
             self.stage = self.behind_or_not();
@@ -154,12 +154,12 @@ impl<R: time::Clock, L: Listener> Book<'_, R, L> {
         self.go(index, deed)
     }
 
-    // One of the events.
+    // The event at this index.
     fn told(&self, at: usize) -> Option<Event> {
         Some(*self.ready.get(at)?)
     }
 
-    // Takes up what the socket of a slot told.
+    // Handles an event of the socket of a slot.
     fn take_up(
         &mut self,
         slots: &[Option<Held<L::End>>],
@@ -180,7 +180,7 @@ impl<R: time::Clock, L: Listener> Book<'_, R, L> {
         }
     }
 
-    // The stage behind the events: connections that were left, if there are any.
+    // The stage after the events: reads the connections that were left, if there are any.
     fn behind_or_not(&mut self) -> Stage {
         if self.is_behind {
             return Stage::Behind(0);
@@ -188,7 +188,7 @@ impl<R: time::Clock, L: Listener> Book<'_, R, L> {
         self.look_or_not()
     }
 
-    // A connection that may have been left to be read on.
+    // Reads a connection that may have been left.
     fn step_behind(&mut self, slots: &[Option<Held<L::End>>], at: usize) -> Step {
         if at >= self.peers.len() {
             self.stage = self.look_or_not();
@@ -202,7 +202,7 @@ impl<R: time::Clock, L: Listener> Book<'_, R, L> {
         self.go(at, deed)
     }
 
-    // The stage behind reading: a look, if the last one is some time ago.
+    // The stage after reading: checks the timeouts, if the last check was some time ago.
     fn look_or_not(&mut self) -> Stage {
         self.door.look(self.now);
         if self.now.duration_since(self.looked) < Duration::from_millis(LOOK_MILLIS) {
@@ -212,7 +212,7 @@ impl<R: time::Clock, L: Listener> Book<'_, R, L> {
         Stage::Look(0)
     }
 
-    // The stage behind a look: connections that come, if any may.
+    // The stage after the timeouts: accepts connections, if any may come.
     fn accept_or_not(&self) -> Stage {
         if self.may_accept() {
             return Stage::Accept(MOST_ACCEPTS);
@@ -220,7 +220,7 @@ impl<R: time::Clock, L: Listener> Book<'_, R, L> {
         Stage::Rooms
     }
 
-    // A connection that may be over its bound.
+    // Checks the timeout of a connection.
     fn step_look(&mut self, slots: &[Option<Held<L::End>>], at: usize) -> Step {
         if at >= self.peers.len() {
             self.stage = self.accept_or_not();
@@ -231,7 +231,8 @@ impl<R: time::Clock, L: Listener> Book<'_, R, L> {
         self.go(at, deed)
     }
 
-    // A connection that may come. One that came, and whose message was there, has its turn before.
+    // Takes in a connection, if one may come. A connection that just came with a whole message has its turn
+    // first.
     fn step_accept(&mut self, slots: &[Option<Held<L::End>>], left: usize) -> Step {
         if let Some(index) = self.rounds.pop() {
             return self.turn(index);
@@ -246,7 +247,8 @@ impl<R: time::Clock, L: Listener> Book<'_, R, L> {
         }
     }
 
-    // Room for one that waits for it; or what is cut off for others. Behind the last one the next round begins.
+    // Gives room to a connection that waits for it, or cuts off a connection in favour of others. The next
+    // round begins after the last one.
     fn step_rooms(&mut self, slots: &[Option<Held<L::End>>]) -> Step {
         self.stage = Stage::Rooms;
         if self.is_laden {
@@ -269,7 +271,7 @@ impl<R: time::Clock, L: Listener> Book<'_, R, L> {
         self.go(index, deed)
     }
 
-    // Where one waits for room, a body that comes too slowly gives up its own.
+    // If a connection waits for room, a body that comes too slowly gives up its own.
     fn make_room(&mut self, slots: &[Option<Held<L::End>>]) -> Option<Task> {
         if !self.rooms.is_short() {
             return None;
@@ -279,7 +281,7 @@ impl<R: time::Clock, L: Listener> Book<'_, R, L> {
         Some(Task { index, deed })
     }
 
-    // How long a wait may last.
+    // The timeout of the next poll.
     fn patience_of_wait(&self) -> Option<Duration> {
         if !self.rounds.is_idle() || self.is_behind || self.may_accept() {
             return Some(Duration::ZERO);
@@ -290,7 +292,7 @@ impl<R: time::Clock, L: Listener> Book<'_, R, L> {
         None
     }
 
-    // Waits until a socket tells something, and takes down what.
+    // Polls the sockets and stores the events.
     fn wait(&mut self) {
         let timeout = self.patience_of_wait();
         let _ = self.poll.poll(&mut self.events, timeout);
@@ -303,7 +305,7 @@ impl<R: time::Clock, L: Listener> Book<'_, R, L> {
         }
     }
 
-    /// What is done next to the connection, behind this.
+    /// The next action on the connection after this report.
     pub(crate) fn told_of(
         &mut self,
         slots: &[Option<Held<L::End>>],
@@ -324,7 +326,7 @@ impl<R: time::Clock, L: Listener> Book<'_, R, L> {
         }
     }
 
-    // What was to go, and is not through, is judged again if it is open.
+    // A connection that was to be closed is not through. If it is open, it is judged again.
     fn look_again(&mut self, slots: &[Option<Held<L::End>>], index: usize) -> Option<Deed> {
         let seat = seat_at(slots, index)?;
         if seat.end().is_some() {

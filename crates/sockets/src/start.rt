@@ -1,19 +1,20 @@
-//! What stood when a run of the loop began.
+//! The state at the beginning of a run of the loop.
 
 use std::marker::Brand;
 
-/// What stood when a run began: a name for it in proofs alone. S: a connection as it was accepted; E: one of its ends.
+/// The state when a run began; it only exists in proofs. S: a connection as it was accepted; E: one of its
+/// ends.
 pub(crate) trait Start<S, E> {
     ghost use Rattle.std.specs.Prelude.{ℕ, List};
     ghost use Rattle.sockets.specs.Listening.{Event};
 
-    /// What the listener told.
+    /// What the listener had told.
     ghost told: { List (Event S E) → Type 0 };
 
-    /// So many were to come.
+    /// How many connections were to come.
     ghost connections: { ℕ };
 
-    /// So many might be open at a time.
+    /// How many connections might be open at a time.
     ghost most: { ℕ };
 }
 

@@ -1,4 +1,4 @@
--- What fields announce, and why they announce nothing.
+-- What fields announce, and why they may announce nothing.
 use Rattle.std.proofs.Common.{◌≡◌, ℕ, Bool, true, false, List, [], ◌∷◌, codes, sym, ap, subst, ◌∙◌}
 use Rattle.httparse.specs.Grammar.{RequestHead}
 use Rattle.sigtext.specs.declared.refusal.Refusal.{Refusal}

@@ -1,4 +1,4 @@
--- Which steps the bytes may show that await more, and those that announce a body.
+-- The steps that are still possible when the bytes await more, and those of a head that announces a body.
 use Rattle.std.proofs.Common.{◌≡◌, ◌≢◌, ◌<◌, ℕ, List, [], ◌++◌, length, arith, lit<, sym, ap, subst, refl, length-append, append_assoc, ◌∙◌, replicate, true, codes}
 use Rattle.std.proofs.lemmas.List.{append-nil, length-replicate}
 use Rattle.httparse.specs.Grammar.{RequestHead, ReadsRequest}
@@ -27,7 +27,7 @@ same_head bytes front rest head a f is_head =
     let fronts = same_front bytes a.text a.given front rest (front_of bytes a) f in
     (request_unique front a.opens.head head [] [] (subst (λ (x : List ℕ). ReadsRequest x a.opens.head []) fronts a.opens.tells.is_head.reads) is_head.reads).0
 
--- a step of a stream whose head announces a body: a message that has one, or refusal 6
+-- a step of a stream whose head announces a body: a message with a body, or refusal 6
 abbrev pub IsAnnounced : Step → Type 0
 IsAnnounced (Message r) = r.body ≢ []
 IsAnnounced (Refused q) = q ≡ rule.BodyIncomplete
@@ -50,7 +50,7 @@ announced bytes _ _ a (next.incomplete head n rest h small few) = refl
 announced bytes _ _ a (next.whole head b n body rest h small size) = λ none.
     omega (arith, a.some, size, ap length none, same_length bytes a.opens.head head a.has_length b a.size n a.given (body ++ rest) (has_of bytes a) h)
 
--- a step of a stream that ends where more bytes were needed: no message, and of the refusals number 6 alone
+-- a step of a stream that ends where more bytes were needed: no message, and no refusal but number 6
 abbrev pub IsAwaited : Step → Type 0
 IsAwaited (Message r) = ⊥
 IsAwaited (Refused q) = q ≡ rule.BodyIncomplete
@@ -77,7 +77,7 @@ awaited bytes _ _ (a_head h) (next.too_large head n rest k large) = absurd (h.1 
 awaited bytes _ _ (a_head h) (next.incomplete head n rest k small few) = refl
 awaited bytes _ _ (a_head h) (next.whole head b n body rest k small size) = h.1 k.front (body ++ rest) k.is_front
 
--- no refusal is told of all streams that begin with these bytes
+-- no single refusal holds for all streams that begin with these bytes
 pub undecided : (bytes : List ℕ) (q : Refusal) → Awaits bytes → ((more : List ℕ) → Next (bytes ++ more) (Refused q) []) → ⊥
 undecided bytes q (a_head h) all = no_refusal bytes q h (subst (λ (t : List ℕ). Next t (Refused q) []) (append-nil bytes) (all []))
   where

@@ -1,4 +1,4 @@
--- Ranges of a buffer: what is taken from their front, moved to the buffer's front, and put behind them.
+-- Ranges of a buffer: taking from their front, moving them to the buffer's front, and appending to them.
 use Rattle.std.proofs.Common.{⊎_elim, Bool, false, ◌≡◌, ◌≤◌, ◌<◌, ◌+◌, ◌-◌, ℕ, List, [], ◌∷◌, ◌++◌, length, take, drop, min, Option, None, Some, arith, refl, sym, ap, ◌∙◌, append_assoc, subst, length-append, length-drop}
 use Rattle.std.specs.Io.KnownBytes.{Consumes, Keeps, prepend_known}
 use Rattle.std.specs.Prelude.{IsTrue}
@@ -33,7 +33,7 @@ range_moved xs s e o w =
     let size : (e - s) - 0 ≡ 0 + (e - s) = omega arith in
     ap (λ (k : ℕ). take k (paste xs 0 (drop s xs) (e - s))) size ∙ take-paste xs 0 (drop s xs) (e - s) (omega arith) (omega (arith, length-drop s xs))
 
--- the vector has the length that it tells
+-- the length of the vector is the length of its items
 pub fits : (b : Backlog) → b.end ≤ length b.bytes.items
 fits b = omega (arith, b.within, b.bytes.ok.0)
 
@@ -47,7 +47,7 @@ take_some n ys some within e = omega (arith, ap length e, length-take-le n ys wi
 pub same_front : (a : ℕ) (xs ys rest : List ℕ) → a ≤ length xs → take a (take a xs ++ (ys ++ rest)) ≡ take a xs
 same_front a xs ys rest within = take-append-le a (take a xs) (ys ++ rest) (omega (arith, length-take-le a xs within)) ∙ take-take a a xs (omega arith)
 
--- more behind a range at the front
+-- appending to a range at the front
 pub range_more : (xs ys came : List ℕ) (s e n : ℕ) → s ≡ 0 → take (e + n) ys ≡ take e xs ++ came → take ((e + n) - s) (drop s ys) ≡ take (e - s) (drop s xs) ++ came
 range_more xs ys came s e n front h =
     let first : (e + n) - 0 ≡ e + n = omega arith in
@@ -63,11 +63,11 @@ range_kept xs ys s e front h =
 pub take_least : (n : ℕ) (xs : List ℕ) → take (min (length xs) n) xs ≡ take n xs
 take_least n xs = let swapped : min (length xs) n ≡ min n (length xs) = omega arith in ap (λ (k : ℕ). take k xs) swapped ∙ take_min n xs
 
--- a test found no more than these
+-- a failed test of the length means fewer than 8192 bytes
 pub is_short : (b : Bool) (n : ℕ) → (8192 ≤ n → IsTrue b) → b ≡ false → n < 8192
 is_short b n long e = ⊎_elim (λ less. less) (λ more. absurd (different b (long more) e)) (cases_lt n 8192)
 
--- the window that has no head's end was all that waits
+-- the window without a head's end was all that waited
 pub still_none : (window old new : List ℕ) → window ≡ take 8192 old → length old < 8192 → new ≡ old → HasNoHeadEnd window → (length new < 8192) × HasNoHeadEnd new
 still_none window old new seen short same none =
     (omega (arith, ap length same), subst HasNoHeadEnd (seen ∙ take_all 8192 old (omega arith) ∙ sym same) none)
@@ -76,7 +76,7 @@ pub grown : (before came : List ℕ) → (came ≡ [] → ⊥) → length before
 grown before [] some = absurd (some refl)
 grown before (x ∷ came) some = omega (arith, length-append before (x ∷ came))
 
--- bytes that a reader gave wait behind those that waited
+-- the bytes that a reader gave wait after those that waited
 pub prepend-more : (r s : Option (List ℕ)) (before came : List ℕ) → Consumes r s came → Keeps (prepend_known before r) (prepend_known (before ++ came) s)
 prepend-more None s before came h = tt
 prepend-more (Some x) None before came h = absurd h
@@ -87,7 +87,7 @@ prepend-kept None s before h = tt
 prepend-kept (Some x) None before h = absurd h
 prepend-kept (Some x) (Some y) before h = ap (λ (t : List ℕ). before ++ t) h
 
--- ---- what was searched for a head's end
+-- ---- the bytes that were searched for a head's end
 
 pub in_window : (window waits : List ℕ) (searched : ℕ) → window ≡ take 8192 waits → searched ≤ 8192 → HasNoHeadEnd (take searched waits) → HasNoHeadEnd (take searched window)
 in_window window waits searched e small none = subst HasNoHeadEnd (sym (ap (take searched) e ∙ take-take searched 8192 waits small)) none
@@ -96,7 +96,7 @@ pub still_searched : (window old new came : List ℕ) → window ≡ take 8192 o
 still_searched window old new came seen short more none =
     subst HasNoHeadEnd (seen ∙ take_all 8192 old (omega arith) ∙ sym (ap (take (length old)) more ∙ take-append_seam old came)) none
 
--- what waits is what was taken from the reader
+-- the waiting bytes are those that were taken from the reader
 pub consumes_waiting : (known reader : Option (List ℕ)) (waits : List ℕ) → Keeps known (prepend_known waits reader) → Consumes known reader waits
 consumes_waiting None reader waits k = tt
 consumes_waiting (Some x) None waits k = absurd k

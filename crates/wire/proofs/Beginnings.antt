@@ -1,4 +1,4 @@
--- What a `next` tells where a message may begin.
+-- What `next` tells where a message may begin.
 use Rattle.std.proofs.Common.{◌≡◌, ℕ, Bool, List, Option, Result, Ok, Err, inl, inr, subst}
 use Rattle.wire.specs.declared.fault.WireFault.{WireFault}
 use Rattle.wire.specs.declared.feed.Place.{Place}
@@ -36,13 +36,13 @@ opened_there (place.Body k) q known reader text waits has_length n (inr e) s = a
 opened_there place.Over q known reader text waits has_length n (inl e) s = absurd (over_fresh e)
 opened_there place.Over q known reader text waits has_length n (inr e) s = absurd (over_between e)
 
--- the same of what a call told
+-- the same for what a call told
 pub opened_by : (p q : Place) (known reader : Option (List ℕ)) (waits : List ℕ) (result : Result (Step Opening) WireFault) (h : Opening) → result ≡ Ok (Head h) → MayBegin p
     → GivesStep p known (told result) q waits reader → Finds known (Ok (Opened h.text.now h.has_length h.length)) waits reader
 opened_by p q known reader waits result h is m s =
     opened_there p q known reader h.text.now waits h.has_length h.length m (subst (λ (r : Result (Step Opening) WireFault). GivesStep p known (told r) q waits reader) is s)
 
--- the body that the head announces is open then
+-- the body that the head announces is then open
 placed_there : (p q : Place) (known reader : Option (List ℕ)) (text waits : List ℕ) (has_length : Bool) (n : ℕ) → MayBegin p
     → GivesStep p known (Ok (Opened text has_length n)) q waits reader → q ≡ place.Body n
 placed_there place.Fresh q known reader text waits has_length n m s = s.0

@@ -1,4 +1,4 @@
--- What came where no whole message did.
+-- What was read when no whole message came.
 use Rattle.std.proofs.Common.{◌≡◌, ◌<◌, ℕ, Bool, List, [], ◌++◌, length, Option, Result, Err, inl, inr, arith, refl, ap, subst, ◌∙◌}
 use Rattle.std.specs.Io.KnownBytes.{Consumes, Keeps, prepend_known}
 use Rattle.std.proofs.KnownBytes.{Consumes-kept, prepend_known-nil}
@@ -18,11 +18,11 @@ use Rattle.wire.proofs.Beginnings.{fresh, between, over_fresh, over_between}
 abbrev pub announced : (text given : List ℕ) (has_length : Bool) (n : ℕ) → Opens text has_length n → 0 < n → AnnouncesBody (text ++ given)
 announced text given has_length n o some = record { text = text; given = given; has_length = has_length; size = n; whole = refl; opens = o; some = some }
 
--- a read failed in the body of a head
+-- a read failed within the body that a head announces
 pub awaits_body : (text given : List ℕ) (has_length : Bool) (n : ℕ) → Opens text has_length n → length given < n → Awaits (text ++ given)
 awaits_body text given has_length n o few = a_body (announced text given has_length n o (omega (arith, few))) few
 
--- pieces came, and nothing waits
+-- pieces came, and no bytes wait
 pub pieces_taken : (start here reader : Option (List ℕ)) (waits given : List ℕ) → Consumes start here given → waits ≡ []
     → Keeps here (prepend_known waits reader) → Consumes start reader given
 pieces_taken start here reader waits given taken none kept =
@@ -52,7 +52,7 @@ broken_there (place.Body k) q f known reader waits (inr e) s = absurd (between k
 broken_there place.Over q f known reader waits (inl e) s = absurd (over_fresh e)
 broken_there place.Over q f known reader waits (inr e) s = absurd (over_between e)
 
--- the same of what a call told
+-- the same for what a call told
 pub broken_by : (p q : Place) (f : WireFault) (known reader : Option (List ℕ)) (waits : List ℕ) (result : Result (Step Opening) WireFault) → result ≡ Err f → MayBegin p
     → GivesStep p known (told result) q waits reader → BreaksOff f p known reader
 broken_by p q f known reader waits result is m s =

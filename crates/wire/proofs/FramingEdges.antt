@@ -20,7 +20,7 @@ front_of_8192 head rest long ends shortest = record { whole = refl; ends = ends;
 pub no_front_of_8193 : (stream head rest : List ℕ) → length head ≡ 8193 → IsFront stream head rest → ⊥
 no_front_of_8193 stream head rest long front = let short : length head ≤ 8192 = front.short in omega arith
 
--- a stream without a front: what it is at 8191 bytes and less, it is not at 8192 and more
+-- a stream without a front is another step at 8191 bytes or fewer than at 8192 or more
 pub truncated_at_8191 : (stream : List ℕ) → length stream ≡ 8191 → HasNoFront stream → Next stream Truncated []
 truncated_at_8191 stream long none = truncated (omega arith) (omega arith) none
 
@@ -51,7 +51,7 @@ pub full_body : (stream body rest : List ℕ) (head : RequestHead) → length bo
     → Next stream (Message (request_of head true body)) rest
 full_body stream body rest head long has = whole head true 8388608 body rest has (omega arith) long
 
--- where that many were told, a byte less is a stream that ended in the body, and none that is too large
+-- if that many were announced, one byte fewer is a body that is incomplete, not one that is too large
 pub short_body : (stream rest : List ℕ) (head : RequestHead) → length rest ≡ 8388607 → HasHead stream head true 8388608 rest
     → Next stream (Refused rule.BodyIncomplete) []
 short_body stream rest head long has = incomplete head 8388608 rest has (omega arith) (omega arith)
@@ -60,7 +60,7 @@ short_body stream rest head long has = incomplete head 8388608 rest has (omega a
 pub large_body : (stream rest : List ℕ) (head : RequestHead) → HasHead stream head true 8388609 rest → Next stream (Refused rule.BodyTooLarge) []
 large_body stream rest head has = too_large head 8388609 rest has (omega arith)
 
--- what a body that is too large, one that is incomplete, and a message tell of the length
+-- what each of these says of the length: a body that is too large, one that is incomplete, and a message
 pub record HasLengthOf (stream : List ℕ) (Holds : ℕ → Type 0) : Type 0 where
   pub head : RequestHead
   pub has_length : Bool
@@ -79,7 +79,7 @@ pub message_is : (stream rest : List ℕ) (r : Request) → Next stream (Message
 message_is stream rest _ (whole head has_length n body _ has fits long) =
     record { head = head; has_length = has_length; n = n; rest = body ++ rest; has = has; holds = fits }
 
--- so no stream is refused by both numbers, and none that is too large is a message
+-- no stream is refused for both reasons, and a stream with a body that is too large is no message
 pub not_both : (stream rest more : List ℕ) → Next stream (Refused rule.BodyTooLarge) rest → Next stream (Refused rule.BodyIncomplete) more → ⊥
 not_both stream rest more x y =
     let a = large_is stream rest x in
@@ -98,7 +98,7 @@ large_is_no_message stream rest more r x y =
     let fits = b.holds in
     omega arith
 
--- a body that is there as a whole is not incomplete
+-- a body that is there whole is not incomplete
 pub incomplete_lacks : (stream rest : List ℕ) → Next stream (Refused rule.BodyIncomplete) rest
     → (head : RequestHead) × (n : ℕ) × (more : List ℕ) × HasHead stream head true n more × (length more < n)
 incomplete_lacks stream _ (incomplete head n more has fits short) = (head, n, more, has, short)
@@ -130,7 +130,7 @@ no_empty_length n is = let some : 0 < length {A = ℕ} [] = is.some in omega ari
 pub no_sign : (n : ℕ) → IsLength (codes "+3") n → ⊥
 no_sign n is = let digits = is.digits in absurd cc
 
--- two fields of the name announce nothing
+-- two fields of that name announce nothing
 pub no_two_lengths : (headers : List Header) (h k : Header) (more : List Header) (b : Bool) (n : ℕ)
     → named (codes "content-length") headers ≡ h ∷ k ∷ more → Announces headers b n → ⊥
 no_two_lengths headers h k more _ _ two (nothing none) = let clash : h ∷ k ∷ more ≡ [] = sym two ∙ none in absurd cc

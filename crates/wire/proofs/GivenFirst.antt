@@ -1,9 +1,9 @@
--- Bytes that are given from the front of those that were read ahead.
+-- Giving bytes from the front of those that were read ahead.
 use Rattle.std.proofs.Common.{◌≡◌, ◌≤◌, ◌+◌, ℕ, List, ◌++◌, length, take, drop, sym, ap, ◌∙◌, take-append-drop}
 use Rattle.std.proofs.lemmas.List.{length-take-le, drop-drop}
 use Rattle.std.proofs.Math.Seq.{take-append_seam}
 
--- the first n bytes behind s are given, and the others stay
+-- the first n bytes from s on are given, and the others stay
 pub given_first : (xs front rest seen : List ℕ) (s n : ℕ) → seen ≡ drop s xs → n ≤ length seen → front ≡ take n seen
     → drop s xs ≡ take n (front ++ rest) ++ drop (s + n) xs
 given_first xs front rest seen s n are fits first =

@@ -1,4 +1,4 @@
--- A head, pieces one after another, and their end are one step of the stream.
+-- A head, its pieces in order and their end make one step of the stream.
 use Rattle.std.proofs.Common.{◌≡◌, ◌<◌, ◌≤◌, ◌-◌, ℕ, Bool, true, List, [], ◌++◌, length, take, drop, arith, refl, sym, ap, subst, ◌∙◌, append_assoc, length-append, take-append-drop, Option, None, Some}
 use Rattle.std.specs.Prelude.{IfSome}
 use Rattle.std.specs.Io.KnownBytes.{Consumes}
@@ -30,7 +30,7 @@ pub whole : (stream : List ℕ) (head : RequestHead) (has_length : Bool) (size :
     → Halfway stream head has_length size given 0 rest → Next stream (Message (request_of head has_length given)) rest
 whole stream head has_length size given rest h = next.whole head has_length size given rest h.has_head h.small (omega (arith, h.count))
 
--- a body of some bytes was announced
+-- the announced body is not empty
 given_length : (head : RequestHead) (has_length : Bool) (n : ℕ) → Announces (headers_of head) has_length n → 0 < n → has_length ≡ true
 given_length head has_length n (next.nothing none) some = absurd (omega (arith, some))
 given_length head has_length n (next.given h _ one is) some = refl
@@ -54,7 +54,7 @@ enough stream head has_length size given n rest h long =
 
 -- ---- whole messages
 
--- a head and the body that it announces are the next message of each stream that begins with them
+-- a head and the body that it announces are the next message of every stream that begins with them
 pub message_stands : (text body rest : List ℕ) (has_length : Bool) (o : Opens text has_length (length body))
     → Next (text ++ (body ++ rest)) (Message (request_of o.head has_length body)) rest
 message_stands text body rest has_length o =
@@ -65,7 +65,7 @@ message_stands text body rest has_length o =
     let none : n - n ≡ 0 = omega arith in
     whole stream o.head has_length n body rest (subst (λ (k : ℕ). Halfway stream o.head has_length n body k rest) none half)
 
--- the head was taken from what was left
+-- the head was taken from what was left of the stream
 pub head_taken : (known mid : Option (List ℕ)) (text : List ℕ)
     → IfSome known (λ stream. (rest : List ℕ) × IsFront stream text rest × (mid ≡ Some rest)) → Consumes known mid text
 head_taken None mid text f = tt

@@ -1,4 +1,4 @@
--- How far a body was read that nobody keeps.
+-- How far a skipped body was read.
 use Rattle.std.specs.Prelude.{◌≡◌, ℕ, ◌-◌, ◌≤◌, List, length, Option}
 use Rattle.std.specs.Io.KnownBytes.{Consumes}
 use Rattle.wire.specs.Feeds.{left, place_of}
@@ -6,7 +6,7 @@ use Rattle.wire.specs.declared.feed.Feed.{Feed}
 use Rattle.wire.specs.declared.feed.Place.{Place}
 use Rattle.wire.specs.declared.feed.Place.TheVariants as place
 
--- of the body of size bytes that was open some came, and it is open still
+-- some of the open body of size bytes came, and it is still open
 pub record HasSkipped {R : Type 0} (remaining : R → Option (List ℕ)) (size : ℕ) (old new : Feed R) : Type 0 where
   pub given : List ℕ
   pub fits : length given ≤ size

@@ -1,4 +1,4 @@
--- A piece of a body that nobody keeps.
+-- A piece of a body that is skipped.
 use Rattle.std.proofs.Common.{◌≡◌, ◌≤◌, ◌<◌, ◌-◌, ℕ, List, ◌++◌, length, Option, None, Some, Result, Ok, arith, ap, subst, ◌∙◌, length-append}
 use Rattle.std.specs.Borrow.{Bor}
 use Rattle.std.specs.Prelude.{IfSome}
@@ -17,7 +17,7 @@ use Rattle.wire.specs.declared.feed.Piece.TheVariants as piece
 use Rattle.wire.specs.declared.feed.Place.{Place}
 use Rattle.wire.specs.declared.feed.Place.TheVariants as place
 
--- what a piece tells of a body of which n bytes are to come
+-- what a piece tells of a body with n bytes to come
 pub piece_given : (n : ℕ) (p q : Place) (known reader : Option (List ℕ)) (waits : List ℕ) (result : Result (Piece (Bor (List ℕ))) WireFault) (bytes : Bor (List ℕ))
     → result ≡ Ok (piece.Bytes bytes) → p ≡ place.Body n → GivesPiece p known (part result) q waits reader → GivesPiece (place.Body n) known (Ok (Bytes bytes.now)) q waits reader
 piece_given n p q known reader waits result bytes is at gives =
@@ -43,7 +43,7 @@ skips_on remaining size first here next result bytes h is gives =
 pub counts_none : (result : Result (Piece (Bor (List ℕ))) WireFault) (x : Piece (Bor (List ℕ))) (old new : ℕ) → result ≡ Ok x → CountsReads result old new → new ≡ old
 counts_none result x old new is h = subst (λ (r : Result (Piece (Bor (List ℕ))) WireFault). CountsReads r old new) is h
 
--- ---- the stream ended in it
+-- ---- the stream ended within it
 
 lacking_given : (n : ℕ) (p q : Place) (known reader : Option (List ℕ)) (waits : List ℕ) (result : Result (Piece (Bor (List ℕ))) WireFault) (r : Refusal)
     → result ≡ Ok (piece.Refused r) → p ≡ place.Body n → GivesPiece p known (part result) q waits reader → GivesPiece (place.Body n) known (Ok (Lacking r)) q waits reader
@@ -51,7 +51,7 @@ lacking_given n p q known reader waits result r is at gives =
     subst (λ (x : Place). GivesPiece x known (Ok (Lacking r)) q waits reader) at
     (subst (λ (x : Result (Piece (Bor (List ℕ))) WireFault). GivesPiece p known (part x) q waits reader) is gives)
 
--- nothing follows what was given, so all the known bytes are those
+-- nothing follows the bytes that were given, so they are all the known bytes
 few_known : (start here : Option (List ℕ)) (given : List ℕ) (n : ℕ) → Consumes start here given → IsAtEnd here → length given < n → IfSome start (λ rest. length rest < n)
 few_known None here given n taken end few = tt
 few_known (Some xs) None given n taken end few = absurd taken

@@ -1,4 +1,4 @@
--- The front of a stream, seen by the bytes of it that wait.
+-- The front of a stream, as the waiting bytes show it.
 use Rattle.std.proofs.Common.{◌≡◌, ◌<◌, ◌≤◌, ◌+◌, ◌-◌, ℕ, List, [], ◌++◌, length, take, drop, Option, None, Some, arith, refl, sym, ap, subst, ◌∙◌, append_assoc, length-append, take-append-drop, lit<, lit≤}
 use Rattle.std.specs.Prelude.{IfSome}
 use Rattle.std.specs.Io.KnownBytes.{IsAtEnd, Keeps, prepend_known}
@@ -14,7 +14,7 @@ use Rattle.wire.specs.Judging.{HeadAnnounces, Breaks}
 use Rattle.wire.specs.Judging as breaks
 use Rattle.wire.specs.Feeding.{AwaitsHead, OfStream}
 
--- ---- what is left is what waits, and what the reader has
+-- ---- what is left is what waits, followed by what the reader has
 
 pub known_whole : (known reader : Option (List ℕ)) (waits : List ℕ) (P : List ℕ → Type 0) → Keeps known (prepend_known waits reader)
     → ((rest : List ℕ) → reader ≡ Some rest → P (waits ++ rest)) → IfSome known P
@@ -89,7 +89,7 @@ breaks_early text r (breaks.too_large head n tells large) = (lit< tt, lit≤ tt)
 pub front_of : (waits rest text after : List ℕ) (n : ℕ) → IsHeadEnd (take 8192 waits) n → text ≡ take n waits → after ≡ drop n waits → IsFront (waits ++ rest) text (after ++ rest)
 front_of waits rest text after n h t a = rw (t, a) (front_whole waits rest n h)
 
--- a front is the front of itself, and of all that goes on from it
+-- a front is the front of itself and of every stream that begins with it
 pub front_alone : (stream text rest : List ℕ) → IsFront stream text rest → IsFront text text []
 front_alone stream text rest f = record { whole = sym (append-nil text); ends = f.ends; short = f.short; shortest = f.shortest }
 

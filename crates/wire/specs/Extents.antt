@@ -1,4 +1,4 @@
--- How many bytes a message takes, as its head tells.
+-- The length of a message, as its head tells it.
 use Rattle.std.specs.Prelude.{◌≡◌, ℕ, ◌+◌, ◌≤◌, Bool, List, length, take}
 use Rattle.httparse.specs.Grammar.{RequestHead}
 use Rattle.sigtext.specs.Limits.{most_body, most_head}
@@ -6,14 +6,15 @@ use Rattle.sigtext.specs.declared.refusal.Refusal.{Refusal}
 use Rattle.wire.specs.Heads.{HasNoHeadEnd, IsHeadEnd}
 use Rattle.wire.specs.Judging.{Breaks, HeadAnnounces}
 
--- A head of this text takes n bytes: its own and those of the body that it announces, or its own alone where it breaks a rule.
+-- A head with this text takes n bytes: its own length plus that of the body that it announces, or its own
+-- alone if it breaks a rule.
 pub data HeadTakes (text : List ℕ) (n : ℕ) : Type 0 where
   announced : (head : RequestHead) (has_length : Bool) (size : ℕ) → HeadAnnounces text head has_length size → size ≤ most_body
       → n ≡ length text + size → HeadTakes text n
   barred : (refusal : Refusal) → Breaks text refusal → n ≡ length text → HeadTakes text n
 
--- The message that the bytes begin with takes n bytes: those that its head takes, and the most that a head may have where none
--- ends in so many.
+-- The message at the front of the bytes takes n bytes: as many as its head takes, or most_head if no head
+-- ends in that many.
 pub data Takes (bytes : List ℕ) (n : ℕ) : Type 0 where
   headed : (size : ℕ) → IsHeadEnd (take most_head bytes) size → HeadTakes (take size bytes) n → Takes bytes n
   long : HasNoHeadEnd (take most_head bytes) → most_head ≤ length bytes → n ≡ most_head → Takes bytes n

@@ -1,4 +1,4 @@
--- What the calls of a `Feed` give, whatever pieces its reader gives.
+-- What the calls of a `Feed` return, however its reader cuts the stream into pieces.
 use Rattle.std.specs.Prelude.{◌≡◌, ℕ, ◌+◌, ◌-◌, ◌<◌, ◌≤◌, ◌⊎◌, Bool, List, [], ◌++◌, length, Option, Some, IfSome, Result, Ok, Err}
 use Rattle.std.specs.Borrow.{Bor}
 use Rattle.std.specs.Io.KnownBytes.{Consumes, IsAtEnd, Keeps, prepend_known}
@@ -21,8 +21,8 @@ use Rattle.wire.specs.declared.feed.Step.TheVariants as step
 use Rattle.wire.specs.declared.feed.Piece.{Piece}
 use Rattle.wire.specs.declared.feed.Piece.TheVariants as piece
 
--- what a `next` tells: a head, by its text, whether a length was given, and the body's length; a refusal;
--- the end; an end within a head
+-- what `next` tells: a head, with its text, whether a length was given, and the body's length; a refusal; the
+-- end; an end within a head
 pub data StepTold : Type 0 where
   Opened : (text : List ℕ) → (has_length : Bool) → (n : ℕ) → StepTold
   Barred : (refusal : Refusal) → StepTold
@@ -36,7 +36,7 @@ told (Ok step.End) = Ok Ended
 told (Ok step.Truncated) = Ok CutShort
 told (Err e) = Err e
 
--- what a `piece` tells: some bytes, that the body is whole, a refusal
+-- what `piece` tells: some bytes; that the body is complete; a refusal
 pub data Part : Type 0 where
   Bytes : (bytes : List ℕ) → Part
   Done : Part
@@ -52,19 +52,18 @@ part (Err e) = Err e
 abbrev pub most_piece : ℕ
 most_piece = 65536
 
--- the text is a head, of no more bytes than a head may have, which announces a body of n bytes, no more than a body
--- may have
+-- The text is a head no longer than most_head. It announces a body of n bytes, at most most_body.
 pub record Opens (text : List ℕ) (has_length : Bool) (n : ℕ) : Type 0 where
   pub is_front : IsFront text text []
   pub small : n ≤ most_body
   pub head : RequestHead
   pub tells : HeadAnnounces text head has_length n
 
--- no head ends in the bytes, and they are fewer than a head may have
+-- no head ends in the bytes, and they are fewer than most_head
 abbrev pub AwaitsHead : List ℕ → Type 0
 AwaitsHead bytes = (length bytes < most_head) × HasNoFront bytes
 
--- a head stands whole at the front of the bytes, keeps the rules 1 to 5, and announces a body that is not empty
+-- a whole head stands at the front of the bytes, obeys rules 1 to 5, and announces a body that is not empty
 pub record AnnouncesBody (bytes : List ℕ) : Type 0 where
   pub text : List ℕ
   pub given : List ℕ
@@ -74,20 +73,20 @@ pub record AnnouncesBody (bytes : List ℕ) : Type 0 where
   pub opens : Opens text has_length size
   pub some : 0 < size
 
--- More bytes are needed to tell the step of a stream that begins with these: those of a head, or of the body that one
--- announces.
+-- More bytes are needed to tell the first step of a stream that begins with these: the rest of a head, or of
+-- the body that it announces.
 pub data Awaits (bytes : List ℕ) : Type 0 where
   a_head : AwaitsHead bytes → Awaits bytes
   a_body : (a : AnnouncesBody bytes) → length a.given < a.size → Awaits bytes
 
--- of the stream that was left: of its bytes where they are known, and else of some bytes
+-- Holds is true of the stream that was left: of its bytes if they are known, and of some bytes otherwise
 pub record OfStream (known : Option (List ℕ)) (Holds : List ℕ → Type 0) : Type 0 where
   pub stream : List ℕ
   pub is : IfSome known (λ bytes. bytes ≡ stream)
   pub holds : Holds stream
 
--- What is told where a message may begin. known: the bytes of the stream that were left, where the
--- reader's are known; waits and reader: those that wait now, and those that the reader has.
+-- What is told where a message may begin. known: what was left of the stream, if the reader's bytes are
+-- known; waits: the bytes that wait now; reader: the bytes that the reader has now.
 abbrev pub Finds : Option (List ℕ) → Result StepTold WireFault → List ℕ → Option (List ℕ) → Type 0
 Finds known (Ok (Opened text has_length n)) waits reader =
     Opens text has_length n × IfSome known (λ stream. (rest : List ℕ) × IsFront stream text rest × (prepend_known waits reader ≡ Some rest))
@@ -97,12 +96,12 @@ Finds known (Ok CutShort) waits reader = IsAtEnd reader × OfStream known (λ st
 Finds known (Err fault.Read) waits reader = AwaitsHead waits × Keeps known (prepend_known waits reader)
 Finds known (Err _) waits reader = ⊥
 
--- where a feed stands behind what it told
+-- where a feed stands after what it told
 abbrev pub place_after : Result StepTold WireFault → Place
 place_after (Ok (Opened text has_length n)) = place.Body n
 place_after _ = place.Over
 
--- What a `next` gives, from where the feed stood. Memory is refused in the first alone.
+-- What `next` returns, by where the feed stood. Memory is refused in the first call only.
 abbrev pub GivesStep : Place → Option (List ℕ) → Result StepTold WireFault → Place → List ℕ → Option (List ℕ) → Type 0
 GivesStep place.Fresh known told new waits reader =
     (new ≡ place_after told) × (Finds known told waits reader ⊎ ((told ≡ Err fault.Memory) × (waits ≡ []) × Keeps known (prepend_known waits reader)))
@@ -110,7 +109,7 @@ GivesStep place.Between known told new waits reader = (new ≡ place_after told)
 GivesStep (place.Body n) known told new waits reader = (new ≡ place.Over) × (told ≡ Ok Ended) × Keeps known (prepend_known waits reader)
 GivesStep place.Over known told new waits reader = (new ≡ place.Over) × (told ≡ Ok Ended) × Keeps known (prepend_known waits reader)
 
--- what a `piece` gives where a body is open with n bytes to come
+-- what `piece` returns in an open body with n bytes to come
 abbrev pub GoesOn : ℕ → Option (List ℕ) → Result Part WireFault → Place → List ℕ → Option (List ℕ) → Type 0
 GoesOn n known (Ok (Bytes bytes)) new waits reader =
     (new ≡ place.Body (n - length bytes)) × (0 < length bytes) × (length bytes ≤ most_piece) × (length bytes ≤ n)
@@ -121,18 +120,18 @@ GoesOn n known (Ok (Lacking r)) new waits reader =
 GoesOn n known (Err fault.Read) new waits reader = (new ≡ place.Over) × (0 < n) × (waits ≡ []) × Keeps known (prepend_known waits reader)
 GoesOn n known (Err _) new waits reader = ⊥
 
--- what a `piece` gives, from where the feed stood
+-- what `piece` returns, by where the feed stood
 abbrev pub GivesPiece : Place → Option (List ℕ) → Result Part WireFault → Place → List ℕ → Option (List ℕ) → Type 0
 GivesPiece (place.Body n) known part new waits reader = GoesOn n known part new waits reader
 GivesPiece old known part new waits reader = (new ≡ old) × (part ≡ Ok Done) × Keeps known (prepend_known waits reader)
 
--- the count of faults rose where a read failed, and else it stayed
+-- the count of faults rises if a read failed, and stays otherwise
 abbrev pub CountsReads : {T : Type 0} → Result T WireFault → ℕ → ℕ → Type 0
 CountsReads (Err fault.Read) old new = Rose old new
 CountsReads result old new = new ≡ old
 
--- Of a message whose head announces a body of size bytes these were given, n are to come, and rest is
--- what is left of the stream.
+-- A message's head announces a body of size bytes. The bytes in given were given, n bytes are to come, and
+-- rest is what is left of the stream.
 pub record Halfway (stream : List ℕ) (head : RequestHead) (has_length : Bool) (size : ℕ) (given : List ℕ) (n : ℕ) (rest : List ℕ) : Type 0 where
   pub has_head : HasHead stream head has_length size (given ++ rest)
   pub small : size ≤ most_body

@@ -24,7 +24,7 @@ pub record IsFront (stream head rest : List ℕ) : Type 0 where
 abbrev pub HasNoFront : List ℕ → Type 0
 HasNoFront stream = (head rest : List ℕ) → IsFront stream head rest → ⊥
 
--- the bytes are, as a whole, one request head with at most 64 fields
+-- the bytes are one whole request head with at most 64 fields
 pub record IsHead (bytes : List ℕ) (head : RequestHead) : Type 0 where
   pub reads : ReadsRequest bytes head []
   pub few : length head.fields ≤ most_fields

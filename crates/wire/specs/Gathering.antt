@@ -1,4 +1,4 @@
--- What a `Gathered` has read ahead, and what gathering leaves.
+-- What a `Gathered` has read ahead, and what gathering changes.
 use Rattle.std.specs.Prelude.{◌≡◌, ◌≢◌, ℕ, ◌+◌, ◌≤◌, List, [], ◌++◌, length, drop, vec_capacity, Option, IsSome, Result, Ok, Err}
 use Rattle.std.specs.Io.KnownBytes.{Consumes, IsAtEnd, Keeps}
 use Rattle.wire.specs.declared.gathered.Gathered.{Gathered}
@@ -9,19 +9,20 @@ use Rattle.wire.specs.declared.gathered.Gathering.TheVariants as gathering
 abbrev pub ahead_in : {S : Type 0} → Gathered S → List ℕ
 ahead_in g = drop g.start g.bytes.items
 
--- a read of it failed, or was made to fail
+-- a read failed, or `fail` was called
 abbrev pub HasFailed : {S : Type 0} → Gathered S → Type 0
 HasFailed g = IsSome g.fault
 
--- the fault that is kept stays, or there is none still
+-- the fault does not change
 abbrev pub KeepsFault : {S : Type 0} → Gathered S → Gathered S → Type 0
 KeepsFault old new = new.fault ≡ old.fault
 
--- n bytes more fit behind those that are ahead with no more memory
+-- n more bytes fit after those that were read ahead, without more memory
 abbrev pub HasRoomFor : {S : Type 0} → ℕ → Gathered S → Type 0
 HasRoomFor n g = length (ahead_in g) + n ≤ vec_capacity g.bytes
 
--- What one read ahead told. remaining: what a reader has left. A fault comes where a read failed alone, and the first one stays.
+-- What one gathering leaves. remaining: what a reader has left. Only a failed read sets a fault, and the
+-- first fault stays.
 abbrev pub Gathers : {S E : Type 0} → (S → Option (List ℕ)) → Gathered S → Gathered S → Result Gathering E → Type 0
 Gathers remaining old new (Ok gathering.Came) =
     (bytes : List ℕ) × (bytes ≢ []) × (ahead_in new ≡ ahead_in old ++ bytes) × Consumes (remaining old.inner) (remaining new.inner) bytes × KeepsFault old new

@@ -1,4 +1,4 @@
--- What the text of a head announces, and why it is refused.
+-- What the text of a head announces, and why it may be refused.
 use Rattle.std.specs.Prelude.{◌≡◌, ℕ, ◌<◌, Bool, true, List, [], codes}
 use Rattle.httparse.specs.Grammar.{RequestHead}
 use Rattle.sigtext.specs.declared.refusal.Refusal.{Refusal}
@@ -7,7 +7,7 @@ use Rattle.sigtext.specs.SignedHeaders.{Header, named}
 use Rattle.sigtext.specs.Limits.{most_body}
 use Rattle.wire.specs.Framing.{IsHead, IsCoded, Announces, headers_of}
 
--- the text is, as a whole, this head, which holds the rules on transfer codings and on the length's form
+-- the text is this whole head, which obeys the rules on transfer codings and on the form of the length
 pub record HeadAnnounces (text : List ℕ) (head : RequestHead) (has_length : Bool) (n : ℕ) : Type 0 where
   pub is_head : IsHead text head
   pub uncoded : named (codes "transfer-encoding") (headers_of head) ≡ []

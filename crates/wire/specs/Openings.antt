@@ -1,4 +1,4 @@
--- What is read of a head that begins a message.
+-- The parts of a head that begins a message.
 use Rattle.std.specs.Prelude.{◌≡◌, ◌≤◌, ℕ, List, map, take, Result, Ok, ⊤}
 use Rattle.httparse.specs.Grammar.{RequestHead}
 use Rattle.sigtext.specs.declared.field.Field.{Field}
@@ -11,13 +11,13 @@ use Rattle.wire.specs.declared.feed.Step.{Step}
 use Rattle.wire.specs.declared.feed.Step.TheVariants as step
 use Rattle.wire.specs.declared.head.Head.{Head}
 
--- the parts are those of the head that the text is, and the list begins with its fields
+-- the parts are those of the head with this text, and the list begins with its fields
 abbrev pub ArePartsOf : List ℕ → Head → List Field → Type 0
 ArePartsOf text parts fields =
     (head : RequestHead) × IsHead text head × (parts.method.now ≡ head.method) × (parts.target.now ≡ head.target)
     × (parts.count ≤ most_fields) × (map header_of (take parts.count fields) ≡ headers_of head)
 
--- the same of a head that was found
+-- the same for a head that was found
 abbrev pub OpensWith : List Field → Result (Step Opening) WireFault → Type 0
 OpensWith fields (Ok (step.Head h)) = ArePartsOf h.text.now h.head fields
 OpensWith fields _ = ⊤

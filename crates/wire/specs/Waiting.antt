@@ -1,4 +1,4 @@
--- What waits in a `Backlog`, and the front of a stream that waits there.
+-- The bytes in a `Backlog`, and what they show of the stream.
 use Rattle.std.specs.Prelude.{◌≡◌, ◌≢◌, Bool, true, false, ℕ, ◌-◌, ◌<◌, ◌≤◌, List, [], ◌++◌, length, take, slice_range, Option, Result, Ok, Err}
 use Rattle.std.specs.Io.KnownBytes.{Consumes, IsAtEnd, Keeps}
 use Rattle.sigtext.specs.Limits.{most_head}
@@ -19,13 +19,13 @@ waiting b = slice_range b.bytes.items b.start b.end
 unfoldable pub taken : Backlog → ℕ → List ℕ
 taken b n = slice_range b.bytes.items (b.start - n) b.start
 
--- Bytes that came wait behind those that waited, and whether any came is told. reader and rest: what the reader had,
--- and what it has now.
+-- The bytes that came are appended to those that waited. more tells whether any came. reader and rest: what
+-- the reader had, and what it has now.
 abbrev pub Adds : Bool → List ℕ → List ℕ → Option (List ℕ) → Option (List ℕ) → Type 0
 Adds more old new reader rest =
     (bytes : List ℕ) × (new ≡ old ++ bytes) × Consumes reader rest bytes × (more ≡ true → bytes ≢ []) × (more ≡ false → (bytes ≡ []) × IsAtEnd rest)
 
--- the same of two backlogs and the reader from which they came
+-- the same for two backlogs and the reader that the bytes came from
 abbrev pub AddsFrom : {R : Type 0} → (R → Option (List ℕ)) → Bool → Backlog → Backlog → Counted R → Counted R → Type 0
 AddsFrom remaining more old new reader rest = Adds more (waiting old) (waiting new) (remaining reader.inner) (remaining rest.inner)
 
@@ -34,7 +34,7 @@ abbrev pub FailsToAdd : {R : Type 0} → (R → Option (List ℕ)) → WireFault
 FailsToAdd remaining f old new reader rest =
     (f ≡ fault.Read) × (waiting new ≡ waiting old) × Keeps (remaining reader.inner) (remaining rest.inner)
 
--- what the bytes that wait say of the front of the stream; reader: what the reader has left
+-- what the waiting bytes show of the front of the stream; reader: what the reader has left
 abbrev pub Shows : Result (Step ℕ) WireFault → List ℕ → Option (List ℕ) → Type 0
 Shows (Ok (step.Head n)) bytes reader = IsHeadEnd (take most_head bytes) n
 Shows (Ok (step.Refused r)) bytes reader = (r ≡ rule.HeadTooLong) × (most_head ≤ length bytes) × HasNoHeadEnd (take most_head bytes)

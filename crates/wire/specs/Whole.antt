@@ -1,4 +1,4 @@
--- Whole messages, and what was read where none came.
+-- Whole messages, and what was read when none came.
 use Rattle.std.specs.Prelude.{◌≡◌, ℕ, ◌<◌, ◌≤◌, ◌⊎◌, Bool, List, [], length, Option, Some, IfSome}
 use Rattle.std.specs.Io.KnownBytes.{Consumes, IsAtEnd}
 use Rattle.sigtext.specs.declared.field.Field.{Field}
@@ -20,14 +20,14 @@ use Rattle.wire.specs.declared.feed.Place.TheVariants as place
 abbrev pub MayBegin : Place → Type 0
 MayBegin p = (p ≡ place.Fresh) ⊎ (p ≡ place.Between)
 
--- The text is a head that announces a body of n bytes, and stands at the front of the stream that was left.
--- old and new: what was left of the stream, where that is known, and what is left now.
+-- The text is a head that announces a body of n bytes. It stands at the front of the stream that was left.
+-- old: what was left of the stream, if that is known; new: what is left now.
 pub record IsOpening (text : List ℕ) (has_length : Bool) (n : ℕ) (old new : Option (List ℕ)) : Type 0 where
   pub opens : Opens text has_length n
   pub front : IfSome old (λ stream. (rest : List ℕ) × IsFront stream text rest × (new ≡ Some rest))
 
--- What was read. fields: the array that the fields of a head were put into; old and new: what was left of the stream; reader:
--- what the reader has now; p: where the feed stands now.
+-- What was read. fields: the array that holds the fields of a head; old and new: what was left of the stream
+-- before and after; reader: what the reader has now; p: where the feed stands now.
 abbrev pub Brings : Came → List Field → Option (List ℕ) → Option (List ℕ) → Option (List ℕ) → Place → Type 0
 Brings (came.Head h) fields old new reader p =
     (p ≡ place.Body h.length) × IsOpening h.text.now h.has_length h.length old new × ArePartsOf h.text.now h.head fields
@@ -36,29 +36,30 @@ Brings (came.Refused r) fields old new reader p =
 Brings came.End fields old new reader p = (p ≡ place.Over) × IsAtEnd reader × OfStream old (λ stream. Next stream framing.Ended [])
 Brings came.Truncated fields old new reader p = (p ≡ place.Over) × IsAtEnd reader × OfStream old (λ stream. Next stream framing.Truncated [])
 
--- What all the bytes that came hold where no head was read. At a failed read they don't tell the step yet. Where memory was
--- refused, nothing was read. old: what was left of the stream; reader: what the reader has now; p: where the feed stood before.
+-- What was read when no head came. After a failed read the bytes do not tell the step yet. If memory was
+-- refused, nothing was read. old: what was left of the stream; reader: what the reader has now; p: where the
+-- feed stood before.
 abbrev pub BreaksOff : WireFault → Place → Option (List ℕ) → Option (List ℕ) → Type 0
 BreaksOff fault.Read p old reader = (front : List ℕ) × Consumes old reader front × AwaitsHead front
 BreaksOff fault.Memory p old reader = (p ≡ place.Fresh) × Consumes old reader []
 BreaksOff fault.Write p old reader = ⊥
 
--- the same of a body of which n bytes are to come: fewer came
+-- the same for a body with n bytes to come: fewer came
 abbrev pub BreaksOffWithin : ℕ → WireFault → Option (List ℕ) → Option (List ℕ) → Type 0
 BreaksOffWithin n fault.Read old reader = (given : List ℕ) × Consumes old reader given × (length given < n)
 BreaksOffWithin n fault.Memory old reader = ⊥
 BreaksOffWithin n fault.Write old reader = ⊥
 
--- the body of n bytes that was open came whole
+-- the whole open body of n bytes came
 abbrev pub TakesBody : {R : Type 0} → (R → Option (List ℕ)) → ℕ → Feed R → Feed R → List ℕ → Type 0
 TakesBody remaining n old new body = (length body ≡ n) × (place_of new ≡ place.Between) × Consumes (left remaining old) (left remaining new) body
 
--- the stream ended in the body of n bytes that was open, of which these were given
+-- the stream ended within the open body of n bytes, after the bytes in given
 abbrev pub LacksBody : {R : Type 0} → (R → Option (List ℕ)) → ℕ → Feed R → Feed R → Type 0
 LacksBody remaining n old new =
     (place_of new ≡ place.Over) × (0 < n) × IfSome (left remaining old) (λ rest. length rest < n)
     × (given : List ℕ) × Consumes (left remaining old) (remaining (reader_of new).inner) given
 
--- reading broke off in the body of n bytes that was open
+-- reading failed within the open body of n bytes
 abbrev pub BreaksOffBody : {R : Type 0} → (R → Option (List ℕ)) → ℕ → Feed R → Feed R → WireFault → Type 0
 BreaksOffBody remaining n old new f = BreaksOffWithin n f (left remaining old) (remaining (reader_of new).inner)

@@ -1,4 +1,4 @@
-//! Bytes that were read ahead.
+//! A buffer of bytes that were read ahead.
 ghost use Rattle.std.specs.Prelude.{◌≡◌, ◌↔◌, ◌≤◌, ◌<◌, ◌-◌, ◌+◌, ℕ, List, [], ◌++◌, true, false, length, take, drop, vec_len, IfOk, IfErr, IsTrue, OnErr, OnOk};
 ghost use Rattle.std.specs.Io.KnownBytes.{Consumes, IsAtEnd, Keeps, prepend_known};
 ghost use Rattle.sigtext.specs.Limits.{most_head};
@@ -12,13 +12,13 @@ use sigtext::Refusal;
 use std::alloc::{AllocError, Global};
 use std::io::Read;
 
-/// How many bytes may wait: those of a head and of a piece.
+/// The size of the buffer in bytes: enough for a head and a piece.
 pub const ROOM: usize = 73_728;
 
-/// The most bytes that a head may have.
+/// The greatest length of a head, in bytes.
 pub const MOST_HEAD: usize = 8192;
 
-/// A buffer, and which of its bytes were read and not taken yet.
+/// A buffer. The bytes from `start` to `end` were read and not taken yet.
 #[derive(Drop)]
 pub struct Backlog {
     bytes: Vec<u8>,
@@ -31,7 +31,7 @@ pub struct Backlog {
 impl Backlog {
     ghost use Rattle.wire.specs.Waiting.{Shows, taken, waiting, AddsFrom, FailsToAdd};
 
-    /// Nothing waits, and there is no room.
+    /// An empty backlog without a buffer.
     pub fn new(alloc: Global) -> Backlog
         ensures { waiting result ≡ [] }
     {
@@ -42,7 +42,7 @@ impl Backlog {
         }
     }
 
-    /// Nothing waits, and there is room.
+    /// An empty backlog with a buffer.
     pub fn with_room(alloc: Global) -> Result<Backlog, AllocError>
         ensures waiting { IfOk result (λ b. waiting b ≡ []) }
         ensures room { IfOk result (λ b. vec_len b.bytes ≡ ROOM) }
@@ -54,7 +54,7 @@ impl Backlog {
         })
     }
 
-    /// Takes memory for the room where there is none.
+    /// Allocates the buffer if there is none.
     pub fn make_room(&mut self, alloc: Global) -> Result<(), AllocError>
         requires { waiting self.old ≡ [] }
         ensures waiting { waiting self.new ≡ [] }
@@ -66,21 +66,21 @@ impl Backlog {
         Ok(())
     }
 
-    /// Whether there is room.
+    /// Whether there is a buffer.
     pub fn has_room(&self) -> bool
         ensures { IsTrue result ↔ (vec_len self.now.bytes ≡ ROOM) }
     {
         self.bytes.len() == ROOM
     }
 
-    /// The bytes that wait.
+    /// The bytes that were read and not taken yet.
     pub fn waiting(&self) -> &[u8]
         ensures { result.now ≡ waiting self.now }
     {
         &self.bytes[self.start..self.end]
     }
 
-    // The first 8192 of them, or all.
+    // The first 8192 waiting bytes, or all of them if there are fewer.
     fn window(&self) -> &[u8]
         ensures { result.now ≡ take most_head (waiting self.now) }
     {
@@ -88,14 +88,14 @@ impl Backlog {
         &waiting[..waiting.len().min(MOST_HEAD)]
     }
 
-    // Whether a head would have ended in them.
+    // Whether at least 8192 bytes wait, so that a head would have ended in them.
     fn is_long(&self) -> bool
         ensures { IsTrue result ↔ (most_head ≤ length (waiting self.now)) }
     {
         self.waiting().len() >= MOST_HEAD
     }
 
-    /// Takes the first n bytes.
+    /// Takes the first n waiting bytes.
     pub fn take(&mut self, n: usize)
         requires { n ≤ length (waiting self.old) }
         ensures taken { taken self.new n ≡ take n (waiting self.old) }
@@ -108,7 +108,7 @@ impl Backlog {
         self.start += n;
     }
 
-    /// Takes all that wait.
+    /// Takes all waiting bytes.
     pub fn take_all(&mut self)
         ensures waiting { waiting self.new ≡ [] }
         ensures room { vec_len self.new.bytes ≡ vec_len self.old.bytes }
@@ -125,7 +125,7 @@ impl Backlog {
         &self.bytes[self.start - n..self.start]
     }
 
-    /// Reads once, behind the bytes that wait. Says whether bytes came.
+    /// Reads once and appends to the waiting bytes. Returns whether any bytes came.
     pub fn read_more<R: Read>(&mut self, reader: &mut Counted<R>) -> Result<bool, WireFault>
         requires { length (waiting self.old) < vec_len self.old.bytes }
         ensures came { IfOk result (λ more. AddsFrom R.remaining more self.old self.new reader.old reader.new) }
@@ -137,7 +137,7 @@ impl Backlog {
         self.read_behind(reader)
     }
 
-    // Moves the bytes that wait to the front of the buffer.
+    // Moves the waiting bytes to the front of the buffer.
     fn move_to_front(&mut self)
         ensures start { self.new.start ≡ 0 }
         ensures kept { waiting self.new ≡ waiting self.old }
@@ -151,7 +151,7 @@ impl Backlog {
         self.start = 0;
     }
 
-    // Reads once, behind the bytes that wait at the front.
+    // Reads once, after the waiting bytes at the front of the buffer.
     fn read_behind<R: Read>(&mut self, reader: &mut Counted<R>) -> Result<bool, WireFault>
         requires front { self.old.start ≡ 0 }
         requires room { length (waiting self.old) < vec_len self.old.bytes }
@@ -169,13 +169,13 @@ impl Backlog {
         }
     }
 
-    /// Reads until the bytes that wait show where the first head ends, or that there is none: how many bytes are up
-    /// to and with the first CR LF CR LF; refusal 2 where no head ends in the first 8192; the end of the stream, with
-    /// no byte that waits or with less than a head.
+    /// Reads until the waiting bytes show where the first head ends, or that there is none. Returns one of
+    /// these: the number of bytes through the first CR LF CR LF; refusal 2 if no head ends in the first 8192
+    /// bytes; the end of the stream, with no waiting bytes or with less than a head.
     ///
     /// # Errors
     ///
-    /// `Read` where a read failed. The bytes that wait are then less than a head.
+    /// `Read` if a read failed. The waiting bytes are then less than a head.
     pub fn read_head<R: Read>(&mut self, reader: &mut Counted<R>) -> Result<Step<usize>, WireFault>
         requires { vec_len self.old.bytes ≡ ROOM }
         ensures shows { Shows result (waiting self.new) (R.remaining reader.new.inner) }
@@ -209,7 +209,7 @@ impl Backlog {
     }
 }
 
-// Reads once into the buffer from here on.
+// Reads once into the buffer, from index `at` on.
 fn read_at<R: Read>(
     bytes: &mut [u8],
     at: usize,

@@ -1,8 +1,8 @@
-//! Texts that are joined in a buffer.
+//! Joining texts in a buffer.
 ghost use Rattle.std.specs.Prelude.{◌≡◌, ◌≤◌, length, take};
 ghost use Rattle.std.specs.List.{flat_map};
 
-// Puts the pieces, one after another, to the front of the buffer, and says their length.
+// Puts the pieces, one after another, to the front of the buffer. Returns their total length.
 pub(crate) fn join(pieces: &[&[u8]], out: &mut [u8]) -> usize
     requires { length (flat_map (λ piece. piece.now) pieces.now) ≤ length out.old }
     ensures within { result ≤ length out.old }

@@ -15,11 +15,11 @@ use crate::head::MOST_FIELDS;
 use sigtext::Field;
 use std::io::Read;
 
-/// The most bytes of a piece.
+/// The greatest length of a piece, in bytes.
 pub const MOST_PIECE: usize = 65_536;
 
-/// Finds what comes next on the stream. The text of a head is put to the front of the one array, and its fields to that of the
-/// other.
+/// Finds what comes next on the stream. The text of a head goes to the front of `text`, and its fields to the
+/// front of `fields`.
 pub fn find<'t, R: Read>(
     backlog: &mut Backlog,
     reader: &mut Counted<R>,
@@ -49,8 +49,8 @@ pub fn find<'t, R: Read>(
     }
 }
 
-/// Takes the next bytes of a body of which so many are to come, and says how many. There are none only
-/// where the stream has ended.
+/// Takes the next bytes of a body with `to_come` bytes left. Returns how many; 0 only if the stream has
+/// ended.
 pub fn cut_piece<R: Read>(
     backlog: &mut Backlog,
     reader: &mut Counted<R>,
@@ -82,7 +82,7 @@ pub fn cut_piece<R: Read>(
     Ok(take_some(backlog, to_come))
 }
 
-// Takes so many of the bytes that wait, or all, and no more than a piece has.
+// Takes waiting bytes: at most `most`, and at most the size of a piece. Returns how many.
 fn take_some(backlog: &mut Backlog, most: usize) -> usize
     ensures taken { waiting backlog.old ≡ taken backlog.new result ++ waiting backlog.new }
     ensures size { length (taken backlog.new result) ≡ result }

@@ -1,4 +1,4 @@
-//! What fails on a wire.
+//! Faults on the wire.
 use thiserror::Error;
 
 /// What failed on a wire.
@@ -7,7 +7,7 @@ pub enum WireFault {
     /// A read failed.
     #[error("a read failed")]
     Read,
-    /// A write failed, or took none of some bytes.
+    /// A write failed, or took nothing of a non-empty buffer.
     #[error("a write failed")]
     Write,
     /// Memory was refused.

@@ -1,4 +1,4 @@
-//! The messages of a stream, their bodies in pieces.
+//! Cuts a stream into messages, with bodies in pieces.
 ghost use Rattle.std.specs.Prelude.{◌≡◌, ◌≢◌, ◌≤◌, ◌<◌, ◌-◌, ℕ, Bool, List, [], ◌++◌, length, take, drop, vec_len};
 ghost use Rattle.std.specs.Borrow.{sem};
 ghost use Rattle.std.specs.Io.BufRead.{Rests};
@@ -27,37 +27,37 @@ use std::mem;
 /// The head of a message.
 #[derive(Clone, Copy, Debug, PartialEq, Eq)]
 pub struct Opening<'a> {
-    /// The whole head, through CR LF CR LF: at most 8192 bytes.
+    /// The whole head, through CR LF CR LF. At most 8192 bytes.
     pub text: &'a [u8],
-    /// Its parts.
+    /// The method, the target and the number of fields.
     pub head: Head<'a>,
     /// Whether a Content-Length was given.
     pub has_length: bool,
-    /// How many bytes the body has.
+    /// The length of the body in bytes.
     pub length: usize,
 }
 
 /// What comes where a message may begin.
 #[derive(Clone, Copy, Debug)]
 pub enum Step<T> {
-    /// A head, of which this is told. Its body follows in pieces.
+    /// A head. Its body follows in pieces.
     Head(T),
     /// The stream breaks a rule of framing, 1 to 5.
     Refused(Refusal),
     /// The stream ended, or the feed has ended.
     End,
-    /// The stream ended in a head.
+    /// The stream ended within a head.
     Truncated,
 }
 
 /// A piece of a body.
 #[derive(Clone, Copy, Debug)]
 pub enum Piece<T> {
-    /// The next 1 to 65536 bytes, of which this is told.
+    /// The next 1 to 65536 bytes.
     Bytes(T),
-    /// The body is whole, or none is open.
+    /// The body is complete, or no body is open.
     Done,
-    /// The stream ended in the body: refusal 6.
+    /// The stream ended within the body: refusal 6.
     Refused(Refusal),
 }
 
@@ -68,7 +68,7 @@ pub enum Place {
     Fresh,
     /// Where a message may begin.
     Between,
-    /// In a body, of which so many bytes are to come.
+    /// In a body with this many bytes to come.
     Body(usize),
     /// At its end.
     Over,
@@ -104,8 +104,8 @@ impl<'r, R: Read> Feed<'r, R> {
         }
     }
 
-    /// Goes on where a feed stood, over the reader that this one had. It has the room, or lets go of it where bytes wait in a
-    /// buffer already.
+    /// Resumes a feed that was set aside, over the same reader. The feed uses the room, or drops it if its
+    /// own buffer holds waiting bytes.
     pub fn resume(standing: Standing, room: Room, reader: &'r mut Counted<R>) -> Feed<'r, R>
         ensures same { result.reader.ghost_name ≡ reader.entry.ghost_name }
         ensures reader { reader_of result ≡ reader.old }
@@ -121,8 +121,8 @@ impl<'r, R: Read> Feed<'r, R> {
         }
     }
 
-    /// Where the feed stands and what it read ahead, for a later feed over the same reader; and its room, where no byte waits in
-    /// it. This feed is then over, and its reader is given back by `into_reader`.
+    /// Returns where the feed stands and what it read ahead, for a later feed over the same reader, and the
+    /// room if no bytes wait in it. This feed is then over. `into_reader` gives its reader back.
     pub fn set_aside(&mut self) -> (Standing, Option<Room>)
         ensures same { SameReader self.old self.new }
         ensures reader { reader_of self.new ≡ reader_of self.old }
@@ -137,7 +137,8 @@ impl<'r, R: Read> Feed<'r, R> {
         Standing::parted(self.alloc, place, backlog)
     }
 
-    /// Gives the reader back. Call it at the end: a feed that is only dropped tells nothing of its reader.
+    /// Gives the reader back. Call it at the end: nothing is known of the reader of a feed that is only
+    /// dropped.
     pub fn into_reader(self) -> &'r mut Counted<R>
         ensures same { result.ghost_name ≡ self.entry.reader.ghost_name }
         ensures now { result.now ≡ reader_of self.entry }
@@ -145,13 +146,14 @@ impl<'r, R: Read> Feed<'r, R> {
         self.reader
     }
 
-    /// The next head, or what stands in its place. Its text is put to the front of the one array, and its fields to that of the
-    /// other. Where a body is open, and where the feed has ended, it is the end. After anything but a head the feed has ended.
+    /// The next head, or what comes instead. The text of the head goes to the front of `text`, and its fields
+    /// to the front of `fields`. Returns `End` if a body is open or the feed has ended. After anything but a
+    /// head the feed has ended.
     ///
     /// # Errors
     ///
-    /// `Read` where a read failed, and `Memory` where memory was refused for the buffer, which is asked for once, in the first
-    /// call. The feed has then ended.
+    /// `Read` if a read failed. `Memory` if memory was refused for the buffer, which is allocated in the
+    /// first call only. The feed has then ended.
     pub fn next<'t>(
         &mut self,
         text: &'t mut [u8; MOST_HEAD],
@@ -185,11 +187,11 @@ impl<'r, R: Read> Feed<'r, R> {
         found
     }
 
-    /// The next piece of the body that is open, of 1 to 65536 bytes. Where none is, it is done.
+    /// The next piece of the open body, of 1 to 65536 bytes. `Done` if no body is open.
     ///
     /// # Errors
     ///
-    /// `Read` where a read failed. The feed has then ended.
+    /// `Read` if a read failed. The feed has then ended.
     pub fn piece(&mut self) -> Result<Piece<&[u8]>, WireFault>
         ensures* after { sem 𝓛
             (Rests (the_row (record { mir = named 1; lft = [] }) R.row) self.entry (λ new.
@@ -205,7 +207,7 @@ impl<'r, R: Read> Feed<'r, R> {
         })
     }
 
-    // Takes the next piece, and says how long it is.
+    // Takes the next piece. Returns its length.
     fn go_on(&mut self) -> Result<Piece<usize>, WireFault>
         ensures same { SameReader self.old self.new }
         ensures piece { GivesPiece (place_of self.old) (left R.remaining self.old)
@@ -238,9 +240,9 @@ impl<'r, R: Read> Feed<'r, R> {
     }
 }
 
-/// The laws of pieces: a head begins a body, pieces that are no longer than what is to come go on, and
-/// what was given is the body of the next message exactly where enough bytes follow; else the next step
-/// is refusal 6.
+/// The laws of pieces. A head begins a body. Each piece, no longer than what is to come, continues it. If
+/// enough bytes follow, the pieces joined are the body of the next message; otherwise the next step is
+/// refusal 6.
 pub fn pieces_join()
     ensures begins { (stream text rest : List ℕ) (head : RequestHead) (has_length : Bool) (n : ℕ)
         → IsFront stream text rest → HeadAnnounces text head has_length n → n ≤ most_body

@@ -1,4 +1,4 @@
-//! The answer of a file: its head and its bytes (RFC 9112, section 4).
+//! The answer with a file: its head and its bytes (RFC 9112, section 4).
 ghost use Rattle.std.specs.Prelude.{◌≡◌, ◌++◌, ◌<◌, ◌≤◌, length, take, IfErr};
 ghost use Rattle.hex.specs.Hex.{encode_lower};
 ghost use Rattle.sigtext.specs.Counts.{CountsErrors};
@@ -13,11 +13,11 @@ use crate::sending::send;
 use hex::encode_to_slice;
 use std::io::Write;
 
-// The most bytes of a file's head and of the first of its bytes, which are sent together.
+// The most bytes that are sent together: a file's head and its first bytes.
 const MOST_FRONT: usize = 4096;
 
-// Writes the answer of a file. Its head is sent with as many of its first bytes as there is room for, and then
-// come the others.
+// Writes the answer with a file. The head is sent together with as many of the file's bytes as fit. The other
+// bytes follow.
 pub(crate) fn put_file<W: Write>(
     number: u64,
     digest: [u8; 32],
@@ -42,8 +42,8 @@ pub(crate) fn put_file<W: Write>(
     }
 }
 
-// Puts a file's head, and as many of its first bytes as there is room for, to the front of the buffer. Gives the
-// length of both, and the other bytes.
+// Puts a file's head, and as many of the file's bytes as fit, to the front of the buffer. Returns the length
+// of both, and the other bytes.
 fn front_text<'a>(
     number: u64,
     digest: [u8; 32],
@@ -62,7 +62,7 @@ fn front_text<'a>(
     (len, rest)
 }
 
-// Puts a file's head to the front of the buffer, and says its length.
+// Puts a file's head to the front of the buffer. Returns its length.
 fn head_text(number: u64, digest: [u8; 32], bytes: &[u8], out: &mut [u8; MOST_FRONT]) -> usize
     ensures within { result ≤ MOST_FRONT }
     ensures text { take result out.new ≡ file_head number (encode_lower digest) bytes.now }

@@ -1,4 +1,4 @@
-//! Readers whose bytes are read ahead, without waiting for any.
+//! A reader whose bytes are read ahead, without waiting.
 ghost use Rattle.std.specs.Prelude.{◌≡◌, ◌≢◌, ◌↔◌, ◌⊎◌, ◌<◌, ◌≤◌, ◌+◌, ◌++◌, [], length, take, vec_capacity, vec_len, IfErr, IsErr, IsFalse, IsOk, IsTrue, None, OnOk, Some};
 ghost use Rattle.std.specs.Io.{ReadsAtMost};
 ghost use Rattle.std.specs.Io.KnownBytes.{Keeps, ReadConsumes, prepend_known};
@@ -9,26 +9,26 @@ use std::alloc::{AllocError, Global};
 use std::io;
 use std::io::{ErrorKind, Read};
 
-/// Gives the bytes that were read ahead, and then those of its reader. Where a read failed, each read behind those bytes fails
-/// so. A read that would only wait has not failed.
+/// Gives the bytes that were read ahead, then those of its reader. After a failed read each later read, once
+/// those bytes are given, fails with the same error. A read that would only wait has not failed.
 #[derive(Drop)]
 pub struct Gathered<S> {
-    /// The reader. What it gives comes behind the bytes that were read ahead.
+    /// The reader. Its bytes follow those that were read ahead.
     pub inner: S,
     alloc: Global,
     bytes: Vec<u8>,
-    // How many of them were given.
+    // The number of bytes that were already given.
     start: usize,
     fault: Option<io::Error>,
     ghost within: { start ≤ vec_len bytes },
 }
 
-/// What a read ahead told.
+/// The result of reading ahead.
 #[derive(Clone, Copy, Debug, PartialEq, Eq)]
 pub enum Gathering {
     /// Bytes came.
     Came,
-    /// There are none now: a read would wait.
+    /// No bytes are there now: a read would wait.
     Waits,
     /// The reader is at its end.
     Ended,
@@ -61,12 +61,12 @@ impl<S: Read> Gathered<S> {
         &self.bytes[self.start..]
     }
 
-    /// Reads once from a reader that does not wait, by way of the buffer, and keeps what comes. After a failed read it reads no
-    /// more.
+    /// Reads once, through the buffer, from a reader that does not wait, and keeps the bytes that came. After
+    /// a failed read it reads no more.
     ///
     /// # Errors
     ///
-    /// Memory was refused, for as many bytes as the buffer has. Nothing was read then.
+    /// Memory was refused for as many bytes as `buf` has. Nothing was read then.
     pub fn gather(&mut self, buf: &mut [u8]) -> Result<Gathering, AllocError>
         ensures gathers { Gathers S.remaining self.old self.new result }
         ensures room { HasRoomFor (length buf.old) self.old → IsOk result }
@@ -93,14 +93,16 @@ impl<S: Read> Gathered<S> {
         }
     }
 
-    /// Whether a read failed, or was made to fail: each read behind the bytes that are ahead fails so.
+    /// Whether a read failed or `fail` was called. Each read fails then, once the bytes that were read ahead
+    /// are given.
     pub fn has_failed(&self) -> bool
         ensures { IsTrue result ↔ HasFailed self.now }
     {
         self.fault.is_some()
     }
 
-    /// From now on each read behind the bytes that are ahead fails so, if it did not fail before: the first error stays.
+    /// Makes each read fail with this error, once the bytes that were read ahead are given. An earlier error
+    /// stays.
     pub fn fail(&mut self, error: io::Error)
         ensures failed { HasFailed self.new }
         ensures told { ¬ HasFailed self.old → self.new.fault ≡ Some error }
@@ -113,7 +115,7 @@ impl<S: Read> Gathered<S> {
         }
     }
 
-    /// Takes memory for so many bytes more behind those that are ahead.
+    /// Takes memory for n more bytes after those that were read ahead.
     ///
     /// # Errors
     ///
@@ -128,7 +130,7 @@ impl<S: Read> Gathered<S> {
         self.bytes.reserve(n)
     }
 
-    // Keeps the error of a failed read, unless the read would only wait.
+    // Keeps the error of a failed read, unless the read would only wait. An earlier error stays.
     fn keep(&mut self, error: io::Error)
         ensures kept { HasFailed self.new ⊎ (error_kind error ≡ ErrorKind.WouldBlock) }
         ensures waits { error_kind error ≡ ErrorKind.WouldBlock → KeepsFault self.old self.new }
@@ -142,7 +144,7 @@ impl<S: Read> Gathered<S> {
         }
     }
 
-    // Moves the bytes that were not given to the front.
+    // Moves the bytes that were not given yet to the front.
     fn move_to_front(&mut self)
         ensures start { self.new.start ≡ 0 }
         ensures capacity { vec_capacity self.new.bytes ≡ vec_capacity self.old.bytes }
@@ -154,7 +156,7 @@ impl<S: Read> Gathered<S> {
         self.start = 0;
     }
 
-    /// Lets go of the memory, where no byte is ahead.
+    /// Frees the memory if no bytes are ahead.
     pub fn let_go(&mut self)
         ensures ahead { ahead_in self.new ≡ ahead_in self.old }
         ensures inner { self.new.inner ≡ self.old.inner }
@@ -166,7 +168,8 @@ impl<S: Read> Gathered<S> {
         }
     }
 
-    // Puts bytes before those that are ahead, if they are no more than were given since. Whether it did.
+    // Puts bytes in front of those that were read ahead, if no more than these were given since. Returns
+    // whether it did.
     pub(crate) fn put_back(&mut self, bytes: &[u8]) -> bool
         ensures put { IsTrue result → ahead_in self.new ≡ bytes.now ++ ahead_in self.old }
         ensures kept { IsFalse result → ahead_in self.new ≡ ahead_in self.old }
@@ -182,7 +185,7 @@ impl<S: Read> Gathered<S> {
         true
     }
 
-    // Gives the first bytes that are ahead, as many as fit, and says how many.
+    // Gives the first bytes that were read ahead, as many as fit. Returns how many.
     fn give(&mut self, buf: &mut [u8]) -> usize
         ensures bound { result ≤ length buf.new }
         ensures given { ahead_in self.old ≡ take result buf.new ++ ahead_in self.new }

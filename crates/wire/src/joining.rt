@@ -1,4 +1,4 @@
-//! Heads that are copied out of a feed, and bodies that nobody keeps.
+//! Heads that are copied out of a feed, and bodies that are skipped.
 ghost use Rattle.std.specs.Prelude.{◌≡◌, ℕ, List, IfErr, IfOk, Ok};
 ghost use Rattle.wire.specs.Feeding.{CountsReads};
 ghost use Rattle.wire.specs.Feeds.{SameReader, left, place_of, reader_of};
@@ -20,21 +20,22 @@ pub enum Came<'a> {
     Refused(Refusal),
     /// The stream ended.
     End,
-    /// The stream ended in a head.
+    /// The stream ended within a head.
     Truncated,
 }
 
 /// How a body ended.
 #[derive(Clone, Copy, Debug, PartialEq, Eq)]
 pub enum Ending {
-    /// It came whole.
+    /// The whole body came.
     Whole,
-    /// The stream ended in it.
+    /// The stream ended within the body.
     Lacking,
 }
 
-/// Reads the head of a message: its text to the front of the one array, and its fields to that of the other. Where a read failed,
-/// more bytes were needed to tell what comes. Where memory was refused, it was for the feed's buffer, before anything was read.
+/// Reads the head of a message. Its text goes to the front of `text`, and its fields to the front of
+/// `fields`. If a read failed, more bytes were needed to tell what comes. If memory was refused, it was for
+/// the feed's buffer, and nothing had been read.
 pub fn read_opening<'t, R: Read>(
     feed: &mut Feed<'_, R>,
     text: &'t mut [u8; MOST_HEAD],
@@ -60,8 +61,8 @@ pub fn read_opening<'t, R: Read>(
     }
 }
 
-/// Reads the body that is open, of which so many bytes are to come, and keeps nothing of it. Where a read failed, bytes of it
-/// were to come. Takes no memory.
+/// Reads and discards the open body, which has `size` bytes to come. If a read failed, some of them had not
+/// come. Takes no memory.
 pub fn skip_body<R: Read>(feed: &mut Feed<'_, R>, size: usize) -> Result<Ending, WireFault>
     requires { place_of feed.old ≡ Place.Body size }
     ensures same { SameReader feed.old feed.new }

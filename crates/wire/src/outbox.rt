@@ -1,4 +1,4 @@
-//! Writers that are never waited for: the bytes that they do not take yet wait in memory.
+//! A writer that is never waited for. Bytes that it does not take yet wait in memory.
 ghost use Rattle.std.specs.Prelude.{◌≡◌, ◌≢◌, ◌↔◌, ◌≤◌, ◌<◌, ◌++◌, ◌⊎◌, ℕ, List, [], length, take, vec_len, IsErr, IfErr, IfNone, IfOk, IfSome, IsTrue, OnErr, OnOk};
 ghost use Rattle.std.specs.Io.{WritesAtMost};
 ghost use Rattle.std.specs.Io.KnownBytes.{Appends, Keeps, WriteAppends, append_known};
@@ -11,29 +11,30 @@ use std::alloc::{AllocError, Global};
 use std::io;
 use std::io::{ErrorKind, Write};
 
-/// Takes bytes for a writer that may not take them now: these wait in memory, and `send` sends them. A write that fails, or
-/// takes none of some bytes, is the last: its error is kept, and each later write gives it.
+/// Takes bytes for a writer that may not accept them now. These wait in memory, and `send` sends them. A
+/// write that fails, or takes nothing of a non-empty buffer, ends the writing: its error is kept, and each
+/// later write returns it.
 #[derive(Drop)]
 pub struct Outbox<S> {
-    /// The writer. What waits comes behind the bytes that it holds.
+    /// The writer. The waiting bytes follow those that it holds.
     pub inner: S,
     alloc: Global,
     bytes: Vec<u8>,
-    // How many of them were sent.
+    // The number of bytes that were already sent.
     start: usize,
     fault: Option<io::Error>,
     ghost within: { start ≤ vec_len bytes },
     ghost lasting: { ForSome fault (λ e. ¬ MayPass (error_kind e)) },
 }
 
-/// How far an outbox is.
+/// The state of an outbox.
 #[derive(Clone, Copy, Debug, PartialEq, Eq)]
 pub enum Sending {
-    /// All was sent.
+    /// All bytes were sent.
     Sent,
     /// Some bytes wait. The writer may take them later.
     Waits,
-    /// A write failed, or took none of some bytes.
+    /// A write failed, or took nothing of a non-empty buffer.
     Failed,
 }
 
@@ -55,21 +56,22 @@ impl<S: Write> Outbox<S> {
         }
     }
 
-    /// The bytes that were handed over and not sent yet.
+    /// The bytes that were accepted and not sent yet.
     pub fn waiting(&self) -> &[u8]
         ensures { result.now ≡ waits_out self.now }
     {
         &self.bytes[self.start..]
     }
 
-    /// Whether a write failed, or took none of some bytes: what waits is not sent any more.
+    /// Whether a write failed, or took nothing of a non-empty buffer. The waiting bytes are then never sent.
     pub fn has_failed(&self) -> bool
         ensures { IsTrue result ↔ WriteFailed self.now }
     {
         self.fault.is_some()
     }
 
-    /// Hands what waits to the writer once, if anything does. Where nothing waits any more, it lets go of its memory.
+    /// Offers the waiting bytes, if there are any, to the writer once. Frees the memory if no bytes wait any
+    /// more.
     pub fn send(&mut self) -> Sending
         ensures sent { result ≡ Sending.Sent ↔ ((waits_out self.new ≡ []) × NoneFailed self.new) }
         ensures failed { result ≡ Sending.Failed ↔ WriteFailed self.new }
@@ -98,7 +100,7 @@ impl<S: Write> Outbox<S> {
         }
     }
 
-    // How far it is, if no write failed. Where nothing waits, it lets go of the memory.
+    // The state if no write failed. Frees the memory if no bytes wait.
     fn settle(&mut self) -> Sending
         ensures sent { result ≡ Sending.Sent ↔ (waits_out self.old ≡ []) }
         ensures hale { result ≢ Sending.Failed }
@@ -114,7 +116,7 @@ impl<S: Write> Outbox<S> {
         Sending::Sent
     }
 
-    // Puts the bytes behind those that wait.
+    // Appends the bytes to those that wait.
     fn keep(&mut self, bytes: &[u8]) -> Result<(), AllocError>
         ensures kept { OnOk result (waits_out self.new ≡ waits_out self.old ++ bytes.now) }
         ensures refused { OnErr result (waits_out self.new ≡ waits_out self.old) }
@@ -132,13 +134,14 @@ impl<S: Write> Write for Outbox<S> {
 
     ghost contents = { λ outbox. append_known (S.contents outbox.inner) (waits_out outbox) };
 
-    /// Hands the bytes to the writer once where no others wait. Those that it takes are the answer; if it takes none now, or
-    /// others wait, all of them wait.
+    /// If no bytes wait, offers these to the writer once and returns how many it took. If it takes none now,
+    /// or others wait, all of these wait too.
     ///
     /// # Errors
     ///
-    /// The error that ended the writing, at each write from then on; `WriteZero` where the writer took none of some bytes. And
-    /// `OutOfMemory` where memory was refused for bytes that would wait: none of them was taken then, and that is no end.
+    /// The error that ended the writing, at that write and each later one; `WriteZero` if the writer took
+    /// nothing of a non-empty buffer. `OutOfMemory` if memory was refused for bytes that would wait: none of
+    /// them was taken then, and the writing has not ended.
     fn write(&mut self, buf: &[u8]) -> io::Result<usize>
         ensures bound { WritesAtMost result buf.now }
         ensures bytes { WriteAppends (handed_over S.contents self.old)
@@ -167,7 +170,7 @@ impl<S: Write> Write for Outbox<S> {
         Ok(buf.len())
     }
 
-    /// Sends nothing. The error is the one that ended the writing.
+    /// Sends nothing. Returns the error that ended the writing, if one did.
     fn flush(&mut self) -> io::Result<()>
         ensures bytes { Keeps (handed_over S.contents self.old) (handed_over S.contents self.new) }
         ensures failed { WriteFailed self.old ↔ IsErr result }
@@ -180,8 +183,8 @@ impl<S: Write> Write for Outbox<S> {
     }
 }
 
-// Hands the bytes to a writer once: how many of them it took, or that it takes none now. Any other error is told, and so is
-// that it took none of some bytes.
+// Offers the bytes to a writer once. Returns how many it took, or `None` if it takes none now. Any other
+// error is returned, and `WriteZero` if it took nothing of a non-empty buffer.
 fn offer<S: Write>(writer: &mut S, bytes: &[u8]) -> io::Result<Option<usize>>
     ensures some { IfOk result (λ taken. IfSome taken (λ n. 0 < length bytes.now → 0 < n)) }
     ensures taken { IfOk result (λ taken. IfSome taken (λ n. (n ≤ length bytes.now)
@@ -199,7 +202,7 @@ fn offer<S: Write>(writer: &mut S, bytes: &[u8]) -> io::Result<Option<usize>>
     }
 }
 
-// Whether a write that failed so may succeed later.
+// Whether a write may succeed later after this kind of error.
 fn is_passing(kind: ErrorKind) -> bool
     ensures { IsTrue result ↔ MayPass kind }
 {

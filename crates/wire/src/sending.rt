@@ -1,4 +1,4 @@
-//! The loop that writes a text.
+//! Writing a whole text.
 ghost use Rattle.std.specs.Prelude.{◌≡◌, IfErr};
 ghost use Rattle.sigtext.specs.Counts.{CountsErrors};
 ghost use Rattle.wire.specs.Sending.{Sends};
@@ -7,12 +7,12 @@ use crate::counted::Counted;
 use crate::fault::WireFault;
 use std::io::Write;
 
-/// Writes the whole text, by as many writes as it takes. The first write that fails, or takes no
-/// byte, ends it: none is tried again.
+/// Writes the whole text, by as many writes as it takes. The first write that fails, or takes no bytes, ends
+/// it. There is no retry.
 ///
 /// # Errors
 ///
-/// `Write` then. What was written is a beginning of the text.
+/// `Write` if that happened. A prefix of the text was then written.
 pub fn send<W: Write>(text: &[u8], writer: &mut Counted<W>) -> Result<(), WireFault>
     ensures sent { Sends text.now (W.contents writer.old.inner)
         (W.contents writer.new.inner) result }

@@ -1,7 +1,7 @@
-//! Bytes that leave a vector at its front.
+//! Removing bytes from the front of a vector.
 ghost use Rattle.std.specs.Prelude.{◌≡◌, ◌≤◌, drop, vec_capacity, vec_len};
 
-/// Moves the bytes behind the first n to the front, and drops those.
+/// Removes the first n bytes and moves the others to the front.
 pub(crate) fn drop_front(bytes: &mut Vec<u8>, n: usize)
     requires { n ≤ vec_len bytes.old }
     ensures items { bytes.new.items ≡ drop n bytes.old.items }

@@ -10,7 +10,7 @@ use std::alloc::{AllocError, Global};
 use std::io::Read;
 use std::mem;
 
-/// A buffer of 73,728 bytes, which one feed after another has while it is served.
+/// A buffer of 73,728 bytes. Each feed uses it in turn while it is served.
 #[derive(Drop)]
 pub struct Room {
     backlog: Backlog,
@@ -19,14 +19,14 @@ pub struct Room {
 }
 
 impl Room {
-    /// A new one. The error is that memory was refused for it.
+    /// Allocates a buffer. The error means that memory was refused.
     pub fn new(alloc: Global) -> Result<Room, AllocError> {
         Ok(Room {
             backlog: Backlog::with_room(alloc)?,
         })
     }
 
-    // A buffer in which no byte waits, where it has room.
+    // A room with this buffer, in which no bytes wait; `None` if the backlog has no buffer.
     fn of(backlog: Backlog) -> Option<Room>
         requires { waiting backlog ≡ [] }
     {
@@ -38,8 +38,8 @@ impl Room {
     }
 }
 
-/// A feed that was set aside: where it stands, and the bytes that it read and did not take. Where no byte waits it has no
-/// buffer.
+/// A feed that was set aside: where it stands, and the bytes that it read and did not take. It has a buffer
+/// only while such bytes wait.
 #[derive(Drop)]
 pub struct Standing {
     alloc: Global,
@@ -66,7 +66,7 @@ impl Standing {
         }
     }
 
-    /// Where it stands.
+    /// Where the feed stands.
     pub fn place(&self) -> Place
         ensures { result ≡ stood_at self.now }
     {
@@ -80,8 +80,8 @@ impl Standing {
         self.backlog.waiting()
     }
 
-    /// Puts the bytes that were read and not taken back before those that the reader has ahead, if these are no more than it gave
-    /// since, and hands the buffer back.
+    /// Returns the bytes that were read and not taken to the reader, in front of those that the reader has
+    /// ahead, and returns the buffer. It does nothing if they are more than the reader gave since.
     pub fn give_back<S: Read>(&mut self, reader: &mut Gathered<S>) -> Option<Room>
         ensures place { stood_at self.new ≡ stood_at self.old }
         ensures kept { ahead_of self.new ++ ahead_in reader.new ≡ ahead_of self.old ++ ahead_in reader.old }
@@ -95,7 +95,7 @@ impl Standing {
         self.let_go()
     }
 
-    /// Lets go of the bytes that were read and not taken, and hands the buffer back, if it has one.
+    /// Discards the bytes that were read and not taken. Returns the buffer, if there is one.
     pub fn let_go(&mut self) -> Option<Room>
         ensures place { stood_at self.new ≡ stood_at self.old }
         ensures ahead { ahead_of self.new ≡ [] }
@@ -105,7 +105,7 @@ impl Standing {
         Room::of(backlog)
     }
 
-    // A feed that stands there, whose buffer this was. The buffer is handed back where no byte waits in it.
+    // A feed that stands at `place` with this backlog. The buffer is returned if no bytes wait in it.
     pub(crate) fn parted(alloc: Global, place: Place, backlog: Backlog) -> (Standing, Option<Room>)
         requires fresh { place ≡ stands.Fresh → waiting backlog ≡ [] }
         requires reserved { place ≢ stands.Over → waiting backlog ≢ [] → vec_len backlog.bytes ≡ 73728 }
@@ -130,7 +130,7 @@ impl Standing {
         (standing, Room::of(backlog))
     }
 
-    // Its parts, with a buffer that has room: its own where bytes wait in it, and else this one.
+    // The parts, with a buffer: the feed's own if bytes wait in it, otherwise that of `room`.
     pub(crate) fn joined(self, room: Room) -> (Global, Place, Backlog)
         ensures place { result.1 ≡ stood_at self }
         ensures ahead { waiting result.2 ≡ ahead_of self }

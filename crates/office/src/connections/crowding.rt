@@ -10,7 +10,7 @@ use keeper::Keeper;
 use std::io::{Read, Write};
 use wire::Room;
 
-/// A turn that is due: of the connection in the slot of this index, in this room.
+/// A turn that is due: the slot of its connection, and the room to use.
 #[derive(Drop)]
 pub struct Due {
     /// The index of the slot.
@@ -19,29 +19,29 @@ pub struct Due {
     pub room: Room,
 }
 
-/// What goes on around an office between two turns. A connection that comes gets a slot that is free; bytes of open ones may be
-/// read ahead, or sent on; and a slot may be made free, whether its connection has ended or not.
+/// What happens around an office between two turns. A new connection gets a free slot. Bytes of open
+/// connections may be read ahead or sent. A slot may be freed, whether its connection has ended or not.
 pub trait Crowd<R: Read, W: Write> {
     ghost use Rattle.office.specs.declared.connections.seat.Seat.{Seat};
 
-    /// Which connections came so far, as they came; and which went, as they were then.
+    /// The connections that came so far, as they came, and those that went, as they were then.
     ghost met: { Self → List (Seat R W) → List (Seat R W) → Type 0 };
 
-    /// Whose turns it gave so far, in their order, by the numbers of their connections; and of each slot the number of the one that
-    /// came into it last. The number of a connection is how many came before it.
+    /// The turns given so far, in order, by the numbers of their connections, and for each slot the number of
+    /// the last connection that came into it. A connection's number is the count of connections before it.
     ghost gave: { Self → (ℕ → ℕ) → List ℕ → Type 0 };
 
-    /// No turn is to be taken any more.
+    /// No more turns are due.
     ghost over: { Self → Type 0 };
 
-    /// How many turns it may give still.
+    /// How many more turns the crowd may give.
     ghost turns: { Self → ℕ };
 
-    /// They are less than 2^64.
+    /// They are fewer than 2^64.
     ghost few: { (crowd : Self) → turns crowd < 18446744073709551616 };
 
-    /// Waits for what comes next. The turn that is due, of a connection that is open; or none where no turn is to be taken any
-    /// more. The spare room is the one that the turn before left.
+    /// Waits for what comes next. Returns the turn that is due, of an open connection, or `None` if no more
+    /// turns are due. `spare` is the room that the last turn left.
     fn next(&mut self, slots: &mut [Option<Seat<R, W>>], spare: Option<Room>) -> Option<Due>
         ensures changes { ChangesBy R.remaining W.contents met gave
             self.old self.new slots.old slots.new result }
@@ -51,14 +51,14 @@ pub trait Crowd<R: Read, W: Write> {
         ensures counts { turns self.old ≡ turns self.new + cond (is_some result) 1 0 };
 }
 
-// What a turn left beside a slot.
+// What a turn returns besides the slot.
 #[derive(Drop)]
 struct Turned {
     spare: Option<Room>,
     is_fault: bool,
 }
 
-// Whether it is an end by a read or a write that failed.
+// Whether the connection ended by a failed read or write.
 fn has_failed(end: Option<SessionEnd>) -> bool
     ensures { result ≡ is_fault_end end }
 {
@@ -103,7 +103,7 @@ impl<K: Keeper> Office<K> {
         }
     }
 
-    // Gives the connection of the slot of this index a turn, if there is one.
+    // Gives the connection at this index a turn, if there is one.
     fn turn_at<R: Read, W: Write, C: Clock>(
         &mut self,
         slots: &mut [Option<Seat<R, W>>],
@@ -124,15 +124,20 @@ impl<K: Keeper> Office<K> {
         self.turn_slot(&mut slots[index], room, clock)
     }
 
-    /// Serves connections that come and go, each in the turns that the crowd gives it, until there are no more; and answers how
-    /// many ended by a read or a write that failed. There is one order of all messages, in which the machine leads from the
-    /// state before to the state after; and of each connection that came, what was read, its answers and its end are those of
-    /// its own messages, until it went or as it stands in its slot. Over all of them an upload acts once. Of a keeper that was
-    /// open, and where no connection gave up, what is kept is that one state and no other. What was changed outlasts a crash,
-    /// whatever was given up: one that follows leaves the state after, or that with one request more. The turns that the crowd
-    /// gives are taken, each by its own connection and in their order, and no other is; and each tells one moment at most. The
-    /// turn in which a connection ends answers no message whole. Each that came went, or stands in a slot, as it was at last, and
-    /// of each as many.
+    /// Serves connections that come and go, each in the turns that the crowd gives it, until no more turns
+    /// are due. Returns how many connections ended by a failed read or write.
+    ///
+    /// There is one order of all messages in which the machine leads from the state before to the state
+    /// after. For each connection that came, the bytes read, the answers and the end are those of its own
+    /// messages, until it went or as it stands in its slot. Over all connections an upload acts once.
+    ///
+    /// If the keeper was open and no connection gave up, exactly that one state is kept. Changes survive a
+    /// crash, whatever was given up: a crash afterwards leaves the state after, or that state with one more
+    /// request.
+    ///
+    /// Exactly the turns that the crowd gives are taken, in order, each by its own connection. Each tells at
+    /// most one moment. The turn in which a connection ends answers no message in full. The connections that
+    /// came, as they were last, are exactly those that went and those in the slots.
     pub fn serve_crowd<R: Read, W: Write, G: Crowd<R, W>, C: Clock>(
         &mut self,
         crowd: &mut G,

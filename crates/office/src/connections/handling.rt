@@ -1,4 +1,4 @@
-//! What becomes of one message, and the writing of its answer.
+//! How one message ends, and the writing of its answer.
 ghost use Rattle.std.specs.Prelude.{◌≡◌, ◌≢◌};
 ghost use Rattle.sigtext.specs.Counts.{Rose};
 ghost use Rattle.office.specs.Sent.{IsSent};
@@ -6,14 +6,14 @@ ghost use Rattle.office.specs.Sent.{IsSent};
 use std::io::Write;
 use wire::{Answer, Counted, put_answer};
 
-/// What became of a message.
+/// How a message ended.
 #[derive(Clone, Copy, Debug, PartialEq, Eq)]
 pub(crate) enum Handled {
-    /// Its answer was written.
+    /// The answer was written.
     Answered,
     /// Refusal 40 was written.
     GaveUp,
-    /// The writing of an answer broke off.
+    /// Writing an answer broke off.
     Broken,
 }
 

@@ -1,4 +1,4 @@
-//! The body of a message: it is staged in the keeper, or read and not kept.
+//! The body of a message. The body of an upload is staged in the keeper, any other is discarded.
 ghost use Rattle.std.specs.Prelude.{◌≡◌, ◌≢◌, ◌<◌, ℕ, List, length};
 ghost use Rattle.std.specs.Io.KnownBytes.{Consumes};
 ghost use Rattle.sigtext.specs.Counts.{Rose};
@@ -12,20 +12,20 @@ use sigv4::Sha;
 use std::io::Read;
 use wire::{Ending, Feed, Piece, skip_body};
 
-/// How a body came.
+/// How reading a body ended.
 #[derive(Clone, Copy, Debug, PartialEq, Eq)]
 pub(crate) enum Received {
-    /// Whole. Of one that was staged this is the SHA-256 digest.
+    /// The whole body came. For a staged body this is its SHA-256 digest.
     Whole([u8; 32]),
-    /// The stream ended in it.
+    /// The stream ended within the body.
     Lacking,
-    /// A read failed in it.
+    /// A read failed within the body.
     Broken,
     /// The keeper refused a piece. The rest was not read.
     GaveUp,
 }
 
-// Reads the body that is open, of which so many bytes are to come, and keeps nothing of it.
+// Reads and discards the open body, which has `size` bytes to come.
 fn pass_over<R: Read>(feed: &mut Feed<'_, R>, size: usize) -> Received
     requires { place_of feed.old ≡ stands.Body size }
     ensures same { SameReader feed.old feed.new }
@@ -64,7 +64,7 @@ impl<K: Keeper> Office<K> {
     ghost use Rattle.office.specs.Premise.{EndsUnstaged, HoldsUnless, IsFault, StaysUnstaged};
     ghost use Rattle.office.specs.Receiving.{StagesBody};
 
-    // Stages a piece of a body, and feeds it to the hasher.
+    // Stages a piece of a body and feeds it to the hasher.
     fn stage_piece(&mut self, bytes: &[u8], sha: &mut Sha) -> Result<(), KeepFault>
         requires some { 1 ≤ length bytes.now }
         requires short { length bytes.now ≤ 65536 }
@@ -80,8 +80,8 @@ impl<K: Keeper> Office<K> {
         Ok(())
     }
 
-    // Stages the body that is open, of which so many bytes are to come, piece after piece, and takes its digest on the way.
-    // The first piece that the keeper refuses ends the reading.
+    // Stages the open body, which has `size` bytes to come, piece by piece, and computes its digest. Reading
+    // ends at the first piece that the keeper refuses.
     fn stage_body<R: Read>(&mut self, feed: &mut Feed<'_, R>, size: usize) -> Received
         requires { place_of feed.old ≡ stands.Body size }
         ensures same { SameReader feed.old feed.new }
@@ -123,7 +123,8 @@ impl<K: Keeper> Office<K> {
         }
     }
 
-    // Reads the body that is open, of which so many bytes are to come: that of an upload is staged, another is not kept.
+    // Reads the open body, which has `size` bytes to come. The body of an upload is staged, any other is
+    // discarded.
     pub(crate) fn receive<R: Read>(
         &mut self,
         feed: &mut Feed<'_, R>,
@@ -163,7 +164,7 @@ impl<K: Keeper> Office<K> {
         }
     }
 
-    // Lets go of what is staged of an upload.
+    // Drops what is staged of an upload.
     pub(crate) fn drop_staged(&mut self, is_upload: bool) -> Result<(), KeepFault>
         ensures means { (s : State) → K.means self.old.keeper s → K.means self.new.keeper s }
         ensures crash { (s : State) → K.means self.old.keeper s → K.is_honest self.new.keeper

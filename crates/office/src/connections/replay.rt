@@ -1,4 +1,4 @@
-//! Connections at one moment: one over an office in memory, and a list over any office.
+//! Connections at one fixed moment: one over an office in memory, or a list over any office.
 ghost use Rattle.std.specs.Prelude.{◌≡◌, pos, IfOk, OnErr};
 ghost use Rattle.sigv4.specs.Credential.{IsKeyId, IsSecret};
 ghost use Rattle.boxes.specs.FirstState.{first_state};
@@ -19,7 +19,7 @@ use std::fs::Files;
 use std::io::{Read, Write};
 use wire::Counted;
 
-// What an office in memory is set to.
+// The settings of an office in memory.
 fn new_office() -> OfficeRow
     ensures east { result.east ≡ pos 0 }
     ensures allowance { result.allowance ≡ 0 }
@@ -30,8 +30,9 @@ fn new_office() -> OfficeRow
     }
 }
 
-/// Serves one connection over a new office in memory, which has offset 0, allowance 0, this clerk's key and no boxes. Every
-/// message is handled at the moment. The error is that memory was refused for the office; nothing was read then.
+/// Serves one connection over a new office in memory, with offset 0, allowance 0, this clerk's key and no
+/// boxes. Every message is handled at `moment`. The error means that memory was refused for the office;
+/// nothing was read then.
 pub fn replay<R: Read, W: Write>(
     alloc: Global,
     id: &[u8],
@@ -57,16 +58,17 @@ pub fn replay<R: Read, W: Write>(
     Ok(office.session(reader, writer, &mut FixedClock::new(moment)))
 }
 
-/// What a connection was answered, and how it ended.
+/// The answers to a connection, and how it ended.
 #[derive(Debug, Drop)]
 pub struct Replayed {
-    /// All that was written.
+    /// All bytes that were written.
     pub answers: Vec<u8>,
     /// How the connection ended.
     pub end: SessionEnd,
 }
 
-/// As `replay`, of the bytes of a whole connection. The error is that memory was refused for the office.
+/// Like `replay`, for the bytes of a whole connection. The error means that memory was refused for the
+/// office.
 pub fn replay_bytes(
     alloc: Global,
     id: &[u8],
@@ -88,11 +90,11 @@ pub fn replay_bytes(
     })
 }
 
-/// Serves connections over an office, one after another, on one writer, every message at the moment; and answers how many
-/// sessions ended by a read or a write that failed. The streams are the names of files: each is opened when its turn comes.
-/// What is written, and the state after, are those of sessions of the machine in turn; of a keeper that was open, and where
-/// no session gave up, no other state is kept. The error is the first name whose file could not be opened: the connections
-/// before it were served, and none after it.
+/// Serves connections over an office, one after another, with one writer and every message at `moment`.
+/// Returns how many sessions ended by a failed read or write. The streams are names of files; each file is
+/// opened when its turn comes. The bytes written and the state after are those of sessions of the machine in
+/// order. If the keeper was open and no session gave up, no other state is kept. The error is the first name
+/// whose file could not be opened: the connections before it were served, and none after it.
 pub fn replay_over<'a, F: Files, K: Keeper, W: Write>(
     files: &F,
     office: &mut Office<K>,
@@ -121,8 +123,8 @@ pub fn replay_over<'a, F: Files, K: Keeper, W: Write>(
     Ok(faulty)
 }
 
-/// As `replay_over`, over a new office in memory, which has offset 0, allowance 0, this clerk's key and no boxes. The error is that memory
-/// was refused for the office; nothing was served then.
+/// Like `replay_over`, over a new office in memory, with offset 0, allowance 0, this clerk's key and no
+/// boxes. The error means that memory was refused for the office; nothing was served then.
 pub fn replay_in_memory<'a, F: Files, W: Write>(
     alloc: Global,
     files: &F,

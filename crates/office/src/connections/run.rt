@@ -11,17 +11,18 @@ impl<K: Keeper> Office<K> {
     ghost use Rattle.office.specs.Connections.{Runs};
     ghost use Rattle.office.specs.Premise.{IsLeft, StaysUnstaged, WasKept};
 
-    /// Serves the connections one after another, each by a session, and answers how many sessions ended
-    /// by a read or a write that failed. A run in which messages are answered with refusal 40 is one without
-    /// these messages, too: the others are answered as they are there, and the state after is the same.
+    /// Serves the connections one after another, each by a session. Returns how many sessions ended by a
+    /// failed read or write. If messages are answered with refusal 40, the run is also a run without them:
+    /// the other messages get the same answers, and the state after is the same.
     ///
-    /// Of a keeper that was open, and where no connection gave up, what is kept is that one state and no other. What was changed
-    /// outlasts a crash, whatever was given up: one that follows leaves the state after, or that with one request more.
+    /// If the keeper was open and no connection gave up, exactly that one state is kept. Changes survive a
+    /// crash, whatever was given up: a crash afterwards leaves the state after, or that state with one more
+    /// request.
     ///
-    /// Over a run an upload acts once. Where one got a receipt, whether its answer was written or lost, a further upload of
-    /// its bytes to its place, for which rules 7 to 26 hold and which is not answered with 40, gets the same receipt and
-    /// changes nothing, unless other bytes were put there since, or the file was dropped. This holds after the box has
-    /// closed, too, and where it is full.
+    /// An upload acts once over a run. Suppose an upload got a receipt, whether its answer was written or
+    /// lost. A later upload of the same bytes to the same place gets the same receipt and changes nothing, if
+    /// rules 7 to 26 hold for it and it is not answered with 40, unless other bytes were put there in between
+    /// or the file was dropped. This holds even after the box has closed, and if it is full.
     pub fn run<R: Read, W: Write, C: Clock>(
         &mut self,
         connections: &mut [(Counted<R>, Counted<W>)],

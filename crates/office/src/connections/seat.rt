@@ -1,4 +1,4 @@
-//! A connection among others: between its turns its feed stands aside.
+//! A connection among others. Its feed is set aside between its turns.
 ghost use Rattle.std.specs.Prelude.{◌≡◌, ◌≤◌, [], IsTrue, None};
 ghost use Rattle.wire.specs.Feeds.{stood_at};
 ghost use Rattle.wire.specs.declared.feed.Place.TheVariants as stands;
@@ -10,7 +10,7 @@ use std::io;
 use std::io::{Read, Write};
 use wire::{Counted, Gathered, Gathering, Outbox, Room, Sending, Standing};
 
-/// A connection among others, as it is between two turns.
+/// A connection among others, between two of its turns.
 #[derive(Drop)]
 pub struct Seat<R, W> {
     /// Its reader.
@@ -29,7 +29,7 @@ impl<R, W> Seat<R, W> {
     ghost use Rattle.wire.specs.Feeds.{ahead_of};
     ghost use Rattle.office.specs.Seats.{IsNew};
 
-    /// A connection of which nothing was read. It takes no memory.
+    /// A connection from which nothing was read. It takes no memory.
     pub fn new(alloc: Global, reader: R, writer: W) -> Seat<R, W>
         ensures new { IsNew result }
         ensures place { stood_at result.standing ≡ stands.Fresh }
@@ -46,21 +46,21 @@ impl<R, W> Seat<R, W> {
         }
     }
 
-    /// How it ended, if it did.
+    /// How the connection ended, if it did.
     pub fn end(&self) -> Option<SessionEnd>
         ensures { result ≡ self.now.end }
     {
         self.end
     }
 
-    /// How many of its messages were served.
+    /// The number of its messages that were served.
     pub fn served(&self) -> u64
         ensures { result ≡ self.now.served }
     {
         self.served
     }
 
-    /// The bytes that were read of it and not taken, as far as they wait in a buffer of its own.
+    /// The bytes that the feed read and did not take, while they wait in a buffer of its own.
     pub fn ahead(&self) -> &[u8]
         ensures { result.now ≡ ahead_of self.now.standing }
     {
@@ -74,7 +74,8 @@ impl<S: Read, W> Seat<Gathered<S>, W> {
     ghost use Rattle.wire.specs.Feeds.{ahead_of};
     ghost use Rattle.office.specs.Seats.{Gathers};
 
-    /// Reads once ahead, by way of the buffer, without waiting. The error is that memory was refused; nothing was read then.
+    /// Reads ahead once, through the buffer, without waiting. The error means that memory was refused;
+    /// nothing was read then.
     pub fn gather(&mut self, buf: &mut [u8]) -> Result<Gathering, AllocError>
         ensures gathers { Gathers ⟦<Gathered<S> as Read>⟧.remaining self.old self.new }
         ensures standing { self.new.standing ≡ self.old.standing }
@@ -86,7 +87,7 @@ impl<S: Read, W> Seat<Gathered<S>, W> {
         self.reader.inner.gather(buf)
     }
 
-    /// Takes memory for so many bytes more that are read ahead. The error is that it was refused.
+    /// Takes memory to read n more bytes ahead. The error means that memory was refused.
     pub fn make_room(&mut self, n: usize) -> Result<(), AllocError>
         ensures gathers { Gathers ⟦<Gathered<S> as Read>⟧.remaining self.old self.new }
         ensures standing { self.new.standing ≡ self.old.standing }
@@ -97,7 +98,8 @@ impl<S: Read, W> Seat<Gathered<S>, W> {
         self.reader.inner.make_room(n)
     }
 
-    /// From now on each read behind the bytes that are ahead fails so, unless one failed before.
+    /// Makes each read fail with this error, once the bytes that were read ahead are given. An earlier error
+    /// stays.
     pub fn fail(&mut self, error: io::Error)
         ensures gathers { Gathers ⟦<Gathered<S> as Read>⟧.remaining self.old self.new }
         ensures standing { self.new.standing ≡ self.old.standing }
@@ -109,8 +111,8 @@ impl<S: Read, W> Seat<Gathered<S>, W> {
         self.reader.inner.fail(error);
     }
 
-    /// Puts what its feed read and did not take back to what was read ahead, if it came from there, and hands the buffer back.
-    /// Where nothing is ahead then, it lets go of the memory.
+    /// Returns the bytes that the feed read and did not take to those that were read ahead, if they came from
+    /// there, and returns the buffer. Frees the memory if no bytes are ahead then.
     pub fn give_back(&mut self) -> Option<Room>
         ensures gathers { Gathers ⟦<Gathered<S> as Read>⟧.remaining self.old self.new }
         ensures kept { ahead_of self.new.standing ++ ahead_in self.new.reader.inner
@@ -130,7 +132,7 @@ impl<R, S: Write> Seat<R, Outbox<S>> {
     ghost use Rattle.wire.specs.Outgoing.{NoneFailed, WriteFailed, waits_out};
     ghost use Rattle.office.specs.Seats.{Sends};
 
-    /// Sends on once what was written and waits, without waiting for its peer.
+    /// Sends waiting bytes once, without waiting for the peer.
     pub fn send(&mut self) -> Sending
         ensures sends { Sends ⟦<Outbox<S> as Write>⟧.contents self.old self.new }
         ensures sent { result ≡ Sending.Sent

@@ -1,23 +1,23 @@
-//! One connection: its messages are read and answered one after another, and its end is told.
+//! One connection: its messages are read and answered in order.
 use crate::clocks::Clock;
 use crate::office::Office;
 use keeper::Keeper;
 use std::io::{Read, Write};
 use wire::{Counted, Feed};
 
-/// The greatest number of messages that a connection is served.
+/// The greatest number of messages on one connection.
 const MOST_MESSAGES: usize = 1000;
 
 /// How a session ended.
 #[derive(Clone, Copy, Debug, PartialEq, Eq)]
 pub enum SessionEnd {
-    /// The input ended where a message would begin.
+    /// The input ended where a message could begin.
     Ended,
-    /// The input ended in a head; nothing was answered.
+    /// The input ended within a head. The partial message was not answered.
     Truncated,
-    /// A refusal of this number closed the connection: 1 to 6, or 40.
+    /// A refusal with this number closed the connection: 1 to 6, or 40.
     Refused(u8),
-    /// The greatest number of messages was served.
+    /// The greatest number of messages was reached.
     Limit,
     /// A read failed.
     ReadFault,
@@ -29,7 +29,7 @@ impl SessionEnd {
     ghost use Rattle.std.specs.Prelude.{◌≡◌};
     ghost use Rattle.office.specs.Connections.{is_fault};
 
-    /// Whether it is a read or a write that failed.
+    /// Whether a read or a write failed.
     pub fn is_fault(self) -> bool
         ensures { result ≡ is_fault self }
     {
@@ -74,12 +74,16 @@ impl<K: Keeper> Office<K> {
         SessionEnd::Limit
     }
 
-    /// Serves a connection: reads its messages, at most 1000, and answers one after another. What was read,
-    /// which moments were told, what was written, how it ended, what the keeper counted and the state after it are
-    /// those of a session of the machine. Its end tells the fault of the reader or the writer, where one was counted.
-    /// A keeper that was open is open, unless the session gave up. A body comes to the keeper in pieces, and is kept whole or
-    /// not at all: where nothing was staged before, nothing is after, unless the keeper counted a fault. What was changed outlasts
-    /// a crash: whatever one leaves that follows is the state after; or, where something was given up, that with one request more.
+    /// Serves a connection: reads its messages, at most 1000, and answers them in order. The bytes read, the
+    /// moments, the bytes written, the end, the keeper's count and the state after are those of a session of
+    /// the machine. If a fault of the reader or the writer was counted, the end tells it.
+    ///
+    /// A keeper that was open stays open, unless the session gave up. A body goes to the keeper in pieces and
+    /// is stored whole or not at all: if nothing was staged before, nothing is staged after, unless the
+    /// keeper counted a fault.
+    ///
+    /// Changes survive a crash. A crash afterwards leaves the state after or, if something was given up,
+    /// possibly that state with one more request.
     pub fn session<R: Read, W: Write, C: Clock>(
         &mut self,
         reader: &mut Counted<R>,

@@ -1,4 +1,4 @@
-//! The slots of connections that come and go: what may be done in them between two turns.
+//! The slots of connections that come and go, and what may be done to them between two turns.
 ghost use Rattle.std.specs.Prelude.{◌≡◌, ◌<◌, ◌∷◌, [], length, slice_set, IfErr, IfNone, IfOk, IfSome, IsNone, IsOk, None, Ok, Some, ⊤};
 ghost use Rattle.office.specs.Crowds.{Changes, DoneAt, NoneIsFree, SentAt, slot_at, those_of};
 ghost use Rattle.office.specs.Slots.{Fails, MakesRoom, PutsBack, ReadsAhead, SendsOn};
@@ -10,7 +10,7 @@ use std::io;
 use std::io::{Read, Write};
 use wire::{Gathered, Gathering, Outbox, Room, Sending};
 
-/// The index of the first slot that is free.
+/// The index of the first free slot.
 pub fn first_free<R, W>(slots: &[Option<Seat<R, W>>]) -> Option<usize>
     ensures some { IfSome result (λ index. (index < length slots.now)
         × (slot_at slots.now index ≡ None)) }
@@ -24,7 +24,8 @@ pub fn first_free<R, W>(slots: &[Option<Seat<R, W>>]) -> Option<usize>
     None
 }
 
-/// Puts a new connection into the first slot that is free, and answers its index; or gives it back where none is.
+/// Puts a new connection into the first free slot and returns its index. Returns the connection if no slot is
+/// free.
 pub fn open_slot<R: Read + Drop, W: Write + Drop>(
     slots: &mut [Option<Seat<R, W>>],
     seat: Seat<R, W>,
@@ -45,7 +46,7 @@ pub fn open_slot<R: Read + Drop, W: Write + Drop>(
     }
 }
 
-/// Makes the slot free, and hands over its connection, if there was one.
+/// Frees the slot. Returns its connection, if there was one.
 pub fn free_slot<R: Read, W: Write>(
     slots: &mut [Option<Seat<R, W>>],
     index: usize,
@@ -58,8 +59,9 @@ pub fn free_slot<R: Read, W: Write>(
     slots[index].take()
 }
 
-/// Reads once ahead of the connection in the slot, by way of the buffer, without waiting. Where there is none, or it has ended,
-/// nothing is read, and it is told to be at its end. The error is that memory was refused; nothing was read then.
+/// Reads ahead once, through the buffer, for the connection in the slot, without waiting. If there is none,
+/// or it has ended, nothing is read and the result is `Ended`. The error means that memory was refused;
+/// nothing was read then.
 pub fn gather_slot<S: Read, W: Write>(
     slots: &mut [Option<Seat<Gathered<S>, W>>],
     index: usize,
@@ -76,9 +78,9 @@ pub fn gather_slot<S: Read, W: Write>(
     }
 }
 
-/// Gives what the feed of the connection in the slot read and did not take back to what was read ahead, and lets go of the
-/// memory where nothing is. Its buffer is handed over where it had one of its own. Where there is none, or it has ended, nothing
-/// is done, and no buffer is handed over.
+/// Returns the bytes that the connection's feed read and did not take to those that were read ahead. Frees
+/// the memory if there are none. Returns the feed's buffer, if it had one of its own. If there is no
+/// connection, or it has ended, nothing is done and no buffer is returned.
 pub fn settle_slot<S: Read, W: Write>(
     slots: &mut [Option<Seat<Gathered<S>, W>>],
     index: usize,
@@ -94,8 +96,8 @@ pub fn settle_slot<S: Read, W: Write>(
     }
 }
 
-/// Takes memory for so many bytes more that are read ahead of the connection in the slot, if it has not ended. The error is that
-/// it was refused. Where there is none, or it has ended, none is taken, and none is refused.
+/// Takes memory to read n more bytes ahead for the connection in the slot. The error means that memory was
+/// refused. If there is no connection, or it has ended, no memory is taken and there is no error.
 pub fn make_room_in_slot<S: Read, W: Write>(
     slots: &mut [Option<Seat<Gathered<S>, W>>],
     index: usize,
@@ -112,8 +114,8 @@ pub fn make_room_in_slot<S: Read, W: Write>(
     }
 }
 
-/// From now on each read of the connection in the slot fails so, behind the bytes that are ahead, unless one failed before or it
-/// has ended.
+/// Makes each read of the connection in the slot fail with this error, once the bytes that were read ahead
+/// are given. Nothing changes if a read failed before or the connection has ended.
 pub fn fail_slot<S: Read, W: Write>(
     slots: &mut [Option<Seat<Gathered<S>, W>>],
     index: usize,
@@ -129,8 +131,8 @@ pub fn fail_slot<S: Read, W: Write>(
     }
 }
 
-/// Sends on once what was written to the connection in the slot and waits, without waiting for its peer, whether it has ended or
-/// not. Where there is none it is told that all was sent.
+/// Sends waiting bytes of the connection in the slot once, without waiting for its peer, even if it has
+/// ended. If there is no connection the result is `Sent`.
 pub fn send_slot<R: Read, S: Write>(
     slots: &mut [Option<Seat<R, Outbox<S>>>],
     index: usize,

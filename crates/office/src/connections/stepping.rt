@@ -1,4 +1,4 @@
-//! One step of a session: a message is read and answered, or the session ends.
+//! One step of a session: it reads and answers a message, or it ends the session.
 ghost use Rattle.std.specs.Prelude.{◌≡◌, ◌≢◌};
 ghost use Rattle.sigtext.specs.Counts.{Rose};
 ghost use Rattle.office.specs.Stepping.{IsClosed};
@@ -19,7 +19,7 @@ use wire::{
     read_opening,
 };
 
-// Writes the answer of a refusal that closes the connection, and tells the end.
+// Writes the answer of a refusal that closes the connection. Returns how the session ends.
 fn close<W: Write>(refusal: Refusal, writer: &mut Counted<W>) -> SessionEnd
     ensures closed { IsClosed (W.contents writer.old.inner) (W.contents writer.new.inner) refusal result }
     ensures fault { result ≡ SessionEnd.WriteFault → Rose writer.old.faults writer.new.faults }
@@ -51,7 +51,7 @@ impl<K: Keeper> Office<K> {
     ghost use Rattle.office.specs.Readable.{IsReadable};
     ghost use Rattle.office.specs.Stepping.{IsExpected, LeavesOff, Steps, TellsStep};
 
-    // Handles a message whose body came: takes its moment, and writes its answer.
+    // Handles a message whose body came: takes its moment and writes its answer.
     fn serve_message<W: Write, C: Clock>(
         &mut self,
         foreseen: Result<Prospect<'_>, Refusal>,
@@ -78,7 +78,8 @@ impl<K: Keeper> Office<K> {
         send_answer(&answer, writer)
     }
 
-    // Answers a message whose body the stream did not bring: refusal 6 once nothing of it is staged; or refusal 40.
+    // Answers a message whose body ended early: with refusal 6 once nothing of it is staged, or with refusal
+    // 40.
     fn close_lacking<W: Write>(&mut self, is_upload: bool, writer: &mut Counted<W>) -> SessionEnd
         ensures closed { LeavesOff (W.contents writer.old.inner) (W.contents writer.new.inner)
             K.Keeper self.old.keeper self.new.keeper is_upload result }
@@ -98,7 +99,8 @@ impl<K: Keeper> Office<K> {
         }
     }
 
-    // Reads the body of a message of which this was foreseen, and answers the message; or tells how the session ended.
+    // Reads the body of a message and answers the message, using what was foreseen of it. Or tells how the
+    // session ended.
     fn serve_body<R: Read, W: Write, C: Clock>(
         &mut self,
         feed: &mut Feed<'_, R>,
@@ -149,7 +151,7 @@ impl<K: Keeper> Office<K> {
         }
     }
 
-    // Serves the message of a head that was read.
+    // Serves the message whose head was read.
     fn serve_head<R: Read, W: Write, C: Clock>(
         &mut self,
         feed: &mut Feed<'_, R>,
@@ -191,7 +193,7 @@ impl<K: Keeper> Office<K> {
         self.serve_body(feed, foreseen, to_head, opening.length, writer, clock)
     }
 
-    // Reads the next message of a feed and answers it; or tells how the session ended.
+    // Reads the next message of a feed and answers it. Or tells how the session ended.
     pub(crate) fn step<R: Read, W: Write, C: Clock>(
         &mut self,
         feed: &mut Feed<'_, R>,

@@ -1,4 +1,4 @@
-//! Connections that are served in turn, a message at a time.
+//! Connections that are served in turns, one message at a time.
 
 use super::seat::Seat;
 use super::session::SessionEnd;
@@ -10,10 +10,10 @@ use std::io::{Read, Write};
 use std::mem;
 use wire::{Counted, Feed, Room, Standing};
 
-/// The greatest number of messages that a connection is served.
+/// The greatest number of messages on one connection.
 const MOST_MESSAGES: u64 = 1000;
 
-// What a step left beside the connection's streams.
+// What a step returns besides the connection's streams.
 #[derive(Drop)]
 struct Aside {
     standing: Standing,
@@ -33,7 +33,7 @@ impl<K: Keeper> Office<K> {
     ghost use Rattle.office.specs.Seats.{TakesTurn, TellsTurn};
     ghost use Rattle.office.specs.Stepping.{Steps, TellsStep};
 
-    // One step of a feed that stood aside, in this room.
+    // One step of a feed that was set aside, using this room.
     fn step_aside<R: Read, W: Write, C: Clock>(
         &mut self,
         standing: Standing,
@@ -67,10 +67,11 @@ impl<K: Keeper> Office<K> {
         }
     }
 
-    /// Gives the connection a turn: reads its next message and answers it, by way of the room. The room is handed back where no
-    /// byte waits in it, and where the connection ends: then what was read of it and not taken is let go of. A connection that
-    /// has ended is left as it is. What was read, which moment was told, what was written, how it ended and the state after are
-    /// those of the next message of its session, whatever was done for other connections since the one before.
+    /// Gives the connection a turn: reads its next message through the room and answers it. The room is
+    /// returned if no bytes wait in it, and also if the connection ends; the bytes that were read and not
+    /// taken are then discarded. A connection that has ended stays as it is. The bytes read, the moment, the
+    /// bytes written, the end and the state after are those of the next message of its session, whatever was
+    /// done for other connections in between.
     pub fn take_turn<R: Read, W: Write, C: Clock>(
         &mut self,
         seat: &mut Seat<R, W>,

@@ -1,4 +1,4 @@
-//! Which links are admitted: by the key that signed them, and then by the moment.
+//! Which links are admitted, first by the key that signed them, then by the moment.
 use crate::office::Office;
 use boxes::Role;
 use keeper::{KeepFault, Keeper};
@@ -22,8 +22,8 @@ impl<K: Keeper> Office<K> {
     ghost use Rattle.office.specs.Premise.{HoldsUnless, IsGivenUp, WasKept};
     ghost use Rattle.office.specs.Rules.{Rule, judged_at};
 
-    // The role of the key that signed a link; else the refusal of the least of the rules 19 to 21 that fails; or refusal 40,
-    // where the keeper counted a fault.
+    // The role of the key that signed a link, or the refusal of the first of rules 19 to 21 that fails, or
+    // refusal 40 if the keeper counted a fault.
     pub(crate) fn identify(&mut self, link: &LinkParts<'_>) -> Result<Role, Refusal>
         ensures identifies { (s : State) (r : Request) (p : LinkValues)
             → WasKept K.Keeper self.old.keeper self.new.keeper s
@@ -51,7 +51,8 @@ impl<K: Keeper> Office<K> {
         }
     }
 
-    // By how much the link may begin early. Where it has begun that makes no difference, and nothing is asked.
+    // How much earlier than its start the link may be used. For a link that has begun it makes no difference,
+    // and nothing is asked.
     fn allowance_of(&mut self, link: &LinkParts<'_>, now: Moment) -> Result<Allowance, KeepFault>
         ensures begun { (s : State) (r : Request) (p : LinkValues)
             → WasKept K.Keeper self.old.keeper self.new.keeper s
@@ -67,8 +68,8 @@ impl<K: Keeper> Office<K> {
         Ok(self.keeper.settings()?.allowance)
     }
 
-    // Checks whether a link that was signed is admitted at the moment; else it is refused by the rule 22 or 23, or by 40, where
-    // the keeper counted a fault.
+    // Checks that a signed link is admitted at the moment. Otherwise it is refused by rule 22 or 23, or by 40
+    // if the keeper counted a fault.
     pub(crate) fn check_moment(&mut self, link: &LinkParts<'_>, now: Moment) -> Result<(), Refusal>
         ensures admits { (s : State) (r : Request) (p : LinkValues) (k : Key)
             → WasKept K.Keeper self.old.keeper self.new.keeper s

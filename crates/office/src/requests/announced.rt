@@ -1,4 +1,4 @@
-//! A message whose body is still to come.
+//! A message whose body has not come yet.
 ghost use Rattle.std.specs.Prelude.{◌≡◌, length};
 ghost use Rattle.office.specs.Announcing.{request_with};
 ghost use Rattle.wire.specs.Messages.{request_in};
@@ -6,7 +6,7 @@ ghost use Rattle.wire.specs.Messages.{request_in};
 use sigtext::Field;
 use wire::Message;
 
-/// The head of a message, and how long its body is.
+/// The head of a message, and the length of its body.
 #[derive(Clone, Copy, Debug)]
 pub(crate) struct Announced<'a> {
     /// The method, as it came.
@@ -17,11 +17,11 @@ pub(crate) struct Announced<'a> {
     pub(crate) fields: &'a [Field<'a>],
     /// Whether a Content-Length was given.
     pub(crate) has_length: bool,
-    /// How many bytes the body has.
+    /// The length of the body in bytes.
     pub(crate) length: usize,
 }
 
-/// What a whole message announced.
+/// What the head of a whole message announced.
 pub(crate) fn announce<'a>(message: &Message<'a>) -> Announced<'a>
     ensures request { request_with result message.now.body.now ≡ request_in message.now }
     ensures length { result.length ≡ length message.now.body.now }

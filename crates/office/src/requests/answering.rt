@@ -1,5 +1,5 @@
-//! What the office answers to one message: what its head and the state decide before its body comes, and what its moment and
-//! its body decide then.
+//! The office's answer to one message: what its head and the state decide before its body comes, then what
+//! its moment and its body decide.
 ghost use Rattle.std.specs.Prelude.{◌≡◌};
 ghost use Rattle.sigtext.specs.Bytes.{same_bytes};
 ghost use Rattle.std.specs.Prelude.{codes};
@@ -13,7 +13,7 @@ use sigtext::Refusal;
 use sigv4::{Moment, Sha};
 use wire::{Answer, Message, Reply};
 
-/// How many bytes of a whole body are staged at once, at most.
+/// The most bytes of a whole body that are staged at once.
 const MOST_PIECE: usize = 65536;
 
 /// Whether the method is HEAD.
@@ -41,7 +41,7 @@ impl<K: Keeper> Office<K> {
     ghost use Rattle.office.specs.Readable.{IsReadable};
     ghost use Rattle.office.specs.Replying.{IsReplied, IsNoRefusal};
 
-    // Does what a message comes to whose body came and whose link is admitted.
+    // Does the errand of a message whose body came and whose link is admitted.
     fn run_errand(
         &mut self,
         prospect: Prospect<'_>,
@@ -74,7 +74,7 @@ impl<K: Keeper> Office<K> {
         }
     }
 
-    // What a message is replied whose body came, at its moment.
+    // The reply, at its moment, to a message whose body came.
     fn finish(&mut self, prospect: Prospect<'_>, body: &Body, now: Moment) -> Result<Reply, Refusal>
         ensures replies { (s : State) (r : Request)
             → WasKept K.Keeper self.old.keeper self.new.keeper s
@@ -105,7 +105,7 @@ impl<K: Keeper> Office<K> {
         }
     }
 
-    // What a message is replied of which this was foreseen, and whose body came, at its moment.
+    // The reply, at its moment, to a message whose body came, from what was foreseen of it.
     fn reply_to(
         &mut self,
         foreseen: Result<Prospect<'_>, Refusal>,
@@ -138,7 +138,7 @@ impl<K: Keeper> Office<K> {
         }
     }
 
-    // The answer to a message whose body came, at its moment. The bytes of an upload are staged.
+    // The answer, at its moment, to a message whose body came. The bytes of an upload are staged.
     pub(crate) fn answer_whole(
         &mut self,
         foreseen: Result<Prospect<'_>, Refusal>,
@@ -174,7 +174,7 @@ impl<K: Keeper> Office<K> {
         }
     }
 
-    // Stages a whole body, in pieces.
+    // Stages a whole body in pieces.
     fn stage_whole(&mut self, body: &[u8]) -> Result<(), KeepFault>
         ensures staged { OnOk result (K.stages self.new.keeper body.now) }
         ensures same { (s : State) → K.means self.old.keeper s → K.means self.new.keeper s }
@@ -193,7 +193,8 @@ impl<K: Keeper> Office<K> {
         Ok(())
     }
 
-    // Stages the body of an upload; of another message nothing. What the keeper did not take whole is let go of.
+    // Stages the body of an upload; nothing for any other message. If the keeper did not take it all, what is
+    // staged is dropped.
     fn stage_upload(&mut self, is_upload: bool, body: &[u8]) -> Result<(), KeepFault>
         ensures staged { IsTrue is_upload → OnOk result (K.stages self.new.keeper body.now) }
         ensures passed { IsFalse is_upload → KeepsStaged K.stages self.old.keeper self.new.keeper }
@@ -215,21 +216,24 @@ impl<K: Keeper> Office<K> {
         staged
     }
 
-    /// Answers a message at a moment. The answer and the state after it are those of the rules; or the
-    /// answer is refusal 40, where memory was refused or the keeper counted a fault, and then the state is
-    /// as it was. Memory that an answer needs is asked for before anything is changed, so an upload or a
-    /// command that took effect is never answered with 40. A method that is not served and a target that is malformed are
-    /// refused without memory, and never with 40.
+    /// Answers a message at a moment. The answer and the state after it follow the rules. Or the answer is
+    /// refusal 40, because memory was refused or the keeper counted a fault, and the state is unchanged. All
+    /// memory for an answer is taken before anything changes, so an upload or a command that took effect is
+    /// never answered with 40. An unknown method and a malformed target are refused without memory, and never
+    /// with 40.
     ///
-    /// Unless it is refusal 40, it is the one answer to each request that says the same, too: where rules 7 to 18 hold of
-    /// both, and signed text, signature and body are the same, and for a PUT the mark whether a length was given. However
-    /// such a request is spelled, in the same state at the same moment it is answered so, and leaves the same state.
+    /// Any answer but refusal 40 is also the only answer to each request that says the same: rules 7 to 18
+    /// hold for both, their signed text, signature and body are the same, and for a PUT also whether a length
+    /// was given. However such a request is spelled, in the same state at the same moment it gets the same
+    /// answer and leaves the same state.
     ///
-    /// What was answered outlasts a crash: one that follows leaves the state after, and nothing else; or, where nothing was
-    /// changed, nothing new but the standing state. After a 40 it may also leave the state with this request, whole.
+    /// Changes survive a crash: a crash afterwards leaves exactly the state after. If nothing was changed, it
+    /// can newly leave only the current state. After a 40 it may also leave the state with this request done
+    /// in full.
     ///
-    /// Of a keeper that was open each answer but refusal 40 leaves it open, so the state after is the one that is kept. The body
-    /// of an upload is staged in the keeper; where nothing was staged before, nothing is after, unless the keeper counted a fault.
+    /// A keeper that was open stays open at any answer but refusal 40, so exactly the state after is kept.
+    /// The body of an upload is staged in the keeper. If nothing was staged before, nothing is staged after,
+    /// unless the keeper counted a fault.
     pub fn answer(&mut self, message: &Message<'_>, now: Moment) -> Answer
         ensures answers { (s : State) → WasKept K.Keeper self.old.keeper self.new.keeper s
             → IsAnswered (Endures K.Keeper self.old.keeper self.new.keeper s) s

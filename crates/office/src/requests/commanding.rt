@@ -10,16 +10,16 @@ use sigtext::Refusal;
 use thiserror::Error;
 use wire::Reply;
 
-/// The name of the parameter that holds a command.
+/// The name of the query parameter that holds a command.
 pub const DESK: &[u8] = b"desk";
 
-/// Why a line of the desk was not done. The state is then as it was.
+/// Why a desk line was not done. The state is then unchanged.
 #[derive(Clone, Copy, Debug, PartialEq, Eq, Error)]
 pub enum DeskFault {
-    /// The line is no command, or something that it names has another form.
+    /// The line is not a command, or something that it names is malformed.
     #[error("the desk command is malformed")]
     Malformed,
-    /// The office's state bars the command.
+    /// The office's state does not allow the command.
     #[error("the desk command is not possible")]
     NotPossible,
     /// The keeper failed, or memory was refused.
@@ -49,7 +49,7 @@ impl<K: Keeper> Office<K> {
     ghost use Rattle.office.specs.Replying.{IsReplied, IsNoRefusal};
     ghost use Rattle.office.specs.Rules.{IsPost};
 
-    // Asks the keeper whether a box of this name is there.
+    // Asks the keeper whether a box with this name exists.
     fn has_box(&mut self, name: &[u8]) -> Result<bool, KeepFault>
         ensures value { (s : State) → WasKept K.Keeper self.old.keeper self.new.keeper s
             → IfOk result (λ there. IsTrue there ↔ IsSome (get s.boxes name.now)) }
@@ -59,7 +59,7 @@ impl<K: Keeper> Office<K> {
         Ok(self.keeper.box_row(name)?.is_some())
     }
 
-    // Asks the keeper what the rule of a command looks at.
+    // Asks the keeper for what the rule of a command depends on.
     fn look_at(&mut self, command: &Command<'_>) -> Result<DeskView, KeepFault>
         ensures view { (s : State) → WasKept K.Keeper self.old.keeper self.new.keeper s
             → IfOk result (IsDeskViewOf s (command_of command.now)) }
@@ -94,7 +94,7 @@ impl<K: Keeper> Office<K> {
         Ok(view)
     }
 
-    // Does a command that has its form, where it is possible.
+    // Does a well-formed command, if it is possible.
     fn obey(&mut self, command: &Command<'_>) -> Result<(), DeskFault>
         ensures does { (s : State) → WasKept K.Keeper self.old.keeper self.new.keeper s
             → HasForm (command_of command.now)
@@ -133,14 +133,14 @@ impl<K: Keeper> Office<K> {
         }
     }
 
-    /// Does what a line of the desk says; `desk::read_command` tells its forms. What was done outlasts a crash. A keeper that
-    /// was open is open, unless its own fault is the error.
+    /// Does what a desk line says; for the forms see `desk::read_command`. What was done survives a crash. A
+    /// keeper that was open stays open, unless its own fault is the error.
     ///
     /// # Errors
     ///
-    /// The state is as it was. `Malformed` comes where the line is no command, and `NotPossible` where the office's state bars
-    /// the command that it is; `Kept` where the keeper failed, or memory was refused for the rule of a box.
-    /// After `Kept` a crash may leave the state with the line done, whole.
+    /// After an error the state is unchanged. `Malformed` if the line is not a command. `NotPossible` if the
+    /// office's state does not allow the command. `Kept` if the keeper failed, or if memory was refused for
+    /// the rule of a box. A crash after `Kept` may leave the state with the line done in full.
     pub fn desk(&mut self, line: &[u8]) -> Result<(), DeskFault>
         ensures obeys { (s : State) → WasKept K.Keeper self.old.keeper self.new.keeper s
             → IsObeyedBy (Endures K.Keeper self.old.keeper self.new.keeper s) s line.now result }
@@ -162,7 +162,7 @@ impl<K: Keeper> Office<K> {
         }
     }
 
-    // Does the command of a message whose link is admitted and whose form is right, or refuses it.
+    // Does or refuses the command of a message whose link is admitted and whose form is right.
     pub(crate) fn post(&mut self, link: &LinkParts<'_>) -> Result<Reply, Refusal>
         ensures replies { (s : State) (r : Request) (p : LinkValues) (now : ℕ)
             → WasKept K.Keeper self.old.keeper self.new.keeper s

@@ -23,7 +23,7 @@ impl<K: Keeper> Office<K> {
     ghost use Rattle.office.specs.Replying.{IsReplied, IsNoRefusal};
     ghost use Rattle.office.specs.Rules.{IsFetch};
 
-    // Asks the keeper what a fetch from the place needs.
+    // Asks the keeper for what a fetch from the place needs.
     fn look_for(&mut self, place: FilePlace<'_>) -> Result<FetchView, KeepFault>
         ensures view { (s : State) → WasKept K.Keeper self.old.keeper self.new.keeper s
             → IfOk result (IsFetchViewOf s (place_at place.entry)) }
@@ -35,7 +35,7 @@ impl<K: Keeper> Office<K> {
         Ok(FetchView { in_box, file })
     }
 
-    // Gives the file of a fetch whose link is admitted and whose form is right, or refuses it.
+    // Returns or refuses the file of a fetch whose link is admitted and whose form is right.
     pub(crate) fn fetch(&mut self, link: &LinkParts<'_>) -> Result<Reply, Refusal>
         ensures replies { (s : State) (r : Request) (p : LinkValues) (now : ℕ)
             → WasKept K.Keeper self.old.keeper self.new.keeper s

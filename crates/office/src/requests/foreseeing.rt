@@ -1,4 +1,4 @@
-//! What is known of a message before its body comes: what its head and the state decide, whatever the moment.
+//! What is known of a message before its body comes: what its head and the state decide at any moment.
 ghost use Rattle.std.specs.Prelude.{◌↔◌, IsTrue};
 ghost use Rattle.office.specs.Foreseeing.{IsPutting, IsUpload};
 ghost use Rattle.office.specs.Premise.{IsGivenUp};
@@ -13,55 +13,55 @@ use keeper::Keeper;
 use links::{LinkParts, Method};
 use sigtext::Refusal;
 
-/// What a message comes to within the window of its link.
+/// What a message asks for, once its link is within its window.
 #[derive(Drop)]
 pub(crate) enum Errand {
-    /// An upload to a box and a name, at this path, that hold the rules 27 to 29.
+    /// An upload to this path. Its box and name obey rules 27 to 29.
     Put {
         /// The decoded path.
         path: Vec<u8>,
-        /// The box.
+        /// The box, if there is one.
         in_box: Option<BoxRow>,
     },
     /// A fetch.
     Fetch,
-    /// A command of the desk.
+    /// A desk command.
     Post,
 }
 
-/// A message of which the rules 7 to 21 hold.
+/// A message that obeys rules 7 to 21.
 #[derive(Drop)]
 pub(crate) struct Prospect<'a> {
     /// Its link.
     pub(crate) link: LinkParts<'a>,
-    /// What it comes to; or the refusal of the least of the rules 24 to 29 that fails.
+    /// What it asks for, or the refusal of the first of rules 24 to 29 that fails.
     pub(crate) errand: Result<Errand, Refusal>,
 }
 
 /// What is known of a body that came.
 #[derive(Clone, Copy, Debug)]
 pub(crate) struct Body {
-    /// How many bytes it has.
+    /// The length in bytes.
     pub(crate) length: u64,
-    /// Their SHA-256 digest, where they were staged.
+    /// The SHA-256 digest, if the body was staged.
     pub(crate) digest: [u8; 32],
 }
 
-/// Whether it is refusal 40: memory was refused, or the keeper counted a fault.
+/// Whether this is refusal 40: memory was refused, or the keeper counted a fault.
 pub(crate) fn is_given_up<T>(told: &Result<T, Refusal>) -> bool
     ensures { IsTrue result ↔ IsGivenUp told.now }
 {
     matches!(told, Err(Refusal::TryAgain))
 }
 
-/// Whether it is an upload, whose body is to be staged.
+/// Whether this is an upload, whose body is to be staged.
 pub(crate) fn is_putting(errand: &Result<Errand, Refusal>) -> bool
     ensures { IsTrue result ↔ IsPutting errand.now }
 {
     matches!(errand, Ok(Errand::Put { .. }))
 }
 
-/// The same of what was foreseen of a message.
+/// The same for what was foreseen of a message.
 pub(crate) fn is_upload(foreseen: &Result<Prospect<'_>, Refusal>) -> bool
     ensures { IsTrue result ↔ IsUpload foreseen.now }
 {
@@ -86,8 +86,9 @@ impl<K: Keeper> Office<K> {
     ghost use Rattle.office.specs.Premise.{HoldsUnless, IsGivenUp, WasKept};
     ghost use Rattle.office.specs.Rules.{IsPut};
 
-    // What an upload comes to of whose request the rules up to number 26 hold: its box, where the rules 27 to 29 hold, else the
-    // refusal of the least that fails; or refusal 40, where memory was refused or the keeper counted a fault.
+    // What an upload that obeys the rules up to 26 asks for: its box, if rules 27 to 29 hold. Otherwise the
+    // refusal of the first rule that fails, or refusal 40 if memory was refused or the keeper counted a
+    // fault.
     fn foresee_upload(&mut self, link: &LinkParts<'_>) -> Result<Errand, Refusal>
         ensures comes { (s : State) (r : Request) (p : LinkValues) (k : Key)
             → WasKept K.Keeper self.old.keeper self.new.keeper s
@@ -113,8 +114,8 @@ impl<K: Keeper> Office<K> {
         }
     }
 
-    // What a message comes to whose link a key of this role signed; else the refusal of the least of the rules 24 to 29 that
-    // fails; or refusal 40, where memory was refused or the keeper counted a fault.
+    // What a message asks for whose link was signed by a key with this role. Otherwise the refusal of the
+    // first of rules 24 to 29 that fails, or refusal 40 if memory was refused or the keeper counted a fault.
     fn foresee_errand(
         &mut self,
         link: &LinkParts<'_>,
@@ -151,7 +152,7 @@ impl<K: Keeper> Office<K> {
         }
     }
 
-    // Looks a message up whose link was read: who signed it, and what it comes to.
+    // Looks up who signed the link of a message, and what the message asks for.
     fn foresee_link<'a>(
         &mut self,
         link: LinkParts<'a>,
@@ -184,8 +185,9 @@ impl<K: Keeper> Office<K> {
         Ok(Prospect { link, errand })
     }
 
-    // What is known of a message before its body: the refusal of the least of the rules 7 to 21 that fails; or its link, and
-    // what it comes to within the window of that; or refusal 40, where memory was refused or the keeper counted a fault.
+    // What is known of a message before its body: its link, and what it asks for within the window of the
+    // link. Otherwise the refusal of the first of rules 7 to 21 that fails, or refusal 40 if memory was
+    // refused or the keeper counted a fault.
     pub(crate) fn foresee<'a>(&mut self, message: &Announced<'a>) -> Result<Prospect<'a>, Refusal>
         ensures foresees { (s : State) (body : List ℕ)
             → WasKept K.Keeper self.old.keeper self.new.keeper s

@@ -19,8 +19,8 @@ fn is_put(method: Method) -> bool
     matches!(method, Method::Put)
 }
 
-/// Checks a message whose link is admitted, and whose key may send it: the rules 25 and 26 hold; else the
-/// refusal is that of the least that fails. Takes no memory.
+/// Checks rules 25 and 26 for a message whose link is admitted and whose key may send it. The error is the
+/// refusal of the first rule that fails. Takes no memory.
 pub(crate) fn check_form(method: Method, message: &Announced<'_>) -> Result<(), Refusal>
     requires { message.now.method.now ≡ method_text method }
     ensures { (s : State) (body : List ℕ) (now : ℕ) (p : LinkValues) (k : Key)

@@ -1,4 +1,4 @@
-//! Where a path points.
+//! The place that a path names.
 ghost use Rattle.std.specs.Prelude.{◌≡◌, IfOk, drop};
 ghost use Rattle.sigtext.specs.Request.{Request};
 ghost use Rattle.links.specs.LinkReadings.{IsLinkOf};
@@ -27,7 +27,7 @@ pub(crate) fn decoded_path(alloc: Global, link: &LinkParts<'_>) -> Result<Vec<u8
     Ok(path)
 }
 
-// What stands behind the first byte.
+// The bytes after the first.
 fn behind_first(path: &[u8]) -> &[u8]
     ensures { result.now ≡ drop 1 path.now }
 {
@@ -37,8 +37,8 @@ fn behind_first(path: &[u8]) -> &[u8]
     }
 }
 
-/// The place of a decoded path: the box stands between the first `/` and the second, or the end, and the
-/// name is what follows the second.
+/// The place that a decoded path names. The box is between the first `/` and the second, or the end. The name
+/// is everything after the second.
 pub(crate) fn read_place(path: &[u8]) -> FilePlace<'_>
     ensures { place_at result ≡ place_of path.entry.now }
 {

@@ -1,4 +1,4 @@
-//! Uploads whose bodies are staged.
+//! Uploads with a staged body.
 ghost use Rattle.std.specs.Prelude.{◌≡◌, IsTrue};
 ghost use Rattle.boxes.specs.Rules.{Stands, Upload};
 ghost use Rattle.boxes.specs.Sound.{IsSound};
@@ -19,14 +19,14 @@ use sigtext::Refusal;
 use sigv4::Moment;
 use wire::Reply;
 
-// What the keeper says for an upload, and whether its bytes stand already.
+// What the keeper says about an upload, and whether its bytes are already stored.
 #[derive(Drop)]
 struct Standing {
     view: UploadView,
     stand: bool,
 }
 
-// What tells a receipt.
+// The reply that tells a receipt.
 fn reply_of(receipt: &ReceiptRow) -> Reply
     ensures { result ≡ Reply.Kept receipt.now.number receipt.now.size receipt.now.digest }
 {
@@ -38,7 +38,8 @@ fn reply_of(receipt: &ReceiptRow) -> Reply
     }
 }
 
-// Whether the receipt of what stands is one that such bytes would have. Where it is not, they do not stand.
+// Whether the stored file's receipt is one that these bytes would have. If not, the bytes are not stored
+// there.
 fn may_stand(receipt: &Option<ReceiptRow>, body: &Body) -> bool
     ensures { (s : State) (u : Upload) → IsSound s → IsReceiptAt s u.place receipt.now
         → body.now.length ≡ length u.bytes → body.now.digest ≡ sha256 u.bytes → Stands s u
@@ -71,7 +72,7 @@ impl<K: Keeper> Office<K> {
     ghost use Rattle.office.specs.Replying.{IsReplied, IsNoRefusal, IsReceiptFor};
     ghost use Rattle.office.specs.Rules.{IsPut, place_of};
 
-    // Asks the keeper whether the staged bytes stand at the place, of which this is the receipt, already.
+    // Asks the keeper whether the staged bytes are already stored at the place, which has this receipt.
     fn stand(
         &mut self,
         place: FilePlace<'_>,
@@ -92,7 +93,7 @@ impl<K: Keeper> Office<K> {
         self.keeper.staged_equals(place.in_box, place.name)
     }
 
-    // Asks the keeper what an upload of the staged bytes to the place needs, whose box was asked before.
+    // Asks the keeper what an upload of the staged bytes to the place needs. The box was asked for before.
     fn look_up(
         &mut self,
         place: FilePlace<'_>,
@@ -125,7 +126,7 @@ impl<K: Keeper> Office<K> {
         Ok(Standing { view, stand })
     }
 
-    // Sets a file to the staged bytes. Nothing that is answered takes memory afterwards.
+    // Sets a file to the staged bytes. The answer needs no more memory after that.
     fn set_file(&mut self, file: NewFile<'_>) -> Result<Reply, Refusal>
         ensures sets { (s after : State) (bytes : List ℕ)
             → WasKept K.Keeper self.old.keeper self.new.keeper s
@@ -156,7 +157,7 @@ impl<K: Keeper> Office<K> {
         }
     }
 
-    // Replies this once nothing is staged any more; or refusal 40, where the keeper counted a fault.
+    // Returns this reply once nothing is staged any more, or refusal 40 if the keeper counted a fault.
     pub(crate) fn let_go(&mut self, reply: Result<Reply, Refusal>) -> Result<Reply, Refusal>
         ensures gives { (result ≢ Err Refusal.TryAgain) → result ≡ reply }
         ensures same { (s : State) → K.means self.old.keeper s → K.means self.new.keeper s }
@@ -171,7 +172,7 @@ impl<K: Keeper> Office<K> {
         }
     }
 
-    // Takes an upload whose body is staged, and whose link is admitted, or refuses it.
+    // Takes or refuses an upload whose body is staged and whose link is admitted.
     pub(crate) fn put(
         &mut self,
         link: &LinkParts<'_>,

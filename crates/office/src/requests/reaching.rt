@@ -28,9 +28,10 @@ impl<K: Keeper> Office<K> {
     ghost use Rattle.office.specs.Premise.{HoldsUnless, IsGivenUp, WasKept};
     ghost use Rattle.office.specs.Rules.{MaySend, Rule};
 
-    // Checks whether the key of an admitted link, which has this role, may send this: a clerk's may send anything, another
-    // nothing to the desk, and where it is limited, to the boxes of its set alone. Else it is refused by rule 24; or by 40,
-    // where memory was refused or the keeper counted a fault.
+    // Checks whether the key of an admitted link, with this role, may send this. A clerk's key may send
+    // anything. Any other key may send nothing to the desk and, if it is limited, only to the boxes of its
+    // set. Otherwise the message is refused by rule 24, or by 40 if memory was refused or the keeper counted
+    // a fault.
     pub(crate) fn check_reach(
         &mut self,
         link: &LinkParts<'_>,

@@ -12,8 +12,8 @@ use links::{LinkParts, Method, inspect};
 use sigtext::{Refusal, Target};
 use std::alloc::Global;
 
-/// Reads the link of a message with this method: its parts, or the refusal of the least rule of the numbers 8 to 18
-/// that fails; or refusal 40, where memory was refused.
+/// Reads the link of a message with this method. Returns its parts, or the refusal of the first of rules 8 to
+/// 18 that fails, or refusal 40 if memory was refused.
 pub(crate) fn read_link<'a>(
     alloc: Global,
     method: Method,

@@ -4,7 +4,7 @@ use Rattle.std.proofs.lemmas.Iterator.Splits.{YieldsList-from_slice_split}
 use Rattle.std.proofs.lemmas.List.{map-append}
 use Rattle.desk.proofs.settings.read_texts.Goals as goal
 
--- one more of each of two lists that look alike
+-- two lists that map to the same texts, with one more item each
 one_more : {X Y Z : Type 0} (f : X → Z) (g : Y → Z) (xs : List X) (ys : List Y) (x : X) (y : Y) → map f xs ≡ map g ys → f x ≡ g y
     → map f (xs ++ x ∷ []) ≡ map g (ys ++ y ∷ [])
 one_more f g xs ys x y same last = simp map-append (cc)

@@ -9,7 +9,7 @@ use Rattle.wire.specs.declared.feed.Step.{Step}
 use Rattle.wire.proofs.WaitingFronts.{of_whole, of_end, awaits_head, text_alone, text_copied, opened, barred, next_too_long, next_truncated, breaks_early}
 use Rattle.wire.proofs.cutting.find.Goals as goal
 
--- what shows of the step that it is
+-- what the bytes show, for an equal step
 shown : (bytes : List ℕ) (reader : Option (List ℕ)) {s t : Step ℕ} → s ≡ t → Shows (Ok s) bytes reader → Shows (Ok t) bytes reader
 shown bytes reader is shows = subst (λ (step : Step ℕ). Shows (Ok step) bytes reader) is shows
 

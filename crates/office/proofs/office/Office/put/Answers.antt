@@ -15,7 +15,7 @@ use Rattle.office.proofs.Replies.{asks, brought, again, not_put, sets, set_repli
 use Rattle.office.proofs.Unstaged.{ends_later, rose_least}
 use Rattle.office.proofs.office.Office.put.Goals as goal
 
--- ---- the keeper did not tell what stands
+-- ---- the keeper did not tell what is stored
 
 pub returns-in_default-clause-replies : goal.returns-in_default-clause-replies
 returns-in_default-clause-replies g c s r p kept is is_put reached path box staged =
@@ -32,7 +32,7 @@ returns-in_default-clause-plain g c = no_reply _ rule.TryAgain c.let_go.result c
 pub returns-in_default-clause-unstaged : goal.returns-in_default-clause-unstaged
 returns-in_default-clause-unstaged g c = ends_later g.K.Keeper c.args.self.now.keeper c.look_up.new.self.keeper c.let_go.new.self.keeper (rose_least _ _ c.in_default.ensures.rest.count.err) c.let_go.ensures.unstaged
 
--- ---- it is refused
+-- ---- the upload is refused
 
 pub returns-in-Refused-clause-replies : goal.returns-in-Refused-clause-replies
 returns-in-Refused-clause-replies g c s r p kept is is_put reached path box staged =
@@ -60,7 +60,7 @@ returns-in-Refused-clause-plain g c = no_reply _ c.in-Refused.refusal c.let_go-i
 pub returns-in-Refused-clause-unstaged : goal.returns-in-Refused-clause-unstaged
 returns-in-Refused-clause-unstaged g c = ends_later g.K.Keeper c.args.self.now.keeper c.look_up.new.self.keeper c.let_go-in-Refused.new.self.keeper (omega (arith, c.in-Ok.ensures.rest.count.ok)) c.let_go-in-Refused.ensures.unstaged
 
--- ---- its bytes stand already
+-- ---- its bytes are already stored
 
 pub returns-in-Again-clause-replies : goal.returns-in-Again-clause-replies
 returns-in-Again-clause-replies g c s r p kept is is_put reached path box staged =
@@ -92,7 +92,7 @@ returns-in-Again-clause-crash g c s r p kept is is_put reached path box staged =
 pub returns-in-Again-clause-unstaged : goal.returns-in-Again-clause-unstaged
 returns-in-Again-clause-unstaged g c = ends_later g.K.Keeper c.args.self.now.keeper c.look_up.new.self.keeper c.let_go-in-Again.new.self.keeper (omega (arith, c.in-Ok.ensures.rest.count.ok)) c.let_go-in-Again.ensures.unstaged
 
--- ---- it is taken
+-- ---- the upload is taken
 
 pub returns-clause-replies : goal.returns-clause-replies
 returns-clause-replies g c s r p kept is is_put reached path box staged =

@@ -4,7 +4,7 @@ use Rattle.wire.specs.Heads.{HasNoHeadEnd}
 use Rattle.wire.specs.Waiting.{waiting}
 use Rattle.wire.proofs.backlog.Backlog.read_head.Given as goal
 
--- what was read waits, behind what waited
+-- the bytes that were read wait after those that waited
 abbrev pub invariant-reads : goal.invariant-reads
 invariant-reads g l = record {
   kept : Keeps (prepend_known (waiting l.fn.self) (g.R.Read.remaining l.fn.reader.inner)) (prepend_known (waiting l.self) (g.R.Read.remaining l.reader.inner));

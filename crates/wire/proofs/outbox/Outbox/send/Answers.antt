@@ -3,16 +3,16 @@ use Rattle.std.proofs.lemmas.List.{drop-drop, take_all}
 use Rattle.std.specs.Io.KnownBytes.{Appends, Keeps, append_known}
 use Rattle.wire.proofs.outbox.Outbox.send.Goals as goal
 
--- of the bytes behind s the first n are taken, and the others wait
+-- of the bytes from s on, the first n are taken and the others wait
 first_taken : (xs seen : List ℕ) (s n : ℕ) → seen ≡ drop s xs → drop s xs ≡ take n seen ++ drop (s + n) xs
 first_taken xs seen s n is =
     sym (ap (λ (t : List ℕ). take n t ++ drop (s + n) xs) is ∙ ap (λ (t : List ℕ). take n (drop s xs) ++ t) (sym (drop-drop n s xs)) ∙ take-append-drop n (drop s xs))
 
--- all that stands behind s
+-- all bytes from s on
 all_behind : (xs ys : List ℕ) (s : ℕ) → xs ≡ ys → take (length xs - s) (drop s xs) ≡ drop s ys
 all_behind xs ys s is = take_all (length xs - s) (drop s xs) (omega (arith, length-drop s xs)) ∙ ap (drop s) is
 
--- what the writer took of the bytes that waited is not handed over twice
+-- bytes that the writer took are not counted as accepted twice
 none_twice : (old new : Option (List ℕ)) (waits bytes rest : List ℕ) → waits ≡ bytes ++ rest → Appends old new bytes
     → Keeps (append_known old waits) (append_known new rest)
 none_twice None new waits bytes rest is held = tt
