@@ -51,7 +51,8 @@ case "$*" in
     exit 0
     ;;
 *is-active*drop*) [ -e /drop.pid ] ;;
-*) exec /usr/bin/systemctl "$@" ;;
+*daemon-reload*) ;;
+*) SYSTEMD_OFFLINE=1 exec /usr/bin/systemctl "$@" ;;
 esac
 """
 
@@ -172,7 +173,7 @@ def test_manual(machine, count):
     ran = kit.run(["man", "--warnings", "-E", "UTF-8", "-l", page], env=os.environ | {"MANPAGER": "cat", "MANWIDTH": "200"})
     count.add("its page has no fault", difference((ran.status, ran.err), (0, b"")))
     text = ran.out.decode()
-    for file in sorted((kit.ROOT / "ci").glob("*.help")):
+    for file in sorted({*(kit.ROOT / "ci").glob("*.help")} - {kit.ROOT / "ci" / "drop.help"}):
         lines = [it.strip() for it in file.read_text().splitlines() if it.startswith("  ")]
         lacking = [it for it in lines if it not in text]
         count.add(f"its page has {file.name}", f"lacks {lacking}" if lacking else None)
