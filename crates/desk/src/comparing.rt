@@ -43,9 +43,9 @@ const MOST_LENGTH_DIGITS: usize = 7;
 pub(crate) enum Comparison {
     /// The file is as the manifest says.
     Standing,
-    /// A file has this receipt, but its length or its digest differs.
+    /// The file at this place has this receipt, but another length or digest.
     Differs,
-    /// No file has this receipt.
+    /// No file at this place has this receipt.
     Gone,
 }
 

@@ -10,7 +10,7 @@ ghost use Rattle.office.specs.Repeats.{Act, Acts, AreActs, RepeatsOnce};
 ghost use Rattle.office.specs.Sessions.{Connection, Run};
 ghost use Rattle.office.specs.WithoutTurns.{InterleavedWithout};
 
-/// At a given moment a request has exactly one reply and one state after it.
+/// At a given moment a request has at most one reply and one state after it.
 pub fn law_of_replies()
     ensures one { (s : State) (r : Request) (now : ℕ) (a b : Said) (x y : State)
         → Replies s r now a x

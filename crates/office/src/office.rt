@@ -17,7 +17,7 @@ pub struct Office<K> {
 impl<K: Keeper> Office<K> {
     ghost use Rattle.std.specs.Prelude.{◌≡◌};
 
-    /// An office over this keeper, with what the keeper holds.
+    /// An office over this keeper, which stays as it is.
     pub fn new(alloc: Global, keeper: K) -> Office<K>
         ensures { result.keeper ≡ keeper }
     {

@@ -1,4 +1,4 @@
--- An argument with a default has a value at words without a fault.
+-- An argument with a default has a value if the words have no fault.
 use Rattle.std.proofs.Common.{◌≡◌, ◌∙◌, ◌&&◌, ◌||◌, Bool, cond, true, false, not, refl, sym, ap, List, [], ◌∷◌, ◌++◌, Option, Some, None, is_some}
 use Rattle.std.specs.List.{find, fold, list_all, list_any}
 use Rattle.std.specs.Str.{bytes_eq}
@@ -20,7 +20,7 @@ or_more : (a b c : Bool) → (a || b) ≡ true → (b ≡ true → c ≡ true) �
 or_more true b c e more = refl
 or_more false b c e more = more e
 
--- ---- a row stays, and one is made
+-- ---- a row stays, and one is added
 
 kept_at : (id at : Text) (s : ValueSource) (values : List Text) (missing rows : List Row) → has_row id rows ≡ true → has_row id (at_row at (more_values s values) missing rows) ≡ true
 kept_at id at s values missing [] has = let bad : ⊥ = cc in absurd bad
@@ -91,12 +91,12 @@ row_value id (r ∷ rs) f has = go (bytes_eq r.id id) has (row_value id rs f.1)
     go true e rest = first_some r.values f.0
     go false e rest = rest e
 
--- words without a fault give each argument that has a default a value
+-- words without a fault give a value to each argument that has a default
 pub default_value : (s : Shape) (words : List Text) → list_all fills s.rules ≡ true → level_fault s [] nothing_held words false [] ≡ []
     → (id : Text) → has_default id s.rules ≡ true → is_some (first_of id (rows_after s.rules [] words)) ≡ true
 default_value s words fill e id some = row_value id (rows_after s.rules [] words) (full_level s [] fill words false [] (free_steps s [] words false [] e)) (defaulted id s.rules _ some)
 
--- where an argument has a first value, it has values
+-- an argument with a first value has values
 pub all_given : (id : Text) (rows : List Row) → is_some (first_of id rows) ≡ true → is_some (all_of id rows) ≡ true
 all_given id rows some = go (find (λ r. bytes_eq r.id id) rows) some
   where

@@ -1,4 +1,4 @@
--- What words without a fault name: a command of the program's own, and a value for each argument that it requires.
+-- What words without a fault name: a command of the program, and a value for each argument that it requires.
 use Rattle.std.proofs.Common.{◌≡◌, ◌∙◌, ◌<◌, ◌&&◌, ◌||◌, ℕ, Bool, cond, true, false, not, refl, sym, ap, arith, List, [], ◌∷◌, length, Option, Some, None, is_some, codes}
 use Rattle.std.specs.List.{find, fold, list_all, list_any}
 use Rattle.std.specs.Option.{option_map_or}
@@ -16,7 +16,7 @@ use Rattle.clap.specs.Walk.{done, waits, plain, refused, idle, option, positiona
 use Rattle.clap.specs.declared.error.kind.ErrorKind.TheVariants as kind
 use Rattle.tasks.proofs.FullRows.{Full, fills, free_steps, full_level, or_none}
 
--- ---- what is required has a value
+-- ---- required arguments have a value
 
 pub first_some : (values : List Text) → 0 < length values → is_some (slice_get values 0) ≡ true
 first_some [] lt = absurd (omega arith)
@@ -58,7 +58,7 @@ none_checked false true c e = let bad : ⊥ = cc in absurd bad
 none_checked false false true e = let bad : ⊥ = cc in absurd bad
 none_checked false false false e = (refl, refl, refl)
 
--- words without a fault give each argument that a command requires a value
+-- words without a fault give a value to each argument that a command requires
 pub needed_value : (s : Shape) (words : List Text) → list_all fills s.rules ≡ true → s.subcommand_negates_reqs ≡ false → level_fault s [] nothing_held words false [] ≡ []
     → (id : Text) → needs id s.rules ≡ true → is_some (first_of id (rows_after s.rules [] words)) ≡ true
 needed_value s words fill asks e id need =
@@ -70,7 +70,7 @@ needed_value s words fill asks e id need =
 
 -- ---- a command is named
 
--- the walk stopped at no `help`
+-- the walk did not stop at `help`
 abbrev StopsElsewhere : Option (Text × List Text) → Type 0
 StopsElsewhere None = Unit {0}
 StopsElsewhere (Some p) = bytes_eq p.0 (codes "help") ≡ false
@@ -100,7 +100,7 @@ module _ (c : List Rule) where
       go (Some flags) = after_names_none waiting word (bundle c flags h).0 (bundle c flags h).1
 
 module _ (s : Shape) (names : Names) (helps : s.disable_help_subcommand ≡ false) where
-  -- the step names no `help`
+  -- the step does not name `help`
   abbrev NotHelp : Step → Type 0
   NotHelp (subcommand name) = bytes_eq name (codes "help") ≡ false
   NotHelp _ = Unit {0}
@@ -157,7 +157,7 @@ module _ (s : Shape) (names : Names) (helps : s.disable_help_subcommand ≡ fals
       let steps = or_none _ _ e in
       walk_elsewhere (walked s.rules names w x) xs steps.1 (turn_elsewhere w x steps.0 so_far)
 
--- the command that the words name, with the words that are left to it
+-- the command that the words name, with the words after it
 pub record Enters (a : App) (words : List Text) : Type 0 where
   pub name : Text
   pub rest : List Text
@@ -167,7 +167,7 @@ pub record Enters (a : App) (words : List Text) : Type 0 where
   pub not_help : bytes_eq name (codes "help") ≡ false
   pub fault_free : level_fault shape [] nothing_held rest false [] ≡ []
 
--- words without a fault name a command, where one is required, and it is not `help`
+-- words without a fault name a command, if one is required, and it is not `help`
 pub enters : (a : App) (words : List Text) → a.top.disable_help_subcommand ≡ false → a.top.subcommand_required ≡ true → built_fault a nothing_held words ≡ [] → Enters a words
 enters a words helps required e =
     let stop = stop_after a.top.rules (names_of a) words in

@@ -1,4 +1,4 @@
--- At words that have no fault, each row of the matches has a value.
+-- If the words have no fault, each row of the matches has a value.
 use Rattle.std.proofs.Common.{◌≡◌, ◌<◌, ◌&&◌, ◌||◌, ℕ, Bool, cond, true, false, not, zero, suc, refl, arith, List, [], ◌∷◌, ◌++◌, ◌+◌, min, length, Option, Some, None, is_some, nat_lt}
 use Rattle.std.specs.List.{find, fold, list_all}
 use Rattle.std.specs.Option.{option_map_or}
@@ -72,7 +72,7 @@ full_count id how s n rows f = full_at id (new_count s n) _ rows (λ r h. (omega
 
 -- ---- one use of an argument
 
--- a use of the argument has a value, or one stands for it
+-- a use of the argument has a value, or there is a value for a use without one
 abbrev has_value : Rule → Bool
 has_value a = nat_lt 0 (unwrap_or_range a.range).start_inclusive || not (is_empty a.missing)
 
@@ -83,7 +83,7 @@ fills_as SetFalse a = has_value a
 fills_as Append a = has_value a
 fills_as _ a = true
 
--- a use of the argument makes no row without a value
+-- a use of the argument never makes a row without a value
 abbrev pub fills : Rule → Bool
 fills a = fills_as (action_of a) a
 
@@ -292,7 +292,7 @@ module _ (s : Shape) (names : Names) (fill : list_all fills s.rules ≡ true) wh
   full_defaults [] rows f = f
   full_defaults (a ∷ rest) rows f = full_defaults rest (with_default rows a) (full_default rows a f)
 
-  -- each row of a level with no fault has a value
+  -- each row of a level without a fault has a value
   pub full_level : (words : List Text) (has_subcommand : Bool) (below : Kinds) → IsFaultFree s names words has_subcommand below → Full (rows_after s.rules names words)
   full_level words has_subcommand below free =
       let held = (walk s.rules names nothing_held words).held in

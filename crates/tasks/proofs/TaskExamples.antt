@@ -1,4 +1,4 @@
--- The program's words on examples: what clap's own definition makes of them, by computation.
+-- Examples of command lines, evaluated by clap's own definition.
 use Rattle.std.proofs.Common.{◌≡◌, true, inl, inr, refl, ap, List, [], ◌∷◌, Option, Some, None, is_some, codes}
 use Rattle.std.specs.Option.{option_map_or}
 use Rattle.std.specs.Prelude.{option_map}
@@ -174,7 +174,7 @@ words_give_both : option_map secrets_in (subcommand_of drop_app (secret_words gi
 unfolding drop_app init_app desk_app target_app link_app links_app manifest_app compare_app list_app export_app replay_app serve_app migrate_app file_rule line_rule what_rule dir_rule box_rule streams_rule at_rule method_rule target_rule clerk_rule secret_rule secret_file_rule key_rule host_rule region_rule start_rule expires_rule east_rule west_rule allowance_rule listen_rule connections_rule patience_rule open_rule manifest_rule clap_on_literals
 words_give_both = refl
 
--- clap takes the words of all four
+-- clap accepts the words of all four
 clap_takes_a_file : takes drop_app (secret_words given_file) ≡ true
 unfolding drop_app init_app desk_app target_app link_app links_app manifest_app compare_app list_app export_app replay_app serve_app migrate_app file_rule line_rule what_rule dir_rule box_rule streams_rule at_rule method_rule target_rule clerk_rule secret_rule secret_file_rule key_rule host_rule region_rule start_rule expires_rule east_rule west_rule allowance_rule listen_rule connections_rule patience_rule open_rule manifest_rule clap_on_literals
 clap_takes_a_file = refl
@@ -191,7 +191,7 @@ no_value_of_a_file : fault_of drop_app (secret_words (codes "--secret-file" ∷ 
 unfolding drop_app init_app desk_app target_app link_app links_app manifest_app compare_app list_app export_app replay_app serve_app migrate_app file_rule line_rule what_rule dir_rule box_rule streams_rule at_rule method_rule target_rule clerk_rule secret_rule secret_file_rule key_rule host_rule region_rule start_rule expires_rule east_rule west_rule allowance_rule listen_rule connections_rule patience_rule open_rule manifest_rule clap_on_literals
 no_value_of_a_file = refl
 
--- and the last two are refused
+-- the last two are refused
 abbrev Given : Type 0
 Given = Option (Text × Option Text × Option Text)
 
@@ -240,7 +240,7 @@ a_line_without_quotes : fault_of drop_app (desk_words (codes "key" ∷ codes "re
 unfolding drop_app init_app desk_app target_app link_app links_app manifest_app compare_app list_app export_app replay_app serve_app migrate_app file_rule line_rule what_rule dir_rule box_rule streams_rule at_rule method_rule target_rule clerk_rule secret_rule secret_file_rule key_rule host_rule region_rule start_rule expires_rule east_rule west_rule allowance_rule listen_rule connections_rule patience_rule open_rule manifest_rule clap_on_literals
 a_line_without_quotes = refl
 
--- many links, a manifest and what stands of it
+-- many links, a manifest, and comparing one
 abbrev links_words : List Text → List Text
 links_words more = codes "drop" ∷ codes "links" ∷ codes "f" ∷ codes "--key" ∷ codes "k" ∷ codes "--host" ∷ codes "h" ∷ more
 
@@ -270,7 +270,7 @@ no_office : fault_of drop_app (codes "drop" ∷ codes "manifest" ∷ []) ≡ Mis
 unfolding drop_app init_app desk_app target_app link_app links_app manifest_app compare_app list_app export_app replay_app serve_app migrate_app file_rule line_rule what_rule dir_rule box_rule streams_rule at_rule method_rule target_rule clerk_rule secret_rule secret_file_rule key_rule host_rule region_rule start_rule expires_rule east_rule west_rule allowance_rule listen_rule connections_rule patience_rule open_rule manifest_rule clap_on_literals
 no_office = refl
 
--- a file that is taken over
+-- a migration of a file
 words_name_a_migration : option_map file_in (subcommand_of drop_app (codes "drop" ∷ codes "migrate" ∷ codes "f" ∷ [])) ≡ Some (codes "migrate", Some (codes "f"))
 unfolding drop_app init_app desk_app target_app link_app links_app manifest_app compare_app list_app export_app replay_app serve_app migrate_app file_rule line_rule what_rule dir_rule box_rule streams_rule at_rule method_rule target_rule clerk_rule secret_rule secret_file_rule key_rule host_rule region_rule start_rule expires_rule east_rule west_rule allowance_rule listen_rule connections_rule patience_rule open_rule manifest_rule clap_on_literals
 words_name_a_migration = refl

@@ -1,4 +1,4 @@
--- What the task and the kinds of faults say of the secrets of init.
+-- What the task and the kinds of faults tell about the secrets of init.
 use Rattle.std.proofs.Common.{◌≡◌, ◌⊎◌, inl, inr, ◌∙◌, ℕ, eqb, refl, true, false, sym, ap, subst, List, [], slice_index, Option, Some, None, is_some, Result, Ok, Err, IfOk, IsErrAnd, MatchResult, codes}
 use Rattle.std.specs.Option.{option_map_or}
 use Rattle.std.specs.Prelude.{option_map}
@@ -49,7 +49,7 @@ other_name n rows named k is fault =
     let own = init_named named k fault in
     ap (λ (t : Text). slice_index t 0) (same_name n (codes "init") rows own.0 named is own.1)
 
--- a name that begins with another letter than that of `init`
+-- a name that begins with another letter than `init`
 not_init : (letter : ℕ) → eqb letter 105 ≡ false → letter ≡ 105 → ⊥
 not_init letter other is =
     let same : eqb 105 105 ≡ false = subst (λ l. eqb l 105 ≡ false) is other in
@@ -85,7 +85,7 @@ no_task named (task.Replay r) k (rows, is, values) fault = not_init 114 refl (ot
 no_task named (task.Serve s) k (rows, is, values) fault = not_init 115 refl (other_name (codes "serve") rows named k is fault)
 no_task named (task.Migrate o) k (rows, is, values) fault = not_init 109 refl (other_name (codes "migrate") rows named k is fault)
 
--- ---- what the clauses of `Task::read` say of each other
+-- ---- how the clauses of `Task::read` relate
 
 abbrev HasFault : List Text → Result Task Error → Type 0
 HasFault words r = MatchResult r (λ _. fault_of drop_app words ≡ []) (λ e. (kind_of e ≡ OutOfMemory) ⊎ IsFaultOf words (kind_of e))
@@ -110,7 +110,7 @@ pub refused_by : (words : List Text) (r : Result Task Error) (e : Error) → IsE
 refused_by words (Ok t) e is fails = absurd is
 refused_by words (Err y) e is fails = refused words (Err y) tt (has_fault words (Err y) fails)
 
--- the matches of a command are those of the one that is named
+-- the matches of a command are those of the command that is named
 pub rows_of_init : (rows more : List Row) (named : Named) → option_map (λ p. p.1) named ≡ Some rows → named ≡ Some (codes "init", more) → rows ≡ more
 rows_of_init rows more named of is =
     let both : Some rows ≡ Some more = sym of ∙ ap (option_map (λ (p : Text × List Row). p.1)) is in

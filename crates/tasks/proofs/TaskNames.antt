@@ -1,4 +1,4 @@
--- Words at which the program's command line has no fault name a task.
+-- Words without a fault name a task.
 use Rattle.std.proofs.Common.{◌≡◌, ◌⊎◌, inl, inr, ◌∙◌, ◌||◌, Bool, cond, true, false, refl, sym, ap, subst, List, [], ◌∷◌, Option, Some, None, codes}
 use Rattle.std.specs.List.{find, list_all}
 use Rattle.std.specs.Str.{bytes_eq}
@@ -23,7 +23,7 @@ simple_and_free = refl
 
 -- ---- the commands as clap builds them
 
--- the settings that a command of the program takes from it
+-- the settings that a command inherits from the program
 settings : Shape
 unfolding drop_app
 settings = (on_top with_leaf_noted (on_top marked_built drop_app)).top
@@ -439,7 +439,7 @@ migrate_needs_file = refl
 migrate_values : (words : List Text) → level_fault migrate_built [] nothing_held words false [] ≡ [] → HasValue (codes "file") (rows_after migrate_built.rules [] words)
 migrate_values words free = needed_value migrate_built words migrate_fills migrate_asks free (codes "file") migrate_needs_file
 
--- ---- the command that words without a fault name
+-- ---- the command that is named by words without a fault
 
 help_named : (name : Text) → bytes_eq name (codes "help") ≡ false → answers_to name (label_of help_built) ≡ false
 unfolding help_built
@@ -476,7 +476,7 @@ found_task name s elsewhere found =
     go false false false false false false false false false false false true z at = let bad : ⊥ = cc in absurd bad
     go false false false false false false false false false false false false z at = let bad : ⊥ = cc in absurd bad
 
--- the words name the command of this shape, and have no fault in it
+-- the words name the command of this shape without a fault
 module _ (words : List Text) (e : Enters (built drop_app) (argument_words drop_app words)) (s : Shape) (is : s ≡ e.shape) where
   rows_named : (name : Text) → s.name ≡ name → subcommand_of drop_app words ≡ Some (name, rows_after s.rules [] e.rest)
   rows_named name called = e.entered ∙ ap (λ x. Some (rows_at x e.rest)) (sym is) ∙ ap (λ (n : Text). Some (n, rows_after s.rules [] e.rest)) called
@@ -505,7 +505,7 @@ task_named words free one =
       | inr (inr (inr (inr (inr (inr is))))) ↦ inr (inr (inr (inr (inr (inr (rows_after migrate_built.rules [] e.rest, rows_named words e migrate_built is (codes "migrate") migrate_name, migrate_values e.rest (free_here words e migrate_built is)))))))
     ]
 
--- ---- of a command that reads as the program's own
+-- ---- a command that parses like the program's own
 
 pub free_of : (a : App) (words : List Text) → a ≡ drop_app → (is_simple_and_free a ≡ true → fault_of a words ≡ []) → fault_of drop_app words ≡ []
 free_of a words is free = ap (λ x. fault_of x words) (sym is) ∙ free (ap is_simple_and_free is ∙ simple_and_free)

@@ -1,4 +1,4 @@
--- The texts that the getters of the matches give, by the rows of the matches.
+-- The texts that the getters return, by the rows of the matches.
 use Rattle.std.proofs.Common.{rules, ◌≡◌, ◌∙◌, ap, refl, subst, sym, false, true, List, map, Option, Some, None, is_some, Bor}
 use Rattle.std.specs.Prelude.{option_map, IfSome, IsSome}
 use Rattle.clap.specs.Words.{Text, all_of, first_of, first_value, matched_of, raw_values, rows_of}

@@ -1,4 +1,4 @@
--- The command line of the program, as clap reads it, and the task that its words name.
+-- The command line of the program, as clap parses it, and the task that its words name.
 use Rattle.std.specs.Prelude.{◌≡◌, ◌⊎◌, [], ◌∷◌, List, codes, map, option_map, Option, Some, None, is_some, true}
 use Rattle.clap.specs.Lexer.{usize_max}
 use Rattle.clap.specs.Words.{App, IsAmong, Row, Rule, Text, all_of, fault_of, first_of, new_app, new_rule, subcommand_of, with_rule, with_subcommand}
@@ -20,7 +20,7 @@ use Rattle.tasks.specs.declared.task.Serve.{Serve}
 use Rattle.tasks.specs.declared.task.Task.{Task}
 use Rattle.tasks.specs.declared.task.Task.TheVariants as task
 
--- ---- the words of the commands; help calls each value by one name
+-- ---- the words of the commands; the help has one name for each value
 
 -- FILE and the like
 abbrev pub word_rule : Text → Rule
@@ -30,7 +30,7 @@ word_rule id = record (new_rule id) { value_names = 1; required = true }
 abbrev pub option_rule : Text → Rule
 option_rule id = record (new_rule id) { long = Some id; value_names = 1; required = true }
 
--- --secret SECRET and the like, which may be left out
+-- --secret SECRET and the like, which are optional
 abbrev pub optional_rule : Text → Rule
 optional_rule id = record (new_rule id) { long = Some id; value_names = 1 }
 
@@ -38,7 +38,7 @@ optional_rule id = record (new_rule id) { long = Some id; value_names = 1 }
 unfoldable pub file_rule : Rule
 file_rule = word_rule (codes "file")
 
--- STREAM.., one or more
+-- STREAM.., at least one
 unfoldable pub streams_rule : Rule
 streams_rule = record (word_rule (codes "stream")) { range = Some (record { start_inclusive = 1; end_inclusive = usize_max }) }
 
@@ -64,7 +64,7 @@ what_rule = word_rule (codes "what")
 unfoldable pub dir_rule : Rule
 dir_rule = word_rule (codes "dir")
 
--- --box NAME, which may be left out
+-- --box NAME, optional
 unfoldable pub box_rule : Rule
 box_rule = optional_rule (codes "box")
 
@@ -84,7 +84,8 @@ region_rule = option_rule (codes "region")
 unfoldable pub start_rule : Rule
 start_rule = option_rule (codes "start")
 
--- --secret SECRET and --secret-file SECRETFILE. That one of the two is given clap is not told: Task::read sees to it
+-- --secret SECRET and --secret-file SECRETFILE. clap does not know that exactly one of them is required;
+-- Task::read checks it.
 unfoldable pub secret_rule : Rule
 secret_rule = optional_rule (codes "secret")
 
@@ -103,19 +104,19 @@ listen_rule = option_rule (codes "listen")
 unfoldable pub connections_rule : Rule
 connections_rule = record (option_rule (codes "connections")) { parser = Some (Unsigned 1 1000000) }
 
--- --patience SECONDS, a whole number from 0 to 3600, and 30 where it is left out
+-- --patience SECONDS, a whole number from 0 to 3600, 30 by default
 unfoldable pub patience_rule : Rule
 patience_rule = record (new_rule (codes "patience")) { long = Some (codes "patience"); value_names = 1; defaults = codes "30" ∷ []; parser = Some (Unsigned 0 3600) }
 
--- --open N, a whole number from 1 to 4096, and 512 where it is left out
+-- --open N, a whole number from 1 to 4096, 512 by default
 unfoldable pub open_rule : Rule
 open_rule = record (new_rule (codes "open")) { long = Some (codes "open"); value_names = 1; defaults = codes "512" ∷ []; parser = Some (Unsigned 1 4096) }
 
--- --manifest OUT, which may be left out
+-- --manifest OUT, optional
 unfoldable pub manifest_rule : Rule
 manifest_rule = optional_rule (codes "manifest")
 
--- --east M and --west M, whole numbers from 0 to 840, and 0 where they are left out
+-- --east M and --west M, whole numbers from 0 to 840, 0 by default
 abbrev pub minutes_rule : Text → Rule
 minutes_rule id = record (new_rule id) { long = Some id; value_names = 1; defaults = codes "0" ∷ []; parser = Some (Unsigned 0 840) }
 
@@ -125,7 +126,7 @@ east_rule = minutes_rule (codes "east")
 unfoldable pub west_rule : Rule
 west_rule = minutes_rule (codes "west")
 
--- --allowance N, a whole number from 0 to 900, and 0 where it is left out
+-- --allowance N, a whole number from 0 to 900, 0 by default
 unfoldable pub allowance_rule : Rule
 allowance_rule = record (new_rule (codes "allowance")) { long = Some (codes "allowance"); value_names = 1; defaults = codes "0" ∷ []; parser = Some (Unsigned 0 900) }
 
@@ -183,7 +184,7 @@ serve_app =
 unfoldable pub migrate_app : App
 migrate_app = with_rule (new_app (codes "migrate")) file_rule
 
--- drop COMMAND, which answers with help where no word follows, and tells its version
+-- drop COMMAND, which shows help if no word follows, and can show its version
 unfoldable pub drop_app : App
 drop_app =
     let needs_command = on_top (λ s. record s { subcommand_required = true; arg_required_else_help = true; has_version = true }) (new_app (codes "drop")) in
@@ -192,14 +193,14 @@ drop_app =
     let with_files = with_subcommand (with_subcommand with_lists list_app.top) export_app.top in
     with_subcommand (with_subcommand (with_subcommand with_files replay_app.top) serve_app.top) migrate_app.top
 
--- ---- the values that the matches give
+-- ---- the values in the matches
 
--- the matches give this secret, and not in the other way too
+-- the matches contain this secret, and not the other kind
 abbrev pub IsSecretIn : List Row → Secret → Type 0
 IsSecretIn rows (secret.Given text) = (first_of (codes "secret") rows ≡ Some text.now) × (first_of (codes "secret-file") rows ≡ None)
 IsSecretIn rows (secret.InFile name) = (first_of (codes "secret") rows ≡ None) × (first_of (codes "secret-file") rows ≡ Some name.now)
 
--- the matches give these values
+-- the matches contain these values
 abbrev pub IsInitOf : List Row → Init → Type 0
 IsInitOf rows i =
     (first_of (codes "file") rows ≡ Some i.file.now)
@@ -240,7 +241,7 @@ IsListingIn rows l =
     (first_of (codes "file") rows ≡ Some l.file.now)
     × (first_of (codes "what") rows ≡ Some l.what.now)
 
--- what is not named has no value
+-- an argument that was not given has no value
 abbrev pub IsExportIn : List Row → Export → Type 0
 IsExportIn rows e =
     (first_of (codes "file") rows ≡ Some e.file.now)
@@ -262,16 +263,16 @@ IsServeIn rows s =
     × (first_of (codes "open") rows ≡ Some s.open.now)
     × (first_of (codes "manifest") rows ≡ option_map (λ m. m.now) s.manifest)
 
--- the matches give this argument a value
+-- the matches contain a value for this argument
 abbrev pub HasValue : Text → List Row → Type 0
 HasValue id rows = is_some (first_of id rows) ≡ true
 
--- the matches give one secret: as a word or in a file, and not both
+-- the matches contain exactly one secret, as a word or in a file
 abbrev pub HasOneSecret : List Row → Type 0
 HasOneSecret rows =
     (HasValue (codes "secret") rows × (first_of (codes "secret-file") rows ≡ None)) ⊎ ((first_of (codes "secret") rows ≡ None) × HasValue (codes "secret-file") rows)
 
--- the matches give each value
+-- the matches contain each value
 abbrev pub HasInit : List Row → Type 0
 HasInit rows =
     HasValue (codes "file") rows × HasValue (codes "clerk") rows × HasOneSecret rows × HasValue (codes "east") rows × HasValue (codes "west") rows
@@ -348,7 +349,7 @@ NamesList named = NamesLinks named ⊎ (NamesManifest named ⊎ (NamesCompare na
 abbrev pub NamesExport : Option (Text × List Row) → Type 0
 NamesExport named = (rows : List Row) × (named ≡ Some (codes "export", rows)) × HasExport rows
 
--- a list, or files that are exported
+-- a list or an export
 abbrev pub NamesStock : Option (Text × List Row) → Type 0
 NamesStock named = NamesList named ⊎ NamesExport named
 
@@ -368,22 +369,22 @@ NamesTask named =
 
 -- ---- the secret of init
 
--- init is named, and no secret is given
+-- init is named without a secret
 abbrev pub NamesNoSecret : Option (Text × List Row) → Type 0
 NamesNoSecret named =
     (rows : List Row) × (named ≡ Some (codes "init", rows)) × (first_of (codes "secret") rows ≡ None) × (first_of (codes "secret-file") rows ≡ None)
 
--- init is named, and a secret is given as a word and in a file
+-- init is named with two secrets, as a word and in a file
 abbrev pub NamesTwoSecrets : Option (Text × List Row) → Type 0
 NamesTwoSecrets named =
     (rows : List Row) × (named ≡ Some (codes "init", rows)) × HasValue (codes "secret") rows × HasValue (codes "secret-file") rows
 
--- the secrets of init are refused, as an error of this kind
+-- the secrets of init are refused with an error of this kind
 abbrev pub IsSecretFault : Option (Text × List Row) → ErrorKind → Type 0
 IsSecretFault named kind =
     (NamesNoSecret named × (kind ≡ MissingRequiredArgument)) ⊎ (NamesTwoSecrets named × (kind ≡ ArgumentConflict))
 
--- where init is named, it is given one secret
+-- if init is named, it has exactly one secret
 abbrev pub NamesOneSecret : Option (Text × List Row) → Type 0
 NamesOneSecret named = (rows : List Row) → named ≡ Some (codes "init", rows) → HasOneSecret rows
 
@@ -391,7 +392,8 @@ NamesOneSecret named = (rows : List Row) → named ≡ Some (codes "init", rows)
 abbrev pub IsTaskOf : List Text → Task → Type 0
 IsTaskOf words = IsTaskIn (subcommand_of drop_app words)
 
--- the words have a fault of this kind: by clap's own definition, or clap takes them and the secrets of init are refused
+-- The words have a fault of this kind. Either it is one by clap's own definition, or clap accepts them and
+-- the secrets of init are refused.
 abbrev pub IsFaultOf : List Text → ErrorKind → Type 0
 IsFaultOf words kind =
     IsAmong kind (fault_of drop_app words) ⊎ ((fault_of drop_app words ≡ []) × IsSecretFault (subcommand_of drop_app words) kind)

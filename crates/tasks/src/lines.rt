@@ -1,4 +1,4 @@
-//! A text that is one line, as a file or standard input holds it.
+//! A text that is one line, from a file or from standard input.
 ghost use Rattle.std.specs.Prelude.{◌≡◌, ◌++◌, ◌+◌, ◌↔◌, IfOk, IfSome, IsSomeAnd, IsTrue, List, option_map, take, ℕ};
 ghost use Rattle.tasks.specs.Lines.{IsEnd, IsLineOf, IsRest, IsShortLineOf, IsWithoutEnd};
 
@@ -6,8 +6,8 @@ use std::alloc::Global;
 use std::io;
 use std::io::Read;
 
-/// The line that the text is, without its end, which is LF, CR LF or nothing; `None` where the text is no line, or more than
-/// one. Takes no memory.
+/// The line that the text consists of, without its end, which is LF, CR LF or nothing. `None` if the text is
+/// not exactly one line. Takes no memory.
 pub fn line_in(text: &[u8]) -> Option<&[u8]>
     ensures line { IfSome result (λ line. IsLineOf text.now line.now) }
     ensures only { (line : List ℕ) → IsLineOf text.now line
@@ -17,7 +17,7 @@ pub fn line_in(text: &[u8]) -> Option<&[u8]>
     if is_end(end) { Some(line) } else { None }
 }
 
-// Whether that is the end of a line, with nothing behind it.
+// Whether this is the end of a line, with nothing after it.
 fn is_end(text: &[u8]) -> bool
     ensures { IsTrue result ↔ IsEnd text.now }
 {
@@ -27,7 +27,7 @@ fn is_end(text: &[u8]) -> bool
     text == b"\n".as_slice() || text == b"\r\n".as_slice()
 }
 
-// What stands before the first LF or CR, and the rest from there on.
+// The bytes before the first LF or CR, and the rest from there on.
 fn split_at_end(text: &[u8]) -> (&[u8], &[u8])
     ensures whole { text.now ≡ result.0.now ++ result.1.now }
     ensures front { IsWithoutEnd result.0.now }
@@ -40,15 +40,15 @@ fn split_at_end(text: &[u8]) -> (&[u8], &[u8])
     text.split_at(end)
 }
 
-/// The line that the whole text of a reader is, where it is one, of at most so many bytes; `None` where it is not. No more of
-/// the text is read than tells this: three bytes more than the line may have.
+/// The line that the whole text of a reader consists of, if it is one line of at most `most` bytes; otherwise
+/// `None`. Reads at most `most` + 3 bytes, which is enough to tell.
 pub fn read_line<R: Read + Drop>(alloc: Global, reader: R, most: u16) -> io::Result<Option<Vec<u8>>>
     ensures line { IfOk result
         (λ found. IfSome (R.remaining reader)
         (λ text. IsShortLineOf most text (option_map (λ line. line.items) found))) }
 {
     let mut text = Vec::new(alloc);
-    // The end has two bytes, and one more tells that something follows.
+    // Two bytes for the end of the line, and one to see whether anything follows.
     reader.take(u64::from(most) + 3).read_to_end(&mut text)?;
     match short_line_in(text.as_slice(), most) {
         Some(line) => Ok(Some(Vec::from_slice(alloc, line)?)),
@@ -56,7 +56,7 @@ pub fn read_line<R: Read + Drop>(alloc: Global, reader: R, most: u16) -> io::Res
     }
 }
 
-// The line of a text that begins so: with all of its bytes, or with three more than the line may have.
+// The line of a text that begins with `start`, which is the whole text or its first `most` + 3 bytes.
 fn short_line_in(start: &[u8], most: u16) -> Option<&[u8]>
     ensures { (text : List ℕ) → start.now ≡ take (most + 3) text
         → IsShortLineOf most text (option_map (λ line. line.now) result) }

@@ -1,4 +1,4 @@
-//! What the program's words ask for.
+//! The task that the command line asks for.
 ghost use Rattle.std.specs.Prelude.{◌≡◌, ◌⊎◌, [], IfOk, IfErr, IfSome, IsErrAnd, IsSome, MatchResult, None, Some, codes, is_some, true, map};
 ghost use Rattle.clap.specs.Words.{all_of, fault_of, first_of, found_of, kind_of, rows_of, subcommand_of, subcommand_rows_of, takes};
 ghost use Rattle.tasks.specs.Tasks.{drop_app, HasDesk, HasExport, HasInit, HasLink, HasLinks, HasListing, HasOneSecret, HasReplay, HasServe, HasValue, IsDeskIn, IsExportIn, IsFaultOf, IsInitOf, IsLinkIn, IsLinksIn, IsListingIn, IsOfficeIn, IsReplayOf, IsSecretFault, IsSecretIn, IsServeIn, IsTaskIn, IsTaskOf, NamesCompare, NamesDesk, NamesExport, NamesInit, NamesLink, NamesLinks, NamesList, NamesListing, NamesManifest, NamesMigrate, NamesOneSecret, NamesReplay, NamesServe, NamesStock, NamesTask};
@@ -8,12 +8,12 @@ use clap::error::ErrorKind;
 use clap::{ArgMatches, Error};
 use std::alloc::{AllocError, Global};
 
-/// What the program is asked to do. It has no `Debug`, so that no secret gets into a log by it.
+/// What the program is asked to do. It has no `Debug`, so that no secret gets into a log.
 #[derive(Drop)]
 pub enum Task<'a> {
     /// Make an office file.
     Init(Init<'a>),
-    /// Do a command of the desk.
+    /// Do a desk command.
     Desk(Desk<'a>),
     /// Write a link.
     Link(Link<'a>),
@@ -21,9 +21,9 @@ pub enum Task<'a> {
     Links(Links<'a>),
     /// Write the receipts.
     Manifest(OfficeFile<'a>),
-    /// Tell what stands of a manifest.
+    /// Compare a manifest with the files of the office.
     Compare(OfficeFile<'a>),
-    /// List what the office keeps.
+    /// List what the office holds.
     List(Listing<'a>),
     /// Write the files into a folder.
     Export(Export<'a>),
@@ -31,13 +31,13 @@ pub enum Task<'a> {
     Replay(Replay<'a>),
     /// Serve connections over a socket.
     Serve(Serve<'a>),
-    /// Take an office file of version 1 over to version 2.
+    /// Migrate an office file from version 1 to version 2.
     Migrate(OfficeFile<'a>),
 }
 
-/// The words of `drop init FILE --clerk ID --secret SECRET --east M --west M --allowance N`, or with `--secret-file
-/// SECRETFILE` in the place of `--secret SECRET`, each as it was given, and the three numbers `0` where they were left out.
-/// M is from 0 to 840 and N from 0 to 900; of the others no form is asked here.
+/// The values of `drop init FILE --clerk ID --secret SECRET --east M --west M --allowance N`, or with
+/// `--secret-file SECRETFILE` instead of `--secret SECRET`. Each is the text as it was given, and the three
+/// numbers default to `0`. M is 0 to 840 and N is 0 to 900; no other value is checked here.
 #[derive(Clone, Copy)]
 pub struct Init<'a> {
     /// The office file.
@@ -50,21 +50,21 @@ pub struct Init<'a> {
     pub east: &'a str,
     /// How many minutes it is behind UTC.
     pub west: &'a str,
-    /// How many seconds before its start a link is taken.
+    /// How many seconds before its start a link is accepted.
     pub allowance: &'a str,
 }
 
-/// Where the secret of a key stands. It has no `Debug`, so that no secret gets into a log by it.
+/// The source of a key's secret. It has no `Debug`, so that no secret gets into a log.
 #[derive(Clone, Copy)]
 pub enum Secret<'a> {
-    /// It is this word.
+    /// The secret itself.
     Given(&'a str),
-    /// It is the line of the file of this name.
+    /// The name of a file whose line is the secret.
     InFile(&'a str),
 }
 
-/// The words of `drop desk FILE LINE`, each as it was given: no form is asked of them here. It has no `Debug`, since a line
-/// may hold a secret.
+/// The values of `drop desk FILE LINE`, as they were given. They are not checked here. It has no `Debug`,
+/// because a line may contain a secret.
 #[derive(Clone, Copy)]
 pub struct Desk<'a> {
     /// The office file.
@@ -73,15 +73,15 @@ pub struct Desk<'a> {
     pub line: &'a str,
 }
 
-/// The words of `drop link FILE METHOD TARGET --key ID --host H --region R --start MOMENT --expires N`, each as it was given.
-/// N is from 1 to 604800; of the others no form is asked here.
+/// The values of `drop link FILE METHOD TARGET --key ID --host H --region R --start MOMENT --expires N`, as
+/// they were given. N is 1 to 604800; no other value is checked here.
 #[derive(Clone, Copy)]
 pub struct Link<'a> {
     /// The office file.
     pub file: &'a str,
     /// The method.
     pub method: &'a str,
-    /// The box and the name; for POST a command of the desk.
+    /// The box and the name, or for POST a desk command.
     pub target: &'a str,
     /// The id of the key that signs.
     pub key: &'a str,
@@ -89,13 +89,14 @@ pub struct Link<'a> {
     pub host: &'a str,
     /// The region.
     pub region: &'a str,
-    /// The first moment at which the link is good.
+    /// The first moment at which the link is valid.
     pub start: &'a str,
-    /// For how many seconds it is good.
+    /// For how many seconds it is valid.
     pub expires: &'a str,
 }
 
-/// The words of `drop links FILE --key ID --host H --region R`, each as it was given: no form is asked of them here.
+/// The values of `drop links FILE --key ID --host H --region R`, as they were given. They are not checked
+/// here.
 #[derive(Clone, Copy)]
 pub struct Links<'a> {
     /// The office file.
@@ -108,68 +109,69 @@ pub struct Links<'a> {
     pub region: &'a str,
 }
 
-/// The word of `drop manifest FILE`, of `drop compare FILE` and of `drop migrate FILE`, as it was given.
+/// The value of `drop manifest FILE`, `drop compare FILE` or `drop migrate FILE`, as it was given.
 #[derive(Clone, Copy)]
 pub struct OfficeFile<'a> {
     /// The office file.
     pub file: &'a str,
 }
 
-/// The words of `drop list FILE WHAT`, each as it was given: no form is asked of them here.
+/// The values of `drop list FILE WHAT`, as they were given. They are not checked here.
 #[derive(Clone, Copy)]
 pub struct Listing<'a> {
     /// The office file.
     pub file: &'a str,
-    /// What is listed.
+    /// What to list.
     pub what: &'a str,
 }
 
-/// The words of `drop export FILE DIR --box NAME`, each as it was given: no form is asked of them here.
+/// The values of `drop export FILE DIR --box NAME`, as they were given. They are not checked here.
 #[derive(Clone, Copy)]
 pub struct Export<'a> {
     /// The office file.
     pub file: &'a str,
     /// The folder to make.
     pub folder: &'a str,
-    /// The box whose files are written alone, if one is named.
+    /// The box to which the export is limited, if one is named.
     pub in_box: Option<&'a str>,
 }
 
-/// The words of `drop replay FILE STREAM.. --at MOMENT`, each as it was given: no form is asked of them here.
+/// The values of `drop replay FILE STREAM.. --at MOMENT`, as they were given. They are not checked here.
 #[derive(Drop)]
 pub struct Replay<'a> {
     /// The office.
     pub file: &'a str,
     /// The moment at which the requests are answered.
     pub at: &'a str,
-    /// The names of the files that hold the bytes of the connections: one or more.
+    /// The names of the files that hold the bytes of the connections, at least one.
     pub streams: Vec<&'a str>,
 }
 
-/// The words of `drop serve FILE --listen ADDR --connections N --patience SECONDS --open N --manifest OUT`, each as it was given, and the
-/// seconds `30` and the open connections `512` where they were left out. The connections are from 1 to 1000000, SECONDS from 0
-/// to 3600, and the open ones from 1 to 4096; of the others no form is asked here.
+/// The values of `drop serve FILE --listen ADDR --connections N --patience SECONDS --open N --manifest OUT`,
+/// as they were given. SECONDS defaults to `30`, and the open connections to `512`. The connections are 1 to
+/// 1000000, SECONDS is 0 to 3600, and the open connections are 1 to 4096; no other value is checked here.
 #[derive(Debug, Clone, Copy)]
 pub struct Serve<'a> {
     /// The office file.
     pub file: &'a str,
-    /// The address to listen at.
+    /// The address to listen on.
     pub listen: &'a str,
-    /// How many connections are served.
+    /// How many connections to serve.
     pub connections: &'a str,
     /// For how many seconds a peer may keep the office waiting.
     pub patience: &'a str,
     /// How many connections may be open at a time.
     pub open: &'a str,
-    /// The file that is kept to be the manifest, if one is named.
+    /// The file that is kept up to date as the manifest, if one is named.
     pub manifest: Option<&'a str>,
 }
 
 impl<'a> Task<'a> {
-    /// Reads all the words of the program, its own name first.
+    /// Parses the words of the command line. The first is the program's name.
     ///
-    /// The error is clap's, for a mistake and for help that was asked for. Its `Display` is the whole text for the
-    /// user, `use_stderr` says where it goes, and `exit_code` is the status: 2, or 0 for help.
+    /// The error is that of clap, for a mistake or for help that was asked for. Its `Display` is the whole
+    /// text for the user, `use_stderr` tells which stream to write it to, and `exit_code` is the exit status:
+    /// 2, or 0 for help.
     pub fn read(alloc: Global, words: &'a [&'a str]) -> Result<Task<'a>, Error>
         ensures task { IfOk result (IsTaskOf (map (λ w. w.now) words.entry.now)) }
         ensures passes { IfErr result (λ e. takes drop_app (map (λ w. w.now) words.entry.now) ≡ true
@@ -192,7 +194,7 @@ impl<'a> Task<'a> {
         }
         match Task::of_matches(alloc, &matches)? {
             Some(task) => Ok(task),
-            // The contract says that it does not come to this: clap has refused such words.
+            // The contract rules this out: clap has refused such words.
             None => Err(command.error(ErrorKind::MissingSubcommand, "a command is missing")?),
         }
     }
@@ -249,7 +251,7 @@ impl<'a> Task<'a> {
         Some(Task::Link(Link::of_matches(values)?))
     }
 
-    // A list, or files that are exported.
+    // A list or an export.
     fn stock_in(matches: &ArgMatches<'a>) -> Option<Task<'a>>
         ensures task { IfSome result (IsTaskIn (subcommand_rows_of matches.now)) }
         ensures named { NamesStock (subcommand_rows_of matches.now) → IsSome result }
@@ -366,7 +368,7 @@ impl<'a> Init<'a> {
 }
 
 impl<'a> Secret<'a> {
-    // The one that was given, where it is one.
+    // The secret that was given, if exactly one was.
     fn of_matches(values: &ArgMatches<'a>) -> Option<Secret<'a>>
         ensures values { IfSome result (IsSecretIn (rows_of (found_of values.now))) }
         ensures given { HasOneSecret (rows_of (found_of values.now)) → IsSome result }
@@ -495,7 +497,7 @@ impl<'a> Replay<'a> {
     }
 }
 
-// What is wrong with the secrets of `init`, where the words name it: that none is given, or two.
+// What is wrong with the secrets of `init`, if the words name it: none or two are given.
 fn secret_fault(matches: &ArgMatches<'_>) -> Option<ErrorKind>
     ensures fault { IfSome result (IsSecretFault (subcommand_rows_of matches.now)) }
     ensures one { (result ≡ None) → NamesOneSecret (subcommand_rows_of matches.now) }
@@ -508,7 +510,7 @@ fn secret_fault(matches: &ArgMatches<'_>) -> Option<ErrorKind>
     }
 }
 
-// What is told of that, as clap tells it of the words that it refuses itself.
+// The error for that fault, worded like clap's own errors.
 fn secret_error(alloc: Global, kind: ErrorKind) -> Result<Error, AllocError>
     ensures kind { IfOk result (λ e. kind_of e ≡ kind) }
 {

@@ -11,15 +11,15 @@ use std::alloc::{AllocError, Global};
 // The version of the program.
 const VERSION: &str = "1.0.0";
 
-// The words of `init`: that one of its two secrets is given clap can't tell.
+// The usage line of `init`. It shows that one of the two secrets is required, which clap can't express.
 const INIT_USAGE: &str =
     "drop init [OPTIONS] --clerk <ID> <--secret <SECRET>|--secret-file <SECRETFILE>> <FILE>";
 
-// What FILE may be for `link` and `links`.
+// The help on FILE for `link` and `links`.
 const SIGNER: &str =
     "The office file; or key:SECRETFILE, a file with the secret of the key, where no office is opened";
 
-// What stands below the help of `desk`: the forms of its commands, each with an example.
+// The text after the help of `desk`: the forms of its commands, with examples.
 const DESK_FORMS: &str = "\
 The commands. One space stands between two words. Each example is a LINE, in quotes, as it stands:
 
@@ -72,7 +72,7 @@ While it is a word, others on this machine see the line, also its secret. With -
 input, which has one line and no more:
   drop desk office - <line";
 
-// What stands below the help of `links`: the rows that it reads and those that it writes.
+// The text after the help of `links`: the rows that it reads and writes.
 const LINK_ROWS: &str = "\
 The list is CSV. Its first row is the head, and each row below asks for one link:
 
@@ -91,7 +91,7 @@ the list and is named by its number, the row below the head being row 1. The row
 For an office file called office:
   drop links office --key tender-2 --host files.example --region us-east-1 <asked.csv >links.csv";
 
-// What stands below the help of `manifest`: the rows that it writes.
+// The text after the help of `manifest`: the rows that it writes.
 const RECEIPT_ROWS: &str = "\
 The list is CSV. Its first row is the head, and each row below is one receipt, from receipt 1 on:
 
@@ -110,7 +110,7 @@ A receipt stays, though its file was replaced or taken out: drop compare tells w
 For an office file called office:
   drop manifest office >manifest.csv";
 
-// What stands below the help of `compare`: the rows that it writes.
+// The text after the help of `compare`: the rows that it writes.
 const STATE_ROWS: &str = "\
 The manifest is one that drop manifest wrote. For each of its rows, in their order, a row is written as CSV:
 
@@ -126,7 +126,7 @@ head being row 1. The rows before it have been answered.
 For an office file called office:
   drop compare office <manifest.csv";
 
-// What stands below the help of `list`: the rows that it writes.
+// The text after the help of `list`: the rows that it writes.
 const LISTED_ROWS: &str = "\
 The list is CSV. Its first row is the head. The rows are in the order of ids, of boxes, or of boxes and then names.
 
@@ -148,7 +148,7 @@ files: one row for each file that stands in a box.
 For an office file called office:
   drop list office boxes >boxes.csv";
 
-// What stands below the help of `export`: what it makes.
+// The text after the help of `export`: the files that it makes.
 const EXPORTED: &str = "\
 DIR is made; it must not be there. Each file is DIR/BOX/NUMBER-NAME: NUMBER is that of its receipt, and NAME is the
 last part of its name, in which a character that some file system does not take is an underscore. Two lists lie beside
@@ -161,7 +161,7 @@ the boxes:
 For an office file called office:
   drop export office files";
 
-// What stands below the help of `migrate`: what has to be done before it.
+// The text after the help of `migrate`: what to do before it.
 const UPGRADE: &str = "\
 Before it the server is stopped, and the file is copied. All that the office keeps stays as it is: keys, boxes, files and
 receipts. The file is changed as a whole or not at all. Where it was stopped, run it again.
@@ -193,8 +193,8 @@ pub(crate) fn command_line<'a>(alloc: Global) -> Result<Command<'a>, AllocError>
         .subcommand(migrate_command(alloc)?)
 }
 
-/// `init FILE --clerk ID --secret SECRET --secret-file SECRETFILE --east M --west M --allowance N`. That one secret is given,
-/// and in one way, clap is not told.
+/// `init FILE --clerk ID --secret SECRET --secret-file SECRETFILE --east M --west M --allowance N`. clap does
+/// not know that exactly one of the two secrets is required.
 pub(crate) fn init_command<'a>(alloc: Global) -> Result<Command<'a>, AllocError>
     ensures app { IfOk result (λ c. app_of c ≡ init_app) }
     ensures local { IfOk result (λ c. (out-Command c).has_globals ≡ false) }
@@ -423,7 +423,7 @@ fn migrate_command<'a>(alloc: Global) -> Result<Command<'a>, AllocError>
         .arg(word(alloc, "file", "FILE", "The office file"))
 }
 
-// A value by its place among the words, by the name that help calls it.
+// A positional value, with the name that the help shows.
 fn word<'a>(alloc: Global, id: &'a str, name: &'a str, help: &'a str) -> Arg<'a>
     ensures rule { rule_of result ≡ word_rule id.entry.now }
     ensures local { result.global ≡ false }
@@ -434,7 +434,7 @@ fn word<'a>(alloc: Global, id: &'a str, name: &'a str, help: &'a str) -> Arg<'a>
         .help(help)
 }
 
-// One stream or more.
+// One or more streams.
 fn streams<'a>(alloc: Global) -> Arg<'a>
     ensures rule { rule_of result ≡ streams_rule }
     ensures local { result.global ≡ false }
@@ -460,7 +460,7 @@ fn option<'a>(alloc: Global, id: &'a str, name: &'a str, help: &'a str) -> Arg<'
         .help(help)
 }
 
-// `--id VALUE`, which may be left out.
+// `--id VALUE`, optional.
 fn optional<'a>(alloc: Global, id: &'a str, name: &'a str, help: &'a str) -> Arg<'a>
     ensures rule { rule_of result ≡ optional_rule id.entry.now }
     ensures local { result.global ≡ false }
@@ -530,7 +530,7 @@ fn connections_option<'a>(alloc: Global) -> Arg<'a>
     .value_parser(ValueParser::unsigned(1, 1_000_000))
 }
 
-// `--patience SECONDS`, 30 where it is left out.
+// `--patience SECONDS`, 30 by default.
 fn patience_option<'a>(alloc: Global) -> Arg<'a>
     ensures rule { rule_of result ≡ patience_rule }
     ensures local { result.global ≡ false }
@@ -543,7 +543,7 @@ fn patience_option<'a>(alloc: Global) -> Arg<'a>
         .help("How many seconds a peer may keep the office waiting, 0 to 3600; 0 is without end")
 }
 
-// `--open N`, 512 where it is left out.
+// `--open N`, 512 by default.
 fn open_option<'a>(alloc: Global) -> Arg<'a>
     ensures rule { rule_of result ≡ open_rule }
     ensures local { result.global ≡ false }
@@ -556,7 +556,7 @@ fn open_option<'a>(alloc: Global) -> Arg<'a>
         .help("How many connections may be open at a time: 1 to 4096")
 }
 
-// `--allowance N`, 0 where it is left out.
+// `--allowance N`, 0 by default.
 fn allowance_option<'a>(alloc: Global) -> Arg<'a>
     ensures rule { rule_of result ≡ allowance_rule }
     ensures local { result.global ≡ false }
@@ -569,7 +569,7 @@ fn allowance_option<'a>(alloc: Global) -> Arg<'a>
         .help("How many seconds before its start a link is taken already: 0 to 900")
 }
 
-// `--id M`, a whole number of minutes, 0 where it is left out.
+// `--id M`, a whole number of minutes, 0 by default.
 fn minutes<'a>(alloc: Global, id: &'a str, help: &'a str) -> Arg<'a>
     ensures rule { rule_of result ≡ minutes_rule id.entry.now }
     ensures local { result.global ≡ false }

@@ -79,7 +79,7 @@ pub fn gather_slot<S: Read, W: Write>(
 }
 
 /// Returns the bytes that the connection's feed read and did not take to those that were read ahead. Frees
-/// the memory if there are none. Returns the feed's buffer, if it had one of its own. If there is no
+/// the memory if no bytes are ahead then. Returns the feed's buffer, if it had one of its own. If there is no
 /// connection, or it has ended, nothing is done and no buffer is returned.
 pub fn settle_slot<S: Read, W: Write>(
     slots: &mut [Option<Seat<Gathered<S>, W>>],

@@ -74,7 +74,7 @@ returns-in-Some-2-clause-secrets c =
     (found_is c.in_ok-task.field-0 c.in-Some-2.task _ c.in_ok-task.ensures.task c.in-Some-2.is))
     (free_of _ _ c.in_ok-command.ensures c.in_ok-matches.ensures.kinds)
 
--- ---- it does not come to this
+-- ---- this case does not occur
 
 pub returns-clause-passes : goal.returns-clause-passes
 returns-clause-passes c =
