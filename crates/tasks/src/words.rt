@@ -17,59 +17,59 @@ const INIT_USAGE: &str =
 
 // The help on FILE for `link` and `links`.
 const SIGNER: &str =
-    "The office file; or key:SECRETFILE, a file with the secret of the key, where no office is opened";
+    "The office file, or key:SECRETFILE to sign with the secret in SECRETFILE without opening an office";
 
 // The text after the help of `desk`: the forms of its commands, with examples.
 const DESK_FORMS: &str = "\
-The commands. One space stands between two words. Each example is a LINE, in quotes, as it stands:
+The commands. Words are separated by single spaces. Put each command in quotes, so that it is one LINE:
 
   key add ID ROLE SECRET
-      Adds a key. An id that was ever given, also to a key that is revoked, can't be given again.
+      Adds a key. An id can't be used twice, even after its key is revoked.
         ID             1 to 64 of A-Z a-z 0-9 - _
-        ROLE           clerk, for the desk and for files, or link, for files alone
+        ROLE           clerk (desk and files) or link (files only)
         SECRET         1 to 128 visible ASCII characters without spaces
       Example: key add tender-2 link 3kQz7mWx0PbT
 
   key revoke ID
-      Ends a key for good: its links are refused from then on. The last clerk's key can't be revoked.
+      Revokes a key for good. Its links are refused from then on. The last clerk's key can't be revoked.
       Example: key revoke tender-2
 
   box add NAME OPENS CLOSES DAYS FROM TO QUOTA FILES MODE RULE
-      Adds a box. All of these are given, in this order, and numbers without leading zeros.
+      Adds a box. All values are required, in this order. Numbers have no leading zeros.
         NAME           1 to 63 of a-z 0-9 - .
-        OPENS, CLOSES  when uploads begin and when they end, in UTC: 20261201T080000Z
-        DAYS           the days it is open, Monday first, 1 open, 0 shut: 1111100 is Monday to Friday
-        FROM, TO       its hours on such a day by the office's clock, 0000 to 2400, FROM the earlier: 0800 1800
+        OPENS, CLOSES  when uploads begin and end, in UTC: 20261201T080000Z
+        DAYS           a digit for each weekday from Monday, 1 open, 0 closed: 1111100 is Monday to Friday
+        FROM, TO       its hours on an open day, by the office's clock: 0000 to 2400, FROM before TO, as 0800 1800
         QUOTA          the most bytes it holds, 0 to 1000000000000
         FILES          the most files it holds, 0 to 1000000
-        MODE           keep, where a file stays as it is, or replace, where another of its name takes its place
-        RULE           any for all names; ends .pdf,.zip for those that end so, with 1 to 8 endings of 1 to 32 bytes;
-                       begins offer- for those that begin so, with 1 to 64 bytes. No commas or spaces in them, and
-                       A is not a
+        MODE           keep (a file stays as it is) or replace (an upload replaces the file of its name)
+        RULE           the names it accepts. any: all names. ends .pdf,.zip: names with one of these endings (1 to 8
+                       endings of 1 to 32 bytes). begins offer-: names with this beginning (1 to 64 bytes).
+                       Endings and beginnings have no commas or spaces, and A and a differ
       Example: box add roadworks 20261201T080000Z 20261215T110000Z 1111100 0800 1800 1000000000 500 keep ends .pdf,.zip
 
   box close NAME MOMENT
-      Sets when uploads to a box end, in UTC: earlier than it was, or later.
+      Sets the end of uploads to a box, in UTC. It may be earlier or later than before.
       Example: box close roadworks 20261210T110000Z
 
   file drop BOX NAME
-      Takes a file out of a box. Its receipt stays. NAME may hold spaces.
+      Removes a file from a box. Its receipt is kept. NAME may contain spaces.
       Example: file drop roadworks plan 2.pdf
 
   key limit ID BOX
-      Limits a key of role link to a box. The next such line gives it one box more. From the first on its links to
-      other boxes are refused. There is no way back: add another key instead.
+      Limits a key of role link to a box. Each further such command adds a box. Links of the key to any other box
+      are refused. A limit can't be removed: add another key instead.
       Example: key limit tender-2 roadworks
 
   office allow SECONDS
-      Sets how many seconds before its start a link is taken already, 0 to 900: for senders whose clocks run ahead.
+      Sets how many seconds before its start a link is accepted, 0 to 900, for senders whose clocks are fast.
       Example: office allow 60
 
 For an office file called office:
   drop desk office 'key revoke tender-2'
 
-While it is a word, others on this machine see the line, also its secret. With - for LINE it is read from standard
-input, which has one line and no more:
+Other users of this machine can see the command while it runs, including a secret. With - as LINE it is read from
+standard input, which must hold exactly one line:
   drop desk office - <line";
 
 // The text after the help of `links`: the rows that it reads and writes.
@@ -80,13 +80,13 @@ The list is CSV. Its first row is the head, and each row below asks for one link
   PUT,roadworks,offer.pdf,20261201T080000Z,604800
 
   method   PUT to upload, GET or HEAD to fetch
-  box      the box's name. It needn't be there yet
+  box      the box's name. The box need not exist yet
   name     the file's name: 1 to 1024 bytes without control characters
-  start    the second from which the link is good, in UTC. An office's allowance takes it that much earlier
-  expires  for how many seconds it is good: 1 to 604800, which is a week
+  start    when the link becomes valid, in UTC. An office with an allowance accepts it that much earlier
+  expires  how many seconds it is valid: 1 to 604800 (one week)
 
-Each row is written again with its link behind it, under a head with the column link more. A row that is malformed ends
-the list and is named by its number, the row below the head being row 1. The rows before it have been written.
+The output repeats each row with its link in a last column, link. A malformed row ends the list. The error names the
+row by its number, counted from 1 below the head. The rows before it are written.
 
 For an office file called office:
   drop links office --key tender-2 --host files.example --region us-east-1 <asked.csv >links.csv";
@@ -98,73 +98,72 @@ The list is CSV. Its first row is the head, and each row below is one receipt, f
   receipt,box,name,length,sha256,moment,key
 
   receipt  the receipt's number
-  box      the box that the file was put into
+  box      the box that the file was uploaded to
   name     the file's name
   length   how many bytes the file had
   sha256   the SHA-256 of its bytes, in hexadecimal digits
-  moment   when it was put, in UTC: 20261203T101500Z
-  key      the id of the key whose link carried it
+  moment   when it was uploaded, in UTC: 20261203T101500Z
+  key      the id of the key that signed its link
 
-A receipt stays, though its file was replaced or taken out: drop compare tells which files still stand.
+A receipt is kept even if its file is replaced or removed. drop compare tells which files are still there.
 
 For an office file called office:
   drop manifest office >manifest.csv";
 
 // The text after the help of `compare`: the rows that it writes.
 const STATE_ROWS: &str = "\
-The manifest is one that drop manifest wrote. For each of its rows, in their order, a row is written as CSV:
+The input is a manifest that drop manifest wrote. The output is CSV, one row for each of its rows, in order:
 
   receipt,box,name,state
 
-  standing  the file of this receipt is in its box, and its bytes have the row's length and SHA-256
-  differs   it is in its box, and its bytes have another length or SHA-256
-  gone      the box has no such file, or one that came with another receipt
+  standing  the file of this receipt is in its box, with the row's length and SHA-256
+  differs   it is in its box, with another length or SHA-256
+  gone      the box has no such file, or one with another receipt
 
-The bytes are read and hashed anew. A row that is malformed ends the list and is named by its number, the row below the
-head being row 1. The rows before it have been answered.
+The files are read and hashed again. A malformed row ends the list. The error names the row by its number, counted from
+1 below the head. The rows before it are answered.
 
 For an office file called office:
   drop compare office <manifest.csv";
 
 // The text after the help of `list`: the rows that it writes.
 const LISTED_ROWS: &str = "\
-The list is CSV. Its first row is the head. The rows are in the order of ids, of boxes, or of boxes and then names.
+The list is CSV. Its first row is the head. Rows are ordered by id, by box, or by box and name.
 
-keys: one row for each key, also for a revoked one. Its secret is never written.
+keys: one row for each key, including revoked ones. Secrets are never written.
   key,role,revoked,boxes
-  boxes    the boxes that the key is limited to, with a space between two; none where it may use every box
+  boxes    the boxes that the key is limited to, separated by spaces; empty if it may use every box
 
 boxes: one row for each box.
   box,opens,closes,days,from,to,quota,files,mode,rule,used,count
   quota, files  the most bytes and the most files that it may hold
   used, count   the bytes and the files that it holds
 
-files: one row for each file that stands in a box.
+files: one row for each file in a box.
   box,name,length,sha256,receipt,moment,key
   receipt  the number of its receipt
-  moment   when it was put, in UTC: 20261203T101500Z
-  key      the id of the key whose link carried it
+  moment   when it was uploaded, in UTC: 20261203T101500Z
+  key      the id of the key that signed its link
 
 For an office file called office:
   drop list office boxes >boxes.csv";
 
 // The text after the help of `export`: the files that it makes.
 const EXPORTED: &str = "\
-DIR is made; it must not be there. Each file is DIR/BOX/NUMBER-NAME: NUMBER is that of its receipt, and NAME is the
-last part of its name, in which a character that some file system does not take is an underscore. Two lists lie beside
-the boxes:
+Creates DIR, which must not exist. Each file is DIR/BOX/NUMBER-NAME. NUMBER is the number of its receipt. NAME is the
+last part of its name; underscores replace characters that some file systems don't allow. Two lists are beside the boxes:
 
-  files.csv   which box, name, receipt, length, SHA-256, moment and key each path has:
+  files.csv   box, name, receipt, length, SHA-256, moment and key of each path:
               path,box,name,receipt,length,sha256,moment,key
-  SHA256SUMS  the SHA-256 of each path. In DIR, sha256sum --check SHA256SUMS tests them all
+  SHA256SUMS  the SHA-256 of each path. In DIR, sha256sum --check SHA256SUMS checks them all
 
 For an office file called office:
   drop export office files";
 
 // The text after the help of `migrate`: what to do before it.
 const UPGRADE: &str = "\
-Before it the server is stopped, and the file is copied. All that the office keeps stays as it is: keys, boxes, files and
-receipts. The file is changed as a whole or not at all. Where it was stopped, run it again.
+Stop the server and copy the file first. All keys, boxes, files and receipts are kept. The file is migrated completely or
+not at all. If a migration was interrupted, run it again.
 
 For an office file called office:
   drop migrate office";
@@ -176,7 +175,7 @@ pub(crate) fn command_line<'a>(alloc: Global) -> Result<Command<'a>, AllocError>
     Command::new(alloc, "drop")
         .version(VERSION)
         .about(
-            "A file drop for offices: makes an office, runs its desk, writes links to its files, answers requests that carry them, and lists what came",
+            "A file drop for offices: links that expire, uploads with numbered receipts, one office file",
         )
         .subcommand_required(true)
         .arg_required_else_help(true)
@@ -200,13 +199,13 @@ pub(crate) fn init_command<'a>(alloc: Global) -> Result<Command<'a>, AllocError>
     ensures local { IfOk result (λ c. (out-Command c).has_globals ≡ false) }
 {
     Command::new(alloc, "init")
-        .about("Makes an office file, with one clerk's key and no boxes")
+        .about("Makes an office file with one clerk's key and no boxes")
         .override_usage(INIT_USAGE)
         .arg(word(
             alloc,
             "file",
             "FILE",
-            "The file to make. One that is empty becomes the office",
+            "The office file to make. It must not exist, or be empty",
         ))?
         .arg(option(
             alloc,
@@ -224,7 +223,7 @@ pub(crate) fn init_command<'a>(alloc: Global) -> Result<Command<'a>, AllocError>
             alloc,
             "secret-file",
             "SECRETFILE",
-            "The file whose one line is the secret, so that no word shows it to others",
+            "A file that holds the secret as its only line, so that the command line does not show it",
         ))?
         .arg(minutes(
             alloc,
@@ -241,14 +240,14 @@ fn desk_command<'a>(alloc: Global) -> Result<Command<'a>, AllocError>
     ensures local { IfOk result (λ c. (out-Command c).has_globals ≡ false) }
 {
     Command::new(alloc, "desk")
-        .about("Gives the desk of an office one command, about a key, a box, a file or the office")
+        .about("Runs one command of the desk, on a key, a box, a file or the office")
         .after_help(DESK_FORMS)
         .arg(word(alloc, "file", "FILE", "The office file"))?
         .arg(word(
             alloc,
             "line",
             "LINE",
-            "One command of the desk, in quotes, so that it is one word; or - for the line of standard input",
+            "One command of the desk in quotes, or - to read it from standard input",
         ))
 }
 
@@ -265,7 +264,7 @@ fn link_command<'a>(alloc: Global) -> Result<Command<'a>, AllocError>
             alloc,
             "start",
             "MOMENT",
-            "The second from which the link is good, in UTC: 20130524T000000Z. An office's allowance takes it that much earlier",
+            "When the link becomes valid, in UTC: 20130524T000000Z. An office with an allowance accepts it that much earlier",
         ))?
         .arg(expires_option(alloc))
 }
@@ -276,7 +275,7 @@ fn target_command<'a>(alloc: Global) -> Result<Command<'a>, AllocError>
     ensures local { IfOk result (λ c. (out-Command c).has_globals ≡ false) }
 {
     Command::new(alloc, "link")
-        .about("Writes a link to a file of an office, or to its desk, signed by one of its keys")
+        .about("Writes a link to a file of an office, or to its desk, signed by a key")
         .arg(word(alloc, "file", "FILE", SIGNER))?
         .arg(word(
             alloc,
@@ -298,7 +297,7 @@ fn links_command<'a>(alloc: Global) -> Result<Command<'a>, AllocError>
     ensures local { IfOk result (λ c. (out-Command c).has_globals ≡ false) }
 {
     Command::new(alloc, "links")
-        .about("Reads a list of links that are wanted, and writes it with the links")
+        .about("Reads a list of wanted links and writes it with the signed links")
         .after_help(LINK_ROWS)
         .arg(word(alloc, "file", "FILE", SIGNER))?
         .arg(key_option(alloc))?
@@ -323,7 +322,7 @@ fn compare_command<'a>(alloc: Global) -> Result<Command<'a>, AllocError>
     ensures local { IfOk result (λ c. (out-Command c).has_globals ≡ false) }
 {
     Command::new(alloc, "compare")
-        .about("Reads a manifest, and tells of each receipt whether its file still stands")
+        .about("Reads a manifest and tells for each receipt whether its file is still there")
         .after_help(STATE_ROWS)
         .arg(word(alloc, "file", "FILE", "The office file"))
 }
@@ -337,12 +336,7 @@ fn list_command<'a>(alloc: Global) -> Result<Command<'a>, AllocError>
         .about("Lists the keys, the boxes or the files of an office")
         .after_help(LISTED_ROWS)
         .arg(word(alloc, "file", "FILE", "The office file"))?
-        .arg(word(
-            alloc,
-            "what",
-            "WHAT",
-            "What is listed: keys, boxes or files",
-        ))
+        .arg(word(alloc, "what", "WHAT", "What to list: keys, boxes or files"))
 }
 
 // `export FILE DIR --box NAME`.
@@ -351,16 +345,11 @@ fn export_command<'a>(alloc: Global) -> Result<Command<'a>, AllocError>
     ensures local { IfOk result (λ c. (out-Command c).has_globals ≡ false) }
 {
     Command::new(alloc, "export")
-        .about("Writes the files of an office into a folder, with lists of them")
+        .about("Writes the files of an office to a folder, with lists of them")
         .after_help(EXPORTED)
         .arg(word(alloc, "file", "FILE", "The office file"))?
         .arg(word(alloc, "dir", "DIR", "The folder to make"))?
-        .arg(optional(
-            alloc,
-            "box",
-            "NAME",
-            "The box whose files are written alone",
-        ))
+        .arg(optional(alloc, "box", "NAME", "Writes only the files of this box"))
 }
 
 // `replay FILE STREAM.. --at MOMENT`.
@@ -391,13 +380,13 @@ fn serve_command<'a>(alloc: Global) -> Result<Command<'a>, AllocError>
     ensures local { IfOk result (λ c. (out-Command c).has_globals ≡ false) }
 {
     Command::new(alloc, "serve")
-        .about("Serves an office over HTTP, many connections at a time, and ends")
+        .about("Serves an office over HTTP until the given number of connections have ended")
         .arg(word(alloc, "file", "FILE", "The office file"))?
         .arg(option(
             alloc,
             "listen",
             "ADDR",
-            "The address to listen at: 127.0.0.1:8080, or 0.0.0.0:8080 for all of this machine's",
+            "The address to listen on: 127.0.0.1:8080, or 0.0.0.0:8080 for all addresses of this machine",
         ))?
         .arg(connections_option(alloc))?
         .arg(patience_option(alloc))?
@@ -406,7 +395,7 @@ fn serve_command<'a>(alloc: Global) -> Result<Command<'a>, AllocError>
             alloc,
             "manifest",
             "OUT",
-            "The file that is kept to be the office's manifest while it is served",
+            "A file that is kept up to date as the office's manifest",
         ))
 }
 
@@ -417,7 +406,7 @@ fn migrate_command<'a>(alloc: Global) -> Result<Command<'a>, AllocError>
 {
     Command::new(alloc, "migrate")
         .about(
-            "Takes an office file of version 1 over to version 2, and leaves one of version 2 as it is",
+            "Migrates an office file from version 1 to version 2; a file of version 2 stays as it is",
         )
         .after_help(UPGRADE)
         .arg(word(alloc, "file", "FILE", "The office file"))
@@ -485,7 +474,7 @@ fn host_option<'a>(alloc: Global) -> Arg<'a>
         alloc,
         "host",
         "H",
-        "The host that the link is sent to: files.example, or files.example:8080",
+        "The host that the link names: files.example, or files.example:8080",
     )
 }
 
@@ -511,7 +500,7 @@ fn expires_option<'a>(alloc: Global) -> Arg<'a>
         alloc,
         "expires",
         "N",
-        "For how many seconds the link is good: 1 to 604800, which is a week",
+        "How many seconds the link is valid: 1 to 604800 (one week)",
     )
     .value_parser(ValueParser::unsigned(1, 604_800))
 }
@@ -540,7 +529,7 @@ fn patience_option<'a>(alloc: Global) -> Arg<'a>
         .value_name("SECONDS")
         .value_parser(ValueParser::unsigned(0, 3600))
         .default_value("30")
-        .help("How many seconds a peer may keep the office waiting, 0 to 3600; 0 is without end")
+        .help("How many seconds to wait for a peer: 0 to 3600; 0 is without limit")
 }
 
 // `--open N`, 512 by default.
@@ -566,7 +555,7 @@ fn allowance_option<'a>(alloc: Global) -> Arg<'a>
         .value_name("N")
         .value_parser(ValueParser::unsigned(0, 900))
         .default_value("0")
-        .help("How many seconds before its start a link is taken already: 0 to 900")
+        .help("How many seconds before its start a link is accepted: 0 to 900")
 }
 
 // `--id M`, a whole number of minutes, 0 by default.
