@@ -30,7 +30,7 @@ PORT = 8333
 OFFICE = "var/lib/drop/office"
 OLDER = "1.0.0~older"  # what is built without a version has the program's own
 BOX = "box add in 20200101T000000Z 20400101T000000Z 1111111 0000 2400 1000000000 1000 keep any"
-PREPARED = {"DEBIAN_FRONTEND": "noninteractive", "LC_ALL": "C", "PATH": "/usr/local/bin:/usr/sbin:/usr/bin:/sbin:/bin"}
+PREPARED = {"DEBIAN_FRONTEND": "noninteractive", "LC_ALL": "C", "PATH": "/usr/sbin:/usr/bin:/sbin:/bin"}
 
 # What stands for systemd where a service is started or stopped: the unit's program, as the unit's user, where its condition holds.
 # All else is done by systemd's own command.
@@ -52,7 +52,7 @@ case "$*" in
     ;;
 *is-active*drop*) [ -e /drop.pid ] ;;
 *daemon-reload*) ;;
-*) SYSTEMD_OFFLINE=1 exec /usr/bin/systemctl "$@" ;;
+*) SYSTEMD_OFFLINE=1 exec /usr/bin/systemctl.own "$@" ;;
 esac
 """
 
@@ -110,9 +110,12 @@ class Machine:
                 shutil.copy(it, self.path("var/lib/drop") / it.name)
         self.run("sh", "-c", "chown drop:drop /var/lib/drop/*; chmod 600 /var/lib/drop/*")
 
-    def files(self):
-        """The name and the bytes of each file of the office, without the copies."""
-        return {it.name: it.read_bytes() for it in self.path("var/lib/drop").glob("office*")}
+    def content(self, name=OFFICE):
+        """What the tables of this office file hold, by its digest: a look at a file may change its bytes."""
+        with tempfile.TemporaryDirectory() as folder:
+            for it in self.path(name).parent.glob("office*"):
+                shutil.copy(it, folder)
+            return hashlib.sha256("\n".join(tables.dump(f"{folder}/office")).encode(errors="surrogateescape")).hexdigest()
 
 
 @contextlib.contextmanager
@@ -125,7 +128,8 @@ def debian():
             raise SystemExit(f"no Debian was made: {ran.stdout[-500:]} {ran.stderr[-500:]}")
         machine = Machine(root)
         machine.path("run/systemd/system").mkdir(parents=True)
-        file = machine.path("usr/local/bin/systemctl")
+        file = machine.path("usr/bin/systemctl")
+        file.rename(file.with_name("systemctl.own"))
         file.write_text(SYSTEMCTL)
         file.chmod(0o755)
         try:
@@ -212,7 +216,7 @@ def test_install(machine, package, count):
     count.add("no server", None if not listens(PORT) else "there is one")
     enabled = machine.path("etc/systemd/system/multi-user.target.wants/drop.service")
     count.add("the unit is enabled", None if enabled.is_symlink() else "it is not")
-    count.add("nothing is in the folder", difference(machine.files(), {}))
+    count.add("nothing is in the folder", difference([*machine.path("var/lib/drop").iterdir()], []))
     machine.log()
 
 
@@ -249,14 +253,14 @@ def test_migration(machine, older, newer, count):
     machine.install(older)
     machine.stop()
     machine.put_office(kept)
-    before = machine.files()
+    before = machine.content()
     machine.log()
     ran = machine.install(newer)
     count.add("upgraded from version 1", difference(ran.status, 0) and f"{ran}")
     until("the server", lambda: listens(PORT))
     count.add("stopped, then started", difference(machine.log(), ["stop", "start"]))
-    copies = [*machine.path("var/lib/drop").glob("before-*")]
-    found = [{it.name: it.read_bytes() for it in copy.iterdir()} for copy in copies]
+    copies = [it.relative_to(machine.root) for it in machine.path("var/lib/drop").glob("before-*")]
+    found = [machine.content(it / "office") for it in copies]
     count.add("one copy, of the file as it was", difference(found, [before]))
     machine.stop()
     count.add("its receipts", difference(machine.manifest(), kit.Run(0, kept.manifest, b"")))
@@ -271,12 +275,12 @@ def test_damage(machine, older, newer, count):
     with tables.opened(machine.path(OFFICE), unchecked=True) as it:
         it.execute("DELETE FROM keys")
     machine.run("sh", "-c", "chown drop:drop /var/lib/drop/*")
-    before = machine.files()
+    before = machine.content()
     ran = machine.install(newer)
     told = (ran.out + ran.err).decode()
     count.add("a damaged office: apt fails", None if ran.status else "it does not")
     count.add("a damaged office: it is told", None if "the office file is damaged" in told else told[-600:])
-    count.add("a damaged office: as it was", difference(machine.files(), before))
+    count.add("a damaged office: as it was", difference(machine.content(), before))
     count.add("a damaged office: not served", None if not listens(PORT) else "it is")
     shutil.rmtree(machine.path("var/lib/drop"))
     machine.run("install", "-d", "-m", "700", "-o", "drop", "-g", "drop", "/var/lib/drop")
