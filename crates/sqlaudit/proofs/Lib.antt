@@ -4,6 +4,7 @@ pub mod Listed
 pub mod PortionRows
 pub mod LongTexts
 pub mod WalkedFiles
+pub mod WalkedPieces
 pub mod Entries
 pub mod KeyEntries
 pub mod ReceiptEntries

@@ -71,8 +71,23 @@ module _ (v : Version) (sql : List ℕ) (tree : ℕ) (asks : AsksNumbers v sql t
   pub numbers_same : new.now ≡ old.now
   numbers_same = (shown_unchanged v sql (select (all_rows tree (col 1 0 ∷ []) asks.order) asks.names) asks.asks [] old new has shows.rows shows.shown).0.now_is
 
+-- the numbers are the rowids of a table, and the query wrote nothing
+pub record Counted (tree : ℕ) (old new : State) (numbers : List ℤ) : Type 0 where
+  pub rowids : AreRowids (old.now.trees tree) numbers
+  pub have : HaveRowids (old.now.trees tree)
+  pub same : new.now ≡ old.now
+
 pub numbers_open : {sql : List ℕ} {old new : State} {numbers : List ℤ} → ShowsNumbers sql old new numbers → IsTrue old.is_open
 numbers_open {sql = sql} {old = old} {new = new} shows = shown_open sql [] old new shows.rows shows.shown
+
+pub counted : (v : Version) (sql : List ℕ) (tree : ℕ) → AsksNumbers v sql tree → (old new : State) → (IsTrue old.is_open → old.now.schema ≡ v.schema) → (numbers : List ℤ) → ShowsNumbers sql old new numbers → Counted tree old new numbers
+counted v sql tree asks old new has numbers shows =
+    let schema = has (numbers_open shows) in
+    record {
+      rowids = are_rowids v sql tree asks old new schema numbers shows;
+      have = have_rowids v sql tree asks old new schema numbers shows;
+      same = numbers_same v sql tree asks old new schema numbers shows;
+    }
 
 -- ---- >= and <= between integers
 

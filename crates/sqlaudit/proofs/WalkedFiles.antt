@@ -1,12 +1,12 @@
 -- The files, as they are read portion by portion.
-use Rattle.std.proofs.Common.{◌≡◌, inl, inr, ℕ, ◌-◌, ◌≤◌, ℤ, pos, List, ◌++◌, Bool, true, false, IsTrue, length, get_or, arith, subst}
+use Rattle.std.proofs.Common.{◌≡◌, inl, inr, ℕ, ◌-◌, ◌≤◌, ℤ, pos, List, ◌++◌, Bool, true, false, IsTrue, length, get_or, arith, sym, ap, subst, ◌∙◌}
 use Rattle.std.specs.Prelude.{Contains, MatchBool}
 use Rattle.std.specs.BTreeMap.{BTreeMap}
 use Rattle.std.proofs.lemmas.List.Elements.{Contains-append_cases, Contains-append_right}
 use denote.Bor.{Bor}
 use Rattle.sqlite_value.specs.Order.{Row}
 use Rattle.sqlite.specs.Effect.{Database}
-use Rattle.sqlite.specs.State.{State, HasCleanDisk}
+use Rattle.sqlite.specs.State.{State, HasCleanDisk, KeepsCommit}
 use Rattle.boxes.specs.State.{Receipt}
 use Rattle.boxes.specs.declared.totals.Totals.{Totals}
 use Rattle.sqltables.specs.Schema.{Version, IsVersion}
@@ -28,6 +28,15 @@ pub record OpensWhole (v : Version) (entry : State) : Type 0 where
   pub schema : IsTrue entry.is_open → entry.now.schema ≡ v.schema
   pub whole : IsTrue entry.is_open → IsWhole entry.now
   pub running : IsRunning entry
+
+-- so they are after a call that wrote nothing
+pub opens_still : (v : Version) (entry now : State) → OpensWhole v entry → now.now ≡ entry.now → KeepsCommit entry now → IsRunning now → OpensWhole v now
+opens_still v entry now opens same keeps running = record {
+  version = opens.version;
+  schema = λ is_open. ap (λ (d : Database). d.schema) same ∙ opens.schema (keeps.was_open is_open);
+  whole = λ is_open. subst IsWhole (sym same) (opens.whole (keeps.was_open is_open));
+  running = running;
+}
 
 pub opens_files : (v : Version) (entry : State) → OpensWhole v entry → Opens v files_between 6 file_shown entry
 opens_files v entry opens = record { asks = asks_files v opens.version; schema = opens.schema; running = opens.running }

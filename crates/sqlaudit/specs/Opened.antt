@@ -14,7 +14,7 @@ use Rattle.boxes.specs.Sound.{IsSound}
 use Rattle.sqltables.specs.Schema.{Version, v1, v2, begun_schemas}
 use Rattle.sqltables.specs.Tables.{tables_of}
 use Rattle.sqltables.specs.Means.{Holds, IsWhole, AddsNothing}
-use Rattle.sqlaudit.specs.Lines.{AreLines, HaveRowids, IsOfficeLine, IsKeyLine, IsBoxLine, IsReceiptLine, IsPieceLine, IsRulesLine, IsLimitLine}
+use Rattle.sqlaudit.specs.Lines.{AreLines, HaveRowids, IsOfficeLine, IsKeyLine, IsBoxLine, IsReceiptLine, IsRulesLine, IsLimitLine}
 use Rattle.sqlaudit.specs.Portions.{AreRowids}
 use Rattle.sqltables.specs.Pieces.{AreBytesOf}
 use Rattle.sqlaudit.specs.declared.lines.FileLine.{FileLine}
@@ -200,12 +200,12 @@ pub record AreListed (v : Version) (db : Database) (lines : Lines) : Type 0 wher
   pub receipts_rowids : HaveRowids (db.trees 5)
   pub added : AreAdded v db lines.rules.now lines.limits.now
 
--- the same of all tables but the first; of the files the rowids
+-- the same of all tables but the first; of the files and pieces the rowids
 pub record AreTables (v : Version) (db : Database) (listed : Listed) : Type 0 where
   pub keys : AreLines IsKeyLine (db.trees 1) listed.keys.items
   pub boxes : AreLines IsBoxLine (db.trees 3) listed.boxes.items
   pub files : AreRowids (db.trees 6) listed.files.items
-  pub pieces : AreLines IsPieceLine (db.trees 9) listed.pieces.items
+  pub pieces : AreRowids (db.trees 9) listed.pieces.items
   pub receipts : AreLines IsReceiptLine (db.trees 5) listed.receipts.items
   pub keys_rowids : HaveRowids (db.trees 1)
   pub boxes_rowids : HaveRowids (db.trees 3)
