@@ -1,5 +1,5 @@
 -- What the tests of a file tell of its database.
-use Rattle.std.proofs.Common.{◌≡◌, ◌≢◌, ◌<◌, inl, inr, ℕ, Some, slice_get, Bool, true, false, length, ℤ, List, [], ◌∷◌, arith, Result, Ok, Err, IfOk, refl, sym, ap, subst, ◌∙◌}
+use Rattle.std.proofs.Common.{◌≡◌, ◌≢◌, ◌<◌, inl, inr, ℕ, Some, slice_get, Bool, true, false, length, ℤ, List, [], ◌∷◌, arith, refl, sym, ap, subst, ◌∙◌}
 use Rattle.std.specs.Prelude.{MatchBool, Contains}
 use Rattle.sqlite_value.specs.declared.value.Value.TheVariants.{Int}
 use Rattle.sqlite_value.specs.Order.{Row}
@@ -7,17 +7,18 @@ use Rattle.sqlite_rules.specs.Lists.{Has}
 use Rattle.sqlite_rules.proofs.ListLemmas.{has_contained, contains_had}
 use Rattle.sqlite_schema.specs.declared.schema.Schema.{Schema}
 use Rattle.sqlite.specs.Effect.{Database}
-use Rattle.std.specs.FinMap.{get}
-use Rattle.boxes.specs.State.{Place, State as Office}
+use Rattle.std.specs.FinMap.{FinMap, get}
+use Rattle.boxes.specs.State.{Place, place_cmp, Receipt, State as Office}
 use Rattle.sqltables.specs.Schema.{Version, IsVersion, v1, begun_schemas}
 use Rattle.sqltables.specs.Means.{IsWhole}
-use Rattle.sqlaudit.specs.Lines.{AreLines, HaveRowids, IsOfficeLine, IsKeyLine, IsBoxLine, IsReceiptLine, IsFileLine}
-use Rattle.sqlaudit.specs.Outlines.{AreEntries, AreSoundLines, IsFileEntry, IsFileRule}
+use Rattle.sqlaudit.specs.Lines.{AreLines, AreLinesWhere, HaveRowids, IsLater, IsOfficeLine, IsKeyLine, IsBoxLine, IsReceiptLine, IsFileLine, IsPieceLine}
+use Rattle.sqlaudit.specs.Outlines.{AreEntries, AreSoundLines, IsFileEntry, IsFileRule, IsPieceIn}
 use Rattle.sqlaudit.specs.Sorting.{AreAmong, AreRuled, HasTotals, IsFiled}
-use Rattle.sqlaudit.specs.Walking.{AreAllFiles, AreAllPieces, AreOf, LackFiles, LackPieces}
+use Rattle.sqlaudit.specs.Walking.{AreAllFiles, AreLaterPieces, AreOf, LackFiles, LackPieces}
 use Rattle.sqlaudit.specs.declared.lines.OfficeLine.{OfficeLine}
 use Rattle.sqlaudit.specs.declared.lines.FileLine.{FileLine}
 use Rattle.sqlaudit.specs.declared.lines.BoxLine.{BoxLine}
+use Rattle.sqlaudit.specs.declared.lines.PieceLine.{PieceLine}
 use Rattle.sqlaudit.specs.declared.file_rules.Filed.{Filed}
 use Rattle.sqlaudit.specs.declared.rules.Lines.{Lines}
 use Rattle.sqlaudit.specs.declared.listing.Listed.{Listed}
@@ -175,20 +176,21 @@ module _ (v : Version) (ours : IsVersion v) (db : Database) (lines : Lines) (off
     lacks_pieces filed all lacks o is = has_pieces o is filed all lacks
 
     pub tested : db.schema ≡ v.schema → IsWhole db → AreOfVersion office v.number → (filed : Filed) (all : AreAllFiles r.receipts lines.receipts.now db filed) → HaveRowids (db.trees 6)
-        → ((line : BoxLine) → Contains lines.boxes.now line → HasTotals r.receipts all.filed_are.0.map line) → AreAllPieces r.receipts all.filed_are.0.map db → HaveRowids (db.trees 9)
+        → ((line : BoxLine) → Contains lines.boxes.now line → HasTotals r.receipts all.filed_are.0.map line) → AreLaterPieces r.receipts all.filed_are.0.map db → HaveRowids (db.trees 9)
         → (v ≡ v1 → AreShortLines lines.receipts.now) → (o : Office) × AreOffice v db o
     tested schema whole versions filed all files_ids totals pieces pieces_ids short =
         accepted v ours db lines schema whole are (λ line there. versions.each line (subst (λ xs. Contains xs line) lent.office there))
         (built lines r all.lines all.filed_are.0.map all.filed_are.0.entries totals)
         all.lines all.are files_ids (built_files lines r all.lines all.filed_are.0.map all.filed_are.0.entries totals) all.bytes pieces pieces_ids short
 
--- ---- what is found
+-- ---- the pieces, as they are listed
 
--- an answer that tells one or the other tells what follows of it
-pub told_of : {E P Q : Type 0} (A B : Type 0) (r : Result Bool E) → IfOk r (λ b. MatchBool b P Q) → (P → A) → (Q → B) → IfOk r (λ b. MatchBool b A B)
-told_of A B (Ok true) p yes no = yes p
-told_of A B (Ok false) q yes no = no q
-told_of A B (Err e) it yes no = tt
+module _ (db : Database) (lines : List PieceLine) (listed : AreLinesWhere IsLater IsPieceLine (db.trees 9) lines) (rs : List Receipt) (m : FinMap place_cmp ℕ) where
+  pub pieces_are : ((line : PieceLine) → Contains lines line → IsPieceIn (slice_get rs) m line) → AreLaterPieces rs m db
+  pieces_are all row there later = let l = listed.each row there later in (l.0, l.2, all l.0 (contains_had lines l.0 l.1))
+
+  pub pieces_lack : (((line : PieceLine) → Contains lines line → IsPieceIn (slice_get rs) m line) → ⊥) → LackPieces rs m db
+  pieces_lack none = record { lines = lines; of = listed.all; lack = none }
 
 -- what is found of an office's tables of this version
 pub found_of : (v : Version) (db : Database) (finding : Finding) (b : Bool) → MatchBool b (finding ≡ Sound) (finding ≡ Damaged) → AreDamagedBut v db → MatchBool b ((o : Office) × AreOffice v db o) ((o : Office) → AreOffice v db o → ⊥) → IsFound v finding db

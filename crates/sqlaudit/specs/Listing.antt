@@ -21,6 +21,11 @@ OfBegunOffice g old new P = (v : Version) → Has begun_schemas v.schema → Has
 abbrev pub OfTables : {S : Type 0} → Version → Ghosts S → Transaction S → Transaction S → Type 0 → Type 0
 OfTables v g old new P = HasSchema v.schema (seen g old) → IsTrue (seen g old).in_transaction → HasCleanDisk (seen g new) → P
 
+-- so it is where, besides, each row obeys them
+abbrev pub OfWholeTables : {S : Type 0} → Version → Ghosts S → Transaction S → Transaction S → Type 0 → Type 0
+OfWholeTables v g old new P = HasSchema v.schema (seen g old) → HasWhole (seen g old)
+    → IsTrue (seen g old).in_transaction → HasCleanDisk (seen g new) → P
+
 -- so it is where the tables are those of this version, each row obeys them, and these lines are the office's own row, of this version
 abbrev pub OfVersion : {S : Type 0} → Version → Ghosts S → Transaction S → Transaction S → List OfficeLine → Type 0 → Type 0
 OfVersion v g old new office P = HasSchema v.schema (seen g old) → HasWhole (seen g old)

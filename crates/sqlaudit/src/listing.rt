@@ -7,15 +7,16 @@ ghost use Rattle.sqltables.specs.Inside.{seen, GoesOnBegun, GoesOnWhere};
 ghost use Rattle.sqltables.specs.Means.{IsRunning};
 ghost use Rattle.sqlaudit.specs.Formats.{version_of};
 ghost use Rattle.sqlaudit.specs.Opened.{AreAdded, AreTables, SayUnlimited};
-ghost use Rattle.sqlaudit.specs.Listing.{OfBegunOffice, OfTables};
+ghost use Rattle.sqlaudit.specs.Listing.{OfBegunOffice, OfTables, OfWholeTables};
 ghost use Rattle.sqlaudit.specs.Lines.{IsOfficeLine, AreLines, AreRead, HaveRowids};
 
 use crate::formats::Format;
 use crate::lines::{
-    BoxLine, KeyLine, LimitLine, Line, OfficeLine, ReceiptLine, RulesLine, are_apart, lines_of,
+    BoxLine, KeyLine, LimitLine, Line, OfficeLine, PieceLine, ReceiptLine, RulesLine, lines_of,
+    numbers_of,
 };
 use crate::portions::{list_long, list_numbers};
-use sqlite::{Alter, Error, ErrorCode, Transaction};
+use sqlite::{Alter, Error, Transaction};
 use sqltables::calls::query;
 use std::alloc::Global;
 
@@ -28,9 +29,7 @@ fn list<S: Alter, L: Line + Drop>(tx: &mut Transaction<'_, S>, sql: &str) -> Res
 {
     let rows = query(tx, sql, &[])?;
     let alloc = *rows.allocator();
-    if !are_apart(alloc, &rows)? {
-        return Err(Error::SqliteFailure(ErrorCode::DatabaseCorrupt));
-    }
+    numbers_of(alloc, &rows)?;
     lines_of(alloc, &rows)
 }
 
@@ -109,26 +108,26 @@ fn list_added<S: Alter>(
     }
 }
 
-/// The rows of each table but the office's own; of the files and pieces the rowids.
+/// The rows of each table but the office's own; of the files the rowids, and of the pieces those that are not the first of
+/// their file.
 #[derive(Drop)]
 pub(crate) struct Listed {
     pub(crate) keys: Vec<KeyLine>,
     pub(crate) boxes: Vec<BoxLine>,
-    /// The rowids of the pieces, ascending.
-    pub(crate) pieces: Vec<i64>,
+    pub(crate) pieces: Vec<PieceLine>,
     /// The rowids of the files, ascending.
     pub(crate) files: Vec<i64>,
     pub(crate) receipts: Vec<ReceiptLine>,
     pub(crate) added: Added,
 }
 
-/// Each table but the office's own; of the files and pieces the rowids.
+/// Each table but the office's own; of the files the rowids, and of the pieces those that are not the first of their file.
 pub(crate) fn list_all<S: Alter>(
     tx: &mut Transaction<'_, S>,
     alloc: Global,
     format: Format,
 ) -> Result<Listed, Error>
-    ensures listed { OfTables (version_of format) S.Store tx.old tx.new
+    ensures listed { OfWholeTables (version_of format) S.Store tx.old tx.new
         (IfOk result (AreTables (version_of format) (seen S.Store tx.old).now)) }
     ensures same { OfTables (version_of format) S.Store tx.old tx.new
         (OnOk result ((seen S.Store tx.new).now ≡ (seen S.Store tx.old).now)) }
@@ -143,7 +142,12 @@ pub(crate) fn list_all<S: Alter>(
             tx,
             "SELECT rowid, name, opens, closes, days, from_minute, to_minute, quota, max_files, mode, rule_kind, rule_text, used, count FROM boxes ORDER BY name",
         )?,
-        pieces: list_numbers(tx, "SELECT rowid FROM pieces")?,
+        pieces: list_long(
+            tx,
+            alloc,
+            "SELECT rowid FROM pieces",
+            "SELECT rowid, box, name, part, length(bytes) FROM pieces WHERE rowid >= ?1 AND rowid <= ?2 AND part <> 0",
+        )?,
         files: list_numbers(tx, "SELECT rowid FROM files")?,
         receipts: list_long(
             tx,

@@ -16,10 +16,10 @@ ghost use Rattle.sqlaudit.specs.Opened.{HasOurs, IsOurs, AreTables, IsExtent, Is
 use crate::formats::Format;
 use crate::lines::OfficeLine;
 use crate::listing::{Listed, list_all, list_office};
-use crate::piece_rules::have_totals;
+use crate::piece_rules::{are_pieces, have_totals};
 use crate::receipt_rules::{are_rising, fit_version};
 use crate::rules::{Lines, are_sound};
-use crate::walking::{test_files, test_pieces};
+use crate::walking::test_files;
 use sqlite::{Alter, Connection, Error, ErrorCode, Transaction};
 use sqlite_schema::schema::{Schema, Table};
 use std::alloc::Global;
@@ -207,7 +207,7 @@ fn is_sound<S: Alter>(
     if !have_totals(&listed.boxes, &filed.sums) {
         return Ok(false);
     }
-    test_pieces(tx, &listed.pieces, &filed.files, &listed.receipts)
+    Ok(are_pieces(&listed.pieces, &filed.files, &listed.receipts))
 }
 
 // What is found where the version is ours.

@@ -1,21 +1,19 @@
-use Rattle.std.proofs.Common.{◌≡◌, ◌∙◌, IsTrue, arith, refl, sym, subst}
-use Rattle.std.specs.Prelude.{Contains, IfOk, MatchBool, MatchOption}
-use Rattle.sqlite.specs.Effect.{Database}
+use Rattle.std.proofs.Common.{◌≡◌, ◌∙◌, IsTrue, true, false, refl, sym, subst}
+use Rattle.std.specs.Prelude.{Contains, MatchBool, MatchOption}
 use Rattle.sqlite.specs.Held.{state}
-use Rattle.sqlite.specs.State.{HasCleanDisk}
 use Rattle.boxes.specs.State.{State as Office}
 use Rattle.sqltables.specs.Schema.{v1}
 use Rattle.sqlaudit.specs.Formats.{version_of}
+use Rattle.sqlaudit.specs.Lines.{AreLinesWhere, IsLater, IsPieceLine}
 use Rattle.sqlaudit.specs.Opened.{AreOffice, AreShortLines}
 use Rattle.sqlaudit.specs.Outlines.{AreSoundLines}
 use Rattle.sqlaudit.specs.Portions.{AreRowids}
 use Rattle.sqlaudit.specs.Sorting.{AreRuled, HasTotals, HoldsReceipts}
-use Rattle.sqlaudit.specs.Walking.{AreAllFiles, AreAllPieces, LackFiles, LackPieces}
+use Rattle.sqlaudit.specs.Walking.{AreAllFiles, LackFiles}
 use Rattle.sqlaudit.specs.declared.lines.BoxLine.{BoxLine}
 use Rattle.sqlaudit.specs.declared.rules.Lines.{Lines}
 use Rattle.sqlaudit.proofs.Extents.{is_version}
-use Rattle.sqlaudit.proofs.Tested.{AreLent, are_listed, unsound, unfit, lacks_files, lacks_totals, lacks_pieces, tested, told_of}
-use Rattle.sqlaudit.proofs.WalkedFiles.{opens_still}
+use Rattle.sqlaudit.proofs.Tested.{AreLent, are_listed, unsound, unfit, lacks_files, lacks_totals, lacks_pieces, tested, pieces_are, pieces_lack}
 use Rattle.sqlaudit.proofs.WholeRules.{refuted}
 use Rattle.sqlaudit.proofs.opening.is_sound.Goals as goal
 
@@ -81,10 +79,7 @@ pub returns-clause-found : goal.returns-clause-found
 returns-clause-found g c has whole running clean lines rowids of tables =
     let v = version_of c.args.format in
     let ours = is_version c.args.format in
-    let entry = state g.S.Store c.args.tx.now.conn.now in
-    let mid = state g.S.Store c.test_files.new.tx.conn.now in
-    let db = entry.now in
-    let early : HasCleanDisk mid = omega (arith, clean, c.test_pieces.ensures.rest.survives.clean) in
+    let db = (state g.S.Store c.args.tx.now.conn.now).now in
     let lent : Lines = record { office = c.args.office; keys = c.deref.result; boxes = c.deref-2.result; receipts = c.deref-3.result; rules = c.deref-4.result; limits = c.deref-5.result } in
     let is : AreLent lent c.args.office.now c.args.listed.now = record { office = refl; keys = c.deref.ensures.value; boxes = c.deref-2.ensures.value; receipts = c.deref-3.ensures.value; rules = c.deref-4.ensures.value; limits = c.deref-5.ensures.value } in
     let are = are_listed v db lent c.args.office.now c.args.listed.now is lines rowids tables in
@@ -92,7 +87,7 @@ returns-clause-found g c has whole running clean lines rowids of tables =
     let r = subst (λ b. MatchBool b (AreRuled lent) (AreSoundLines lent → ⊥)) c.if-not-sound.false sound in
     let given : c.deref-3.result.now ≡ c.deref-7.result.now = c.deref-3.ensures.value ∙ sym c.deref-7.ensures.value in
     let found = subst (λ ls. MatchOption c.in_ok-filed.field-0 (LackFiles r.receipts ls db) (AreAllFiles r.receipts ls db)) (sym given)
-    (c.in_ok-filed.ensures.read r.receipts (subst (λ ls. HoldsReceipts ls r.receipts) given r.held) (subst (AreRowids (db.trees 6)) (sym c.deref-6.ensures.value) tables.files) v ours has whole running early) in
+    (c.in_ok-filed.ensures.read r.receipts (subst (λ ls. HoldsReceipts ls r.receipts) given r.held) (subst (AreRowids (db.trees 6)) (sym c.deref-6.ensures.value) tables.files) v ours has whole running clean) in
     let filed = c.in-Some.filed in
     let all = subst (λ o. MatchOption o (LackFiles r.receipts lent.receipts.now db) (AreAllFiles r.receipts lent.receipts.now db)) c.in-Some.is found in
     let m = all.filed_are.0.map in
@@ -101,11 +96,13 @@ returns-clause-found g c has whole running clean lines rowids of tables =
     (sym boxes) (c.have_totals.ensures r.receipts m all.filed_are.1) in
     let short : v ≡ v1 → AreShortLines lent.receipts.now = c.fit_version.ensures.0 c.if-not-fit_version.false in
     let last : c.deref-3.result.now ≡ c.deref-10.result.now = c.deref-3.ensures.value ∙ sym c.deref-10.ensures.value in
-    let same : mid.now ≡ db = c.in_ok-filed.ensures.same v ours has whole running early in
-    let opens = opens_still v entry mid (record { version = ours; schema = has; whole = whole; running = running }) same (c.test_files.ensures.rest.uncommitted early running) (c.in_ok-filed.ensures.rest.running early running) in
-    let ids = subst (λ (d : Database). AreRowids (d.trees 9) c.deref-9.result.now) (sym same) (subst (AreRowids (db.trees 9)) (sym c.deref-9.ensures.value) tables.pieces) in
-    let pieces = subst (λ d. IfOk c.test_pieces.result (λ b. MatchBool b (AreAllPieces r.receipts m d) (LackPieces r.receipts m d))) same
-    (c.test_pieces.ensures.read r.receipts m (subst (λ ls. HoldsReceipts ls r.receipts) last r.held) all.filed_are.0.means ids v ours opens.schema opens.whole opens.running clean) in
-    told_of ((o : Office) × AreOffice v db o) ((o : Office) → AreOffice v db o → ⊥) c.test_pieces.result pieces
-    (λ within. tested v ours db lent c.args.office.now c.args.listed.now is are r (has running.1) (whole running.1) of filed all tables.files_rowids (told.0 c.if-not-have_totals.false) within tables.pieces_rowids short)
-    (λ lacks. lacks_pieces v ours db lent c.args.office.now c.args.listed.now is are r filed all lacks)
+    let pieces = c.are_pieces.ensures r.receipts m (subst (λ ls. HoldsReceipts ls r.receipts) last r.held) all.filed_are.0.means in
+    let listed = subst (AreLinesWhere IsLater IsPieceLine (db.trees 9)) (sym c.deref-9.ensures.value) tables.pieces in
+    elim c.are_pieces.result as (λ b. c.are_pieces.result ≡ b → MatchBool b ((o : Office) × AreOffice v db o) ((o : Office) → AreOffice v db o → ⊥)) [
+      | true ↦ λ fit.
+          tested v ours db lent c.args.office.now c.args.listed.now is are r (has running.1) (whole running.1) of filed all tables.files_rowids (told.0 c.if-not-have_totals.false)
+          (pieces_are db c.deref-9.result.now listed r.receipts m (pieces.0 fit)) tables.pieces_rowids short
+      | false ↦ λ not.
+          lacks_pieces v ours db lent c.args.office.now c.args.listed.now is are r filed all
+          (pieces_lack db c.deref-9.result.now listed r.receipts m (λ fit. refuted not (pieces.1 fit)))
+    ] refl

@@ -22,7 +22,7 @@ returns-clause-found g c has whole running clean lines rowids of =
     let on = c.in_ok-listed.ensures.rest.running early running.0 in
     let still = goes_on v entry entry mid (begins v entry has running.0) (c.in_ok-listed.ensures.same has running.0 early) on (c.list_all.ensures.rest.uncommitted early running.0) in
     let back : entry.now ≡ mid.now = sym still.same in
-    let tables = subst (λ d. AreTables v d c.in_ok-listed.listed) back (c.in_ok-listed.ensures.listed has running.0 early) in
+    let tables = subst (λ d. AreTables v d c.in_ok-listed.listed) back (c.in_ok-listed.ensures.listed has whole running.0 early) in
     let sound = c.in_ok-sound.ensures.found still.schema (whole_still v entry mid still whole) on clean (subst (λ (d : Database). AreLines IsOfficeLine (d.trees 0) c.args.office.now) back lines)
     (subst (λ (d : Database). HaveRowids (d.trees 0)) back rowids) of tables in
     found_of v entry.now c.finding_of.result c.in_ok-sound.sound c.finding_of.ensures (damaged v ours entry.now c.args.office.now lines of)
