@@ -1,5 +1,5 @@
 -- Rows whose first columns are sorted numbers, each above the one before it.
-use Rattle.std.proofs.Common.{◌≡◌, ◌+◌, ℤ, Bool, true, false, IsTrue, List, [], ◌∷◌, length, map, get_or, Less, int_cmp, arith, refl, sym, subst₂}
+use Rattle.std.proofs.Common.{◌≡◌, ℤ, Bool, true, false, IsTrue, List, length, map, Less, int_cmp, refl, sym}
 use Rattle.std.specs.declared.cmp.Ordering.{Ordering}
 use Rattle.std.specs.declared.cmp.Ordering.TheVariants.{Equal, Greater}
 use Rattle.std.specs.Ordering.{is_lt}

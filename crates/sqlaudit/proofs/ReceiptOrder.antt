@@ -1,5 +1,5 @@
 -- Lines of receipts in the order of their numbers.
-use Rattle.std.proofs.Common.{◌≡◌, ◌≢◌, ◌∙◌, inl, inr, ℕ, zero, suc, ◌+◌, ◌<◌, ◌≤◌, ◌<ℤ◌, ℤ, pos, List, [], ◌∷◌, length, get_or, Bool, true, false, IsTrue, Option, Some, None, slice_get, arith, rules, refl, sym, ap, subst, subst₂}
+use Rattle.std.proofs.Common.{◌≡◌, ◌≢◌, ◌∙◌, inl, inr, ℕ, zero, suc, ◌+◌, ◌<◌, ◌≤◌, ◌<ℤ◌, ℤ, pos, List, [], ◌∷◌, length, get_or, Bool, true, false, IsTrue, Option, Some, None, slice_get, arith, rules, refl, sym, ap, subst}
 use Rattle.std.specs.Prelude.{Contains, MatchOption, nat_lt, int_lt}
 use Rattle.std.specs.List.{IsAllAdjacentAnswer}
 use Rattle.std.specs.FinMap.{FinMap}
