@@ -9,7 +9,7 @@ use Rattle.boxes.specs.State.{Place, Receipt}
 use Rattle.boxes.proofs.Lookups.{some_none}
 use Rattle.sqlaudit.specs.declared.lines.FileLine.{FileLine}
 use Rattle.sqlaudit.specs.declared.rules.Lines.{Lines}
-use Rattle.sqltables.specs.Pieces.{AreBytesOf}
+use Rattle.sqltables.specs.Pieces.{AreBytesOf, HasPiece}
 use Rattle.sqlaudit.specs.Outlines.{Outline, AreEntries, IsFileEntry, AreLinesOf, IsSoundOutline, size_in}
 use Rattle.sqlaudit.specs.Opened.{HasBytes}
 use Rattle.sqlaudit.proofs.ReceiptEntries.{one_pos}
@@ -26,6 +26,7 @@ pub record IsStored (rows : List Row) (o : Outline) (place : Place) (number : �
   pub size : given.size ≡ length bytes
   pub digest : given.digest ≡ sha256 bytes
   pub pieces : AreBytesOf rows place (length bytes) bytes
+  pub bare : length bytes ≡ 0 → (piece : List ℕ) → HasPiece rows place 0 piece → ⊥
 
 pub told_size : (rows : List Row) (o : Outline) (place : Place) (number : ℕ) (bytes : List ℕ) → IsStored rows o place number bytes → size_in (slice_get o.receipts) number ≡ length bytes
 told_size rows o place number bytes it =
@@ -59,6 +60,7 @@ module _ (rows : List Row) (lines : Lines) (o : Outline) (are : AreLinesOf lines
           size = ap (λ (r : Receipt). r.size) (sym same) ∙ size;
           digest = ap (λ (r : Receipt). r.digest) (sym same) ∙ sym told.2.digest_is ∙ sym it.digest;
           pieces = subst (λ (p : Place). AreBytesOf rows p (length it.bytes) it.bytes) (λ i. record { box = line.2.box_is i; name = line.2.name_is i }) it.are;
+          bare = subst (λ (p : Place). length it.bytes ≡ 0 → (piece : List ℕ) → HasPiece rows p 0 piece → ⊥) (λ i. record { box = line.2.box_is i; name = line.2.name_is i }) it.bare;
         },
       )
 

@@ -1,4 +1,5 @@
 pub mod WholeRules
+pub mod Rising
 pub mod Apart
 pub mod Listed
 pub mod PortionRows
@@ -15,6 +16,7 @@ pub mod OfficeEntries
 pub mod LimitEntries
 pub mod Mapped
 pub mod PieceKeys
+pub mod PieceFiles
 pub mod AcceptedTables
 pub mod MappedSums
 pub mod AcceptedFiles

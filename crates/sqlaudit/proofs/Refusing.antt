@@ -221,18 +221,19 @@ module _ (v : Version) (ours : IsVersion v) (db : Database) (lines : Lines) (off
           record { row = r.0; there = r.1; is = r.2 };
     }
 
+    -- a piece that stands in a row is one of its bytes
+    found_stands : (at : ℕ) (piece : List ℕ) → HasPiece (db.trees 9) place at piece → piece_of held.bytes at ≡ Some piece
+    found_stands at piece has =
+        let e = means.pieces.each has.row has.there in
+        let same = one_part has.row (record { place = place; at = at }) e.0 piece e.1 has.is e.2 in
+        sym (part_of at) ∙ ap (tables_of office).piece same.0 ∙ e.3 ∙ ap (λ x. Some x) (sym same.1)
+
     -- bytes of its length that stand in rows are its bytes
     same_bytes_stand : (bytes : List ℕ) → AreBytesOf (db.trees 9) place (length held.bytes) bytes → bytes ≡ held.bytes
     same_bytes_stand bytes b = same_pieces bytes held.bytes (λ at. go at (piece_of bytes at) refl)
       where
-        found : (at : ℕ) (piece : List ℕ) → HasPiece (db.trees 9) place at piece → piece_of held.bytes at ≡ Some piece
-        found at piece has =
-            let e = means.pieces.each has.row has.there in
-            let same = one_part has.row (record { place = place; at = at }) e.0 piece e.1 has.is e.2 in
-            sym (part_of at) ∙ ap (tables_of office).piece same.0 ∙ e.3 ∙ ap (λ x. Some x) (sym same.1)
-
         go : (at : ℕ) (o : Option (List ℕ)) → piece_of bytes at ≡ o → piece_of bytes at ≡ piece_of held.bytes at
-        go at (Some piece) is = is ∙ sym (found at piece (b.pieces at piece is))
+        go at (Some piece) is = is ∙ sym (found_stands at piece (b.pieces at piece is))
         go at None is = elim (cases_Bool (nat_lt (65536 * at) (length bytes))) [
           | inl within ↦ let e = rw within at is in absurd cc
           | inr beyond ↦ is ∙ sym (no_piece held.bytes at (let past = ltb-false (65536 * at) (length bytes) beyond in omega (arith, past, b.size_is)))
@@ -245,7 +246,11 @@ module _ (v : Version) (ours : IsVersion v) (db : Database) (lines : Lines) (off
       let size : lacks.size ≡ length it.held.bytes = cc in
       elim lacks.lacks [
         | inl none ↦ none it.held.bytes (subst (λ n. AreBytesOf (db.trees 9) (place_in file) n it.held.bytes) (sym size) (bytes_stand (place_in file) it.held it.there))
-        | inr other ↦
+        | inr (inr empty) ↦
+            let piece = found_stands (place_in file) it.held it.there 0 empty.1 empty.2 in
+            let cut = cut_from it.held.bytes 0 empty.1 piece in
+            omega (arith, cut.0, empty.0, size)
+        | inr (inl other) ↦
             let b = subst (λ n. AreBytesOf (db.trees 9) (place_in file) n other.0) size other.1 in
             other.2 (ap sha256 (same_bytes_stand (place_in file) it.held it.there other.0 b) ∙ sym it.digest)
       ]

@@ -11,10 +11,10 @@ use Rattle.std.specs.FinMap.{FinMap, get}
 use Rattle.boxes.specs.State.{Place, place_cmp, Receipt, State as Office}
 use Rattle.sqltables.specs.Schema.{Version, IsVersion, v1, begun_schemas}
 use Rattle.sqltables.specs.Means.{IsWhole}
-use Rattle.sqlaudit.specs.Lines.{AreLines, HaveRowids, IsOfficeLine, IsKeyLine, IsBoxLine, IsReceiptLine, IsFileLine, IsPieceLine}
+use Rattle.sqlaudit.specs.Lines.{AreLines, AreLinesWhere, HaveRowids, IsLater, IsOfficeLine, IsKeyLine, IsBoxLine, IsReceiptLine, IsFileLine, IsPieceLine}
 use Rattle.sqlaudit.specs.Outlines.{AreEntries, AreSoundLines, IsFileEntry, IsFileRule, IsPieceIn}
 use Rattle.sqlaudit.specs.Sorting.{AreAmong, AreRuled, HasTotals, IsFiled}
-use Rattle.sqlaudit.specs.Walking.{AreAllFiles, AreAllPieces, AreOf, LackFiles, LackPieces}
+use Rattle.sqlaudit.specs.Walking.{AreAllFiles, AreLaterPieces, AreOf, LackFiles, LackPieces}
 use Rattle.sqlaudit.specs.declared.lines.OfficeLine.{OfficeLine}
 use Rattle.sqlaudit.specs.declared.lines.FileLine.{FileLine}
 use Rattle.sqlaudit.specs.declared.lines.BoxLine.{BoxLine}
@@ -176,7 +176,7 @@ module _ (v : Version) (ours : IsVersion v) (db : Database) (lines : Lines) (off
     lacks_pieces filed all lacks o is = has_pieces o is filed all lacks
 
     pub tested : db.schema ≡ v.schema → IsWhole db → AreOfVersion office v.number → (filed : Filed) (all : AreAllFiles r.receipts lines.receipts.now db filed) → HaveRowids (db.trees 6)
-        → ((line : BoxLine) → Contains lines.boxes.now line → HasTotals r.receipts all.filed_are.0.map line) → AreAllPieces r.receipts all.filed_are.0.map db → HaveRowids (db.trees 9)
+        → ((line : BoxLine) → Contains lines.boxes.now line → HasTotals r.receipts all.filed_are.0.map line) → AreLaterPieces r.receipts all.filed_are.0.map db → HaveRowids (db.trees 9)
         → (v ≡ v1 → AreShortLines lines.receipts.now) → (o : Office) × AreOffice v db o
     tested schema whole versions filed all files_ids totals pieces pieces_ids short =
         accepted v ours db lines schema whole are (λ line there. versions.each line (subst (λ xs. Contains xs line) lent.office there))
@@ -185,9 +185,9 @@ module _ (v : Version) (ours : IsVersion v) (db : Database) (lines : Lines) (off
 
 -- ---- the pieces, as they are listed
 
-module _ (db : Database) (lines : List PieceLine) (listed : AreLines IsPieceLine (db.trees 9) lines) (rs : List Receipt) (m : FinMap place_cmp ℕ) where
-  pub pieces_are : ((line : PieceLine) → Contains lines line → IsPieceIn (slice_get rs) m line) → AreAllPieces rs m db
-  pieces_are all row there = let l = listed.each row there in (l.0, l.2, all l.0 (contains_had lines l.0 l.1))
+module _ (db : Database) (lines : List PieceLine) (listed : AreLinesWhere IsLater IsPieceLine (db.trees 9) lines) (rs : List Receipt) (m : FinMap place_cmp ℕ) where
+  pub pieces_are : ((line : PieceLine) → Contains lines line → IsPieceIn (slice_get rs) m line) → AreLaterPieces rs m db
+  pieces_are all row there later = let l = listed.each row there later in (l.0, l.2, all l.0 (contains_had lines l.0 l.1))
 
   pub pieces_lack : (((line : PieceLine) → Contains lines line → IsPieceIn (slice_get rs) m line) → ⊥) → LackPieces rs m db
   pieces_lack none = record { lines = lines; of = listed.all; lack = none }

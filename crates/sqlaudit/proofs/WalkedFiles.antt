@@ -1,5 +1,5 @@
 -- The files, as they are read portion by portion.
-use Rattle.std.proofs.Common.{◌≡◌, inl, inr, ℕ, ◌-◌, ◌≤◌, ℤ, pos, List, ◌++◌, Bool, true, false, IsTrue, length, get_or, arith, subst}
+use Rattle.std.proofs.Common.{◌≡◌, inl, inr, ℕ, ◌-◌, ◌≤◌, ℤ, pos, List, [], ◌++◌, Bool, true, false, IsTrue, length, get_or, arith, refl, subst}
 use Rattle.std.specs.Prelude.{Contains, MatchBool}
 use Rattle.std.specs.BTreeMap.{BTreeMap}
 use Rattle.std.proofs.lemmas.List.Elements.{Contains-append_cases, Contains-append_right}
@@ -29,7 +29,7 @@ pub record OpensWhole (v : Version) (entry : State) : Type 0 where
   pub whole : IsTrue entry.is_open → IsWhole entry.now
   pub running : IsRunning entry
 
-pub opens_files : (v : Version) (entry : State) → OpensWhole v entry → Opens v files_between 6 file_shown entry
+pub opens_files : (v : Version) (entry : State) → OpensWhole v entry → Opens v files_between 6 [] file_shown entry
 opens_files v entry opens = record { asks = asks_files v opens.version; schema = opens.schema; running = opens.running }
 
 -- what stands for the files of the code
@@ -56,13 +56,13 @@ module _ (entry mid now : State) (given : List ReceiptLine) (numbers : List ℤ)
 
   -- what is seen once the portion was read
   pub seen_then : (v : Version) → OpensWhole v entry → HasCleanDisk now → Sees v entry now
-  seen_then v opens clean = sees IsFileLine files_between entry now numbers end (w.done ++ more) portion v 6 file_shown (opens_files v entry opens) clean
+  seen_then v opens clean = sees IsFileLine files_between entry now numbers end (w.done ++ more) portion v 6 [] file_shown (opens_files v entry opens) clean
 
   -- a row that is no file, or stands in another's place
   pub unfiled_portion : (rs : List Receipt) (v : Version) → OpensWhole v entry → HasCleanDisk now → AreUnfiled rs (w.done ++ more) → LackFiles rs given entry.now
   unfiled_portion rs v opens clean unfiled = record {
     lines = w.done ++ more;
-    of = λ line there. let r = portion.all v 6 file_shown (opens_files v entry opens) clean line there in (r.0, r.1, file_line r.0 line r.2);
+    of = λ line there. let r = portion.all v 6 [] file_shown (opens_files v entry opens) clean line there in (r.0, r.1, file_line r.0 line r.2);
     lack = inl unfiled;
   }
 
@@ -83,7 +83,7 @@ module _ (entry mid now : State) (given : List ReceiptLine) (numbers : List ℤ)
         (read v (opens_then v opens clean) clean) in
         record {
           lines = w.done ++ more;
-          of = λ line there. let r = portion.all v 6 file_shown (opens_files v entry opens) (early clean) line there in (r.0, r.1, file_line r.0 line r.2);
+          of = λ line there. let r = portion.all v 6 [] file_shown (opens_files v entry opens) (early clean) line there in (r.0, r.1, file_line r.0 line r.2);
           lack = inr (lacks.0, Contains-append_right w.done more lacks.0 lacks.1, subst (λ (d : Database). LacksBytes (d.trees 9) given lacks.0) s.same lacks.2);
         }
 
@@ -107,11 +107,11 @@ module _ (entry mid now : State) (given : List ReceiptLine) (numbers : List ℤ)
 pub all_walked : (entry now : State) (given : List ReceiptLine) (numbers : List ℤ) (at : ℕ) (filed : Filed) → Walked entry now given numbers at filed.files filed.sums → length numbers ≤ at
     → (rs : List Receipt) → HoldsReceipts given rs → AreRowids (entry.now.trees 6) numbers → (v : Version) → OpensWhole v entry → HasCleanDisk now → AreAllFiles rs given entry.now filed
 all_walked entry now given numbers at filed w done rs held are v opens clean =
-    let listed = all_read IsFileLine files_between entry now numbers at w.done w.portioned done v 6 file_shown (opens_files v entry opens) clean are in
+    let listed = all_read IsFileLine files_between entry now numbers at w.done w.portioned done v 6 [] file_shown (opens_files v entry opens) clean are in
     record {
       lines = w.done;
       are = record {
-        each = λ row there. let l = listed.each row there in (l.0, l.1, file_line row l.0 l.2);
+        each = λ row there. let l = listed.each row there (λ given. refl) in (l.0, l.1, file_line row l.0 l.2);
         all = λ line there. let r = listed.all line there in (r.0, r.1, file_line r.0 line r.2);
       };
       filed_are = w.filed rs held;

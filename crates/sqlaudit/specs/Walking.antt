@@ -11,7 +11,7 @@ use Rattle.boxes.specs.State.{place_cmp, Receipt}
 use Rattle.sqltables.specs.Schema.{Version, IsVersion}
 use Rattle.sqltables.specs.Means.{IsRunning}
 use Rattle.sqltables.specs.Inside.{seen, HasSchema, HasWhole}
-use Rattle.sqlaudit.specs.Lines.{AreLines, IsFileLine, IsPieceLine}
+use Rattle.sqlaudit.specs.Lines.{AreLines, IsFileLine, IsLater, IsPieceLine}
 use Rattle.sqlaudit.specs.Opened.{HasBytes, LacksBytes}
 use Rattle.sqlaudit.specs.Outlines.{IsPieceIn}
 use Rattle.sqlaudit.specs.Sorting.{AreFiled, AreUnfiled}
@@ -42,9 +42,9 @@ pub record LackFiles (receipts : List Receipt) (given : List ReceiptLine) (db : 
   pub of : AreOf IsFileLine (db.trees 6) lines
   pub lack : AreUnfiled receipts lines ⊎ ((file : FileLine) × Contains lines file × LacksBytes (db.trees 9) given file)
 
--- each row of the pieces is a piece of one of these files
-abbrev pub AreAllPieces : List Receipt → FinMap place_cmp ℕ → Database → Type 0
-AreAllPieces receipts files db = (row : Row) → Has (db.trees 9) row → (line : PieceLine) × IsPieceLine row line × IsPieceIn (slice_get receipts) files line
+-- each row of the pieces that is not the first of its file is a piece of one of these files
+abbrev pub AreLaterPieces : List Receipt → FinMap place_cmp ℕ → Database → Type 0
+AreLaterPieces receipts files db = (row : Row) → Has (db.trees 9) row → IsLater row → (line : PieceLine) × IsPieceLine row line × IsPieceIn (slice_get receipts) files line
 
 -- some rows of the pieces are not all pieces of these files
 pub record LackPieces (receipts : List Receipt) (files : FinMap place_cmp ℕ) (db : Database) : Type 0 where

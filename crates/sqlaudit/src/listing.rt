@@ -12,11 +12,11 @@ ghost use Rattle.sqlaudit.specs.Lines.{IsOfficeLine, AreLines, AreRead, HaveRowi
 
 use crate::formats::Format;
 use crate::lines::{
-    BoxLine, KeyLine, LimitLine, Line, OfficeLine, PieceLine, ReceiptLine, RulesLine, are_apart,
-    lines_of,
+    BoxLine, KeyLine, LimitLine, Line, OfficeLine, PieceLine, ReceiptLine, RulesLine, lines_of,
+    numbers_of,
 };
 use crate::portions::{list_long, list_numbers};
-use sqlite::{Alter, Error, ErrorCode, Transaction};
+use sqlite::{Alter, Error, Transaction};
 use sqltables::calls::query;
 use std::alloc::Global;
 
@@ -29,9 +29,7 @@ fn list<S: Alter, L: Line + Drop>(tx: &mut Transaction<'_, S>, sql: &str) -> Res
 {
     let rows = query(tx, sql, &[])?;
     let alloc = *rows.allocator();
-    if !are_apart(alloc, &rows)? {
-        return Err(Error::SqliteFailure(ErrorCode::DatabaseCorrupt));
-    }
+    numbers_of(alloc, &rows)?;
     lines_of(alloc, &rows)
 }
 
@@ -110,7 +108,8 @@ fn list_added<S: Alter>(
     }
 }
 
-/// The rows of each table but the office's own; of the files the rowids.
+/// The rows of each table but the office's own; of the files the rowids, and of the pieces those that are not the first of
+/// their file.
 #[derive(Drop)]
 pub(crate) struct Listed {
     pub(crate) keys: Vec<KeyLine>,
@@ -122,7 +121,7 @@ pub(crate) struct Listed {
     pub(crate) added: Added,
 }
 
-/// Each table but the office's own; of the files the rowids.
+/// Each table but the office's own; of the files the rowids, and of the pieces those that are not the first of their file.
 pub(crate) fn list_all<S: Alter>(
     tx: &mut Transaction<'_, S>,
     alloc: Global,
@@ -147,7 +146,7 @@ pub(crate) fn list_all<S: Alter>(
             tx,
             alloc,
             "SELECT rowid FROM pieces",
-            "SELECT rowid, box, name, part, length(bytes) FROM pieces WHERE rowid >= ?1 AND rowid <= ?2",
+            "SELECT rowid, box, name, part, length(bytes) FROM pieces WHERE rowid >= ?1 AND rowid <= ?2 AND part <> 0",
         )?,
         files: list_numbers(tx, "SELECT rowid FROM files")?,
         receipts: list_long(

@@ -1,17 +1,18 @@
 //! Long tables, each read portion by portion inside a transaction. The database may mean no office.
 
-ghost use Rattle.std.specs.Prelude.{◌≡◌, ℕ, [], ◌∷◌, IsTrue, OnOk, IfOk};
+ghost use Rattle.std.specs.Prelude.{◌≡◌, ℕ, List, [], ◌∷◌, IsTrue, OnOk, IfOk};
 ghost use Rattle.sqlite_value.specs.declared.value.Value.TheVariants.{Int};
 ghost use Rattle.sqlite_value.specs.Order.{Row};
+ghost use Rattle.sqlite_sql.specs.Term.{Term};
 ghost use Rattle.sqlite.specs.State.{HasCleanDisk};
 ghost use Rattle.sqltables.specs.Schema.{Version};
 ghost use Rattle.sqltables.specs.Inside.{seen, GoesOnBegun, GoesOnWhere};
 ghost use Rattle.sqltables.specs.Means.{IsRunning};
-ghost use Rattle.sqlaudit.specs.Lines.{AreLines, HaveRowids};
-ghost use Rattle.sqlaudit.specs.Portions.{AreNumbersOf, AreRowids, AsksBetween, AsksNumbers, OfRunning, OfTable, Shows, ShowsNumbers};
+ghost use Rattle.sqlaudit.specs.Lines.{AreLinesWhere, HaveRowids};
+ghost use Rattle.sqlaudit.specs.Portions.{AreRowids, AsksBetween, AsksNumbers, OfRunning, OfTable, Passes, Shows, ShowsNumbers};
 
-use crate::lines::{Line, first_numbers, lines_of, rise};
-use sqlite::{Alter, Error, ErrorCode, Transaction, params};
+use crate::lines::{Line, lines_of, numbers_of};
+use sqlite::{Alter, Error, Transaction, params};
 use sqltables::calls::query;
 use std::alloc::Global;
 
@@ -29,12 +30,7 @@ pub(crate) fn list_numbers<S: Alter>(
     ensures rest { GoesOnBegun S.Store tx.old tx.new result }
 {
     let rows = query(tx, sql, &[])?;
-    let mut numbers = first_numbers(*rows.allocator(), &rows)?;
-    numbers.sort_unstable();
-    if !rise(&numbers) {
-        return Err(Error::SqliteFailure(ErrorCode::DatabaseCorrupt));
-    }
-    Ok(numbers)
+    numbers_of(*rows.allocator(), &rows)
 }
 
 /// What the query shows of the rows from the one rowid to the other.
@@ -53,20 +49,21 @@ pub(crate) fn list_between<S: Alter, L: Line + Drop>(
     lines_of(*rows.allocator(), &rows)
 }
 
-/// What the query shows of the rows of these rowids, a portion at a time.
+/// What the query shows of the rows of these rowids that pass its test, a portion at a time.
 fn list_portions<S: Alter, L: Line + Drop>(
     tx: &mut Transaction<'_, S>,
     alloc: Global,
     numbers: &[i64],
     sql: &str,
 ) -> Result<Vec<L>, Error>
-    ensures read { (v : Version) (tree : ℕ) (show : Row → Row) → AsksBetween v sql.now tree show
+    ensures read { (v : Version) (tree : ℕ) (test : List Term) (show : Row → Row)
+        → AsksBetween v sql.now tree test show
         → AreRowids ((seen S.Store tx.old).now.trees tree) numbers.now
         → OfRunning v S.Store tx.old tx.new (IfOk result
-        (λ lines. AreLines (λ row line. L.reads (show row) line)
+        (λ lines. AreLinesWhere (Passes test) (λ row line. L.reads (show row) line)
         ((seen S.Store tx.old).now.trees tree) lines.items)) }
-    ensures same { (v : Version) (tree : ℕ) (show : Row → Row) → AsksBetween v sql.now tree show
-        → OfRunning v S.Store tx.old tx.new
+    ensures same { (v : Version) (tree : ℕ) (test : List Term) (show : Row → Row)
+        → AsksBetween v sql.now tree test show → OfRunning v S.Store tx.old tx.new
         (OnOk result ((seen S.Store tx.new).now ≡ (seen S.Store tx.old).now)) }
     ensures rest { GoesOnWhere (IsRunning (seen S.Store tx.old))
         (IsRunning (seen S.Store tx.old)) S.Store tx.old tx.new result }
@@ -82,23 +79,24 @@ fn list_portions<S: Alter, L: Line + Drop>(
     Ok(lines)
 }
 
-/// The rows of a table, by a query for their rowids and one for those from the one rowid to the other. Two rows with one
-/// rowid are `DatabaseCorrupt`.
+/// The rows of a table that pass a test, by a query for all rowids and one for those that pass from the one rowid to the other.
+/// Two rows with one rowid are `DatabaseCorrupt`.
 pub(crate) fn list_long<S: Alter, L: Line + Drop>(
     tx: &mut Transaction<'_, S>,
     alloc: Global,
     rowids: &str,
     sql: &str,
 ) -> Result<Vec<L>, Error>
-    ensures read { (v : Version) (tree : ℕ) (show : Row → Row) → AsksNumbers v rowids.now tree
-        → AsksBetween v sql.now tree show → OfTable v S.Store tx.old tx.new (IfOk result
-        (λ lines. AreLines (λ row line. L.reads (show row) line)
+    ensures read { (v : Version) (tree : ℕ) (test : List Term) (show : Row → Row)
+        → AsksNumbers v rowids.now tree → AsksBetween v sql.now tree test show
+        → OfTable v S.Store tx.old tx.new (IfOk result
+        (λ lines. AreLinesWhere (Passes test) (λ row line. L.reads (show row) line)
         ((seen S.Store tx.old).now.trees tree) lines.items)) }
     ensures rowids { (v : Version) (tree : ℕ) → AsksNumbers v rowids.now tree
         → OfTable v S.Store tx.old tx.new
         (OnOk result (HaveRowids ((seen S.Store tx.old).now.trees tree))) }
-    ensures same { (v : Version) (tree : ℕ) (show : Row → Row) → AsksNumbers v rowids.now tree
-        → AsksBetween v sql.now tree show → OfTable v S.Store tx.old tx.new
+    ensures same { (v : Version) (tree : ℕ) (test : List Term) (show : Row → Row)
+        → AsksNumbers v rowids.now tree → AsksBetween v sql.now tree test show → OfTable v S.Store tx.old tx.new
         (OnOk result ((seen S.Store tx.new).now ≡ (seen S.Store tx.old).now)) }
     ensures rest { GoesOnBegun S.Store tx.old tx.new result }
 {

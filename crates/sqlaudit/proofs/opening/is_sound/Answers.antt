@@ -4,7 +4,7 @@ use Rattle.sqlite.specs.Held.{state}
 use Rattle.boxes.specs.State.{State as Office}
 use Rattle.sqltables.specs.Schema.{v1}
 use Rattle.sqlaudit.specs.Formats.{version_of}
-use Rattle.sqlaudit.specs.Lines.{AreLines, IsPieceLine}
+use Rattle.sqlaudit.specs.Lines.{AreLinesWhere, IsLater, IsPieceLine}
 use Rattle.sqlaudit.specs.Opened.{AreOffice, AreShortLines}
 use Rattle.sqlaudit.specs.Outlines.{AreSoundLines}
 use Rattle.sqlaudit.specs.Portions.{AreRowids}
@@ -97,7 +97,7 @@ returns-clause-found g c has whole running clean lines rowids of tables =
     let short : v ≡ v1 → AreShortLines lent.receipts.now = c.fit_version.ensures.0 c.if-not-fit_version.false in
     let last : c.deref-3.result.now ≡ c.deref-10.result.now = c.deref-3.ensures.value ∙ sym c.deref-10.ensures.value in
     let pieces = c.are_pieces.ensures r.receipts m (subst (λ ls. HoldsReceipts ls r.receipts) last r.held) all.filed_are.0.means in
-    let listed = subst (AreLines IsPieceLine (db.trees 9)) (sym c.deref-9.ensures.value) tables.pieces in
+    let listed = subst (AreLinesWhere IsLater IsPieceLine (db.trees 9)) (sym c.deref-9.ensures.value) tables.pieces in
     elim c.are_pieces.result as (λ b. c.are_pieces.result ≡ b → MatchBool b ((o : Office) × AreOffice v db o) ((o : Office) → AreOffice v db o → ⊥)) [
       | true ↦ λ fit.
           tested v ours db lent c.args.office.now c.args.listed.now is are r (has running.1) (whole running.1) of filed all tables.files_rowids (told.0 c.if-not-have_totals.false)

@@ -179,4 +179,4 @@ returns-clause-read g c rs held are v ours schema whole running clean =
 
 pub returns-clause-same : goal.returns-clause-same
 returns-clause-same g c v ours schema whole running clean =
-    c.loop-at.invariant.1.portioned.same v 6 file_shown (opens_files v (state g.S.Store c.args.tx.now.conn.now) (record { version = ours; schema = schema; whole = whole; running = running })) clean
+    c.loop-at.invariant.1.portioned.same v 6 [] file_shown (opens_files v (state g.S.Store c.args.tx.now.conn.now) (record { version = ours; schema = schema; whole = whole; running = running })) clean
