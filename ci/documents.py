@@ -2,8 +2,8 @@
 compares what they print with the blocks beside them; only the port is replaced. It asks the program what the page's table
 on boto3 says of links. Then it compares the page's tables of refusals and of fault lines with docs/RULES.md, with the
 texts in the code and with each other, its commands of the desk with docs/RULES.md and the help, and the lengths in
-docs/PROVED.md with the files; and it looks whether each path, each module, and in the tables of README.md and docs/PROVED.md
-each call and each clause that is named is there.
+docs/PROVED.md with the files; and it checks that each path, each module, and in the tables of docs/PROVED.md each call and
+each clause that is named is there. README.md has at most 90 lines, and all documents together at most 25,000 words.
 
 What is owed is in the documents themselves, and of names and texts in the tree. The last line is `N passed, M failed`.
 """
@@ -310,22 +310,31 @@ def test_clauses(_, count):
 
 
 def test_calls(_, count):
-    """The calls in the first column of README's and docs/PROVED.md's tables are there, each in its crate. Where several
-    stand before one bracket, the last has these clauses, and each of the others that has named ones."""
+    """The calls in the first column of docs/PROVED.md's tables are there, each in its crate. Where several stand before one
+    bracket, the last has these clauses, and each of the others that has named ones."""
     calls = public_calls()
     named_ones = [call for call, its in calls.items() if its]
-    for document in [README, PROVED]:
-        rows = [*rows_of_calls(document)]
-        count.add(f"{document.name}: tables of calls", None if rows else "there are none")
-        for crates, cell in rows:
-            for names, clauses in re.findall(r"((?:`[\w:]+`(?:, |; )?)+)(?: ?\[([\w, ]+)\])?", cell):
-                names, clauses = re.findall(r"`([\w:]+)`", names), re.findall(r"\w+", clauses)
-                for name in names:
-                    owes = name == names[-1] or any(f"{it}::{name}" in named_ones for it in crates)
-                    fault = fault_of_call(calls, crates, name, clauses if owes else [])
-                    count.add(f"{document.name}: {name} {clauses}", fault)
+    rows = [*rows_of_calls(PROVED)]
+    count.add("tables of calls", None if rows else "there are none")
+    for crates, cell in rows:
+        for names, clauses in re.findall(r"((?:`[\w:]+`(?:, |; )?)+)(?: ?\[([\w, ]+)\])?", cell):
+            names, clauses = re.findall(r"`([\w:]+)`", names), re.findall(r"\w+", clauses)
+            for name in names:
+                owes = name == names[-1] or any(f"{it}::{name}" in named_ones for it in crates)
+                count.add(f"{name} {clauses}", fault_of_call(calls, crates, name, clauses if owes else []))
+
+
+MOST_LINES, MOST_WORDS = 90, 25000
+
+
+def test_sizes(_, count):
+    """README.md and the documents are short."""
+    lines = len(README.read_text().splitlines())
+    count.add("lines of README", f"{lines} and not at most {MOST_LINES}" if lines > MOST_LINES else None)
+    words = sum(len(it.read_text().split()) for it in DOCUMENTS)
+    count.add("words of all documents", f"{words} and not at most {MOST_WORDS}" if words > MOST_WORDS else None)
 
 
 if __name__ == "__main__":
     run_all([test_readme, test_page, test_boto3, test_refusals, test_faults, test_commands, test_words, test_names,
-             test_lengths, test_clauses, test_calls])
+             test_lengths, test_clauses, test_calls, test_sizes])

@@ -113,7 +113,7 @@
 
   /** A moment by both clocks. */
   function byBoth(moment) {
-    return `${byOffice(moment)}\n${text("by_device", { moment: told(moment) })}`;
+    return `${byOffice(moment)}\n${text("by_device", { moment: withUtc(moment) })}`;
   }
 
   function momentHint(raw) {

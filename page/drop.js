@@ -227,7 +227,7 @@
     return [
       ["address", location.host], ...(where ? [["box", where.box], ["name", where.name]] : []),
       ["number", String(number)], ["length", text("bytes", { length: count(length) })], ["office_digest", digest, "code"],
-      ...(own ? [["own_digest", own, "code"]] : []), ["moment", told(moment)],
+      ...(own ? [["own_digest", own, "code"]] : []), ["moment", withUtc(moment)],
     ];
   }
 
@@ -235,7 +235,7 @@
   function receiptText(result) {
     const rows = [...receiptRows(result), ["answer", result.line]];
     return [text("receipt", result), "", ...rows.map(([key, value]) => `${text(key)}: ${value}`),
-      `UTC: ${result.moment.toISOString().slice(0, 19)}Z`, "", checkWords(result), text("moment_note"), text("check"), "",
+      "", checkWords(result), text("moment_note"), text("check"), "",
     ].join("\n");
   }
 
@@ -338,7 +338,7 @@
     }
     facts($("link_facts"), [
       ...(where ? [["box", where.box], ["name", where.name]] : []),
-      ...(term ? [["holds", text("holds_from_to", { from: told(term.from), to: told(term.to) })]] : []),
+      ...(term ? [["holds", text("holds_from_to", { from: withUtc(term.from), to: withUtc(term.to) })]] : []),
     ]);
     $("link_note").hidden = !other;
     $("link_note").textContent = other ? text("other_host", { host: other, here: location.host }) : "";

@@ -25,6 +25,11 @@ const Page = (() => {
     return moment.toLocaleString(language, how);
   }
 
+  /** A moment by this device's clock, with UTC beside it. */
+  function withUtc(moment) {
+    return `${told(moment)} (${moment.toISOString().slice(0, 19).replace("T", " ")} UTC)`;
+  }
+
   function node(name, content, more = {}) {
     const made = document.createElement(name);
     made.append(...[content].flat());
@@ -150,7 +155,7 @@ const Page = (() => {
   }
 
   return {
-    $, text, has, count, told, node, button, acts, facts, list, announce, save, unsendable, refused, foreign, refusal, explained,
+    $, text, has, count, told, withUtc, node, button, acts, facts, list, announce, save, unsendable, refused, foreign, refusal, explained,
     officeSays, drawResult, goToResult, translate, speaks,
   };
 })();

@@ -12,7 +12,7 @@ const TEXTS = {
     box: "Box",
     name: "Name in the box",
     holds: "The link holds",
-    holds_from_to: "from {from} to {to}",
+    holds_from_to: "from {from}\nto {to}",
     other_host: "This link is for {host}, but this page stands at {here}. The office will most likely refuse it " +
       "with number 21. Open this page at {host}.",
     no_link: "No link was given. Paste the whole link that you got from the office.",
@@ -173,7 +173,7 @@ const TEXTS = {
     box: "Fach",
     name: "Name im Fach",
     holds: "Der Link gilt",
-    holds_from_to: "von {from} bis {to}",
+    holds_from_to: "von {from}\nbis {to}",
     other_host: "Dieser Link gilt für {host}, diese Seite steht aber auf {here}. Die Stelle wird ihn vermutlich " +
       "mit Nummer 21 ablehnen. Öffnen Sie diese Seite auf {host}.",
     no_link: "Es wurde kein Link angegeben. Fügen Sie den ganzen Link ein, den Sie von der Stelle bekommen haben.",
