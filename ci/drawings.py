@@ -50,7 +50,7 @@ def read_layers():
         below[name] = {name}.union(*(below[it] for it in needs[name]))
         level[name] = 1 + max((level[it] for it in needs[name]), default=-1)
     for name in (it for it in needs if not needs[it]):  # what stands on none lies right below what names it
-        level[name] = min(level[it] for it in needs if name in needs[it]) - 1
+        level[name] = min((level[it] for it in needs if name in needs[it]), default=1) - 1
     for name, it in ((name, it) for name in needs for it in needs[name]):
         if not any(it in below[other] for other in needs[name] if other != it):
             arrows.append([name, *((name, it, at) for at in range(level[name] - 1, level[it], -1)), it])
