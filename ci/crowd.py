@@ -532,7 +532,7 @@ def test_front(drop, count):
     paths = [*paths_of(drop, file), ("--connections 1000000", "--connections 100")]
     with Office(DEPLOY / "drop.service", drop.folder, paths) as office, Front(drop.folder, office.port) as front:
         folders = ["/etc/letsencrypt/live/HOST", "/etc/nginx/snippets", "/var/log/nginx", "/var/www"]
-        places = [*((it, drop.folder) for it in folders), ("HOST", HOST)]
+        places = [("/usr/share/drop/page", drop.folder / "drop"), *((it, drop.folder) for it in folders), ("HOST", HOST)]
         ran = kit.run([*front.configure(DEPLOY / "nginx.conf", places, drop.folder / "fullchain.pem"), "-t"])
         count.add("nginx takes the file", None if ran.status == 0 else f"{ran}")
         count.add("the office starts", office.start())

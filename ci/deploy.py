@@ -362,7 +362,7 @@ def test_front(drop, count):
     certificate(drop.folder)
     with Office(UNIT, drop.folder, paths_of(drop, file)) as office, Front(drop.folder, office.port) as front:
         folders = ["/etc/letsencrypt/live/HOST", "/etc/nginx/snippets", "/var/log/nginx", "/var/www"]
-        places = [*((it, drop.folder) for it in folders), ("HOST", HOST)]
+        places = [("/usr/share/drop/page", drop.folder / "drop"), *((it, drop.folder) for it in folders), ("HOST", HOST)]
         words = front.configure(DEPLOY / "nginx.conf", places, drop.folder / "fullchain.pem")
         ran = kit.run([*words, "-t"])
         count.add("nginx takes the file", None if ran.status == 0 and b"warn" not in ran.err else f"{ran}")
@@ -395,7 +395,7 @@ def test_unit(drop, count):
     """What systemd says of the unit: it has no fault, and few rights."""
     unit = drop.path("drop.service")
     text = UNIT.read_text()
-    unit.write_text(replaced(text, [("=/usr/local/bin/drop serve", f"={drop.program} serve")]))
+    unit.write_text(replaced(text, [("=/usr/bin/drop serve", f"={drop.program} serve")]))
     for line in ["StartLimitIntervalSec=0", "Restart=always", "RestartSec=1", "MemoryMax=80%", "OOMPolicy=stop"]:
         count.add(line, None if line in text.splitlines() else "the unit does not say it")
     ran = kit.run(["systemd-analyze", "verify", unit])
@@ -464,7 +464,7 @@ echo "${0##*/} $*" >"$MACHINE/asked"
 read -r status <"$MACHINE/told"
 exit "$status"
 """
-ASKED = ["apt-get", "useradd", "certbot", "chown", "systemctl", "nginx", "between"]
+ASKED = ["apt-get", "certbot", "chown", "systemctl", "nginx", "between"]
 RUNUSER = """#!/bin/sh
 [ "$1 $2 $3" = "-u drop --" ] || exit 9
 shift 3
@@ -485,11 +485,11 @@ class Machine:
     def __init__(self, drop, count):
         self.drop, self.count, self.root = drop, count, drop.folder
         self.stack, self.office, self.front = contextlib.ExitStack(), None, None
-        for name in ["bin", "tmp", "copy", "root", "usr/local/bin", "etc/systemd/system", "etc/nginx/sites-available",
+        for name in ["bin", "tmp", "copy", "root", "etc/nginx/sites-available",
                      "etc/nginx/sites-enabled", "etc/nginx/snippets", "var/log/nginx", "var/www/html", "var/lib", "var/backups"]:
             (self.root / name).mkdir(parents=True)
         (self.root / "etc/nginx/sites-enabled/default").touch()
-        for name in ["crates", "deploy", "page"]:
+        for name in ["crates", "deploy", "docs", "page"]:
             (self.root / "copy" / name).symlink_to(kit.ROOT / name)
         for name, text in [*((it, STAND_IN) for it in ASKED), ("runuser", RUNUSER), ("install", INSTALL)]:
             file = self.root / "bin" / name
@@ -500,7 +500,7 @@ class Machine:
 
     def here(self, text):
         """The text with the paths of the machine in this folder."""
-        return re.sub(r"(?<![\w/.])/(etc|var|root|usr/local)/", rf"{self.root}/\1/", text)
+        return re.sub(r"(?<![\w/.])/(etc|var|root|tmp|usr/share)(?=[/\s])", rf"{self.root}/\1", text + "\n").removesuffix("\n")
 
     def path(self, name):
         return pathlib.Path(self.here(name))
@@ -509,8 +509,9 @@ class Machine:
         """Runs the script, and does what it asks for."""
         attendant = threading.Thread(target=self.attend, daemon=True)
         attendant.start()
-        where = f"{self.root}/bin:{self.root}/usr/local/bin:{os.environ['PATH']}"
-        own = {"PATH": where, "MACHINE": str(self.root), "TMPDIR": str(self.root / "tmp"), "CURL_HOME": str(self.root)}
+        where = f"{self.root}/bin:{self.root}/usr/bin:{os.environ['PATH']}"
+        own = {"PATH": where, "MACHINE": str(self.root), "TMPDIR": str(self.root / "tmp"), "CURL_HOME": str(self.root),
+               "SOURCE_DATE_EPOCH": "0"}
         (self.root / "script").write_text(script)
         ran = kit.run(["sh", "-eu", self.root / "script"], cwd=self.root / "copy", env=os.environ | own)
         (self.root / "asked").write_text("end")
@@ -530,19 +531,19 @@ class Machine:
     def do(self, words):
         """Does what these words ask; why not, if it could not."""
         match words.split():
-            case ["apt-get" | "useradd" | "certbot" | "chown", *_] | ["systemctl", "daemon-reload"]:
+            case ["apt-get", "install", *_, file] if file.endswith(".deb"):
+                return self.install(file)
+            case ["apt-get" | "certbot" | "chown", *_] | ["systemctl", "status", "drop"]:
                 return None
-            case ["systemctl", "enable", "--now", "drop"]:
-                paths = [(it, self.here(it)) for it in ["/usr/local/bin/drop", "/var/lib/drop/office"]]
-                unit = self.path("/etc/systemd/system/drop.service")
+            case ["systemctl", "start", "drop"] if not self.office:
+                paths = [("/usr/bin/drop", str(self.root / "usr/bin/drop")), ("/var/lib/drop", self.here("/var/lib/drop"))]
+                unit = self.root / "lib/systemd/system/drop.service"
                 self.office = self.stack.enter_context(Office(unit, self.root, paths))
                 return self.office.start()
             case ["systemctl", "stop", "drop"]:
                 return self.office.stop()
             case ["systemctl", "start", "drop"]:
                 return self.office.start()
-            case ["systemctl", "restart", "drop"]:
-                return self.office.stop() or self.office.start()
             case ["nginx", "-t"]:
                 return self.configure()
             case ["systemctl", "reload", "nginx"]:
@@ -551,13 +552,21 @@ class Machine:
                 return getattr(self, name)()
         return "nobody does this"
 
+    def install(self, file):
+        """What the package does, but for its user: its own test is ci/package.py."""
+        if self.office:
+            self.office.stop()
+        ran = kit.run(["dpkg-deb", "-x", file, self.root])
+        self.path("/var/lib/drop").mkdir(mode=0o700, exist_ok=True)
+        return (f"{ran}" if ran.status else None) or (self.office and self.office.start())
+
     def configure(self):
         sites = list(self.path("/etc/nginx/sites-enabled/").iterdir())
         if [it.name for it in sites] != ["drop"]:
             return f"{sites}"
         self.front = self.stack.enter_context(Front(self.root, self.office.port))
         chain = self.path(f"/etc/letsencrypt/live/{HOST}/fullchain.pem")
-        places = [(it, self.here(it)) for it in ["/etc/letsencrypt/", "/etc/nginx/snippets/", "/var/log/", "/var/www/"]]
+        places = [(it, self.here(it)) for it in ["/etc/letsencrypt/", "/etc/nginx/snippets/", "/usr/share/", "/var/log/", "/var/www/"]]
         words = self.front.configure(sites[0], places, chain)
         lines = ["silent", f"cacert = {chain}", f"connect-to = {HOST}:443:127.0.0.1:{self.front.port}"]
         (self.root / ".curlrc").write_text("\n".join(lines))
@@ -568,7 +577,7 @@ class Machine:
 
     def asked(self, method, name, body=None):
         """What is answered to a link that the secret of the page makes."""
-        secret = self.path("/root/drop-secret").read_text().strip()
+        secret = self.path("/var/lib/drop/secret").read_text().strip()
         self.front.host = HOST
         return self.front.said(method, self.front.link(method, name, key="clerk", secret=secret), body)
 
@@ -581,7 +590,7 @@ class Machine:
         self.count.add(".backup while it serves", None if well else f"{ran}")
         self.count.add("manifest while it serves", difference(self.drop.run("manifest", file), CANNOT_OPEN))
         modes = [oct(stat.S_IMODE(it.stat().st_mode)) for it in file.parent.iterdir()]
-        self.count.add("two files, and their rights", difference(modes, [oct(0o600)] * 2))
+        self.count.add("office, journal and secret, and their rights", difference(modes, [oct(0o600)] * 3))
         log = self.path("/var/log/nginx/drop.log").stat()
         found = (oct(stat.S_IMODE(log.st_mode)), log.st_size > 0)
         self.count.add("the log's rights", difference(found, (oct(0o640), True)))

@@ -102,7 +102,7 @@ class Office:
 
 def paths_of(drop, file):
     """What is replaced in the unit: the program's path and the office file's."""
-    return [("/usr/local/bin/drop", str(drop.program)), ("/var/lib/drop/office", str(file))]
+    return [("/usr/bin/drop", str(drop.program)), ("/var/lib/drop/office", str(file))]
 
 
 def certificate(folder):

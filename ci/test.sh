@@ -1,7 +1,6 @@
 #!/usr/bin/env bash
-# Passes all tests: `rt ci`, beside it the edits that must be refused, and then what the proved programs that it leaves write,
-# against what is owed from outside. Each part ends with `N passed, M failed`, and its time is told; a part that does not end
-# so, or cannot be run, has failed. The last line is `N passed, M failed`, the sum of all.
+# Runs all tests: `rt ci`, the must-fail edits beside it, and then the tests of the built programs. Each part ends with
+# `N passed, M failed`; a part that does not, or cannot be run, has failed. The last line is the sum of all.
 set -uo pipefail
 cd "$(dirname "$0")/.." || exit 2
 work=$(mktemp -d)
@@ -151,6 +150,13 @@ deploy() {
     "$python" -B ci/deploy.py
 }
 
+package() {
+    local python
+    with_command debootstrap && with_command lintian && with_command man man-db && with_command objdump binutils || return 1
+    python=$(with_boto3) || return 1
+    "$python" -B ci/package.py
+}
+
 documents() {
     local python
     with_command curl && with_command aws awscli || return 1
@@ -181,6 +187,8 @@ count clerk clerk
 count memory python3 -B ci/memory.py
 count interop interop
 count deploy deploy
+count package package
+count drawings python3 -B ci/drawings.py --check
 count documents documents
 wait
 cat "$work/edits"

@@ -6,7 +6,7 @@
 
 (() => {
   const {
-    $, text, has, count, told, node, button, acts, facts, list, announce, save, unsendable, refused, foreign, refusal, explained,
+    $, text, has, count, told, withUtc, node, button, acts, facts, list, announce, save, unsendable, refused, foreign, refusal, explained,
     officeSays, drawResult, goToResult, translate, speaks,
   } = Page;
   const { bad, isBad } = Desk;

@@ -7,7 +7,7 @@
   const PUT = document.documentElement.dataset.page === "put";
   const LIMIT = 8388608;
   const {
-    $, text, has, count, told, node, button, acts, facts, list, announce, save, unsendable, refused, foreign, refusal, explained,
+    $, text, has, count, withUtc, node, button, acts, facts, list, announce, save, unsendable, refused, foreign, refusal, explained,
     officeSays, drawResult, goToResult, translate, speaks,
   } = Page;
   const state = { link: null, file: null, missing: false, busy: null, result: null, url: null };
