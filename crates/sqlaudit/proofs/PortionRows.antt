@@ -1,5 +1,5 @@
 -- What the queries for a long table tell of its rows.
-use Rattle.std.proofs.Common.{◌≡◌, ◌⊎◌, inl, inr, ℕ, ◌-◌, ◌<◌, ◌≤◌, ℤ, pos, List, [], ◌∷◌, ◌++◌, length, get_or, Bool, true, false, Some, Less, Greater, int_cmp, Result, Ok, Err, OnOk, IsTrue, arith, refl, sym, ap, subst, ◌∙◌}
+use Rattle.std.proofs.Common.{◌≡◌, ◌⊎◌, inl, inr, ℕ, ◌-◌, ◌<◌, ◌≤◌, ℤ, pos, List, [], ◌∷◌, ◌++◌, length, get_or, Bool, true, false, Some, Less, Greater, int_cmp, IsTrue, arith, refl, sym, ap, subst, ◌∙◌}
 use Rattle.std.specs.Prelude.{nat_lt, nat_le, ◌^◌, None, unwrap_or, if◌then◌else◌}
 use Rattle.std.specs.List.{list_all}
 use Rattle.std.specs.Ordering.{is_ge, is_le, ordering_reverse}
@@ -33,14 +33,6 @@ use Rattle.sqlaudit.specs.Lines.{AreLinesWhere, HaveRowids}
 use Rattle.sqlaudit.specs.Portions.{AsksNumbers, AsksBetween, between, Passes, AreRowids, ShowsNumbers, Shows}
 use Rattle.sqlaudit.proofs.Listed.{Lists, lists, rowids, rowid_of, line_of, row_of}
 
-pub on_ok_so : {X E : Type 0} (r : Result X E) (P : Type 0) → P → OnOk r P
-on_ok_so (Ok x) P p = p
-on_ok_so (Err e) P p = tt
-
-pub on_ok_more : {X E : Type 0} (r : Result X E) (P Q : Type 0) → (P → Q) → OnOk r P → OnOk r Q
-on_ok_more (Ok x) P Q more p = more p
-on_ok_more (Err e) P Q more p = tt
-
 -- a query's own tables stand behind those of the database
 of_database : (b : Bool) (rows : List Row) → unwrap_or (if b then None else None) rows ≡ rows
 of_database true rows = refl
@@ -60,13 +52,13 @@ module _ (v : Version) (sql : List ℕ) (tree : ℕ) (asks : AsksNumbers v sql t
       let read = reads_as sql [] old new v.schema has (select (all_rows tree (col 1 0 ∷ []) asks.order) asks.names) asks.asks.says.is asks.asks.says.plain asks.asks.unlisted shows.rows shows.shown in
       subst (λ rows. Lists number rows shows.rows) (no_overlay old.now.trees tree) (lists tree (col 1 0 ∷ []) asks.order (overlay old.now.trees []) shows.rows (read.answer Null))
 
-  pub are_rowids : AreRowids (old.now.trees tree) numbers
+  are_rowids : AreRowids (old.now.trees tree) numbers
   are_rowids = record { rising = shows.are.rising; each = rowid_of number (λ r. refl) (old.now.trees tree) shows.rows listed numbers shows.are }
 
-  pub have_rowids : HaveRowids (old.now.trees tree)
+  have_rowids : HaveRowids (old.now.trees tree)
   have_rowids = rowids number (λ r. refl) (old.now.trees tree) shows.rows listed numbers shows.are
 
-  pub numbers_same : new.now ≡ old.now
+  numbers_same : new.now ≡ old.now
   numbers_same = (shown_unchanged v sql (select (all_rows tree (col 1 0 ∷ []) asks.order) asks.names) asks.asks [] old new has shows.rows shows.shown).0.now_is
 
 -- the numbers are the rowids of a table, and the query wrote nothing
@@ -75,7 +67,7 @@ pub record Counted (tree : ℕ) (old new : State) (numbers : List ℤ) : Type 0 
   pub have : HaveRowids (old.now.trees tree)
   pub same : new.now ≡ old.now
 
-pub numbers_open : {sql : List ℕ} {old new : State} {numbers : List ℤ} → ShowsNumbers sql old new numbers → IsTrue old.is_open
+numbers_open : {sql : List ℕ} {old new : State} {numbers : List ℤ} → ShowsNumbers sql old new numbers → IsTrue old.is_open
 numbers_open {sql = sql} {old = old} {new = new} shows = shown_open sql [] old new shows.rows shows.shown
 
 pub counted : (v : Version) (sql : List ℕ) (tree : ℕ) → AsksNumbers v sql tree → (old new : State) → (IsTrue old.is_open → old.now.schema ≡ v.schema) → (numbers : List ℤ) → ShowsNumbers sql old new numbers → Counted tree old new numbers

@@ -108,12 +108,12 @@ fn list_added<S: Alter>(
     }
 }
 
-/// The rows of each table but the office's own; of the files the rowids, and of the pieces those that are not the first of
-/// their file.
+/// The rows of each table but the office's own; of the files the rowids.
 #[derive(Drop)]
 pub(crate) struct Listed {
     pub(crate) keys: Vec<KeyLine>,
     pub(crate) boxes: Vec<BoxLine>,
+    /// Those that are not the first of their file.
     pub(crate) pieces: Vec<PieceLine>,
     /// The rowids of the files, ascending.
     pub(crate) files: Vec<i64>,
