@@ -17,13 +17,15 @@ CAPTION = ["An arrow leads from a crate to one that it uses; what follows from o
            "Blue: the program and its libraries. Yellow: crates for tests alone."]
 # What a PUT goes through, what happens there, and what goes on from there.
 STEPS = [
-    ("socket", OUTSIDE, "sockets reads ahead until a message is whole, and its connection gets a turn", "bytes"),
-    ("wire", PROGRAM, "reads the head (rules 1 to 5), and lends the body piece by piece (6)", "the head, pieces of the body"),
-    ("links", PROGRAM, "reads the presigned URL (rules 7 to 18), and compares its signature (21)", "the parts of the link"),
-    ("office", PROGRAM, "asks what needs no body, stages the body, then asks the window and the rest", "questions, a change"),
-    ("keeper", PROGRAM, "is the trait of all keepers; cache answers what was asked before", "other questions, the change"),
-    ("sqlkeeper", PROGRAM, "writes receipt, file, pieces and totals in one transaction", "statements of SQL"),
-    ("SQLite", OUTSIDE, "commits, so that a crash leaves what is answered", "success"),
+    ("socket", OUTSIDE, "sockets reads ahead until a message is whole, and gives its connection a turn", "bytes"),
+    ("wire", PROGRAM, "reads the head (rules 1 to 5), and hands on the body in pieces (6)", "the head, pieces of the body"),
+    ("links", PROGRAM, "reads the presigned URL (rules 7 to 18)", "the parts of the link"),
+    ("office", PROGRAM, "finds the key (19, 20), checks signature (21) and window (22, 23), stages the body",
+     "questions, staged bytes"),
+    ("boxes", PROGRAM, "decides the rules of the box (27 to 33), and gives the change", "the change"),
+    ("keeper", PROGRAM, "passes on the change; cache answers questions from memory", "the change, other questions"),
+    ("sqlkeeper", PROGRAM, "writes receipt, file, pieces and totals in one transaction", "SQL statements"),
+    ("SQLite", OUTSIDE, "commits, so that the receipt survives a crash", "success"),
     ("receipt", OUTSIDE, "office makes the answer, wire writes it, sockets sends it to the peer", None),
 ]
 
@@ -106,7 +108,7 @@ def draw_request():
         parts += [box(MARGIN, top, 112, name, fill), words(MARGIN + 128, top + 18, text)]
         if handed:
             parts.append(f'<path d="M80,{top + HEIGHT}V{top + STEP}" marker-end="url(#a)"/>\n{words(92, top + 51, handed)}')
-    return drawing(700, MARGIN * 2 + HEIGHT + STEP * (len(STEPS) - 1), parts)
+    return drawing(780, MARGIN * 2 + HEIGHT + STEP * (len(STEPS) - 1), parts)
 
 
 if __name__ == "__main__":
