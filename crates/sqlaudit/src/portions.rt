@@ -49,8 +49,8 @@ pub(crate) fn list_between<S: Alter, L: Line + Drop>(
     lines_of(*rows.allocator(), &rows)
 }
 
-/// What the query shows of the rows of these rowids that pass its test, a portion at a time. There is room for so many lines at
-/// first.
+/// What the query shows of the rows of these rowids that pass its test, a portion at a time. At first there is room for `room`
+/// lines.
 fn list_portions<S: Alter, L: Line + Drop>(
     tx: &mut Transaction<'_, S>,
     alloc: Global,
@@ -82,7 +82,7 @@ fn list_portions<S: Alter, L: Line + Drop>(
 }
 
 /// The rows of a table that pass a test, by a query for all rowids and one for those that pass from the one rowid to the other.
-/// Two rows with one rowid are `DatabaseCorrupt`. There is room for each row at first, but for no more than so many.
+/// Two rows with one rowid are `DatabaseCorrupt`. At first there is room for each row, or for `room` lines where these are fewer.
 pub(crate) fn list_long<S: Alter, L: Line + Drop>(
     tx: &mut Transaction<'_, S>,
     alloc: Global,
