@@ -15,7 +15,7 @@ use crate::lines::{
     BoxLine, KeyLine, LimitLine, Line, OfficeLine, PieceLine, ReceiptLine, RulesLine, lines_of,
     numbers_of,
 };
-use crate::portions::{list_long, list_numbers};
+use crate::portions::{PORTION, list_long, list_numbers};
 use sqlite::{Alter, Error, Transaction};
 use sqltables::calls::query;
 use std::alloc::Global;
@@ -145,6 +145,7 @@ pub(crate) fn list_all<S: Alter>(
         pieces: list_long(
             tx,
             alloc,
+            PORTION,
             "SELECT rowid FROM pieces",
             "SELECT rowid, box, name, part, length(bytes) FROM pieces WHERE rowid >= ?1 AND rowid <= ?2 AND part <> 0",
         )?,
@@ -152,6 +153,7 @@ pub(crate) fn list_all<S: Alter>(
         receipts: list_long(
             tx,
             alloc,
+            usize::MAX,
             "SELECT rowid FROM receipts",
             "SELECT rowid, number, box, name, length, digest, moment, key_id FROM receipts WHERE rowid >= ?1 AND rowid <= ?2",
         )?,

@@ -49,10 +49,12 @@ pub(crate) fn list_between<S: Alter, L: Line + Drop>(
     lines_of(*rows.allocator(), &rows)
 }
 
-/// What the query shows of the rows of these rowids that pass its test, a portion at a time.
+/// What the query shows of the rows of these rowids that pass its test, a portion at a time. At first there is room for `room`
+/// lines.
 fn list_portions<S: Alter, L: Line + Drop>(
     tx: &mut Transaction<'_, S>,
     alloc: Global,
+    room: usize,
     numbers: &[i64],
     sql: &str,
 ) -> Result<Vec<L>, Error>
@@ -68,7 +70,7 @@ fn list_portions<S: Alter, L: Line + Drop>(
     ensures rest { GoesOnWhere (IsRunning (seen S.Store tx.old))
         (IsRunning (seen S.Store tx.old)) S.Store tx.old tx.new result }
 {
-    let mut lines = Vec::with_capacity(alloc, numbers.len())?;
+    let mut lines = Vec::with_capacity(alloc, room)?;
     let mut at: usize = 0;
     while at < numbers.len() {
         let end = at + PORTION.min(numbers.len() - at);
@@ -80,10 +82,11 @@ fn list_portions<S: Alter, L: Line + Drop>(
 }
 
 /// The rows of a table that pass a test, by a query for all rowids and one for those that pass from the one rowid to the other.
-/// Two rows with one rowid are `DatabaseCorrupt`.
+/// Two rows with one rowid are `DatabaseCorrupt`. At first there is room for each row, or for `room` lines where these are fewer.
 pub(crate) fn list_long<S: Alter, L: Line + Drop>(
     tx: &mut Transaction<'_, S>,
     alloc: Global,
+    room: usize,
     rowids: &str,
     sql: &str,
 ) -> Result<Vec<L>, Error>
@@ -101,5 +104,5 @@ pub(crate) fn list_long<S: Alter, L: Line + Drop>(
     ensures rest { GoesOnBegun S.Store tx.old tx.new result }
 {
     let numbers = list_numbers(tx, rowids)?;
-    list_portions(tx, alloc, &numbers, sql)
+    list_portions(tx, alloc, numbers.len().min(room), &numbers, sql)
 }
