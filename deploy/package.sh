@@ -19,8 +19,9 @@ trap 'rm -rf "$work"' EXIT
 tree=$work/tree
 umask 022
 
-# The program, its manual page and its unit.
+# The program without its symbols, its manual page and its unit.
 install -D -m 755 "$program" "$tree/usr/bin/drop"
+strip --strip-all "$tree/usr/bin/drop"
 mkdir -p "$tree/usr/share/man/man1"
 python3 -B deploy/manual.py "$program" "$version" "$SOURCE_DATE_EPOCH" | gzip -9n >"$tree/usr/share/man/man1/drop.1.gz"
 install -D -m 644 deploy/drop.service "$tree/lib/systemd/system/drop.service"
