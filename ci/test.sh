@@ -73,45 +73,45 @@ with_command() {
 
 office() {
     with_command sqlite3 || return 1
-    python3 -B ci/office.py
+    python3 -B ci/test_office.py
 }
 
 migrate() {
     with_command sqlite3 || return 1
-    python3 -B ci/migrate.py
+    python3 -B ci/test_migrate.py
 }
 
 serve() {
     local python
     with_command curl || return 1
     python=$(with_boto3) || return 1
-    "$python" -B ci/serve.py
+    "$python" -B ci/test_serve.py
 }
 
 desk() {
     local python
     with_command curl || return 1
     python=$(with_boto3) || return 1
-    "$python" -B ci/desk.py
+    "$python" -B ci/test_desk.py
 }
 
 lists() {
     local python
     python=$(with_boto3) || return 1
-    "$python" -B ci/lists.py
+    "$python" -B ci/test_lists.py
 }
 
 exports() {
     local python
     python=$(with_boto3) || return 1
-    "$python" -B ci/exports.py
+    "$python" -B ci/test_exports.py
 }
 
 kills() {
     local python
     with_command sqlite3 || return 1
     python=$(with_boto3) || return 1
-    "$python" -B ci/kills.py
+    "$python" -B ci/test_kills.py
 }
 
 # A browser, and its driver.
@@ -123,23 +123,23 @@ crowd() {
     local python
     with_command nginx nginx-light && with_command openssl && with_command curl && with_browser || return 1
     python=$(with_boto3) || return 1
-    "$python" -B ci/crowd.py
+    "$python" -B ci/test_crowd.py
 }
 
 page() {
     with_command curl && with_browser || return 1
-    python3 -B ci/page.py --shots "$work/shots"
+    python3 -B ci/test_page.py --shots "$work/shots"
 }
 
 clerk() {
     with_command openssl && with_browser || return 1
-    python3 -B ci/clerk.py --shots "$work/shots"
+    python3 -B ci/test_clerk.py --shots "$work/shots"
 }
 
 interop() {
     local python
     python=$(with_boto3) || return 1
-    "$python" -B ci/interop.py
+    "$python" -B ci/test_interop.py
 }
 
 deploy() {
@@ -147,14 +147,14 @@ deploy() {
     with_command nginx nginx-light && with_command systemd-analyze systemd || return 1
     with_command openssl && with_command sqlite3 && with_command curl && with_browser || return 1
     python=$(with_boto3) || return 1
-    "$python" -B ci/deploy.py
+    "$python" -B ci/test_deploy.py
 }
 
 package() {
     local python
     with_command debootstrap && with_command lintian && with_command man man-db && with_command objdump binutils || return 1
     python=$(with_boto3) || return 1
-    "$python" -B ci/package.py
+    "$python" -B ci/test_package.py
 }
 
 documents() {
@@ -162,7 +162,7 @@ documents() {
     with_command curl && with_command aws awscli || return 1
     with_command openssl && with_command sqlite3 || return 1
     python=$(with_boto3) || return 1
-    "$python" -B ci/documents.py
+    "$python" -B ci/test_documents.py
 }
 
 SECONDS=0
@@ -171,20 +171,20 @@ SECONDS=0
 run edits python3 -B ci/edits.py --beside "$work/rt-ci.status" >"$work/edits" &
 count rt-ci rt ci
 count rows python3 -B ci/rows.py --check
-count replays python3 -B ci/replays.py
+count replays python3 -B ci/test_replays.py
 count office office
 count migrate migrate
 count serve serve
 count desk desk
-count respelled python3 -B ci/respelled.py
+count respelled python3 -B ci/test_respelled.py
 count lists lists
 count exports exports
 count kills kills
 count crowd crowd
-count stops python3 -B ci/stops.py
+count stops python3 -B ci/test_stops.py
 count page page
 count clerk clerk
-count memory python3 -B ci/memory.py
+count memory python3 -B ci/test_memory.py
 count interop interop
 count deploy deploy
 count package package
