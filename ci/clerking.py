@@ -96,7 +96,7 @@ def said_refusal(case, check, name, number, english, german):
     found = case.result_now()
     told = found["kind"], found["title"], found["facts"].get("office_says"), found["focus"]
     check(name, is_not(told, ("refused", f"Refused: number {number}", expected.refusal(number)[1].strip(), "result_title"))
-              or lacks(found["live"], f"Refused: number {number}. {found['what']}"))
+          or lacks(found["live"], f"Refused: number {number}. {found['what']}"))
     both(case, check, f"{name}, words", ["What to do: ", *english],
          [f"Abgelehnt: Nummer {number}", "Was Sie tun können: ", *german])
 

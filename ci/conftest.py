@@ -11,6 +11,7 @@ import shutil
 import pytest
 
 import kit
+from expected import LIMIT
 from program import Drop
 from samples import clock_at
 
@@ -19,7 +20,7 @@ def pytest_addoption(parser):
     parser.addoption("--shots", type=pathlib.Path, help="a folder for pictures of the pages")
     parser.addoption("--kills", type=int, default=50, help="how often a server is killed")
     parser.addoption("--seed", type=int, default=random.SystemRandom().randrange(10**9), help="of the kills")
-    parser.addoption("--size", type=int, default=8 << 20, help="bytes of the upload that is stopped")
+    parser.addoption("--size", type=int, default=LIMIT, help="bytes of the upload that is stopped")
 
 
 # ---- fixtures

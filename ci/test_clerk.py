@@ -128,7 +128,7 @@ def test_key(case, check):
     begun = len(case.front.passed)
     found = begin(case)
     check("a clerk’s key", is_not((found["title"], found["focus"]), ("The key is right", "result_title"))
-              or lacks(found["live"], "The key is right. The office knows this key as a clerk’s."))
+          or lacks(found["live"], "The key is right. The office knows this key as a clerk’s."))
     both(case, check, "its words", ["The office knows this key as a clerk’s."],
          ["Der Schlüssel stimmt", "Schlüssel der Verwaltung"])
     shown = case.browser.js("return document.getElementById('key_facts').innerText")
@@ -292,7 +292,7 @@ def test_keys(case, check):
     found = send(case, "add_key", id="tender-2")
     secret = found["facts"].get("secret") or ""
     check("a key is added", is_not((found["kind"], found["lead"]), ("done", "The office has the key “tender-2”."))
-              or (None if re.fullmatch("[0-9a-f]{64}", secret) else secret))
+          or (None if re.fullmatch("[0-9a-f]{64}", secret) else secret))
     both(case, check, "its words", ["shown here alone, this once"],
          ["Die Stelle hat den Schlüssel „tender-2“.", "nur dieses eine Mal"])
     case.shot("clerk-secret")
@@ -378,7 +378,7 @@ def test_faults(case, check):
         secret = secret or found["facts"].get("secret")
         name = f"a command, {mode if isinstance(mode, str) else kind}"
         check(name, is_not((found["kind"], found["again"], found["focus"]), (kind, "Try again", "result_title"))
-                  or lacks(found["live"], found["title"]))
+              or lacks(found["live"], found["title"]))
         unsure = kind != "barred"
         both(case, check, f"{name}, words", [english, *["Perhaps it was done, perhaps not."] * unsure],
              [german, *["Vielleicht wurde es getan, vielleicht nicht."] * unsure])
@@ -478,19 +478,19 @@ def test_many_links(case, check):
               document.getElementById("bar").value, document.getElementById("so_far").textContent]));""")
         found = send(case, "links", box="in", names="\n".join(names) + "\n\n", **{method.lower(): True}, **HELD)
         check(f"120 links, {method}", is_not((found["kind"], found["title"]), ("links", "120 links"))
-                  or lacks(found["facts"].get("until_then"), "Feb 7, 2026, 12:30", "(UTC+01:00)", "Feb 7, 2026, 5:00:00"))
+              or lacks(found["facts"].get("until_then"), "Feb 7, 2026, 12:30", "(UTC+01:00)", "Feb 7, 2026, 5:00:00"))
         made, text = saved(case)
         owed = owed_links(case, method, "in", names, start=START, expires=604800)
         check(f"120 links, {method}, as drop links", is_not([it["link"] for it in made], owed))
         check(f"120 links, {method}, names", is_not([it["name"] for it in made], names))
         check(f"120 links, {method}, rows", is_not({(it["method"], it["box"], it["start"], it["expires"]) for it in made},
-                                                       {(method, "in", START, "604800")}))
+                                                   {(method, "in", START, "604800")}))
         pages = [page_of(case, method, it) for it in owed]
         check(f"120 links, {method}, addresses", is_not([it["page"] for it in made], pages))
         copied(case, check, "#copy_all", "".join(f"{it}\n" for it in pages))
         bars = case.browser.js("return window.bars")
         check(f"the bar, {method}", is_not((bars[0][0], bars[-1][0]), (False, True))
-                  or (None if [False, 50, "60 of 120 links"] in bars else f"{bars}"))
+              or (None if [False, 50, "60 of 120 links"] in bars else f"{bars}"))
         said = case.browser.js("return window.said")
         check(f"it is said, {method}", None if said[0] == "The links are being made" and "60 of 120 links" in said else said)
     ran = case.drop.run("links", copy_of(case), "--key", ID, "--host", case.front.host, "--region", "us-east-1",

@@ -195,13 +195,13 @@ def test_refusals(case, check):
         check(name, is_not(told, ("refused", f"Refused: number {number}", line.strip())))
         check(f"{name}, words", lacks(found["what"], english[0]) or lacks(found["remedy"], english[1]))
         check(f"{name}, announced", lacks(found["live"], f"Refused: number {number}. {found['what']}")
-                  or is_not(found["focus"], "result_title"))
+              or is_not(found["focus"], "result_title"))
         if number == 30:
             case.shot("refused")
         case.speak("de")
         found = case.result()
         check(f"{name}, German", is_not(found["title"], f"Abgelehnt: Nummer {number}")
-                  or lacks(found["what"], german[0]) or lacks(found["remedy"], german[1]))
+              or lacks(found["what"], german[0]) or lacks(found["remedy"], german[1]))
     check("nothing was kept", is_not(len(receipts(case)), 3))
 
 
@@ -235,14 +235,14 @@ def test_too_large(case, check):
     case.choose("large", b"l" * (LIMIT + 1))
     found = case.result()
     check("too large", is_not(found["title"], "Not sent: it would be refused with number 5")
-              or lacks(found["what"], "more than 8,388,608 bytes") or lacks(found["remedy"], "Make the file smaller"))
+          or lacks(found["what"], "more than 8,388,608 bytes") or lacks(found["remedy"], "Make the file smaller"))
     case.click("#go")
     found = case.result()
     check("it is not sent", is_not((found["kind"], len(case.front.passed)), ("refused", before)))
     case.click("#de")
     found = case.result()
     check("too large, German", is_not(found["title"], "Nicht gesendet: Sie würde mit Nummer 5 abgelehnt")
-              or lacks(found["what"], "mehr als 8.388.608 Bytes") or lacks(found["remedy"], "Verkleinern Sie die Datei"))
+          or lacks(found["what"], "mehr als 8.388.608 Bytes") or lacks(found["remedy"], "Verkleinern Sie die Datei"))
 
 
 FAULTS = b"faults" * 100
@@ -267,20 +267,20 @@ def test_faults(case, check):
         found = case.result(kind)
         name = f"put, {mode if isinstance(mode, str) else kind}"
         check(name, lacks(found["title"], english) or lacks(found["text"], "Sending the same file again is harmless")
-                  or is_not(found["again"], "Try again") or lacks(found["live"], found["title"]))
+              or is_not(found["again"], "Try again") or lacks(found["live"], found["title"]))
         if mode == "gone":
             case.shot("away")
         case.click("#de")
         found = case.result(kind)
         check(f"{name}, German", lacks(found["title"], german) or is_not(found["again"], "Erneut versuchen")
-                  or lacks(found["text"], "schadet nicht"))
+              or lacks(found["text"], "schadet nicht"))
         case.click("#en")
     case.office.start()
     case.front.mode = b"HTTP/1.1 413 Payload Too Large\r\nContent-Length: 0\r\n\r\n"
     case.click("#again")
     found = case.result("refused")
     check("too large for the web server", is_not(found["title"], "Refused: number 5")
-              or lacks(found["remedy"], "Make the file smaller"))
+          or lacks(found["remedy"], "Make the file smaller"))
     case.front.mode = "through"
     case.click("#go")
     found = case.result("receipt")
@@ -335,8 +335,8 @@ def test_get(case, check):
         check(f"{name} put", is_not((found["kind"], of(found, owed)), ("receipt", owed)))
         found = case.fetch(f"get {name}")
         check(f"{name} fetched", is_not((found["kind"], of(found, owed)), ("fetched", owed))
-                  or lacks(found["checked"], "Checked: length and SHA-256") or is_not(found["focus"], "result_title")
-                  or lacks(found["live"], "The file has arrived. Checked"))
+              or lacks(found["checked"], "Checked: length and SHA-256") or is_not(found["focus"], "result_title")
+              or lacks(found["live"], "The file has arrived. Checked"))
         if name == "odd":
             check("its name", is_not(found["facts"]["name"], ODD))
             case.shot("fetched")
@@ -430,7 +430,7 @@ def test_keyboard(case, check):
     case.browser.press(ENTER)
     said = case.browser.js("return ['live', 'facts'].map((it) => document.getElementById(it).innerText)")
     check("without a file", is_not(case.browser.active(), "file") or lacks(said[0], "Choose a file first.")
-              or lacks(said[1], "Choose a file first."))
+          or lacks(said[1], "Choose a file first."))
     outline = "return getComputedStyle(document.getElementById('file_label')).outlineStyle"
     check("the focus is seen", is_not(case.browser.js(outline), "solid"))
     case.choose("keys", b"keys")
@@ -524,11 +524,11 @@ def test_insecure(case, check):
     facts = found["facts"]
     told, owed = (found["title"], facts["office_digest"]), (f"Receipt {facts['number']}", digest(b"plain"))
     check("a receipt that is not checked", is_not(told, owed) or is_not(facts.get("own_digest"), None)
-              or lacks(found["checked"], "Not checked", "sha256sum"))
+          or lacks(found["checked"], "Not checked", "sha256sum"))
     case.shot("insecure")
     found = case.fetch("get plain", host)
     check("a file that is not checked", is_not(found["save"], "Save the file as “plain”")
-              or lacks(found["checked"], "Not checked"))
+          or lacks(found["checked"], "Not checked"))
 
 
 def test_reader(case, check):
