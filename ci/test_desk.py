@@ -17,7 +17,7 @@ import tables
 from expected import ID, MOMENT, OBEYED, SECRET, answer, fetched, quoted, receipt
 from messages import REQUEST, get, post, put, signed
 from orders import BotocoreOrder
-from program import CLERK, DONE, IN_MEMORY, SAID_DONE, difference, fault, full_disk, malformed
+from program import CANNOT_WRITE, CLERK, DONE, IN_MEMORY, SAID_DONE, difference, fault, full_disk, malformed
 from server import Server, curl, open_office
 
 LATER = "20130524T000001Z"
@@ -300,7 +300,7 @@ def test_words(drop, check):
     check("no file is made", "there is one" if gone.exists() else None)
     with full_disk() as full:
         found = drop.run("desk", file, "key add full link s3cr3t", out=full)
-        check("a full disk", difference(found, fault("cannot write")))
+        check("a full disk", difference(found, CANNOT_WRITE))
     check("its key stands", difference(tables.rows(file, "SELECT role FROM keys WHERE id = 'full'"), [(0,)]))
     owed = kit.Run(0, (kit.ROOT / "ci" / "desk.help").read_bytes(), b"")
     for words in [["desk", "--help"], ["help", "desk"]]:

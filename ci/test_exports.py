@@ -15,11 +15,12 @@ import tables
 from expected import ID, SECRET
 from listed import BOX_HEAD, FILE_HEAD, KEPT, KEY_HEAD, ascending, kept_files, read, unlike
 from many_receipts import BOXES, KEYS, change, few, filled
-from program import CANNOT_OPEN, VERSION, closed_pipe, difference, fault, full_disk, help_lines, help_of, malformed, not_offices
+from program import (
+    CANNOT_OPEN, CANNOT_WRITE, VERSION, closed_pipe, difference, fault, full_disk, help_lines, help_of, malformed, not_offices,
+)
 
 PATH_HEAD = ["path", "box", "name", "receipt", "length", "sha256", "moment", "key"]
 WHATS = ["keys", "boxes", "files"]
-CANNOT_WRITE = fault("cannot write")
 # What some file system does not take in a name.
 NOT_TAKEN = set('/\\:*?"<>|') | {chr(code) for code in [*range(32), 127]}
 NAMES = ["..", ".", "a/..", "a/../b", "../../etc/passwd", "/etc/passwd", ".hidden", "...x", "x.", "x. ", "x .", " ", "  ", "a/b/c",

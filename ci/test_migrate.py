@@ -19,7 +19,7 @@ from expected import ID, MOMENT
 from kept import VERSION_1, Kept, all_kept
 from messages import get
 from program import (
-    CANNOT_OPEN, CLERK, DAMAGED, EXISTS, LINK, SAID_DONE, VERSION, difference, fault, full_disk, not_offices, stock,
+    CANNOT_OPEN, CANNOT_WRITE, CLERK, DAMAGED, EXISTS, LINK, SAID_DONE, VERSION, difference, fault, full_disk, not_offices, stock,
 )
 
 REFUSED = fault("the store refused")
@@ -173,7 +173,7 @@ def test_output(drop, check):
     kept = Kept(VERSION_1 / "filled")
     file = copied(drop, kept)
     with full_disk() as full:
-        check("a full disk", difference(migrate(drop, file, out=full), fault("cannot write")))
+        check("a full disk", difference(migrate(drop, file, out=full), CANNOT_WRITE))
     check("its manifest", difference(drop.run("manifest", file), kit.Run(0, kept.manifest, b"")))
 
 

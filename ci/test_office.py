@@ -18,8 +18,8 @@ import tables
 from expected import ID, MOMENT, SECRET, answer, fetched, python_link, receipt
 from messages import REQUEST, get, put, sent, signed
 from program import (
-    CANNOT_OPEN, CANNOT_READ_SECRET, CLERK, DAMAGED, DONE, EXISTS, FAILED, LINK, UNKNOWN, VERSION, answered, difference, fault,
-    full_disk, help_of, malformed, not_offices, other_program, stock,
+    CANNOT_OPEN, CANNOT_READ_SECRET, CANNOT_WRITE, CLERK, DAMAGED, DONE, EXISTS, FAILED, LINK, UNKNOWN, VERSION, answered,
+    difference, fault, full_disk, help_of, malformed, not_offices, other_program, stock,
 )
 
 FILE_FAULTS = [CANNOT_OPEN, DAMAGED, VERSION]
@@ -340,7 +340,7 @@ def test_links(drop, check):
     check("the office stays", None if tables.dump(file) == before else "it was changed")
     words = ["link", file, "GET", "in/a.txt", *itertools.chain(*((f"--{k}", v) for k, v in LINK.items()))]
     with full_disk() as full:
-        check("a full disk", difference(drop.run(*words, out=full), fault("cannot write")))
+        check("a full disk", difference(drop.run(*words, out=full), CANNOT_WRITE))
 
 
 def test_written_links(drop, check):

@@ -18,7 +18,7 @@ import kit
 import tables
 from expected import LIMIT, answer, fetched, receipt
 from front import BREAK, asked
-from program import CANNOT_OPEN, difference, fault, full_disk, help_of, malformed
+from program import CANNOT_OPEN, CANNOT_WRITE, difference, fault, full_disk, help_of, malformed
 from server import SECONDS, Server, boto_client, curl, open_office
 
 CANNOT_LISTEN = fault("cannot listen")
@@ -73,7 +73,7 @@ def test_faults(drop, check):
     check("another machine's address", difference(found, CANNOT_LISTEN))
     with full_disk() as full:
         found = drop.run("serve", file, "--listen", "127.0.0.1:0", "--connections", "1", out=full)
-        check("a full disk", difference(found, fault("cannot write")))
+        check("a full disk", difference(found, CANNOT_WRITE))
     check("the office stays", None if tables.dump(file) == before else "it was changed")
 
 
