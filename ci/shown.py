@@ -125,9 +125,7 @@ def of(found, owed):
 # ---- on each page
 
 
-TAB = "\ue004"
-ENTER = "\ue007"
-SPACE = " "
+TAB, ENTER, SPACE = "\ue004", "\ue007", " "
 
 
 def receipts(case):

@@ -41,7 +41,8 @@ LEAST_REFUSALS = 2000  # of all sessions
 def refusing(number, words, given=b""):
     """The run with this allocation refused, and whether there was such an allocation."""
     heard, told = os.pipe()
-    env = {"REFUSED_ALLOCATION": str(number), "REFUSAL_TOLD_TO": str(told), "LD_PRELOAD": str(kit.library("ci/heap.c")), "PATH": "/usr/bin:/bin"}
+    env = {"REFUSED_ALLOCATION": str(number), "REFUSAL_TOLD_TO": str(told), "LD_PRELOAD": str(kit.library("ci/heap.c")),
+           "PATH": "/usr/bin:/bin"}
     try:
         run = kit.run(words, given, cwd=DROP, env=env, pass_fds=[told])
     finally:
