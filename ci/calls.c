@@ -1,7 +1,7 @@
 // Tells what a program writes, for a test: of each call that was taken, in order, a line `KIND OFFSET LENGTH NAME` and then the
 // bytes of the call go to the file descriptor that CALLS_TOLD_TO names. KIND is `write`, `cut` (the file has OFFSET bytes now),
 // `sync`, or `send` for bytes that have no offset; NAME is what the descriptor leads to. It is loaded before the C library
-// (LD_PRELOAD), into the proved program as it was built (ci/stops.py). The toolchain has no headers of the C library, so what
+// (LD_PRELOAD), into the proved program as it was built (ci/test_stops.py). The toolchain has no headers of the C library, so what
 // is called of it is declared here.
 typedef unsigned long size_t;
 extern char *getenv(const char *);

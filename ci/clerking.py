@@ -9,8 +9,7 @@ import shutil
 
 import expected
 import tables
-from expected import SECRET
-from replays import ID
+from expected import ID, SECRET
 from shown import is_not, lacks
 
 WORD = SECRET.decode()
@@ -86,27 +85,27 @@ def spoken(case, language, words):
     return lacks(found["title"] + "\n" + found["text"], *words)
 
 
-def both(case, count, name, english, german):
-    count.add(name, spoken(case, "en", english))
-    count.add(f"{name}, German", spoken(case, "de", german))
+def both(case, check, name, english, german):
+    check(name, spoken(case, "en", english))
+    check(f"{name}, German", spoken(case, "de", german))
     case.speak("en")
 
 
-def said_refusal(case, count, name, number, english, german):
+def said_refusal(case, check, name, number, english, german):
     """The result is this refusal, with its number, its line and the words."""
     found = case.result_now()
     told = found["kind"], found["title"], found["facts"].get("office_says"), found["focus"]
-    count.add(name, is_not(told, ("refused", f"Refused: number {number}", expected.refusal(number)[1].strip(), "result_title"))
-              or lacks(found["live"], f"Refused: number {number}. {found['what']}"))
-    both(case, count, f"{name}, words", ["What to do: ", *english],
+    check(name, is_not(told, ("refused", f"Refused: number {number}", expected.refusal(number)[1].strip(), "result_title"))
+          or lacks(found["live"], f"Refused: number {number}. {found['what']}"))
+    both(case, check, f"{name}, words", ["What to do: ", *english],
          [f"Abgelehnt: Nummer {number}", "Was Sie tun können: ", *german])
 
 
-def field_fault(case, count, name, field, words, focus=None):
+def field_fault(case, check, name, field, words, focus=None):
     """This field alone is said to be wrong, beside it and to a screen reader, and has the focus."""
     bad, active, live, invalid = case.browser.js(FAULTS)
     well = is_not((list(bad), active), ([field], focus or field)) or lacks(bad[field], words)
-    count.add(name, well or lacks(live, words) or is_not(invalid, [] if focus else [field]))
+    check(name, well or lacks(live, words) or is_not(invalid, [] if focus else [field]))
 
 
 # ---- moments
@@ -157,13 +156,13 @@ def saved(case):
     return list(csv.DictReader(io.StringIO(text, newline=""))), text
 
 
-def copied(case, count, button, owed):
+def copied(case, check, button, owed):
     """What is copied by this button, and that it is said."""
     case.browser.js("navigator.clipboard.writeText = async (it) => { window.copy = it; }")
     case.click(button)
     case.browser.wait_for("return document.getElementById('copied').textContent")
     said = case.browser.js("return ['copied', 'live'].map((it) => document.getElementById(it).textContent)")
-    count.add(f"copied by {button}", is_not((case.browser.js("return window.copy"), said), (owed, ["Copied.", "Copied."])))
+    check(f"copied by {button}", is_not((case.browser.js("return window.copy"), said), (owed, ["Copied.", "Copied."])))
 
 
 def page_of(case, method, link):

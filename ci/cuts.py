@@ -17,8 +17,9 @@ import termios
 import time
 
 import kit
-from expected import answer
-from replays import MOMENT, OFFICE, REQUEST
+from expected import MOMENT, answer
+from messages import REQUEST
+from program import IN_MEMORY
 
 STREAM = REQUEST * 1001
 OWED = answer(27) * 1000
@@ -44,7 +45,7 @@ def wait_until_read(end):
 def answers(place):
     """What the program answers to the stream, cut there, and how it ends."""
     (heard, told), (read, written) = pipe(), pipe()
-    words = [kit.built("drop"), "replay", OFFICE, "--at", MOMENT, "/dev/stdin"]
+    words = [kit.built("drop"), "replay", IN_MEMORY, "--at", MOMENT, "/dev/stdin"]
     ends = [(os.POSIX_SPAWN_DUP2, heard, 0), (os.POSIX_SPAWN_DUP2, written, 1)]
     process = os.posix_spawn(words[0], words, {}, file_actions=ends)
     os.close(heard)

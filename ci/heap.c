@@ -1,6 +1,6 @@
 // A heap that refuses, for tests: the allocation of the program whose number REFUSED_ALLOCATION names, counted from 1, cannot
 // be made. Then a byte goes to the file descriptor that REFUSAL_TOLD_TO names, so that the caller knows that there was such
-// an allocation. It is loaded before the C library (LD_PRELOAD), into a proved program as it was built (ci/memory.py). What
+// an allocation. It is loaded before the C library (LD_PRELOAD), into a proved program as it was built (ci/test_memory.py). What
 // the C library itself asks for is neither counted nor refused.
 // The toolchain has no headers of the C library, so what is called of it is declared here.
 typedef unsigned long size_t;

@@ -1,7 +1,9 @@
-"""What the tests of built programs share: the toolchain, programs run side by side, and the count at the end."""
+"""What the tests of built programs share: the toolchain, programs run side by side, and the count of a script."""
 
+import atexit
 import concurrent.futures
 import dataclasses
+import functools
 import importlib.machinery
 import importlib.util
 import os
@@ -9,6 +11,7 @@ import pathlib
 import shutil
 import subprocess
 import sys
+import tempfile
 
 ROOT = pathlib.Path(__file__).resolve().parent.parent
 SECONDS = 60
@@ -38,8 +41,11 @@ def built(crate, ending=""):
     return file
 
 
-def library(folder, source):
-    """This file of C, built in the folder by the toolchain's compiler, as a library that is loaded before others."""
+@functools.cache
+def library(source):
+    """This file of C, built by the toolchain's compiler, as a library that is loaded before others."""
+    folder = tempfile.mkdtemp(prefix="drop-")
+    atexit.register(shutil.rmtree, folder)
     made = pathlib.Path(folder) / pathlib.Path(source).with_suffix(".so").name
     clang = [toolchain() / "toolchain/bin/clang", "-O1", "-fPIC", "-Wall", "-Wextra", "-Werror", "-shared", "-nostdlib"]
     subprocess.run([*clang, "-o", made, source], cwd=ROOT, check=True, stdout=subprocess.DEVNULL)

@@ -109,3 +109,22 @@ def kept_files(file):
 
 # The lists of what an office keeps, by the word that asks for each.
 KEPT = {"keys": kept_keys, "boxes": kept_boxes, "files": kept_files}
+
+
+# ---- what a list says
+
+
+def first_difference(found, owed):
+    """The first rows that are not the same."""
+    if found == owed:
+        return None
+    pairs = [(number, *pair) for number, pair in enumerate(zip(found, owed)) if pair[0] != pair[1]]
+    rows = f"{len(found)} rows and not {len(owed)}"
+    return f"{rows}; row {pairs[0][0]}: {pairs[0][1]} and not {pairs[0][2]}"[:1000] if pairs else rows
+
+
+def unlike(found, owed):
+    """Why a run did not write these rows and nothing else, in the rows as they are read and in their bytes."""
+    if found.status or found.err:
+        return f"status {found.status}, {found.err}"
+    return first_difference(read(found.out), owed) or (None if found.out == written(owed) else "other quotes or row ends")

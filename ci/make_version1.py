@@ -1,8 +1,8 @@
 """By hand, and done: has a program of version 1 make the office files that are kept in ci/version1, and asks it of each.
 
 It takes the path of that program, the proved `drop` of a tree that makes office files of version 1. All is made by its words
-and by requests that Python's `hmac` signs (ci/replays.py), but for one file, which Python's `sqlite3` then wrote anew in pages
-of another size. ci/migrate.py asks the program of today the same (ci/kept.py).
+and by requests that Python's `hmac` signs (ci/test_replays.py), but for one file, which Python's `sqlite3` then wrote anew in pages
+of another size. ci/test_migrate.py asks the program of today the same (ci/kept.py).
 """
 
 import argparse
@@ -13,12 +13,12 @@ import tempfile
 import time
 
 import kit
-from expected import SECRET, quoted
+from expected import ID, MOMENT, SECRET, quoted, receipt
 from kept import VERSION_1, Asked, Kept
-from office import Drop, answered, get, post, put, receipt
-from replays import ID, MOMENT, signed
+from messages import get, post, put, signed
+from program import Drop, answered
 from samples import NAMES
-from serve import Server
+from server import Server
 
 FIRST, LAST = "19700101T000000Z", "99991231T235959Z"
 BEFORE, LAST_OF_WEEK, AFTER_WEEK = "20130523T235959Z", "20130530T235959Z", "20130531T000000Z"
@@ -182,7 +182,7 @@ def boxes(it):
     it.desk(
         f"box add in {ANY_TIME} 1000000000000 1000000 keep any", f"box add {'b' * 63} {LAST} {LAST} 0000000 2359 2400 0 0 replace any",
         "box add friday 20130101T000000Z 20130601T000000Z 0000100 0100 0200 100 9 keep any",
-        f"box add never 20130601T000000Z 20130101T000000Z 1111111 0000 0001 1 1 keep any",
+        "box add never 20130601T000000Z 20130101T000000Z 1111111 0000 0001 1 1 keep any",
         f"box add ends {ANY_TIME} 1000 9 keep ends .txt", f"box add ends.8 {ANY_TIME} 1000 9 replace ends " + ",".join(it * 32 for it in "abcdefgh"),
         f"box add -begins {ANY_TIME} 1000 9 keep begins 2013/", f"box add 0 {ANY_TIME} 1000 9 replace begins " + "é" * 32,
         f"box add small {ANY_TIME} 3 5 replace any", f"box add none {ANY_TIME} 0 1 keep any", "box close never 20130701T000000Z",
@@ -265,7 +265,7 @@ def many(it):
 
 
 def filled(it):
-    """The office that is broken in ci/migrate.py: what `fill` of ci/tables.py makes, at moments at which the boxes are open."""
+    """The office that is broken in ci/test_migrate.py: what `fill` of ci/tables.py makes, at moments at which the boxes are open."""
     it.init()
     it.desk("key add k2 link s3cr3t", "key add k3 link s3cr3t", "key add c2 clerk !~", "key revoke c2",
             "box add in 20130101T000000Z 20130601T000000Z 1111111 0000 2400 1000000 3 replace any",

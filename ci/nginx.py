@@ -18,9 +18,8 @@ import subprocess
 import kit
 import s3
 from browser import until
-from expected import SECRET
+from expected import ID, SECRET
 from front import free_port
-from replays import ID
 
 PAGE = kit.ROOT / "docs" / "DEPLOY.md"
 HOST = "files.example"
@@ -204,7 +203,7 @@ class Front:
         """The status and the body of the answer to these bytes."""
         with self.connect() as it:
             it.sendall(text)
-            return answered(it)
+            return next_answer(it)
 
     def curl(self, *words):
         how = ["--silent", "--show-error", "--path-as-is", "--max-time", str(SECONDS), "--cacert", self.chain]
@@ -221,7 +220,7 @@ class Front:
         return url.removeprefix(f"https://{self.host}")
 
 
-def answered(it):
+def next_answer(it):
     """The status and the body of the next answer on this connection."""
     answer = http.client.HTTPResponse(it)
     answer.begin()

@@ -16,7 +16,7 @@ from botocore.awsrequest import AWSRequest
 from botocore.credentials import Credentials
 
 from rows import Order
-from samples import HOST, KEY_ID, NAMES, REGIONS, SECRET, random_text, stop_the_clock
+from samples import HOST, KEY_ID, NAMES, REGIONS, SECRET, random_text, clock_at
 
 METHODS = ["GET", "PUT", "HEAD", "POST"]
 HOSTS = [HOST, f"{HOST}:8080", "Files.Example", "[2001:db8::1]:80", "h" * 255]
@@ -49,11 +49,11 @@ class BotocoreOrder(Order):
 
     def link(self):
         moment = datetime.datetime.strptime(self.start, "%Y%m%dT%H%M%S%z")
-        stop_the_clock(moment)
         url = f"http://{self.host}{urllib.parse.quote(self.path, safe='/')}"
         headers = {"Host": self.host, **dict(self.headers)}
         request = AWSRequest(self.method, url, headers, params=dict(self.params))
-        S3SigV4QueryAuth(Credentials(*self.key), "s3", self.region, self.expires).add_auth(request)
+        with clock_at(moment):
+            S3SigV4QueryAuth(Credentials(*self.key), "s3", self.region, self.expires).add_auth(request)
         return in_canonical_order(request.url.removeprefix(f"http://{self.host}"))
 
 

@@ -8,8 +8,8 @@ import re
 import threading
 import time
 
-from expected import answer
-from office import OBEYED, fetched, get, post, put, receipt
+from expected import OBEYED, answer, fetched, receipt
+from messages import get, post, put
 
 SECONDS = 60  # until what is waited for must be there
 SOON = 5.0  # how long an answer may take that waits for no other peer
@@ -31,6 +31,21 @@ def facts(found):
     first, *lines = head.split(b"\r\n")
     fields = dict(line.split(b": ", 1) for line in lines)
     return first.split()[1], {name: fields.get(name) for name in OWN_FIELDS}, body
+
+
+def whole_answer(stream, method):
+    """The next answer."""
+    head = b""
+    while not head.endswith(b"\r\n\r\n"):
+        line = stream.readline()
+        if not line:
+            raise ConnectionError("the connection ended in a head, or before it")
+        head += line
+    length = 0 if method == "HEAD" else int(re.search(rb"Content-Length: (\d+)", head)[1])
+    body = stream.read(length)
+    if len(body) < length:
+        raise ConnectionError("the connection ended in a body")
+    return head + body
 
 
 class Peer:
@@ -129,16 +144,16 @@ class Client(threading.Thread):
             self.faults.append(f"client {self.number}, {what}: {found[:300]!r} and not {owed[:300]!r}")
 
 
-def add_clients(count, name, clients):
+def add_clients(check, name, clients):
     """Runs the clients side by side: whether each answer was right, and came soon. The receipts that they were told."""
     for it in clients:
         it.start()
     for it in clients:
         it.join()
     faults = [fault for it in clients for fault in it.faults]
-    count.add(f"{name}: the answers", f"{len(faults)} are wrong, the first: {faults[0]}" if faults else None)
+    check(f"{name}: the answers", f"{len(faults)} are wrong, the first: {faults[0]}" if faults else None)
     slowest = max(it.slowest for it in clients)
-    count.add(f"{name}: the slowest answer", f"after {slowest:.1f} seconds" if slowest > SOON else None)
+    check(f"{name}: the slowest answer", f"after {slowest:.1f} seconds" if slowest > SOON else None)
     print(f"{name}: the slowest answer came after {slowest:.3f} s")
     return sorted(number for it in clients for number in it.receipts)
 

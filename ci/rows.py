@@ -2,7 +2,7 @@
 
 What is owed comes from outside the crates: from the table of refusals in docs/RULES.md, from Python's `hashlib`,
 `hmac`, `calendar`, `datetime` and `urllib.parse`, from published vectors, and from the forms in docs/RULES.md, read by a person.
-No argument: it writes both files. `--check`: it says whether they are as it would write them.
+ci/test_rows.py says whether both files are as they would be written.
 
 A row is the name of a call and its words, with one space before each. A byte outside 0x21..0x7E, and `"` and `%`,
 stands as `%` and two digits; a word without bytes is `""`. An answer is written in the same way.
@@ -13,10 +13,8 @@ import dataclasses
 import datetime
 import hashlib
 import hmac
-import sys
 import time
 
-import kit
 from expected import (
     CANONICAL, CREDENTIAL, DATE, PUBLISHED, ROOT, SECRET, SIGNATURE, answer, as_bytes, canonical_query,
     canonical_request, decoded, quoted, signature, signing_key, table_of_refusals,
@@ -651,22 +649,6 @@ def files():
     return {"stdin": "".join(f"{it}\n" for it in given), "stdout": "".join(f"{it}\n" for it in owed)}
 
 
-def check(made):
-    """Says whether the files are what is written here."""
-    count = kit.Count()
-    for name, text in made.items():
-        is_made = (CRATE / name).read_text() == text
-        count.add(f"crates/rows/{name}", None if is_made else "it is not what ci/rows.py writes")
-    count.end()
-
-
-def main(words):
-    made = files()
-    if words == ["--check"]:
-        check(made)
-    for name, text in made.items():
-        (CRATE / name).write_text(text)
-
-
 if __name__ == "__main__":
-    main(sys.argv[1:])
+    for NAME, TEXT in files().items():
+        (CRATE / NAME).write_text(TEXT)

@@ -4,6 +4,7 @@ import contextlib
 import datetime
 import importlib
 import types
+import unittest.mock
 
 import botocore.auth
 import botocore.compat
@@ -46,7 +47,8 @@ def signers():
     return [botocore.auth]
 
 
-def stop_the_clock(moment=MOMENT):
+@contextlib.contextmanager
+def clock_at(moment=MOMENT):
     """Lets botocore sign at the moment, in its newer and its older versions."""
     def now(remove_tzinfo=True):
         return moment.replace(tzinfo=None) if remove_tzinfo else moment
@@ -56,8 +58,9 @@ def stop_the_clock(moment=MOMENT):
         def utcnow(cls):
             return moment.replace(tzinfo=None)
 
-    for module in signers():
-        if hasattr(module, "get_current_datetime"):
-            module.get_current_datetime = now
-        else:
-            module.datetime = types.SimpleNamespace(datetime=Stopped, timedelta=datetime.timedelta, timezone=datetime.timezone)
+    older = types.SimpleNamespace(datetime=Stopped, timedelta=datetime.timedelta, timezone=datetime.timezone)
+    with contextlib.ExitStack() as stack:
+        for module in signers():
+            name, by = ("get_current_datetime", now) if hasattr(module, "get_current_datetime") else ("datetime", older)
+            stack.enter_context(unittest.mock.patch.object(module, name, by))
+        yield

@@ -1,13 +1,9 @@
 """What a test of page/ does in a browser and what it finds there, and what is owed of a receipt."""
 
-import argparse
+import contextlib
 import hashlib
-import pathlib
-import sys
-import time
 
-from browser import until
-
+from browser import Browser, Element, until
 
 RESULT = """
 const result = document.getElementById("result");
@@ -91,29 +87,15 @@ class Case:
         self.browser.width(1280)
 
 
-def options(about):
-    """The words of a program that tests a page."""
-    parser = argparse.ArgumentParser(description=about)
-    parser.add_argument("--shots", type=pathlib.Path, help="a folder for pictures")
-    parser.add_argument("--times", action="store_true", help="tell how long each test takes")
-    chosen = parser.parse_args()
-    if chosen.shots:
-        chosen.shots.mkdir(parents=True, exist_ok=True)
-    return chosen
-
-
-def run_tests(tests, case, count, times):
-    """Runs these tests, one after another."""
-    for test in tests:
-        begun = time.monotonic()
-        if not case.office.process:  # a test that failed left it so
-            case.office.start()
-        try:
-            test(case, count)
-        except (AssertionError, KeyError, OSError) as error:
-            count.add(test.__name__, f"{type(error).__name__}: {error}")
-        if times:
-            print(f"{test.__name__} {time.monotonic() - begun:.1f} s", file=sys.stderr)
+@contextlib.contextmanager
+def opened_case(drop, office, front, links, shots):
+    """A case whose office runs and whose browser is open."""
+    office.start()
+    try:
+        with Browser(drop.folder) as browser:
+            yield Case(drop, office, front, browser, links, shots)
+    finally:
+        office.kill()
 
 
 def digest(data):
@@ -138,3 +120,106 @@ def receipt_facts(number, data):
 def of(found, owed):
     """The facts of a result that are owed, among others."""
     return {name: found["facts"].get(name) for name in owed}
+
+
+# ---- on each page
+
+
+TAB, ENTER, SPACE = "\ue004", "\ue007", " "
+
+
+def receipts(case):
+    """The receipts of the office, by a manifest; it is stopped for it."""
+    case.office.kill()
+    ran = case.drop.run("manifest", case.office.file)
+    case.office.start()
+    assert ran.status == 0, ran
+    return ran.out.decode().splitlines()[1:]
+
+
+def tabbed(case, times):
+    """What has the focus behind each of so many Tabs."""
+    order = []
+    for _ in range(times):
+        case.browser.press(TAB)
+        order.append(case.browser.active())
+    return order
+
+
+CONTROLS = "button, input, a, progress, select, textarea, summary, [tabindex='0']"
+SEEN = "return arguments[0].id === 'file' ? arguments[0].closest('[hidden]') === null : arguments[0].offsetParent !== null"
+
+
+def labels(case):
+    """Role and accessible name of each control that is shown."""
+    found = [it for it in case.browser.all(CONTROLS) if case.browser.js(SEEN, {Element.KEY: it.id})]
+    return {case.browser.js("return arguments[0].id", {Element.KEY: it.id}): (it.role(), it.label()) for it in found}
+
+
+BACKGROUND = "return getComputedStyle(document.body).backgroundColor"
+# The contrast of what is written with what it is written on, by WCAG 2.2, the least of all that is shown.
+CONTRAST = """
+const parse = (it) => it.match(/[\\d.]+/g).map(Number);
+const light = (it) => it.slice(0, 3).map((c) => c / 255).map((c) => c <= 0.04045 ? c / 12.92 : ((c + 0.055) / 1.055) ** 2.4)
+  .reduce((sum, c, at) => sum + c * [0.2126, 0.7152, 0.0722][at], 0);
+const back = (it) => {
+  const colour = parse(getComputedStyle(it).backgroundColor);
+  return (colour.length === 3 || colour[3] > 0) ? colour : back(it.parentElement);
+};
+const written = (it) => Array.from(it.childNodes).some((part) => part.nodeType === 3 && part.data.trim());
+const texts = Array.from(document.body.querySelectorAll("*")).filter((it) => it.offsetParent && written(it));
+return Math.min(...texts.map((it) => {
+  const [a, b] = [light(parse(getComputedStyle(it).color)), light(back(it))];
+  return (Math.max(a, b) + 0.05) / (Math.min(a, b) + 0.05);
+}));
+"""
+
+
+def looks(case, check, states):
+    """Of each state: no scrolling to the side on a telephone; enough contrast, light and dark; nothing moves where that is not
+    wanted."""
+    for name, reach in states:
+        reach()
+        case.browser.width(320)
+        for language in ["en", "de"]:
+            case.speak(language)
+            wide = case.browser.js("return [innerWidth, document.documentElement.scrollWidth]")
+            check(f"320 pixels, {name}, {language}", is_not(wide, [320, 320]))
+        small = case.browser.js("const all = document.querySelectorAll('button, .button, summary, .choice');"
+                                "return Array.from(all, (it) => it.offsetHeight).filter((it) => it && it < 44)")
+        check(f"large enough for a finger, {name}", is_not(small, []))
+        case.browser.width(1280)
+        for scheme in ["light", "dark"]:
+            case.browser.media(prefers_color_scheme=scheme)
+            contrast = case.browser.js(CONTRAST)
+            check(f"contrast, {name}, {scheme}", None if contrast >= 4.5 else contrast)
+        dark = case.browser.js(BACKGROUND)
+        case.browser.media()
+        check(f"dark, {name}", None if dark != case.browser.js(BACKGROUND) else dark)
+    case.browser.media(prefers_reduced_motion="reduce")
+    moving = case.browser.js("return Array.from(document.querySelectorAll('*'), (it) => getComputedStyle(it))"
+                             ".filter((it) => it.animationName !== 'none' || it.transitionDuration !== '0s').length")
+    check("reduced motion", is_not(moving, 0))
+    case.browser.media()
+
+
+def loads_its_own(case, check, page):
+    """All that the page has loaded is from its own origin."""
+    names = case.browser.js("return performance.getEntriesByType('resource').map((it) => it.name)")
+    far = [it for it in names if not it.startswith(f"http://{case.front.host}/")]
+    check(f"{page} loads from its own origin", is_not((far, len(names) >= 4), ([], True)))
+
+
+def reaches_nothing_else(case, check):
+    """Nothing could be loaded from elsewhere."""
+    elsewhere = f"http://files.example:{case.front.port}/put.html"
+    for what, script in [
+        ("fetch", "fetch(url, {mode: 'no-cors'}).then(() => done('loaded'), () => done('barred'))"),
+        ("a picture", "const it = new Image(); it.onload = () => done('loaded'); it.onerror = () => done('barred');"
+                      "it.src = url"),
+        ("a script in the page", "const it = document.createElement('script'); it.textContent = 'window.ran = 1';"
+                                 "document.body.append(it); done(window.ran ? 'loaded' : 'barred')"),
+    ]:
+        whole = f"const [url, done] = arguments; {script}"
+        found = case.browser.ask("POST", "/execute/async", {"script": whole, "args": [elsewhere]})
+        check(f"{what} is barred", is_not(found, "barred"))

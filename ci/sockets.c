@@ -1,6 +1,6 @@
 // Tells how sockets send, for a test: of each socket that bytes are sent on, a line goes to the file descriptor that
 // SENDS_TOLD_TO names, 1 where it sends at once (TCP_NODELAY) by what the system tells, else 0. It is loaded before the C library
-// (LD_PRELOAD), into the proved program as it was built (ci/serve.py). The toolchain has no headers of the C library, so what is
+// (LD_PRELOAD), into the proved program as it was built (ci/test_serve.py). The toolchain has no headers of the C library, so what is
 // called of it is declared here.
 extern char *getenv(const char *);
 extern long strtol(const char *, char **, int);

@@ -1,5 +1,5 @@
 // Stands in for files of the system, for a test: what is opened below /proc and /sys is opened below the folder that SYSTEM_AT
-// names. It is loaded before the C library (LD_PRELOAD), into the proved program as it was built (ci/serve.py). The toolchain has
+// names. It is loaded before the C library (LD_PRELOAD), into the proved program as it was built (ci/test_serve.py). The toolchain has
 // no headers of the C library, so what is called of it is declared here.
 typedef unsigned long size_t;
 extern char *getenv(const char *);

@@ -1,6 +1,6 @@
 #!/usr/bin/env bash
-# Runs all tests: `rt ci`, the must-fail edits beside it, and then the tests of the built programs. Each part ends with
-# `N passed, M failed`; a part that does not, or cannot be run, has failed. The last line is the sum of all.
+# Runs all tests: `rt ci`, the must-fail edits beside it, and then the tests of the built programs, by pytest. Each part ends
+# with `N passed, M failed`; a part that does not, or cannot be run, has failed. The last line is the sum of all.
 set -uo pipefail
 cd "$(dirname "$0")/.." || exit 2
 work=$(mktemp -d)
@@ -35,6 +35,7 @@ add() {
     fi
     awk -v name="$name" -v line="$line" \
         '{ printf "%-16s %7.1f s %8.1f s of processors   %s\n", name, $1, $2 + $3, line }' "$work/$name.time" >>"$work/times"
+    grep -E '^[a-z0-9_]+ +[0-9.]+ s +[0-9]+ passed, [0-9]+ failed$' "$work/$name.log" | sed 's/^/  /' >>"$work/times"
 }
 
 # Runs a part, and adds what it counts.
@@ -43,153 +44,57 @@ count() {
     add "$1"
 }
 
-# A Python that has boto3: this one, the system's, or one that is made for this run.
-with_boto3() {
-    local python
-    for python in python3 /usr/bin/python3; do
-        if "$python" -c 'import boto3' 2>/dev/null; then
-            echo "$python"
-            return
-        fi
-    done
-    if [ "$(id -u)" -eq 0 ] && command -v apt-get >/dev/null; then
-        (apt-get update && apt-get install -y --no-install-recommends python3-boto3) >&2
-        python=/usr/bin/python3
-    else
-        (python3 -m venv "$work/python" && "$work/python/bin/pip" install boto3) >&2
-        python=$work/python/bin/python
-    fi
-    "$python" -c 'import boto3' && echo "$python"
-}
-
-# A command, which Debian has in a package of its name, or in the one that is named behind it.
+# A command, which Debian has in a package of its name, or in the one that is named behind it. Without it the tests that need
+# it fail.
 with_command() {
-    local PATH=$PATH:/usr/sbin
-    command -v "$1" >/dev/null && return
+    command -v "$1" >/dev/null || install "${2-$1}"
+}
+
+# A module of Debian's Python, and the package that has it.
+with_module() {
+    /usr/bin/python3 -c "import $1" 2>/dev/null || install "$2"
+}
+
+install() {
     [ "$(id -u)" -eq 0 ] && command -v apt-get >/dev/null || return
-    (apt-get update && apt-get install -y --no-install-recommends "${2-$1}") >&2
-    command -v "$1" >/dev/null
+    (apt-get update && apt-get install -y --no-install-recommends "$1") >&2
 }
 
-office() {
-    with_command sqlite3 || return 1
-    python3 -B ci/office.py
+# Runs these modules by pytest.
+tests() {
+    /usr/bin/python3 -B -m pytest "$@"
 }
 
-migrate() {
-    with_command sqlite3 || return 1
-    python3 -B ci/migrate.py
-}
+export PATH=$PATH:/usr/sbin
+with_module boto3 python3-boto3
+with_module pytest python3-pytest
+with_module xdist python3-pytest-xdist
+with_command sqlite3
+with_command curl
+with_command openssl
+with_command nginx nginx-light
+with_command systemd-analyze systemd
+with_command chromium
+with_command chromedriver chromium-driver
+with_command aws awscli
+with_command debootstrap
+with_command lintian
+with_command man man-db
+with_command objdump binutils
 
-serve() {
-    local python
-    with_command curl || return 1
-    python=$(with_boto3) || return 1
-    "$python" -B ci/serve.py
-}
-
-desk() {
-    local python
-    with_command curl || return 1
-    python=$(with_boto3) || return 1
-    "$python" -B ci/desk.py
-}
-
-lists() {
-    local python
-    python=$(with_boto3) || return 1
-    "$python" -B ci/lists.py
-}
-
-exports() {
-    local python
-    python=$(with_boto3) || return 1
-    "$python" -B ci/exports.py
-}
-
-kills() {
-    local python
-    with_command sqlite3 || return 1
-    python=$(with_boto3) || return 1
-    "$python" -B ci/kills.py
-}
-
-# A browser, and its driver.
-with_browser() {
-    with_command chromium && with_command chromedriver chromium-driver
-}
-
-crowd() {
-    local python
-    with_command nginx nginx-light && with_command openssl && with_command curl && with_browser || return 1
-    python=$(with_boto3) || return 1
-    "$python" -B ci/crowd.py
-}
-
-page() {
-    with_command curl && with_browser || return 1
-    python3 -B ci/page.py --shots "$work/shots"
-}
-
-clerk() {
-    with_command openssl && with_browser || return 1
-    python3 -B ci/clerk.py --shots "$work/shots"
-}
-
-interop() {
-    local python
-    python=$(with_boto3) || return 1
-    "$python" -B ci/interop.py
-}
-
-deploy() {
-    local python
-    with_command nginx nginx-light && with_command systemd-analyze systemd || return 1
-    with_command openssl && with_command sqlite3 && with_command curl && with_browser || return 1
-    python=$(with_boto3) || return 1
-    "$python" -B ci/deploy.py
-}
-
-package() {
-    local python
-    with_command debootstrap && with_command lintian && with_command man man-db && with_command objdump binutils || return 1
-    python=$(with_boto3) || return 1
-    "$python" -B ci/package.py
-}
-
-documents() {
-    local python
-    with_command curl && with_command aws awscli || return 1
-    with_command openssl && with_command sqlite3 || return 1
-    python=$(with_boto3) || return 1
-    "$python" -B ci/documents.py
-}
+# These have folders and ports of their own, and measure nothing: they run side by side.
+beside=(ci/test_{rows,replays,office,migrate,desk,respelled,lists,exports,interop,documents}.py)
+# These measure time or memory, load the machine, or ask for all of it: they run one after another, and nothing beside them.
+alone=(ci/test_{serve,kills,crowd,stops,page,clerk,memory,deploy,package}.py)
 
 SECONDS=0
 # The edits of a crate are tried once `rt ci` has built its library, and beside the other parts, most of which wait for
 # servers and browsers.
 run edits python3 -B ci/edits.py --beside "$work/rt-ci.status" >"$work/edits" &
 count rt-ci rt ci
-count rows python3 -B ci/rows.py --check
-count replays python3 -B ci/replays.py
-count office office
-count migrate migrate
-count serve serve
-count desk desk
-count respelled python3 -B ci/respelled.py
-count lists lists
-count exports exports
-count kills kills
-count crowd crowd
-count stops python3 -B ci/stops.py
-count page page
-count clerk clerk
-count memory python3 -B ci/memory.py
-count interop interop
-count deploy deploy
-count package package
+count side-by-side tests -n "$(nproc)" "${beside[@]}"
+count one-by-one tests --shots "$work/shots" "${alone[@]}"
 count drawings python3 -B ci/drawings.py --check
-count documents documents
 wait
 cat "$work/edits"
 add edits

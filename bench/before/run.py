@@ -17,9 +17,10 @@ import time
 HERE = pathlib.Path(__file__).resolve().parent
 sys.path[1:1] = [str(HERE.parent), str(HERE.parents[1] / "ci")]
 import tables  # noqa: E402
-from kills import whole_answer  # noqa: E402
-from office import Drop, get, put  # noqa: E402
-from serve import Server  # noqa: E402
+from messages import get, put  # noqa: E402
+from peers import whole_answer  # noqa: E402
+from program import Drop  # noqa: E402
+from server import Server  # noqa: E402
 from shared import Wrong, load, machine, print_table, timings  # noqa: E402
 
 KIB, MIB = 1 << 10, 1 << 20

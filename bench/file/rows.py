@@ -15,9 +15,9 @@ import time
 
 TOP = pathlib.Path(__file__).resolve().parents[2]
 sys.path[1:1] = [str(TOP / "bench"), str(TOP / "bench" / "engine"), str(TOP / "ci")]
-import office  # noqa: E402
 import stock  # noqa: E402
 import tables  # noqa: E402
+from program import Drop  # noqa: E402
 from shared import disk_of, machine  # noqa: E402
 
 BODY = os.urandom(1024)
@@ -47,7 +47,7 @@ def main():
     words = parser.parse_args()
     with tempfile.TemporaryDirectory(prefix="drop-bench-") as name:
         folder = pathlib.Path(name)
-        file = office.Drop(words.drop.resolve(), folder).office("office")
+        file = Drop(words.drop.resolve(), folder).office("office")
         tables.add_box(file, tables.Box("bench", quota=10**12, max_files=10**6))
         plain, uploads = stock.alone(folder / "plain"), stock.alone(file)
         stock.make_blobs(plain)

@@ -18,9 +18,10 @@ import time
 TOP = pathlib.Path(__file__).resolve().parents[2]
 sys.path[1:1] = [str(TOP / "bench"), str(TOP / "ci")]
 import kit  # noqa: E402
-import office  # noqa: E402
 import tables  # noqa: E402
-from replays import ID, MOMENT  # noqa: E402
+from expected import ID, MOMENT, fetched, receipt  # noqa: E402
+from messages import get, put  # noqa: E402
+from program import Drop  # noqa: E402
 from shared import Wrong, connected, disk_of, load, machine, print_table, timings  # noqa: E402
 
 KIB, MIB = 1 << 10, 1 << 20
@@ -134,7 +135,7 @@ def compare(answers, owed):
 
 @dataclasses.dataclass(frozen=True)
 class Bench:
-    drop: office.Drop
+    drop: Drop
     sizes: Sizes
 
     def path(self, name):
@@ -168,16 +169,16 @@ class Bench:
     def uploads(self, mark, names, size, first, a_stream):
         """Uploads of new files, whose receipts have the numbers from `first` on."""
         bodies = [body_of(name, size) for name in names]
-        messages = [office.put(f"/{BOX.name}/{name}".encode(), body) for name, body in zip(names, bodies)]
+        messages = [put(f"/{BOX.name}/{name}".encode(), body) for name, body in zip(names, bodies)]
         parts = range(0, len(messages), a_stream)
         streams = [self.stream(f"{mark}-{at}.http", messages[at:at + a_stream]) for at in parts]
-        return Work(streams, [office.receipt(number, body) for number, body in enumerate(bodies, first)])
+        return Work(streams, [receipt(number, body) for number, body in enumerate(bodies, first)])
 
     def fetches(self, mark, count, names, size, first, again=1):
         """So many fetches of these files on one connection, now of the one, now of the other; and that so often."""
-        held = [(name, office.fetched(number, body_of(name, size))) for number, name in enumerate(names, first)]
+        held = [(name, fetched(number, body_of(name, size))) for number, name in enumerate(names, first)]
         asked = [held[number * 7 % len(held)] for number in range(count)]
-        messages = (office.get(f"/{BOX.name}/{name}".encode()) for name, _ in asked)
+        messages = (get(f"/{BOX.name}/{name}".encode()) for name, _ in asked)
         return Work([self.stream(f"{mark}.http", messages)] * again, [answer for _, answer in asked] * again)
 
     def filled(self, name, count, size):
@@ -186,8 +187,8 @@ class Bench:
         names = names_of(count)
         fill(file, names, size)
         kept = [(0, names[0]), (count // 2, names[count // 2]), (count - 1, names[-1])]
-        owed = [office.fetched(number + 1, body_of(it, size)) for number, it in kept]
-        messages = [office.get(f"/{BOX.name}/{it}".encode()) for _, it in kept]
+        owed = [fetched(number + 1, body_of(it, size)) for number, it in kept]
+        messages = [get(f"/{BOX.name}/{it}".encode()) for _, it in kept]
         self.replay(file, Work([self.stream(f"{name}-kept.http", messages)], owed))
         return file
 
@@ -369,7 +370,7 @@ def main():
         if disk_of(folder) == "tmpfs":
             parser.error(f"{folder} is in memory, and not on a disk")
         print(f"{machine()}, {disk_of(folder)}; {load()} as it began\n")
-        drop = office.Drop(words.drop.resolve(), folder)
+        drop = Drop(words.drop.resolve(), folder)
         rounds = Rounds(Bench(drop, TINY if words.tiny else Sizes()))
         filled = time.perf_counter()
         for number in range(words.rounds):

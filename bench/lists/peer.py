@@ -108,7 +108,7 @@ def links(db, given, out, key, host, region):
     from botocore.credentials import Credentials
 
     sys.path.insert(0, str(pathlib.Path(__file__).resolve().parents[2] / "ci"))
-    from samples import stop_the_clock
+    from samples import clock_at
 
     secret = db.execute("SELECT secret FROM keys WHERE id = ?", (key,)).fetchone()[0].decode()
     credentials = Credentials(key, secret)
@@ -117,9 +117,9 @@ def links(db, given, out, key, host, region):
     for method, box, name, start, expires in given:
         if not is_wish(method, box, name, expires):
             raise SystemExit(f"{name} is malformed")
-        stop_the_clock(datetime.datetime.strptime(start, "%Y%m%dT%H%M%S%z"))
         request = AWSRequest(method, f"http://{host}/{box}/{urllib.parse.quote(name)}")
-        botocore.auth.S3SigV4QueryAuth(credentials, "s3", region, int(expires)).add_auth(request)
+        with clock_at(datetime.datetime.strptime(start, "%Y%m%dT%H%M%S%z")):
+            botocore.auth.S3SigV4QueryAuth(credentials, "s3", region, int(expires)).add_auth(request)
         out.writerow([method, box, name, start, expires, request.url])
 
 

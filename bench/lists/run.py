@@ -20,10 +20,10 @@ import tempfile
 
 HERE = pathlib.Path(__file__).resolve().parent
 sys.path[1:1] = [str(HERE.parent), str(HERE.parents[1] / "ci")]
-import office  # noqa: E402
 import tables  # noqa: E402
 from peer import LINKS_HEAD, MANIFEST_HEAD  # noqa: E402
-from replays import ID  # noqa: E402
+from expected import ID  # noqa: E402
+from program import Drop  # noqa: E402
 from shared import Wrong, load, machine, print_table  # noqa: E402
 
 FEW = 1000  # receipts of the small office
@@ -224,7 +224,7 @@ def link_steps(file, rows, folder):
 
 def steps_in(folder, words):
     """The steps of a round, over offices that are made for them."""
-    drop, steps = office.Drop(words.drop.resolve(), folder), []
+    drop, steps = Drop(words.drop.resolve(), folder), []
     for receipts in [FEW, words.receipts]:
         file = drop.office(f"office-{receipts}")
         fill(file, receipts)

@@ -5,7 +5,7 @@ import socket
 import statistics
 import time
 
-from office import get, put
+from messages import get, put
 from peers import Crowd, Peer, a_minute_ago
 from servers import BOX, HOST, Drop, free_port
 

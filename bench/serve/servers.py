@@ -11,9 +11,9 @@ import socket
 import subprocess
 import time
 
-import office
+import program
 import tables
-from replays import ID
+from expected import ID, python_link
 
 HERE = pathlib.Path(__file__).resolve().parent
 KIB, MIB, MOST = 1 << 10, 1 << 20, 8 << 20
@@ -94,8 +94,8 @@ class Drop:
 
     name = "drop serve"
 
-    def __init__(self, program, folder, files=None):
-        self.drop = office.Drop(program, folder)
+    def __init__(self, file, folder, files=None):
+        self.drop = program.Drop(file, folder)
         self.whole = self.drop.office("office" if files is None else "empty")
         tables.add_box(self.whole, tables.Box(BOX, max_files=10**6, mode=1))
         for name, body in first_files() if files is None else files:
@@ -105,7 +105,7 @@ class Drop:
         start = time.strftime("%Y%m%dT%H%M%SZ", time.gmtime(time.time() - 60))
         host = f"{HOST}:{port}"
         for name in names:
-            line = office.python_link(row.method, f"{BOX}/{name}", host=host, start=start).decode().strip()
+            line = python_link(row.method, f"{BOX}/{name}", host=host, start=start).decode().strip()
             target = line.removeprefix(f"http://{host}")
             yield target[:-1] + ("0" if target[-1] != "0" else "1") if row.bad else target
 

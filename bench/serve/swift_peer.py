@@ -8,7 +8,7 @@ import shutil
 import subprocess
 import time
 
-import office
+from expected import python_link
 from servers import BOX, HOST, first_files, free_port, free_ports, wait_for
 
 KEY, SECRET, REGION = "bench:drop", b"a-secret-of-the-bench", "us-east-1"
@@ -85,7 +85,7 @@ class Swift:
         start = time.strftime("%Y%m%dT%H%M%SZ", time.gmtime(time.time() - 60))
         host = f"{HOST}:{port}"
         words = {"key": KEY, "secret": SECRET, "host": host, "region": REGION, "start": start, "expires": "86400"}
-        return office.python_link(method, target, **words).decode().strip().removeprefix(f"http://{host}")
+        return python_link(method, target, **words).decode().strip().removeprefix(f"http://{host}")
 
     def targets(self, row, names, port):
         for name in names:

@@ -3,8 +3,7 @@ do what no client should, and where connections or descriptors run out; directly
 deploy/nginx.conf sets it up.
 
 What is owed comes from Python's `hashlib` and `hmac` (ci/expected.py) and the table of refusals in docs/RULES.md. An answer to a
-client that behaves may take 5 seconds, and the patience of the server is 30: so it waited for no peer. The names of tests, as
-words, run these alone. The last line is `N passed, M failed`.
+client that behaves may take 5 seconds, and the patience of the server is 30: so it waited for no peer.
 """
 
 import concurrent.futures
@@ -14,21 +13,21 @@ import pathlib
 import re
 import resource
 import socket
-import sys
 import threading
 import time
 
 import kit
 import tables
 from browser import Browser
-from expected import answer
-from front import BREAK
+from expected import answer, fetched, receipt
+from front import BREAK, asked
 from kit import side_by_side
 from listed import read
+from messages import get, put
 from nginx import HOST, Front, Office, certificate, paths_of
-from office import difference, fetched, get, put, receipt, run_all
 from peers import SOON, UNSIGNED, Client, Crowd, Peer, a_minute_ago, add_clients, facts
-from serve import Server, asked, boto_client, curl, open_office
+from program import difference
+from server import Server, boto_client, curl, open_office
 
 DEPLOY = kit.ROOT / "deploy"
 PATIENCE = 30
@@ -51,20 +50,20 @@ def most_memory(process):
     return int(re.search(r"VmHWM:\s*(\d+) kB", text)[1]) / 1024
 
 
-def add_memory(count, name, server, alone):
+def add_memory(check, name, server, alone):
     """The memory of a server is what one had that clients came to one after another, and what may be ahead and on its way."""
     most = most_memory(server.process)
     print(f"{name}: {most:.0f} MiB, and {alone:.0f} for one client after another")
-    count.add(f"{name}: the memory", f"{most:.0f} MiB" if most > alone + AHEAD + ANSWERS else None)
+    check(f"{name}: the memory", f"{most:.0f} MiB" if most > alone + AHEAD + ANSWERS else None)
 
 
-def add_office(drop, file, count, name, told):
+def add_office(drop, file, check, name, told):
     """What the office has behind it all: each receipt that was told, from the first on, and no other."""
     numbers = list(range(1, len(told) + 1))
-    count.add(f"{name}: the receipts", difference(told, numbers))
+    check(f"{name}: the receipts", difference(told, numbers))
     rows = read(drop.run("manifest", file).out)[1:]
-    count.add(f"{name}: the manifest", difference([int(row[0]) for row in rows], numbers))
-    count.add(f"{name}: integrity", difference(tables.rows(file, "PRAGMA integrity_check"), [("ok",)]))
+    check(f"{name}: the manifest", difference([int(row[0]) for row in rows], numbers))
+    check(f"{name}: integrity", difference(tables.rows(file, "PRAGMA integrity_check"), [("ok",)]))
 
 
 def is_let_go(it):
@@ -90,15 +89,15 @@ def rest(it):
 # ---- a crowd
 
 
-def memory_alone(drop, count):
+def memory_alone(drop, check):
     """What a server takes to which the clients come one after another."""
     file, told = open_office(drop, "alone"), []
     with Server(drop, file, CLIENTS * VISITS, PATIENCE) as server:
         for it in clients(server.connect):
-            told += add_clients(count, f"client {it.number} alone", [it])
+            told += add_clients(check, f"client {it.number} alone", [it])
         most = most_memory(server.process)
-        count.add("alone: the end", difference(server.end(), server.owed_end(False)))
-    add_office(drop, file, count, "alone", told)
+        check("alone: the end", difference(server.end(), server.owed_end(False)))
+    add_office(drop, file, check, "alone", told)
     return most
 
 
@@ -110,18 +109,18 @@ def many_at_once(server, number, date):
     return difference(server.ask(message), owed)
 
 
-def test_crowd(drop, count):
+def test_crowd(drop, check):
     """Clients that behave are served soon beside idle and slow peers; and the program ends with its last connection."""
-    alone, file = memory_alone(drop, count), open_office(drop, "crowd")
+    alone, file = memory_alone(drop, check), open_office(drop, "crowd")
     with Server(drop, file, IDLE + SLOW + CLIENTS * VISITS + 1, PATIENCE) as server:
         with Crowd(server.connect, IDLE, SLOW):
-            told = add_clients(count, "a crowd", clients(server.connect))
-            count.add("many at once", many_at_once(server, len(told) + 1, a_minute_ago()))
-            add_memory(count, "a crowd", server, alone)
+            told = add_clients(check, "a crowd", clients(server.connect))
+            check("many at once", many_at_once(server, len(told) + 1, a_minute_ago()))
+            add_memory(check, "a crowd", server, alone)
         # where that took longer than the patience, the idle ones were let go as such that failed
-        count.add("a crowd: the end", difference(server.end(), server.owed_end(False), server.owed_end(True)))
-    add_office(drop, file, count, "a crowd", [*told, len(told) + 1])
-    bodies_ahead(drop, count, alone)
+        check("a crowd: the end", difference(server.end(), server.owed_end(False), server.owed_end(True)))
+    add_office(drop, file, check, "a crowd", [*told, len(told) + 1])
+    bodies_ahead(drop, check, alone)
 
 
 @contextlib.contextmanager
@@ -140,21 +139,21 @@ def pushed(connect, message):
         thread.join()
 
 
-def bodies_ahead(drop, count, alone):
+def bodies_ahead(drop, check, alone):
     """Peers that send the greatest body but for its last byte: they hold nobody, and together they have a bound."""
     file, message = open_office(drop, "bodies"), put(b"/in/large", LARGE, date=a_minute_ago())[:-1]
     with Server(drop, file, BODIES + CLIENTS, PATIENCE) as server, contextlib.ExitStack() as stack:
         for _ in range(BODIES):
             stack.enter_context(pushed(server.connect, message))
         time.sleep(1)
-        told = add_clients(count, "beside bodies", clients(server.connect, 1))
-        add_memory(count, "beside bodies", server, alone)
+        told = add_clients(check, "beside bodies", clients(server.connect, 1))
+        add_memory(check, "beside bodies", server, alone)
         stack.close()
-        count.add("beside bodies: the end", difference(server.end(), server.owed_end(False), server.owed_end(True)))
-    add_office(drop, file, count, "beside bodies", told)
+        check("beside bodies: the end", difference(server.end(), server.owed_end(False), server.owed_end(True)))
+    add_office(drop, file, check, "beside bodies", told)
 
 
-def test_large(drop, count):
+def test_large(drop, check):
     """More files of the greatest size at once than there is room for: each is taken, and nobody is let go."""
     file, date = open_office(drop, "large"), a_minute_ago()
     files = [bytes([number]) * len(LARGE) for number in range(12)]
@@ -164,42 +163,42 @@ def test_large(drop, count):
             found = peer.ask(put(b"/in/%d" % number, files[number], date=date))
         told = re.search(rb"receipt (\d+) ", found)
         number_told = int(told[1]) if told else 0
-        count.add(f"large: file {number}", None if found == receipt(number_told, files[number]) else f"{found[:300]}")
+        check(f"large: file {number}", None if found == receipt(number_told, files[number]) else f"{found[:300]}")
         return number_told
 
     with Server(drop, file, len(files), PATIENCE) as server, concurrent.futures.ThreadPoolExecutor(len(files)) as pool:
         told = [*pool.map(uploaded, range(len(files)))]
-        count.add("large: the end", difference(server.end(), server.owed_end(False)))
-    add_office(drop, file, count, "large", sorted(told))
+        check("large: the end", difference(server.end(), server.owed_end(False)))
+    add_office(drop, file, check, "large", sorted(told))
 
 
 # ---- bounds
 
 
-def test_open(drop, count):
+def test_open(drop, check):
     """Where as many are open as may be, the one goes that is silent longest with nothing pending."""
     file, date = open_office(drop, "open"), a_minute_ago()
     ask, owed = get(b"/in/none", date=date), answer(34)
     with Server(drop, file, 8 + 3, PATIENCE, most_open=8) as server, contextlib.ExitStack() as stack:
         peers = [stack.enter_context(Peer(server.connect)) for _ in range(8)]
         for it in peers:
-            count.add("open: each is answered", difference(it.ask(ask), owed))
+            check("open: each is answered", difference(it.ask(ask), owed))
             time.sleep(0.1)
         peers[0].socket.sendall(ask[:20])
-        count.add("open: the second again", difference(peers[1].ask(ask), owed))
+        check("open: the second again", difference(peers[1].ask(ask), owed))
         time.sleep(0.5)
-        count.add("open: one more", difference(server.ask(ask), owed))
+        check("open: one more", difference(server.ask(ask), owed))
         ended = [is_let_go(it.socket) for it in peers]
-        count.add("open: who goes", difference(ended, [number == 2 for number in range(8)]))
+        check("open: who goes", difference(ended, [number == 2 for number in range(8)]))
         peers = [it for it in peers if it is not peers[2]]
         for it in peers:
             it.socket.setblocking(True)
-        pending_at_bound(count, server, stack, peers, ask)
+        pending_at_bound(check, server, stack, peers, ask)
         stack.close()
-        count.add("open: the end", difference(server.end(), server.owed_end(False)))
+        check("open: the end", difference(server.end(), server.owed_end(False)))
 
 
-def pending_at_bound(count, server, stack, peers, ask):
+def pending_at_bound(check, server, stack, peers, ask):
     """Where something is pending of each, nobody goes, and who comes waits until one has ended."""
     for it in peers[1:]:
         it.socket.sendall(ask[:20])
@@ -208,31 +207,31 @@ def pending_at_bound(count, server, stack, peers, ask):
     last = stack.enter_context(Peer(server.connect))
     last.socket.sendall(ask)
     time.sleep(1)
-    count.add("pending: nobody goes", difference([is_let_go(it.socket) for it in [*peers, eighth, last]], [False] * 9))
+    check("pending: nobody goes", difference([is_let_go(it.socket) for it in [*peers, eighth, last]], [False] * 9))
     peers[0].socket.setblocking(True)
-    count.add("pending: the first ends", difference(peers[0].ask(ask[20:]), answer(34)))
+    check("pending: the first ends", difference(peers[0].ask(ask[20:]), answer(34)))
     peers[0].socket.close()
     last.socket.setblocking(True)
-    count.add("pending: the one that waited", difference(last.take(), answer(34)))
+    check("pending: the one that waited", difference(last.take(), answer(34)))
 
 
-def test_last(drop, count):
+def test_last(drop, check):
     """Where all have come, and one has not ended, the program goes on with that one, and takes no other."""
     file, ask = open_office(drop, "last"), get(b"/in/none", date=a_minute_ago())
     with Server(drop, file, 2, PATIENCE) as server, contextlib.ExitStack() as stack:
         first = stack.enter_context(Peer(server.connect))
         first.socket.sendall(ask[:20])
-        count.add("last: the second", difference(server.ask(ask), answer(34)))
+        check("last: the second", difference(server.ask(ask), answer(34)))
         other = stack.enter_context(Peer(server.connect))
         other.socket.sendall(ask)
         time.sleep(1)
-        count.add("last: it goes on", None if server.process.poll() is None else "it has ended")
+        check("last: it goes on", None if server.process.poll() is None else "it has ended")
         other.socket.setblocking(False)
         with contextlib.suppress(BlockingIOError):
-            count.add("last: what another is told", difference(other.socket.recv(1 << 16), None))
-        count.add("last: the first", difference(first.ask(ask[20:]), answer(34)))
+            check("last: what another is told", difference(other.socket.recv(1 << 16), None))
+        check("last: the first", difference(first.ask(ask[20:]), answer(34)))
         first.socket.close()
-        count.add("last: the end", difference(server.end(), server.owed_end(False)))
+        check("last: the end", difference(server.end(), server.owed_end(False)))
 
 
 def seconds_of(process):
@@ -241,26 +240,26 @@ def seconds_of(process):
     return (int(fields[11]) + int(fields[12])) / os.sysconf("SC_CLK_TCK")
 
 
-def test_descriptors(drop, count):
+def test_descriptors(drop, check):
     """Where descriptors run out, those go that are silent longest, and who comes is served soon; and the server rests."""
     file = open_office(drop, "descriptors")
     server = Server(drop, file, 100 + CLIENTS, PATIENCE)
     server.own = {"preexec_fn": lambda: resource.setrlimit(resource.RLIMIT_NOFILE, (64, 64))}
     with server, Crowd(server.connect, 100, 0) as crowd:
-        told = add_clients(count, "few descriptors", clients(server.connect, 1))
+        told = add_clients(check, "few descriptors", clients(server.connect, 1))
         begun = seconds_of(server.process)
         time.sleep(4)
         taken = seconds_of(server.process) - begun
-        count.add("few descriptors: it rests", f"{taken:.1f} of 4 seconds" if taken > 2 else None)
+        check("few descriptors: it rests", f"{taken:.1f} of 4 seconds" if taken > 2 else None)
         gone = sum(is_let_go(it) for it in crowd.idle)
-        count.add("few descriptors: some went", None if 36 < gone < 100 else f"{gone} of 100")
+        check("few descriptors: some went", None if 36 < gone < 100 else f"{gone} of 100")
         for it in crowd.idle:
             it.close()
-        count.add("few descriptors: the end", difference(server.end(), server.owed_end(False)))
-    add_office(drop, file, count, "few descriptors", told)
+        check("few descriptors: the end", difference(server.end(), server.owed_end(False)))
+    add_office(drop, file, check, "few descriptors", told)
 
 
-def test_leaving(drop, count):
+def test_leaving(drop, check):
     """Two thousand connections that come and leave: who asks meanwhile is answered."""
     file, date = open_office(drop, "leaving"), a_minute_ago()
     ask, owed = get(b"/in/none", date=date), answer(34)
@@ -272,20 +271,20 @@ def test_leaving(drop, count):
         for number in range(MANY):
             idle.append(server.connect())
             if number % 100 == 0:
-                slowest = max(slowest, add_ask(count, server, ask, owed))
+                slowest = max(slowest, add_ask(check, server, ask, owed))
         for it in idle:
             it.close()
-        slowest = max(slowest, add_ask(count, server, ask, owed))
-        count.add("leaving: the slowest answer", f"after {slowest:.1f} seconds" if slowest > SOON else None)
+        slowest = max(slowest, add_ask(check, server, ask, owed))
+        check("leaving: the slowest answer", f"after {slowest:.1f} seconds" if slowest > SOON else None)
 
 
-def add_ask(count, server, ask, owed):
+def add_ask(check, server, ask, owed):
     """An answer on a connection of its own, and its seconds. A connection that was let go before it asked asks once more."""
     begun, found = time.monotonic(), b""
     for _ in range(3):
         with contextlib.suppress(ConnectionError):
             found = found or server.ask(ask)
-    count.add("leaving: an answer", difference(found, owed))
+    check("leaving: an answer", difference(found, owed))
     return time.monotonic() - begun
 
 
@@ -305,7 +304,7 @@ def pausing(pause, *parts):
     return act
 
 
-def test_bounds(drop, count):
+def test_bounds(drop, check):
     """With a patience of 30 seconds silence and heads may last for 12; of a body 65536 bytes are to come in 10."""
     file, date = open_office(drop, "bounds"), a_minute_ago()
     ask, data = get(b"/in/none", date=date), b"b" * (3 << 16)
@@ -319,8 +318,8 @@ def test_bounds(drop, count):
     ]
     with Server(drop, file, len(rows), PATIENCE) as server:
         for name, fault in all_at_once(server.connect, rows):
-            count.add(f"bounds: {name}", fault)
-        count.add("bounds: the end", difference(server.end(), server.owed_end(True)))
+            check(f"bounds: {name}", fault)
+        check("bounds: the end", difference(server.end(), server.owed_end(True)))
 
 
 def all_at_once(connect, rows):
@@ -419,23 +418,23 @@ def odd_result(connect, row):
     return name, f"it came to its end after {seconds:.1f} seconds" if is_wrong else None
 
 
-def test_odd(drop, count):
+def test_odd(drop, check):
     """Peers that do what no client should, all at once and beside clients that behave: each ends as it is owed, and holds nobody."""
     file, date = open_office(drop, "odd"), a_minute_ago()
     rows = odd_peers(date)
     with Server(drop, file, 10**6, ODD_PATIENCE) as server:
-        count.add("odd: the large file", difference(server.ask(put(b"/in/large", LARGE, date=date)), receipt(1, LARGE)))
+        check("odd: the large file", difference(server.ask(put(b"/in/large", LARGE, date=date)), receipt(1, LARGE)))
         with concurrent.futures.ThreadPoolExecutor() as pool:
             results = pool.submit(all_at_once, server.connect, rows)
-            told = add_clients(count, "odd", clients(server.connect))
-            told += beside_resets(server, count, date)
+            told = add_clients(check, "odd", clients(server.connect))
+            told += beside_resets(server, check, date)
         for name, fault in results.result():
-            count.add(f"odd: {name}", fault)
-        count.add("odd: it goes on", difference(server.ask(get(b"/in/large", date=date)), fetched(1, LARGE)))
-    add_office(drop, file, count, "odd", sorted([1, *told]))
+            check(f"odd: {name}", fault)
+        check("odd: it goes on", difference(server.ask(get(b"/in/large", date=date)), fetched(1, LARGE)))
+    add_office(drop, file, check, "odd", sorted([1, *told]))
 
 
-def beside_resets(server, count, date):
+def beside_resets(server, check, date):
     """Connections that are reset behind a part of an upload, or while an answer comes, beside clients that behave."""
     message, large = put(b"/in/reset", b"r" * 3000, date=date), get(b"/in/large", date=date)
     is_over = threading.Event()
@@ -451,7 +450,7 @@ def beside_resets(server, count, date):
     thread = threading.Thread(target=reset, daemon=True)
     thread.start()
     # other names than those of the clients before
-    found = add_clients(count, "resets", [Client(server.connect, CLIENTS + number, 1, ROUNDS) for number in range(CLIENTS)])
+    found = add_clients(check, "resets", [Client(server.connect, CLIENTS + number, 1, ROUNDS) for number in range(CLIENTS)])
     is_over.set()
     thread.join()
     return found
@@ -505,7 +504,7 @@ def by_chromium(link, browser):
     return link.fault([(status, text) for status, text, _ in answers]) or late
 
 
-def test_programs(drop, count):
+def test_programs(drop, check):
     """boto3, curl and chromium at once, at the office itself, beside idle peers."""
     file, folder = open_office(drop, "programs"), drop.path("browser")
     folder.mkdir()
@@ -518,14 +517,14 @@ def test_programs(drop, count):
             found = side_by_side(lambda way: [way(link, browser) for link in links[way]], ways)
         for way, faults in zip(ways, found, strict=True):
             for link, fault in zip(links[way], faults, strict=True):
-                count.add(f"{way.__name__}: {link.name}", fault)
-    add_office(drop, file, count, "programs", list(range(1, sum(map(len, links.values())) + 1)))
+                check(f"{way.__name__}: {link.name}", fault)
+    add_office(drop, file, check, "programs", list(range(1, sum(map(len, links.values())) + 1)))
 
 
 # ---- through nginx
 
 
-def test_front(drop, count):
+def test_front(drop, check):
     """The same crowd through nginx, which keeps connections to the office open: so it needs few of them."""
     file = open_office(drop, "office")
     certificate(drop.folder)
@@ -534,19 +533,12 @@ def test_front(drop, count):
         folders = ["/etc/letsencrypt/live/HOST", "/etc/nginx/snippets", "/var/log/nginx", "/var/www"]
         places = [("/usr/share/drop/page", drop.folder / "drop"), *((it, drop.folder) for it in folders), ("HOST", HOST)]
         ran = kit.run([*front.configure(DEPLOY / "nginx.conf", places, drop.folder / "fullchain.pem"), "-t"])
-        count.add("nginx takes the file", None if ran.status == 0 else f"{ran}")
-        count.add("the office starts", office.start())
+        check("nginx takes the file", None if ran.status == 0 else f"{ran}")
+        check("the office starts", office.start())
         front.start()
         with Crowd(front.connect, IDLE, SLOW):
             alike = {"is_alike": lambda found, owed: facts(found) == facts(owed)}
-            told = add_clients(count, "through nginx", clients(front.connect, **alike))
-        count.add("through nginx: the office goes on", None if office.process.poll() is None else "it has ended")
+            told = add_clients(check, "through nginx", clients(front.connect, **alike))
+        check("through nginx: the office goes on", None if office.process.poll() is None else "it has ended")
         office.stop()
-    add_office(drop, file, count, "through nginx", told)
-
-
-TESTS = [test_crowd, test_large, test_open, test_last, test_descriptors, test_leaving, test_bounds, test_odd, test_programs, test_front]
-
-
-if __name__ == "__main__":
-    run_all([it for it in TESTS if not sys.argv[1:] or it.__name__ in sys.argv[1:]])
+    add_office(drop, file, check, "through nginx", told)

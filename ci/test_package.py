@@ -2,28 +2,28 @@
 
 There systemd has a stand-in, which does what the unit says and keeps a log of what it was asked. What is owed comes from the
 lines of docs/DEPLOY.md, from office files of version 1 that are kept (ci/kept.py), and from links that boto3 makes. It has to be
-run as root. The last line is `N passed, M failed`.
+run as root.
 """
 
-import contextlib
 import hashlib
 import os
 import pathlib
 import re
 import shutil
-import signal
 import subprocess
 import tempfile
-import time
+
+import pytest
 
 import kit
 import s3
 import tables
 from browser import until
+from expected import receipt
 from front import asked
 from kept import VERSION_1, Kept
-from nginx import HOST, PAGE, SECONDS, listens
-from office import difference, receipt
+from nginx import PAGE, listens
+from program import difference
 
 MIRROR = "http://deb.debian.org/debian"
 PORT = 8333
@@ -118,14 +118,14 @@ class Machine:
             return hashlib.sha256("\n".join(tables.dump(f"{folder}/office")).encode(errors="surrogateescape")).hexdigest()
 
 
-@contextlib.contextmanager
-def debian():
+@pytest.fixture(scope="module")
+def machine():
     with tempfile.TemporaryDirectory(prefix="drop-debian-", ignore_cleanup_errors=True) as folder:
         root = pathlib.Path(folder) / "root"
         ran = subprocess.run(["debootstrap", "--variant=minbase", "--include=adduser,systemd,openssl,curl", "bookworm", root, MIRROR],
                              capture_output=True, text=True, check=False)
         if ran.returncode:
-            raise SystemExit(f"no Debian was made: {ran.stdout[-500:]} {ran.stderr[-500:]}")
+            raise AssertionError(f"no Debian was made: {ran.stdout[-500:]} {ran.stderr[-500:]}")
         machine = Machine(root)
         machine.path("run/systemd/system").mkdir(parents=True)
         file = machine.path("usr/bin/systemctl")
@@ -139,12 +139,13 @@ def debian():
 
 
 def built(folder, version=None):
-    """The package of this version, in the folder."""
+    """The package of this version, in the folder, which is made."""
+    folder.mkdir()
     own = {"PACKAGE_VERSION": version} if version else {}
     ran = kit.run(["bash", "deploy/package.sh", folder], cwd=kit.ROOT, env=os.environ | own)
-    found = sorted(pathlib.Path(folder).glob("drop_*_amd64.deb"), key=os.path.getmtime)
+    found = sorted(folder.glob("drop_*_amd64.deb"))
     if ran.status or not found:
-        raise SystemExit(f"no package was made: {ran}")
+        raise AssertionError(f"no package was made: {ran}")
     return found[-1]
 
 
@@ -152,38 +153,34 @@ def digest_of(file):
     return hashlib.sha256(pathlib.Path(file).read_bytes()).hexdigest()
 
 
+@pytest.fixture(scope="module")
+def older(module_folder):
+    return built(module_folder / "older", OLDER)
+
+
+@pytest.fixture(scope="module")
+def newer(module_folder):
+    return built(module_folder / "newer")
+
+
 # ---- the package itself
 
 
-def test_package(packages, count):
+def test_package(module_folder, newer, check):
     """It is made twice with the same bytes, has no error by lintian, and has all that is promised."""
-    again = built(packages / "again")
-    newer = built(packages)
-    count.add("made twice", difference(digest_of(again), digest_of(newer)))
+    again = built(module_folder / "again")
+    check("made twice", difference(digest_of(again), digest_of(newer)))
     ran = kit.run(["lintian", "--fail-on", "error", "--no-tag-display-limit", newer])
-    count.add("lintian", f"{ran.out.decode()}" if ran.status else None)
+    check("lintian", f"{ran.out.decode()}" if ran.status else None)
     listed = kit.run(["dpkg-deb", "-c", newer]).out.decode()
     pages = [f"/usr/share/drop/page/{it.name}" for it in (kit.ROOT / "page").iterdir()]
     for name in ["/usr/bin/drop", "/usr/share/man/man1/drop.1.gz", "/lib/systemd/system/drop.service",
                  "/usr/share/doc/drop/examples/nginx.conf", "/usr/share/doc/drop/USE.md.gz", *pages]:
-        count.add(f"it has {name}", None if f" .{name}\n" in listed else "it has not")
-    count.add("files of root alone", difference({*re.findall(r"^\S+ (\S+)", listed, re.MULTILINE)}, {"root/root"}))
-    return newer
+        check(f"it has {name}", None if f" .{name}\n" in listed else "it has not")
+    check("files of root alone", difference({*re.findall(r"^\S+ (\S+)", listed, re.MULTILINE)}, {"root/root"}))
 
 
-def test_manual(machine, count):
-    """The manual page can be read, and has each command's help."""
-    page = machine.path("usr/share/man/man1/drop.1.gz")
-    ran = kit.run(["man", "--warnings", "-E", "UTF-8", "-l", page], env=os.environ | {"MANPAGER": "cat", "MANWIDTH": "200"})
-    count.add("its page has no fault", difference((ran.status, ran.err), (0, b"")))
-    text = ran.out.decode()
-    for file in sorted({*(kit.ROOT / "ci").glob("*.help")} - {kit.ROOT / "ci" / "drop.help"}):
-        lines = [it.strip() for it in file.read_text().splitlines() if it.startswith("  ")]
-        lacking = [it for it in lines if it not in text]
-        count.add(f"its page has {file.name}", f"lacks {lacking}" if lacking else None)
-
-
-# ---- a machine's life
+# ---- a machine's life: each test goes on where the one before it has ended
 
 
 def lines_of(section):
@@ -208,45 +205,57 @@ def owed_receipt(number, data):
     return 200, receipt(number, data).partition(b"\r\n\r\n")[2]
 
 
-def test_install(machine, package, count):
+def test_install(machine, older, check):
     """Installing makes the user and the folder, enables the unit, and starts nothing."""
-    ran = machine.install(package)
-    count.add("installed", difference(ran.status, 0) and f"{ran}")
-    count.add("the folder", difference(machine.owner("var/lib/drop"), "drop:drop 700"))
-    count.add("no server", None if not listens(PORT) else "there is one")
+    ran = machine.install(older)
+    check("installed", difference(ran.status, 0) and f"{ran}")
+    check("the folder", difference(machine.owner("var/lib/drop"), "drop:drop 700"))
+    check("no server", None if not listens(PORT) else "there is one")
     enabled = machine.path("etc/systemd/system/multi-user.target.wants/drop.service")
-    count.add("the unit is enabled", None if enabled.is_symlink() else "it is not")
-    count.add("nothing is in the folder", difference([*machine.path("var/lib/drop").iterdir()], []))
+    check("the unit is enabled", None if enabled.is_symlink() else "it is not")
+    check("nothing is in the folder", difference([*machine.path("var/lib/drop").iterdir()], []))
     machine.log()
 
 
-def test_office(machine, count):
+def test_office(machine, check):
     """The lines of the page make an office, which then serves; a box; a file is put and fetched."""
     for lines in lines_of(2):
         ran = machine.sh(lines)
-        count.add("the lines of 2", difference(ran.status, 0) and f"{ran}")
+        check("the lines of 2", difference(ran.status, 0) and f"{ran}")
     until("the server", lambda: listens(PORT))
     ran = machine.sh(f"""curl -sX POST "$(drop link key:/var/lib/drop/secret POST '{BOX}' --key clerk --host 127.0.0.1:{PORT} \\
         --region us-east-1 --start "$(date -u +%Y%m%dT%H%M%SZ)" --expires 600)" """)
-    count.add("a box", difference(ran, kit.Run(0, b"done\n", b"")))
-    count.add("put", difference(said(machine, "PUT", "a.txt", b"one"), owed_receipt(1, b"one")))
-    count.add("get", difference(said(machine, "GET", "a.txt"), (200, b"one")))
-    count.add("the office's rights", difference(machine.owner(OFFICE), "drop:drop 600"))
+    check("a box", difference(ran, kit.Run(0, b"done\n", b"")))
+    check("put", difference(said(machine, "PUT", "a.txt", b"one"), owed_receipt(1, b"one")))
+    check("get", difference(said(machine, "GET", "a.txt"), (200, b"one")))
+    check("the office's rights", difference(machine.owner(OFFICE), "drop:drop 600"))
     machine.log()
 
 
-def test_same_version(machine, package, count):
+def test_same_version(machine, newer, check):
     """An upgrade of an office of version 2 stops, replaces and starts, and makes no copy."""
-    ran = machine.install(package)
-    count.add("upgraded", difference(ran.status, 0) and f"{ran}")
+    ran = machine.install(newer)
+    check("upgraded", difference(ran.status, 0) and f"{ran}")
     until("the server", lambda: listens(PORT))
-    count.add("stopped, then started", difference(machine.log(), ["stop", "start"]))
-    count.add("no copy", difference([it.name for it in machine.path("var/lib/drop").glob("before-*")], []))
-    count.add("the file stands", difference(said(machine, "GET", "a.txt"), (200, b"one")))
-    count.add("the same receipt", difference(said(machine, "PUT", "a.txt", b"one"), owed_receipt(1, b"one")))
+    check("stopped, then started", difference(machine.log(), ["stop", "start"]))
+    check("no copy", difference([it.name for it in machine.path("var/lib/drop").glob("before-*")], []))
+    check("the file stands", difference(said(machine, "GET", "a.txt"), (200, b"one")))
+    check("the same receipt", difference(said(machine, "PUT", "a.txt", b"one"), owed_receipt(1, b"one")))
 
 
-def test_migration(machine, older, newer, count):
+def test_manual(machine, check):
+    """The manual page can be read, and has each command's help."""
+    page = machine.path("usr/share/man/man1/drop.1.gz")
+    ran = kit.run(["man", "--warnings", "-E", "UTF-8", "-l", page], env=os.environ | {"MANPAGER": "cat", "MANWIDTH": "200"})
+    check("its page has no fault", difference((ran.status, ran.err), (0, b"")))
+    text = ran.out.decode()
+    for file in sorted({*(kit.ROOT / "ci").glob("*.help")} - {kit.ROOT / "ci" / "drop.help"}):
+        lines = [it.strip() for it in file.read_text().splitlines() if it.startswith("  ")]
+        lacking = [it for it in lines if it not in text]
+        check(f"its page has {file.name}", f"lacks {lacking}" if lacking else None)
+
+
+def test_migration(machine, older, newer, check):
     """An upgrade with an office of version 1: it is copied, migrated and served."""
     kept = Kept(VERSION_1 / "filled")
     machine.stop()
@@ -256,18 +265,18 @@ def test_migration(machine, older, newer, count):
     before = machine.content()
     machine.log()
     ran = machine.install(newer)
-    count.add("upgraded from version 1", difference(ran.status, 0) and f"{ran}")
+    check("upgraded from version 1", difference(ran.status, 0) and f"{ran}")
     until("the server", lambda: listens(PORT))
-    count.add("stopped, then started", difference(machine.log(), ["stop", "start"]))
+    check("stopped, then started", difference(machine.log(), ["stop", "start"]))
     copies = [it.relative_to(machine.root) for it in machine.path("var/lib/drop").glob("before-*")]
     found = [machine.content(it / "office") for it in copies]
-    count.add("one copy, of the file as it was", difference(found, [before]))
+    check("one copy, of the file as it was", difference(found, [before]))
     machine.stop()
-    count.add("its receipts", difference(machine.manifest(), kit.Run(0, kept.manifest, b"")))
-    count.add("its tables", difference(machine.tables(), tables.TABLES))
+    check("its receipts", difference(machine.manifest(), kit.Run(0, kept.manifest, b"")))
+    check("its tables", difference(machine.tables(), tables.TABLES))
 
 
-def test_damage(machine, older, newer, count):
+def test_damage(machine, older, newer, check):
     """An upgrade of a damaged office of version 1 fails, says so, and leaves the office as it is."""
     machine.install(older)
     machine.stop()
@@ -278,17 +287,17 @@ def test_damage(machine, older, newer, count):
     before = machine.content()
     ran = machine.install(newer)
     told = (ran.out + ran.err).decode()
-    count.add("a damaged office: apt fails", None if ran.status else "it does not")
-    count.add("a damaged office: it is told", None if "the office file is damaged" in told else told[-600:])
-    count.add("a damaged office: as it was", difference(machine.content(), before))
-    count.add("a damaged office: not served", None if not listens(PORT) else "it is")
+    check("a damaged office: apt fails", None if ran.status else "it does not")
+    check("a damaged office: it is told", None if "the office file is damaged" in told else told[-600:])
+    check("a damaged office: as it was", difference(machine.content(), before))
+    check("a damaged office: not served", None if not listens(PORT) else "it is")
     shutil.rmtree(machine.path("var/lib/drop"))
     machine.run("install", "-d", "-m", "700", "-o", "drop", "-g", "drop", "/var/lib/drop")
     ran = machine.run("dpkg", "--configure", "-a")
-    count.add("configured without it", difference(ran.status, 0) and f"{ran}")
+    check("configured without it", difference(ran.status, 0) and f"{ran}")
 
 
-def test_removal(machine, package, count):
+def test_removal(machine, newer, check):
     """Removing keeps the office, also purging where the answer is no; where it is yes, nothing is left."""
     machine.put_office(Kept(VERSION_1 / "fresh"))
     machine.run("setpriv", "--reuid=drop", "--regid=drop", "--clear-groups", "drop", "migrate", f"/{OFFICE}")
@@ -296,43 +305,21 @@ def test_removal(machine, package, count):
     until("the server", lambda: listens(PORT))
     machine.log()
     ran = machine.run("apt-get", "remove", "-y", "drop")
-    count.add("removed", difference(ran.status, 0) and f"{ran}")
-    count.add("removed: stopped", difference(machine.log(), ["stop"]))
-    count.add("removed: the program", None if not machine.path("usr/bin/drop").exists() else "is there")
-    count.add("removed: the office", None if machine.path(OFFICE).exists() else "is gone")
-    ran = machine.install(package)
-    count.add("installed again", difference(ran.status, 0) and f"{ran}")
+    check("removed", difference(ran.status, 0) and f"{ran}")
+    check("removed: stopped", difference(machine.log(), ["stop"]))
+    check("removed: the program", None if not machine.path("usr/bin/drop").exists() else "is there")
+    check("removed: the office", None if machine.path(OFFICE).exists() else "is gone")
+    ran = machine.install(newer)
+    check("installed again", difference(ran.status, 0) and f"{ran}")
     until("the server", lambda: listens(PORT))
     ran = machine.run("apt-get", "purge", "-y", "drop")
-    count.add("purged, and asked nobody", difference(ran.status, 0) and f"{ran}")
-    count.add("purged: the office", None if machine.path(OFFICE).exists() else "is gone")
-    machine.install(package)
+    check("purged, and asked nobody", difference(ran.status, 0) and f"{ran}")
+    check("purged: the office", None if machine.path(OFFICE).exists() else "is gone")
+    machine.install(newer)
     machine.run("debconf-set-selections", given=b"drop drop/purge-office boolean true\n")
     ran = machine.run("apt-get", "purge", "-y", "drop")
-    count.add("purged with a yes", difference(ran.status, 0) and f"{ran}")
-    count.add("purged with a yes: the office", None if not machine.path("var/lib/drop").exists() else "is there")
-    count.add("purged with a yes: the user", difference(machine.run("getent", "passwd", "drop").status, 2))
+    check("purged with a yes", difference(ran.status, 0) and f"{ran}")
+    check("purged with a yes: the office", None if not machine.path("var/lib/drop").exists() else "is there")
+    check("purged with a yes: the user", difference(machine.run("getent", "passwd", "drop").status, 2))
     left = [*machine.path("etc/systemd").rglob("*drop*"), *machine.path("var/lib/systemd").rglob("*drop*")]
-    count.add("purged with a yes: the unit", difference(left, []))
-
-
-def main():
-    count = kit.Count()
-    with tempfile.TemporaryDirectory(prefix="drop-package-") as folder, debian() as machine:
-        packages = pathlib.Path(folder)
-        for name in ["again", "older"]:
-            (packages / name).mkdir()
-        older = built(packages / "older", OLDER)
-        newer = test_package(packages, count)
-        test_install(machine, older, count)
-        test_office(machine, count)
-        test_same_version(machine, newer, count)
-        test_manual(machine, count)
-        test_migration(machine, older, newer, count)
-        test_damage(machine, older, newer, count)
-        test_removal(machine, newer, count)
-    count.end()
-
-
-if __name__ == "__main__":
-    main()
+    check("purged with a yes: the unit", difference(left, []))

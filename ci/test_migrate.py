@@ -1,7 +1,7 @@
 """Runs `drop migrate` on the office files of version 1 that are kept in ci/version1, and on such files that were broken.
 
 A program of version 1 made them and was asked of each (ci/make_version1.py, ci/kept.py): what it said then is owed now, byte for
-byte. Fault lines come from docs/USE.md, and the tables are read by Python's `sqlite3`. The last line is `N passed, M failed`.
+byte. Fault lines come from docs/USE.md, and the tables are read by Python's `sqlite3`.
 """
 
 import functools
@@ -11,19 +11,22 @@ import signal
 import subprocess
 import time
 
+import pytest
+
 import kit
 import tables
+from expected import ID, MOMENT
 from kept import VERSION_1, Kept, all_kept
-from office import (
-    CANNOT_OPEN, CLERK, DAMAGED, EXISTS, LINK, VERSION, difference, get, not_offices, run_all, stock,
+from messages import get
+from program import (
+    CANNOT_OPEN, CANNOT_WRITE, CLERK, DAMAGED, EXISTS, LINK, SAID_DONE, VERSION, difference, fault, full_disk, not_offices, stock,
 )
-from replays import ID, MOMENT, fault
 
 REFUSED = fault("the store refused")
-SAID_DONE = kit.Run(0, b"done\n", b"")
 LEAST_PAGE = 512  # bytes of a page, in a journal or not
 KILLS = 20
 KILLED = ["many", "sizes"]
+OF_EACH = pytest.mark.parametrize("kept", all_kept(), ids=lambda it: it.name)
 
 
 def migrate(drop, file, **how):
@@ -90,105 +93,100 @@ def refused_by_each(drop, file):
     return found
 
 
-def test_unmigrated(drop, count):
+@OF_EACH
+def test_unmigrated(drop, check, kept):
     """No command but `migrate` opens a file of version 1, and none changes it."""
-    for kept in all_kept():
-        file = copied(drop, kept)
-        before = left(file)
-        for found in refused_by_each(drop, file):
-            count.add(f"{kept.name}, version 1", difference(found, VERSION))
-        count.add(f"{kept.name}: init", difference(drop.run("init", file, *CLERK), EXISTS))
-        count.add(f"{kept.name} stays", other(left(file), before))
+    file = copied(drop, kept)
+    before = left(file)
+    for found in refused_by_each(drop, file):
+        check("version 1", difference(found, VERSION))
+    check("init", difference(drop.run("init", file, *CLERK), EXISTS))
+    check("stays", other(left(file), before))
 
 
-def test_rows(drop, count):
+@OF_EACH
+def test_rows(drop, check, kept):
     """The rows of version 1 stay as they are, but for the version; what is new is what a new office has."""
     new = drop.office("new")
     texts = "SELECT name, sql FROM sqlite_schema WHERE name NOT LIKE 'sqlite_%' ORDER BY name"
-    for kept in all_kept():
-        file = copied(drop, kept)
-        before = rows_of(file)
-        count.add(f"{kept.name}: migrate", difference(migrate(drop, file), SAID_DONE))
-        copy = looked_at(file)
-        owed = before | {"office": [(1, 2, before["office"][0][2])]}
-        count.add(f"{kept.name}: rows", None if rows_of(file) == owed else "they were changed")
-        found = [tables.rows(copy, f"SELECT * FROM {name}") for name in tables.NEW_TABLES]
-        count.add(f"{kept.name}: new tables", difference(found, [[(1, 0)], [], []]))
-        count.add(f"{kept.name}: how they were made", difference(tables.rows(copy, texts), tables.rows(new, texts)))
-        said = stock(copy, "PRAGMA integrity_check; PRAGMA foreign_key_check")
-        count.add(f"{kept.name}: integrity_check", difference(said, "ok"))
+    file = copied(drop, kept)
+    before = rows_of(file)
+    check("migrate", difference(migrate(drop, file), SAID_DONE))
+    copy = looked_at(file)
+    owed = before | {"office": [(1, 2, before["office"][0][2])]}
+    check("rows", None if rows_of(file) == owed else "they were changed")
+    found = [tables.rows(copy, f"SELECT * FROM {name}") for name in tables.NEW_TABLES]
+    check("new tables", difference(found, [[(1, 0)], [], []]))
+    check("how they were made", difference(tables.rows(copy, texts), tables.rows(new, texts)))
+    said = stock(copy, "PRAGMA integrity_check; PRAGMA foreign_key_check")
+    check("integrity_check", difference(said, "ok"))
 
 
-def test_twice(drop, count):
+@OF_EACH
+def test_twice(drop, check, kept):
     """The manifest is that of version 1. The next `migrate` changes nothing."""
-    for kept in all_kept():
-        file = copied(drop, kept)
-        before, manifest = None, kit.Run(0, kept.manifest, b"")
-        for time_of in ["once", "twice", "three times"]:
-            count.add(f"{kept.name}: migrate {time_of}", difference(migrate(drop, file), SAID_DONE))
-            after = left(file)
-            count.add(f"{kept.name}: what it left {time_of}", other(after, before or after))
-            count.add(f"{kept.name}: manifest {time_of}", difference(drop.run("manifest", file), manifest))
-            before = after
+    file = copied(drop, kept)
+    before, manifest = None, kit.Run(0, kept.manifest, b"")
+    for time_of in ["once", "twice", "three times"]:
+        check(f"migrate {time_of}", difference(migrate(drop, file), SAID_DONE))
+        after = left(file)
+        check(f"what it left {time_of}", other(after, before or after))
+        check(f"manifest {time_of}", difference(drop.run("manifest", file), manifest))
+        before = after
 
 
-def test_answers(drop, count):
+@OF_EACH
+def test_answers(drop, check, kept):
     """Each request and each word is answered as it was."""
-    def each(kept):
-        file = copied(drop, kept)
-        yield "migrate", difference(migrate(drop, file), SAID_DONE)
-        for number, asked in enumerate(kept.asked):
-            found = asked.run(drop.program, file)
-            same = found == asked.came
-            yield f"{number}, {asked.words}", None if same else f"{found} and not {asked.came}"[:2000]
-
-    for kept, found in zip(all_kept(), kit.side_by_side(lambda it: list(each(it)), all_kept())):
-        for name, wrong in found:
-            count.add(f"{kept.name}, {name}", wrong)
+    file = copied(drop, kept)
+    check("migrate", difference(migrate(drop, file), SAID_DONE))
+    for number, asked in enumerate(kept.asked):
+        found = asked.run(drop.program, file)
+        check(f"{number}, {asked.words}", None if found == asked.came else f"{found} and not {asked.came}"[:2000])
 
 
-def test_changed(drop, count):
+def test_changed(drop, check):
     """A migrated office takes what is new, and another `migrate` leaves that."""
     file = copied(drop, Kept(VERSION_1 / "filled"))
-    count.add("migrate", difference(migrate(drop, file), SAID_DONE))
+    check("migrate", difference(migrate(drop, file), SAID_DONE))
     for line in ["key limit k2 in", "key limit k2 ends", "office allow 900"]:
-        count.add(f"desk {line}", difference(drop.run("desk", file, line), SAID_DONE))
+        check(f"desk {line}", difference(drop.run("desk", file, line), SAID_DONE))
     before = left(file)
-    count.add("migrate again", difference(migrate(drop, file), SAID_DONE))
-    count.add("it stays", other(left(file), before))
+    check("migrate again", difference(migrate(drop, file), SAID_DONE))
+    check("it stays", other(left(file), before))
     found = [tables.rows(looked_at(file), f"SELECT * FROM {name} ORDER BY 2") for name in tables.NEW_TABLES]
-    count.add("its new tables", difference(found, [[(1, 900)], [("k2", "ends"), ("k2", "in")], []]))
+    check("its new tables", difference(found, [[(1, 900)], [("k2", "ends"), ("k2", "in")], []]))
 
 
-def test_new(drop, count):
+def test_new(drop, check):
     """A file of version 2 is left as it is."""
     for name, file in [("new", drop.office("new", "--allowance", "60")), ("filled", drop.filled("full"))]:
         before = content(file)
         bytes_before = file.read_bytes()
-        count.add(f"migrate {name}", difference(migrate(drop, file), SAID_DONE))
-        count.add(f"{name}: its tables stay", None if content(file) == before else "they were changed")
-        count.add(f"{name}: its bytes stay", None if file.read_bytes() == bytes_before else "they were changed")
+        check(f"migrate {name}", difference(migrate(drop, file), SAID_DONE))
+        check(f"{name}: its tables stay", None if content(file) == before else "they were changed")
+        check(f"{name}: its bytes stay", None if file.read_bytes() == bytes_before else "they were changed")
 
 
-def test_output(drop, count):
+def test_output(drop, check):
     """Where nobody hears it, the office is migrated nevertheless."""
     kept = Kept(VERSION_1 / "filled")
     file = copied(drop, kept)
-    with open("/dev/full", "wb", buffering=0) as full:
-        count.add("a full disk", difference(migrate(drop, file, out=full), fault("cannot write")))
-    count.add("its manifest", difference(drop.run("manifest", file), kit.Run(0, kept.manifest, b"")))
+    with full_disk() as full:
+        check("a full disk", difference(migrate(drop, file, out=full), CANNOT_WRITE))
+    check("its manifest", difference(drop.run("manifest", file), kit.Run(0, kept.manifest, b"")))
 
 
 # ---- what is not migrated
 
 
-def refused(drop, count, name, file, *owed):
+def refused(drop, check, name, file, *owed):
     before = left(file)
-    count.add(name, difference(migrate(drop, file), *owed))
-    count.add(f"{name}, stays", other(left(file), before))
+    check(name, difference(migrate(drop, file), *owed))
+    check(f"{name}, stays", other(left(file), before))
 
 
-def test_broken(drop, count):
+def test_broken(drop, check):
     """Each rule of the tables of version 1 broken in turn."""
     whole = copied(drop, Kept(VERSION_1 / "filled"))
     loosened = [it for it in tables.LOOSENED if it[0] in tables.OF_VERSION_1]
@@ -210,7 +208,7 @@ def test_broken(drop, count):
         return difference(migrate(drop, file), *owed) or other(left(file), before)
 
     for (name, _, _), wrong in zip(cases, kit.side_by_side(each, list(enumerate(cases)))):
-        count.add(f"broken: {name}", wrong)
+        check(f"broken: {name}", wrong)
 
 
 # A table, a view or an index of a new table's name.
@@ -226,16 +224,16 @@ TAKEN_OTHERWISE = [
 ]
 
 
-def test_taken(drop, count):
+def test_taken(drop, check):
     """A file of version 1 that holds the name of a new table."""
     cases = [*(([it], [DAMAGED]) for it in TAKEN), (TAKEN[:3], [DAMAGED]), *(([it], [DAMAGED, CANNOT_OPEN]) for it in TAKEN_OTHERWISE)]
     for number, (statements, owed) in enumerate(cases):
         file = copied(drop, Kept(VERSION_1 / "filled"), f"-taken-{number}")
         tables.run(file, statements)
-        refused(drop, count, f"{statements}", file, *owed)
+        refused(drop, check, f"{statements}", file, *owed)
 
 
-def test_versions(drop, count):
+def test_versions(drop, check):
     """Another version is told before all else; one that says version 2 has all its tables."""
     cases = [
         *((version, [], [VERSION]) for version in [7, 0, 3, -1, 2**62]), (2, [], [DAMAGED]),
@@ -246,25 +244,25 @@ def test_versions(drop, count):
     for number, (version, others, owed) in enumerate(cases):
         file = copied(drop, Kept(VERSION_1 / "filled"), f"-version-{number}")
         tables.run(file, [f"UPDATE office SET version = {version}", *others])
-        refused(drop, count, f"version {version} {others}", file, *owed)
+        refused(drop, check, f"version {version} {others}", file, *owed)
 
 
-def test_not_offices(drop, count):
+def test_not_offices(drop, check):
     for file, owed in not_offices(drop):
         before = file.read_bytes() if file.is_file() else None
-        count.add(f"{file.name}", difference(migrate(drop, file), owed))
+        check(f"{file.name}", difference(migrate(drop, file), owed))
         # to open a file of no bytes makes it a database without tables
         well = not file.is_file() or file.read_bytes() == before or not before and not tables.rows(file, "SELECT * FROM sqlite_schema")
-        count.add(f"{file.name} stays", None if well else "it was changed")
-    count.add("no file", difference(migrate(drop, drop.path("gone")), CANNOT_OPEN))
+        check(f"{file.name} stays", None if well else "it was changed")
+    check("no file", difference(migrate(drop, drop.path("gone")), CANNOT_OPEN))
     made = [it for it in ["nowhere", "gone"] if drop.path(it).exists()]
-    count.add("nothing is made", difference(made, []))
+    check("nothing is made", difference(made, []))
     file = copied(drop, Kept(VERSION_1 / "filled"))
     before = left(file)
     with tables.opened(file) as db:
         db.execute("BEGIN EXCLUSIVE")
-        count.add("a file that is held", difference(migrate(drop, file), CANNOT_OPEN))
-    count.add("it stays", other(left(file), before))
+        check("a file that is held", difference(migrate(drop, file), CANNOT_OPEN))
+    check("it stays", other(left(file), before))
 
 
 # ---- kills
@@ -292,7 +290,7 @@ def fault_behind(drop, file, kept, old):
     return next(filter(None, wrong), None)
 
 
-def test_kills(drop, count):
+def test_kills(drop, check):
     """The program is killed at random moments of its work."""
     seed = random.SystemRandom().randrange(10**9)
     source, versions = random.Random(seed), []
@@ -301,22 +299,12 @@ def test_kills(drop, count):
         file = copied(drop, kept)
         old = content(file)
         began = time.monotonic()
-        count.add(f"{kept.name}: migrate", difference(migrate(drop, file), SAID_DONE))
+        check(f"{kept.name}: migrate", difference(migrate(drop, file), SAID_DONE))
         whole = time.monotonic() - began
         for number in range(KILLS // len(KILLED)):
             file = copied(drop, kept, f"-{number}")
             ended = killed_at(drop, file, source.uniform(0, whole))
             versions.append((ended, tables.rows(looked_at(file), "SELECT version FROM office")[0][0]))
-            count.add(f"{kept.name}, kill {number} of seed {seed}", fault_behind(drop, file, kept, old))
+            check(f"{kept.name}, kill {number} of seed {seed}", fault_behind(drop, file, kept, old))
     old_ones, new_ones = (sum(it == (False, version) for it in versions) for version in [1, 2])
     print(f"{len(versions)} kills: {old_ones} left the old file, {new_ones} the new one, {len(versions) - old_ones - new_ones} came too late")
-
-
-TESTS = [
-    test_unmigrated, test_rows, test_twice, test_answers, test_changed, test_new, test_output, test_broken, test_taken, test_versions,
-    test_not_offices, test_kills,
-]
-
-
-if __name__ == "__main__":
-    run_all(TESTS)

@@ -4,7 +4,7 @@ A respelled request that has the plain one's signed text is answered byte for by
 over a copy of the same office file, and leaves the same: the manifest and the tables. One that has another signed text is
 refused. The offices are made by `drop init` and furnished by Python's `sqlite3` (ci/tables.py). What is owed comes from
 Python's `urllib.parse`, `hashlib` and `hmac` (ci/expected.py) and the table of refusals in docs/RULES.md. The requests are
-the same in each run. The last line is `N passed, M failed`.
+the same in each run.
 """
 
 import dataclasses
@@ -16,9 +16,9 @@ import typing
 
 import kit
 import tables
-from expected import SECRET, SIGNATURE, answer, canonical_request, decoded, quoted
-from office import OBEYED, OPENS, answered, difference, fetched, receipt, run_all
-from replays import HOST, ID, MOMENT, REQUEST, SILENCE, changed, signed
+from expected import ID, MOMENT, OBEYED, SECRET, SIGNATURE, answer, canonical_request, decoded, fetched, quoted, receipt
+from messages import HOST, REQUEST, changed, signed
+from program import answered, difference
 
 SEED = 20130524
 SEVERAL = 4  # of each plain request, so many respellings in several ways at once
@@ -206,7 +206,7 @@ LINK = ("k2", b"s3cr3t")
 REVOKED = ("k3", b"s3cr3t")
 UNKNOWN = ("k4", b"s3cr3t")
 BOXES = [
-    tables.Box("in", max_files=50), tables.Box("swap", quota=300, mode=1), tables.Box("shut", OPENS, tables.M),
+    tables.Box("in", max_files=50), tables.Box("swap", quota=300, mode=1), tables.Box("shut", tables.OPENS, tables.M),
     tables.Box("small", quota=3), tables.Box("full", max_files=1), tables.Box("ends", rule_kind=1, rule_text=".txt,.pdf"),
 ]
 # The files that stand; the first has receipt 1.
@@ -451,20 +451,20 @@ def ended_well(left):
     return None if left[:2] == (0, b"") and left.manifest.status == 0 else f"{left[:3]}"
 
 
-def test_plain(drop, count, office, plains):
+def add_plain(drop, check, office, plains):
     """Plain requests that change nothing, in one run: each is answered as is owed. Tells the answers and what is left."""
     before = tables.dump(office)
     out, left = over_copy(drop, office, "plain", [it.request for it in plains])
     answers = one_by_one(out, [it.request for it in plains])
-    count.add("as many answers", difference(len(answers), len(plains)))
+    check("as many answers", difference(len(answers), len(plains)))
     for it, found in zip(plains, answers):
-        count.add(f"plain {it.name}", unlike(found, it.owed))
-    count.add("the run", ended_well(left) or (None if left.dump == before else "the tables were changed"))
-    count.add("the file", None if left.file == digest(office) else "it was written")
+        check(f"plain {it.name}", unlike(found, it.owed))
+    check("the run", ended_well(left) or (None if left.dump == before else "the tables were changed"))
+    check("the file", None if left.file == digest(office) else "it was written")
     return answers, left
 
 
-def test_together(drop, count, office, items, unlike_end):
+def add_together(drop, check, office, items, unlike_end):
     """Items of a name, the answer that is owed and a request, many in one run: each answer, and what each run leaves."""
     runs = [items[at:at + TOGETHER] for at in range(0, len(items), TOGETHER)]
 
@@ -474,24 +474,24 @@ def test_together(drop, count, office, items, unlike_end):
 
     for run, (out, left) in zip(runs, kit.side_by_side(each, enumerate(runs))):
         answers = one_by_one(out, [request for _, _, request in run])
-        count.add("as many answers", difference(len(answers), len(run)))
+        check("as many answers", difference(len(answers), len(run)))
         for (name, owed, _), found in zip(run, answers):
-            count.add(name, unlike(found, owed))
-        count.add("what a run leaves", unlike_end(left))
+            check(name, unlike(found, owed))
+        check("what a run leaves", unlike_end(left))
     return len(items)
 
 
-def test_quiet(drop, count, office, plains, source):
+def add_quiet(drop, check, office, plains, source):
     """Requests that change nothing, many in one run."""
-    answers, left = test_plain(drop, count, office, plains)
+    answers, left = add_plain(drop, check, office, plains)
     items = []
     for it, owed in zip(plains, answers):
         items += [(f"{it.name}; {ways}", owed, other) for ways, other in respellings(source, it.request)]
     source.shuffle(items)
-    return test_together(drop, count, office, items, lambda found: unlike_left(found, left))
+    return add_together(drop, check, office, items, lambda found: unlike_left(found, left))
 
 
-def test_changing(drop, count, office, plains, source):
+def add_changing(drop, check, office, plains, source):
     """Requests that change the office, each by a run over a copy of its own."""
     before = tables.dump(office)
     items, owners = [], []
@@ -507,7 +507,7 @@ def test_changing(drop, count, office, plains, source):
             wrong = unlike(out, it.owed) or ended_well(left) or ("nothing was changed" if left.dump == before else None)
         else:
             wrong = unlike(out, plain[0]) or unlike_left(left, plain[1])
-        count.add(f"{it.name}; {ways}", wrong)
+        check(f"{it.name}; {ways}", wrong)
     return len(items) - len(plains)
 
 
@@ -721,7 +721,7 @@ def turned(source, it):
         yield breach.__name__, number, respelled(source, breach(source, it), some_ways(source, 0))
 
 
-def test_turned(drop, count, office, plains, source):
+def add_turned(drop, check, office, plains, source):
     """None of them is answered as the plain one, and nothing is changed by them."""
     before = tables.dump(office)
     items = [(f"{it.name}; {name}", answer(number, other.method.decode()), other)
@@ -731,7 +731,7 @@ def test_turned(drop, count, office, plains, source):
     def unlike_end(left):
         return ended_well(left) or (None if left.dump == before else "the tables were changed")
 
-    return test_together(drop, count, office, items, unlike_end)
+    return add_together(drop, check, office, items, unlike_end)
 
 
 # ---- the published request
@@ -746,13 +746,13 @@ ROWS = [
 ]
 
 
-def test_published(drop, count):
+def test_published(drop, check):
     """Rows over the published request, and the request cut behind each of its bytes: a cut one is no request, and what is
     asked on the next connection is answered."""
     office = drop.office("without-boxes")
     before = tables.dump(office)
     for number, part, by in ROWS:
-        count.add(f"{part!r} by {by!r}", difference(drop.replay(office, changed(part, by)), answered(answer(number))))
+        check(f"{part!r} by {by!r}", difference(drop.replay(office, changed(part, by)), answered(answer(number))))
     cuts = range(len(REQUEST))
 
     def each(cut):
@@ -761,27 +761,23 @@ def test_published(drop, count):
         return drop.replay(file, REQUEST[:cut])
 
     for cut, found in zip(cuts, kit.side_by_side(each, cuts)):
-        count.add(f"the first {cut} bytes", difference(found, SILENCE))
+        check(f"the first {cut} bytes", difference(found, answered()))
     found = drop.replay(office, *(stream for cut in cuts for stream in (REQUEST[:cut], REQUEST)))
-    count.add("each cut, and the request behind it", difference(found, answered(*[answer(27)] * len(cuts))))
-    count.add("the office stays", None if tables.dump(office) == before else "it was changed")
+    check("each cut, and the request behind it", difference(found, answered(*[answer(27)] * len(cuts))))
+    check("the office stays", None if tables.dump(office) == before else "it was changed")
 
 
 # ---- all
 
 
-def test_respelled(drop, count):
+def test_respelled(drop, check):
     source = random.Random(SEED)
     office, bare = furnished(drop), drop.office("bare")
     stays, changes = list(quiet(source)), list(changing(source))
     bare_changes = list(commands(source, DONE_LINES[:2] + DONE_LINES[3:5]))
-    alike = test_quiet(drop, count, office, stays, source)
-    alike += test_quiet(drop, count, bare, list(without_boxes(source)), source)
-    alike += test_changing(drop, count, office, changes, source)
-    alike += test_changing(drop, count, bare, bare_changes, source)
-    others = test_turned(drop, count, office, stays + changes, source)
+    alike = add_quiet(drop, check, office, stays, source)
+    alike += add_quiet(drop, check, bare, list(without_boxes(source)), source)
+    alike += add_changing(drop, check, office, changes, source)
+    alike += add_changing(drop, check, bare, bare_changes, source)
+    others = add_turned(drop, check, office, stays + changes, source)
     print(f"{alike} requests respelled, {others} of another signed text")
-
-
-if __name__ == "__main__":
-    run_all([test_published, test_respelled])

@@ -5,7 +5,7 @@ texts in the code and with each other, its commands of the desk with docs/RULES.
 docs/PROVED.md with the files; and it checks that each path, each module, and in the tables of docs/PROVED.md each call and
 each clause that is named is there. README.md has at most 90 lines, and all documents together at most 25,000 words.
 
-What is owed is in the documents themselves, and of names and texts in the tree. The last line is `N passed, M failed`.
+What is owed is in the documents themselves, and of names and texts in the tree.
 """
 
 import os
@@ -15,14 +15,15 @@ import sys
 
 import boto3
 import botocore.config
+import pytest
 
 import kit
-from deploy import replaced
-from expected import answer, table_of_refusals
-from interop import request, target_of
-from office import answered, difference, receipt, run_all
-from samples import HOST, KEY_ID, SECRET, stop_the_clock
-from serve import free_port
+from expected import answer, receipt, table_of_refusals
+from front import free_port
+from nginx import replaced
+from program import answered, difference
+from s3 import request, target_of
+from samples import HOST, KEY_ID, SECRET
 
 README = kit.ROOT / "README.md"
 PAGE = kit.ROOT / "docs" / "USE.md"
@@ -41,7 +42,7 @@ def blocks(text):
             for (kind, lines), (other, shown) in zip(found, behind, strict=True) if kind == "sh"]
 
 
-def run_blocks(drop, count, name, parts):
+def run_blocks(drop, check, name, parts):
     """Runs these blocks, one after another in one shell and an empty folder."""
     folder = drop.folder / name
     tools, home = folder / "tools", folder / "home"
@@ -57,29 +58,29 @@ def run_blocks(drop, count, name, parts):
     file.write_text(replaced(script, [(ADDRESS, address)]))
     own = {"PATH": f"{tools}:{os.environ['PATH']}", "HOME": str(home), "CURL_HOME": str(home), "LC_ALL": "C.UTF-8"}
     ran = kit.run(["sh", "-eu", file], cwd=folder / "empty", env=os.environ | own)
-    count.add(f"{name}: its lines", None if (ran.status, ran.err) == (0, b"") else f"{ran}")
+    check(f"{name}: its lines", None if (ran.status, ran.err) == (0, b"") else f"{ran}")
     said = dict(re.findall(r"^@@ (\d+)\n((?:(?!@@ ).*\n?)*)", ran.out.decode().replace(address, ADDRESS), re.MULTILINE))
     for at, (_, owed) in enumerate(parts):
-        count.add(f"{name}: what block {at} prints", difference(said.get(str(at)), owed or ""))
+        check(f"{name}: what block {at} prints", difference(said.get(str(at)), owed or ""))
 
 
-def five_lines(count):
+def five_lines(check):
     """README's block, which is also the page's first."""
     parts = blocks(FIVE.search(README.read_text())[0])
-    count.add("one block in README", difference(len(parts), 1))
+    check("one block in README", difference(len(parts), 1))
     commands = parts[0][0].replace("\\\n", "").splitlines()
     found = [re.search(r"\b(?:drop (?:init|desk|link|serve)|curl)\b", it)[0] for it in commands]
-    count.add("five lines", difference(found, ["drop init", "drop desk", "drop link", "drop serve", "curl"]))
-    count.add("the same on the page", difference(blocks(PAGE.read_text())[0], parts[0]))
+    check("five lines", difference(found, ["drop init", "drop desk", "drop link", "drop serve", "curl"]))
+    check("the same on the page", difference(blocks(PAGE.read_text())[0], parts[0]))
     return parts
 
 
-def test_readme(drop, count):
-    run_blocks(drop, count, "README", five_lines(count))
+def test_readme(drop, check):
+    run_blocks(drop, check, "README", five_lines(check))
 
 
-def test_page(drop, count):
-    run_blocks(drop, count, "USE", blocks(PAGE.read_text()))
+def test_page(drop, check):
+    run_blocks(drop, check, "USE", blocks(PAGE.read_text()))
 
 
 def boto3_link(more=None, expires=600, **settings):
@@ -97,22 +98,22 @@ SIGNED = [("ContentType", "text/plain", "Content-Type", "text/plain"),
           ("Metadata", {"note": "one"}, "X-Amz-Meta-Note", "one")]
 
 
-def test_boto3(drop, count):
+@pytest.mark.usefixtures("stopped_clock")
+def test_boto3(drop, check):
     """Rows of the page's table on boto3: the program refuses such a link by the number that stands there."""
-    stop_the_clock()
     rows = dict(re.findall(r"^\| (.+?) \| .*\b(?:with|gets) (\d+) \|$", PAGE.read_text(), re.MULTILINE))
     file = drop.filled("boto3")
 
     def ask(name, target, owed, fields=()):
         found = drop.replay(file, request("PUT", target, {"Content-Length": "0", **dict(fields)}))
-        count.add(f"boto3: {name}", difference(found, answered(owed)))
+        check(f"boto3: {name}", difference(found, answered(owed)))
 
     def owed(row):
         return answer(int(rows[row]), "PUT")
 
     old, long = boto3_link(), boto3_link(expires=604801, signature_version="s3v4")
     well = "AWSAccessKeyId=" in old and "Signature=" in old and "X-Amz-Expires=604801" in long
-    count.add("boto3: what it signs", None if well else f"{old}, {long}")
+    check("boto3: what it signs", None if well else f"{old}, {long}")
     ask("the old kind", old, owed('no `signature_version="s3v4"`'))
     ask("a long time", long, owed("`ExpiresIn` over 604800"))
     for given, value, field, sent in SIGNED:
@@ -121,15 +122,15 @@ def test_boto3(drop, count):
         ask(f"{given}, sent", target, receipt(6, b""), [(field, sent)])
 
 
-def test_refusals(_, count):
+def test_refusals(check):
     """Each refusal has its row, with its word and its status, in the order of the rules."""
     found = re.findall(r"^\| (\d+) \| (\w+) \| (\d+) \| [^|]+ \| [^|]+ \|$", PAGE.read_text(), re.MULTILINE)
     owed = [(number, word, status) for number, word, status, _ in table_of_refusals()]
     numbers = [int(it[0]) for it in owed]
-    count.add("the numbers of the rules", difference(numbers, [*range(1, 37), 40]))
-    count.add("the numbers of the page", difference([int(it[0]) for it in found], numbers))
+    check("the numbers of the rules", difference(numbers, [*range(1, 37), 40]))
+    check("the numbers of the page", difference([int(it[0]) for it in found], numbers))
     for row in owed:
-        count.add(f"refusal {row[0]}", None if row in found else "has no such row")
+        check(f"refusal {row[0]}", None if row in found else "has no such row")
 
 
 def texts_of(enum):
@@ -165,39 +166,39 @@ def lines_of_code():
     return lines
 
 
-def test_faults(_, count):
+def test_faults(check):
     """Each fault line stands in the table once, with what it means, its cause and what to do. They are those that the code can
     tell, with a word in capitals, or one in `<>`, for what differs."""
     form = re.compile(r"^\| `(drop: [^`]+)` \| (.+) \|$", re.MULTILINE)
     rows = [(line, rest.split(" | ")) for line, rest in form.findall(PAGE.read_text())]
     owed = [line for line, _ in rows]
-    count.add("fault lines", None if owed and len(owed) == len(set(owed)) else f"{owed}")
+    check("fault lines", None if owed and len(owed) == len(set(owed)) else f"{owed}")
     for line, cells in rows:
-        count.add(line, difference(len(cells), 3))
+        check(line, difference(len(cells), 3))
     page = {blanked(line.removeprefix("drop: ")) for line in owed}
     code = {blanked(line) for line in lines_of_code()}
-    count.add("fault lines of the code", f"there are {len(code)} alone" if len(code) < 10 else None)
+    check("fault lines of the code", f"there are {len(code)} alone" if len(code) < 10 else None)
     for line in sorted(page | code):
         lacks = "the code" if line not in code else "docs/USE.md"
-        count.add(f"the line {line}", None if line in page & code else f"{lacks} has no such line")
+        check(f"the line {line}", None if line in page & code else f"{lacks} has no such line")
 
 
-def test_commands(_, count):
+def test_commands(check):
     """The commands of the desk that the page explains are those of docs/RULES.md and of the help."""
     rules, words = (kit.ROOT / "docs" / "RULES.md").read_text(), (kit.ROOT / "ci" / "desk.help").read_text()
     row = re.compile(r"^\| `((?:box|file|key|office) [a-z]+ [A-Z ]+)` \| ", re.MULTILINE)
     owed = row.findall(rules)
-    count.add("commands of the desk", None if len(owed) == 7 else f"{owed}")
-    count.add("those of the page", difference(row.findall(PAGE.read_text()), owed))
-    count.add("those of the help", difference(re.findall(r"^  ((?:box|file|key|office) [a-z]+ [A-Z ]+)$", words, re.MULTILINE), owed))
+    check("commands of the desk", None if len(owed) == 7 else f"{owed}")
+    check("those of the page", difference(row.findall(PAGE.read_text()), owed))
+    check("those of the help", difference(re.findall(r"^  ((?:box|file|key|office) [a-z]+ [A-Z ]+)$", words, re.MULTILINE), owed))
 
 
-def test_words(_, count):
+def test_words(check):
     """The words of page/ that docs/USE.md shows, behind which a saved receipt has the office's line."""
     answers = re.findall(r'^ +answer: "(.+)",$', (kit.ROOT / "page" / "texts.js").read_text(), re.MULTILINE)
-    count.add("two languages of page/", difference(len(answers), 2))
+    check("two languages of page/", difference(len(answers), 2))
     for it in answers:
-        count.add(f"docs/USE.md: {it}", None if f"`{it}:`" in PAGE.read_text() else "is not there")
+        check(f"docs/USE.md: {it}", None if f"`{it}:`" in PAGE.read_text() else "is not there")
 
 
 # A path that begins at the top. Words in capitals in it stand for names, and `out` is what a run leaves.
@@ -223,12 +224,12 @@ def named(document):
     yield from (f"crates/{crate}/edits/{edit}.edit" for crate, edit in EDIT.findall(text))
 
 
-def test_names(_, count):
+def test_names(check):
     """What the documents name in the tree is there."""
     for document in DOCUMENTS:
         for path in sorted({*named(document)}):
             there = next(kit.ROOT.glob(path), None)
-            count.add(f"{document.name}: {path}", None if there else "is not there")
+            check(f"{document.name}: {path}", None if there else "is not there")
 
 
 def length(modules):
@@ -238,19 +239,19 @@ def length(modules):
     return sum(len(it.read_text().splitlines()) for it in files)
 
 
-def test_lengths(_, count):
+def test_lengths(check):
     """The lengths of definitions in docs/PROVED.md, in lines to the nearest ten; a little more or less passes."""
     text = PROVED.read_text()
     rows = re.findall(r"^\| (\d+) \| ([^|]+) \| (\d+) \| [^|]+ \|$", text, re.MULTILINE)
-    count.add("numbers of definitions", difference([int(it[0]) for it in rows], [*range(1, 17)]))
+    check("numbers of definitions", difference([int(it[0]) for it in rows], [*range(1, 17)]))
     found = [(number, length(modules), int(said)) for number, modules, said in rows]
     for number, lines, said in found:
-        count.add(f"definitions {number}", None if abs(lines - said) <= 10 else f"have {lines} lines and not {said}")
+        check(f"definitions {number}", None if abs(lines - said) <= 10 else f"have {lines} lines and not {said}")
     said, others = map(int, re.search(r"some (\d+) in all\. The other modules of `specs/`, some (\d+) lines", text).groups())
     lines = sum(it[1] for it in found)
     specs = sum(len(it.read_text().splitlines()) for it in (kit.ROOT / "crates").glob("*/specs/*.antt"))
     for name, has, told in [("all definitions", lines, said), ("the other modules", specs - lines, others)]:
-        count.add(name, None if abs(has - told) <= 100 else f"have {has} lines and not {told}")
+        check(name, None if abs(has - told) <= 100 else f"have {has} lines and not {told}")
 
 
 HEAD = re.compile(r"^( *)(pub(?:\(\w+\))? )?(?:const )?fn (\w+)")
@@ -299,42 +300,37 @@ def rows_of_calls(document):
         in_table = line.startswith("| Call |") or (in_table and line.startswith("|"))
 
 
-def test_clauses(_, count):
+def test_clauses(check):
     """Wherever clauses stand in brackets behind a call, some public call of this name has them."""
     calls = public_calls()
     for document in DOCUMENTS:
         for name, clauses in re.findall(r"`([\w:]+)`\s\[([a-z]\w*(?:,\s\w+)*)\]", document.read_text()):
             has = [its for call, its in calls.items() if f"::{call}".endswith(f"::{name}")]
             there = any({*re.findall(r"\w+", clauses)} <= its for its in has)
-            count.add(f"{document.name}: {name} [{clauses}]", None if there else "there is no such call with these clauses")
+            check(f"{document.name}: {name} [{clauses}]", None if there else "there is no such call with these clauses")
 
 
-def test_calls(_, count):
+def test_calls(check):
     """The calls in the first column of docs/PROVED.md's tables are there, each in its crate. Where several stand before one
     bracket, the last has these clauses, and each of the others that has named ones."""
     calls = public_calls()
     named_ones = [call for call, its in calls.items() if its]
     rows = [*rows_of_calls(PROVED)]
-    count.add("tables of calls", None if rows else "there are none")
+    check("tables of calls", None if rows else "there are none")
     for crates, cell in rows:
         for names, clauses in re.findall(r"((?:`[\w:]+`(?:, |; )?)+)(?: ?\[([\w, ]+)\])?", cell):
             names, clauses = re.findall(r"`([\w:]+)`", names), re.findall(r"\w+", clauses)
             for name in names:
                 owes = name == names[-1] or any(f"{it}::{name}" in named_ones for it in crates)
-                count.add(f"{name} {clauses}", fault_of_call(calls, crates, name, clauses if owes else []))
+                check(f"{name} {clauses}", fault_of_call(calls, crates, name, clauses if owes else []))
 
 
 MOST_LINES, MOST_WORDS = 90, 25000
 
 
-def test_sizes(_, count):
+def test_sizes(check):
     """README.md and the documents are short."""
     lines = len(README.read_text().splitlines())
-    count.add("lines of README", f"{lines} and not at most {MOST_LINES}" if lines > MOST_LINES else None)
+    check("lines of README", f"{lines} and not at most {MOST_LINES}" if lines > MOST_LINES else None)
     words = sum(len(it.read_text().split()) for it in DOCUMENTS)
-    count.add("words of all documents", f"{words} and not at most {MOST_WORDS}" if words > MOST_WORDS else None)
-
-
-if __name__ == "__main__":
-    run_all([test_readme, test_page, test_boto3, test_refusals, test_faults, test_commands, test_words, test_names,
-             test_lengths, test_clauses, test_calls, test_sizes])
+    check("words of all documents", f"{words} and not at most {MOST_WORDS}" if words > MOST_WORDS else None)

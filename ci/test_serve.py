@@ -2,7 +2,7 @@
 makes, and with bytes that stop, break off or make no sense.
 
 The office is made by `drop init` and its boxes by Python's `sqlite3` (ci/tables.py). What is owed comes from Python's
-`hashlib`, the table of refusals in docs/RULES.md and the fault lines in docs/USE.md. The last line is `N passed, M failed`.
+`hashlib`, the table of refusals in docs/RULES.md and the fault lines in docs/USE.md.
 """
 
 import contextlib
@@ -12,109 +12,23 @@ import pathlib
 import select
 import signal
 import socket
-import subprocess
 import time
-import urllib.parse
 
 import kit
-import s3
 import tables
-from expected import SECRET, answer
-from front import BREAK, asked, free_port
-from office import CANNOT_OPEN, FAILED, difference, fetched, malformed, receipt, run_all
-from replays import ID, fault
+from expected import LIMIT, answer, fetched, receipt
+from front import BREAK, asked
+from program import CANNOT_OPEN, CANNOT_WRITE, difference, fault, full_disk, help_of, malformed
+from server import SECONDS, Server, boto_client, curl, open_office
 
 CANNOT_LISTEN = fault("cannot listen")
-SECONDS = 20
 MEBIBYTE = 1 << 20
-LIMIT = 8 << 20
-
-
-def add_boxes(file):
-    for name in ["in", "out.1-2"]:
-        tables.add_box(file, tables.Box(name, max_files=1000))
-
-
-def open_office(drop, name):
-    file = drop.office(name)
-    add_boxes(file)
-    return file
-
-
-class Server:
-    """A `drop serve` that runs from `with` on, and says where it listens before it is used.
-
-    The office file is its own while it runs, so links are made before.
-    """
-
-    def __init__(self, drop, file, connections, patience=None, most_open=None):
-        self.drop, self.file = drop, file
-        self.address = f"127.0.0.1:{free_port()}"
-        self.words = [drop.program, "serve", file, "--listen", self.address, "--connections", str(connections)]
-        self.words += ["--patience", str(patience)] if patience is not None else []
-        self.words += ["--open", str(most_open)] if most_open is not None else []
-        self.own = {}  # what else the program is started with
-
-    def __enter__(self):
-        pipes = {"stdin": subprocess.DEVNULL, "stdout": subprocess.PIPE, "stderr": subprocess.PIPE}
-        self.process = subprocess.Popen(self.words, cwd=self.drop.folder, **(pipes | self.own))
-        self.line = self.process.stdout.readline()
-        return self
-
-    def link(self, method, target, key=ID):
-        """The URL of a link that `drop link` writes for this server, good from a minute ago on."""
-        start = time.strftime("%Y%m%dT%H%M%SZ", time.gmtime(time.time() - 60))
-        ran = self.drop.link(self.file, method, target, key=key, host=self.address, start=start)
-        assert ran.status == 0, ran
-        return ran.out.decode().strip()
-
-    def message(self, method, target, data=None):
-        """The bytes of a request for such a link."""
-        parts = urllib.parse.urlsplit(self.link(method, target))
-        length = "" if data is None else f"Content-Length: {len(data)}\r\n"
-        head = f"{method} {parts.path}?{parts.query} HTTP/1.1\r\nHost: {parts.netloc}\r\n{length}\r\n"
-        return head.encode() + (data or b"")
-
-    def __exit__(self, *_):
-        if self.process.poll() is None:
-            self.process.kill()
-        self.process.communicate()
-
-    def connect(self, buffer=None):
-        """A connection, which has room for so many bytes that it has not read, if that is told."""
-        it = socket.socket()
-        it.settimeout(SECONDS)
-        it.setsockopt(socket.IPPROTO_TCP, socket.TCP_NODELAY, 1)
-        if buffer:
-            it.setsockopt(socket.SOL_SOCKET, socket.SO_RCVBUF, buffer)
-        host, _, port = self.address.partition(":")
-        it.connect((host, int(port)))
-        return it
-
-    def ask(self, *parts, shut=True, pause=0.0):
-        """What a connection is answered that sends these bytes, and then closes its sending side."""
-        with self.connect() as it:
-            for part in parts:
-                it.sendall(part)
-                time.sleep(pause)
-            if shut:
-                it.shutdown(socket.SHUT_WR)
-            return b"".join(iter(lambda: it.recv(1 << 16), b""))
-
-    def end(self):
-        """How the program ended, once its last connection was served."""
-        out, err = self.process.communicate(timeout=SECONDS)
-        return kit.Run(self.process.returncode, self.line + out, err or b"")
-
-    def owed_end(self, failed, err=b""):
-        line = f"listening on {self.address}\n".encode()
-        return kit.Run(1, line, FAILED.err) if failed else kit.Run(0, line, err)
 
 
 # ---- what comes before a connection
 
 
-def test_words(drop, count):
+def test_words(drop, check):
     for words, line in [
         (["--connections", "0"], "error: invalid value '0' for '--connections <N>': 0 is not in 1..=1000000"),
         (["--connections", "1000001"], "error: invalid value '1000001' for '--connections <N>': 1000001 is not in 1..=1000000"),
@@ -126,10 +40,10 @@ def test_words(drop, count):
     ]:
         found = drop.run("serve", "no-file", "--listen", "none", *words)
         well = found.status == 2 and not found.out and found.err.decode().splitlines()[0] == line
-        count.add(f"serve {words}", None if well else f"{found} and not {line!r}")
-    owed = kit.Run(0, (kit.ROOT / "ci" / "serve.help").read_bytes(), b"")
+        check(f"serve {words}", None if well else f"{found} and not {line!r}")
+    owed = kit.Run(0, help_of("serve"), b"")
     for words in [["serve", "--help"], ["help", "serve"]]:
-        count.add(f"drop {words}", difference(drop.run(*words), owed))
+        check(f"drop {words}", difference(drop.run(*words), owed))
 
 
 BAD_ADDRESSES = [
@@ -139,39 +53,34 @@ BAD_ADDRESSES = [
 ]
 
 
-def test_faults(drop, count):
+def test_faults(drop, check):
     """The first fault is told: of the address, then of the file, then of listening."""
     gone, file = drop.path("gone"), open_office(drop, "faults")
     for address in BAD_ADDRESSES:
         found = drop.run("serve", gone, f"--listen={address}", "--connections", "1")
-        count.add(f"listen {address!r}", difference(found, malformed("listen")))
+        check(f"listen {address!r}", difference(found, malformed("listen")))
     found = drop.run("serve", gone, "--listen", "127.0.0.1:0", "--connections", "1")
-    count.add("a file that is not there", difference(found, CANNOT_OPEN))
-    count.add("no file is made", "there is one" if gone.exists() else None)
+    check("a file that is not there", difference(found, CANNOT_OPEN))
+    check("no file is made", "there is one" if gone.exists() else None)
     before = tables.dump(file)
     with socket.create_server(("127.0.0.1", 0)) as other:
         address = f"127.0.0.1:{other.getsockname()[1]}"
         found = drop.run("serve", file, "--listen", address, "--connections", "1")
-        count.add("a port that is taken", difference(found, CANNOT_LISTEN))
+        check("a port that is taken", difference(found, CANNOT_LISTEN))
         found = drop.run("serve", gone, "--listen", address, "--connections", "1")
-        count.add("the file before the port", difference(found, CANNOT_OPEN))
+        check("the file before the port", difference(found, CANNOT_OPEN))
     found = drop.run("serve", file, "--listen", "192.0.2.1:8080", "--connections", "1")
-    count.add("another machine's address", difference(found, CANNOT_LISTEN))
-    with open("/dev/full", "wb", buffering=0) as full:
+    check("another machine's address", difference(found, CANNOT_LISTEN))
+    with full_disk() as full:
         found = drop.run("serve", file, "--listen", "127.0.0.1:0", "--connections", "1", out=full)
-        count.add("a full disk", difference(found, fault("cannot write")))
-    count.add("the office stays", None if tables.dump(file) == before else "it was changed")
+        check("a full disk", difference(found, CANNOT_WRITE))
+    check("the office stays", None if tables.dump(file) == before else "it was changed")
 
 
 # ---- clients
 
 
-def curl(*words, given=b""):
-    """What curl got: the status and the body; with -i the head too."""
-    return kit.run(["curl", "--silent", "--show-error", "--max-time", str(SECONDS), *words], given)
-
-
-def test_curl(drop, count):
+def test_curl(drop, check):
     file, data, large = open_office(drop, "curl"), bytes(range(256)) * 8, b"l" * LIMIT
     server = Server(drop, file, 8)
     files = [("in/a.txt", data), ("out.1-2/é b+%2F..//", b""), ("in/large", large)]
@@ -181,26 +90,22 @@ def test_curl(drop, count):
     with server:
         for number, (target, body) in enumerate(files, 1):
             found = curl("-i", "-X", "PUT", "-H", "Expect:", "--data-binary", "@-", puts[target], given=body)
-            count.add(f"curl PUT {target}", difference(found, kit.Run(0, receipt(number, body), b"")))
+            check(f"curl PUT {target}", difference(found, kit.Run(0, receipt(number, body), b"")))
         given = drop.path("given")
         given.write_bytes(data)
         found = curl("-i", "-T", given, puts["in/a.txt"])
-        count.add("curl PUT once more", difference(found, kit.Run(0, receipt(1, data), b"")))
+        check("curl PUT once more", difference(found, kit.Run(0, receipt(1, data), b"")))
         found = curl("-i", gets["in/a.txt"], gets["in/large"])
-        count.add("curl GET of two on one connection", difference(found, kit.Run(0, fetched(1, data) + fetched(3, large), b"")))
-        count.add("curl HEAD", difference(curl("-I", head), kit.Run(0, fetched(1, data, "HEAD"), b"")))
+        check("curl GET of two on one connection", difference(found, kit.Run(0, fetched(1, data) + fetched(3, large), b"")))
+        check("curl HEAD", difference(curl("-I", head), kit.Run(0, fetched(1, data, "HEAD"), b"")))
         found = curl("-i", "-X", "PUT", "--data-binary", "other", puts["in/a.txt"])
-        count.add("curl PUT of other bytes", difference(found, kit.Run(0, answer(31), b"")))
+        check("curl PUT of other bytes", difference(found, kit.Run(0, answer(31), b"")))
         found = curl("-i", "-T", "-", new, given=data)
-        count.add("curl PUT in chunks", None if found.out.endswith(answer(3)) else f"{found}")
-        count.add("the end", difference(server.end(), server.owed_end(False)))
+        check("curl PUT in chunks", None if found.out.endswith(answer(3)) else f"{found}")
+        check("the end", difference(server.end(), server.owed_end(False)))
 
 
-def boto_client(server):
-    return s3.client(f"http://{server.address}", ID, SECRET.decode())
-
-
-def test_boto3(drop, count):
+def test_boto3(drop, check):
     """Links that boto3 makes are taken, each on a connection of its own."""
     file = open_office(drop, "boto3")
     names = ["a.txt", "a b/é.txt", "x+y=z&?#%.bin", "..", "//"]
@@ -213,45 +118,45 @@ def test_boto3(drop, count):
             url = client.generate_presigned_url("put_object", Params=where, ExpiresIn=600)
             status, _, body = asked(url, "PUT", data)
             owed = f"receipt {number} {len(data)} {digest}\n".encode()
-            count.add(f"boto3 PUT {name}", difference((status, body), (200, owed)))
+            check(f"boto3 PUT {name}", difference((status, body), (200, owed)))
             for method, call in [("GET", "get_object"), ("HEAD", "head_object")]:
                 url = client.generate_presigned_url(call, Params=where, ExpiresIn=600, HttpMethod=method)
                 status, fields, body = asked(url, method)
                 found = status, fields.get("X-Drop-Receipt"), fields.get("X-Drop-Sha256"), fields.get("Content-Length"), body
                 owed = 200, str(number), digest, str(len(data)), data if method == "GET" else b""
-                count.add(f"boto3 {method} {name}", difference(found, owed))
-        count.add("the end", difference(server.end(), server.owed_end(False)))
+                check(f"boto3 {method} {name}", difference(found, owed))
+        check("the end", difference(server.end(), server.owed_end(False)))
 
 
 # ---- bytes
 
 
-def test_bytes(drop, count):
+def test_bytes(drop, check):
     """Streams that are whole, however they come in."""
     file = open_office(drop, "bytes")
     server = Server(drop, file, 8)
     put, get = server.message("PUT", "in/a.txt", b"abc"), server.message("GET", "in/a.txt")
     with server:
         owed = receipt(1, b"abc") + fetched(1, b"abc")
-        count.add("two messages at once", difference(server.ask(put + get), owed))
+        check("two messages at once", difference(server.ask(put + get), owed))
         parts = [bytes([byte]) for byte in get]
-        count.add("byte by byte", difference(server.ask(*parts), fetched(1, b"abc")))
+        check("byte by byte", difference(server.ask(*parts), fetched(1, b"abc")))
         cut = put.index(b"\r\n\r\n") + 2
-        count.add("a head in two pieces", difference(server.ask(put[:cut], put[cut:], pause=0.2), receipt(1, b"abc")))
-        count.add("a body in two pieces", difference(server.ask(put[:-1], put[-1:], pause=0.2), receipt(1, b"abc")))
-        count.add("nothing", difference(server.ask(), b""))
-        count.add("half a head", difference(server.ask(get[:-2]), b""))
-        count.add("half a body", difference(server.ask(put[:-1]), answer(6)))
+        check("a head in two pieces", difference(server.ask(put[:cut], put[cut:], pause=0.2), receipt(1, b"abc")))
+        check("a body in two pieces", difference(server.ask(put[:-1], put[-1:], pause=0.2), receipt(1, b"abc")))
+        check("nothing", difference(server.ask(), b""))
+        check("half a head", difference(server.ask(get[:-2]), b""))
+        check("half a body", difference(server.ask(put[:-1]), answer(6)))
         found = server.ask(get * 1001)
-        count.add("a thousand messages, and one more", None if found == fetched(1, b"abc") * 1000 else f"{len(found)} bytes")
-        count.add("the end", difference(server.end(), server.owed_end(False)))
+        check("a thousand messages, and one more", None if found == fetched(1, b"abc") * 1000 else f"{len(found)} bytes")
+        check("the end", difference(server.end(), server.owed_end(False)))
 
 
 HELLO = bytes.fromhex("16030100c8010000c40303") + bytes(189)
 PREFACE = b"PRI * HTTP/2.0\r\n\r\nSM\r\n\r\n"
 
 
-def test_nonsense(drop, count):
+def test_nonsense(drop, check):
     """Bytes that are no request are refused, and the refusal arrives, though more bytes were sent than were read."""
     file = open_office(drop, "nonsense")
     large = b"PUT /in/a HTTP/1.1\r\nContent-Length: 8388609\r\n\r\n" + b"a" * 100000
@@ -266,9 +171,9 @@ def test_nonsense(drop, count):
     before = tables.dump(file)
     with Server(drop, file, len(rows), patience=2) as server:
         for name, parts, owed in rows:
-            count.add(name, difference(server.ask(*parts), owed))
-        count.add("the end", difference(server.end(), server.owed_end(False)))
-    count.add("the office stays", None if tables.dump(file) == before else "it was changed")
+            check(name, difference(server.ask(*parts), owed))
+        check("the end", difference(server.end(), server.owed_end(False)))
+    check("the office stays", None if tables.dump(file) == before else "it was changed")
 
 
 def broken_off(server, *parts):
@@ -287,18 +192,18 @@ def silent_for(server, *parts):
     return found, time.monotonic() - begun
 
 
-def test_broken(drop, count):
+def test_broken(drop, check):
     """Peers that are silent or go away: each ends its own connection alone, and the last one is served."""
     file, data = open_office(drop, "broken"), b"d" * MEBIBYTE
     server = Server(drop, file, 10, patience=1)
     put, get = server.message("PUT", "in/a", data), server.message("GET", "in/a")
     with server:
-        count.add("before", difference(server.ask(put), receipt(1, data)))
+        check("before", difference(server.ask(put), receipt(1, data)))
         for name, parts, owed in [("half a head and silence", [get[:-2]], b""), ("silence", [], b""),
                                   ("an answer and silence", [get + get[:-2]], fetched(1, data))]:
             found, seconds = silent_for(server, *parts)
             well = found == owed and seconds > 0.9
-            count.add(name, None if well else f"{len(found)} bytes after {seconds:.1f} seconds")
+            check(name, None if well else f"{len(found)} bytes after {seconds:.1f} seconds")
         broken_off(server)
         broken_off(server, put[:-1])
         broken_off(server, get[:-1])
@@ -307,12 +212,12 @@ def test_broken(drop, count):
             it.settimeout(3)
             with contextlib.suppress(OSError):
                 it.sendall(get * 1000)
-            count.add("the last connection", difference(server.ask(get), fetched(1, data)))
-        count.add("the end", difference(server.end(), server.owed_end(True)))
-    count.add("the file", difference(tables.rows(file, "SELECT COUNT(*) FROM receipts"), [(1,)]))
+            check("the last connection", difference(server.ask(get), fetched(1, data)))
+        check("the end", difference(server.end(), server.owed_end(True)))
+    check("the file", difference(tables.rows(file, "SELECT COUNT(*) FROM receipts"), [(1,)]))
 
 
-def test_patience(drop, count):
+def test_patience(drop, check):
     """Without end, and what holds where none is told: a peer that pauses for longer than others are given is answered."""
     for patience in [0, None]:
         file = open_office(drop, f"patience-{patience}")
@@ -321,11 +226,11 @@ def test_patience(drop, count):
         with server:
             for name, at in [("half a head", 20), ("half a body", len(put) - 1)]:
                 found = server.ask(put[:at], put[at:], pause=1.5)
-                count.add(f"patience {patience}, {name} and a pause", difference(found, receipt(1, b"abc")))
-            count.add(f"patience {patience}, the end", difference(server.end(), server.owed_end(False)))
+                check(f"patience {patience}, {name} and a pause", difference(found, receipt(1, b"abc")))
+            check(f"patience {patience}, the end", difference(server.end(), server.owed_end(False)))
 
 
-def test_killed(drop, count):
+def test_killed(drop, check):
     """What was acknowledged stands, though the program was killed; and the office file is whole."""
     file = open_office(drop, "killed")
     files = [(number, b"%d" % number) for number in range(1, 21)]
@@ -333,35 +238,35 @@ def test_killed(drop, count):
     puts = [server.message("PUT", f"in/{number}", data) for number, data in files]
     with server:
         for (number, data), put in zip(files, puts):
-            count.add(f"PUT {number}", difference(server.ask(put), receipt(number, data)))
+            check(f"PUT {number}", difference(server.ask(put), receipt(number, data)))
         server.process.send_signal(signal.SIGKILL)
         server.process.wait()
     server = Server(drop, file, len(files))
     gets = [server.message("GET", f"in/{number}") for number, _ in files]
     with server:
         for (number, data), get in zip(files, gets):
-            count.add(f"GET {number}", difference(server.ask(get), fetched(number, data)))
-        count.add("the end", difference(server.end(), server.owed_end(False)))
-    count.add("integrity", difference(tables.rows(file, "PRAGMA integrity_check"), [("ok",)]))
+            check(f"GET {number}", difference(server.ask(get), fetched(number, data)))
+        check("the end", difference(server.end(), server.owed_end(False)))
+    check("integrity", difference(tables.rows(file, "PRAGMA integrity_check"), [("ok",)]))
 
 
-def test_closed(drop, count):
+def test_closed(drop, check):
     """At the end the log is in the file, and stock SQLite reads what was served."""
     file = open_office(drop, "closed")
     server = Server(drop, file, 1)
     put = server.message("PUT", "in/a", b"abc")
     with server:
-        count.add("PUT", difference(server.ask(put), receipt(1, b"abc")))
-        count.add("the end", difference(server.end(), server.owed_end(False)))
+        check("PUT", difference(server.ask(put), receipt(1, b"abc")))
+        check("the end", difference(server.end(), server.owed_end(False)))
     log = pathlib.Path(f"{file}-wal")
     log.unlink(missing_ok=True)
-    count.add("the receipt", difference(tables.rows(file, "SELECT number, box, name, length FROM receipts"), [(1, "in", "a", 3)]))
+    check("the receipt", difference(tables.rows(file, "SELECT number, box, name, length FROM receipts"), [(1, "in", "a", 3)]))
 
 
 # ---- a manifest beside the office
 
 
-def published(drop, file, name, count, uploads=3):
+def published(drop, file, name, check, uploads=3):
     """Serves so many uploads with this file for the manifest, which is read behind each answer: the end, and what stood there."""
     server = Server(drop, file, uploads)
     puts = [server.message("PUT", f"in/{name}-{number}", b"x" * number) for number in range(uploads)]
@@ -370,12 +275,12 @@ def published(drop, file, name, count, uploads=3):
     with server:
         for number, put in enumerate(puts):
             answer = server.ask(put)
-            count.add(f"{name}: PUT {number}", None if answer.startswith(b"HTTP/1.1 200 OK\r\n") else f"{answer}")
+            check(f"{name}: PUT {number}", None if answer.startswith(b"HTTP/1.1 200 OK\r\n") else f"{answer}")
             stood.append(drop.path(name).read_bytes() if drop.path(name).is_file() else None)
         return server.end(), server.owed_end(False), stood
 
 
-def test_manifest(drop, count):
+def test_manifest(drop, check):
     """The manifest has each receipt once its upload was answered. A file or a link that is there is replaced."""
     file = open_office(drop, "published")
     other = drop.path("other")
@@ -383,29 +288,29 @@ def test_manifest(drop, count):
     drop.path("link.csv").symlink_to(other)
     drop.path("there.csv").write_bytes(b"older")
     for name in ["new.csv", "there.csv", "link.csv"]:
-        found, owed, stood = published(drop, file, name, count)
+        found, owed, stood = published(drop, file, name, check)
         manifest = drop.run("manifest", file).out
-        count.add(f"{name}: the end", difference(found, owed))
+        check(f"{name}: the end", difference(found, owed))
         lines = manifest.splitlines(True)
-        count.add(f"{name}: behind each answer", difference(stood, [b"".join(lines[:number]) for number in [-2, -1, None]]))
-        count.add(f"{name}: nothing beside it", "there is a part" if drop.path(f"{name}.part").exists() else None)
-    count.add("what a link led to", difference(other.read_bytes(), b"as it was"))
+        check(f"{name}: behind each answer", difference(stood, [b"".join(lines[:number]) for number in [-2, -1, None]]))
+        check(f"{name}: nothing beside it", "there is a part" if drop.path(f"{name}.part").exists() else None)
+    check("what a link led to", difference(other.read_bytes(), b"as it was"))
 
 
-def test_lost_manifest(drop, count):
+def test_lost_manifest(drop, check):
     """Where the manifest can't be written the office goes on. It is told once, and by the status."""
     file = open_office(drop, "lost")
     drop.path("folder.csv").mkdir()
     drop.path("full.csv.part").symlink_to("/dev/full")
     for name in ["none/here.csv", "folder.csv", "full.csv"]:
-        found, owed, _ = published(drop, file, name, count, uploads=2)
-        count.add(f"{name}: the end", difference(found, kit.Run(1, owed.out, fault("cannot write the manifest").err)))
-    count.add("the folder stays", None if not list(drop.path("folder.csv").iterdir()) else "something lies in it")
+        found, owed, _ = published(drop, file, name, check, uploads=2)
+        check(f"{name}: the end", difference(found, kit.Run(1, owed.out, fault("cannot write the manifest").err)))
+    check("the folder stays", None if not list(drop.path("folder.csv").iterdir()) else "something lies in it")
 
 
-def test_settings(drop, count):
+def test_settings(drop, check):
     """Each connection's socket is set to send at once (TCP_NODELAY) where its answer is sent, by what ci/sockets.c hears."""
-    library = kit.library(drop.folder, "ci/sockets.c")
+    library = kit.library("ci/sockets.c")
     file = open_office(drop, "settings")
     server = Server(drop, file, 2)
     put = server.message("PUT", "in/a", b"abc")
@@ -414,10 +319,10 @@ def test_settings(drop, count):
     with server:
         os.close(told)
         for _ in range(2):
-            count.add("PUT", difference(server.ask(put), receipt(1, b"abc")))
-        count.add("the end", difference(server.end(), server.owed_end(False)))
+            check("PUT", difference(server.ask(put), receipt(1, b"abc")))
+        check("the end", difference(server.end(), server.owed_end(False)))
     with os.fdopen(heard) as sends:
-        count.add("sockets that send at once", difference(sends.read(), "1\n1\n"))
+        check("sockets that send at once", difference(sends.read(), "1\n1\n"))
 
 
 # ---- an office that is large for the memory
@@ -481,28 +386,28 @@ def warned(length, needed, memory):
             "office (docs/DEPLOY.md, 10)\n").encode()
 
 
-def test_memory(drop, count):
+def test_memory(drop, check):
     """An office whose opening took over half of the memory that the program may have is told at the start, and served."""
-    library, file = kit.library(drop.folder, "ci/system.c"), open_office(drop, "memory")
+    library, file = kit.library("ci/system.c"), open_office(drop, "memory")
     for at, (name, files, memory) in enumerate(MEMORY):
         server = Server(drop, file, 1)
         server.own = system(drop, library, f"system-{at}", files)
         server.words += ["--manifest", drop.path("memory.csv")] if at % 2 else []
         with server:
-            count.add(f"{name}: a connection", difference(server.ask(), b""))
+            check(f"{name}: a connection", difference(server.ask(), b""))
             err = b"" if memory is None else warned(file.stat().st_size, 300_000 * 1024, memory)
-            count.add(f"{name}: the end", difference(server.end(), server.owed_end(False, err)))
+            check(f"{name}: the end", difference(server.end(), server.owed_end(False, err)))
     server = Server(drop, file, 1)
-    with open("/dev/full", "wb", buffering=0) as full:
+    with full_disk() as full:
         server.own = system(drop, library, "system-full", TAKEN | total(1)) | {"stderr": full}
         with server:
-            count.add("a line that can't be written: a connection", difference(server.ask(), b""))
-            count.add("a line that can't be written: the end", difference(server.end(), server.owed_end(False)))
+            check("a line that can't be written: a connection", difference(server.ask(), b""))
+            check("a line that can't be written: the end", difference(server.end(), server.owed_end(False)))
 
 
-def test_growth(drop, count):
+def test_growth(drop, check):
     """An office that grows over half of the memory is told so once, while it is served; and at its next start."""
-    library, file, memory = kit.library(drop.folder, "ci/system.c"), open_office(drop, "grown"), 100 * MEGABYTE
+    library, file, memory = kit.library("ci/system.c"), open_office(drop, "grown"), 100 * MEGABYTE
     own = system(drop, library, "system-grown", GROUP | bounds(own=memory))
     server, data = Server(drop, file, 30), b"g" * LIMIT
     server.own = own
@@ -511,31 +416,23 @@ def test_growth(drop, count):
     with server:
         done = 0
         while done < len(puts) and file.stat().st_size <= memory // 2:
-            count.add(f"PUT {done}", difference(server.ask(puts[done]), receipt(done + 1, data)))
+            check(f"PUT {done}", difference(server.ask(puts[done]), receipt(done + 1, data)))
             done += 1
-        count.add("it has grown", None if file.stat().st_size > memory // 2 else f"{file.stat().st_size} bytes")
+        check("it has grown", None if file.stat().st_size > memory // 2 else f"{file.stat().st_size} bytes")
         for _ in range(3):
             time.sleep(1.1)
-            count.add("GET", difference(server.ask(get), fetched(1, data)))
+            check("GET", difference(server.ask(get), fetched(1, data)))
         line, length = warned(*[file.stat().st_size] * 2, memory), file.stat().st_size
         there, _, _ = select.select([server.process.stderr], [], [], SECONDS)
         found = os.read(server.process.stderr.fileno(), 4096) if there else b""
-        count.add("the line while it is served", difference(found, line))
+        check("the line while it is served", difference(found, line))
         for _ in range(30 - done - 3):
             server.ask()
-        count.add("the end", difference(server.end(), server.owed_end(False)))
+        check("the end", difference(server.end(), server.owed_end(False)))
     again = Server(drop, file, 1)
     again.own = own
     with again:
-        count.add("the next start: a connection", difference(again.ask(), b""))
+        check("the next start: a connection", difference(again.ask(), b""))
         owed = again.owed_end(False, warned(file.stat().st_size, file.stat().st_size, memory))
-        count.add("the next start", difference(again.end(), owed))
-    count.add("no byte was lost", None if file.stat().st_size >= length else f"{file.stat().st_size} bytes")
-
-
-TESTS = [test_words, test_faults, test_curl, test_boto3, test_bytes, test_nonsense, test_broken, test_patience,
-         test_killed, test_closed, test_manifest, test_lost_manifest, test_settings, test_memory, test_growth]
-
-
-if __name__ == "__main__":
-    run_all(TESTS)
+        check("the next start", difference(again.end(), owed))
+    check("no byte was lost", None if file.stat().st_size >= length else f"{file.stat().st_size} bytes")

@@ -2,7 +2,7 @@
 it, and drives both over TLS. Then it does what docs/DEPLOY.md says, line by line, in a folder that stands for the machine.
 
 Both are run by ci/nginx.py. What is owed comes from Python's `hashlib`, the table of refusals in docs/RULES.md, and links
-that boto3 makes. The last line is `N passed, M failed`.
+that boto3 makes.
 """
 
 import contextlib
@@ -21,12 +21,11 @@ import kit
 import tables
 from browser import Browser, until
 from clerking import begin, saved, send
-from expected import refusal
+from expected import ID, LIMIT, receipt, refusal
 from front import asked
-from nginx import HOST, PAGE, SECONDS, Front, Office, answered, certificate, paths_of, replaced
-from office import CANNOT_OPEN, difference, receipt, run_all
-from replays import ID
-from serve import boto_client, open_office
+from nginx import HOST, PAGE, SECONDS, Front, Office, certificate, next_answer, paths_of, replaced
+from program import CANNOT_OPEN, difference
+from server import boto_client, open_office
 from shown import Case, lacks, of, receipt_facts
 
 DEPLOY = kit.ROOT / "deploy"
@@ -39,7 +38,6 @@ PAGES = {**{f"{it}.html": "text/html; charset=utf-8" for it in ["put", "get", "c
 # What comes with each answer of the front.
 FIELDS = {"Cache-Control": "no-store", "Referrer-Policy": "no-referrer", "X-Content-Type-Options": "nosniff",
           "X-Frame-Options": "DENY"}
-LIMIT = 8 << 20
 MOST_EXPOSED = 12  # tenths, as systemd-analyze counts
 AWAY = (502, b"the office does not answer: try again\n")
 IN_THE_CLEAR = (403, b"https: alone is served here, and a link is the same behind it\n")
@@ -71,35 +69,35 @@ NAMES = ["a.txt", "a b/é.txt", "a%2Fb", "a/b//c", "//", "..", "../a", "a/../b",
          "q" * 1024]
 
 
-def test_names(front, count):
+def add_names(front, check):
     """Links of boto3: the target and the Host arrive as they were signed."""
     for number, name in enumerate(NAMES, 1):
         data = name.encode() * number
         found = front.said("PUT", front.link("PUT", name), data)
-        count.add(f"PUT {name[:20]}", difference(found, owed_receipt(number, data)))
+        check(f"PUT {name[:20]}", difference(found, owed_receipt(number, data)))
         _, body = owed_receipt(number, data)
         digest = body.split()[3].decode()
         for method in ["GET", "HEAD"]:
             status, body, fields = front.ask(method, front.link(method, name))
             found = status, fields["X-Drop-Receipt"], fields["X-Drop-Sha256"], fields["Content-Length"], body
             owed = 200, str(number), digest, str(len(data)), data if method == "GET" else b""
-            count.add(f"{method} {name[:20]}", difference(found, owed))
+            check(f"{method} {name[:20]}", difference(found, owed))
     target = front.link("GET", "a.txt")
-    count.add("another signature", difference(front.said("GET", target[:-1] + "01"[target[-1] == "0"]), owed_refusal(21)))
-    count.add("another name", difference(front.said("GET", target.replace("/a.txt", "/b.txt")), owed_refusal(21)))
+    check("another signature", difference(front.said("GET", target[:-1] + "01"[target[-1] == "0"]), owed_refusal(21)))
+    check("another name", difference(front.said("GET", target.replace("/a.txt", "/b.txt")), owed_refusal(21)))
     found = front.said("GET", target, fields={"Host": HOST}.items())
-    count.add("another Host", difference(found, owed_refusal(21)))
-    count.add("no file", difference(front.said("GET", front.link("GET", "none")), owed_refusal(34)))
-    count.add("no file, HEAD", difference(front.said("HEAD", front.link("HEAD", "none")), (404, b"")))
-    count.add("no box", difference(front.said("GET", front.link("GET", "a", box="none")), owed_refusal(27)))
-    count.add("no length", difference(front.raw(head_of(front, "PUT", front.link("PUT", "new"))), owed_refusal(25)))
-    count.add("not signed", difference(front.said("GET", "/"), owed_refusal(9)))
+    check("another Host", difference(found, owed_refusal(21)))
+    check("no file", difference(front.said("GET", front.link("GET", "none")), owed_refusal(34)))
+    check("no file, HEAD", difference(front.said("HEAD", front.link("HEAD", "none")), (404, b"")))
+    check("no box", difference(front.said("GET", front.link("GET", "a", box="none")), owed_refusal(27)))
+    check("no length", difference(front.raw(head_of(front, "PUT", front.link("PUT", "new"))), owed_refusal(25)))
+    check("not signed", difference(front.said("GET", "/"), owed_refusal(9)))
     for name in ["x-amz-a", "x-amz-a_b", "x-amz-a!"]:
-        count.add(f"a field {name}", difference(front.said("GET", target, fields=[(name, "1")]), owed_refusal(18)))
-    count.add("another method", difference(front.said("DELETE", target), owed_refusal(7)))
+        check(f"a field {name}", difference(front.said("GET", target, fields=[(name, "1")]), owed_refusal(18)))
+    check("another method", difference(front.said("DELETE", target), owed_refusal(7)))
     for asked_for in [target, "/"]:
         _, _, fields = front.ask("GET", asked_for)
-        count.add(f"fields with {asked_for[:9]}", difference({it: fields[it] for it in FIELDS}, FIELDS))
+        check(f"fields with {asked_for[:9]}", difference({it: fields[it] for it in FIELDS}, FIELDS))
 
 
 def head_of(front, method, target, *lines):
@@ -107,22 +105,22 @@ def head_of(front, method, target, *lines):
     return "\r\n".join([f"{method} {target} HTTP/1.1", f"Host: {front.host}", *lines, "", ""]).encode()
 
 
-def test_climbing(front, count):
+def add_climbing(front, check):
     """What docs/DEPLOY.md says of names that climb out of their box: they don't reach the office."""
     for name in ["../../a", "a/../../../b"]:
         status, _ = front.said("GET", front.link("GET", name))
-        count.add(f"GET {name}", difference(status, 400))
+        check(f"GET {name}", difference(status, 400))
 
 
-def test_bodies(front, count):
+def add_bodies(front, check):
     """Bodies up to the greatest, however they are sent."""
     data = bytes(range(256)) * 4096
     pieces = [data[at:at + 30000] for at in range(0, len(data), 30000)]
     status, body = front.said("PUT", front.link("PUT", "chunks"), iter(pieces), [("Transfer-Encoding", "chunked")])
     number = int(body.split()[1]) if status == 200 else 0
-    count.add("in chunks", difference((status, body), owed_receipt(number, data)))
+    check("in chunks", difference((status, body), owed_receipt(number, data)))
     found = front.said("PUT", front.link("PUT", "no-chunk"), iter([]), [("Transfer-Encoding", "chunked")])
-    count.add("no chunk", difference(found, owed_receipt(number + 1, b"")))
+    check("no chunk", difference(found, owed_receipt(number + 1, b"")))
     for letter, size, expects in [("e", LIMIT, True), ("f", LIMIT, False), ("g", LIMIT + 1, True),
                                   ("h", LIMIT + 1, False), ("i", 3 * LIMIT, False)]:
         file = front.folder / f"{letter}.bin"
@@ -138,16 +136,16 @@ def test_bodies(front, count):
         else:
             number += 2 if expects else 1
             owed = 0, *owed_receipt(number, file.read_bytes())
-        count.add(f"{size} bytes, Expect {expects}", difference(found, owed))
+        check(f"{size} bytes, Expect {expects}", difference(found, owed))
         if expects:
             said = "HTTP/1.1 100 Continue" in goes_on.decode()
-            count.add(f"{size} bytes: 100 is said", difference(said, size == LIMIT))
+            check(f"{size} bytes: 100 is said", difference(said, size == LIMIT))
     found = front.raw(head_of(front, "PUT", front.link("PUT", "much"), "Transfer-Encoding: chunked")
                       + b"800001\r\n" + bytes(LIMIT + 1) + b"\r\n0\r\n\r\n")
-    count.add("too much in chunks", difference(found, owed_refusal(5)))
+    check("too much in chunks", difference(found, owed_refusal(5)))
 
 
-def test_heads(front, count):
+def add_heads(front, check):
     """Heads that are too long, for nginx and for the office: one refusal for both."""
     target = front.link("GET", "a.txt")
     for name, head in [
@@ -156,21 +154,21 @@ def test_heads(front, count):
         ("two fields of 4500 bytes", head_of(front, "GET", target, *["Long: " + "a" * 4500] * 2)),
         ("ten fields of 4500 bytes", head_of(front, "GET", target, *["Long: " + "a" * 4500] * 10)),
     ]:
-        count.add(name, difference(front.raw(head), owed_refusal(2)))
+        check(name, difference(front.raw(head), owed_refusal(2)))
     found = front.raw(head_of(front, "GET", target, "Long: " + "a" * 7000))
-    count.add("a field of 7000 bytes", difference(found[0], 200))
+    check("a field of 7000 bytes", difference(found[0], 200))
     found = front.raw(head_of(front, "GET", target, *["A: b"] * 70))
-    count.add("seventy fields", difference(found, owed_refusal(1)))
+    check("seventy fields", difference(found, owed_refusal(1)))
 
 
 # ---- slow peers
 
 
-def others_are_answered(front, name, count, between=range(3)):
+def others_are_answered(front, name, check, between=range(3)):
     """In the meantime: each is answered, while the slow ones are there."""
     target = front.link("GET", "a.txt")
     found = [front.said("GET", target) for _ in between]
-    count.add(f"{name}: others are answered", difference(found, [(200, b"a.txt")] * len(found)))
+    check(f"{name}: others are answered", difference(found, [(200, b"a.txt")] * len(found)))
 
 
 def is_let_go(it):
@@ -191,35 +189,35 @@ def a_byte_a_second(it, data):
         it.sendall(data[at:at + 1])
 
 
-def test_slow(front, count):
+def add_slow(front, check):
     """Peers that are slow, each beside one that is not."""
     data = b"slow"
     with front.connect() as it:
         head = head_of(front, "PUT", front.link("PUT", "slow"), f"Content-Length: {len(data)}", "Connection: close")
         it.sendall(head)
-        others_are_answered(front, "a byte a second", count, a_byte_a_second(it, data))
-        status, body = answered(it)
+        others_are_answered(front, "a byte a second", check, a_byte_a_second(it, data))
+        status, body = next_answer(it)
         number = int(body.split()[1]) if status == 200 else 0
-        count.add("the slow one", difference((status, body), owed_receipt(number, data)))
+        check("the slow one", difference((status, body), owed_receipt(number, data)))
     with contextlib.ExitStack() as stack:
         silent = [stack.enter_context(front.connect()) for _ in range(8)]
         silent += [stack.enter_context(socket.create_connection(("127.0.0.1", front.port), SECONDS)) for _ in range(8)]
         silent[0].sendall(head[:-2])
-        others_are_answered(front, "silent peers", count)
-        count.add("silent peers are still there", difference([is_let_go(it) for it in silent], [False] * 16))
+        others_are_answered(front, "silent peers", check)
+        check("silent peers are still there", difference([is_let_go(it) for it in silent], [False] * 16))
     with contextlib.ExitStack() as stack:
         slow = [stack.enter_context(contextlib.closing(front.begin("GET", front.link("GET", "e.bin"), buffer=4096)))
                 for _ in range(4)]
         answers = [it.getresponse() for it in slow]
-        others_are_answered(front, "peers that take nothing", count)
+        others_are_answered(front, "peers that take nothing", check)
         whole = [it.read() == b"e" * LIMIT for it in answers]
-        count.add("peers that take all at last", None if all(whole) else f"{whole}")
+        check("peers that take all at last", None if all(whole) else f"{whole}")
 
 
 # ---- pages, and what is not served
 
 
-def test_pages(front, count):
+def add_pages(front, check):
     """The pages and what they are made of, each at its own path alone, and nothing in the clear."""
     folder = front.folder / "drop"
     folder.mkdir()
@@ -229,16 +227,16 @@ def test_pages(front, count):
     for name in PAGES:
         status, body, fields = front.ask("GET", f"/{name}")
         found = status, body, fields["Content-Type"]
-        count.add(name, difference(found, (200, (folder / name).read_bytes(), PAGES[name])))
-        count.add(f"{name}, fields", difference({it: fields[it] for it in FIELDS}, FIELDS))
-    count.add("all of the page is served", difference(sorted(PAGES), sorted(it.name for it in (kit.ROOT / "page").iterdir())))
+        check(name, difference(found, (200, (folder / name).read_bytes(), PAGES[name])))
+        check(f"{name}, fields", difference({it: fields[it] for it in FIELDS}, FIELDS))
+    check("all of the page is served", difference(sorted(PAGES), sorted(it.name for it in (kit.ROOT / "page").iterdir())))
     others = ["/other.html", "/", "/put.html/", "/put.html/a", "//put.html", "/drop/put.html", "/html/put.html",
               "/.well-known/acme-challenge/a"]
     for path in others:
-        count.add(f"the office answers {path}", difference(front.said("GET", path), owed_refusal(9)))
+        check(f"the office answers {path}", difference(front.said("GET", path), owed_refusal(9)))
     found = front.said("GET", front.link("GET", "../put.html"))
-    count.add("a name that comes out at a page", difference(found, (200, (folder / "put.html").read_bytes())))
-    count.add("what is nginx's own", difference(front.said("GET", "/.head")[0], 404))
+    check("a name that comes out at a page", difference(found, (200, (folder / "put.html").read_bytes())))
+    check("what is nginx's own", difference(front.said("GET", "/.head")[0], 404))
     challenge = front.folder / "html" / ".well-known" / "acme-challenge"
     challenge.mkdir(parents=True)
     (challenge / "abc").write_bytes(b"abc")
@@ -249,13 +247,13 @@ def test_pages(front, count):
             answer = it.getresponse()
             return answer.status, answer.read()
 
-    count.add("a challenge in the clear", difference(in_the_clear("/.well-known/acme-challenge/abc"), (200, b"abc")))
+    check("a challenge in the clear", difference(in_the_clear("/.well-known/acme-challenge/abc"), (200, b"abc")))
     target = front.link("GET", "a.txt")
-    count.add("a link in the clear", difference(in_the_clear(target), IN_THE_CLEAR))
-    count.add("a page in the clear", difference(in_the_clear("/put.html"), IN_THE_CLEAR))
+    check("a link in the clear", difference(in_the_clear(target), IN_THE_CLEAR))
+    check("a page in the clear", difference(in_the_clear("/put.html"), IN_THE_CLEAR))
 
 
-def test_browser(drop, front, office, count):
+def add_browser(drop, front, office, check):
     """A stranger's way: a file is sent by put.html and fetched by get.html, in chromium over TLS."""
     data, folder = bytes(range(256)) * 300, drop.path("browser")
     folder.mkdir()
@@ -265,28 +263,28 @@ def test_browser(drop, front, office, count):
         case = Case(drop, office, front, browser, {}, None)
         found = case.put(f"https://{front.host}{targets['PUT']}", "mine.bin", data)
         owed = receipt_facts(found["facts"].get("number"), data)
-        count.add("put.html", difference((found["kind"], of(found, owed)), ("receipt", owed)))
-        count.add("put.html, digests", lacks(found["checked"], "Checked: length and SHA-256"))
+        check("put.html", difference((found["kind"], of(found, owed)), ("receipt", owed)))
+        check("put.html, digests", lacks(found["checked"], "Checked: length and SHA-256"))
         by_hand = front.said("PUT", targets["PUT"], data)
-        count.add("the same receipt by hand", difference(by_hand, owed_receipt(owed["number"], data)))
+        check("the same receipt by hand", difference(by_hand, owed_receipt(owed["number"], data)))
         found = case.fetch(f"https://{front.host}{targets['GET']}")
-        count.add("get.html", difference((found["kind"], of(found, owed)), ("fetched", owed)))
-        count.add("get.html, digests", lacks(found["checked"], "Checked: length and SHA-256"))
+        check("get.html", difference((found["kind"], of(found, owed)), ("fetched", owed)))
+        check("get.html, digests", lacks(found["checked"], "Checked: length and SHA-256"))
         case.click("#save")
-        count.add("what is saved", difference(browser.downloaded(set()).read_bytes(), data))
+        check("what is saved", difference(browser.downloaded(set()).read_bytes(), data))
         begin(case)
         found = send(case, "drop_file", box="in", name="dir/a stranger's file")
-        count.add("clerk.html, a command", difference(found["kind"], "done"))
-        count.add("clerk.html, it was done", difference(front.said("GET", targets["GET"]), owed_refusal(34)))
+        check("clerk.html, a command", difference(found["kind"], "done"))
+        check("clerk.html, it was done", difference(front.said("GET", targets["GET"]), owed_refusal(34)))
         send(case, "links", box="in", names="a.txt", get=True)
         address = saved(case)[0][0]["page"]
         page, _, link = address.partition("#")
         where = page, link.partition("?")[0]
-        count.add("clerk.html, an address", difference(where, (f"https://{front.host}/get.html", f"http://{front.host}/in/a.txt")))
-        count.add("clerk.html, its link", difference(case.fetch(link)["kind"], "fetched"))
+        check("clerk.html, an address", difference(where, (f"https://{front.host}/get.html", f"http://{front.host}/in/a.txt")))
+        check("clerk.html, its link", difference(case.fetch(link)["kind"], "fetched"))
 
 
-def test_network(front, post, count):
+def add_network(front, post, check):
     """The clerk's page and the commands of the desk, kept to a network by the lines of the page; all else is served as before."""
     lines = re.search(r"drop-clerk\.conf <<'END'\n(.*?)^END$", PAGE.read_text(), re.MULTILINE | re.DOTALL)[1]
     target, snippet = front.link("GET", "a.txt"), front.folder / "drop-clerk.conf"
@@ -297,31 +295,31 @@ def test_network(front, post, count):
         return [front.said(method, path)[0] for method, path in asks]
 
     snippet.write_text(replaced(lines, [("allow 127.0.0.1;", "allow 192.0.2.1;")]))
-    count.add("from elsewhere", difference(found(), [403, 403, 403, 200, 200]))
-    count.add("from elsewhere, an upload", difference(front.said("PUT", front.link("PUT", "network"), b"network")[0], 200))
+    check("from elsewhere", difference(found(), [403, 403, 403, 200, 200]))
+    check("from elsewhere, an upload", difference(front.said("PUT", front.link("PUT", "network"), b"network")[0], 200))
     snippet.write_text(lines)
-    count.add("from the own network", difference(found(), [200] * 5))
+    check("from the own network", difference(found(), [200] * 5))
     snippet.unlink()
-    count.add("from anywhere", difference(found(), [200, 200, 400, 200, 200]))
+    check("from anywhere", difference(found(), [200, 200, 400, 200, 200]))
 
 
 # ---- an office that is away
 
 
-def test_away(front, office, count):
+def add_away(front, office, check):
     """An office that is killed, under nginx that goes on."""
     put, get = front.link("PUT", "away"), front.link("GET", "away")
     status, body = front.said("PUT", put, b"before")
     number = int(body.split()[1]) if status == 200 else 0
-    count.add("before", difference((status, body), owed_receipt(number, b"before")))
+    check("before", difference((status, body), owed_receipt(number, b"before")))
     office.stop(signal.SIGKILL)
-    count.add("GET while it is away", difference(front.said("GET", get), AWAY))
+    check("GET while it is away", difference(front.said("GET", get), AWAY))
     late = front.link("PUT", "late")
-    count.add("PUT while it is away", difference(front.said("PUT", late, b"late"), AWAY))
-    count.add("it starts again", office.start())
-    count.add("GET behind it", difference(front.said("GET", get), (200, b"before")))
-    count.add("the same PUT", difference(front.said("PUT", put, b"before"), owed_receipt(number, b"before")))
-    count.add("the late PUT", difference(front.said("PUT", late, b"late"), owed_receipt(number + 1, b"late")))
+    check("PUT while it is away", difference(front.said("PUT", late, b"late"), AWAY))
+    check("it starts again", office.start())
+    check("GET behind it", difference(front.said("GET", get), (200, b"before")))
+    check("the same PUT", difference(front.said("PUT", put, b"before"), owed_receipt(number, b"before")))
+    check("the late PUT", difference(front.said("PUT", late, b"late"), owed_receipt(number + 1, b"late")))
 
 
 # ---- the log
@@ -330,7 +328,7 @@ def test_away(front, office, count):
 ROW = re.compile(r'127\.0\.0\.1 \S+T\S+ (\S+) ([A-Z]+|-) "([^"]*)" (\d{3}) \d+ \d+ [0-9.]+ (\S+)')
 
 
-def test_log(front, count, secret):
+def add_log(front, check, secret):
     """Who asked what, and with which status; and nowhere what makes a link good."""
     log = front.folder / "drop.log"
     owed = [(ID, "PUT", "/in/a.txt", "200", "200"), (ID, "GET", "/in/a.txt", "200", "200"),
@@ -341,22 +339,22 @@ def test_log(front, count, secret):
     lines = log.read_text().splitlines()
     rows = [ROW.fullmatch(line) for line in lines]
     odd = [line for line, row in zip(lines, rows) if not row]
-    count.add("each line has its form", f"{odd[:3]}" if odd else None)
+    check("each line has its form", f"{odd[:3]}" if odd else None)
     found = {row.groups() for row in rows if row}
     for row in owed:
-        count.add(f"the log tells {row}", None if row in found else "it is not there")
-    count.add("the log tells each request", None if len(lines) >= len(front.links) else f"{len(lines)} lines")
+        check(f"the log tells {row}", None if row in found else "it is not there")
+    check("the log tells each request", None if len(lines) >= len(front.links) else f"{len(lines)} lines")
     signatures = {it for link in front.links for it in re.findall(r"X-Amz-Signature=(\w{8})", link)}
     kept = {it: it.read_bytes() for it in front.folder.glob("*.log")}
     hidden = [b"X-Amz-", secret, *(it.encode() for it in signatures)]
     told = [it.name for it, data in kept.items() if any(word in data for word in hidden)]
-    count.add("signatures are looked for", None if len(signatures) >= 40 else f"{len(signatures)}")
-    count.add("the logs hold no signature", f"{told}" if told else None)
+    check("signatures are looked for", None if len(signatures) >= 40 else f"{len(signatures)}")
+    check("the logs hold no signature", f"{told}" if told else None)
     others = [it.name for it, data in kept.items() if data and it != log]
-    count.add("no other log was written", f"{others}" if others else None)
+    check("no other log was written", f"{others}" if others else None)
 
 
-def test_front(drop, count):
+def test_front(drop, check):
     """An office behind nginx, from its start to its end."""
     file = open_office(drop, "office")
     certificate(drop.folder)
@@ -365,67 +363,67 @@ def test_front(drop, count):
         places = [("/usr/share/drop/page", drop.folder / "drop"), *((it, drop.folder) for it in folders), ("HOST", HOST)]
         words = front.configure(DEPLOY / "nginx.conf", places, drop.folder / "fullchain.pem")
         ran = kit.run([*words, "-t"])
-        count.add("nginx takes the file", None if ran.status == 0 and b"warn" not in ran.err else f"{ran}")
+        check("nginx takes the file", None if ran.status == 0 and b"warn" not in ran.err else f"{ran}")
         plain = {method: target_of(drop, front, file, method, "out.1-2/p q%") for method in ["PUT", "GET"]}
         secret = b"s3cr3t-of-a-key"
         post, late = [target_of(drop, front, file, "POST", f"key add {it} link {secret.decode()}") for it in ["k9", "k8"]]
-        count.add("the office starts", office.start())
+        check("the office starts", office.start())
         front.start()
-        test_names(front, count)
-        test_climbing(front, count)
+        add_names(front, check)
+        add_climbing(front, check)
         number = len(NAMES) + 1
-        count.add("a link for http", difference(front.said("PUT", plain["PUT"], b"plain"), owed_receipt(number, b"plain")))
-        count.add("a link for http, GET", difference(front.said("GET", plain["GET"]), (200, b"plain")))
-        count.add("a command", difference(front.said("POST", post), (200, b"done\n")))
-        test_bodies(front, count)
-        test_heads(front, count)
-        test_slow(front, count)
-        test_pages(front, count)
-        test_browser(drop, front, office, count)
-        test_network(front, late, count)
-        test_away(front, office, count)
-        test_log(front, count, secret)
-    count.add("integrity", difference(tables.rows(file, "PRAGMA integrity_check"), [("ok",)]))
+        check("a link for http", difference(front.said("PUT", plain["PUT"], b"plain"), owed_receipt(number, b"plain")))
+        check("a link for http, GET", difference(front.said("GET", plain["GET"]), (200, b"plain")))
+        check("a command", difference(front.said("POST", post), (200, b"done\n")))
+        add_bodies(front, check)
+        add_heads(front, check)
+        add_slow(front, check)
+        add_pages(front, check)
+        add_browser(drop, front, office, check)
+        add_network(front, late, check)
+        add_away(front, office, check)
+        add_log(front, check, secret)
+    check("integrity", difference(tables.rows(file, "PRAGMA integrity_check"), [("ok",)]))
 
 
 # ---- the unit
 
 
-def test_unit(drop, count):
+def test_unit(drop, check):
     """What systemd says of the unit: it has no fault, and few rights."""
     unit = drop.path("drop.service")
     text = UNIT.read_text()
     unit.write_text(replaced(text, [("=/usr/bin/drop serve", f"={drop.program} serve")]))
     for line in ["StartLimitIntervalSec=0", "Restart=always", "RestartSec=1", "MemoryMax=80%", "OOMPolicy=stop"]:
-        count.add(line, None if line in text.splitlines() else "the unit does not say it")
+        check(line, None if line in text.splitlines() else "the unit does not say it")
     ran = kit.run(["systemd-analyze", "verify", unit])
     faults = [line for line in ran.err.decode().splitlines() if unit.name in line]
-    count.add("the unit's words", f"{faults or ran}" if ran.status or faults else None)
+    check("the unit's words", f"{faults or ran}" if ran.status or faults else None)
     ran = kit.run(["systemd-analyze", "security", "--offline=yes", "--no-pager", f"--threshold={MOST_EXPOSED}", unit])
-    count.add("the unit's rights", None if ran.status == 0 else ran.out.decode().splitlines()[-1])
+    check("the unit's rights", None if ran.status == 0 else ran.out.decode().splitlines()[-1])
 
 
-def test_restart(drop, count):
+def test_restart(drop, check):
     """What the unit runs ends with 0 behind its last connection. Then, and killed as it serves, it can be started again."""
     paths = [*paths_of(drop, open_office(drop, "office")), ("--connections 1000000", "--connections 2")]
     with Office(UNIT, drop.folder, paths) as office:
         def serves(name, method, file, data, owed):
             status, _, body = asked(link_past(office, method, file), method, data)
-            count.add(f"{name}: {method} {file}", difference((status, body), owed))
+            check(f"{name}: {method} {file}", difference((status, body), owed))
 
         for start in ["the first start", "the second start"]:
-            count.add(start, office.start())
+            check(start, office.start())
             serves(start, "PUT", "a.txt", b"kept", owed_receipt(1, b"kept"))
             serves(start, "GET", "a.txt", None, (200, b"kept"))
-            count.add(f"the end behind {start}", difference(office.end(), 0))
-        count.add("the third start", office.start())
-        count.add("a refusal", ended_by(office))
-        count.add("it is killed as it serves", killed_within(office))
+            check(f"the end behind {start}", difference(office.end(), 0))
+        check("the third start", office.start())
+        check("a refusal", ended_by(office))
+        check("it is killed as it serves", killed_within(office))
         start = "the start behind a kill"
-        count.add(start, office.start())
+        check(start, office.start())
         serves(start, "GET", "a.txt", None, (200, b"kept"))
         serves(start, "PUT", "b.txt", b"whole", owed_receipt(2, b"whole"))
-        count.add(f"the end behind {start}", difference(office.end(), 0))
+        check(f"the end behind {start}", difference(office.end(), 0))
 
 
 def link_past(office, method, file):
@@ -438,7 +436,7 @@ def ended_by(office):
     """A connection that the office is the first to end: for a while the system then has its port in use."""
     with socket.create_connection(("127.0.0.1", office.port), SECONDS) as it:
         it.sendall(b"\r\n\r\n")
-        found = *answered(it), it.recv(1)
+        found = *next_answer(it), it.recv(1)
     return difference(found, (*owed_refusal(1), b""))
 
 
@@ -482,8 +480,8 @@ exec /usr/bin/install "$@"
 class Machine:
     """A folder that stands for a machine: what the page asks of systemd and nginx is done by this test."""
 
-    def __init__(self, drop, count):
-        self.drop, self.count, self.root = drop, count, drop.folder
+    def __init__(self, drop, check):
+        self.drop, self.check, self.root = drop, check, drop.folder
         self.stack, self.office, self.front = contextlib.ExitStack(), None, None
         for name in ["bin", "tmp", "copy", "root", "etc/nginx/sites-available",
                      "etc/nginx/sites-enabled", "etc/nginx/snippets", "var/log/nginx", "var/www/html", "var/lib", "var/backups"]:
@@ -525,7 +523,7 @@ class Machine:
             except Exception as error:
                 fault = repr(error)
             if not words.startswith("between"):
-                self.count.add(words[:60], fault)
+                self.check(words[:60], fault)
             (self.root / "told").write_text(f"{int(bool(fault))}\n")
 
     def do(self, words):
@@ -553,7 +551,7 @@ class Machine:
         return "nobody does this"
 
     def install(self, file):
-        """What the package does, but for its user: its own test is ci/package.py."""
+        """What the package does, but for its user: its own test is ci/test_package.py."""
         if self.office:
             self.office.stop()
         ran = kit.run(["dpkg-deb", "-x", file, self.root])
@@ -583,41 +581,41 @@ class Machine:
 
     def backed_up(self):
         """Behind the backup: another upload, and what nobody else may do while the office is served."""
-        self.count.add("a later upload", difference(self.asked("PUT", "later.txt", b"later"), owed_receipt(2, b"later")))
+        self.check("a later upload", difference(self.asked("PUT", "later.txt", b"later"), owed_receipt(2, b"later")))
         file, copy = self.path("/var/lib/drop/office"), self.root / "copy.db"
         ran = kit.run(["sqlite3", file, f".backup {copy}"])
         well = ran.status and b"database is locked" in ran.err and copy.stat().st_size == 0
-        self.count.add(".backup while it serves", None if well else f"{ran}")
-        self.count.add("manifest while it serves", difference(self.drop.run("manifest", file), CANNOT_OPEN))
+        self.check(".backup while it serves", None if well else f"{ran}")
+        self.check("manifest while it serves", difference(self.drop.run("manifest", file), CANNOT_OPEN))
         modes = [oct(stat.S_IMODE(it.stat().st_mode)) for it in file.parent.iterdir()]
-        self.count.add("office, journal and secret, and their rights", difference(modes, [oct(0o600)] * 3))
+        self.check("office, journal and secret, and their rights", difference(modes, [oct(0o600)] * 3))
         log = self.path("/var/log/nginx/drop.log").stat()
         found = (oct(stat.S_IMODE(log.st_mode)), log.st_size > 0)
-        self.count.add("the log's rights", difference(found, (oct(0o640), True)))
+        self.check("the log's rights", difference(found, (oct(0o640), True)))
 
     def restored(self):
         """Behind the restore: the office is that of the backup."""
-        self.count.add("the first file", difference(self.asked("GET", "hello.txt"), (200, b"hello\n")))
-        self.count.add("the later file", difference(self.asked("GET", "later.txt"), owed_refusal(34)))
-        self.count.add("the next number", difference(self.asked("PUT", "new.txt", b"new"), owed_receipt(2, b"new")))
+        self.check("the first file", difference(self.asked("GET", "hello.txt"), (200, b"hello\n")))
+        self.check("the later file", difference(self.asked("GET", "later.txt"), owed_refusal(34)))
+        self.check("the next number", difference(self.asked("PUT", "new.txt", b"new"), owed_receipt(2, b"new")))
         file, copy = self.path("/var/lib/drop/office"), self.root / "stopped.db"
         self.office.stop()
         ran = kit.run(["sqlite3", file, f".backup {copy}"])
-        self.count.add(".backup while it is stopped", difference(ran, kit.Run(0, b"", b"")))
-        self.count.add("the same manifest", difference(self.drop.run("manifest", copy), self.drop.run("manifest", file)))
+        self.check(".backup while it is stopped", difference(ran, kit.Run(0, b"", b"")))
+        self.check("the same manifest", difference(self.drop.run("manifest", copy), self.drop.run("manifest", file)))
         return self.office.start()
 
 
     def gone_on(self):
         """Behind the second office's start: it has nothing of the first, whose links to put hold on, and the first is whole."""
-        self.count.add("the first's file", difference(self.asked("GET", "hello.txt"), owed_refusal(34)))
-        self.count.add("the second's number", difference(self.asked("PUT", "hello.txt", b"second"), owed_receipt(1, b"second")))
+        self.check("the first's file", difference(self.asked("GET", "hello.txt"), owed_refusal(34)))
+        self.check("the second's number", difference(self.asked("PUT", "hello.txt", b"second"), owed_receipt(1, b"second")))
         ran = self.drop.run("manifest", self.path("/var/lib/drop/first/office"))
         rows = [line.split(",")[:3] for line in ran.out.decode().splitlines()]
-        self.count.add("the first's receipts", difference(rows[1:], [["1", "in", "hello.txt"], ["2", "in", "new.txt"]]))
+        self.check("the first's receipts", difference(rows[1:], [["1", "in", "hello.txt"], ["2", "in", "new.txt"]]))
 
 
-def test_page(drop, count):
+def test_page(drop, check):
     """The lines of the page, in their order; and what it shows as their output."""
     found = re.findall(r"^```(sh)?\n(.*?)^```$", PAGE.read_text(), re.MULTILINE | re.DOTALL)
     script, owed = [], {}
@@ -628,20 +626,13 @@ def test_page(drop, count):
             script += [f"echo '@@ {at}'", text.rstrip("\n"), *([f"between {behind}"] if behind else [])]
         else:
             owed[at - 1] = text
-    machine = Machine(drop, count)
+    machine = Machine(drop, check)
     with machine.stack:
         ran = machine.run(machine.here("\n".join(script)))
-        count.add("the page's lines", None if ran.status == 0 else f"{ran}")
+        check("the page's lines", None if ran.status == 0 else f"{ran}")
     said = dict(re.findall(r"^@@ (\d+)\n((?:(?!@@ ).*\n?)*)", ran.out.decode(), re.MULTILINE))
-    count.add("blocks with an output", difference(len(owed), 2))
+    check("blocks with an output", difference(len(owed), 2))
     for at, text in owed.items():
-        count.add(f"what block {at} prints", difference(said.get(str(at)), text))
+        check(f"what block {at} prints", difference(said.get(str(at)), text))
     digest = owed_receipt(1, b"hello\n")[1].decode()
-    count.add("the page's receipt", None if digest in "".join(owed.values()) else digest)
-
-
-TESTS = [test_unit, test_restart, test_page, test_front]
-
-
-if __name__ == "__main__":
-    run_all(TESTS)
+    check("the page's receipt", None if digest in "".join(owed.values()) else digest)

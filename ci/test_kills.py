@@ -6,10 +6,9 @@ it; what a client was told stands; and what stands beyond that was sent whole by
 program goes on, and each client asks again what it got no answer to.
 
 What is owed comes from what the clients sent and were told, and from Python's `hashlib` and `hmac` (ci/expected.py,
-ci/listed.py). The seed is told, and `--seed` gives it. The last line is `N passed, M failed`.
+ci/listed.py). The seed is told, and `--seed` gives it; `--kills` tells how many.
 """
 
-import argparse
 import collections
 import concurrent.futures
 import dataclasses
@@ -23,15 +22,13 @@ import threading
 import time
 
 import tables
-from expected import SECRET, answer, quoted
-from listed import read, receipts
-from lists import unlike
-from office import OBEYED, difference, fetched, get, post, put, receipt, run_all, stock
-from peers import Crowd
-from replays import ID
-from serve import SECONDS, Server
+from expected import ID, LIMIT, OBEYED, SECRET, answer, fetched, quoted, receipt
+from listed import read, receipts, unlike
+from messages import get, post, put
+from peers import Crowd, whole_answer
+from program import difference, stock
+from server import SECONDS, Server
 
-KILLS = 50
 CLIENTS = 6
 IDLE, SLOW = 100, 20
 MOST_ANSWERS = 160  # from the start of the program on
@@ -39,7 +36,6 @@ LONGEST_PAUSE = 0.004  # seconds from an answer to the kill
 MOST_ON_A_CONNECTION = 8
 LEAST_RECEIPTS = 20  # for each kill, that clients were told
 KEEPS, REPLACES = "in", "out.1-2"
-GREATEST = 8 << 20  # bytes of a body
 PIECES = [tables.PIECE, tables.PIECE + 1, 2 * tables.PIECE, 300_000]
 SHARED = 200
 # What clients ask, and how often.
@@ -65,21 +61,6 @@ class Wish:
     def row(self):
         """The box, the name, the length and the digest that a receipt of this upload has."""
         return *self.place, str(len(self.data)), hashlib.sha256(self.data).hexdigest()
-
-
-def whole_answer(stream, method):
-    """The next answer."""
-    head = b""
-    while not head.endswith(b"\r\n\r\n"):
-        line = stream.readline()
-        if not line:
-            raise ConnectionError("the connection ended in a head, or before it")
-        head += line
-    length = 0 if method == "HEAD" else int(re.search(rb"Content-Length: (\d+)", head)[1])
-    body = stream.read(length)
-    if len(body) < length:
-        raise ConnectionError("the connection ended in a body")
-    return head + body
 
 
 class Client:
@@ -141,7 +122,7 @@ class Client:
 
     def greatest(self):
         """A file as large as any may be, in the place of this client's last one."""
-        return self.upload("greatest", (REPLACES, f"{self.name}-greatest"), self.source.randbytes(GREATEST))
+        return self.upload("greatest", (REPLACES, f"{self.name}-greatest"), self.source.randbytes(LIMIT))
 
     def shared(self):
         """A file that every client puts."""
@@ -328,19 +309,20 @@ def kill_once(drop, file, ledger, clients, source):
     return "; ".join(filter(None, faults)) or None
 
 
-def served_on(drop, file, ledger, clients, count):
+def served_on(drop, file, ledger, clients, check):
     """The program goes on once more and ends: each client asks again what it got no answer to, or something new."""
     server = Server(drop, file, len(clients))
     with server:
         for client in clients:
             client.ask_some(server, 1)
-        count.add("the end", difference(server.end(), server.owed_end(False)))
+        check("the end", difference(server.end(), server.owed_end(False)))
     faults = [*ledger.faults, *compared(drop, file, ledger, clients)]
-    count.add("the office at the end", "; ".join(filter(None, faults)) or None)
+    check("the office at the end", "; ".join(filter(None, faults)) or None)
 
 
-def test_kills(drop, count, kills, seed):
+def test_kills(drop, check, pytestconfig):
     """One office file over all kills, up to the first that something is wrong behind."""
+    kills, seed = pytestconfig.getoption("kills"), pytestconfig.getoption("seed")
     print(f"the seed is {seed}")
     file, ledger, source, waiting = drop.office("killed"), Ledger(), random.Random(seed), 0
     for name, mode in [(KEEPS, 0), (REPLACES, 1)]:
@@ -349,24 +331,14 @@ def test_kills(drop, count, kills, seed):
     for number in range(1, kills + 1):
         fault = kill_once(drop, file, ledger, clients, source)
         waiting += sum(client.wish is not None for client in clients)
-        count.add(f"kill {number} of seed {seed}", fault)
+        check(f"kill {number} of seed {seed}", fault)
         if fault:
             return
-    served_on(drop, file, ledger, clients, count)
+    served_on(drop, file, ledger, clients, check)
     print(f"{kills} kills: {ledger.answers.total()} answers, {ledger.told} new receipts that clients were told, {ledger.untold} that "
           f"stood untold, {waiting} requests cut off")
-    count.add("receipts that were told", None if ledger.told >= kills * LEAST_RECEIPTS else f"{ledger.told} are too few")
-    count.add("requests that were cut off", None if waiting >= kills else f"{waiting} are too few")
-    count.add("each kind of request", difference(sorted(ledger.answers), sorted(KINDS)))
+    check("receipts that were told", None if ledger.told >= kills * LEAST_RECEIPTS else f"{ledger.told} are too few")
+    check("requests that were cut off", None if waiting >= kills else f"{waiting} are too few")
+    check("each kind of request", difference(sorted(ledger.answers), sorted(KINDS)))
 
 
-def main():
-    parser = argparse.ArgumentParser(description=__doc__.splitlines()[0])
-    parser.add_argument("--kills", type=int, default=KILLS)
-    parser.add_argument("--seed", type=int, default=random.SystemRandom().randrange(10**9))
-    words = parser.parse_args()
-    run_all([functools.partial(test_kills, kills=words.kills, seed=words.seed)])
-
-
-if __name__ == "__main__":
-    main()

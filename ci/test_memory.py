@@ -6,8 +6,8 @@ which there is no allocation left to refuse; of `init`, `desk`, `link`, `migrate
 must give its whole right answer, or say that memory was refused, in the way that is owed there; and never anything else. What
 an office keeps then is looked at too: by further requests where it lives in memory, and in the tables of its file.
 
-The last line is `N passed, M failed`: each words of `drop` are a test, each session is one in memory and one over a file, each
-row is one, and so is the keeper's.
+Each words of `drop` are a row, each session is one in memory and one over a file, each row of crates/rows is one, and so is the
+keeper's.
 """
 
 import collections
@@ -15,18 +15,18 @@ import dataclasses
 import functools
 import itertools
 import os
-import pathlib
 import shutil
 import tempfile
 
+import pytest
+
 import kit
 import listed
-import office
 import tables
-from expected import SECRET, answer
+from expected import ID, MOMENT, OBEYED, SECRET, answer, fetched, python_link, receipt
 from kept import VERSION_1, Kept
-from office import OBEYED, fetched, get, post, put, receipt
-from replays import CUT_UPLOAD, ID, MOMENT, OFFICE, REQUEST, answered, fault
+from messages import CUT_UPLOAD, REQUEST, get, post, put
+from program import IN_MEMORY, LINK, answered, fault, help_of
 
 STREAM = "data/row1.http"
 DROP = kit.ROOT / "crates" / "drop"
@@ -41,7 +41,8 @@ LEAST_REFUSALS = 2000  # of all sessions
 def refusing(number, words, given=b""):
     """The run with this allocation refused, and whether there was such an allocation."""
     heard, told = os.pipe()
-    env = {"REFUSED_ALLOCATION": str(number), "REFUSAL_TOLD_TO": str(told), "LD_PRELOAD": str(HEAP), "PATH": "/usr/bin:/bin"}
+    env = {"REFUSED_ALLOCATION": str(number), "REFUSAL_TOLD_TO": str(told), "LD_PRELOAD": str(kit.library("ci/heap.c")),
+           "PATH": "/usr/bin:/bin"}
     try:
         run = kit.run(words, given, cwd=DROP, env=env, pass_fds=[told])
     finally:
@@ -49,6 +50,11 @@ def refusing(number, words, given=b""):
         is_refused = os.read(heard, 1) == b"!"
         os.close(heard)
     return run, is_refused
+
+
+@pytest.fixture
+def program():
+    return kit.built("drop")
 
 
 class Wrong(Exception):
@@ -72,16 +78,12 @@ def each_refusal(words, given, right, others):
     return came
 
 
-def help_of(name):
-    return (kit.ROOT / "ci" / f"{name}.help").read_bytes()
-
-
-def test_drop(program, count):
+def test_drop(program, check):
     """Words of the program: a right request, one at a wrong moment, and words for which nothing is replayed."""
-    replay = ["replay", OFFICE, STREAM, "--at"]
+    replay = ["replay", IN_MEMORY, STREAM, "--at"]
     for words, right in [
-        ([*replay, MOMENT], answered(27)),
-        ([*replay, "20130525T000000Z"], answered(23)),
+        ([*replay, MOMENT], answered(answer(27))),
+        ([*replay, "20130525T000000Z"], answered(answer(23))),
         ([*replay, "now"], fault("malformed value: at")),
         (["serve", "none", "--connections", "1", "--listen", "now"], fault("malformed value: listen")),
         (["--help"], kit.Run(0, help_of("drop"), b"")),
@@ -98,9 +100,9 @@ def test_drop(program, count):
         try:
             came = each_refusal([program, *words], b"", right, others)
         except Wrong as wrong:
-            count.add(name, str(wrong))
+            check(name, str(wrong))
             continue
-        count.add(name, None)
+        check(name, None)
         again = came.get(TRY_AGAIN, [])
         others = f"{len(came[OUT_OF_MEMORY])} times out of memory, {len(again)} refusal 40"
         print(f"{name}: {others}, {len(came[right])} its answer")
@@ -111,7 +113,7 @@ def sampled():
     return itertools.chain(range(1, 101), itertools.count(101, 17))
 
 
-def each_office(program, name, words, prepare, right, others, count, done=(), given=b""):
+def each_office(program, name, words, prepare, right, others, check, done=(), given=b""):
     """As `each_refusal`, over an office file, of a sample of the numbers. `prepare` sets the file up before each run, and gives
     what tells, of a run that was right or was not, whether the file is then wrong. The runs of `done` did what was asked too."""
     came = {it: [] for it in [right, *others]}
@@ -124,25 +126,25 @@ def each_office(program, name, words, prepare, right, others, count, done=(), gi
         came[run].append(number)
     if not is_refused and run != right:
         wrong = f"{run}"
-    count.add(name, wrong and f"with allocation {number} refused: {wrong}")
+    check(name, wrong and f"with allocation {number} refused: {wrong}")
     print(f"{name}: {', '.join(f'{len(numbers)} times {it.out or it.err}'[:60] for it, numbers in came.items())}")
 
 
-def test_offices(program, folder, count):
+def test_offices(program, tmp_path, check):
     """`init`, `desk`, `link` and `migrate`. Memory that is refused makes no file, changes none and obeys no command."""
-    file, whole = folder / "office", folder / "whole"
+    file, whole = tmp_path / "office", tmp_path / "whole"
     init = ["--clerk", ID, "--secret", SECRET.decode()]
     done = kit.Run(0, b"", b"")
     made = kit.run([program, "init", whole, *init])
     if made != done:
-        count.add("an office file", f"{made}")
+        check("an office file", f"{made}")
         return
     tables.add_box(whole, tables.Box("in"))
 
     def gone():
-        for it in folder.glob("office*"):
+        for it in tmp_path.glob("office*"):
             it.unlink()
-        return lambda is_made: None if is_made == bool(list(folder.glob("office*"))) else "a file is left, or none was made"
+        return lambda is_made: None if is_made == bool(list(tmp_path.glob("office*"))) else "a file is left, or none was made"
 
     def copied():
         gone()
@@ -150,18 +152,18 @@ def test_offices(program, folder, count):
         before = tables.dump(file)
         return lambda is_right: None if is_right or tables.dump(file) == before else "the tables were changed"
 
-    link = ["link", file, "GET", "in/a.txt", *itertools.chain(*((f"--{k}", v) for k, v in office.LINK.items()))]
-    line = kit.Run(0, office.python_link("GET", "in/a.txt"), b"")
-    each_office(program, "drop init", ["init", file, *init], gone, done, [OUT_OF_MEMORY], count)
+    link = ["link", file, "GET", "in/a.txt", *itertools.chain(*((f"--{k}", v) for k, v in LINK.items()))]
+    line = kit.Run(0, python_link("GET", "in/a.txt"), b"")
+    each_office(program, "drop init", ["init", file, *init], gone, done, [OUT_OF_MEMORY], check)
     in_file = ["init", file, "--clerk", ID, "--secret-file", "/dev/stdin"]
-    each_office(program, "drop init --secret-file", in_file, gone, done, [OUT_OF_MEMORY], count, given=SECRET + b"\n")
-    each_office(program, "drop link", link, copied, line, [OUT_OF_MEMORY], count)
+    each_office(program, "drop init --secret-file", in_file, gone, done, [OUT_OF_MEMORY], check, given=SECRET + b"\n")
+    each_office(program, "drop link", link, copied, line, [OUT_OF_MEMORY], check)
     box = "box add b 20130101T000000Z 20130601T000000Z 1111111 0000 2400 100 2 keep ends .pdf,.zip"
     told, closed_badly = kit.Run(0, b"done\n", b""), kit.Run(1, b"done\n", OUT_OF_MEMORY.err)
     for name, line, given in [("drop desk", box, b""), ("drop desk -", "-", box.encode())]:
         words = ["desk", file, line]
-        each_office(program, name, words, copied, told, [OUT_OF_MEMORY, closed_badly], count, [closed_badly], given)
-    old = Kept(VERSION_1 / "past").copied(folder / "kept")
+        each_office(program, name, words, copied, told, [OUT_OF_MEMORY, closed_badly], check, [closed_badly], given)
+    old = Kept(VERSION_1 / "past").copied(tmp_path / "kept")
 
     def of_version_1():
         gone()
@@ -169,7 +171,7 @@ def test_offices(program, folder, count):
         before = tables.dump(file)
         return lambda is_right: None if is_right or tables.dump(file) == before else "the tables were changed"
 
-    each_office(program, "drop migrate", ["migrate", file], of_version_1, told, [OUT_OF_MEMORY, closed_badly], count, [closed_badly])
+    each_office(program, "drop migrate", ["migrate", file], of_version_1, told, [OUT_OF_MEMORY, closed_badly], check, [closed_badly])
 
 
 # ---- sessions: each allocation, in memory and over a file
@@ -205,7 +207,7 @@ class Session:
 
 
 def opens(name, quota=100, files=2, mode="keep"):
-    box = dataclasses.replace(office.BOX, name=name, quota=quota, max_files=files, mode=int(mode == "replace"))
+    box = tables.Box(name, tables.OPENS, tables.CLOSES, quota=quota, max_files=files, mode=int(mode == "replace"))
     line = f"box add {name} 20130101T000000Z 20130601T000000Z 1111111 0000 2400 {quota} {files} {mode} any"
     return Step(post(line), OBEYED, functools.partial(tables.add_box, box=box))
 
@@ -307,7 +309,7 @@ def bearable(session, probes):
 def in_memory(program, streams, runs):
     """The run of a number, whether there was such an allocation, and what is wrong."""
     def one(number):
-        run, is_refused = refusing(number, [program, "replay", OFFICE, *streams, "--at", MOMENT])
+        run, is_refused = refusing(number, [program, "replay", IN_MEMORY, *streams, "--at", MOMENT])
         return run, is_refused, None if run in runs else f"{run}"
 
     return one
@@ -347,41 +349,41 @@ def each_number(one, begin):
                 return
 
 
-def swept(name, one, right, count, begin=1):
+def swept(name, one, right, check, begin=1):
     """Refuses every allocation in turn, from this number on, and tells how many there were, and at which one 40 came first."""
     kinds, first = collections.Counter(), 0
     for number, run, is_refused, wrong in each_number(one, begin):
         if wrong or not is_refused and run != right:
-            count.add(name, f"with allocation {number} refused: {wrong or run}"[:1000])
+            check(name, f"with allocation {number} refused: {wrong or run}"[:1000])
             return 0, begin
         kind = "its answers" if run == right else "out of memory" if run.status else "refusal 40"
         kinds[kind] += is_refused
         first = first or (number if kind == "refusal 40" else 0)
     refused = number - begin
     print(f"{name}: {refused} refused, {', '.join(f'{many} times {kind}' for kind, many in kinds.items())}")
-    count.add(name, None if kinds["refusal 40"] else "no allocation that was refused was answered with 40")
+    check(name, None if kinds["refusal 40"] else "no allocation that was refused was answered with 40")
     return refused, first
 
 
-def test_sessions(program, folder, count):
+def test_sessions(program, tmp_path, check):
     """Each session, in memory and over a file. What the opening of the file asks for is refused in the first session alone; the
     others begin a little before the first number at which that one was answered."""
-    whole, total, begin = folder / "swept", 0, 1
+    whole, total, begin = tmp_path / "swept", 0, 1
     made = kit.run([program, "init", whole, "--clerk", ID, "--secret", SECRET.decode()])
-    count.add("an office file for sessions", None if made == kit.Run(0, b"", b"") else f"{made}")
+    check("an office file for sessions", None if made == kit.Run(0, b"", b"") else f"{made}")
     for number, session in enumerate(sessions()):
-        stream, second = folder / f"session-{number}.http", folder / f"probes-{number}.http"
+        stream, second = tmp_path / f"session-{number}.http", tmp_path / f"probes-{number}.http"
         stream.write_bytes(b"".join(step.asked for step in session.steps))
         second.write_bytes(b"".join(probe.asked for probe in session.probes))
         streams = [stream, second] if session.probes else [stream]
         one = in_memory(program, streams, bearable(session, session.probes))
-        total += swept(f"{session.name}, in memory", one, right_run(session, session.probes), count)[0]
-        states = states_of(session, whole, folder / f"states-{number}")
+        total += swept(f"{session.name}, in memory", one, right_run(session, session.probes), check)[0]
+        states = states_of(session, whole, tmp_path / f"states-{number}")
         one = over_file(program, stream, bearable(session, ()), whole, states)
-        refused, answered = swept(f"{session.name}, over a file", one, right_run(session, ()), count, begin)
+        refused, answered = swept(f"{session.name}, over a file", one, right_run(session, ()), check, begin)
         total, begin = total + refused, begin if number else max(1, answered - 32)
     print(f"sessions: {total} allocations refused in all")
-    count.add("allocations refused in sessions", None if total >= LEAST_REFUSALS else f"{total} are too few")
+    check("allocations refused in sessions", None if total >= LEAST_REFUSALS else f"{total} are too few")
 
 
 def broken_off(right):
@@ -390,39 +392,39 @@ def broken_off(right):
     return [kit.Run(1, b"".join(lines[:number]), OUT_OF_MEMORY.err) for number in range(len(lines) + 1)]
 
 
-def test_lists(program, folder, count):
+def test_lists(program, tmp_path, check):
     """`manifest`, `compare`, `list`, `export` and `links` change no office file, and where memory is refused they write a beginning
     of the list."""
-    file, whole = folder / "lists", folder / "whole-lists"
+    file, whole = tmp_path / "lists", tmp_path / "whole-lists"
     made = kit.run([program, "init", whole, "--clerk", ID, "--secret", SECRET.decode()])
     if made != kit.Run(0, b"", b""):
-        count.add("an office file for lists", f"{made}")
+        check("an office file for lists", f"{made}")
         return
     tables.add_box(whole, tables.Box("in"))
     for name, data in [("a,b.txt", b"abc"), ("é", b""), ("b.txt", b"x" * 70_000)]:
         tables.add_file(whole, "in", name, data, ID)
 
     def copied():
-        for it in folder.glob("lists*"):
+        for it in tmp_path.glob("lists*"):
             it.unlink()
-        shutil.rmtree(folder / "exported", ignore_errors=True)
+        shutil.rmtree(tmp_path / "exported", ignore_errors=True)
         shutil.copy(whole, file)
         before = tables.dump(file)
         return lambda _: None if tables.dump(file) == before else "the tables were changed"
 
     receipts = list(listed.receipts(whole))
-    place = {name: office.LINK[name] for name in ["key", "host", "region"]}
+    place = {name: LINK[name] for name in ["key", "host", "region"]}
     wishes = [[method, "in", "a,b.txt", MOMENT, "604800"] for method in ["PUT", "GET", "HEAD"]]
-    links = [[*wish, office.python_link(wish[0], "in/a,b.txt").decode().strip()] for wish in wishes]
+    links = [[*wish, python_link(wish[0], "in/a,b.txt").decode().strip()] for wish in wishes]
     for words, given, owed in [
         (["manifest", file], [], receipts), (["compare", file], receipts, listed.states(whole, receipts)),
         (["links", file, *(f"--{name}={value}" for name, value in place.items())], [listed.WISH_HEAD, *wishes], [listed.LINK_HEAD, *links]),
         *((["list", file, what], [], owed(whole)) for what, owed in listed.KEPT.items()),
-        (["export", file, folder / "exported"], [], []),
+        (["export", file, tmp_path / "exported"], [], []),
     ]:
         right = kit.Run(0, listed.written(owed), b"")
         named = " ".join(it for it in words if isinstance(it, str) and not it.startswith("--"))
-        each_office(program, f"drop {named}", words, copied, right, broken_off(right), count, given=listed.written(given))
+        each_office(program, f"drop {named}", words, copied, right, broken_off(right), check, given=listed.written(given))
 
 
 def rows():
@@ -432,8 +434,10 @@ def rows():
     return [(row, owed) for row, owed in pairs if not row.startswith(b"#") and row.strip()]
 
 
-def test_rows(program, count):
+def test_rows(check):
     """Each row by itself."""
+    program = kit.built("rows")
+
     def each(pair):
         row, owed = pair
         others = [kit.Run(0, b"memory\n", b""), kit.Run(0, b"refusal 40\n", b""), UNREAD]
@@ -446,37 +450,22 @@ def test_rows(program, count):
     pairs = rows()
     for (row, _), came in zip(pairs, kit.side_by_side(each, pairs)):
         is_wrong = isinstance(came, Wrong)
-        count.add(row.decode().strip()[:80], str(came) if is_wrong else None)
+        check(row.decode().strip()[:80], str(came) if is_wrong else None)
         refused += 0 if is_wrong else sum(map(len, came.values()))
     print(f"rows: {len(pairs)} with {refused} allocations refused in all")
 
 
-def test_keeper(program, count):
+def test_keeper(check):
     """Each call of the keeper in memory, by the test that makes a call once more to which memory was refused."""
+    program = kit.built("keeper", "_tests")
     name = "shelf_keeps::tests::keeps_each_change"
     right, again = (kit.Run(0, f"{number} refused\n\ntest result: ok\n".encode(), b"") for number in (0, 1))
     try:
         came = each_refusal([program, name], b"", right, [again])
     except Wrong as wrong:
-        count.add(name, str(wrong))
+        check(name, str(wrong))
         return
-    count.add(name, None)
+    check(name, None)
     print(f"keeper: {len(came[again])} times a call was refused, and the next one was right")
 
 
-def test_all(folder, count):
-    drop = kit.built("drop")
-    test_drop(drop, count)
-    test_offices(drop, folder, count)
-    test_sessions(drop, folder, count)
-    test_lists(drop, folder, count)
-    test_rows(kit.built("rows"), count)
-    test_keeper(kit.built("keeper", "_tests"), count)
-
-
-if __name__ == "__main__":
-    COUNT = kit.Count()
-    with tempfile.TemporaryDirectory(prefix="drop-memory-") as ROOM:
-        HEAP = kit.library(pathlib.Path(ROOM), "ci/heap.c")
-        test_all(pathlib.Path(ROOM), COUNT)
-    COUNT.end()

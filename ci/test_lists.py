@@ -3,7 +3,7 @@ and on lists of every form.
 
 The office is made by `drop init` and filled by Python's `sqlite3` (ci/tables.py); files are then dropped and set anew by
 requests. What is owed comes from the tables as `sqlite3` reads them and from Python's `csv` and `hashlib` (ci/listed.py),
-from links that botocore signs, and from the fault lines in docs/USE.md. The last line is `N passed, M failed`.
+from links that botocore signs, and from the fault lines in docs/USE.md.
 """
 
 import contextlib
@@ -16,46 +16,24 @@ import random
 
 import kit
 import tables
-from expected import SECRET, quoted
-from listed import LINK_HEAD, RECEIPT_HEAD, STATE_HEAD, WISH_HEAD, read, receipts, standing, states, written
-from office import (
-    CANNOT_OPEN, CANNOT_READ_SECRET, LINK, OBEYED, UNKNOWN, VERSION, answered, difference, malformed, not_offices, post, put,
-    python_link, receipt, run_all, sent,
-)
+from expected import ID, MOMENT, SECRET, python_link, receipt
+from listed import LINK_HEAD, RECEIPT_HEAD, STATE_HEAD, WISH_HEAD, first_difference, read, receipts, states, unlike, written
+from many_receipts import BOXES, KEYS, RECEIPTS, begun, change, few, filled, odd_name
+from messages import sent
 from orders import BotocoreOrder
-from replays import ID, MOMENT, closed_pipe, fault, full_disk
-from samples import LETTERS, NAMES
+from program import (
+    CANNOT_OPEN, CANNOT_READ_SECRET, CANNOT_WRITE, LINK, UNKNOWN, VERSION, answered, closed_pipe, difference, fault, full_disk,
+    help_lines, help_of, malformed, not_offices,
+)
+from samples import NAMES
 
-RECEIPTS = 2000
 NO_HEAD = fault("the first row is not the head")
 CANNOT_READ = fault("cannot read the list")
-CANNOT_WRITE = fault("cannot write")
-BOXES = ["in", "out.1-2", "b" * 63]
-KEYS = {ID: SECRET, "k2": b"s3cr3t", "-_" * 32: b"%2F+/" * 25 + b"=&?"}
 PLACE = {"key": ID, "host": "files.example", "region": "us-east-1"}
-# How a name may begin and end, and what stands between.
-FRONTS = ["", "=", "+", "-", "@", " ", ",", '"', '""', "'", "#", ";", "\\", "\ufeff", "\u2028", "\u00a0"]
-ODD_LETTERS = LETTERS + '",,""\\;|\u00a0\u2028\ufeff'
 MEGABYTES = 10_000_000
 
 
 # ---- lists
-
-
-def first_difference(found, owed):
-    """The first rows that are not the same."""
-    if found == owed:
-        return None
-    pairs = [(number, *pair) for number, pair in enumerate(zip(found, owed)) if pair[0] != pair[1]]
-    rows = f"{len(found)} rows and not {len(owed)}"
-    return f"{rows}; row {pairs[0][0]}: {pairs[0][1]} and not {pairs[0][2]}"[:1000] if pairs else rows
-
-
-def unlike(found, owed):
-    """Why a run did not write these rows and nothing else, in the rows as they are read and in their bytes."""
-    if found.status or found.err:
-        return f"status {found.status}, {found.err}"
-    return first_difference(read(found.out), owed) or (None if found.out == written(owed) else "other quotes or row ends")
 
 
 def forms(rows):
@@ -72,70 +50,6 @@ def forms(rows):
 # ---- an office of many receipts
 
 
-def odd_name(source, number):
-    """A name of letters that a list may have to quote, or that other programs take for something else."""
-    text = "".join(source.choices(ODD_LETTERS, k=source.randint(0, 30)))
-    return f"{source.choice(FRONTS)}{text}{number}{source.choice(FRONTS)}"
-
-
-def sizes(source):
-    """Sizes of files: most of them small, some of several pieces."""
-    return source.choice([0, 1, 3, 300, 2000]) if source.random() < 0.99 else source.choice([65536, 65537, 200_000])
-
-
-def begun(drop, name):
-    """An office with three keys, one of them revoked, and three boxes."""
-    file = drop.office(name)
-    tables.add_key(file, "k2", KEYS["k2"])
-    tables.add_key(file, "-_" * 32, KEYS["-_" * 32], revoked=1)
-    for box in BOXES:
-        tables.add_box(file, tables.Box(box, max_files=10**6, mode=1))
-    return file
-
-
-def fill(file):
-    """Receipts of as many files, each of which stands."""
-    source = random.Random(20130524)
-    names = [*NAMES, "n" * 1024, "é" * 512, '"', ",", " ", "=", *FRONTS[1:7]]
-    names += [odd_name(source, number) for number in range(len(set(names)), RECEIPTS)]
-    with tables.opened(file) as db:
-        for name in dict.fromkeys(names):
-            moment = source.choice([0, tables.M, tables.LAST, source.randint(0, tables.LAST)])
-            tables.put_file(db, source.choice(BOXES), name, source.randbytes(sizes(source)), source.choice(list(KEYS)), moment)
-
-
-def filled(drop, name):
-    file = begun(drop, name)
-    fill(file)
-    count = tables.rows(file, "SELECT COUNT(*) FROM receipts")
-    assert count == [(RECEIPTS,)], count
-    return file
-
-
-def few(drop, name):
-    """An office of three receipts."""
-    file = begun(drop, name)
-    for in_box, text, data in [("in", "a,b.txt", b"abc"), ("in", "é", b""), (BOXES[1], '"', b"x" * 300)]:
-        tables.add_file(file, in_box, text, data, ID)
-    return file
-
-
-def change(drop, file, source):
-    """Has the office drop an eighth of its files and set an eighth anew: the answers' fault, if there is one."""
-    places = source.sample(sorted(standing(file)), RECEIPTS // 4)
-    dropped, replaced = places[::2], places[1::2]
-    number = tables.rows(file, "SELECT MAX(number) FROM receipts")[0][0]
-    asked, owed = [], []
-    for in_box, name in dropped:
-        asked.append(post(f"file drop {in_box} {name}"))
-        owed.append(OBEYED)
-    for number, (in_box, name) in enumerate(replaced, number + 1):
-        data = b"another %d" % number
-        asked.append(put(b"/%s/%s" % (in_box.encode(), quoted(name, "/")), data))
-        owed.append(receipt(number, data))
-    return difference(drop.replay(file, b"".join(asked)), answered(*owed))
-
-
 # ---- manifests and what stands of them
 
 
@@ -143,19 +57,19 @@ def compared(drop, file, rows, **how):
     return drop.run("compare", file, given=written(rows, **how))
 
 
-def test_manifest(drop, count):
+def test_manifest(drop, check):
     """Each receipt as the tables have it, before and behind changes, which leave the receipts that were there."""
     empty = drop.office("empty")
-    count.add("no receipts", unlike(drop.run("manifest", empty), [RECEIPT_HEAD]))
+    check("no receipts", unlike(drop.run("manifest", empty), [RECEIPT_HEAD]))
     file = filled(drop, "manifest")
     before = list(receipts(file))
-    count.add("the receipts", unlike(drop.run("manifest", file), before))
-    count.add("changes", change(drop, file, random.Random(1)))
+    check("the receipts", unlike(drop.run("manifest", file), before))
+    check("changes", change(drop, file, random.Random(1)))
     dump = tables.dump(file)
     behind = list(receipts(file))
-    count.add("the receipts behind changes", unlike(drop.run("manifest", file), behind))
-    count.add("those before them", first_difference(behind[:len(before)], before))
-    count.add("the office stays", None if tables.dump(file) == dump else "it was changed")
+    check("the receipts behind changes", unlike(drop.run("manifest", file), behind))
+    check("those before them", first_difference(behind[:len(before)], before))
+    check("the office stays", None if tables.dump(file) == dump else "it was changed")
 
 
 def altered(rows, source):
@@ -174,41 +88,41 @@ def altered(rows, source):
         yield [number, in_box, name, length, digest, "", source.choice(["", "no key, and\nnone", "\t"])]
 
 
-def test_compare(drop, count):
+def test_compare(drop, check):
     """Each state, as the tables tell it."""
     file = filled(drop, "compare")
     manifest = drop.run("manifest", file).out
     rows = read(manifest)
-    count.add("all stands", unlike(drop.run("compare", file, given=manifest), states(file, rows)))
+    check("all stands", unlike(drop.run("compare", file, given=manifest), states(file, rows)))
     found = {row[3] for row in states(file, rows)[1:]}
-    count.add("what is owed", None if found == {"standing"} else f"{found}")
-    count.add("changes", change(drop, file, random.Random(2)))
+    check("what is owed", None if found == {"standing"} else f"{found}")
+    check("changes", change(drop, file, random.Random(2)))
     owed = states(file, rows)
     found = [sum(row[3] == word for row in owed) for word in ["standing", "differs", "gone"]]
-    count.add("what is owed behind changes", None if found == [RECEIPTS * 3 // 4, 0, RECEIPTS // 4] else f"{found}")
+    check("what is owed behind changes", None if found == [RECEIPTS * 3 // 4, 0, RECEIPTS // 4] else f"{found}")
     dump = tables.dump(file)
     for name, data in forms(rows):
-        count.add(f"compare, {name}", unlike(drop.run("compare", file, given=data), owed))
+        check(f"compare, {name}", unlike(drop.run("compare", file, given=data), owed))
     for name, others in [
         ("the head alone", []), ("the newest receipts", read(drop.run("manifest", file).out)[1:]), ("backwards", rows[:0:-1]),
         ("twice", [row for row in rows[1:] for _ in range(2)]),
     ]:
         others = [RECEIPT_HEAD, *others]
-        count.add(f"compare, {name}", unlike(compared(drop, file, others), states(file, others)))
-    count.add("the office stays", None if tables.dump(file) == dump else "it was changed")
+        check(f"compare, {name}", unlike(compared(drop, file, others), states(file, others)))
+    check("the office stays", None if tables.dump(file) == dump else "it was changed")
 
 
-def test_altered(drop, count):
+def test_altered(drop, check):
     """Manifests that say something else, which may need other quotes."""
     file = filled(drop, "altered")
     rows = [RECEIPT_HEAD, *altered(list(receipts(file))[1:], random.Random(3))]
     owed = states(file, rows)
     found = {word: sum(row[3] == word for row in owed) for word in ["standing", "differs", "gone"]}
-    count.add("what is owed", None if min(found.values()) >= RECEIPTS // 10 else f"{found}")
+    check("what is owed", None if min(found.values()) >= RECEIPTS // 10 else f"{found}")
     for how in [{}, {"quoting": csv.QUOTE_ALL}]:
         ran = compared(drop, file, rows, **how)
         well = ran.status == 0 and not ran.err
-        count.add(f"altered, {how}", first_difference(read(ran.out), owed) if well else f"{ran.status}, {ran.err}")
+        check(f"altered, {how}", first_difference(read(ran.out), owed) if well else f"{ran.status}, {ran.err}")
 
 
 # ---- links
@@ -257,25 +171,25 @@ def owed_links(those, **place):
     return [LINK_HEAD, *([*wish.row(), wish.link(**place)] for wish in those)]
 
 
-def test_links(drop, count):
+def test_links(drop, check):
     """Botocore's own links, byte for byte, by each key and for many hosts; those of a revoked key too."""
     file = begun(drop, "links")
     those = list(wishes(random.Random(4)))
     before = tables.dump(file)
     owed = owed_links(those)
     for name, data in forms(wished(those)):
-        count.add(f"{len(those)} links, {name}", unlike(linked(drop, file, data), owed))
+        check(f"{len(those)} links, {name}", unlike(linked(drop, file, data), owed))
     for place in [
         *({"key": key} for key in KEYS), {"region": "r"}, {"region": "-" + "9" * 31}, {"host": "h"}, {"host": "h" * 255},
         {"host": "files.example:8080"}, {"host": "Files.Example"}, {"host": "[2001:db8::1]:80"}, {"host": 'a,"b'},
     ]:
         found = linked(drop, file, written(wished(those[:60])), **place)
-        count.add(f"links, {place}", unlike(found, owed_links(those[:60], **place)))
-    count.add("no links", unlike(linked(drop, file, written([WISH_HEAD])), [LINK_HEAD]))
-    count.add("the office stays", None if tables.dump(file) == before else "it was changed")
+        check(f"links, {place}", unlike(found, owed_links(those[:60], **place)))
+    check("no links", unlike(linked(drop, file, written([WISH_HEAD])), [LINK_HEAD]))
+    check("the office stays", None if tables.dump(file) == before else "it was changed")
 
 
-def test_used_links(drop, count):
+def test_used_links(drop, check):
     """Links of a list are taken by the office that they were written for."""
     file = begun(drop, "used")
     source = random.Random(5)
@@ -284,44 +198,44 @@ def test_used_links(drop, count):
     urls = [row[5].encode() for row in read(ran.out)[1:]]
     asked = b"".join(sent(url, "PUT", b"%d" % number) for number, url in enumerate(urls))
     owed = [receipt(number + 1, b"%d" % number) for number in range(50)]
-    count.add("fifty uploads", difference(drop.replay(file, asked), answered(*owed)))
-    count.add("their receipts", unlike(drop.run("manifest", file), list(receipts(file))))
+    check("fifty uploads", difference(drop.replay(file, asked), answered(*owed)))
+    check("their receipts", unlike(drop.run("manifest", file), list(receipts(file))))
 
 
-def test_secret_links(drop, count):
+def test_secret_links(drop, check):
     """`key:SECRETFILE` in the place of an office file: botocore's own links, by each key, and no office is there."""
     those = list(wishes(random.Random(6)))[:200]
     for number, (key, secret) in enumerate(KEYS.items()):
         file = drop.path(f"secret-{number}")
         file.write_bytes(secret + b"\n")
         found = linked(drop, f"key:{file}", written(wished(those)), key=key)
-        count.add(f"links by a secret, {key}", unlike(found, owed_links(those, key=key)))
+        check(f"links by a secret, {key}", unlike(found, owed_links(those, key=key)))
         for method, target in [("PUT", "in/a b.txt"), ("GET", "out.1-2/ü"), ("HEAD", "in/x"), ("POST", "key revoke k2")]:
             office = drop.link(begun(drop, f"beside-{number}-{method}"), method, target, key=key)
-            count.add(f"{method} by a secret, {key}", difference(drop.link(f"key:{file}", method, target, key=key), office))
+            check(f"{method} by a secret, {key}", difference(drop.link(f"key:{file}", method, target, key=key), office))
     found = drop.link(f"key:{drop.path('secret-0')}", "PUT", "in/a", key="unknown")
-    count.add("a key of any id", None if found.status == 0 else found)
+    check("a key of any id", None if found.status == 0 else found)
     options = [f"--{name}={value}" for name, value in LINK.items()]
     given = drop.run("link", "key:/dev/stdin", "PUT", "in/a", *options, given=SECRET + b"\n")
-    count.add("key:/dev/stdin", difference(given, kit.Run(0, python_link("PUT", "in/a"), b"")))
+    check("key:/dev/stdin", difference(given, kit.Run(0, python_link("PUT", "in/a"), b"")))
 
 
-def test_bad_secrets(drop, count):
+def test_bad_secrets(drop, check):
     """Secrets that can't be read or are none, ids that are none, and an office file whose name begins so."""
     for name in ["", drop.folder, drop.path("gone")]:
         found = drop.link(f"key:{name}", "PUT", "in/a")
-        count.add(f"the secret in {name!r}", difference(found, CANNOT_READ_SECRET))
+        check(f"the secret in {name!r}", difference(found, CANNOT_READ_SECRET))
     for name, data in [("two lines", b"one\ntwo\n"), ("nothing", b""), ("a space", b"two words\n"), ("129 bytes", b"s" * 129)]:
         file = drop.path(f"no secret, {name}")
         file.write_bytes(data)
         for found in [drop.link(f"key:{file}", "PUT", "in/a"), linked(drop, f"key:{file}", written([WISH_HEAD]))]:
-            count.add(f"no secret: {name}", difference(found, malformed("secret")))
+            check(f"no secret: {name}", difference(found, malformed("secret")))
     file = drop.path("good")
     file.write_bytes(SECRET)
     for key in ["", "a b", "k" * 65, "é"]:
-        count.add(f"the id {key!r}", difference(drop.link(f"key:{file}", "PUT", "in/a", key=key), malformed("key")))
+        check(f"the id {key!r}", difference(drop.link(f"key:{file}", "PUT", "in/a", key=key), malformed("key")))
     drop.office("key:office")
-    count.add("./key:office", difference(drop.link("./key:office", "PUT", "in/a"), kit.Run(0, python_link("PUT", "in/a"), b"")))
+    check("./key:office", difference(drop.link("./key:office", "PUT", "in/a"), kit.Run(0, python_link("PUT", "in/a"), b"")))
 
 
 # ---- faults
@@ -380,21 +294,21 @@ def refused(number, rows):
     return kit.Run(1, written(rows), fault(f"row {number} is refused").err)
 
 
-def test_bad_links(drop, count):
+def test_bad_links(drop, check):
     """A row that is malformed, as the first and as the third; a list without its head."""
     file = begun(drop, "bad-links")
     run = functools.partial(linked, drop, file)
     good = [Wish("PUT", "in", "b.txt"), Wish("GET", "no-box", "a,b")]
     front = written([WISH_HEAD, *(wish.row() for wish in good)])
     for data in bad_rows(GOOD_WISH, BAD_WISHES):
-        count.add(f"links, row 1: {data[:80]}", difference(run(written([WISH_HEAD]) + data), refused(1, [LINK_HEAD])))
-        count.add(f"links, row 3: {data[:80]}", difference(run(front + data + data), refused(3, owed_links(good))))
+        check(f"links, row 1: {data[:80]}", difference(run(written([WISH_HEAD]) + data), refused(1, [LINK_HEAD])))
+        check(f"links, row 3: {data[:80]}", difference(run(front + data + data), refused(3, owed_links(good))))
     for data in bad_heads(WISH_HEAD):
         for rows in [b"", written([GOOD_WISH])]:
-            count.add(f"links, head {data}, {len(rows)}", difference(run(data + rows), NO_HEAD))
+            check(f"links, head {data}, {len(rows)}", difference(run(data + rows), NO_HEAD))
 
 
-def test_bad_manifests(drop, count):
+def test_bad_manifests(drop, check):
     """The same of manifests."""
     file = few(drop, "bad-manifests")
     rows = list(receipts(file))
@@ -403,15 +317,15 @@ def test_bad_manifests(drop, count):
         return drop.run("compare", file, given=data)
 
     for data in bad_rows(rows[1], BAD_RECEIPTS):
-        count.add(f"compare, row 1: {data[:80]}", difference(run(written(rows[:1]) + data), refused(1, [STATE_HEAD])))
+        check(f"compare, row 1: {data[:80]}", difference(run(written(rows[:1]) + data), refused(1, [STATE_HEAD])))
         found = run(written(rows[:3]) + data + written(rows[1:]))
-        count.add(f"compare, row 3: {data[:80]}", difference(found, refused(3, states(file, rows[:3]))))
+        check(f"compare, row 3: {data[:80]}", difference(found, refused(3, states(file, rows[:3]))))
     for data in bad_heads(RECEIPT_HEAD):
         for more in [b"", written(rows[1:])]:
-            count.add(f"compare, head {data}, {len(more)}", difference(run(data + more), NO_HEAD))
+            check(f"compare, head {data}, {len(more)}", difference(run(data + more), NO_HEAD))
     number = len(rows)
     found = run(written([*rows, *rows[1:], changed(rows[1], 0, "01")]))
-    count.add("compare, a late row", difference(found, refused(2 * number - 1, states(file, [*rows, *rows[1:]]))))
+    check("compare, a late row", difference(found, refused(2 * number - 1, states(file, [*rows, *rows[1:]]))))
 
 
 def each_list(drop, file):
@@ -421,29 +335,29 @@ def each_list(drop, file):
             (wish, ["links", file, *(f"--{name}={value}" for name, value in PLACE.items())])]
 
 
-def test_faults(drop, count):
+def test_faults(drop, check):
     """The first fault of the words is told: a malformed value, then the file, then the key, then the list."""
     gone, file = drop.path("gone"), few(drop, "faults")
     for place in [{"host": "two words", "region": "US"}, {"host": ""}, {"host": "h" * 256}, {"host": "é"}, {"host": "a\n"}]:
-        count.add(f"links, {place}", difference(linked(drop, gone, b"", key="k 2", **place), malformed("host")))
+        check(f"links, {place}", difference(linked(drop, gone, b"", key="k 2", **place), malformed("host")))
     for region in ["", "US", "us_east", "r" * 33, "é"]:
-        count.add(f"links, region {region!r}", difference(linked(drop, gone, b"", region=region), malformed("region")))
+        check(f"links, region {region!r}", difference(linked(drop, gone, b"", region=region), malformed("region")))
     for key in ["", "k9", "K2", "k 2", "k" * 65, "é"]:
-        count.add(f"links, no file and key {key!r}", difference(linked(drop, gone, b"", key=key), CANNOT_OPEN))
-        count.add(f"links, key {key!r}", difference(linked(drop, file, b"", key=key), UNKNOWN))
+        check(f"links, no file and key {key!r}", difference(linked(drop, gone, b"", key=key), CANNOT_OPEN))
+        check(f"links, key {key!r}", difference(linked(drop, file, b"", key=key), UNKNOWN))
     for command in ["manifest", "compare"]:
-        count.add(f"{command}, no file", difference(drop.run(command, gone), CANNOT_OPEN))
-    count.add("no file is made", "there is one" if gone.exists() else None)
+        check(f"{command}, no file", difference(drop.run(command, gone), CANNOT_OPEN))
+    check("no file is made", "there is one" if gone.exists() else None)
     others = not_offices(drop)
     version = few(drop, "version")
     tables.run(version, ["UPDATE office SET version = 7"])
     for other, owed in [*others, (version, VERSION)]:
         for found in [drop.run("manifest", other), drop.run("compare", other), linked(drop, other, b"")]:
-            count.add(f"lists of {other.name}", difference(found, owed))
+            check(f"lists of {other.name}", difference(found, owed))
     with tables.opened(file) as db:
         db.execute("BEGIN EXCLUSIVE")
         for found in [drop.run("manifest", file), drop.run("compare", file), linked(drop, file, b"")]:
-            count.add("a file that is held", difference(found, CANNOT_OPEN))
+            check("a file that is held", difference(found, CANNOT_OPEN))
 
 
 @contextlib.contextmanager
@@ -455,7 +369,7 @@ def folder_opened(drop):
         os.close(handle)
 
 
-def test_streams(drop, count):
+def test_streams(drop, check):
     """A list that cannot be read, and one that cannot be written."""
     file = few(drop, "streams")
     before = tables.dump(file)
@@ -463,23 +377,23 @@ def test_streams(drop, count):
         for given, words in each_list(drop, file):
             found, right = drop.run(*words, given=folder), drop.run(*words, given=given)
             owed = CANNOT_READ if given else right
-            count.add(f"{words[0]} of a folder", difference(found, owed))
-            count.add(f"{words[0]}, a good list", None if right.status == 0 and right.out else f"{right}")
+            check(f"{words[0]} of a folder", difference(found, owed))
+            check(f"{words[0]}, a good list", None if right.status == 0 and right.out else f"{right}")
         found = linked(drop, file, folder, key="k9")
-        count.add("the key before the list", difference(found, UNKNOWN))
+        check("the key before the list", difference(found, UNKNOWN))
     many = each_list(drop, filled(drop, "many"))[:2]
     for failing in [full_disk, closed_pipe]:
         for given, words in [*each_list(drop, file), *many]:
             with failing() as out:
                 found = drop.run(*words, given=given, out=out)
-            count.add(f"{words[0]} to a {failing.__name__}", difference(found, CANNOT_WRITE))
-    count.add("the office stays", None if tables.dump(file) == before else "it was changed")
+            check(f"{words[0]} to a {failing.__name__}", difference(found, CANNOT_WRITE))
+    check("the office stays", None if tables.dump(file) == before else "it was changed")
 
 
 # ---- words and great fields
 
 
-def test_words(drop, count):
+def test_words(drop, check):
     """Words that name no task come before all else, and help."""
     missing = "error: the following required arguments were not provided:"
     for words, line in [
@@ -492,19 +406,15 @@ def test_words(drop, count):
     ]:
         found = drop.run(*words)
         well = found.status == 2 and not found.out and found.err.decode().splitlines()[0] == line
-        count.add(f"drop {words}", None if well else f"{found} and not {line!r}")
-    count.add("no file is made", "there is one" if drop.path("no-file").exists() else None)
+        check(f"drop {words}", None if well else f"{found} and not {line!r}")
+    check("no file is made", "there is one" if drop.path("no-file").exists() else None)
     for command in ["links", "manifest", "compare"]:
-        owed = kit.Run(0, (kit.ROOT / "ci" / f"{command}.help").read_bytes(), b"")
+        owed = kit.Run(0, help_of(command), b"")
         for words in [[command, "--help"], ["help", command]]:
-            count.add(f"drop {words}", difference(drop.run(*words), owed))
+            check(f"drop {words}", difference(drop.run(*words), owed))
 
 
-def help_lines(command):
-    return [line.strip() for line in (kit.ROOT / "ci" / f"{command}.help").read_text().splitlines()]
-
-
-def test_examples(drop, count):
+def test_examples(drop, check):
     """The example of the help does what it says, as it stands; the heads that the help shows are those that are written."""
     file, secret = drop.office("office"), b"3kQz7mWx0PbT"
     tables.add_key(file, "tender-2", secret)
@@ -514,9 +424,9 @@ def test_examples(drop, count):
     method, in_box, name, start, expires = row = lines[first + 1].split(",")
     link = python_link(method, f"{in_box}/{name}", "tender-2", secret, start=start, expires=expires).decode().strip()
     found = drop.run(*words, given="".join(f"{line}\n" for line in lines[first:first + 2]).encode())
-    count.add("the example's link", unlike(found, [LINK_HEAD, [*row, link]]))
+    check("the example's link", unlike(found, [LINK_HEAD, [*row, link]]))
     for command, head in [("manifest", RECEIPT_HEAD), ("compare", STATE_HEAD)]:
-        count.add(f"the head of {command}", None if ",".join(head) in help_lines(command) else "it is not shown")
+        check(f"the head of {command}", None if ",".join(head) in help_lines(command) else "it is not shown")
 
 
 def shortened(found, owed):
@@ -527,31 +437,23 @@ def shortened(found, owed):
     return f"{parts} and not {(owed.status, len(owed.out), owed.out[:80], owed.err[:80])}"
 
 
-def test_great_fields(drop, count):
+def test_great_fields(drop, check):
     """Ten megabytes in one field: as the head, and in each field of a row."""
     file = few(drop, "great")
     rows = list(receipts(file))[:2]
     for head, run in [(WISH_HEAD, functools.partial(linked, drop, file)), (RECEIPT_HEAD, lambda data: drop.run("compare", file, given=data))]:
         for great in ["1" * MEGABYTES, ",", '"' * MEGABYTES]:
-            count.add(f"a head of {great[:3]}", shortened(run(written([[great * (MEGABYTES // len(great)), *head[1:]]])), NO_HEAD))
+            check(f"a head of {great[:3]}", shortened(run(written([[great * (MEGABYTES // len(great)), *head[1:]]])), NO_HEAD))
     for place in range(7):
         row = changed(rows[1], place, "1" * MEGABYTES)
         found = compared(drop, file, [rows[0], row])
         well = kit.Run(0, written(states(file, [rows[0], row])), b"") if place in (1, 2, 5, 6) else refused(1, [STATE_HEAD])
-        count.add(f"compare, a great field {place}", shortened(found, well))
+        check(f"compare, a great field {place}", shortened(found, well))
     for place in range(5):
         row = changed(GOOD_WISH, place, "1" * MEGABYTES)
-        count.add(f"links, a great field {place}", shortened(linked(drop, file, written([WISH_HEAD, row])), refused(1, [LINK_HEAD])))
+        check(f"links, a great field {place}", shortened(linked(drop, file, written([WISH_HEAD, row])), refused(1, [LINK_HEAD])))
     quoted_name = changed(rows[1], 2, '",\n' * (MEGABYTES // 3))
     owed = kit.Run(0, written(states(file, [rows[0], quoted_name])), b"")
-    count.add("compare, a great field of quotes", shortened(compared(drop, file, [rows[0], quoted_name]), owed))
+    check("compare, a great field of quotes", shortened(compared(drop, file, [rows[0], quoted_name]), owed))
     endless = written(rows) + b'1,"' + b"1" * MEGABYTES
-    count.add("compare, quotes without end", shortened(drop.run("compare", file, given=endless), refused(2, states(file, rows))))
-
-
-TESTS = [test_manifest, test_compare, test_altered, test_links, test_used_links, test_secret_links, test_bad_secrets, test_bad_links, test_bad_manifests, test_faults,
-         test_streams, test_words, test_examples, test_great_fields]
-
-
-if __name__ == "__main__":
-    run_all(TESTS)
+    check("compare, quotes without end", shortened(drop.run("compare", file, given=endless), refused(2, states(file, rows))))

@@ -9,10 +9,9 @@ tell after it; and the latter, once the answer was sent. Of some, among them all
 Python's `sqlite3` must find all rows of the tables so, and `drop replay` must fetch the file so, and another one.
 
 What is owed comes from the tables before the upload (ci/tables.py, ci/listed.py) and from Python's `hashlib`. With `--size` the
-upload has so many bytes. The last line is `N passed, M failed`: each two files that are left are a test.
+upload has so many bytes. Each two files that are left are a row.
 """
 
-import argparse
 import collections
 import dataclasses
 import itertools
@@ -24,15 +23,16 @@ import shutil
 import tempfile
 import time
 
+import pytest
+
 import kit
 import tables
-from expected import answer
+from expected import ID, MOMENT, answer, fetched, receipt
 from listed import receipts, written
-from office import Drop, answered, difference, fetched, get, put, receipt
-from replays import ID, MOMENT
-from serve import Server
+from messages import get, put
+from program import Drop, answered, difference
+from server import Server
 
-GREATEST = 8 << 20  # bytes of a body
 LARGE, TARGET = ("large", "a"), "large/a"
 OTHER = ("ends", "y.txt")  # a file that the upload does not touch
 SIDES = {"journal": "office-wal", "file": "office"}
@@ -264,7 +264,7 @@ def recorded(file, take, data):
     """What was answered where the program takes the upload, and its calls."""
     record = file.with_name("calls")
     with open(record, "wb") as told:
-        env = {"LD_PRELOAD": LIBRARY, "CALLS_TOLD_TO": str(told.fileno()), "PATH": os.defpath}
+        env = {"LD_PRELOAD": kit.library("ci/calls.c"), "CALLS_TOLD_TO": str(told.fileno()), "PATH": os.defpath}
         said = take(file, data, {"env": env, "pass_fds": [told.fileno()]})
     return said, list(calls_in(record))
 
@@ -372,7 +372,25 @@ def is_in_order(images, is_after):
     return None if line == sorted(line) and {False, True} == set(line) else "it comes and goes"
 
 
-def test_stops(count):
+UPLOADS = []
+
+
+@pytest.fixture(scope="module", autouse=True)
+def taken(pytestconfig):
+    """The uploads that the program took, in a folder of their own: the processes that look at images know them too."""
+    with tempfile.TemporaryDirectory(prefix="drop-stops-", dir=memory()) as folder:
+        UPLOADS.extend(uploads(pathlib.Path(folder), pytestconfig.getoption("size")))
+        yield
+        UPLOADS.clear()
+
+
+def test_taken(check):
+    for upload in UPLOADS:
+        for what, fault in upload.faults():
+            check(f"{upload.name}, {what}", fault)
+
+
+def test_stops(check):
     works = [(number, part) for number, upload in enumerate(UPLOADS) for part in parts_of(looked_at(upload.stops.images))]
     with multiprocessing.get_context("fork").Pool(PROCESSORS) as pool:
         found = pool.map(faults_of, works, chunksize=1)
@@ -380,9 +398,9 @@ def test_stops(count):
         is_after = {}
         for image, after, fault in itertools.chain(*(it for work, it in zip(works, found) if work[0] == number)):
             is_after[image] = after
-            count.add(f"{upload.name}, {image}", fault)
-        count.add(f"{upload.name}, stops", is_in_order(upload.stops.written, is_after))
-        count.add(f"{upload.name}, crashes", is_in_order(upload.stops.kept, is_after))
+            check(f"{upload.name}, {image}", fault)
+        check(f"{upload.name}, stops", is_in_order(upload.stops.written, is_after))
+        check(f"{upload.name}, crashes", is_in_order(upload.stops.kept, is_after))
         print(f"{upload.name}: {upload.stops.calls} calls, {len(is_after)} images")
 
 
@@ -390,26 +408,3 @@ def memory():
     """Where a folder lies in memory, if it has room: all that is built is synced."""
     shared = pathlib.Path("/dev/shm")
     return shared if shared.is_dir() and shutil.disk_usage(shared).free >= (PROCESSORS + 2) * ROOM else None
-
-
-UPLOADS = []
-LIBRARY = None
-
-
-def main():
-    global LIBRARY
-    parser = argparse.ArgumentParser(description=__doc__.splitlines()[0])
-    parser.add_argument("--size", type=int, default=GREATEST, help="bytes of the upload")
-    size, count = parser.parse_args().size, kit.Count()
-    with tempfile.TemporaryDirectory(prefix="drop-stops-", dir=memory()) as folder:
-        LIBRARY = kit.library(folder, "ci/calls.c")
-        UPLOADS.extend(uploads(pathlib.Path(folder), size))
-        for upload in UPLOADS:
-            for what, fault in upload.faults():
-                count.add(f"{upload.name}, {what}", fault)
-        test_stops(count)
-    count.end()
-
-
-if __name__ == "__main__":
-    main()

@@ -2,28 +2,25 @@
 and names of every kind.
 
 What is owed comes from the tables as `sqlite3` reads them and from Python's `csv` and `hashlib`; that the sums are right also
-from `sha256sum --check`. The last line is `N passed, M failed`.
+from `sha256sum --check`.
 """
 
-import hashlib
-import pathlib
 import random
 import resource
 import signal
 import stat
-import tempfile
 
 import kit
 import tables
-from expected import SECRET
-from listed import BOX_HEAD, FILE_HEAD, KEY_HEAD, KEPT, ascending, kept_files, read
-from lists import BOXES, KEYS, change, filled, few, help_lines, unlike
-from office import CANNOT_OPEN, VERSION, Drop, difference, malformed, not_offices
-from replays import ID, closed_pipe, fault, full_disk
+from expected import ID, SECRET
+from listed import BOX_HEAD, FILE_HEAD, KEPT, KEY_HEAD, ascending, kept_files, read, unlike
+from many_receipts import BOXES, KEYS, change, few, filled
+from program import (
+    CANNOT_OPEN, CANNOT_WRITE, VERSION, closed_pipe, difference, fault, full_disk, help_lines, help_of, malformed, not_offices,
+)
 
 PATH_HEAD = ["path", "box", "name", "receipt", "length", "sha256", "moment", "key"]
 WHATS = ["keys", "boxes", "files"]
-CANNOT_WRITE = fault("cannot write")
 # What some file system does not take in a name.
 NOT_TAKEN = set('/\\:*?"<>|') | {chr(code) for code in [*range(32), 127]}
 NAMES = ["..", ".", "a/..", "a/../b", "../../etc/passwd", "/etc/passwd", ".hidden", "...x", "x.", "x. ", "x .", " ", "  ", "a/b/c",
@@ -78,43 +75,43 @@ def listed(drop, file, what, **how):
     return drop.run("list", file, what, **how)
 
 
-def test_lists(drop, count):
+def test_lists(drop, check):
     """Each list as the tables have it: of an office that begins, of one of every kind of box, of many files, and behind changes."""
     empty, whole, many = drop.office("empty"), drop.filled("whole"), filled(drop, "many")
     limit_keys(many)
     for file in [empty, whole, many]:
         for what in WHATS:
-            count.add(f"{what} of {file.name}", unlike(listed(drop, file, what), list(KEPT[what](file))))
-    count.add("changes", change(drop, many, random.Random(7)))
+            check(f"{what} of {file.name}", unlike(listed(drop, file, what), list(KEPT[what](file))))
+    check("changes", change(drop, many, random.Random(7)))
     before = tables.dump(many)
     for what in WHATS:
-        count.add(f"{what} behind changes", unlike(listed(drop, many, what), list(KEPT[what](many))))
+        check(f"{what} behind changes", unlike(listed(drop, many, what), list(KEPT[what](many))))
     for secret in [SECRET, *KEYS.values()]:
         told = [what for what in WHATS if secret in listed(drop, many, what).out]
-        count.add("no list tells a secret", f"it stands in {told}" if told else None)
-    count.add("the office stays", None if tables.dump(many) == before else "it was changed")
+        check("no list tells a secret", f"it stands in {told}" if told else None)
+    check("the office stays", None if tables.dump(many) == before else "it was changed")
 
 
-def test_list_faults(drop, count):
+def test_list_faults(drop, check):
     """What is listed comes before the file; a list that cannot be written."""
     gone, file = drop.path("gone"), few(drop, "faults")
     for what in ["", "key", "Keys", "secrets", "keys boxes"]:
-        count.add(f"list {what!r}", difference(listed(drop, gone, what), malformed("what")))
+        check(f"list {what!r}", difference(listed(drop, gone, what), malformed("what")))
     for what in WHATS:
-        count.add(f"list {what}, no file", difference(listed(drop, gone, what), CANNOT_OPEN))
+        check(f"list {what}, no file", difference(listed(drop, gone, what), CANNOT_OPEN))
         for failing in [full_disk, closed_pipe]:
             with failing() as out:
-                count.add(f"{what} to a {failing.__name__}", difference(listed(drop, file, what, out=out), CANNOT_WRITE))
+                check(f"{what} to a {failing.__name__}", difference(listed(drop, file, what, out=out), CANNOT_WRITE))
     version = few(drop, "version")
     tables.run(version, ["UPDATE office SET version = 7"])
     for other, owed in [*not_offices(drop), (version, VERSION)]:
-        count.add(f"files of {other.name}", difference(listed(drop, other, "files"), owed))
-        count.add(f"{other.name} exported", difference(exported(drop, other, "none"), owed))
-        count.add("no folder is made", "there is one" if drop.path("none").exists() else None)
+        check(f"files of {other.name}", difference(listed(drop, other, "files"), owed))
+        check(f"{other.name} exported", difference(exported(drop, other, "none"), owed))
+        check("no folder is made", "there is one" if drop.path("none").exists() else None)
     with tables.opened(file) as db:
         db.execute("BEGIN EXCLUSIVE")
-        count.add("a file that is held", difference(listed(drop, file, "boxes"), CANNOT_OPEN))
-        count.add("a file that is held, exported", difference(exported(drop, file, "none"), CANNOT_OPEN))
+        check("a file that is held", difference(listed(drop, file, "boxes"), CANNOT_OPEN))
+        check("a file that is held, exported", difference(exported(drop, file, "none"), CANNOT_OPEN))
 
 
 # ---- exports
@@ -151,10 +148,10 @@ def unlike_folder(folder, file, only=None):
             or (f"sha256sum: {checked}" if checked and checked.status else None) or wrong_modes(folder))
 
 
-def test_exports(drop, count):
+def test_exports(drop, check):
     """Offices of every kind, whole and box by box."""
     empty, whole, many = drop.office("none-yet"), drop.filled("every"), filled(drop, "thousands")
-    count.add("changes", change(drop, many, random.Random(9)))
+    check("changes", change(drop, many, random.Random(9)))
     odd = few(drop, "odd")
     for in_box in [".", "..", "...a", "a.", "a", *CALLED, "sha256sums.", "files.csv."]:
         tables.add_box(odd, tables.Box(in_box))
@@ -164,16 +161,16 @@ def test_exports(drop, count):
     for file in [empty, whole, many, odd]:
         before = tables.dump(file)
         folder = drop.path(f"{file.name}-out")
-        count.add(f"{file.name} exported", difference(exported(drop, file, folder), kit.Run(0, b"", b"")))
-        count.add(f"what was exported of {file.name}", unlike_folder(folder, file))
-        count.add(f"{file.name} stays", None if tables.dump(file) == before else "it was changed")
+        check(f"{file.name} exported", difference(exported(drop, file, folder), kit.Run(0, b"", b"")))
+        check(f"what was exported of {file.name}", unlike_folder(folder, file))
+        check(f"{file.name} stays", None if tables.dump(file) == before else "it was changed")
     for in_box in [*BOXES, "no-such-box"]:
         folder = drop.path(f"only-{in_box}")
-        count.add(f"box {in_box} exported", difference(exported(drop, many, folder, "--box", in_box), kit.Run(0, b"", b"")))
-        count.add(f"what was exported of box {in_box}", unlike_folder(folder, many, in_box))
+        check(f"box {in_box} exported", difference(exported(drop, many, folder, "--box", in_box), kit.Run(0, b"", b"")))
+        check(f"what was exported of box {in_box}", unlike_folder(folder, many, in_box))
 
 
-def test_names(drop, count):
+def test_names(drop, check):
     """Each name by itself: one component below its box, which no other file has."""
     file, folder = few(drop, "names"), drop.path("names-out")
     for name in NAMES:
@@ -183,10 +180,10 @@ def test_names(drop, count):
     for name, number in tables.rows(file, "SELECT name, receipt FROM files WHERE box = ?", BOXES[1]):
         owed = f"{number}-{part_of(name)}"
         taken = not set(owed) & NOT_TAKEN and len(owed.encode()) <= 255 and owed[-1] not in ". "
-        count.add(f"name {name[:40]!r}", None if below.count(owed) == 1 and taken else f"{owed} is not there")
+        check(f"name {name[:40]!r}", None if below.count(owed) == 1 and taken else f"{owed} is not there")
 
 
-def test_export_faults(drop, count):
+def test_export_faults(drop, check):
     """A folder that is there, or cannot be made; a disk that fills."""
     file = few(drop, "export-faults")
     tables.add_file(file, "in", "large", b"x" * 3_000_000, ID)
@@ -195,14 +192,14 @@ def test_export_faults(drop, count):
     link.symlink_to(drop.path("nowhere"))
     plain.write_bytes(b"as it was")
     for folder in [there, link, plain, drop.path("no/such/folder"), "", "x" * 300]:
-        count.add(f"a folder {str(folder)[-20:]!r}", difference(exported(drop, file, folder), fault("cannot make the folder")))
-    count.add("they stay", None if plain.read_bytes() == b"as it was" and not list(there.iterdir()) else "they were changed")
+        check(f"a folder {str(folder)[-20:]!r}", difference(exported(drop, file, folder), fault("cannot make the folder")))
+    check("they stay", None if plain.read_bytes() == b"as it was" and not list(there.iterdir()) else "they were changed")
     small = drop.path("small")
     found = exported(drop, file, small, preexec_fn=short_of_disk)
     whole = [path for path, data in owed_paths(file)[1].items() if (small / path).is_file() and (small / path).read_bytes() == data]
     owed = fault(f"cannot write to the folder: files that are whole: {len(whole)}")
-    count.add("a file that is too large for the disk", difference(found, owed) or difference(len(whole), 1))
-    count.add("its list", difference([row[0] for row in read((small / "files.csv").read_bytes())[1:]], whole))
+    check("a file that is too large for the disk", difference(found, owed) or difference(len(whole), 1))
+    check("its list", difference([row[0] for row in read((small / "files.csv").read_bytes())[1:]], whole))
 
 
 def short_of_disk():
@@ -214,35 +211,22 @@ def short_of_disk():
 # ---- words
 
 
-def test_words(drop, count):
+def test_words(drop, check):
     """The version, help, and words that name no task."""
     found = drop.run("--version")
-    count.add("the version", None if found.status == 0 and found.out.startswith(b"drop ") and not found.err else f"{found}")
-    count.add("-V", difference(drop.run("-V"), found))
+    check("the version", None if found.status == 0 and found.out.startswith(b"drop ") and not found.err else f"{found}")
+    check("-V", difference(drop.run("-V"), found))
     missing = "error: the following required arguments were not provided:"
     for words in [["list"], ["list", "office"], ["export"], ["export", "office"]]:
         ran = drop.run(*words)
         well = ran.status == 2 and not ran.out and ran.err.decode().splitlines()[0] == missing
-        count.add(f"drop {words}", None if well else f"{ran}")
+        check(f"drop {words}", None if well else f"{ran}")
     for command in ["list", "export"]:
-        owed = kit.Run(0, (kit.ROOT / "ci" / f"{command}.help").read_bytes(), b"")
+        owed = kit.Run(0, help_of(command), b"")
         for words in [[command, "--help"], ["help", command]]:
-            count.add(f"drop {words}", difference(drop.run(*words), owed))
+            check(f"drop {words}", difference(drop.run(*words), owed))
     for head in [KEY_HEAD, BOX_HEAD, FILE_HEAD]:
-        count.add(f"the head {head[0]}", None if ",".join(head) in help_lines("list") else "it is not shown")
-    count.add("the head of files.csv", None if ",".join(PATH_HEAD) in help_lines("export") else "it is not shown")
+        check(f"the head {head[0]}", None if ",".join(head) in help_lines("list") else "it is not shown")
+    check("the head of files.csv", None if ",".join(PATH_HEAD) in help_lines("export") else "it is not shown")
 
 
-def main():
-    count = kit.Count()
-    with tempfile.TemporaryDirectory() as folder:
-        drop = Drop(kit.built("drop"), pathlib.Path(folder))
-        for test in [test_lists, test_list_faults, test_exports, test_names, test_export_faults, test_words]:
-            place = pathlib.Path(folder) / test.__name__
-            place.mkdir()
-            test(Drop(drop.program, place), count)
-    count.end()
-
-
-if __name__ == "__main__":
-    main()
