@@ -179,12 +179,12 @@ const CLERK_TEXTS = {
   },
   de: {
     clerk_title: "Verwaltung der Stelle",
-    no_crypto: "Diese Seite kann hier nicht unterschreiben: Sie wurde ohne Verschlüsselung geöffnet (http statt https), und " +
+    no_crypto: "Diese Seite kann hier nicht signieren: Sie wurde ohne Verschlüsselung geöffnet (http statt https), und " +
       "dann stellen Browser keine Kryptografie bereit, außer für Seiten auf demselben Rechner. Öffnen Sie sie über die " +
       "https-Adresse der Stelle. Ohne diese Seite gibt es die Befehle drop link und drop desk.",
     your_key: "Ihr Schlüssel",
     key_stays: "Das Geheimnis bleibt nur im Speicher dieser Seite, bis Sie sie verlassen oder schließen. Es wird weder " +
-      "gesendet noch gespeichert; nur Unterschriften verlassen die Seite.",
+      "gesendet noch gespeichert; nur Signaturen verlassen die Seite.",
     key_id: "Kennung des Schlüssels",
     secret: "Geheimnis",
     secret_file: "Oder eine Datei mit dem Geheimnis",
@@ -197,7 +197,7 @@ const CLERK_TEXTS = {
     use_key: "Diesen Schlüssel benutzen",
     forget_key: "Schlüssel vergessen",
     forgotten: "Der Schlüssel ist vergessen.",
-    links_alone: "Dieser Schlüssel hat die Rolle link: Er unterschreibt Links und erteilt keine Befehle.",
+    links_alone: "Dieser Schlüssel hat die Rolle link: Er signiert Links und erteilt keine Befehle.",
     key_right_title: "Der Schlüssel stimmt",
     key_right: "Die Stelle kennt ihn als Schlüssel der Verwaltung.",
     asking: "Die Stelle wird gefragt …",
@@ -271,8 +271,8 @@ const CLERK_TEXTS = {
     add_key: "Schlüssel hinzufügen",
     new_key_id: "Kennung des neuen Schlüssels",
     role: "Rolle",
-    role_link: "link: unterschreibt Links",
-    role_clerk: "clerk: unterschreibt Links und erteilt Befehle",
+    role_link: "link: signiert Links",
+    role_clerk: "clerk: signiert Links und erteilt Befehle",
     secret_made: "Das Geheimnis wird hier zufällig erzeugt und gezeigt, sobald die Stelle den Schlüssel hat.",
     add_key_go: "Schlüssel hinzufügen",
     done_add_key: "Die Stelle hat den Schlüssel „{id}“.",
@@ -317,7 +317,7 @@ const CLERK_TEXTS = {
     desk_19_do: "Prüfen Sie die Kennung und ob dies die richtige Stelle ist. Benutzen Sie den Schlüssel dann noch einmal.",
     desk_20: "Die Stelle hat diesen Schlüssel widerrufen.",
     desk_20_do: "Lassen Sie die Seite den Schlüssel vergessen und benutzen Sie einen anderen.",
-    desk_21: "Die Unterschrift passt nicht: Das Geheimnis ist nicht das dieses Schlüssels.",
+    desk_21: "Die Signatur passt nicht: Das Geheimnis ist nicht das dieses Schlüssels.",
     desk_21_do: "Geben Sie das richtige Geheimnis an; hatte die Seite den Schlüssel schon angenommen, lassen Sie sie ihn zuerst " +
       "vergessen. Stimmt das Geheimnis, so verändert etwas zwischen dieser Seite und der Stelle die Anfragen.",
     desk_22: "Der Befehl kam vor seiner Zeit: Die Uhr dieses Geräts geht gegenüber der Uhr der Stelle vor.",

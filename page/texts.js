@@ -11,12 +11,12 @@ const TEXTS = {
     link: "What this link is for",
     box: "Box",
     name: "Name in the box",
-    holds: "The link holds",
+    holds: "The link is valid",
     holds_from_to: "from {from}\nto {to}",
     other_host: "This link is for {host}, but this page stands at {here}. The office will most likely refuse it " +
       "with number 21. Open this page at {host}.",
     no_link: "No link was given. Paste the whole link that you got from the office.",
-    form: "What stands behind the # in the address is no link. Paste the whole link that you got from the office.",
+    form: "The part of the address after the # is not a link. Paste the whole link that you got from the office.",
     dots: "This link can’t be used in a browser: its name has a part that is . or .. alone, and every browser " +
       "takes such parts out before it sends a link, so the office would refuse it. Nothing was sent. Ask the " +
       "office for a link with another name.",
@@ -52,7 +52,7 @@ const TEXTS = {
     stop: "Stop",
     again: "Try again",
     harmless: "Sending the same file again is harmless: the office keeps it once and gives the same receipt.",
-    harmless_get: "Fetching changes nothing; you can do it as often as the link holds.",
+    harmless_get: "Fetching changes nothing; you can do it as often as you like while the link is valid.",
     receipt: "Receipt {number}",
     receipt_lead: "The office has the file.",
     same: "This is the same receipt as before: the office had exactly this file already, and nothing was changed. " +
@@ -61,9 +61,9 @@ const TEXTS = {
     length: "Length",
     office_digest: "SHA-256 from the office",
     own_digest: "SHA-256 by this browser",
-    moment: "Told at",
-    moment_note: "“Told at” is by this device’s clock. When the office first took the file stands in the office’s " +
-      "own list.",
+    moment: "Receipt shown at",
+    moment_note: "“Receipt shown at” is by this device’s clock. The office’s own list says when the office first " +
+      "accepted the file.",
     equal: "Checked: length and SHA-256 from the office are those of your file.",
     equal_get: "Checked: length and SHA-256 from the office are those of the file that arrived.",
     unchecked: "Not checked: this browser could not compute the SHA-256, because the page was opened without " +
@@ -177,7 +177,7 @@ const TEXTS = {
     other_host: "Dieser Link gilt für {host}, diese Seite steht aber auf {here}. Die Stelle wird ihn vermutlich " +
       "mit Nummer 21 ablehnen. Öffnen Sie diese Seite auf {host}.",
     no_link: "Es wurde kein Link angegeben. Fügen Sie den ganzen Link ein, den Sie von der Stelle bekommen haben.",
-    form: "Was in der Adresse hinter dem # steht, ist kein Link. Fügen Sie den ganzen Link ein, den Sie von der " +
+    form: "Der Teil der Adresse hinter dem # ist kein Link. Fügen Sie den ganzen Link ein, den Sie von der " +
       "Stelle bekommen haben.",
     dots: "Dieser Link lässt sich in einem Browser nicht benutzen: Ein Teil seines Namens ist nur . oder .., und " +
       "jeder Browser nimmt solche Teile vor dem Senden heraus, sodass die Stelle ihn ablehnen würde. Es wurde " +
@@ -225,9 +225,9 @@ const TEXTS = {
     length: "Länge",
     office_digest: "SHA-256 von der Stelle",
     own_digest: "SHA-256 von diesem Browser",
-    moment: "Mitgeteilt am",
-    moment_note: "„Mitgeteilt am“ ist nach der Uhr dieses Geräts. Wann die Stelle die Datei zuerst annahm, steht " +
-      "in deren eigener Liste.",
+    moment: "Quittung angezeigt am",
+    moment_note: "„Quittung angezeigt am“ ist nach der Uhr dieses Geräts. Wann die Stelle die Datei zuerst annahm, " +
+      "steht in ihrer eigenen Liste.",
     equal: "Geprüft: Länge und SHA-256 von der Stelle sind die Ihrer Datei.",
     equal_get: "Geprüft: Länge und SHA-256 von der Stelle sind die der Datei, die ankam.",
     unchecked: "Nicht geprüft: Dieser Browser konnte die SHA-256 nicht berechnen, weil die Seite ohne " +
@@ -282,7 +282,7 @@ const TEXTS = {
       "erneut. Ist es ein Link zum Senden, öffnen Sie ihn mit put.html. Bleibt es so, bitten Sie die Stelle um " +
       "einen neuen Link zum Abholen.",
     remedy_new: "Bitten Sie die Stelle um einen neuen Link.",
-    remedy_host: "Bitten Sie die Stelle um einen Link, der nur den Host unterschreibt.",
+    remedy_host: "Bitten Sie die Stelle um einen Link, der nur den Host signiert.",
     remedy_smaller: "Verkleinern Sie die Datei oder senden Sie sie in Teilen, jeden mit einem eigenen Link. Geht " +
       "beides nicht, fragen Sie die Stelle nach einem anderen Weg.",
     remedy_wait: "Warten Sie bis zu der Zeit, ab der der Link gilt, und versuchen Sie es dann erneut. Ist diese Zeit " +
@@ -306,22 +306,22 @@ const TEXTS = {
       6: ["Die Datei kam nur zum Teil an.", "again"],
       7: ["Diese Art von Anfrage bedient die Stelle nicht.", "page"],
       8: ["Der Link ist nicht so geschrieben, wie Links es sind.", "copy"],
-      9: ["Der Link ist nicht unterschrieben.", "copy"],
-      10: ["Dem Link fehlt ein Teil der Unterschrift, oder er hat einen zu viel.", "copy"],
-      11: ["Der Link nennt eine andere Art von Unterschrift.", "copy"],
+      9: ["Der Link ist nicht signiert.", "copy"],
+      10: ["Dem Link fehlt ein Teil der Signatur, oder er hat einen zu viel.", "copy"],
+      11: ["Der Link nennt eine andere Art von Signatur.", "copy"],
       12: ["Der Teil des Links, der den Schlüssel nennt, ist beschädigt.", "copy"],
       13: ["Das Datum im Link ist beschädigt.", "copy"],
       14: ["Die Dauer, für die der Link gilt, ist beschädigt.", "copy"],
-      15: ["Die Liste der unterschriebenen Kopfzeilen im Link ist beschädigt.", "copy"],
-      16: ["Die Unterschrift im Link ist beschädigt.", "copy"],
+      15: ["Die Liste der signierten Kopfzeilen im Link ist beschädigt.", "copy"],
+      16: ["Die Signatur im Link ist beschädigt.", "copy"],
       17: ["Der Link verlangt eine Kopfzeile, die ein Browser nicht sendet.", "host"],
-      18: ["Es kam eine Kopfzeile mit, die der Link nicht unterschreibt.", "page"],
-      19: ["Die Stelle kennt den Schlüssel nicht, der den Link unterschrieben hat.", "new"],
-      20: ["Die Stelle hat den Schlüssel widerrufen, der den Link unterschrieben hat.", "new"],
-      21: ["Die Unterschrift passt nicht: Der Link ist unvollständig, verändert oder für etwas anderes.", "match"],
+      18: ["Es kam eine Kopfzeile mit, die der Link nicht signiert.", "page"],
+      19: ["Die Stelle kennt den Schlüssel nicht, der den Link signiert hat.", "new"],
+      20: ["Die Stelle hat den Schlüssel widerrufen, der den Link signiert hat.", "new"],
+      21: ["Die Signatur passt nicht: Der Link ist unvollständig, verändert oder für etwas anderes.", "match"],
       22: ["Der Link gilt noch nicht.", "wait"],
       23: ["Der Link ist abgelaufen.", "new"],
-      24: ["Der Schlüssel, der den Link unterschrieben hat, darf das nicht oder nicht in diesem Fach.", "new"],
+      24: ["Der Schlüssel, der den Link signiert hat, darf das nicht oder nicht in diesem Fach.", "new"],
       25: ["Die Länge der Datei wurde nicht angegeben.", "page"],
       26: ["Die Anfrage brachte Daten mit, wo keine angenommen werden.", "page"],
       27: ["Die Stelle hat kein Fach dieses Namens.", "box"],
