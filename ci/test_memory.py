@@ -146,9 +146,9 @@ def test_offices(program, tmp_path, check):
             it.unlink()
         return lambda is_made: None if is_made == bool(list(tmp_path.glob("office*"))) else "a file is left, or none was made"
 
-    def copied():
+    def copied(other=whole):
         gone()
-        shutil.copy(whole, file)
+        shutil.copy(other, file)
         before = tables.dump(file)
         return lambda is_right: None if is_right or tables.dump(file) == before else "the tables were changed"
 
@@ -164,13 +164,7 @@ def test_offices(program, tmp_path, check):
         words = ["desk", file, line]
         each_office(program, name, words, copied, told, [OUT_OF_MEMORY, closed_badly], check, [closed_badly], given)
     old = Kept(VERSION_1 / "past").copied(tmp_path / "kept")
-
-    def of_version_1():
-        gone()
-        shutil.copy(old, file)
-        before = tables.dump(file)
-        return lambda is_right: None if is_right or tables.dump(file) == before else "the tables were changed"
-
+    of_version_1 = functools.partial(copied, old)
     each_office(program, "drop migrate", ["migrate", file], of_version_1, told, [OUT_OF_MEMORY, closed_badly], check, [closed_badly])
 
 
