@@ -7,68 +7,42 @@ use Rattle.sqltables.specs.Schema.{Version}
 use Rattle.sqltables.specs.Means.{IsWhole, IsRunning}
 use Rattle.sqltables.proofs.Building.{survives_then, survives_itself, keeps_then}
 use Rattle.sqltables.proofs.Runs.{itself_keeps}
-use Rattle.sqltables.proofs.Gathering.{OpensOurs, no_piece}
+use Rattle.sqltables.proofs.Gathering.{OpensOurs}
 use Rattle.sqlaudit.proofs.Entries.{each_more}
 use Rattle.sqlite_value.specs.Order.{Row}
 use Rattle.sigtext.specs.Bytes.{AreBytes}
 use Rattle.sigv4.specs.Hmac.{sha256}
 use Rattle.boxes.specs.State.{Place}
-use Rattle.sqltables.specs.Pieces.{AreBytesOf, HasPiece}
+use Rattle.sqltables.specs.Pieces.{AreBytesOf}
 use Rattle.sqlaudit.specs.declared.lines.FileLine.{FileLine}
 use Rattle.sqlaudit.specs.declared.lines.ReceiptLine.{ReceiptLine}
-use Rattle.sqlaudit.specs.Opened.{IsBare, IsNotBare, IsGivenFor, HasBytes, LacksBytes, place_in}
+use Rattle.sqlaudit.specs.Opened.{IsGivenFor, HasBytes, LacksBytes, place_in}
 
 pub are_bytes : (bytes : List ℕ) → ((i : ℕ) → Fits w8 (get_or bytes i 0)) → AreBytes bytes
 are_bytes bytes fits = recursion_from_All (λ b. b < 256) bytes (All-from_get_or (λ b. b < 256) bytes 0 (λ i within. omega (arith, fits i)))
 
-module _ (rows : List Row) (receipts : List ReceiptLine) (file : FileLine) (given : ReceiptLine) (is_given : IsGivenFor receipts file given) (size : ℕ) (size_is : given.length ≡ pos size)
+module _ (rows : List Row) (receipts : List ReceiptLine) (file : FileLine) (given : ReceiptLine) (is : IsGivenFor receipts file given) (size : ℕ) (size_is : given.length ≡ pos size)
     (place : Place) (there : place ≡ place_in file) where
   pub none_told : ((bytes : List ℕ) → AreBytesOf rows place size bytes → ⊥) → LacksBytes rows receipts file
-  none_told none = record { given = given; is = is_given; size = size; size_is = size_is; lacks = inl (subst (λ p. (bytes : List ℕ) → AreBytesOf rows p size bytes → ⊥) there none) }
+  none_told none = record { given = given; is = is; size = size; size_is = size_is; lacks = inl (subst (λ p. (bytes : List ℕ) → AreBytesOf rows p size bytes → ⊥) there none) }
 
-  pub told : 0 < size → (bytes : List ℕ) → AreBytesOf rows place size bytes → AreBytes bytes → (b : Bool) → (IsTrue b → sha256 bytes ≡ given.digest.items) × (sha256 bytes ≡ given.digest.items → IsTrue b)
+  pub told : (bytes : List ℕ) → AreBytesOf rows place size bytes → AreBytes bytes → (b : Bool) → (IsTrue b → sha256 bytes ≡ given.digest.items) × (sha256 bytes ≡ given.digest.items → IsTrue b)
       → MatchBool b (HasBytes rows receipts file) (LacksBytes rows receipts file)
-  told full bytes are octets true same = record {
+  told bytes are octets true same = record {
     given = given;
-    is = is_given;
+    is = is;
     bytes = bytes;
     are = subst (λ n. AreBytesOf rows (place_in file) n bytes) (sym are.size_is) (subst (λ p. AreBytesOf rows p size bytes) there are);
     octets = octets;
     size = size_is ∙ ap pos (sym are.size_is);
     digest = same.0 refl;
-    bare = λ none. absurd (omega (arith, full, none, are.size_is));
   }
-  told full bytes are octets false same = record {
+  told bytes are octets false same = record {
     given = given;
-    is = is_given;
+    is = is;
     size = size;
     size_is = size_is;
-    lacks = inr (inl (bytes, subst (λ p. AreBytesOf rows p size bytes) there are, λ e. let no = same.1 e in cc));
-  }
-
-  no_bytes : AreBytesOf rows (place_in file) 0 []
-  no_bytes = record { size_is = refl; pieces = λ at piece is. absurd (let e = sym (no_piece [] at (omega arith)) ∙ is in cc) }
-
-  pub told_empty : size ≡ 0 → (b : Bool) → MatchBool b (IsBare rows place given) (IsNotBare rows place given) → MatchBool b (HasBytes rows receipts file) (LacksBytes rows receipts file)
-  told_empty none true is = record {
-    given = given;
-    is = is_given;
-    bytes = [];
-    are = no_bytes;
-    octets = tt;
-    size = size_is ∙ ap pos none;
-    digest = is.digest;
-    bare = λ empty piece has. is.none piece (subst (λ p. HasPiece rows p 0 piece) (sym there) has);
-  }
-  told_empty none false is = record {
-    given = given;
-    is = is_given;
-    size = size;
-    size_is = size_is;
-    lacks = elim is [
-      | inl has ↦ inr (inr (none, has.0, subst (λ p. HasPiece rows p 0 has.0) there has.1))
-      | inr other ↦ inr (inl ([], subst (λ n. AreBytesOf rows (place_in file) n []) (sym none) no_bytes, other))
-    ];
+    lacks = inr (bytes, subst (λ p. AreBytesOf rows p size bytes) there are, λ e. let no = same.1 e in cc);
   }
 
 -- ---- file after file

@@ -21,7 +21,7 @@ use Rattle.std.specs.List.Sorted.{IsPermutation}
 use Rattle.sqlite_trees.proofs.ListLemmas.{map-map, pull_back}
 use Rattle.sqlite.proofs.Callers.{reads_as}
 use Rattle.sqltables.specs.Schema.{Version}
-use Rattle.sqlaudit.specs.Lines.{AreLines, AreNumbersOf, AreRead, HaveRowids}
+use Rattle.sqlaudit.specs.Lines.{AreLines, AreNumbered, AreRead, HaveRowids}
 use Rattle.sqltables.proofs.Forms.{all_rows, no_limit, select}
 use Rattle.sqltables.proofs.Says.{Asks}
 use Rattle.sqltables.proofs.Shown.{shown_open, shown_unchanged}
@@ -111,11 +111,11 @@ module _ {L : Type 0} (reads IsLine : Row → L → Type 0) (show : Row → Row)
         (r.0, there, fits r.0 line there (subst (λ y. reads y line) r.2 x.2));
   }
 
-module _ (show : Row → Row) (keeps : (r : Row) → column (show r) 0 ≡ rowid r) (rows shown : List Row) (listed : Lists show rows shown) (numbers : List ℤ) (numbered : AreNumbersOf shown numbers) where
+module _ (show : Row → Row) (keeps : (r : Row) → column (show r) 0 ≡ rowid r) (rows shown : List Row) (listed : Lists show rows shown) (numbered : AreNumbered shown) where
   abbrev from : (xs : List Row) × IsPermutation listed.found xs × (numbered.found ≡ map show xs)
   from = pull_back show shown numbered.found numbered.same listed.found listed.is
 
-  firsts : map rowid from.0 ≡ map Int numbers
+  firsts : map rowid from.0 ≡ map Int numbered.numbers
   firsts = sym (map-map first show from.0 ∙ same_map from.0) ∙ ap (map first) (sym from.2) ∙ numbered.are
     where
       same_map : (xs : List Row) → map (λ r. first (show r)) xs ≡ map rowid xs
@@ -126,13 +126,13 @@ module _ (show : Row → Row) (keeps : (r : Row) → column (show r) 0 ≡ rowid
   inside row has = has_permuted from.0 listed.found row (IsPermutation-sym _ _ from.1) (has_permuted listed.found rows row (IsPermutation-sym _ _ listed.same) has)
 
   -- the rowid of each row is one of the numbers
-  pub rowid_of : (row : Row) → Has rows row → (n : ℤ) × Has numbers n × (rowid row ≡ Int n)
-  rowid_of row has = number_of from.0 numbers firsts row (inside row has)
+  pub rowid_of : (row : Row) → Has rows row → (n : ℤ) × Has numbered.numbers n × (rowid row ≡ Int n)
+  rowid_of row has = number_of from.0 numbered.numbers firsts row (inside row has)
 
   pub rowids : HaveRowids rows
   rowids = record {
     keyed = λ row has. let n = rowid_of row has in (n.0, n.2);
-    apart = λ a b has_a has_b equal. apart from.0 numbers firsts numbered.rising a b (inside a has_a) (inside b has_b) equal;
+    apart = λ a b has_a has_b equal. apart from.0 numbered.numbers firsts numbered.rising a b (inside a has_a) (inside b has_b) equal;
   }
 
 -- ---- the query
@@ -151,7 +151,7 @@ module _ {L : Type 0} (reads IsLine : Row → L → Type 0) (v : Version) (text 
   lines_listed = lines_are reads IsLine (λ r. eval_all project ([] ∷ r ∷ [])) table read.rows listed lines read.each
 
   pub rowids_listed : ((row : Row) → column (eval_all project ([] ∷ row ∷ [])) 0 ≡ rowid row) → HaveRowids table
-  rowids_listed keeps = rowids (λ r. eval_all project ([] ∷ r ∷ [])) keeps table read.rows listed read.numbers read.numbered
+  rowids_listed keeps = rowids (λ r. eval_all project ([] ∷ r ∷ [])) keeps table read.rows listed read.numbered
 
   pub unchanged : IsUnchanged old new
   unchanged = shown_unchanged v text (select (all_rows tree project order) names) asks [] old new has read.rows read.shown

@@ -1,13 +1,14 @@
 -- Lines of receipts in the order of their numbers.
-use Rattle.std.proofs.Common.{◌≡◌, ◌≢◌, ◌∙◌, inl, inr, ℕ, zero, suc, ◌+◌, ◌<◌, ◌≤◌, ◌<ℤ◌, ℤ, pos, List, [], ◌∷◌, length, get_or, Bool, true, false, IsTrue, Option, Some, None, slice_get, arith, rules, refl, sym, ap, subst}
+use Rattle.std.proofs.Common.{◌≡◌, ◌≢◌, ◌∙◌, inl, inr, ℕ, zero, suc, ◌+◌, ◌<◌, ◌≤◌, ◌<ℤ◌, ℤ, pos, List, [], ◌∷◌, length, get_or, Bool, true, false, IsTrue, Option, Some, None, slice_get, arith, rules, refl, sym, ap, subst, subst₂}
 use Rattle.std.specs.Prelude.{Contains, MatchOption, nat_lt, int_lt}
-use Rattle.std.specs.List.{IsAllAdjacentAnswer}
+use Rattle.std.specs.List.{AllByRecursion, AllAdjacentBelow, IsAllAdjacentAnswer}
 use Rattle.std.specs.FinMap.{FinMap}
+use Rattle.std.proofs.Math.Numerals.{add-one}
 use Rattle.std.proofs.lemmas.Bool.{cases_Bool, ltb-true, ltb-false}
 use Rattle.std.proofs.lemmas.Int.{ints}
 use Rattle.std.proofs.lemmas.List.{get_or_default}
 use Rattle.std.proofs.lemmas.Option.{slice_get_within, slice_get-get_or, get_or_from_slice_get}
-use Rattle.sqlite_trees.proofs.ListLemmas.{ascending-get_or}
+use Rattle.sqlite_trees.proofs.ListLemmas.{all_weaker}
 use Rattle.sigtext.specs.Bytes.{bytes_cmp}
 use Rattle.boxes.specs.State.{Key, Receipt}
 use Rattle.boxes.proofs.Lookups.{some_none}
@@ -15,7 +16,6 @@ use Rattle.sqltables.specs.Tables.{Box}
 use Rattle.sqlaudit.specs.declared.lines.ReceiptLine.{ReceiptLine}
 use Rattle.sqlaudit.specs.Outlines.{AreEntries, IsReceiptEntry}
 use Rattle.sqlaudit.specs.Sorting.{AreRising, HoldsReceipts, IsGiven}
-use Rattle.sqlaudit.proofs.Rising.{rises}
 
 -- ---- lines that rise
 
@@ -25,11 +25,32 @@ below a b = a.number <ℤ b.number
 through : (a b c : ReceiptLine) → below a b → below b c → below a c
 through a b c one two = omega (arith, ints, one, two)
 
+pub rises : (lines : List ReceiptLine) → AllAdjacentBelow below lines (length lines) → AreRising lines
+rises [] next = tt
+rises (n ∷ []) next = (tt, tt)
+rises (n ∷ m ∷ lines) next =
+    let first : below n m = next 0 n (omega arith) in
+    let later : AllAdjacentBelow below (m ∷ lines) (length (m ∷ lines)) = λ k d h.
+    subst₂ (λ i j. below (get_or (n ∷ m ∷ lines) i d) (get_or (n ∷ m ∷ lines) j d)) (add-one k) (add-one (k + 1)) (next (k + 1) d (omega (arith, h))) in
+    let rest = rises (m ∷ lines) later in
+    ((first, all_weaker (below m) (below n) (λ x. through n m x first) lines rest.0), rest)
+
+all_got : (P : ReceiptLine → Type 0) (xs : List ReceiptLine) (i : ℕ) (d : ReceiptLine) → AllByRecursion P xs → i < length xs → P (get_or xs i d)
+all_got P [] i d all within = absurd (omega (arith, within))
+all_got P (x ∷ xs) zero d all within = all.0
+all_got P (x ∷ xs) (suc i) d all within = all_got P xs i d all.1 (omega (arith, within))
+
+below_later : (xs : List ReceiptLine) (i j : ℕ) (d : ReceiptLine) → AreRising xs → i < j → j < length xs → below (get_or xs i d) (get_or xs j d)
+below_later [] i j d rising before within = absurd (omega (arith, within))
+below_later (x ∷ xs) i zero d rising before within = absurd (omega (arith, before))
+below_later (x ∷ xs) zero (suc j) d rising before within = all_got (below x) xs j d rising.0 (omega (arith, within))
+below_later (x ∷ xs) (suc i) (suc j) d rising before within = below_later xs i j d rising.1 (omega (arith, before)) (omega (arith, within))
+
 is_less : (a b : ℤ) → int_lt a b ≡ true → a <ℤ b
 is_less a b h = search rules
 
 pub rise_answered : (lines : List ReceiptLine) (r : Bool) → IsAllAdjacentAnswer (λ x y b. b ≡ int_lt x.number y.number) lines r → IsTrue r → AreRising lines
-rise_answered lines true is h = rises below through lines (λ k d within. is_less _ _ (sym (is k d within)))
+rise_answered lines true is h = rises lines (λ k d within. is_less _ _ (sym (is k d within)))
 rise_answered lines false is h = absurd cc
 
 -- ---- lines that are receipts place by place
@@ -110,7 +131,7 @@ module _ (ks : FinMap bytes_cmp Key) (bs : FinMap bytes_cmp Box) (lines : List R
         let is = slice_get-get_or lines a line (omega (arith, before, within)) in
         let r = stand a first before is in
         let same : first.number ≡ pos (a + 1) = r.1.entry.number_is in
-        let less : below first line = subst (below first) here (ascending-get_or below lines a i line rising before within) in
+        let less : below first line = subst (below first) here (below_later lines a i line rising before within) in
         omega (arith, ints, less, same, number)
 
     -- its place's number is another line's, or none's
@@ -130,7 +151,7 @@ module _ (ks : FinMap bytes_cmp Key) (bs : FinMap bytes_cmp Box) (lines : List R
               omega (arith, ints, own, other, before)
           | inr late ↦ elim (cases_Bool (nat_lt i k.0)) [
             | inl later ↦
-                let less : below line l.0 = subst (below line) got (subst (λ y. below y (get_or lines k.0 line)) here (ascending-get_or below lines i k.0 line rising (ltb-true i k.0 later) k.1)) in
+                let less : below line l.0 = subst (below line) got (subst (λ y. below y (get_or lines k.0 line)) here (below_later lines i k.0 line rising (ltb-true i k.0 later) k.1)) in
                 omega (arith, ints, less, own, number, after)
             | inr not ↦
                 let place : k.0 ≡ i = let e = ltb-false k.0 i late in let f = ltb-false i k.0 not in omega (arith, e, f) in

@@ -1,5 +1,5 @@
 -- The rows of each table, read as values.
-use Rattle.std.specs.Prelude.{◌≡◌, ◌≢◌, ℕ, ℤ, pos, List, [], length, map}
+use Rattle.std.specs.Prelude.{◌≡◌, ℕ, ℤ, pos, List, [], length, map}
 use Rattle.std.specs.List.{AllZip}
 use Rattle.std.specs.List.Sorted.{IsPermutation}
 use Rattle.std.specs.Ordering.{int_cmp}
@@ -88,19 +88,11 @@ pub record AreLines {L : Type 0} (IsLine : Row → L → Type 0) (rows : List Ro
   pub each : (row : Row) → Has rows row → (line : L) × Has lines line × IsLine row line
   pub all : (line : L) → Has lines line → (row : Row) × Has rows row × IsLine row line
 
--- Each row that passes has a line, and each line is one of a row.
-pub record AreLinesWhere {L : Type 0} (Passes : Row → Type 0) (IsLine : Row → L → Type 0) (rows : List Row) (lines : List L) : Type 0 where
-  pub each : (row : Row) → Has rows row → Passes row → (line : L) × Has lines line × IsLine row line
-  pub all : (line : L) → Has lines line → (row : Row) × Has rows row × IsLine row line
-
--- a row of the pieces that is not the first of its file
-abbrev pub IsLater : Row → Type 0
-IsLater row = (part : ℤ) × (column row 3 ≡ Int part) × (part ≢ pos 0)
-
--- the first columns are these numbers, which rise, in some order of the rows
-pub record AreNumbersOf (rows : List Row) (numbers : List ℤ) : Type 0 where
+-- The first columns are numbers that rise, in some order of the rows.
+pub record AreNumbered (rows : List Row) : Type 0 where
   pub found : List Row
   pub same : IsPermutation rows found
+  pub numbers : List ℤ
   pub are : map (λ (r : Row). column r 0) found ≡ map Int numbers
   pub rising : IsAscending (λ a b. int_cmp a b ≡ Less) numbers
 
@@ -109,5 +101,4 @@ pub record AreRead {L : Type 0} (reads : Row → L → Type 0) (sql : List ℕ) 
   pub rows : List Row
   pub shown : Shown sql [] old new rows
   pub each : AllZip reads rows lines
-  pub numbers : List ℤ
-  pub numbered : AreNumbersOf rows numbers
+  pub numbered : AreNumbered rows

@@ -14,9 +14,8 @@ use Rattle.boxes.specs.Sound.{IsSound}
 use Rattle.sqltables.specs.Schema.{Version, v1, v2, begun_schemas}
 use Rattle.sqltables.specs.Tables.{tables_of}
 use Rattle.sqltables.specs.Means.{Holds, IsWhole, AddsNothing}
-use Rattle.sqlaudit.specs.Lines.{AreLines, AreLinesWhere, HaveRowids, IsLater, IsOfficeLine, IsKeyLine, IsBoxLine, IsReceiptLine, IsPieceLine, IsRulesLine, IsLimitLine}
-use Rattle.sqlaudit.specs.Portions.{AreRowids}
-use Rattle.sqltables.specs.Pieces.{AreBytesOf, HasPiece}
+use Rattle.sqlaudit.specs.Lines.{AreLines, HaveRowids, IsOfficeLine, IsKeyLine, IsBoxLine, IsReceiptLine, IsFileLine, IsPieceLine, IsRulesLine, IsLimitLine}
+use Rattle.sqltables.specs.Pieces.{AreBytesOf}
 use Rattle.sqlaudit.specs.declared.lines.FileLine.{FileLine}
 use Rattle.sqlaudit.specs.declared.lines.ReceiptLine.{ReceiptLine}
 use Rattle.sqlaudit.specs.declared.rules.Lines.{Lines}
@@ -188,25 +187,29 @@ pub record AreAdded (v : Version) (db : Database) (rule_lines : List RulesLine) 
   pub rules : v ≡ v2 → AreLines IsRulesLine (db.trees 11) rule_lines × HaveRowids (db.trees 11)
   pub limits : v ≡ v2 → AreLines IsLimitLine (db.trees 12) limit_lines × HaveRowids (db.trees 12)
 
--- the lines are those of the tables but for files and pieces, in which no two rows have one rowid
+-- the lines are those of the tables, in which no two rows have one rowid
 pub record AreListed (v : Version) (db : Database) (lines : Lines) : Type 0 where
   pub office : AreLines IsOfficeLine (db.trees 0) lines.office.now
   pub keys : AreLines IsKeyLine (db.trees 1) lines.keys.now
   pub boxes : AreLines IsBoxLine (db.trees 3) lines.boxes.now
   pub receipts : AreLines IsReceiptLine (db.trees 5) lines.receipts.now
+  pub files : AreLines IsFileLine (db.trees 6) lines.files.now
+  pub pieces : AreLines IsPieceLine (db.trees 9) lines.pieces.now
   pub office_rowids : HaveRowids (db.trees 0)
   pub keys_rowids : HaveRowids (db.trees 1)
   pub boxes_rowids : HaveRowids (db.trees 3)
   pub receipts_rowids : HaveRowids (db.trees 5)
+  pub files_rowids : HaveRowids (db.trees 6)
+  pub pieces_rowids : HaveRowids (db.trees 9)
   pub added : AreAdded v db lines.rules.now lines.limits.now
 
--- the same of all tables but the first; of the files the rowids, and of the pieces those that are not the first of their file
+-- the same of all tables but the first
 pub record AreTables (v : Version) (db : Database) (listed : Listed) : Type 0 where
   pub keys : AreLines IsKeyLine (db.trees 1) listed.keys.items
   pub boxes : AreLines IsBoxLine (db.trees 3) listed.boxes.items
-  pub files : AreRowids (db.trees 6) listed.files.items
-  pub pieces : AreLinesWhere IsLater IsPieceLine (db.trees 9) listed.pieces.items
   pub receipts : AreLines IsReceiptLine (db.trees 5) listed.receipts.items
+  pub files : AreLines IsFileLine (db.trees 6) listed.files.items
+  pub pieces : AreLines IsPieceLine (db.trees 9) listed.pieces.items
   pub keys_rowids : HaveRowids (db.trees 1)
   pub boxes_rowids : HaveRowids (db.trees 3)
   pub receipts_rowids : HaveRowids (db.trees 5)
@@ -231,16 +234,7 @@ pub record IsGivenFor (receipts : List ReceiptLine) (file : FileLine) (given : R
   pub there : Contains receipts given
   pub number : given.number ≡ file.receipt
 
--- no first piece stands there, and the digest is that of no bytes
-pub record IsBare (rows : List Row) (place : Place) (given : ReceiptLine) : Type 0 where
-  pub none : (piece : List ℕ) → HasPiece rows place 0 piece → ⊥
-  pub digest : sha256 [] ≡ given.digest.items
-
--- a first piece stands there, or the digest is another
-abbrev pub IsNotBare : List Row → Place → ReceiptLine → Type 0
-IsNotBare rows place given = ((piece : List ℕ) × HasPiece rows place 0 piece) ⊎ (sha256 [] ≢ given.digest.items)
-
--- The pieces of the file are bytes of the length and the digest that its receipt tells. An empty file has no first piece.
+-- the pieces of the file are bytes of the length and the digest that its receipt tells
 pub record HasBytes (rows : List Row) (receipts : List ReceiptLine) (file : FileLine) : Type 0 where
   pub given : ReceiptLine
   pub is : IsGivenFor receipts file given
@@ -249,14 +243,11 @@ pub record HasBytes (rows : List Row) (receipts : List ReceiptLine) (file : File
   pub octets : AreBytes bytes
   pub size : given.length ≡ pos (length bytes)
   pub digest : sha256 bytes ≡ given.digest.items
-  pub bare : length bytes ≡ 0 → (piece : List ℕ) → HasPiece rows (place_in file) 0 piece → ⊥
 
--- the pieces of the file are no bytes of the length that its receipt tells, or bytes of another digest, or those of an empty file
+-- the pieces of the file are no bytes of the length that its receipt tells, or bytes of another digest
 pub record LacksBytes (rows : List Row) (receipts : List ReceiptLine) (file : FileLine) : Type 0 where
   pub given : ReceiptLine
   pub is : IsGivenFor receipts file given
   pub size : ℕ
   pub size_is : given.length ≡ pos size
-  pub lacks : ((bytes : List ℕ) → AreBytesOf rows (place_in file) size bytes → ⊥)
-      ⊎ (((bytes : List ℕ) × AreBytesOf rows (place_in file) size bytes × (sha256 bytes ≢ given.digest.items))
-      ⊎ ((size ≡ 0) × (piece : List ℕ) × HasPiece rows (place_in file) 0 piece))
+  pub lacks : ((bytes : List ℕ) → AreBytesOf rows (place_in file) size bytes → ⊥) ⊎ ((bytes : List ℕ) × AreBytesOf rows (place_in file) size bytes × (sha256 bytes ≢ given.digest.items))

@@ -169,13 +169,17 @@ pub record IsPieceIn (receipt : ℕ → Option Receipt) (files : FinMap place_cm
   pub begun : piece_size * part < size_in receipt number
   pub length_is : line.length ≡ pos (min piece_size (size_in receipt number - piece_size * part))
 
--- ---- the lines of an office, but for those of its files and pieces
+abbrev pub ArePiecesOf : Outline → List PieceLine → Type 0
+ArePiecesOf o lines = (line : PieceLine) → Contains lines line → IsPieceIn (slice_get o.receipts) o.files line
+
+-- ---- the lines of an office
 
 pub record AreLinesOf (lines : Lines) (o : Outline) : Type 0 where
   pub office : AreEntries IsOfficeEntry (λ one. Some o.offset) lines.office.now
   pub keys : AreEntries IsKeyEntry (get o.keys) lines.keys.now
   pub boxes : AreEntries IsBoxEntry (get o.boxes) lines.boxes.now
   pub receipts : AreEntries IsReceiptEntry (slice_get o.receipts) lines.receipts.now
+  pub files : AreEntries IsFileEntry (get o.files) lines.files.now
   pub rules : AreEntries IsRulesEntry (λ one. Some o.allowance) lines.rules.now
   pub limits : AreEntries IsLimitEntry (get o.limits) lines.limits.now
 
@@ -184,3 +188,4 @@ pub record AreSoundLines (lines : Lines) : Type 0 where
   pub office : Outline
   pub lines_are : AreLinesOf lines office
   pub sound : IsSoundOutline office
+  pub pieces : ArePiecesOf office lines.pieces.now

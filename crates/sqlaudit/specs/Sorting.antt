@@ -1,12 +1,11 @@
 -- Lines that were read into a map.
 use denote.Bor.{Bor}
-use Rattle.std.specs.Prelude.{◌≡◌, ◌≤◌, ◌<ℤ◌, ◌≤ℤ◌, ℕ, ℤ, pos, neg_ℤ, Contains, List, length, slice_get, Option, Some, None, MatchOption, ◌+◌, ◌^◌, ◌-◌, min}
+use Rattle.std.specs.Prelude.{◌≡◌, ◌≤◌, ◌<ℤ◌, ℕ, ℤ, pos, List, length, slice_get, Option, Some, None, MatchOption, ◌+◌, ◌^◌, ◌-◌, min}
 use Rattle.std.specs.declared.cmp.Ordering.{Ordering}
 use Rattle.std.specs.FinMap.{FinMap, get}
 use Rattle.std.specs.BTreeMap.{BTreeMap}
 use Rattle.boxes.specs.State.{Key, NameRule, Place, place_cmp, Receipt, Settings, Limit}
 use Rattle.sigtext.specs.Limits.{most_body}
-use Rattle.sigv4.specs.Allowances.{most_allowance}
 use Rattle.boxes.specs.Rules.{IsName}
 use Rattle.boxes.specs.Sound.{IsBoxName, IsDigest, IsMoment, IsNameRule}
 use Rattle.boxes.specs.Rows.{settings_of}
@@ -14,13 +13,13 @@ use Rattle.sigtext.specs.Bytes.{bytes_cmp}
 use Rattle.sqlite_trees.specs.Tree.{IsAscending}
 use Rattle.boxes.specs.Maps.{MapMeans, Sets, found}
 use Rattle.sqltables.specs.Tables.{Box, rule_number, rule_text}
-use Rattle.sqlaudit.specs.Outlines.{AreEntries, HasClerkIn, IsBoxEntry, IsBoxRule, IsFileEntry, IsFileRule, IsKeyEntry, IsKeyRule, IsLimitRule, IsOfficeEntry, IsRulesEntry, used_in, count_in, IsReceiptEntry, IsReceiptRule}
+use Rattle.sqlaudit.specs.Outlines.{AreEntries, IsBoxRule, IsFileEntry, IsFileRule, used_in, count_in, IsReceiptEntry, IsReceiptRule}
 use Rattle.boxes.specs.declared.totals.Totals.{Totals}
 use Rattle.sqlaudit.specs.declared.lines.ReceiptLine.{ReceiptLine}
 use Rattle.sqlaudit.specs.declared.lines.BoxLine.{BoxLine}
 use Rattle.sqlaudit.specs.declared.lines.FileLine.{FileLine}
 use Rattle.sqlaudit.specs.declared.lines.LimitLine.{LimitLine}
-use Rattle.sqlaudit.specs.declared.rules.Lines.{Lines}
+use Rattle.sqlaudit.specs.declared.file_rules.Filed.{Filed}
 use Rattle.sqlaudit.specs.declared.box_rules.BoxEntry.{BoxEntry}
 use Rattle.sqlaudit.specs.declared.receipt_rules.ReceiptEntry.{ReceiptEntry}
 use Rattle.sqlaudit.specs.declared.key_rules.KeyEntry.{KeyEntry}
@@ -64,10 +63,6 @@ pub record HoldsBoxes (boxes : BTreeMap (Bor (List ℕ)) BoxEntry) (m : FinMap b
 -- a line that is a receipt among these keys and boxes
 abbrev pub IsGiven : FinMap bytes_cmp Key → FinMap bytes_cmp Box → ReceiptLine → ℕ → Receipt → Type 0
 IsGiven keys boxes = IsGood IsReceiptEntry (λ at r. IsReceiptRule keys boxes r)
-
--- the limit that the line tells
-abbrev pub limit_in : LimitLine → Limit
-limit_in line = record { key = line.key.items; box = line.in_box.items }
 
 -- the forms of what a receipt says
 pub record HasReceiptForms (r : Receipt) : Type 0 where
@@ -118,33 +113,10 @@ pub record AreSums (receipts : List Receipt) (files : FinMap place_cmp ℕ) (sum
   pub used : (box : List ℕ) → used_at (found bytes_cmp text_of sums box) ≡ capped (used_in (slice_get receipts) files box)
   pub count : (box : List ℕ) → count_at (found bytes_cmp text_of sums box) ≡ capped (count_in files box)
 
--- the files of the lines with the sums of the boxes
-abbrev pub AreFiled : List Receipt → List FileLine → BTreeMap (Bor (List ℕ) × Bor (List ℕ)) ℕ → BTreeMap (Bor (List ℕ)) Totals → Type 0
-AreFiled receipts lines files sums = (is : AreIn place_cmp spot_of (λ n. n) (IsFiled receipts) lines files.entries) × AreSums receipts is.map sums.entries
-
--- each line is one of the entries
-abbrev pub AreAmong : {L K V : Type 0} (IsEntry : L → K → V → Type 0) (lookup : K → Option V) (lines : List L) → Type 0
-AreAmong {K = K} {V = V} E lookup lines = (line : _) → Contains lines line → (k : K) × (v : V) × E line k v × (lookup k ≡ Some v)
-
--- the lines are files of no map with these receipts
-abbrev pub AreUnfiled : List Receipt → List FileLine → Type 0
-AreUnfiled receipts lines = (look : Place → Option ℕ) → AreAmong (IsFiled receipts) look lines → ⊥
-
--- ---- the rules that need no file
-
--- the lines keep every rule but for those of files and pieces
-pub record AreRuled (lines : Lines) : Type 0 where
-  pub office : (east : ℤ) × AreEntries IsOfficeEntry (λ one. Some east) lines.office.now × ((neg_ℤ (pos 840) ≤ℤ east) × (east ≤ℤ pos 840))
-  pub allowance : (allowance : ℕ) × AreEntries IsRulesEntry (λ one. Some allowance) lines.rules.now × (allowance ≤ most_allowance)
-  pub keys : FinMap bytes_cmp Key
-  pub keys_are : AreEntries (IsGood IsKeyEntry IsKeyRule) (get keys) lines.keys.now
-  pub boxes : FinMap bytes_cmp Box
-  pub boxes_are : AreEntries (IsGood IsBoxEntry IsBoxRule) (get boxes) lines.boxes.now
-  pub limits : (line : LimitLine) → Contains lines.limits.now line → IsLimitRule keys boxes (limit_in line)
-  pub receipts : List Receipt
-  pub held : HoldsReceipts lines.receipts.now receipts
-  pub receipts_are : AreEntries (IsGiven keys boxes) (slice_get receipts) lines.receipts.now
-  pub clerk : HasClerkIn keys
+-- the files of the lines with the sums of the boxes, or else the lines are no map's entries
+abbrev pub AreFiled : List Receipt → List FileLine → Option Filed → Type 0
+AreFiled receipts lines None = (look : Place → Option ℕ) → AreEntries (IsFiled receipts) look lines → ⊥
+AreFiled receipts lines (Some filed) = (is : AreIn place_cmp spot_of (λ n. n) (IsFiled receipts) lines filed.files.entries) × AreSums receipts is.map filed.sums.entries
 
 abbrev pub HoldsFiles : BTreeMap (Bor (List ℕ) × Bor (List ℕ)) ℕ → FinMap place_cmp ℕ → Type 0
 HoldsFiles files m = MapMeans place_cmp spot_of (λ n. n) files.entries m
@@ -153,6 +125,10 @@ HoldsFiles files m = MapMeans place_cmp spot_of (λ n. n) files.entries m
 pub record HasTotals (receipts : List Receipt) (files : FinMap place_cmp ℕ) (line : BoxLine) : Type 0 where
   pub used : line.used ≡ pos (used_in (slice_get receipts) files line.name.items)
   pub count : line.count ≡ pos (count_in files line.name.items)
+
+-- the limit that the line tells
+abbrev pub limit_in : LimitLine → Limit
+limit_in line = record { key = line.key.items; box = line.in_box.items }
 
 -- the number and the text are those of the rule, and of no other that has its form
 pub record TellsRule (kind : ℤ) (text : List ℕ) (rule : NameRule) : Type 0 where

@@ -6,15 +6,14 @@ ghost use Rattle.sigv4.specs.Hmac.{sha256};
 ghost use Rattle.sqlite.specs.State.{HasCleanDisk};
 ghost use Rattle.sqlaudit.specs.declared.lines.FileLine.{FileLine};
 ghost use Rattle.sqltables.specs.Schema.{Version, IsVersion};
-ghost use Rattle.sqltables.specs.Inside.{seen, GoesOnBegun, GoesOnWhere, SameOffice, HasSchema, HasWhole, OfWholeOffice};
+ghost use Rattle.sqltables.specs.Inside.{seen, GoesOnWhere, SameOffice, HasSchema, HasWhole, OfWholeOffice};
 ghost use Rattle.sqltables.specs.Means.{IsRunning};
-ghost use Rattle.sqltables.specs.Tables.{placed};
-ghost use Rattle.sqlaudit.specs.Opened.{IsBare, IsGivenFor, IsNotBare, HasBytes, LacksBytes};
+ghost use Rattle.sqlaudit.specs.Opened.{IsGivenFor, HasBytes, LacksBytes};
 
 use crate::lines::{FileLine, ReceiptLine};
 use sigv4::Sha;
 use sqlite::{Alter, Error, ErrorCode, Transaction};
-use sqltables::pieces::{read_file, read_piece};
+use sqltables::pieces::read_file;
 use std::alloc::Global;
 use std::str;
 
@@ -39,28 +38,8 @@ fn have_digest(bytes: &[u8], given: &ReceiptLine) -> bool
     Sha::digest(bytes).as_slice() == given.digest.as_slice()
 }
 
-/// Whether no first piece stands there, and the receipt tells the digest of no bytes.
-fn is_bare<S: Alter>(
-    tx: &mut Transaction<'_, S>,
-    in_box: &str,
-    name: &str,
-    given: &ReceiptLine,
-) -> Result<bool, Error>
-    ensures read { OfWholeOffice S.Store tx.old tx.new
-        (IfOk result (λ bare. MatchBool bare
-        (IsBare ((seen S.Store tx.old).now.trees 9) (placed in_box.now name.now) given.now)
-        (IsNotBare ((seen S.Store tx.old).now.trees 9) (placed in_box.now name.now) given.now))) }
-    ensures same { SameOffice S.Store tx.old tx.new result }
-    ensures rest { GoesOnBegun S.Store tx.old tx.new result }
-{
-    if read_piece(tx, in_box, name, 0)?.is_some() {
-        return Ok(false);
-    }
-    Ok(have_digest(&[], given))
-}
-
-/// Whether the file's pieces are bytes of the length and the digest that its receipt tells. An empty file has no first piece.
-/// A receipt that is not found is `DatabaseCorrupt`.
+/// Whether the file's pieces are bytes of the length and the digest that its receipt tells. A receipt that is not found
+/// is `DatabaseCorrupt`.
 fn has_bytes<S: Alter>(
     tx: &mut Transaction<'_, S>,
     alloc: Global,
@@ -84,17 +63,13 @@ fn has_bytes<S: Alter>(
     let Ok(size) = u64::try_from(given.length) else {
         return Err(Error::SqliteFailure(ErrorCode::DatabaseCorrupt));
     };
-    if size == 0 {
-        return is_bare(tx, in_box, name, given);
-    }
     let Some(bytes) = read_file(tx, alloc, in_box, name, size)? else {
         return Ok(false);
     };
     Ok(have_digest(&bytes, given))
 }
 
-/// Whether each file's pieces are bytes of the length and the digest that its receipt tells, and no empty file has a first
-/// piece. One file is read at a time.
+/// Whether each file's pieces are bytes of the length and the digest that its receipt tells. One file is read at a time.
 pub(crate) fn have_bytes<S: Alter>(
     tx: &mut Transaction<'_, S>,
     alloc: Global,

@@ -1,26 +1,21 @@
 //! The lines of the files, as files with their receipts, and what the boxes hold by them.
 
-ghost use Rattle.std.specs.Prelude.{◌≡◌, ℕ, List, [], ◌∷◌, ◌++◌, slice_get, IfOk, OnOk, MatchBool, MatchOption};
+ghost use Rattle.std.specs.Prelude.{◌≡◌, ℕ, List, slice_get, IfOk, OnOk, MatchOption};
 ghost use Rattle.sigtext.specs.Bytes.{bytes_cmp};
 ghost use Rattle.boxes.specs.State.{Place, Receipt};
 ghost use Rattle.boxes.specs.Maps.{found};
 ghost use Rattle.sqlaudit.specs.Outlines.{size_in};
-ghost use Rattle.sqlaudit.specs.declared.lines.FileLine.{FileLine};
-ghost use Rattle.sqlaudit.specs.Sorting.{AddsTo, AreFiled, AreUnfiled, HoldsReceipts, IsFiled, count_at, spot_of, text_of, used_at};
+ghost use Rattle.sqlaudit.specs.Sorting.{AddsTo, AreFiled, HoldsReceipts, IsFiled, count_at, text_of, used_at};
 
 use crate::lines::{FileLine, ReceiptLine};
 use crate::receipt_rules::{length_in, place_of, receipt_at};
 use boxes::Totals;
-use std::alloc::AllocError;
+use std::alloc::{AllocError, Global};
 use std::collections::BTreeMap;
 
 /// A file, as its line and its receipt have it.
 #[derive(Clone, Copy)]
-pub(crate) struct FileEntry<'a> {
-    /// Its box, as its receipt names it.
-    pub(crate) in_box: &'a [u8],
-    /// Its name, as its receipt has it.
-    pub(crate) name: &'a [u8],
+pub(crate) struct FileEntry {
     /// The number of its receipt.
     pub(crate) number: u64,
     /// Its length by that, in bytes.
@@ -41,10 +36,11 @@ pub(crate) struct Filed<'a> {
 }
 
 /// The file of a line, where its receipt is there, and of its place.
-fn file_of<'a>(line: &FileLine, receipts: &'a [ReceiptLine]) -> Option<FileEntry<'a>>
+fn file_of(line: &FileLine, receipts: &[ReceiptLine]) -> Option<FileEntry>
     ensures { (rs : List Receipt) → HoldsReceipts receipts.now rs
         → MatchOption result ((place : Place) (n : ℕ) → IsFiled rs line.now place n → ⊥)
-        (λ e. IsFiled rs line.now (spot_of (e.in_box, e.name)) e.number
+        (λ e. IsFiled rs line.now
+        (record { box = line.now.in_box.items; name = line.now.name.items }) e.number
         × (e.size ≡ size_in (slice_get rs) e.number)) }
 {
     let number = line.receipt;
@@ -57,8 +53,6 @@ fn file_of<'a>(line: &FileLine, receipts: &'a [ReceiptLine]) -> Option<FileEntry
         return None;
     }
     Some(FileEntry {
-        in_box: &receipt.in_box,
-        name: &receipt.name,
         number: at + 1,
         size: length_in(receipt)?,
     })
@@ -88,46 +82,27 @@ fn add_file<'a>(sums: &mut Sums<'a>, in_box: &'a [u8], size: u64) -> Result<(), 
     Ok(())
 }
 
-/// Adds the file of a line to those before it, if it is one, and no other stands in its place.
-fn add_line<'a>(
-    files: &mut Files<'a>,
-    sums: &mut Sums<'a>,
-    line: &FileLine,
-    receipts: &'a [ReceiptLine],
-) -> Result<bool, AllocError>
-    ensures { (rs : List Receipt) (before : List FileLine) → HoldsReceipts receipts.now rs
-        → AreFiled rs before files.old sums.old → IfOk result (λ added. MatchBool added
-        (AreFiled rs (before ++ line.now ∷ []) files.new sums.new)
-        (AreUnfiled rs (before ++ line.now ∷ []))) }
+/// The files of the lines, where each line is one and no two differ in one place.
+pub(crate) fn files_by_place<'a>(
+    alloc: Global,
+    lines: &'a [FileLine],
+    receipts: &[ReceiptLine],
+) -> Result<Option<Filed<'a>>, AllocError>
+    ensures { (rs : List Receipt) → HoldsReceipts receipts.now rs
+        → IfOk result (AreFiled rs lines.now) }
 {
-    let Some(file) = file_of(line, receipts) else {
-        return Ok(false);
-    };
-    match files.insert((file.in_box, file.name), file.number)? {
-        Some(first) => Ok(first == file.number),
-        None => {
-            add_file(sums, file.in_box, file.size)?;
-            Ok(true)
-        }
-    }
-}
-
-/// Adds the files of the lines to those before them, if each line is one, and no two differ in one place.
-pub(crate) fn add_lines<'a>(
-    files: &mut Files<'a>,
-    sums: &mut Sums<'a>,
-    lines: &[FileLine],
-    receipts: &'a [ReceiptLine],
-) -> Result<bool, AllocError>
-    ensures { (rs : List Receipt) (before : List FileLine) → HoldsReceipts receipts.now rs
-        → AreFiled rs before files.old sums.old → IfOk result (λ added. MatchBool added
-        (AreFiled rs (before ++ lines.now) files.new sums.new)
-        (AreUnfiled rs (before ++ lines.now))) }
-{
+    let mut files = BTreeMap::new(alloc);
+    let mut sums = BTreeMap::new(alloc);
     for line in lines {
-        if !add_line(files, sums, line, receipts)? {
-            return Ok(false);
+        let Some(file) = file_of(line, receipts) else {
+            return Ok(None);
+        };
+        let in_box = line.in_box.as_slice();
+        match files.insert((in_box, line.name.as_slice()), file.number)? {
+            Some(first) if first != file.number => return Ok(None),
+            Some(_) => {}
+            None => add_file(&mut sums, in_box, file.size)?,
         }
     }
-    Ok(true)
+    Ok(Some(Filed { files, sums }))
 }

@@ -14,4 +14,3 @@ mod piece_rules;
 mod portions;
 mod receipt_rules;
 mod rules;
-mod walking;

@@ -6,7 +6,7 @@ ghost use Rattle.std.specs.Ordering.{int_cmp};
 ghost use Rattle.std.specs.declared.cmp.Ordering.TheVariants.{Less};
 ghost use Rattle.sqlite_value.specs.declared.value.Value.TheVariants.{Int, Text};
 ghost use Rattle.sqlite_value.specs.Order.{Row as Values, column};
-ghost use Rattle.sqlaudit.specs.Lines.{IsOfficeLine, IsKeyLine, IsBoxLine, IsReceiptLine, IsFileLine, ShowsPiece, IsRulesLine, IsLimitLine, AreNumbersOf};
+ghost use Rattle.sqlaudit.specs.Lines.{IsOfficeLine, IsKeyLine, IsBoxLine, IsReceiptLine, IsFileLine, ShowsPiece, IsRulesLine, IsLimitLine, AreNumbered};
 
 use sqlite::types::ValueRef;
 use sqlite::{Error, ErrorCode, Row};
@@ -257,7 +257,7 @@ pub(crate) fn lines_of<L: Line + Drop>(alloc: Global, rows: &[Row]) -> Result<Ve
 }
 
 /// The numbers in the first column.
-fn first_numbers(alloc: Global, rows: &[Row]) -> Result<Vec<i64>, Error>
+pub(crate) fn first_numbers(alloc: Global, rows: &[Row]) -> Result<Vec<i64>, Error>
     ensures { IfOk result (λ numbers. map (λ r. column r 0) rows.now ≡ map Int numbers.items) }
 {
     let mut numbers = Vec::new(alloc);
@@ -269,21 +269,18 @@ fn first_numbers(alloc: Global, rows: &[Row]) -> Result<Vec<i64>, Error>
 }
 
 /// Whether each number is above the one before it.
-fn rise(numbers: &[i64]) -> bool
+pub(crate) fn rise(numbers: &[i64]) -> bool
     ensures { IsTrue result → AllAdjacentBelow (λ a b. int_cmp a b ≡ Less) numbers.now
         (length numbers.now) }
 {
     numbers.is_sorted_by(|a, b| a.cmp(b).is_lt())
 }
 
-/// The numbers in the first column, ascending. Two rows with one number are `DatabaseCorrupt`.
-pub(crate) fn numbers_of(alloc: Global, rows: &[Row]) -> Result<Vec<i64>, Error>
-    ensures { IfOk result (λ numbers. AreNumbersOf rows.now numbers.items) }
+/// Whether no two rows have one number in the first column.
+pub(crate) fn are_apart(alloc: Global, rows: &[Row]) -> Result<bool, Error>
+    ensures { IfOk result (λ apart. IsTrue apart → AreNumbered rows.now) }
 {
     let mut numbers = first_numbers(alloc, rows)?;
     numbers.sort_unstable();
-    if !rise(&numbers) {
-        return Err(Error::SqliteFailure(ErrorCode::DatabaseCorrupt));
-    }
-    Ok(numbers)
+    Ok(rise(&numbers))
 }

@@ -12,11 +12,11 @@ ghost use Rattle.sqlaudit.specs.Lines.{IsOfficeLine, AreLines, AreRead, HaveRowi
 
 use crate::formats::Format;
 use crate::lines::{
-    BoxLine, KeyLine, LimitLine, Line, OfficeLine, PieceLine, ReceiptLine, RulesLine, lines_of,
-    numbers_of,
+    BoxLine, FileLine, KeyLine, LimitLine, Line, OfficeLine, PieceLine, ReceiptLine, RulesLine,
+    are_apart, lines_of,
 };
-use crate::portions::{PORTION, list_long, list_numbers};
-use sqlite::{Alter, Error, Transaction};
+use crate::portions::list_long;
+use sqlite::{Alter, Error, ErrorCode, Transaction};
 use sqltables::calls::query;
 use std::alloc::Global;
 
@@ -29,7 +29,9 @@ fn list<S: Alter, L: Line + Drop>(tx: &mut Transaction<'_, S>, sql: &str) -> Res
 {
     let rows = query(tx, sql, &[])?;
     let alloc = *rows.allocator();
-    numbers_of(alloc, &rows)?;
+    if !are_apart(alloc, &rows)? {
+        return Err(Error::SqliteFailure(ErrorCode::DatabaseCorrupt));
+    }
     lines_of(alloc, &rows)
 }
 
@@ -108,20 +110,18 @@ fn list_added<S: Alter>(
     }
 }
 
-/// The rows of each table but the office's own; of the files the rowids.
+/// The rows of each table but the office's own.
 #[derive(Drop)]
 pub(crate) struct Listed {
     pub(crate) keys: Vec<KeyLine>,
     pub(crate) boxes: Vec<BoxLine>,
-    /// Those that are not the first of their file.
-    pub(crate) pieces: Vec<PieceLine>,
-    /// The rowids of the files, ascending.
-    pub(crate) files: Vec<i64>,
     pub(crate) receipts: Vec<ReceiptLine>,
+    pub(crate) files: Vec<FileLine>,
+    pub(crate) pieces: Vec<PieceLine>,
     pub(crate) added: Added,
 }
 
-/// Each table but the office's own; of the files the rowids, and of the pieces those that are not the first of their file.
+/// Each table but the office's own.
 pub(crate) fn list_all<S: Alter>(
     tx: &mut Transaction<'_, S>,
     alloc: Global,
@@ -142,20 +142,23 @@ pub(crate) fn list_all<S: Alter>(
             tx,
             "SELECT rowid, name, opens, closes, days, from_minute, to_minute, quota, max_files, mode, rule_kind, rule_text, used, count FROM boxes ORDER BY name",
         )?,
-        pieces: list_long(
-            tx,
-            alloc,
-            PORTION,
-            "SELECT rowid FROM pieces",
-            "SELECT rowid, box, name, part, length(bytes) FROM pieces WHERE rowid >= ?1 AND rowid <= ?2 AND part <> 0",
-        )?,
-        files: list_numbers(tx, "SELECT rowid FROM files")?,
         receipts: list_long(
             tx,
             alloc,
-            usize::MAX,
             "SELECT rowid FROM receipts",
             "SELECT rowid, number, box, name, length, digest, moment, key_id FROM receipts WHERE rowid >= ?1 AND rowid <= ?2",
+        )?,
+        files: list_long(
+            tx,
+            alloc,
+            "SELECT rowid FROM files",
+            "SELECT rowid, box, name, receipt FROM files WHERE rowid >= ?1 AND rowid <= ?2",
+        )?,
+        pieces: list_long(
+            tx,
+            alloc,
+            "SELECT rowid FROM pieces",
+            "SELECT rowid, box, name, part, length(bytes) FROM pieces WHERE rowid >= ?1 AND rowid <= ?2",
         )?,
         added: list_added(tx, alloc, format)?,
     })

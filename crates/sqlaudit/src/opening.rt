@@ -13,13 +13,12 @@ ghost use Rattle.sqlaudit.specs.Formats.{version_of};
 ghost use Rattle.sqlaudit.specs.Listing.{OfVersion};
 ghost use Rattle.sqlaudit.specs.Opened.{HasOurs, IsOurs, AreTables, IsExtent, IsTableAt, BeginNamed, AreNamed, AreFirstNamed, AreNamedAs, IsAtRest, IsSettled, IsBegunAs, LeavesUntouched, IsFound, IsEither, HasNamesOf, AreOffice, AreOfVersion};
 
+use crate::digests::have_bytes;
 use crate::formats::Format;
 use crate::lines::OfficeLine;
 use crate::listing::{Listed, list_all, list_office};
-use crate::piece_rules::{are_pieces, have_totals};
 use crate::receipt_rules::{are_rising, fit_version};
 use crate::rules::{Lines, are_sound};
-use crate::walking::test_files;
 use sqlite::{Alter, Connection, Error, ErrorCode, Transaction};
 use sqlite_schema::schema::{Schema, Table};
 use std::alloc::Global;
@@ -186,6 +185,8 @@ fn is_sound<S: Alter>(
         keys: &listed.keys,
         boxes: &listed.boxes,
         receipts: &listed.receipts,
+        files: &listed.files,
+        pieces: &listed.pieces,
         rules: &listed.added.rules,
         limits: &listed.added.limits,
     };
@@ -201,13 +202,7 @@ fn is_sound<S: Alter>(
     if !sound {
         return Ok(false);
     }
-    let Some(filed) = test_files(tx, alloc, &listed.files, &listed.receipts)? else {
-        return Ok(false);
-    };
-    if !have_totals(&listed.boxes, &filed.sums) {
-        return Ok(false);
-    }
-    Ok(are_pieces(&listed.pieces, &filed.files, &listed.receipts))
+    have_bytes(tx, alloc, &listed.receipts, &listed.files)
 }
 
 // What is found where the version is ours.

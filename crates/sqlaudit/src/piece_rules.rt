@@ -1,4 +1,4 @@
-//! The rules of what pieces, boxes and keys there are.
+//! The rules of what pieces, boxes, receipts and keys there are.
 
 ghost use Rattle.std.specs.Prelude.{◌≡◌, ◌↔◌, ℕ, ◌*◌, ◌-◌, ◌<◌, pos, min, List, Contains, IsTrue, slice_get};
 ghost use Rattle.std.specs.FinMap.{FinMap, get};

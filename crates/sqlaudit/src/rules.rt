@@ -1,25 +1,30 @@
 //! The rules between the lines of an office's tables, without SQL.
 
-ghost use Rattle.std.specs.Prelude.{◌↔◌, ◌≤ℤ◌, ℤ, pos, neg_ℤ, Contains, MatchBool, Some, IsTrue, IfOk};
+ghost use Rattle.std.specs.Prelude.{◌↔◌, ◌≤ℤ◌, ℤ, pos, neg_ℤ, Contains, Some, IsTrue, IfOk};
 ghost use Rattle.sqlaudit.specs.declared.lines.OfficeLine.{OfficeLine};
 ghost use Rattle.sqlaudit.specs.Outlines.{AreEntries, IsOfficeEntry, AreSoundLines};
-ghost use Rattle.sqlaudit.specs.Sorting.{AreRising, AreRuled};
+ghost use Rattle.sqlaudit.specs.Sorting.{AreRising};
 
 use crate::box_rules::boxes_by_name;
+use crate::file_rules::files_by_place;
 use crate::key_rules::keys_by_id;
 use crate::limit_rules::{are_limits, has_allowance};
-use crate::lines::{BoxLine, KeyLine, LimitLine, OfficeLine, ReceiptLine, RulesLine};
-use crate::piece_rules::has_clerk;
+use crate::lines::{
+    BoxLine, FileLine, KeyLine, LimitLine, OfficeLine, PieceLine, ReceiptLine, RulesLine,
+};
+use crate::piece_rules::{are_pieces, has_clerk, have_totals};
 use crate::receipt_rules::are_receipts;
 use std::alloc::{AllocError, Global};
 
-/// The lines of the tables of an office, but for its files and pieces.
+/// The lines of all tables of an office.
 #[derive(Clone, Copy)]
 pub(crate) struct Lines<'a> {
     pub(crate) office: &'a [OfficeLine],
     pub(crate) keys: &'a [KeyLine],
     pub(crate) boxes: &'a [BoxLine],
     pub(crate) receipts: &'a [ReceiptLine],
+    pub(crate) files: &'a [FileLine],
+    pub(crate) pieces: &'a [PieceLine],
     pub(crate) rules: &'a [RulesLine],
     pub(crate) limits: &'a [LimitLine],
 }
@@ -68,10 +73,11 @@ pub(crate) fn is_office(lines: &[OfficeLine]) -> bool
     are_office_lines(lines, first)
 }
 
-/// Whether the lines keep every rule which needs no file. Those of the receipts are in the order of their numbers.
+/// Whether the lines are those of an office that keeps every rule which needs no bytes of a file. Those of the receipts are
+/// in the order of their numbers.
 pub(crate) fn are_sound(alloc: Global, lines: &Lines<'_>) -> Result<bool, AllocError>
-    ensures { AreRising lines.now.receipts.now → IfOk result
-        (λ b. MatchBool b (AreRuled lines.now) (AreSoundLines lines.now → ⊥)) }
+    ensures { AreRising lines.now.receipts.now
+        → IfOk result (λ b. IsTrue b ↔ AreSoundLines lines.now) }
 {
     if !is_office(lines.office) {
         return Ok(false);
@@ -91,5 +97,14 @@ pub(crate) fn are_sound(alloc: Global, lines: &Lines<'_>) -> Result<bool, AllocE
     if !are_receipts(lines.receipts, &keys, &boxes) {
         return Ok(false);
     }
-    Ok(has_clerk(lines.keys))
+    let Some(filed) = files_by_place(alloc, lines.files, lines.receipts)? else {
+        return Ok(false);
+    };
+    if !has_clerk(lines.keys) {
+        return Ok(false);
+    }
+    if !have_totals(lines.boxes, &filed.sums) {
+        return Ok(false);
+    }
+    Ok(are_pieces(lines.pieces, &filed.files, lines.receipts))
 }
