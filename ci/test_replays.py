@@ -356,8 +356,7 @@ NO_TASK = [
     (["desk", "f", "key", "revoke", "k"], "error: unexpected argument 'revoke' found"),
     (["desk", "f", "-k"], "error: unexpected argument '-k' found"),
     (["desk", "f", "key revoke k", "--at", "m"], "error: unexpected argument '--at' found"),
-    ([], "A file drop for offices: makes an office, runs its desk, writes links to its files, answers requests that carry them, "
-         "and lists what came"),
+    ([], "A file drop for offices: links that expire, uploads with numbered receipts, one office file"),
 ]
 
 
