@@ -353,7 +353,7 @@ def test_links(case, check):
     """What is not a link, or none that a browser sends as it stands, is told, and nothing is sent."""
     before = len(case.front.passed)
     rows = [
-        ("", "No link was given."), ("in/a?x", "is not a link"), ("ftp://files.example/in/a", "is no link"),
+        ("", "No link was given."), ("in/a?x", "is not a link"), ("ftp://files.example/in/a", "is not a link"),
         (case.links["put dots"], "is . or .. alone"), (case.links["put a dot"], "is . or .. alone"),
         ("/in/%2e%2E?x=1", "is . or .. alone"), ("/in/a?x='", "characters that every browser rewrites"),
     ]
