@@ -1,13 +1,15 @@
 -- What the bytes that were read tell of a file.
-use Rattle.std.proofs.Common.{◌≡◌, ◌<◌, ◌+◌, inl, inr, Bool, true, false, IsTrue, length, pos, List, [], ℕ, take, get_or, Fits, w8, arith, refl, sym, ap, subst, ◌∙◌}
-use Rattle.std.specs.Prelude.{MatchBool, Contains}
+use Rattle.std.proofs.Common.{◌≡◌, ◌<◌, ◌+◌, ◌-◌, ◌*◌, min, inl, inr, Bool, true, false, IsTrue, length, pos, List, [], ℕ, take, get_or, Fits, w8, arith, refl, sym, ap, subst, ◌∙◌}
+use Rattle.std.specs.Prelude.{◌≢◌, MatchBool, Contains}
 use Rattle.std.proofs.lemmas.List.Elements.{All-from_get_or, recursion_from_All}
 use Rattle.sqlite.specs.State.{State, HasCleanDisk, KeepsCommit, Survives}
 use Rattle.sqltables.specs.Schema.{Version}
 use Rattle.sqltables.specs.Means.{IsWhole, IsRunning}
 use Rattle.sqltables.proofs.Building.{survives_then, survives_itself, keeps_then}
 use Rattle.sqltables.proofs.Runs.{itself_keeps}
-use Rattle.sqltables.proofs.Gathering.{OpensOurs, no_piece}
+use Rattle.sqltables.proofs.Gathering.{Gathered, OpensOurs, no_piece}
+use Rattle.sqlaudit.proofs.Refusing.{cut_from}
+use Rattle.sqlite.specs.Effect.{Database}
 use Rattle.sqlaudit.proofs.Entries.{each_more}
 use Rattle.sqlite_value.specs.Order.{Row}
 use Rattle.sigtext.specs.Bytes.{AreBytes}
@@ -16,15 +18,15 @@ use Rattle.boxes.specs.State.{Place}
 use Rattle.sqltables.specs.Pieces.{AreBytesOf, HasPiece}
 use Rattle.sqlaudit.specs.declared.lines.FileLine.{FileLine}
 use Rattle.sqlaudit.specs.declared.lines.ReceiptLine.{ReceiptLine}
-use Rattle.sqlaudit.specs.Opened.{IsBare, IsNotBare, IsGivenFor, HasBytes, LacksBytes, place_in}
+use Rattle.sqlaudit.specs.Opened.{IsBare, IsNotBare, IsGivenFor, HasBytes, HasMisfit, LacksBytes, LacksPieces, place_in}
 
 pub are_bytes : (bytes : List ℕ) → ((i : ℕ) → Fits w8 (get_or bytes i 0)) → AreBytes bytes
 are_bytes bytes fits = recursion_from_All (λ b. b < 256) bytes (All-from_get_or (λ b. b < 256) bytes 0 (λ i within. omega (arith, fits i)))
 
 module _ (rows : List Row) (receipts : List ReceiptLine) (file : FileLine) (given : ReceiptLine) (is_given : IsGivenFor receipts file given) (size : ℕ) (size_is : given.length ≡ pos size)
     (place : Place) (there : place ≡ place_in file) where
-  pub none_told : ((bytes : List ℕ) → AreBytesOf rows place size bytes → ⊥) → LacksBytes rows receipts file
-  none_told none = record { given = given; is = is_given; size = size; size_is = size_is; lacks = inl (subst (λ p. (bytes : List ℕ) → AreBytesOf rows p size bytes → ⊥) there none) }
+  pub none_told : LacksPieces rows place size → LacksBytes rows receipts file
+  none_told lacks = record { given = given; is = is_given; size = size; size_is = size_is; lacks = inl (subst (λ p. LacksPieces rows p size) there lacks) }
 
   pub told : 0 < size → (bytes : List ℕ) → AreBytesOf rows place size bytes → AreBytes bytes → (b : Bool) → (IsTrue b → sha256 bytes ≡ given.digest.items) × (sha256 bytes ≡ given.digest.items → IsTrue b)
       → MatchBool b (HasBytes rows receipts file) (LacksBytes rows receipts file)
@@ -43,11 +45,20 @@ module _ (rows : List Row) (receipts : List ReceiptLine) (file : FileLine) (give
     is = is_given;
     size = size;
     size_is = size_is;
-    lacks = inr (inl (bytes, subst (λ p. AreBytesOf rows p size bytes) there are, λ e. let no = same.1 e in cc));
+    lacks = inr (bytes, subst (λ p. AreBytesOf rows p size bytes) there are, λ e. let no = same.1 e in cc);
   }
 
   no_bytes : AreBytesOf rows (place_in file) 0 []
   no_bytes = record { size_is = refl; pieces = λ at piece is. absurd (let e = sym (no_piece [] at (omega arith)) ∙ is in cc) }
+
+  -- an empty file has no first piece
+  first_misfits : size ≡ 0 → (piece : List ℕ) → HasPiece rows (place_in file) 0 piece → HasMisfit rows (place_in file) size
+  first_misfits none piece has = record {
+    at = 0;
+    piece = piece;
+    stands = has;
+    misfits = λ bytes is some. let e = sym (no_piece bytes 0 (omega (arith, is, none))) ∙ some in cc;
+  }
 
   pub told_empty : size ≡ 0 → (b : Bool) → MatchBool b (IsBare rows place given) (IsNotBare rows place given) → MatchBool b (HasBytes rows receipts file) (LacksBytes rows receipts file)
   told_empty none true is = record {
@@ -66,9 +77,28 @@ module _ (rows : List Row) (receipts : List ReceiptLine) (file : FileLine) (give
     size = size;
     size_is = size_is;
     lacks = elim is [
-      | inl has ↦ inr (inr (none, has.0, subst (λ p. HasPiece rows p 0 has.0) there has.1))
-      | inr other ↦ inr (inl ([], subst (λ n. AreBytesOf rows (place_in file) n []) (sym none) no_bytes, other))
+      | inl has ↦ inl (inr (first_misfits none has.0 (subst (λ p. HasPiece rows p 0 has.0) there has.1)))
+      | inr other ↦ inr ([], subst (λ n. AreBytesOf rows (place_in file) n []) (sym none) no_bytes, other)
     ];
+  }
+
+-- ---- a piece of another length
+
+module _ (entry mid : State) (place : Place) (size : ℕ) (bytes : List ℕ) (count : ℕ) (g : Gathered entry mid place size bytes count) (v : Version) (ours : OpensOurs v entry) (clean : HasCleanDisk mid) where
+  -- what lacks pieces now lacked them at first
+  pub lacked_at : LacksPieces (mid.now.trees 9) place size → LacksPieces (entry.now.trees 9) place size
+  lacked_at = subst (λ (d : Database). LacksPieces (d.trees 9) place size) (g.same v ours clean)
+
+  -- no bytes of this size have a next piece of another length
+  pub next_misfits : length bytes < size → (piece : List ℕ) → HasPiece (mid.now.trees 9) place count piece → length piece ≢ min (size - length bytes) 65536 → HasMisfit (mid.now.trees 9) place size
+  next_misfits less piece has other = record {
+    at = count;
+    piece = piece;
+    stands = has;
+    misfits = λ all is some.
+        let ends : length bytes ≡ 65536 * count = elim g.long [ inl e ↦ e | inr e ↦ absurd (omega (arith, e, less)) ] in
+        let cut = cut_from all count piece some in
+        other (omega (arith, cut.1, is, ends));
   }
 
 -- ---- file after file

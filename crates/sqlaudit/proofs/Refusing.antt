@@ -83,7 +83,7 @@ limit_agrees row line limit there l r = record { key_is = cc; box_is = cc }
 -- ---- pieces
 
 -- what is known of bytes that have this piece
-cut_from : (bytes : List ℕ) (at : ℕ) (piece : List ℕ) → piece_of bytes at ≡ Some piece → (65536 * at < length bytes) × (length piece ≡ min 65536 (length bytes - 65536 * at))
+pub cut_from : (bytes : List ℕ) (at : ℕ) (piece : List ℕ) → piece_of bytes at ≡ Some piece → (65536 * at < length bytes) × (length piece ≡ min 65536 (length bytes - 65536 * at))
 cut_from bytes at piece is = elim (cases_Bool (nat_lt (65536 * at) (length bytes))) [
   | inl within ↦
       let e = rw within at is in
@@ -245,12 +245,9 @@ module _ (v : Version) (ours : IsVersion v) (db : Database) (lines : Lines) (off
       let sizes : pos lacks.size ≡ pos (length it.held.bytes) = sym lacks.size_is ∙ it.size in
       let size : lacks.size ≡ length it.held.bytes = cc in
       elim lacks.lacks [
-        | inl none ↦ none it.held.bytes (subst (λ n. AreBytesOf (db.trees 9) (place_in file) n it.held.bytes) (sym size) (bytes_stand (place_in file) it.held it.there))
-        | inr (inr empty) ↦
-            let piece = found_stands (place_in file) it.held it.there 0 empty.1 empty.2 in
-            let cut = cut_from it.held.bytes 0 empty.1 piece in
-            omega (arith, cut.0, empty.0, size)
-        | inr (inl other) ↦
+        | inl (inl none) ↦ none it.held.bytes (subst (λ n. AreBytesOf (db.trees 9) (place_in file) n it.held.bytes) (sym size) (bytes_stand (place_in file) it.held it.there))
+        | inl (inr misfit) ↦ misfit.misfits it.held.bytes (sym size) (found_stands (place_in file) it.held it.there misfit.at misfit.piece misfit.stands)
+        | inr other ↦
             let b = subst (λ n. AreBytesOf (db.trees 9) (place_in file) n other.0) size other.1 in
             other.2 (ap sha256 (same_bytes_stand (place_in file) it.held it.there other.0 b) ∙ sym it.digest)
       ]

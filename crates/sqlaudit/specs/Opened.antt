@@ -1,5 +1,6 @@
 -- What is found in an office file that is opened.
-use Rattle.std.specs.Prelude.{◌≡◌, ◌≢◌, ◌⊎◌, ℕ, ℤ, ◌<◌, ◌≤◌, ◌≤ℤ◌, pos, codes, List, [], ◌∷◌, length, slice_get, Some, Contains, IsTrue, false, ⊤}
+use Rattle.std.specs.Prelude.{◌≡◌, ◌≢◌, ◌⊎◌, ℕ, ℤ, ◌<◌, ◌≤◌, ◌≤ℤ◌, pos, codes, List, [], ◌∷◌, length, slice_get, Option, Some, MatchOption, Vec, Contains, IsTrue, false, ⊤}
+use Rattle.std.specs.declared.alloc.Global.{Global}
 use Rattle.sqlite_value.specs.declared.value.Value.TheVariants.{Int}
 use Rattle.sqlite_value.specs.Order.{Row, column}
 use Rattle.sqlite_rules.specs.Lists.{Has}
@@ -12,7 +13,7 @@ use Rattle.sigv4.specs.Hmac.{sha256}
 use Rattle.boxes.specs.State.{State as Office, Place, Receipt}
 use Rattle.boxes.specs.Sound.{IsSound}
 use Rattle.sqltables.specs.Schema.{Version, v1, v2, begun_schemas}
-use Rattle.sqltables.specs.Tables.{tables_of}
+use Rattle.sqltables.specs.Tables.{tables_of, piece_of}
 use Rattle.sqltables.specs.Means.{Holds, IsWhole, AddsNothing}
 use Rattle.sqlaudit.specs.Lines.{AreLines, AreLinesWhere, HaveRowids, IsLater, IsOfficeLine, IsKeyLine, IsBoxLine, IsReceiptLine, IsPieceLine, IsRulesLine, IsLimitLine}
 use Rattle.sqlaudit.specs.Portions.{AreRowids}
@@ -251,12 +252,25 @@ pub record HasBytes (rows : List Row) (receipts : List ReceiptLine) (file : File
   pub digest : sha256 bytes ≡ given.digest.items
   pub bare : length bytes ≡ 0 → (piece : List ℕ) → HasPiece rows (place_in file) 0 piece → ⊥
 
--- the pieces of the file are no bytes of the length that its receipt tells, or bytes of another digest, or those of an empty file
+-- a piece stands that no bytes of this size have
+pub record HasMisfit (rows : List Row) (place : Place) (size : ℕ) : Type 0 where
+  pub at : ℕ
+  pub piece : List ℕ
+  pub stands : HasPiece rows place at piece
+  pub misfits : (bytes : List ℕ) → length bytes ≡ size → piece_of bytes at ≢ Some piece
+
+-- no bytes of this size have each of their pieces there, or a piece stands that none of them have
+abbrev pub LacksPieces : List Row → Place → ℕ → Type 0
+LacksPieces rows place size = ((bytes : List ℕ) → AreBytesOf rows place size bytes → ⊥) ⊎ HasMisfit rows place size
+
+-- these bytes, or that the pieces are none of this size
+abbrev pub AreBytesFound : List Row → Place → ℕ → Option (Vec ℕ Global) → Type 0
+AreBytesFound rows place size found = MatchOption found (LacksPieces rows place size) (λ b. AreBytesOf rows place size b.items)
+
+-- the pieces of the file are no bytes of the length that its receipt tells, or bytes of another digest
 pub record LacksBytes (rows : List Row) (receipts : List ReceiptLine) (file : FileLine) : Type 0 where
   pub given : ReceiptLine
   pub is : IsGivenFor receipts file given
   pub size : ℕ
   pub size_is : given.length ≡ pos size
-  pub lacks : ((bytes : List ℕ) → AreBytesOf rows (place_in file) size bytes → ⊥)
-      ⊎ (((bytes : List ℕ) × AreBytesOf rows (place_in file) size bytes × (sha256 bytes ≢ given.digest.items))
-      ⊎ ((size ≡ 0) × (piece : List ℕ) × HasPiece rows (place_in file) 0 piece))
+  pub lacks : LacksPieces rows (place_in file) size ⊎ ((bytes : List ℕ) × AreBytesOf rows (place_in file) size bytes × (sha256 bytes ≢ given.digest.items))

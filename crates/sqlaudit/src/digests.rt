@@ -9,12 +9,13 @@ ghost use Rattle.sqltables.specs.Schema.{Version, IsVersion};
 ghost use Rattle.sqltables.specs.Inside.{seen, GoesOnBegun, GoesOnWhere, SameOffice, HasSchema, HasWhole, OfWholeOffice};
 ghost use Rattle.sqltables.specs.Means.{IsRunning};
 ghost use Rattle.sqltables.specs.Tables.{placed};
-ghost use Rattle.sqlaudit.specs.Opened.{IsBare, IsGivenFor, IsNotBare, HasBytes, LacksBytes};
+ghost use Rattle.sqlaudit.specs.Opened.{AreBytesFound, IsBare, IsGivenFor, IsNotBare, HasBytes, LacksBytes};
 
 use crate::lines::{FileLine, ReceiptLine};
 use sigv4::Sha;
 use sqlite::{Alter, Error, ErrorCode, Transaction};
-use sqltables::pieces::{read_file, read_piece};
+use sqltables::pieces::read_piece;
+use sqltables::{MOST_BYTES, PIECE};
 use std::alloc::Global;
 use std::str;
 
@@ -59,6 +60,40 @@ fn is_bare<S: Alter>(
     Ok(have_digest(&[], given))
 }
 
+/// The bytes of a file of this size, if each of its pieces is there and has its length.
+fn find_bytes<S: Alter>(
+    tx: &mut Transaction<'_, S>,
+    alloc: Global,
+    in_box: &str,
+    name: &str,
+    size: u64,
+) -> Result<Option<Vec<u8>>, Error>
+    ensures read { OfWholeOffice S.Store tx.old tx.new
+        (IfOk result (AreBytesFound ((seen S.Store tx.old).now.trees 9)
+        (placed in_box.now name.now) size)) }
+    ensures same { SameOffice S.Store tx.old tx.new result }
+    ensures rest { GoesOnWhere (IsRunning (seen S.Store tx.old))
+        (IsTrue (seen S.Store tx.old).in_transaction) S.Store tx.old tx.new result }
+{
+    let mut bytes = Vec::with_capacity(alloc, size.min(MOST_BYTES as u64) as usize)?;
+    let mut part: u32 = 0;
+    while (bytes.len() as u64) < size {
+        let Some(piece) = read_piece(tx, in_box, name, part)? else {
+            return Ok(None);
+        };
+        let rest = size - bytes.len() as u64;
+        if piece.len() as u64 != rest.min(PIECE as u64) {
+            return Ok(None);
+        }
+        bytes.extend_from_slice(&piece)?;
+        match part.checked_add(1) {
+            Some(next) => part = next,
+            None => return Err(Error::SqliteFailure(ErrorCode::TooBig)),
+        }
+    }
+    Ok(Some(bytes))
+}
+
 /// Whether the file's pieces are bytes of the length and the digest that its receipt tells. An empty file has no first piece.
 /// A receipt that is not found is `DatabaseCorrupt`.
 fn has_bytes<S: Alter>(
@@ -87,7 +122,7 @@ fn has_bytes<S: Alter>(
     if size == 0 {
         return is_bare(tx, in_box, name, given);
     }
-    let Some(bytes) = read_file(tx, alloc, in_box, name, size)? else {
+    let Some(bytes) = find_bytes(tx, alloc, in_box, name, size)? else {
         return Ok(false);
     };
     Ok(have_digest(&bytes, given))

@@ -5,8 +5,7 @@ use Rattle.sigtext.specs.Bytes.{AreBytes}
 use Rattle.sigv4.specs.Hmac.{sha256}
 use Rattle.sqlite.specs.Held.{state}
 use Rattle.boxes.specs.State.{Place}
-use Rattle.sqltables.specs.Pieces.{AreFound}
-use Rattle.sqlaudit.specs.Opened.{HasBytes, IsBare, IsNotBare, LacksBytes, place_in}
+use Rattle.sqlaudit.specs.Opened.{AreBytesFound, HasBytes, IsBare, IsNotBare, LacksBytes, place_in}
 use Rattle.sqlaudit.proofs.Digested.{told, told_empty, none_told}
 use Rattle.sqlaudit.proofs.digests.has_bytes.Goals as goal
 
@@ -19,7 +18,7 @@ returns-in_default-3-clause-read g c v ours has whole inside clean =
     let there : place ≡ place_in c.args.file.now = (λ i. record { box = box i; name = name i }) in
     let size : c.in-Some.given.now.length ≡ pos c.in-Ok.size = search rules in
     none_told rows c.args.receipts.now c.args.file.now c.in-Some.given.now c.in-Some.ensures c.in-Ok.size size place there
-    (subst (AreFound rows place c.in-Ok.size) c.in_default-3.is (c.in_ok-bytes.ensures.read v ours has whole inside clean))
+    (subst (AreBytesFound rows place c.in-Ok.size) c.in_default-3.is (c.in_ok-bytes.ensures.read v ours has whole inside clean))
 
 pub returns-then-size-eq0-clause-read : goal.returns-then-size-eq0-clause-read
 returns-then-size-eq0-clause-read g c v ours has whole inside clean =
@@ -44,7 +43,7 @@ returns-clause-read g c v ours has whole inside clean =
     let name : c.in-Ok-Ok.name.now ≡ c.args.file.now.name.items = search rules in
     let there : place ≡ place_in c.args.file.now = (λ i. record { box = box i; name = name i }) in
     let size : c.in-Some.given.now.length ≡ pos c.in-Ok.size = search rules in
-    let are = subst (AreFound rows place c.in-Ok.size) c.in-Some-2.is (c.in_ok-bytes.ensures.read v ours has whole inside clean) in
+    let are = subst (AreBytesFound rows place c.in-Ok.size) c.in-Some-2.is (c.in_ok-bytes.ensures.read v ours has whole inside clean) in
     let octets = subst AreBytes c.deref-3.ensures.value c.have_digest.ensures.octets in
     let full : 0 < c.in-Ok.size = search rules in
     told rows c.args.receipts.now c.args.file.now c.in-Some.given.now c.in-Some.ensures c.in-Ok.size size place there full c.in-Some-2.bytes.items are octets c.have_digest.result
