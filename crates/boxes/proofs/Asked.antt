@@ -1,4 +1,4 @@
--- Which rules of an upload or a fetch are met, and the least that fails.
+-- Which rules an upload or a fetch obeys, and the lowest that fails.
 use Rattle.std.proofs.Common.{◌≡◌, ◌∙◌, ℕ, ◌+◌, ◌-◌, ◌<◌, ◌≤◌, true, false, length, Option, Some, None, refl, sym, ap, subst, arith, inl, inr}
 use Rattle.std.specs.Prelude.{IsSome, IsNone, IfSome, IsSomeAnd, option_map, unwrap_or, slice_get}
 use Rattle.std.specs.FinMap.{get}
@@ -15,9 +15,9 @@ use Rattle.boxes.specs.Sound.{IsSound, IsFileOf}
 use Rattle.boxes.specs.Views.{IsReceiptAt}
 use Rattle.boxes.specs.Deciding.{IsLeastToFail}
 
--- ---- the receipt that stands
+-- ---- the receipt of the stored file
 
--- a number has one receipt
+-- each number has one receipt
 one_receipt : (s : State) (m n : ℕ) (q r : Receipt) → m ≡ n → HasReceipt s m q → HasReceipt s n r → q ≡ r
 one_receipt s m n q r e h g =
     let place : h.place ≡ g.place = omega arith in
@@ -33,7 +33,7 @@ size_stands s place f row h e listed =
     let same = one_receipt s row.number f.receipt (receipt_in row) h.receipt e listed h.listed in
     ap (λ (r : Receipt). r.size) same ∙ h.size
 
--- the receipt's size is the length of the file that stands
+-- the receipt's size is the length of the stored file
 pub sizes_stand : (s : State) (place : Place) (found : Option ReceiptRow) → IsSound s → IsReceiptAt s place found
     → option_map (λ r. r.size) found ≡ option_map (λ f. length f.bytes) (get s.files place)
 sizes_stand s place found sound at =
@@ -52,14 +52,14 @@ sizes_stand s place found sound at =
 
 -- ---- 27 to 29
 
--- a rule of places that fails has a number of 27 to 29
+-- a rule of places that fails has a number of at most 29
 pub place_number : (q : Refusal) (s : State) (place : Place) → (PlaceRule q s place → ⊥) → number_of q ≤ 29
 place_number rule.NoSuchBox s place fails = omega arith
 place_number rule.NameTooLong s place fails = omega arith
 place_number rule.NameNotAllowed s place fails = omega arith
 place_number _ s place fails = absurd (fails tt)
 
--- rules of numbers up to 29 ask nothing of new bytes
+-- rules below 29 require nothing of new bytes
 early : (r : Refusal) (s : State) (b : Settings) (u : Upload) → number_of r < 29 → NewBytesRule r s b u
 early rule.BoxClosed s b u low = absurd (omega arith)
 early rule.OtherBytesKept s b u low = absurd (omega arith)
@@ -73,7 +73,7 @@ if_some P (Some x) each = each x
 
 -- ---- 30 to 33
 
--- which rules hold up to a number, where those of new bytes do
+-- all rules below n hold for new bytes, if those of 30 to 33 that are below n do
 rules_below : (n : ℕ) (s : State) (b : Settings) (u : Upload) → (30 < n → NewBytesRule rule.BoxClosed s b u) → (31 < n → NewBytesRule rule.OtherBytesKept s b u)
     → (32 < n → NewBytesRule rule.TooManyFiles s b u) → (33 < n → NewBytesRule rule.QuotaPassed s b u) → (r : Refusal) → number_of r < n → NewBytesRule r s b u
 rules_below n s b u closed kept many quota rule.BoxClosed low = closed low
@@ -90,7 +90,7 @@ all_rules s b u closed kept many quota rule.TooManyFiles = many
 all_rules s b u closed kept many quota rule.QuotaPassed = quota
 all_rules s b u closed kept many quota _ = tt
 
--- with the length of the file that stands
+-- with the length of the stored file
 module _ (s : State) (b : Settings) (u : Upload) (stood : Option ℕ) (stands : stood ≡ option_map (λ f. length f.bytes) (get s.files u.place)) where
   -- the rules 30 to 32
   abbrev Placed : Type 0
@@ -115,7 +115,7 @@ module _ (s : State) (b : Settings) (u : Upload) (stood : Option ℕ) (stands : 
 -- ---- an upload
 
 module _ (s : State) (u : Upload) where
-  -- what its place is refused for it is refused for
+  -- if a rule refuses the place of an upload, the same rule refuses the upload
   pub refused_at_place : (q : Refusal) → IsLeastToFail (λ r. PlaceRule r s u.place) q → IsLeastToFail (λ r. UploadRule r s u) q
   refused_at_place q h =
       let low = place_number q s u.place h.fails in

@@ -1,4 +1,4 @@
--- What each desk command leaves of a small office, and which office is full.
+-- The state of a small office after each desk command, and which office is full.
 use Rattle.std.proofs.Common.{◌≡◌, ◌∙◌, ◌≤◌, [], ◌∷◌, codes, length, Some, None, false, true, arith, sym, ap}
 use Rattle.std.specs.FinMap.{FinMap, insert, get, get-remove, entries}
 use Rattle.boxes.specs.declared.rows.Role.TheVariants.{Clerk, Link}
@@ -18,7 +18,7 @@ some_is x y e = cc
 
 -- ---- keys
 
--- a link's key comes beside the clerk's, unrevoked
+-- a link's key is added next to the clerk's, unrevoked
 pub key_comes : (after : State) → CommandStep (with_keys ann) (AddKey (codes "bob") Link (codes "other")) after
     → (entries after.keys ≡ (codes "ann", key Clerk false) ∷ (codes "bob", record { role = Link; secret = codes "other"; revoked = false }) ∷ [])
     × (after.boxes ≡ boxes) × (after.files ≡ files) × (after.receipts ≡ first ∷ [])
@@ -30,7 +30,7 @@ key_comes after step =
       ap (λ (s : State). s.receipts) is,
     )
 
--- the key stays, with its role and its secret, and is revoked
+-- the key stays with its role and its secret, and is revoked
 pub key_is_revoked : (after : State) → CommandStep (with_keys (ann_and (key Clerk false))) (RevokeKey (codes "bob")) after
     → (entries after.keys ≡ (codes "ann", key Clerk false) ∷ (codes "bob", key Clerk true) ∷ [])
     × (after.boxes ≡ boxes) × (after.files ≡ files) × (after.receipts ≡ first ∷ [])
@@ -49,7 +49,7 @@ key_is_revoked after step =
 
 -- ---- boxes
 
--- a box comes beside the other
+-- a box is added next to the other
 pub box_comes : (after : State) → CommandStep office (AddBox (codes "out") (closing 300)) after
     → (entries after.boxes ≡ (codes "in", closing 200) ∷ (codes "out", closing 300) ∷ [])
     × (after.keys ≡ office.keys) × (after.files ≡ files) × (after.receipts ≡ first ∷ [])
@@ -61,7 +61,7 @@ box_comes after step =
       ap (λ (s : State). s.receipts) is,
     )
 
--- the box closes at the second that was said, and keeps all else
+-- the box closes at the given second, and all its other settings stay
 pub box_closes : (after : State) → CommandStep office (CloseBox (codes "in") 150) after
     → (entries after.boxes ≡ (codes "in", closing 150) ∷ []) × (after.keys ≡ office.keys) × (after.files ≡ files) × (after.receipts ≡ first ∷ [])
 box_closes after step =
@@ -86,7 +86,7 @@ two_files = insert files (place (codes "b")) other
 two_entries : entries two_files ≡ (place (codes "a"), file) ∷ (place (codes "b"), other) ∷ []
 two_entries = entries_put place_cmp files (place (codes "b")) other _ place_total file_entries
 
--- the file is gone, the other one stays, and so do both receipts
+-- the file is removed; the other file and both receipts stay
 pub file_goes : (second : Receipt) (after : State) → CommandStep (record office { files = two_files; receipts = first ∷ second ∷ [] }) (DropFile (place (codes "a"))) after
     → (get after.files (place (codes "a")) ≡ None) × (get after.files (place (codes "b")) ≡ Some other)
     × (after.keys ≡ office.keys) × (after.boxes ≡ boxes) × (after.receipts ≡ first ∷ second ∷ [])
@@ -103,7 +103,7 @@ file_goes second after step =
 
 -- ---- limits and the allowance
 
--- the key is limited to the box that was named, and nothing else changes
+-- the key is limited to the named box, and nothing else changes
 pub key_is_limited : (after : State) → CommandStep office (LimitKey (codes "bob") (codes "in")) after
     → (after.limits ≡ insert office.limits (record { key = codes "bob"; box = codes "in" }) tt) × (after.allowance ≡ 0)
     × (after.keys ≡ office.keys) × (after.boxes ≡ boxes) × (after.files ≡ files) × (after.receipts ≡ first ∷ [])
@@ -117,7 +117,7 @@ key_is_limited after step =
       ap (λ (s : State). s.receipts) is,
     )
 
--- the allowance is what was said, and nothing else changes
+-- the allowance is the given one, and nothing else changes
 pub allowance_comes : (after : State) → CommandStep office (SetAllowance 900) after
     → (after.allowance ≡ 900) × (after.limits ≡ office.limits)
     × (after.keys ≡ office.keys) × (after.boxes ≡ boxes) × (after.files ≡ files) × (after.receipts ≡ first ∷ [])
@@ -131,7 +131,7 @@ allowance_comes after step =
       ap (λ (s : State). s.receipts) is,
     )
 
--- ---- the greatest number of receipts: four milliards
+-- ---- the greatest number of receipts: 4,000,000,000
 
 pub four_milliards : 4000000000 ≤ most_receipts
 four_milliards = omega arith
@@ -139,13 +139,13 @@ four_milliards = omega arith
 pub no_more_than_four_milliards : 4000000001 ≤ most_receipts → ⊥
 no_more_than_four_milliards more = omega arith
 
--- with so many receipts no file can be set; with one fewer one more can
+-- with this many receipts no file can be set; with one receipt fewer, one more file can
 pub full : (s : State) (f : NewFile) → length s.receipts ≡ 4000000000 → IsPastFull s (change.SetFile f)
 full s f many = omega arith
 
 pub not_full : (s : State) (f : NewFile) → length s.receipts ≡ 3999999999 → IsPastFull s (change.SetFile f) → ⊥
 not_full s f many past = omega arith
 
--- the desk adds no receipt
+-- desk commands add no receipt
 pub desk_is_never_full : (s : State) (c : row.Command) → IsPastFull s (change.Desk c) → ⊥
 desk_is_never_full s c past = past

@@ -1,4 +1,4 @@
--- A sum over the entries of a finite map, where one entry is put or taken out.
+-- A sum over the entries of a finite map, when one entry is inserted or removed.
 use Rattle.std.proofs.Common.{◌≡◌, ◌∙◌, ℕ, ◌+◌, ◌<◌, Bool, true, false, cond, List, [], ◌∷◌, Option, Some, None, refl, sym, ap, subst, arith}
 use Rattle.std.specs.Prelude.{T, ◌&&◌, option_map, unwrap_or}
 use Rattle.std.specs.List.{sum_by, count_by, filter}
@@ -33,7 +33,7 @@ equal Less p = absurd p
 equal Equal p = refl
 equal Greater p = absurd p
 
--- an optional weight
+-- the weight of an optional value: 0 if there is none
 abbrev pub weight : {K X : Type 0} → (K × X → ℕ) → K → Option X → ℕ
 weight w k o = unwrap_or (option_map (λ x. w (k, x)) o) 0
 
@@ -46,7 +46,7 @@ module _ {K X : Type 0} (R : K → K → Ordering) (o : IsTotalOrder R) (same : 
   find-below q [] h = refl
   find-below q (e ∷ es) h = ap (λ r. cond (is_eq r) (Some e.1) (find R q es)) (less _ (first _ _ h)) ∙ find-below q es (second _ _ h)
 
-  -- the sum with what stood there is the sum before with what stands there now
+  -- the new sum plus the old value's weight is the old sum plus the new value's weight
   sum-put : (k : K) (v : X) (es : List (K × X)) → T (is_sorted R es) → sum_by w (put R k v es) + weight w k (find R k es) ≡ sum_by w es + w (k, v)
   sum-put k v [] h = omega arith
   sum-put k v (e ∷ es) h =
@@ -97,7 +97,7 @@ module _ {K X : Type 0} (R : K → K → Ordering) (o : IsTotalOrder R) (same : 
       ] refl)) in
       ap (λ b. cond b (e ∷ filter p es) (filter p es)) here ∙ rest
 
-  -- nothing passes where no entry does
+  -- the filtered list is empty if no entry passes
   pub filter-none : (m : FinMap R X) → ((k : K) (v : X) → get m k ≡ Some v → p (k, v) ≡ false) → filter p (entries m) ≡ []
   filter-none m each = none-pass (entries m) (entries_sorted m) (λ k v f. each k v (get-entries m k ∙ f))
 
@@ -125,13 +125,13 @@ module _ {K X : Type 0} (R : K → K → Ordering) (o : IsTotalOrder R) (same : 
             (it.0, it.1, here, it.3)
       ] refl
 
-  -- where some entries pass, one is found
+  -- if some entries pass, one of them can be found
   pub one-passes : (m : FinMap R X) → 0 < count_by p (entries m) → (k : K) × (v : X) × (get m k ≡ Some v) × (p (k, v) ≡ true)
   one-passes m some =
       let it = found-passing (entries m) (entries_sorted m) some in
       (it.0, it.1, get-entries m it.0 ∙ it.2, it.3)
 
--- a sum over the entries that pass, as one over all
+-- a sum over the elements that pass, written as a sum over all elements
 pub sum-filter : {A : Type 0} (p : A → Bool) (f : A → ℕ) (xs : List A) → sum_by f (filter p xs) ≡ sum_by (λ x. cond (p x) (f x) 0) xs
 sum-filter p f [] = refl
 sum-filter p f (x ∷ xs) =

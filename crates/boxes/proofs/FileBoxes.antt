@@ -1,4 +1,4 @@
--- A file that stands lies in a box that stands.
+-- The box of a stored file exists.
 use Rattle.std.proofs.Common.{◌≡◌, List, ℕ, Option, Some, None, refl, subst}
 use Rattle.std.specs.Prelude.{IsSome, IsSomeAnd}
 use Rattle.std.specs.FinMap.{get}
@@ -14,7 +14,7 @@ and_some : {X : Type 0} (P : X → Type 0) (o : Option X) → IsSomeAnd o P → 
 and_some P None h = absurd h
 and_some P (Some x) h = refl
 
--- a file that stands lies in a box that stands
+-- the box of a stored file exists
 pub file_in_box : (s : State) (place : Place) (f : File) → IsSound s → get s.files place ≡ Some f → IsSome (get s.boxes place.box)
 file_in_box s place f sound there =
     let it = sound.files place f there in

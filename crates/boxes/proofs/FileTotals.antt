@@ -1,4 +1,4 @@
--- Totals of the state after a file was put or taken out.
+-- Totals of the state after a file was set or removed.
 use Rattle.std.proofs.Common.{◌≡◌, ℕ, ◌+◌, ◌≤◌, true, false, cond, List, [], length, Option, Some, None, refl, ap, arith, eqb}
 use Rattle.std.specs.Prelude.{sum_by, unwrap_or, option_map}
 use Rattle.std.specs.Cmp.Lexicographic.{pointwise}
@@ -14,7 +14,7 @@ use Rattle.boxes.specs.Rules.{standing_bytes}
 use Rattle.boxes.proofs.Lookups.{bytes_same, place_total}
 use Rattle.boxes.proofs.EntrySums.{weight, sum-insert, sum-remove, sum-filter}
 
--- how many there are
+-- 1 if there is a value, otherwise 0
 abbrev pub ones : {X : Type 0} → Option X → ℕ
 ones None = 0
 ones (Some x) = 1
@@ -33,14 +33,14 @@ texts_alike a b e = (slice_eq-Decides Decides-eqb a b (pointwise eqb a b) refl).
 pub texts_apart : (a b : List ℕ) → (a ≡ b → ⊥) → same_bytes a b ≡ false
 texts_apart a b n = elim (same_bytes a b) as (λ t. same_bytes a b ≡ t → t ≡ false) [ true ↦ λ e. absurd (n ((slice_eq-Decides Decides-eqb a b (pointwise eqb a b) refl).0 e)) | false ↦ λ e. refl ] refl
 
--- what a file counts for in a box: its bytes, and itself
+-- what a file adds to the totals of a box: the number of its bytes, and one file
 abbrev bytes_in : List ℕ → Place × File → ℕ
 bytes_in box e = cond (same_bytes e.0.box box) (length e.1.bytes) 0
 
 abbrev one_in : List ℕ → Place × File → ℕ
 one_in box e = cond (same_bytes e.0.box box) 1 0
 
--- the totals are the sums of that
+-- the totals are the sums of these
 used_sum : (s : State) (box : List ℕ) → used s box ≡ sum_by (bytes_in box) (entries s.files)
 used_sum s box = sum-filter (λ (e : Place × File). same_bytes e.0.box box) (λ e. length e.1.bytes) (entries s.files)
 
@@ -72,7 +72,7 @@ module _ (s : State) (place : Place) (f : File) (rs : List Receipt) where
       elim (get s.files place) as (λ o. weight (one_in place.box) place o ≡ ones o) [ None ↦ refl | Some x ↦ ap (λ b. cond b 1 0) (same_as_itself place.box) ] in
       omega (arith, count_put place.box, mine, stood)
 
-  -- a file of another box counts for nothing
+  -- a file of another box adds nothing
   none_stood : (box : List ℕ) (n : File → ℕ) → same_bytes place.box box ≡ false → weight (λ e. cond (same_bytes e.0.box box) (n e.1) 0) place (get s.files place) ≡ 0
   none_stood box n apart = elim (get s.files place) as (λ o. weight (λ e. cond (same_bytes e.0.box box) (n e.1) 0) place o ≡ 0) [ None ↦ refl | Some x ↦ ap (λ b. cond b (n x) 0) apart ]
 
@@ -123,7 +123,7 @@ module _ (s : State) (place : Place) (f : File) (there : get s.files place ≡ S
       let mine : one_in box (place, f) ≡ 0 = ap (λ b. cond b 1 0) apart in
       omega (arith, count_left box, mine)
 
--- what stands at a place is a part of what its box holds
+-- the bytes stored at a place are at most the bytes that its box holds
 pub stands_within : (s : State) (place : Place) → standing_bytes s place ≤ used s place.box
 stands_within s place =
     let e = used_here s place (record { bytes = []; receipt = 0 }) s.receipts in

@@ -1,4 +1,4 @@
--- The edges of opening hours. The days are those of the Gregorian calendar.
+-- Edge cases of opening hours. The days are those of the Gregorian calendar.
 use Rattle.std.proofs.Common.{◌≡◌, ◌<◌, ◌≤◌, ℕ, Bool, true, false, List, [], ◌∷◌, lit<, lit≤, arith, refl}
 use Rattle.std.specs.Prelude.{pos, neg_ℤ, Some}
 use Rattle.boxes.specs.declared.rows.Mode.TheVariants.{Keep}
@@ -30,7 +30,7 @@ every_day = week true true true true true true true
 pub monday : local_weekday (pos 0) 1369612800 ≡ 0
 monday = refl
 
--- Sunday, a second before
+-- a second earlier it is Sunday
 pub sunday : local_weekday (pos 0) 1369612799 ≡ 6
 sunday = refl
 
@@ -49,7 +49,7 @@ last_minute = refl
 pub next_day : local_minute (pos 0) 86400 ≡ 0
 next_day = refl
 
--- a minute west of UTC the first moment is in the last minute of a Wednesday
+-- one minute west of UTC, the first moment is in the last minute of a Wednesday
 pub wednesday_west : local_weekday (neg_ℤ (pos 1)) 0 ≡ 2
 wednesday_west = refl
 
@@ -65,7 +65,7 @@ thursday_begins_west = refl
 pub midnight_west : local_minute (neg_ℤ (pos 1)) 60 ≡ 0
 midnight_west = refl
 
--- fourteen hours west it is ten in the morning of the Wednesday
+-- fourteen hours west, it is 10:00 on the Wednesday
 pub wednesday_far_west : local_weekday (neg_ℤ (pos 840)) 0 ≡ 2
 wednesday_far_west = refl
 
@@ -78,7 +78,7 @@ wednesday_ends_far_west = refl
 pub thursday_begins_far_west : local_weekday (neg_ℤ (pos 840)) 50400 ≡ 3
 thursday_begins_far_west = refl
 
--- fourteen hours east it is two in the afternoon of the Thursday
+-- fourteen hours east, it is 14:00 on the Thursday
 pub thursday_far_east : local_weekday (pos 840) 0 ≡ 3
 thursday_far_east = refl
 
@@ -108,18 +108,18 @@ open_before_closes = record { opened = lit≤ tt; not_closed = lit< tt; day = re
 pub closed_at_closes : IsOpen ten_seconds (pos 0) 1369353610 → ⊥
 closed_at_closes is = let early : 1369353610 < 1369353610 = is.not_closed in omega arith
 
--- the offset moves the hours, and neither of these moments
+-- the offset moves the daily hours, but not the moments `opens` and `closes`
 pub open_at_opens_east : IsOpen ten_seconds (pos 840) 1369353600
 open_at_opens_east = record { opened = lit≤ tt; not_closed = lit< tt; day = refl; from = lit≤ tt; to = lit< tt }
 
 pub closed_at_closes_west : IsOpen ten_seconds (neg_ℤ (pos 840)) 1369353610 → ⊥
 closed_at_closes_west is = let early : 1369353610 < 1369353610 = is.not_closed in omega arith
 
--- such a box is never open
+-- a box that closes before it opens is never open
 pub never_open : (now : ℕ) → IsOpen (hours 20 10 every_day 0 1440) (pos 0) now → ⊥
 never_open now is = let late : 20 ≤ now = is.opened in let early : now < 10 = is.not_closed in omega arith
 
--- ---- a Friday from one to two in the morning, an hour east of UTC
+-- ---- Fridays from 01:00 to 02:00, one hour east of UTC
 
 abbrev friday_night : Settings
 friday_night = hours 0 253402300799 (week false false false false true false false) 60 120
@@ -136,14 +136,14 @@ closed_before_from is = let early : 60 ≤ 59 = is.from in omega arith
 pub closed_at_to : IsOpen friday_night (pos 60) 1369357200 → ⊥
 closed_at_to is = let late : 120 < 120 = is.to in omega arith
 
--- the same hour of the days before and after
+-- the same hour on the days before and after
 pub closed_on_thursday : IsOpen friday_night (pos 60) 1369267200 → ⊥
 closed_on_thursday is = let other : Some false ≡ Some true = is.day in absurd cc
 
 pub closed_on_saturday : IsOpen friday_night (pos 60) 1369440000 → ⊥
 closed_on_saturday is = let other : Some false ≡ Some true = is.day in absurd cc
 
--- ---- the last Saturday, which begins in the year 9999 of UTC
+-- ---- the last Saturday, which begins in the year 9999 in UTC
 
 pub last_saturday : IsOpen (hours 0 253402300799 (week false false false false false true false) 0 1440) (pos 840) 253402300798
 last_saturday = record { opened = lit≤ tt; not_closed = lit< tt; day = refl; from = lit≤ tt; to = lit< tt }

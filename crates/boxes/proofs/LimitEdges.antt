@@ -9,7 +9,7 @@ use Rattle.boxes.proofs.LimitedKeys.{limit_here, limit_got}
 true_false : false ≡ true → ⊥
 true_false e = cc
 
--- where nobody is limited each key may use each box, there or not
+-- if there are no limits, each key may use each box, whether or not they exist
 pub unlimited : (s : State) (key box : List ℕ) → s.limits ≡ empty → MayUse s key box
 unlimited s key box none limited =
     absurd (true_false (sym (ap is_some (ap (λ m. get m (record { key = key; box = limited.0 })) none ∙ get-empty limit_cmp _)) ∙ limited.1))
@@ -30,6 +30,6 @@ module _ (s : State) (nobody : s.limits ≡ empty) where
   pub no_other_box : (box : List ℕ) → (box ≡ codes "in" → ⊥) → MayUse one (codes "k2") box → ⊥
   no_other_box box other may = other (only (codes "k2") box (may (codes "in", limit_here s.limits (codes "k2") (codes "in")))).1
 
-  -- another key may use them all
+  -- another key may use all boxes
   pub another_key : (key box : List ℕ) → (key ≡ codes "k2" → ⊥) → MayUse one key box
   another_key key box other limited = absurd (other (only key limited.0 limited.1).0)

@@ -19,13 +19,13 @@ limit_same a b e =
     let pairs = exact_pairs bytes_cmp bytes_cmp bytes_same bytes_same (a.key, a.box) (b.key, b.box) e in
     ap (λ (p : List ℕ × List ℕ). record { key = p.0; box = p.1 }) pairs
 
--- what was put is there
+-- a limit that was inserted is found
 pub limit_here : (m : FinMap limit_cmp (Unit {0})) (key box : List ℕ) → is_some (get (insert m (record { key = key; box = box }) tt) (record { key = key; box = box })) ≡ true
 limit_here m key box =
     let l : Limit = record { key = key; box = box } in
     ap is_some (get-insert limit_total m l tt l ∙ ap (λ r. cond (is_eq r) (Some tt) (get m l)) (tied_itself limit_total l))
 
--- what is there was put, or was there
+-- a limit that is found was just inserted, or was there before
 pub limit_got : (m : FinMap limit_cmp (Unit {0})) (key box k b : List ℕ) (C : Type 0)
     → is_some (get (insert m (record { key = key; box = box }) tt) (record { key = k; box = b })) ≡ true
     → (k ≡ key → b ≡ box → C) → (is_some (get m (record { key = k; box = b })) ≡ true → C) → C

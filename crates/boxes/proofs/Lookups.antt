@@ -1,4 +1,4 @@
--- Looking up in finite maps by bytes and by places.
+-- Looking up bytes and places in finite maps.
 use Rattle.std.proofs.Common.{◌≡◌, ℕ, true, false, cond, List, [], ◌∷◌, Some, None, refl, sym, ap, ◌∙◌, arith, length}
 use Rattle.std.specs.FinMap.{FinMap, empty, insert, get, entries, find, put, entries-insert, get-entries, len-entries, len-empty, get-insert, IsAntisymmetric, slice_cmp-IsAntisymmetric, nat_cmp-IsAntisymmetric}
 use Rattle.std.specs.Ordering.{is_eq, eq_by_cmp}
@@ -34,11 +34,11 @@ no_entries {X = X} R = nil_of (entries empty) (sym (len-entries empty) ∙ len-e
 pub some_none : {X : Type 0} (x : X) → Some x ≡ None → ⊥
 some_none x e = cc
 
--- the value that was put
+-- the value that was inserted is found
 pub get_same : {X : Type 0} (m : FinMap bytes_cmp X) (k : List ℕ) (v : X) → get (insert m k v) k ≡ Some v
 get_same m k v = get-insert bytes_total m k v k ∙ ap (λ r. cond (is_eq r) (Some v) (get m k)) (tied_itself bytes_total k)
 
--- what was found is the value that was put, or what was there
+-- a value that is found was just inserted, or was there before
 pub got : {X : Type 0} (m : FinMap bytes_cmp X) (k q : List ℕ) (v x : X) (C : Type 0)
     → get (insert m k v) q ≡ Some x → (q ≡ k → v ≡ x → C) → (get m q ≡ Some x → C) → C
 got m k q v x C e here other =
@@ -47,7 +47,7 @@ got m k q v x C e here other =
       | false ↦ λ t is. other is
     ] refl (sym (get-insert bytes_total m k v q) ∙ e)
 
--- the entries after one was put, and what a map of these entries has
+-- the entries after an insertion, and the values of a map with these entries
 pub entries_put : {K X : Type 0} (R : K → K → Ordering) (m : FinMap R X) (k : K) (v : X) (es : List (K × X)) → IsTotalOrder R → entries m ≡ es
     → entries (insert m k v) ≡ put R k v es
 entries_put R m k v es total is = entries-insert total m k v ∙ ap (put R k v) is

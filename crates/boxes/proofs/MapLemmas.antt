@@ -1,4 +1,4 @@
--- Ordered maps of the code, and the finite maps that they mean.
+-- The ordered maps of the code, and the finite maps that they mean.
 use Rattle.std.proofs.Common.{◌≡◌, ◌∙◌, Bool, true, false, List, [], ◌∷◌, cond, Option, Some, None, refl, sym, ap}
 use Rattle.std.specs.Prelude.{option_map, IsNone}
 use Rattle.std.specs.declared.cmp.Ordering.{Ordering}
@@ -18,7 +18,7 @@ pub not_found : {X Y : Type 0} (g : X → Y) (o : Option X) → option_map g o �
 not_found g None e = refl
 not_found g (Some x) e = absurd cc
 
--- what means something is there
+-- a value whose meaning is present is present itself
 pub some_of : {X Y : Type 0} (g : X → Y) (o : Option X) (y : Y) → option_map g o ≡ Some y → (x : X) × (o ≡ Some x) × (g x ≡ y)
 some_of g None y e = absurd cc
 some_of g (Some x) y e = (x, refl, cc)

@@ -1,4 +1,4 @@
--- The edges of names: which of them a rule takes, and which are names.
+-- Edge cases of names: which names a rule accepts, and which texts are names.
 use Rattle.std.proofs.Common.{◌≡◌, ◌<◌, ◌+◌, ℕ, zero, suc, List, [], ◌∷◌, ◌++◌, length, drop, get_or, codes, lit<, arith, refl, sym, ap, ◌∙◌, length-append}
 use Rattle.std.specs.Prelude.{slice_index_or, IsUtf8}
 use Rattle.std.specs.Str.{IsAscii}
@@ -8,17 +8,17 @@ use Rattle.boxes.specs.State.{AnyName, Ends, Begins}
 use Rattle.boxes.specs.Opening.{Fits}
 use Rattle.boxes.specs.Rules.{IsName}
 
--- any
+-- the rule `AnyName`
 pub any_name : (name : List ℕ) → Fits AnyName name
 any_name name = tt
 
--- ---- ends
+-- ---- the rule `Ends`
 
 at_first : (text other : List ℕ) (k : ℕ) → k < 1 → slice_index_or (text ∷ []) k other ≡ other → text ≡ other
 at_first text other zero within is = is
 at_first text other (suc k) within is = absurd (omega arith)
 
--- what a rule of one text takes
+-- what a rule with one text accepts
 one_text : (text name : List ℕ) → Fits (Ends (text ∷ [])) name → (front : List ℕ) × (name ≡ front ++ text)
 one_text text name (other, front, (k, within, is), joined) = (front, joined ∙ ap (λ (t : List ℕ). front ++ t) (sym (at_first text other k within is)))
 
@@ -31,13 +31,13 @@ ends_as_text = (codes ".pdf", [], (0, lit< tt, refl), refl)
 pub ends_with_second : Fits (Ends (codes ".pdf" ∷ codes ".txt" ∷ [])) (codes "a.txt")
 ends_with_second = (codes ".txt", codes "a", (1, lit< tt, refl), refl)
 
--- a name that is shorter than the text, by a byte and more
+-- a name that is shorter than the text, by one byte or more
 pub ends_short : (text name : List ℕ) → length name < length text → Fits (Ends (text ∷ [])) name → ⊥
 ends_short text name short fits =
     let (front, is) = one_text text name fits in
     omega (arith, ap length is, length-append front text)
 
--- a name whose last bytes, as many as the text has, are another text; n bytes stand before them
+-- a name whose last bytes, as many as the text has, differ from the text; n bytes come before them
 other_end : (text name : List ℕ) (n : ℕ) → length name ≡ n + length text → (drop n name ≡ text → ⊥) → Fits (Ends (text ∷ [])) name → ⊥
 other_end text name n size other fits =
     let (front, is) = one_text text name fits in
@@ -49,7 +49,7 @@ pub ends_elsewhere : Fits (Ends (codes ".pdf" ∷ [])) (codes ".pdf.exe") → �
 ends_elsewhere = other_end (codes ".pdf") (codes ".pdf.exe") 4 refl (λ last.
     let second : ◌≡◌ {A = ℕ} 101 112 = ap (λ (t : List ℕ). get_or t 1 0) last in omega arith)
 
--- letters have their case
+-- the case of letters matters
 pub ends_in_capitals : Fits (Ends (codes ".pdf" ∷ [])) (codes "a.PDF") → ⊥
 ends_in_capitals = other_end (codes ".pdf") (codes "a.PDF") 1 refl (λ last.
     let second : ◌≡◌ {A = ℕ} 80 112 = ap (λ (t : List ℕ). get_or t 1 0) last in omega arith)
@@ -57,7 +57,7 @@ ends_in_capitals = other_end (codes ".pdf") (codes "a.PDF") 1 refl (λ last.
 pub no_text_of_none : (name : List ℕ) → Fits (Ends []) name → ⊥
 no_text_of_none name (text, front, (k, within, is), joined) = omega arith
 
--- ---- begins
+-- ---- the rule `Begins`
 
 pub begins_with_text : Fits (Begins (codes "in-")) (codes "in-a")
 begins_with_text = (codes "a", refl)
@@ -87,7 +87,7 @@ space_is_a_name = record { some = lit< tt; text = IsUtf8-from_ascii (codes " ") 
 pub tilde_is_a_name : IsName (codes "~")
 tilde_is_a_name = record { some = lit< tt; text = IsUtf8-from_ascii (codes "~") (one_byte 0x7E (lit< tt)); plain = refl }
 
--- bytes past ASCII are barred by UTF-8 alone: here e with an acute accent, and the greatest of four bytes
+-- only UTF-8 restricts bytes beyond ASCII: here e with an acute accent, and the greatest character of four bytes
 pub accents_are_plain : IsUtf8 (0xC3 ∷ 0xA9 ∷ []) → IsName (0xC3 ∷ 0xA9 ∷ [])
 accents_are_plain text = record { some = lit< tt; text = text; plain = refl }
 

@@ -1,4 +1,4 @@
--- What the tests of a text's ends say of it.
+-- What the tests of a text's beginning and end say about it.
 use Rattle.std.proofs.Common.{◌≡◌, ◌∙◌, ℕ, zero, suc, ◌<◌, ◌-◌, Bool, true, false, List, [], ◌∷◌, ◌++◌, length, map, take, drop, refl, sym, ap, arith, eqb}
 use Rattle.std.specs.Prelude.{◌||◌, ◌↔◌, Contains, IsTrue, Result, Ok, Err, MatchResult}
 use Rattle.std.specs.List.{list_any, starts_with, ends_with, slice_index_or}
@@ -52,18 +52,18 @@ any_mapped : {X : Type 0} (f : X → List ℕ) (p : List ℕ → Bool) (xs : Lis
 any_mapped f p [] = refl
 any_mapped f p (x ∷ xs) = ap (λ (b : Bool). p (f x) || b) (any_mapped f p xs)
 
--- some element is a text with which the name ends
+-- the name ends with the text of some element
 pub ends_with_one : {X : Type 0} (f : X → List ℕ) (r : Bool) (name : List ℕ) (xs : List X) → r ≡ list_any (λ x. ends name (f x)) xs → IsTrue r ↔ EndsWithOne name (map f xs)
 ends_with_one f r name xs e =
     let is = e ∙ any_mapped f (ends name) xs in
     (λ t. found name (map f xs) (sym is ∙ t), λ (text, front, (k, low, at), same). is ∙ here name (map f xs) text front k low at same)
 
--- what a result says where it is no error
+-- what a result says if it is not an error
 pub of_ok : {A E : Type 0} (P : Type 0) (Q : A → Type 0) (N : E → Type 0) (r : Result A E) → MatchResult r (λ x. Q x × P) N → is_err r ≡ false → P
 of_ok P Q N (Ok x) h e = h.1
 of_ok P Q N (Err x) h e = absurd cc
 
--- it is no error exactly where that holds
+-- a result is not an error exactly if P holds
 pub tells_ok : {A E : Type 0} (P : Type 0) (Q : A → Type 0) (N : E → Type 0) (r : Result A E) → MatchResult r (λ x. Q x × P) N → ((x : E) → N x → P → ⊥) → IsTrue (is_ok r) ↔ P
 tells_ok P Q N (Ok x) h fails = (λ t. h.1, λ p. refl)
 tells_ok P Q N (Err x) h fails = (λ t. absurd cc, λ p. absurd (fails x h p))

@@ -1,4 +1,4 @@
--- A box that is not there holds nothing.
+-- A box that does not exist holds nothing.
 use Rattle.std.proofs.Common.{◌≡◌, ◌∙◌, ℕ, zero, suc, List, [], ◌∷◌, length, Option, Some, None, ap, subst}
 use Rattle.std.specs.Prelude.{slice_get, IsSomeAnd, sum_by}
 use Rattle.std.specs.List.{AllByRecursion}
@@ -20,7 +20,7 @@ not_some : {X : Type 0} (P : X → Type 0) (o : Option X) → o ≡ None → IsS
 not_some P None e h = h
 not_some P (Some x) e h = absurd cc
 
--- a box that is not there holds nothing
+-- a box that does not exist holds nothing
 pub no_files : (s : State) (name : List ℕ) → IsSound s → get s.boxes name ≡ None → files_of s name ≡ []
 no_files s name sound none =
     filter-none place_cmp place_total place_same (λ e. same_bytes e.0.box name) s.files (λ place f there.

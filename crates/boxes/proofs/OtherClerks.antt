@@ -1,4 +1,4 @@
--- Beside an unrevoked clerk's key another one stands exactly where two or more are counted.
+-- For an unrevoked clerk's key, another one exists exactly if two or more are counted.
 use Rattle.std.proofs.Common.{◌≡◌, ◌∙◌, ℕ, ◌+◌, ◌<◌, ◌≤◌, Bool, true, false, cond, List, Some, refl, sym, ap, arith}
 use Rattle.std.specs.Prelude.{IsFalse, ◌↔◌, ◌&&◌, not, count_by}
 use Rattle.std.specs.Ordering.{eq_by_cmp}
@@ -31,7 +31,7 @@ stops Link = refl
 true_false : true ≡ false → ⊥
 true_false e = cc
 
--- a key of another id is untouched
+-- a key with another id is unchanged
 untouched : (m : FinMap bytes_cmp Key) (id other : List ℕ) (k : Key) → (other ≡ id → ⊥) → get (insert m id k) other ≡ get m other
 untouched m id other k apart =
     get-insert bytes_total m id k other ∙ elim (eq_by_cmp bytes_cmp other id) as (λ t. eq_by_cmp bytes_cmp other id ≡ t → cond t (Some k) (get m other) ≡ get m other) [
@@ -45,7 +45,7 @@ acting_in m = count_by (λ (e : List ℕ × Key). is_acting e.1) (entries m)
 abbrev one_if_acting : List ℕ × Key → ℕ
 one_if_acting e = cond (is_acting e.1) 1 0
 
--- an unrevoked clerk's key marked revoked is one fewer
+-- marking an unrevoked clerk's key as revoked lowers the count by one
 one_fewer : (m : FinMap bytes_cmp Key) (id : List ℕ) (k : Key) → get m id ≡ Some k → k.role ≡ Clerk → IsFalse k.revoked
     → acting_in (insert m id (record k { revoked = true })) + 1 ≡ acting_in m
 one_fewer m id k there role unrevoked =

@@ -1,4 +1,4 @@
--- A desk command with its form that is possible keeps soundness.
+-- A possible desk command that has its form keeps the state sound.
 use Rattle.std.proofs.Common.{◌≡◌, ◌∙◌, ℕ, ◌≤◌, List, [], ◌∷◌, true, false, cond, Option, Some, None, refl, sym, ap, subst, arith}
 use Rattle.std.specs.Prelude.{IsSome, is_some, IsNone, IsSomeAnd, ⊤}
 use Rattle.std.specs.List.{AllByRecursion}
@@ -43,7 +43,7 @@ some_and P (Some x) h = (x, refl, h)
 of_some : {X : Type 0} (P : X → Type 0) (o : Option X) (x : X) → o ≡ Some x → P x → IsSomeAnd o P
 of_some {X = X} P o x e h = subst (λ (p : Option X). IsSomeAnd p P) (sym e) h
 
--- what stood at another key stands
+-- a value at another key stays
 stays_at : {X : Type 0} (m : FinMap bytes_cmp X) (k q : List ℕ) (v x : X) → (q ≡ k → ⊥) → get m q ≡ Some x → get (insert m k v) q ≡ Some x
 stays_at m k q v x apart e =
     get-insert bytes_total m k v q ∙ elim (eq_by_cmp bytes_cmp q k) as (λ t. eq_by_cmp bytes_cmp q k ≡ t → cond t (Some v) (get m q) ≡ Some x) [
@@ -59,7 +59,7 @@ stands_at m k q v x e =
       | false ↦ λ is. (x, is ∙ e)
     ] at
 
--- receipts and files of a state whose receipts are the same
+-- the receipts and files of a state with the same receipts
 listed_too : (s t : State) → t.receipts ≡ s.receipts → (n : ℕ) (r : Receipt) → HasReceipt s n r → HasReceipt t n r
 listed_too s t e n r h = record { place = h.place; counted = h.counted; listed = rw e h.listed }
 
@@ -70,7 +70,7 @@ module _ (s : State) (id : List ℕ) (k : Key) (sound : IsSound s) (form : IsKey
   abbrev keyed : State
   keyed = record s { keys = insert s.keys id k }
 
-  -- a key that is limited is there still, with its role
+  -- a limited key still exists, with its role
   limits_too : ((x : Key) → get s.keys id ≡ Some x → x.role ≡ Link → k.role ≡ Link) → (key box : List ℕ) → IsLimitedTo s key box → IsLimitOf keyed key box
   limits_too role key box held =
       let was = sound.limits key box held in

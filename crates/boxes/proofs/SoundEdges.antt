@@ -1,4 +1,4 @@
--- The edges of sound states, and of the forms of desk commands.
+-- Edge cases of sound states, and of the forms of desk commands.
 use Rattle.std.proofs.Common.{◌≡◌, ◌<◌, ◌≤◌, ℕ, zero, suc, Bool, List, [], ◌∷◌, length, codes, replicate, true, lit<, lit≤, arith, refl, subst}
 use Rattle.std.specs.Prelude.{pos, neg_ℤ, ◌≤ℤ◌, IsSomeAnd, IsTrue, IsUtf8, ⊤}
 use Rattle.std.specs.List.{list_all}
@@ -80,7 +80,7 @@ no_space is = let each = is.word.each in absurd cc
 pub no_delete : IsNameRule (Begins (0x7F ∷ [])) → ⊥
 no_delete is = let each = is.word.each in absurd cc
 
--- the bytes beside those that are barred
+-- the bytes next to the forbidden ones
 pub beside_the_barred : IsUtf8 (0x21 ∷ 0x2B ∷ 0x2D ∷ 0x7E ∷ 0xC2 ∷ 0x80 ∷ []) → IsNameRule (Begins (0x21 ∷ 0x2B ∷ 0x2D ∷ 0x7E ∷ 0xC2 ∷ 0x80 ∷ []))
 beside_the_barred utf8 = record { word = record { some = lit< tt; short = lit≤ tt; each = refl }; utf8 = utf8 }
 
@@ -132,7 +132,7 @@ no_larger_quota are = let quota : 1000000000001 ≤ 1000000000000 = are.quota in
 pub no_more_files : AreSettings (settings 0 0 week 0 1440 0 1000001) → ⊥
 no_more_files are = let files : 1000001 ≤ 1000000 = are.max_files in omega arith
 
--- ---- receipts and files: each part at its greatest, and one more
+-- ---- receipts and files: each part at its limit, and one more
 
 pub greatest_receipt : (s : State) (r : Receipt) → IsSomeAnd (get s.boxes r.box) (λ b. Fits b.rule r.name) → IsName r.name → length r.name ≡ 1024
     → r.size ≡ 8388608 → IsDigest r.digest → r.moment ≡ 253402300799 → IsSomeAnd (get s.keys r.key) (λ k. ⊤) → IsReceipt s r
@@ -148,7 +148,7 @@ no_larger_size s r large is = let size : r.size ≤ 8388608 = is.size in omega a
 pub no_later_receipt : (s : State) (r : Receipt) → r.moment ≡ 253402300800 → IsReceipt s r → ⊥
 no_later_receipt s r late is = let moment : r.moment ≤ 253402300799 = is.moment in omega arith
 
--- a digest has 32 bytes, of which 255 is the greatest
+-- a digest has 32 bytes, and a byte is at most 255
 
 pub greatest_digest : IsDigest (replicate 32 255)
 greatest_digest = (refl, greatest 32)
@@ -163,7 +163,7 @@ no_shorter_digest is = let long : ◌≡◌ {A = ℕ} 31 32 = is.0 in omega arit
 pub no_digest_of_numbers : IsDigest (replicate 32 256) → ⊥
 no_digest_of_numbers is = let first : 256 < 256 = is.1.0 in omega arith
 
--- and so has a file
+-- a file's bytes are at most 255 too
 
 pub no_file_of_numbers : (s : State) (place : Place) (receipt : ℕ) → IsFileOf s place (record { bytes = 256 ∷ []; receipt = receipt }) → ⊥
 no_file_of_numbers s place receipt is = let first : 256 < 256 = is.bytes.0 in omega arith
@@ -171,7 +171,7 @@ no_file_of_numbers s place receipt is = let first : 256 < 256 = is.bytes.0 in om
 pub no_upload_of_numbers : (s : State) (place : Place) (now : ℕ) (key : List ℕ) → IsBrought s (record { place = place; bytes = 256 ∷ []; now = now; key = key }) → ⊥
 no_upload_of_numbers s place now key is = let first : 256 < 256 = is.bytes.0 in omega arith
 
--- ---- offsets of fourteen hours, and a minute more
+-- ---- offsets of fourteen hours, and one minute more
 
 pub furthest_east : (id secret : List ℕ) → IsKeyId id → IsSecret secret → IsSound (first_state (pos 840) 900 id secret)
 furthest_east id secret = sound_first_state (pos 840) 900 id secret (record { le = tt }) (record { le = tt }) (lit≤ tt)
@@ -185,7 +185,7 @@ not_further_east s is sound = (subst (λ o. o ≤ℤ pos 840) is sound.east.1).l
 pub not_further_west : (s : State) → s.offset ≡ neg_ℤ (pos 841) → IsSound s → ⊥
 not_further_west s is sound = (subst (λ o. neg_ℤ (pos 840) ≤ℤ o) is sound.east.0).le
 
--- ---- allowances of a quarter of an hour, and a second more
+-- ---- allowances of 900 seconds, and one second more
 
 pub no_longer_allowance : (s : State) → s.allowance ≡ 901 → IsSound s → ⊥
 no_longer_allowance s is sound = let few : s.allowance ≤ 900 = sound.allowance in omega arith

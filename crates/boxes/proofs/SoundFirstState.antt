@@ -1,4 +1,4 @@
--- The state of an office that begins is sound.
+-- The state of a new office is sound.
 use Rattle.std.proofs.Common.{◌≡◌, ◌≤◌, ℕ, List, true, refl, sym, ap, subst, ◌∙◌}
 use Rattle.std.specs.Prelude.{ℤ, pos, neg_ℤ, ◌≤ℤ◌, false, is_some}
 use Rattle.std.specs.FinMap.{empty, get-empty}

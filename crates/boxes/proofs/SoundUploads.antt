@@ -1,4 +1,4 @@
--- An upload that is taken keeps soundness.
+-- An accepted upload keeps the state sound.
 use Rattle.std.proofs.Common.{◌≡◌, ◌∙◌, ◌⊎◌, ℕ, zero, suc, ◌+◌, ◌-◌, ◌≤◌, ◌<◌, List, [], ◌∷◌, ◌++◌, true, false, cond, length, Option, Some, None, refl, sym, ap, subst, arith, ⊎_elim, inl, inr, rules}
 use Rattle.std.specs.Prelude.{slice_get, IsSome, IsSomeAnd, IfSome, IsNone, ⊤}
 use Rattle.std.specs.List.{AllByRecursion}
@@ -91,7 +91,7 @@ module _ (s : State) (u : Upload) (sound : IsSound s) (may : IsTaken s u) where
         | false ↦ λ t is. old_file place f (sound.files place f is)
       ] refl (sym (get-insert place_total s.files u.place file place) ∙ e)
 
-  -- a rule of 30 to 33 holds of the box
+  -- rules 30 to 33 hold for the box
   new_rule : (r : Refusal) (b : Settings) → get s.boxes u.place.box ≡ Some b → NewBytesRule r s b u
   new_rule r b e = ⊎_elim (λ stands. absurd (may.new stands)) (λ rules. if_some (λ x. NewBytesRule r s x u) (get s.boxes u.place.box) b e rules) (may.rules r).1
 

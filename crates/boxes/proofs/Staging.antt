@@ -1,4 +1,4 @@
--- A change that the rules give for what is staged is one, whatever is staged.
+-- A change that the rules allow with the staged bytes is also allowed without a condition on what is staged (`MayChange`).
 use Rattle.std.proofs.Common.{ℕ, List}
 use Rattle.boxes.specs.declared.change.Change.{Change}
 use Rattle.boxes.specs.declared.change.Change.TheVariants as change

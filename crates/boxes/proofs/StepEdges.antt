@@ -30,7 +30,7 @@ files = insert empty (place (codes "a")) file
 pub file_entries : entries files ≡ (place (codes "a"), file) ∷ []
 file_entries = entries_put place_cmp empty (place (codes "a")) file [] place_total (no_entries place_cmp)
 
--- open from 100 on, all day and every day, up to this second
+-- open from second 100 until this second, all day and every day
 abbrev pub closing : ℕ → Settings
 closing second = record {
   opens = 100;
@@ -53,7 +53,7 @@ boxes = insert empty (codes "in") settings
 pub box_entries : entries boxes ≡ (codes "in", settings) ∷ []
 box_entries = entries_put bytes_cmp empty (codes "in") settings [] bytes_total (no_entries bytes_cmp)
 
--- a box with one file, and these keys
+-- an office with these keys and a box with one file
 abbrev pub with_keys : FinMap bytes_cmp Key → State
 with_keys keys = record { offset = pos 0; allowance = 0; keys = keys; boxes = boxes; files = files; receipts = first ∷ []; limits = empty }
 
@@ -77,7 +77,7 @@ new_file _ _ (taken new) = (refl, refl, refl)
 some_is : {X : Type 0} (x y : X) → Some x ≡ Some y → x ≡ y
 some_is x y e = ap (λ o. unwrap_or o x) e
 
--- the receipt of number 1 is the first
+-- the receipt with number 1 is the first
 number_one : (n : ℕ) (r : Receipt) → n ≡ 1 → HasReceipt office n r → r ≡ first
 number_one n r one has =
     let counted = has.counted in
@@ -87,7 +87,7 @@ number_one n r one has =
 file_there : get files (place (codes "a")) ≡ Some file
 file_there = get_of place_cmp files _ (place (codes "a")) file_entries
 
--- and no receipt has number 0 or 2
+-- no receipt has number 0 or 2
 pub no_number_0 : (r : Receipt) → HasReceipt office 0 r → ⊥
 no_number_0 r has = let counted : 0 ≡ has.place + 1 = has.counted in omega arith
 
@@ -97,7 +97,7 @@ no_number_2 r has =
     let at : has.place ≡ 1 = omega arith in
     some_none r (sym has.listed ∙ ap (slice_get (first ∷ [])) at)
 
--- the bytes that stand: the receipt is the first, whoever asks and when
+-- the bytes are already stored: the reply is the first receipt, whoever uploads them and when
 pub repeated : (reply : StepReply) (after : State) → UploadStep office (upload (codes "a") (codes "abc")) reply after → (reply ≡ Kept 1 first) × (after ≡ office)
 repeated _ _ (again f r there same listed) =
     let is : f ≡ file = some_is f file (sym there ∙ file_there) in
@@ -116,7 +116,7 @@ fetched _ _ (found f r there listed) =
     let bytes : f.bytes ≡ codes "abc" = ap (λ (x : File). x.bytes) is in
     (ap (λ (p : ℕ × Receipt × List ℕ). Found p.0 p.1 p.2) (λ i. (number i, receipt i, bytes i)), refl)
 
--- ---- keys: a clerk `ann`, and with her another clerk, one who was revoked, or a link
+-- ---- keys: a clerk `ann`, alone or with another clerk, a revoked clerk, or a link
 
 abbrev pub key : Role → Bool → Key
 key role revoked = record { role = role; secret = codes "secret"; revoked = revoked }
@@ -139,7 +139,7 @@ in_ann q = get_of bytes_cmp ann _ q ann_entries
 in_both : (other : Key) (q : List ℕ) → get (ann_and other) q ≡ find bytes_cmp q ((codes "ann", key Clerk false) ∷ (codes "bob", other) ∷ [])
 in_both other q = get_of bytes_cmp (ann_and other) _ q (both_entries other)
 
--- what is asked of a key, where it is found or not
+-- what is required of a key, whether or not it is found
 asked : (P : Key → Type 0) (o p : Option Key) → o ≡ p → IsSomeAnd o P → IsSomeAnd p P
 asked P o p e = subst (λ (x : Option Key). IsSomeAnd x P) e
 
@@ -150,14 +150,14 @@ ann_alone : (q : List ℕ) (k : Key) → q ≢ codes "ann" → get ann q ≡ Som
 ann_alone q k other there =
     got empty (codes "ann") q (key Clerk false) k ⊥ there (λ same v. other same) (λ none. some_none k (sym none ∙ get-empty bytes_cmp q))
 
--- the one clerk cannot be revoked
+-- the only clerk cannot be revoked
 pub last_clerk : IsPossible (with_keys ann) (RevokeKey (codes "ann")) → ⊥
 last_clerk possible =
     let can = asked (CanRevoke (with_keys ann) (codes "ann")) (get ann (codes "ann")) (Some (key Clerk false)) (in_ann (codes "ann")) possible in
     let h = can.1 refl in
     ann_alone h.other h.key h.another h.there
 
--- nor beside a clerk who was revoked, or beside a link
+-- nor can she if the other key is a revoked clerk's or a link's
 no_help : (other : Key) → (other.role ≡ Clerk → other.revoked ≡ false → ⊥) → IsPossible (with_keys (ann_and other)) (RevokeKey (codes "ann")) → ⊥
 no_help other idle possible =
     let can = asked (CanRevoke (with_keys (ann_and other)) (codes "ann")) (get (ann_and other) (codes "ann")) (Some (key Clerk false)) (in_both other (codes "ann")) possible in
@@ -172,7 +172,7 @@ beside_a_revoked_clerk = no_help (key Clerk true) (λ role revoked. true_false r
 pub beside_a_link : IsPossible (with_keys (ann_and (key Link false))) (RevokeKey (codes "ann")) → ⊥
 beside_a_link = no_help (key Link false) (λ role revoked. not_link role)
 
--- beside another clerk she can be
+-- she can be revoked if there is another clerk
 pub beside_a_clerk : IsPossible (with_keys (ann_and (key Clerk false))) (RevokeKey (codes "ann"))
 beside_a_clerk =
     asked (CanRevoke (with_keys (ann_and (key Clerk false))) (codes "ann")) (Some (key Clerk false)) (get (ann_and (key Clerk false)) (codes "ann")) (sym (in_both (key Clerk false) (codes "ann")))
@@ -181,7 +181,7 @@ beside_a_clerk =
     apart : codes "bob" ≡ codes "ann" → ⊥
     apart e = let byte : ◌≡◌ {A = ℕ} 98 97 = ap (λ (t : List ℕ). get_or t 0 0) e in omega arith
 
--- a link can, and no key that is not there or was revoked
+-- a link can be revoked; a key that does not exist or is already revoked cannot
 pub a_link : IsPossible (with_keys (ann_and (key Link false))) (RevokeKey (codes "bob"))
 a_link =
     asked (CanRevoke (with_keys (ann_and (key Link false))) (codes "bob")) (Some (key Link false)) (get (ann_and (key Link false)) (codes "bob")) (sym (in_both (key Link false) (codes "bob")))
@@ -195,7 +195,7 @@ a_revoked_key possible =
     let can = asked (CanRevoke (with_keys (ann_and (key Link true))) (codes "bob")) (get (ann_and (key Link true)) (codes "bob")) (Some (key Link true)) (in_both (key Link true) (codes "bob")) possible in
     true_false can.0
 
--- an id can be added that no key has, revoked or not
+-- an id can be added if no key, revoked or not, has it
 pub a_new_id : (role : Role) (secret : List ℕ) → IsPossible (with_keys ann) (AddKey (codes "bob") role secret)
 a_new_id role secret = ap is_some (in_ann (codes "bob"))
 
@@ -216,7 +216,7 @@ a_new_box b = ap is_some (in_boxes (codes "out"))
 pub a_box_that_stands : (b : Settings) → IsPossible office (AddBox (codes "in") b) → ⊥
 a_box_that_stands b possible = true_false (sym (ap is_some (in_boxes (codes "in"))) ∙ possible)
 
--- to any moment, also one that is past
+-- a box can be closed at any moment, also a past one
 pub close_what_stands : (moment : ℕ) → IsPossible office (CloseBox (codes "in") moment)
 close_what_stands moment = ap is_some (in_boxes (codes "in"))
 

@@ -1,4 +1,4 @@
--- The edges of what an upload and a fetch are asked, on small states.
+-- Edge cases of the rules of uploads and fetches, on small states.
 use Rattle.std.proofs.Common.{◌≡◌, ◌<◌, ◌≤◌, ◌+◌, ◌-◌, ℕ, List, [], ◌∷◌, length, codes, get_or, Option, Some, arith, refl, sym, ap, subst, ◌∙◌, inl, ⊎_elim}
 use Rattle.std.specs.Prelude.{pos, true, false, IsNone, IfSome, IsSomeAnd, is_some, filter, sum_by, option_map, unwrap_or}
 use Rattle.std.specs.FinMap.{FinMap, empty, insert, get, entries, find}
@@ -11,7 +11,7 @@ use Rattle.boxes.specs.Totals.{used, count}
 use Rattle.boxes.specs.Rules.{Upload, PlaceRule, NewBytesRule, UploadRule, FetchRule, Stands, standing_bytes}
 use Rattle.boxes.proofs.Lookups.{bytes_total, place_total, no_entries, entries_put, get_of}
 
--- open at 100 to 199, all day and every day
+-- open from second 100 to 199, all day and every day
 abbrev settings : Mode → ℕ → ℕ → Settings
 settings mode quota max_files = record {
   opens = 100;
@@ -40,11 +40,11 @@ second = record { bytes = codes "de"; receipt = 2 }
 abbrev third : File
 third = record { bytes = codes "fghij"; receipt = 3 }
 
--- the file `a` of three bytes, and one of another box
+-- the file `a` of three bytes, and a file in another box
 abbrev one_file : FinMap place_cmp File
 one_file = insert (insert empty elsewhere third) (in_box (codes "a")) first
 
--- and the file `b` of two bytes
+-- the same files, and the file `b` of two bytes
 abbrev two_files : FinMap place_cmp File
 two_files = insert one_file (in_box (codes "b")) second
 
@@ -78,14 +78,14 @@ there_is o x e none = true_false (sym (ap is_some e) ∙ none)
 box_entries : (box : Settings) (q : List ℕ) → get (insert (empty {R = bytes_cmp}) (codes "in") box) q ≡ find bytes_cmp q ((codes "in", box) ∷ [])
 box_entries box q = get_of bytes_cmp (insert empty (codes "in") box) _ q (entries_put bytes_cmp empty (codes "in") box [] bytes_total (no_entries bytes_cmp))
 
--- where a box is there, a rule of it is the rule's; where it is not, none holds
+-- a property of the box found under `in` is a property of `box`, and the reverse
 of_box : (P : Settings → Type 0) (box : Settings) → P box → IfSome (get (insert (empty {R = bytes_cmp}) (codes "in") box) (codes "in")) P
 of_box P box h = subst (λ (o : Option Settings). IfSome o P) (sym (box_entries box (codes "in"))) h
 
 at_box : (P : Settings → Type 0) (box : Settings) → IfSome (get (insert (empty {R = bytes_cmp}) (codes "in") box) (codes "in")) P → P box
 at_box P box h = subst (λ (o : Option Settings). IfSome o P) (box_entries box (codes "in")) h
 
--- ---- 27: the box is there
+-- ---- 27: the box exists
 
 pub box_there : PlaceRule rule.NoSuchBox (state one_file (settings Keep 10 2)) (in_box (codes "a"))
 box_there = ap is_some (box_entries (settings Keep 10 2) (codes "in"))
@@ -93,7 +93,7 @@ box_there = ap is_some (box_entries (settings Keep 10 2) (codes "in"))
 pub box_not_there : PlaceRule rule.NoSuchBox (state one_file (settings Keep 10 2)) elsewhere → ⊥
 box_not_there there = true_false (sym there ∙ ap is_some (box_entries (settings Keep 10 2) (codes "out")))
 
--- ---- 28: names of 1024 bytes, and of one more
+-- ---- 28: names of 1024 bytes, and of one byte more
 
 pub name_of_1024 : (s : State) (place : Place) → length place.name ≡ 1024 → PlaceRule rule.NameTooLong s place
 name_of_1024 s place long = omega arith
@@ -101,7 +101,7 @@ name_of_1024 s place long = omega arith
 pub no_name_of_1025 : (s : State) (place : Place) → length place.name ≡ 1025 → PlaceRule rule.NameTooLong s place → ⊥
 no_name_of_1025 s place long short = omega arith
 
--- ---- 30: other bytes for a box that is closed, and the same ones
+-- ---- 30: other bytes and the same bytes for a closed box
 
 pub closed_to_new_bytes : UploadRule rule.BoxClosed (state one_file (settings Replace 10 2)) (upload (codes "a") (codes "xyz") 200) → ⊥
 closed_to_new_bytes (place, holds) =
@@ -116,11 +116,11 @@ closed_to_new_bytes (place, holds) =
         let byte : ◌≡◌ {A = ℕ} 97 120 = ap (λ (t : List ℕ). get_or t 0 0) same in
         omega arith
 
--- the file stands under the name with these bytes
+-- the file is stored under the name with these bytes
 stands_again : (box : Settings) (now : ℕ) → Stands (state one_file box) (upload (codes "a") (codes "abc") now)
 stands_again box now = subst (λ (o : Option File). IsSomeAnd o (λ f. f.bytes ≡ codes "abc")) (sym (get_of place_cmp one_file _ (in_box (codes "a")) one_entries)) refl
 
--- a repeat is not asked whether the box is open, what stands there, how many files there are, and the quota
+-- for a repeat, the opening hours, the mode, the number of files and the quota are not checked
 pub repeat_when_closed : UploadRule rule.BoxClosed (state one_file (settings Keep 0 0)) (upload (codes "a") (codes "abc") 200)
 repeat_when_closed = (tt, inl (stands_again (settings Keep 0 0) 200))
 
@@ -133,7 +133,7 @@ repeat_when_full = (tt, inl (stands_again (settings Keep 0 0) 200))
 pub repeat_past_quota : UploadRule rule.QuotaPassed (state one_file (settings Keep 0 0)) (upload (codes "a") (codes "abc") 200)
 repeat_past_quota = (tt, inl (stands_again (settings Keep 0 0) 200))
 
--- ---- 31: a file stands, or none does
+-- ---- 31: with a stored file, and without one
 
 abbrev Kept : Settings → List ℕ → Type 0
 Kept box name = NewBytesRule rule.OtherBytesKept (state one_file box) box (upload name (codes "xyz") 100)
@@ -170,7 +170,7 @@ no_room_for_a_third holds =
 pub replacing_needs_no_room : HasRoom two_files (codes "a")
 replacing_needs_no_room new = absurd (there_is (get two_files (in_box (codes "a"))) first (get_of place_cmp two_files _ (in_box (codes "a")) two_entries) new)
 
--- ---- 33: a quota of ten bytes, of which five are used
+-- ---- 33: a quota of ten bytes, with five used
 
 abbrev IsWithin : List ℕ → List ℕ → Type 0
 IsWithin name bytes = NewBytesRule rule.QuotaPassed (state two_files (settings Replace 10 9)) (settings Replace 10 9) (upload name bytes 100)
@@ -178,12 +178,12 @@ IsWithin name bytes = NewBytesRule rule.QuotaPassed (state two_files (settings R
 five_used : used (state two_files (settings Replace 10 9)) (codes "in") ≡ 5
 five_used = ap (λ (es : List (Place × File)). sum_by (λ e. length e.1.bytes) (filter (λ e. same_bytes e.0.box (codes "in")) es)) two_entries
 
--- how many bytes stand under a name
+-- how many bytes are stored under a name
 standing : (name : List ℕ) → standing_bytes (state two_files (settings Replace 10 9)) (in_box name)
     ≡ unwrap_or (option_map (λ f. length f.bytes) (find place_cmp (in_box name) ((in_box (codes "a"), first) ∷ (in_box (codes "b"), second) ∷ (elsewhere, third) ∷ []))) 0
 standing name = ap (λ (o : Option File). unwrap_or (option_map (λ f. length f.bytes) o) 0) (get_of place_cmp two_files _ (in_box name) two_entries)
 
--- bytes fit where so many stand under the name exactly up to ten together
+-- with n bytes stored under the name, new bytes fit exactly if 5 - n plus their length is at most 10
 abbrev stood_at : List ℕ → ℕ
 stood_at name = standing_bytes (state two_files (settings Replace 10 9)) (in_box name)
 
@@ -201,14 +201,14 @@ five_more bytes long = within (codes "c") bytes 0 (standing (codes "c")) (omega 
 pub not_six_more : (bytes : List ℕ) → length bytes ≡ 6 → IsWithin (codes "c") bytes → ⊥
 not_six_more bytes long = not_within (codes "c") bytes 0 (standing (codes "c")) (omega arith)
 
--- three bytes stand under `a`, and make room
+-- the three bytes stored under `a` make room
 pub eight_for_three : (bytes : List ℕ) → length bytes ≡ 8 → IsWithin (codes "a") bytes
 eight_for_three bytes long = within (codes "a") bytes 3 (standing (codes "a")) (omega arith)
 
 pub not_nine_for_three : (bytes : List ℕ) → length bytes ≡ 9 → IsWithin (codes "a") bytes → ⊥
 not_nine_for_three bytes long = not_within (codes "a") bytes 3 (standing (codes "a")) (omega arith)
 
--- ---- 34: a file stands under box and name
+-- ---- 34: a file is stored under the box and name
 
 pub file_there : FetchRule rule.NoSuchFile (state one_file (settings Keep 10 2)) (in_box (codes "a"))
 file_there = ap is_some (get_of place_cmp one_file _ (in_box (codes "a")) one_entries)
@@ -216,6 +216,6 @@ file_there = ap is_some (get_of place_cmp one_file _ (in_box (codes "a")) one_en
 pub file_not_there : FetchRule rule.NoSuchFile (state one_file (settings Keep 10 2)) (in_box (codes "b")) → ⊥
 file_not_there there = true_false (sym there ∙ ap is_some (get_of place_cmp one_file _ (in_box (codes "b")) one_entries))
 
--- a fetch is asked for the length of the name too, as an upload is
+-- the length of the name is checked for a fetch too, as for an upload
 pub no_fetch_of_1025 : (s : State) (place : Place) → length place.name ≡ 1025 → FetchRule rule.NameTooLong s place → ⊥
 no_fetch_of_1025 s place long short = omega arith

@@ -1,4 +1,4 @@
--- Which changes the rules give for a state, and the state after each.
+-- Which changes the rules allow in a state, and the state after each.
 use Rattle.std.specs.Prelude.{◌≡◌, ℕ, ◌+◌, ◌≤◌, List, length, ⊤, IsSome}
 use Rattle.std.specs.FinMap.{get}
 use Rattle.sigtext.specs.Bytes.{AreBytes}
@@ -17,7 +17,7 @@ use Rattle.boxes.specs.Sound.{IsMoment}
 use Rattle.boxes.specs.Steps.{Command, AddKey, RevokeKey, AddBox, CloseBox, DropFile, LimitKey, SetAllowance, IsPossible, CommandStep, after_upload}
 use Rattle.boxes.specs.Commands.{HasForm}
 
--- the command that a `Command` of the code is
+-- the command that a `Command` of the code means
 abbrev pub command_of : row.Command → Command
 command_of (command.AddKey id role secret) = AddKey id.now role secret.now
 command_of (command.RevokeKey id) = RevokeKey id.now
@@ -27,20 +27,20 @@ command_of (command.DropFile box name) = DropFile (record { box = box.now; name 
 command_of (command.LimitKey id box) = LimitKey id.now box.now
 command_of (command.SetAllowance seconds) = SetAllowance seconds
 
--- what every upload brings that reaches the rules of boxes: bytes within the limit, a moment, a key that stands
+-- what each upload that reaches the rules of boxes has: bytes within the limit, a moment, a key that exists
 pub record IsBrought (s : State) (u : Upload) : Type 0 where
   pub bytes : AreBytes u.bytes
   pub short : length u.bytes ≤ most_body
   pub moment : IsMoment u.now
   pub key : IsSome (get s.keys u.key)
 
--- an upload that no rule refuses, and whose bytes don't stand already
+-- an upload that no rule refuses, and whose bytes are not already stored
 pub record IsTaken (s : State) (u : Upload) : Type 0 where
   pub brought : IsBrought s u
   pub rules : (r : Refusal) → UploadRule r s u
   pub new : Stands s u → ⊥
 
--- a command with its form that is possible, and the state after it
+-- a possible command that has its form, and the state after it
 pub record IsObeyed (s : State) (c : Command) (after : State) : Type 0 where
   pub form : HasForm c
   pub possible : IsPossible s c
@@ -56,22 +56,22 @@ pub record IsFileFor (s : State) (f : NewFile) (bytes : List ℕ) : Type 0 where
   pub size : f.size ≡ length bytes
   pub digest : f.digest ≡ sha256 bytes
 
--- the file is one that the rules take
+-- the rules accept the file, and `after` is the state with it set
 pub record IsFileSet (s : State) (f : NewFile) (bytes : List ℕ) (after : State) : Type 0 where
   pub taken : IsTaken s (upload_in f bytes)
   pub file : IsFileFor s f bytes
   pub sets : after ≡ after_upload s (upload_in f bytes)
 
--- the change is one that the rules give for the state, which goes on to the other; a file is set to what is staged
+-- the rules allow the change, and it leads from the first state to the second; a file is set to the staged bytes
 abbrev pub IsChangeOf : (List ℕ → Type 0) → State → Change → State → Type 0
 IsChangeOf Stages s (change.SetFile f) after = (bytes : List ℕ) × Stages bytes × IsFileSet s f bytes after
 IsChangeOf Stages s (change.Desk c) after = IsObeyed s (command_of c) after
 
--- the same, whatever is staged
+-- the same, whatever bytes are staged
 abbrev pub MayChange : State → Change → State → Type 0
 MayChange = IsChangeOf (λ bytes. ⊤)
 
--- the change uses up what is staged
+-- the change uses up the staged bytes
 abbrev pub TakesStaged : Change → Type 0
 TakesStaged (change.SetFile f) = ⊤
 TakesStaged (change.Desk c) = ⊥

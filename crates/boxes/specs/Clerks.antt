@@ -13,6 +13,6 @@ is_clerk Link = false
 abbrev pub is_acting : Key → Bool
 is_acting k = is_clerk k.role && not k.revoked
 
--- how many unrevoked clerk's keys stand
+-- the number of unrevoked clerk's keys
 abbrev pub clerks : State → ℕ
 clerks s = count_by (λ e. is_acting e.1) (entries s.keys)

@@ -6,7 +6,7 @@ use Rattle.boxes.specs.Rules.{IsName}
 use Rattle.boxes.specs.Sound.{IsBoxName, AreSettings, IsMoment}
 use Rattle.boxes.specs.Steps.{Command, AddKey, RevokeKey, AddBox, CloseBox, DropFile, LimitKey, SetAllowance}
 
--- what a command names has the forms of a sound state's
+-- the texts and numbers of a command have the forms that a sound state requires
 abbrev pub HasForm : Command → Type 0
 HasForm (AddKey id role secret) = IsKeyId id × IsSecret secret
 HasForm (RevokeKey id) = IsKeyId id

@@ -1,4 +1,4 @@
--- The state of an office that begins.
+-- The state of a new office.
 use Rattle.std.specs.Prelude.{ℕ, ℤ, List, [], false}
 use Rattle.std.specs.FinMap.{empty, insert}
 use Rattle.boxes.specs.declared.rows.Role.TheVariants.{Clerk}

@@ -1,7 +1,7 @@
-//! What the rules let a request change.
+//! The changes that the rules allow a request to make.
 use crate::rows::{BoxRow, Role};
 
-/// A command of the desk. The rules give its change only where its texts have their forms (`HasForm`).
+/// A desk command. The rules define its change only if its texts and numbers have their forms (`HasForm`).
 #[derive(Clone, Copy)]
 pub enum Command<'a> {
     /// Adds a key, unrevoked.
@@ -10,7 +10,7 @@ pub enum Command<'a> {
         id: &'a [u8],
         /// What it may do.
         role: Role,
-        /// The bytes by which it signs, 1 to 128 of 0x21 to 0x7E.
+        /// The bytes with which it signs: 1 to 128 bytes, each 0x21 to 0x7E.
         secret: &'a [u8],
     },
     /// Marks the key of this id revoked.
@@ -22,38 +22,38 @@ pub enum Command<'a> {
     AddBox {
         /// The box's name.
         name: &'a [u8],
-        /// What the box is set to.
+        /// The box's settings.
         row: &'a BoxRow,
     },
-    /// Sets the second at which a box closes for good.
+    /// Sets the second at which a box closes permanently.
     CloseBox {
         /// The box's name.
         name: &'a [u8],
         /// In seconds since 1970-01-01T00:00:00Z.
         moment: u64,
     },
-    /// Takes out a file. Its receipt stays.
+    /// Removes a file. Its receipt stays.
     DropFile {
         /// The box's name.
         in_box: &'a [u8],
         /// The file's name in the box.
         name: &'a [u8],
     },
-    /// Limits a key to this box, beside those that it is limited to already.
+    /// Limits a key to this box, in addition to those that it is already limited to.
     LimitKey {
         /// The key's id.
         id: &'a [u8],
         /// The box's name.
         in_box: &'a [u8],
     },
-    /// Sets by how many seconds a link may begin early.
+    /// Sets how many seconds early a link may begin.
     SetAllowance {
         /// 0 to 900.
         seconds: u64,
     },
 }
 
-/// A file that is to be set, without its bytes, and so the receipt that is added.
+/// A file to set, without its bytes. It also gives the receipt to add.
 #[derive(Clone, Copy, Debug)]
 pub struct NewFile<'a> {
     /// The receipt's number.
@@ -68,15 +68,15 @@ pub struct NewFile<'a> {
     pub digest: [u8; 32],
     /// The moment, in seconds since 1970-01-01T00:00:00Z.
     pub moment: u64,
-    /// The id of the key that brings it.
+    /// The id of the key that uploads it.
     pub key: &'a [u8],
 }
 
 /// A change of the state.
 #[derive(Clone, Copy)]
 pub enum Change<'a> {
-    /// Sets a file to the bytes that are staged, and adds its receipt. Nothing is staged then.
+    /// Sets a file to the staged bytes and adds its receipt. Nothing is staged afterwards.
     SetFile(NewFile<'a>),
-    /// What a command of the desk does.
+    /// The change of a desk command.
     Desk(Command<'a>),
 }

@@ -1,4 +1,4 @@
-//! What is decided of a desk command.
+//! The decision on a desk command.
 ghost use Rattle.std.specs.Prelude.{◌≡◌, ◌≤◌, ◌↔◌, IsTrue, IsFalse};
 ghost use Rattle.boxes.specs.Sound.{IsSound};
 ghost use Rattle.boxes.specs.Rows.{key_of};
@@ -13,7 +13,7 @@ use crate::rows::{KeyRow, Role};
 use crate::view::DeskView;
 use sigtext::Refusal;
 
-// Whether the key may be revoked, where so many unrevoked clerk's keys stand.
+// Whether the key may be revoked, if there are `clerks` unrevoked clerk's keys.
 fn may_be_revoked(key: &KeyRow, clerks: u64) -> bool
     ensures { IsTrue result ↔ (IsFalse key.now.revoked × (key.now.role ≡ Role.Clerk → 2 ≤ clerks)) }
 {
@@ -31,7 +31,7 @@ fn may_be_limited(key: &KeyRow) -> bool
     !key.revoked && matches!(key.role, Role::Link)
 }
 
-// Whether the command is possible, from what the keeper said.
+// Whether the command is possible, from the keeper's answers.
 fn is_possible(view: &DeskView, command: &Command<'_>) -> bool
     ensures { (s : State) → IsSound s → IsDeskViewOf s (command_of command.now) view.now
         → IsTrue result ↔ IsPossible s (command_of command.now) }
@@ -53,7 +53,7 @@ fn is_possible(view: &DeskView, command: &Command<'_>) -> bool
     }
 }
 
-/// Decides a desk command, from what the keeper said: it is possible, or refused with number 36. Takes no memory.
+/// Decides a desk command from the keeper's answers: it is possible, or it is refused with number 36. Takes no memory.
 pub fn desk(view: &DeskView, command: &Command<'_>) -> Result<(), Refusal>
     ensures { (s : State) → IsSound s → IsDeskViewOf s (command_of command.now) view.now
         → DecidesCommand s (command_of command.now) result }

@@ -1,4 +1,4 @@
-//! What is decided of a fetch.
+//! The decision on a fetch.
 ghost use Rattle.std.specs.Prelude.{List, ℕ};
 ghost use Rattle.boxes.specs.Sound.{IsSound};
 ghost use Rattle.boxes.specs.State.{State};
@@ -10,8 +10,8 @@ use crate::rows::FileRow;
 use crate::view::FetchView;
 use sigtext::Refusal;
 
-/// Decides a fetch of a name from a box, from what the keeper said: the file that stands, or the refusal, of number
-/// 27 to 29 or 34. Takes no memory.
+/// Decides a fetch of a name from a box, from the keeper's answers. Returns the stored file, or a refusal with a number
+/// from 27 to 29 or 34. Takes no memory.
 pub fn fetch(view: FetchView, name: &[u8]) -> Result<FileRow, Refusal>
     ensures { (s : State) (in_box : List ℕ) → IsSound s
         → IsFetchViewOf s (record { box = in_box; name = name.now }) view

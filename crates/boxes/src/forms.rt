@@ -1,4 +1,4 @@
-//! The forms of what a desk command names.
+//! The forms of the texts and numbers in a desk command.
 ghost use Rattle.std.specs.Prelude.{◌≡◌, ◌≤◌, ◌↔◌, length, map, IsTrue};
 ghost use Rattle.std.specs.List.{AllByRecursion};
 ghost use Rattle.sigv4.specs.Allowances.{most_allowance};
@@ -29,21 +29,21 @@ const MOST_QUOTA: u64 = 1_000_000_000_000;
 
 const MOST_FILES: u64 = 1_000_000;
 
-// Whether the second lies in the years 1970 to 9999.
+// Whether the second is in the years 1970 to 9999.
 fn is_moment(moment: u64) -> bool
     ensures { IsTrue result ↔ IsMoment moment }
 {
     Moment::new(moment).is_some()
 }
 
-// Whether an office may let links begin so many seconds early.
+// Whether an office may let links begin this many seconds early.
 fn is_allowance(seconds: u64) -> bool
     ensures { IsTrue result ↔ seconds ≤ most_allowance }
 {
     Allowance::new(seconds).is_some()
 }
 
-// Whether the byte may stand in the name of a box: a-z 0-9 - .
+// Whether the byte may occur in the name of a box: a-z 0-9 - .
 fn is_box_byte(byte: u8) -> bool
     ensures { result ≡ is_box_byte byte }
 {
@@ -57,14 +57,14 @@ fn is_box_name(name: &[u8]) -> bool
     is_word(name, MOST_BOX_NAME_BYTES, is_box_byte)
 }
 
-// Whether the byte may stand in a text of a name rule: no control byte, no space and no comma.
+// Whether the byte may occur in a text of a name rule: no control byte, no space and no comma.
 fn is_rule_byte(byte: u8) -> bool
     ensures { result ≡ is_rule_byte byte }
 {
     !matches!(byte, 0..=0x20 | b',' | 0x7F)
 }
 
-// Whether the text may stand in a name rule, where it may have so many bytes.
+// Whether the text may occur in a name rule, if at most `most` bytes are allowed.
 fn is_rule_text(text: &[u8], most: usize) -> bool
     ensures { IsTrue result ↔ IsRuleText most text.now }
 {
@@ -80,7 +80,7 @@ fn are_endings(texts: &[Vec<u8>]) -> bool
         .all(|text| is_rule_text(text, MOST_ENDING_BYTES))
 }
 
-// Whether the rule may be that of a box.
+// Whether a box may have this name rule.
 fn is_name_rule(rule: &NameRule) -> bool
     ensures { IsTrue result ↔ IsNameRule (name_rule_of rule.now) }
 {
@@ -93,7 +93,7 @@ fn is_name_rule(rule: &NameRule) -> bool
     }
 }
 
-// Whether a box may be set so.
+// Whether a box may have these settings.
 fn are_settings(row: &BoxRow) -> bool
     ensures { IsTrue result ↔ AreSettings (settings_of row.now) }
 {
@@ -113,9 +113,9 @@ fn is_file_name(name: &[u8]) -> bool
     name.len() <= MOST_NAME_BYTES && is_name(name)
 }
 
-/// Whether each text and number of the command has its form: key ids and secrets as `sigv4` tells them, names of boxes,
-/// settings within their limits, moments of the years 1970 to 9999, and names of files. Whether the office knows what
-/// is named is another question (`desk`). Takes no memory.
+/// Whether each text and number of the command has its form: key ids and secrets as `sigv4` defines them, names of boxes,
+/// settings and allowances within their limits, moments in the years 1970 to 9999, and names of files. It does not check
+/// whether the office knows the keys, boxes and files that are named: `desk` does. Takes no memory.
 pub fn has_form(command: &Command<'_>) -> bool
     ensures { IsTrue result ↔ HasForm (command_of command.now) }
 {

@@ -1,4 +1,4 @@
-//! Laws of the machine, for callers to cite.
+//! Laws of the rules of boxes, for callers to cite.
 ghost use Rattle.std.specs.Prelude.{◌≡◌, ◌≤◌, ◌↔◌, ℕ, List, Some, IsFalse};
 ghost use Rattle.std.specs.FinMap.{get};
 ghost use Rattle.boxes.specs.Clerks.{clerks};
@@ -10,14 +10,14 @@ ghost use Rattle.boxes.specs.declared.change.Change.{Change};
 
 use crate::rows::Role;
 
-/// Each change that the rules give leaves a sound state: quotas, numbers of files, receipts without a gap, and each
-/// file's receipt of its length and digest.
+/// Each change that the rules allow keeps the state sound: quotas and file limits hold, receipts have no gap, and each
+/// file's receipt has the file's length and digest.
 pub fn law_of_changes()
     ensures { (s after : State) (change : Change) → IsSound s → MayChange s change after
         → IsSound after }
 {}
 
-/// Beside an unrevoked clerk's key another one stands exactly where there are two or more.
+/// For an unrevoked clerk's key, another one exists exactly if there are two or more.
 pub fn law_of_clerks()
     ensures { (s : State) (id : List ℕ) (k : Key) → get s.keys id ≡ Some k → k.role ≡ Role.Clerk
         → IsFalse k.revoked

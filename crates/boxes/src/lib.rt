@@ -1,4 +1,4 @@
-//! The rules of boxes: what the office keeps, what a request asks of it, and what it changes.
+//! The rules of boxes: what the office keeps, which requests it allows, and what they change.
 #![tactic(auto)]
 
 pub mod change;

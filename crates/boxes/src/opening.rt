@@ -8,14 +8,14 @@ use sigv4::Moment;
 
 const SECONDS_PER_DAY: i64 = 86_400;
 
-// The second of the office's clock, which may lie before 1970.
+// The second on the office's clock. It may be before 1970.
 fn second_there(east: i16, now: Moment) -> i64
     ensures { result ≡ local_second east now }
 {
     now.seconds() as i64 + 60 * i64::from(east)
 }
 
-// The weekday there; Monday is 0. 1970-01-01 was a Thursday.
+// The weekday on the office's clock. Monday is 0. 1970-01-01 was a Thursday.
 fn weekday_there(east: i16, now: Moment) -> usize
     ensures weekday { result ≡ local_weekday east now }
     ensures in_week { result < 7 }
@@ -24,7 +24,7 @@ fn weekday_there(east: i16, now: Moment) -> usize
     (day + 3).rem_euclid(7) as usize
 }
 
-// The minute of the day there: 0 to 1439.
+// The minute of the day on the office's clock: 0 to 1439.
 fn minute_there(east: i16, now: Moment) -> u16
     ensures { result ≡ local_minute east now }
 {
@@ -32,15 +32,14 @@ fn minute_there(east: i16, now: Moment) -> u16
     (second / 60) as u16
 }
 
-// Whether the weekday there is one on which the box is open.
+// Whether the box is open on the current weekday of the office's clock.
 fn is_marked(row: &BoxRow, east: i16, now: Moment) -> bool
     ensures { IsTrue result ↔ slice_get row.now.days (local_weekday east now) ≡ Some true }
 {
     row.days[weekday_there(east, now)]
 }
 
-/// Whether the box is open at a moment by the office's clock, which is so many minutes east of UTC. Takes no
-/// memory.
+/// Whether the box is open at a moment by the office's clock, which is `east` minutes east of UTC. Takes no memory.
 pub fn open_at(row: &BoxRow, east: i16, now: Moment) -> bool
     ensures { IsTrue result ↔ IsOpen (settings_of row.now) east now }
 {
@@ -51,7 +50,7 @@ pub fn open_at(row: &BoxRow, east: i16, now: Moment) -> bool
     row.from_minute <= minute && minute < row.to_minute
 }
 
-/// Whether the rule takes the name. Takes no memory.
+/// Whether the rule accepts the name. Takes no memory.
 pub fn name_fits(rule: &NameRule, name: &[u8]) -> bool
     ensures { IsTrue result ↔ Fits (name_rule_of rule.now) name.now }
 {

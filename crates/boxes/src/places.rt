@@ -1,4 +1,4 @@
-//! What every request on a file must hold: the rules 27 to 29.
+//! The rules that every request on a file must obey: 27 to 29.
 ghost use Rattle.std.specs.Prelude.{◌≡◌, ◌↔◌, Some, IsTrue, option_map, MatchResult};
 ghost use Rattle.std.specs.FinMap.{get};
 ghost use Rattle.boxes.specs.State.{Place, State};
@@ -24,8 +24,8 @@ pub(crate) fn is_name(name: &[u8]) -> bool
     name.iter().all(|byte| *byte >= 0x20 && *byte != 0x7F)
 }
 
-/// Tells before the body whether an upload may come to its place: the box and the name hold the rules 27 to 29; else it is
-/// refused by the least that fails. Takes no memory.
+/// Tells, before the body, whether an upload may go to its place: the box and the name must obey rules 27 to 29.
+/// Otherwise the upload is refused with the lowest rule that fails. Takes no memory.
 pub fn place(in_box: &Option<BoxRow>, name: &[u8]) -> Result<(), Refusal>
     ensures { (s : State) (place : Place)
         → option_map settings_of in_box.now ≡ get s.boxes place.box → place.name ≡ name.now
@@ -36,7 +36,7 @@ pub fn place(in_box: &Option<BoxRow>, name: &[u8]) -> Result<(), Refusal>
     Ok(())
 }
 
-/// The box, where the box and the name hold the rules 27 to 29; else the least that fails. Takes no memory.
+/// The box, if the box and the name obey rules 27 to 29. Otherwise the lowest rule that fails. Takes no memory.
 pub fn box_for<'a>(in_box: &'a Option<BoxRow>, name: &[u8]) -> Result<&'a BoxRow, Refusal>
     ensures { (s : State) (place : Place)
         → option_map settings_of in_box.entry.now ≡ get s.boxes place.box → place.name ≡ name.now

@@ -6,11 +6,11 @@ use sigv4::Allowance;
 pub enum Role {
     /// It may also give desk commands.
     Clerk,
-    /// It may put and fetch alone.
+    /// It may only put and fetch files.
     Link,
 }
 
-/// Whether other bytes may take the place of those that stand under a name.
+/// Whether other bytes may replace those stored under a name.
 #[derive(Clone, Copy, Debug, PartialEq, Eq)]
 pub enum Mode {
     /// They may not.
@@ -19,21 +19,21 @@ pub enum Mode {
     Replace,
 }
 
-/// What an office is set to.
+/// The settings of an office.
 #[derive(Clone, Copy, Debug, PartialEq, Eq)]
 pub struct OfficeRow {
     /// The offset of the office's clock east of UTC, in minutes: -840 to 840.
     pub east: i16,
-    /// By how many seconds a link may begin early.
+    /// How many seconds early a link may begin.
     pub allowance: Allowance,
 }
 
-/// A key, without its id. It has no `Debug`, so that no secret gets into a log by it.
+/// A key, without its id. It has no `Debug`, so that it cannot put a secret into a log.
 #[derive(Drop)]
 pub struct KeyRow {
     /// What it may do.
     pub role: Role,
-    /// 1 to 128 bytes 0x21 to 0x7E.
+    /// 1 to 128 bytes, each 0x21 to 0x7E.
     pub secret: Vec<u8>,
     /// Whether it was revoked.
     pub revoked: bool,
@@ -55,19 +55,19 @@ pub enum NameRule {
 pub struct BoxRow {
     /// The first second at which it may be open, since 1970-01-01T00:00:00Z.
     pub opens: u64,
-    /// The first second at which it is closed for good.
+    /// The first second at which it is permanently closed.
     pub closes: u64,
     /// The days on which it is open, Monday first.
     pub days: [bool; 7],
     /// The first minute of the office's day at which it is open.
     pub from_minute: u16,
-    /// The first minute of the office's day, after that, at which it is closed: at most 1440.
+    /// The first minute of the office's day after `from_minute` at which it is closed: at most 1440.
     pub to_minute: u16,
-    /// How many bytes its files may have together.
+    /// How many bytes its files may have in total.
     pub quota: u64,
     /// How many files it may hold.
     pub max_files: u64,
-    /// Whether other bytes may take a name.
+    /// Whether other bytes may replace those stored under a name.
     pub mode: Mode,
     /// Which names it takes.
     pub rule: NameRule,
@@ -97,6 +97,6 @@ pub struct ReceiptRow {
 pub struct FileRow {
     /// The file's bytes.
     pub bytes: Vec<u8>,
-    /// What was given for them.
+    /// The receipt that was given for them.
     pub receipt: ReceiptRow,
 }

@@ -1,10 +1,10 @@
-//! What a box holds, kept from change to change.
+//! The totals of a box, updated at each change.
 ghost use Rattle.std.specs.Prelude.{◌≡◌, ◌<◌, ◌^◌, ◌+◌, length, Some, option_map};
 ghost use Rattle.std.specs.FinMap.{get, insert, remove};
 ghost use Rattle.boxes.specs.State.{File, Place, State};
 ghost use Rattle.boxes.specs.Totals.{used, count};
 
-/// The lengths of a box's files together, in bytes, and how many files they are.
+/// The total length of a box's files, in bytes, and their number.
 #[derive(Clone, Copy, Debug, PartialEq, Eq)]
 pub struct Totals {
     /// In bytes.
@@ -16,7 +16,7 @@ pub struct Totals {
 impl Totals {
     ghost use Rattle.boxes.specs.Views.{AreTotals};
 
-    /// After a file of the new length was set, where one of the old length stood, if one did.
+    /// The totals after a file of length `new` was set. It replaced a file of length `old`, if there was one.
     pub fn set(self, old: Option<u64>, new: u64) -> Totals
         ensures { (s : State) (place : Place) (f : File) → AreTotals s place.box self
             → length f.bytes ≡ new
@@ -35,7 +35,7 @@ impl Totals {
         Totals { used, count }
     }
 
-    /// After a file of this length was taken out.
+    /// The totals after a file of this length was removed.
     pub fn take_out(self, old: u64) -> Totals
         ensures { (s : State) (place : Place) (f : File) → AreTotals s place.box self
             → get s.files place ≡ Some f → length f.bytes ≡ old

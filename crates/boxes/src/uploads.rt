@@ -1,4 +1,4 @@
-//! What is decided of an upload.
+//! The decision on an upload.
 ghost use Rattle.std.specs.Prelude.{◌≡◌, ◌↔◌, ◌+◌, ◌-◌, ◌^◌, ◌<◌, ◌≤◌, length, Some, IsTrue, MatchResult, option_map};
 ghost use Rattle.std.specs.FinMap.{get};
 ghost use Rattle.boxes.specs.Changes.{IsBrought};
@@ -18,36 +18,36 @@ use crate::view::UploadView;
 use sigtext::Refusal;
 use sigv4::Moment;
 
-/// What is known of the bytes that an upload brings.
+/// What is known of the bytes of an upload.
 #[derive(Clone, Copy, Debug)]
 pub struct NewBytes {
-    /// How many they are.
+    /// Their number.
     pub length: u64,
     /// Their SHA-256 digest.
     pub digest: [u8; 32],
-    /// Whether they equal those that stand under the box and name.
+    /// Whether they equal those stored under the box and name.
     pub stand: bool,
 }
 
-/// What becomes of an upload.
+/// The decision on an upload.
 #[derive(Clone, Copy, Debug)]
 pub enum Uploading<'a> {
-    /// It is refused with a number of 27 to 33.
+    /// It is refused with a number from 27 to 33.
     Refused(Refusal),
-    /// Its bytes stand already; this is their receipt, and nothing changes.
+    /// Its bytes are already stored. This is their receipt, and nothing changes.
     Again(&'a ReceiptRow),
-    /// It is taken: this file is to be set to its bytes.
+    /// It is accepted: this file is to be set to its bytes.
     Taken(NewFile<'a>),
 }
 
-// Whether the quota holds, with other bytes in the place of those that stood.
+// Whether the quota holds after `size` bytes replace the `stood` stored ones.
 fn is_within_quota(used: u64, stood: u64, size: u64, quota: u64) -> bool
     ensures { quota < 2 ^ 64 - 1 → IsTrue result ↔ (used - stood + size ≤ quota) }
 {
     used.saturating_sub(stood).saturating_add(size) <= quota
 }
 
-// The length of the file that stands: that of its receipt.
+// The length of the stored file, as its receipt gives it.
 fn standing_size(view: &UploadView) -> Option<u64>
     ensures { (s : State) (place : Place) → IsSound s → IsReceiptAt s place view.now.standing
         → result ≡ option_map (λ f. length f.bytes) (get s.files place) }
@@ -55,8 +55,8 @@ fn standing_size(view: &UploadView) -> Option<u64>
     view.standing.as_ref().map(|receipt| receipt.size)
 }
 
-// What bytes that do not stand already must hold in a box, whatever its quota: the rules 30 to 32, and else the least
-// that fails. `stood` is the length of the file that stands.
+// Checks rules 30 to 32, which bytes that are not already stored must obey. This does not check the quota. The error is
+// the lowest rule that fails. `stood` is the length of the stored file.
 fn check_place(
     view: &UploadView,
     row: &BoxRow,
@@ -83,7 +83,7 @@ fn check_place(
     Ok(())
 }
 
-// What bytes that do not stand already must hold in a box: the rules 30 to 33, and else the least that fails.
+// Checks rules 30 to 33, which bytes that are not already stored must obey. The error is the lowest rule that fails.
 fn check_new_bytes(view: &UploadView, row: &BoxRow, now: Moment, size: u64) -> Result<(), Refusal>
     ensures { (s : State) (u : Upload) → IsSound s → IsUploadViewOf s u.place view.now
         → get s.boxes u.place.box ≡ Some (settings_of row.now) → u.now ≡ now → length u.bytes ≡ size
@@ -100,8 +100,8 @@ fn check_new_bytes(view: &UploadView, row: &BoxRow, now: Moment, size: u64) -> R
     }
 }
 
-/// Decides an upload of a key to a box and a name at a moment, from what the keeper said and from what is known of
-/// the bytes. Takes no memory.
+/// Decides an upload by a key to a box and a name at a moment, from the keeper's answers and from what is known of the
+/// bytes. Takes no memory.
 pub fn upload<'a>(
     view: &'a UploadView,
     now: Moment,

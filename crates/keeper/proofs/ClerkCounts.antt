@@ -1,4 +1,4 @@
--- How many unrevoked clerk's keys stand after a key was added or revoked.
+-- The number of unrevoked clerk's keys after a key was added or revoked.
 use Rattle.std.proofs.Common.{◌≡◌, ◌∙◌, ℕ, ◌+◌, ◌≤◌, Bool, true, false, cond, List, Some, None, refl, ap, arith}
 use Rattle.std.specs.Prelude.{count_by, ◌&&◌, not}
 use Rattle.std.specs.FinMap.{get, insert, empty, entries}
@@ -14,7 +14,7 @@ use Rattle.boxes.proofs.Lookups.{bytes_total, bytes_same, no_entries}
 pub no_clerks : (s : State) → s.keys ≡ empty → clerks s ≡ 0
 no_clerks s e = ap (λ m. count_by (λ (x : List ℕ × Key). is_acting x.1) (entries m)) e ∙ ap (count_by (λ (x : List ℕ × Key). is_acting x.1)) (no_entries bytes_cmp)
 
--- a key of a new id
+-- the number after a key with a new id was added
 pub clerks_added : (s : State) (id : List ℕ) (k : Key) → get s.keys id ≡ None → clerks (record s { keys = insert s.keys id k }) ≡ clerks s + cond (is_acting k) 1 0
 clerks_added s id k none =
     let w = λ (e : List ℕ × Key). cond (is_acting e.1) 1 0 in
@@ -26,7 +26,7 @@ revoked_stops : (r : Role) → (is_clerk r && not true) ≡ false
 revoked_stops Clerk = refl
 revoked_stops Link = refl
 
--- a key that was revoked
+-- the number after a key was revoked
 pub clerks_revoked : (s : State) (id : List ℕ) (k : Key) → get s.keys id ≡ Some k → clerks (record s { keys = insert s.keys id (record k { revoked = true }) }) + cond (is_acting k) 1 0 ≡ clerks s
 clerks_revoked s id k there =
     let w = λ (e : List ℕ × Key). cond (is_acting e.1) 1 0 in

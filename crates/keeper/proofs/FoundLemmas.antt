@@ -23,7 +23,7 @@ length-numbered : (n : ℕ) (rs : List Receipt) → length (numbered n rs) ≡ l
 length-numbered n [] = refl
 length-numbered n (r ∷ rs) = ap suc (length-numbered (n + 1) rs)
 
--- as many receipts are kept as stand
+-- the shelf keeps as many receipts as the state has
 pub as_many : (k : Shelf) (s : State) → Holds k s → length k.receipts.items ≡ length s.receipts
 as_many k s h = sym (length-map k.receipts.items numbered_receipt) ∙ ap length h.receipts ∙ length-numbered 1 s.receipts
 
@@ -57,7 +57,7 @@ file_at k s place stored receipt at copy h there number listed bytes given =
       receipt = λ f e. let it : copy ≡ f = cc in subst (λ (x : FileRow). HasReceipt s x.receipt.number (receipt_in x.receipt)) it is;
     }
 
--- the same of its receipt alone
+-- the same for the file's receipt alone
 pub receipt_at : (k : Shelf) (s : State) (place : Place) (stored : StoredFile) (receipt : ReceiptRow) (at : ℕ) (copy : ReceiptRow) → Holds k s
     → found place_cmp place_of k.files.entries place ≡ Some stored → stored.number ≡ at + 1 → slice_get k.receipts.items at ≡ Some receipt
     → numbered_receipt copy ≡ numbered_receipt receipt → IsReceiptAt s place (Some copy)
@@ -79,7 +79,7 @@ bytes_found k s place stored bytes held staged test h there is was tested =
     subst (λ (o : Option File). IsTrue test ↔ IsSomeAnd o (λ f. f.bytes ≡ bytes)) (sym stands)
     (λ yes. sym is ∙ decides.0 yes ∙ was, λ same. decides.1 (is ∙ same ∙ sym was))
 
--- none was found
+-- no file was found
 pub no_bytes_found : (k : Shelf) (s : State) (place : Place) (bytes : List ℕ) → Holds k s → found place_cmp place_of k.files.entries place ≡ None
     → IsTrue false ↔ HasBytes s place bytes
 no_bytes_found k s place bytes h there =

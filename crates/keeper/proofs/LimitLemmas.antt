@@ -20,7 +20,7 @@ use Rattle.keeper.proofs.MapLemmas.{key_test, apart, found-tied}
 not_held : false ≡ true → ⊥
 not_held e = cc
 
--- a set that a box was added to
+-- the boxes of a set after one was added
 pub has_after : (s n : BTreeSet (Vec ℕ Global)) (name : List ℕ) → UpdatesBy (λ x y. bytes_cmp (bytes_of x) (bytes_of y)) (λ x. bytes_cmp name (bytes_of x)) s n true
     → (q : List ℕ) → has_box n q ≡ cond (eq_by_cmp bytes_cmp q name) true (has_box s q)
 unfolding KeepsOthers
@@ -30,7 +30,7 @@ has_after s n name u q =
       | false ↦ λ t. u.3 (λ x. is_eq (bytes_cmp q (bytes_of x))) (key_test bytes_cmp bytes_of bytes_total q) (apart bytes_cmp bytes_of bytes_total q name t)
     ] refl
 
--- limits are compared by key, and then by box
+-- limits are compared by key and then by box
 tied_both : (a b : Ordering) → is_eq (ordering_then a b) ≡ cond (is_eq a) (is_eq b) false
 tied_both Less b = refl
 tied_both Equal b = refl
@@ -40,7 +40,7 @@ is_some_cond : (b : Bool) (o : Option (Unit {0})) → is_some (cond b (Some tt) 
 is_some_cond true o = refl
 is_some_cond false o = refl
 
--- a box was added to those that a key is limited to
+-- the limits after a box was added to those of a key
 pub limits_set : (es after : List (Vec ℕ Global × BTreeSet (Vec ℕ Global))) (m : FinMap limit_cmp (Unit {0})) (key box : List ℕ) (boxes : BTreeSet (Vec ℕ Global)) → LimitsMean es m
     → Sets bytes_cmp bytes_of key (Some boxes) es after
     → ((q : List ℕ) → has_box boxes q ≡ cond (eq_by_cmp bytes_cmp q box) true (has_limit es (record { key = key; box = q })))
@@ -70,7 +70,7 @@ limits_set es after m key box boxes h sets has = record {
         ∙ is_some_cond (eq_by_cmp limit_cmp l (record { key = key; box = box })) (get m l)
         ∙ ap (λ b. cond b true (is_some (get m l))) (tied_both (bytes_cmp l.key key) (bytes_cmp l.box box))
 
--- a set that stood was put in its place again
+-- the limits after a key's set was replaced by the same set
 pub limits_same : (es after : List (Vec ℕ Global × BTreeSet (Vec ℕ Global))) (m : FinMap limit_cmp (Unit {0})) (key : List ℕ) (boxes : BTreeSet (Vec ℕ Global)) → LimitsMean es m
     → found bytes_cmp bytes_of es key ≡ Some boxes → Sets bytes_cmp bytes_of key (Some boxes) es after → LimitsMean after m
 limits_same es after m key boxes h there sets = record {
@@ -85,7 +85,7 @@ limits_same es after m key boxes h there sets = record {
           | false ↦ λ t. refl
         ] refl ∙ sym (sets.each q)
 
--- nobody is limited
+-- no key is limited
 pub no_limits : LimitsMean [] empty
 no_limits = record {
   each = λ l. ap is_some (get-empty limit_cmp l);
@@ -93,7 +93,7 @@ no_limits = record {
 }
 
 module _ (s : State) (es : List (Vec ℕ Global × BTreeSet (Vec ℕ Global))) (h : LimitsMean es s.limits) (id box : List ℕ) where
-  -- what is kept under the key
+  -- a set is kept under the key: it has the boxes that the key is limited to
   pub limited_there : (boxes : BTreeSet (Vec ℕ Global)) → found bytes_cmp bytes_of es id ≡ Some boxes → IsTrue (has_box boxes box) ↔ IsLimitedTo s id box
   limited_there boxes there =
       let is = h.each (record { key = id; box = box }) ∙ ap (λ o. unwrap_or (option_map (λ x. has_box x box) o) false) there in
@@ -106,7 +106,7 @@ module _ (s : State) (es : List (Vec ℕ Global × BTreeSet (Vec ℕ Global))) (
       let held = h.each (record { key = id; box = one.0 }) ∙ ap (λ o. unwrap_or (option_map (λ x. has_box x one.0) o) false) there ∙ one.1 in
       (λ has limited. is.0 has, λ may. is.1 (may (one.0, held)))
 
-  -- nothing is kept under the key
+  -- no set is kept under the key: the key is not limited
   pub no_limit : found bytes_cmp bytes_of es id ≡ None → IsLimitedTo s id box → ⊥
   no_limit none held = not_held (sym (ap (λ o. unwrap_or (option_map (λ x. has_box x box) o) false) none) ∙ sym (h.each (record { key = id; box = box })) ∙ held)
 

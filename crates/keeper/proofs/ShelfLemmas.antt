@@ -124,7 +124,7 @@ holds_files k s files boxes receipts fs rs name b t h means listed there sets ar
   limits = h.limits;
 }
 
--- the kept limits mean others
+-- the limits were changed
 pub holds_limits : (k : Shelf) (s : State) (limits : BTreeMap (Vec ℕ Global) (BTreeSet (Vec ℕ Global))) (ls : FinMap limit_cmp (Unit {0})) → Holds k s
     → LimitsMean limits.entries ls → Holds (record k { limits = limits }) (record s { limits = ls })
 holds_limits k s limits ls h means = record {
@@ -140,7 +140,7 @@ holds_limits k s limits ls h means = record {
   limits = means;
 }
 
--- the box of a name that stands
+-- the kept box of a name, if the state has such a box
 pub box_there : (k : Shelf) (s : State) (name : List ℕ) → Holds k s → IsSome (get s.boxes name)
     → (b : ShelvedBox) × (found bytes_cmp bytes_of k.boxes.entries name ≡ Some b) × (get s.boxes name ≡ Some (shelved_settings b))
 box_there k s name h some =
@@ -153,12 +153,12 @@ numbered-push n [] r = ap (λ k. (k, r) ∷ []) (let e : n ≡ n + 0 = omega ari
 numbered-push n (x ∷ rs) r =
     ap (λ (l : List (ℕ × Receipt)). (n, x) ∷ l) (numbered-push (n + 1) rs r ∙ ap (λ k. numbered (n + 1) rs ++ (k, r) ∷ []) (let e : n + 1 + length rs ≡ n + suc (length rs) = omega arith in e))
 
--- how long the file is that stands
+-- the length of the stored file
 pub long_of : (o : Option StoredFile) → option_map (λ (x : StoredFile). length x.bytes.items) o ≡ option_map (λ (f : File). length f.bytes) (option_map stored_file o)
 long_of None = refl
 long_of (Some x) = refl
 
--- the entries of the boxes stayed
+-- the entries of the boxes are unchanged
 pub same_boxes : (k : Shelf) (s : State) (boxes : BTreeMap (Vec ℕ Global) ShelvedBox) → Holds k s → boxes.entries ≡ k.boxes.entries → Holds (record k { boxes = boxes }) s
 same_boxes k s boxes h e = record {
   offset = h.offset;

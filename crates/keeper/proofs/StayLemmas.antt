@@ -1,4 +1,4 @@
--- What a call leaves that only counts a fault of memory.
+-- What a call leaves that only counts a memory error.
 use Rattle.std.proofs.Common.{◌≡◌, ◌∙◌, inr, sym, Ok, Err}
 use Rattle.std.specs.Prelude.{◌≢◌, Result, IfErr, OnOk, IsErrOf}
 use Rattle.sigtext.specs.Counts.{CountsErrors}

@@ -1,2 +1,2 @@
--- What the ordered maps of the code mean, by look-ups.
+-- What the ordered maps of the code mean, in terms of look-ups.
 pub use Rattle.boxes.specs.Maps.{found, MapMeans, Sets}

@@ -1,4 +1,4 @@
--- A shelf means one state.
+-- A shelf means at most one state.
 use Rattle.std.proofs.Common.{◌≡◌, ◌∙◌, ℕ, ◌+◌, List, [], ◌∷◌, Option, Some, None, refl, sym, ap}
 use Rattle.std.specs.Prelude.{Vec, is_some}
 use Rattle.std.specs.BTreeSet.{BTreeSet}
@@ -16,11 +16,11 @@ use Rattle.keeper.specs.declared.shelf.Shelf.{Shelf}
 use Rattle.keeper.specs.Maps.{MapMeans}
 use Rattle.keeper.specs.Shelves.{Holds, LimitsMean, bytes_of, place_of, shelved_settings, stored_file}
 
--- entries mean one map
+-- entries mean at most one map
 one_map : {K K' X Y : Type 0} (R : K' → K' → Ordering) (f : K → K') (g : X → Y) → IsTotalOrder R → IsAntisymmetric R → (es : List (K × X)) (m n : FinMap R Y) → MapMeans R f g es m → MapMeans R f g es n → m ≡ n
 one_map R f g o same es m n a b = same_map o same m n (λ q. a.each q ∙ sym (b.each q))
 
--- there is one thing that a limit can have
+-- a limit has only one possible value
 one_unit : (o p : Option (Unit {0})) → is_some o ≡ is_some p → o ≡ p
 one_unit None None e = refl
 one_unit None (Some x) e = absurd cc
@@ -52,6 +52,6 @@ one_state k s t a b =
     let receipts = one_list 1 s.receipts t.receipts (sym a.receipts ∙ b.receipts) in
     λ i. record { offset = offset i; allowance = allowance i; keys = keys i; boxes = boxes i; files = files i; receipts = receipts i; limits = limits i }
 
--- it stages one text
+-- a shelf stages at most one text
 pub one_text : (k : Shelf) (a b : List ℕ) → k.staged.items ≡ a → k.staged.items ≡ b → a ≡ b
 one_text k a b x y = sym x ∙ y

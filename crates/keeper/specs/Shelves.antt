@@ -34,7 +34,7 @@ stored_file f = record { bytes = f.bytes.items; receipt = f.number }
 abbrev pub has_box : BTreeSet (Vec ℕ Global) → List ℕ → Bool
 has_box boxes name = contains_by (λ x. bytes_cmp name (bytes_of x)) boxes
 
--- the set that stands under the limit's key has its box
+-- the set under the limit's key has the limit's box
 abbrev pub has_limit : List (Vec ℕ Global × BTreeSet (Vec ℕ Global)) → Limit → Bool
 has_limit es l = unwrap_or (option_map (λ boxes. has_box boxes l.box) (found bytes_cmp bytes_of es l.key)) false
 
@@ -43,8 +43,9 @@ pub record LimitsMean (es : List (Vec ℕ Global × BTreeSet (Vec ℕ Global))) 
   pub each : (l : Limit) → is_some (get m l) ≡ has_limit es l
   pub some : (key : List ℕ) (boxes : BTreeSet (Vec ℕ Global)) → found bytes_cmp bytes_of es key ≡ Some boxes → (box : List ℕ) × IsTrue (has_box boxes box)
 
--- The maps and the limits are those of the state, the receipts are numbered, the kept totals are the sums over the
--- files, and the kept number of clerks is theirs. It is no more than the keys.
+-- The shelf holds the state: the settings, maps and limits are those of the state, and so are the receipts, with their
+-- numbers. The kept totals are the sums over the files. The kept number of unrevoked clerk's keys is that of the state,
+-- and it is at most the number of keys.
 pub record Holds (k : Shelf) (s : State) : Type 0 where
   pub offset : k.office.east ≡ s.offset
   pub allowance : k.office.allowance ≡ s.allowance
@@ -57,8 +58,8 @@ pub record Holds (k : Shelf) (s : State) : Type 0 where
   pub fewer : k.clerks ≤ length k.keys.entries
   pub limits : LimitsMean k.limits.entries s.limits
 
--- What a call leaves that only asks: the shelf means what it meant and stages what it staged, and an error, of memory
--- alone, is counted.
+-- What a query leaves: the shelf means the same states and stages the same bytes as before. The only error is a lack of
+-- memory, and it is counted.
 pub record Looks {T : Type 0} (old new : Shelf) (result : Result T KeepFault) : Type 0 where
   pub same : (s : State) → Holds old s → Holds new s
   pub count : CountsErrors old.faults new.faults result

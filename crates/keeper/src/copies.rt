@@ -9,7 +9,7 @@ use std::alloc::{AllocError, Global};
 ///
 /// # Errors
 ///
-/// `AllocError` where a growth was refused.
+/// `AllocError` if an allocation was refused.
 pub fn copy_key(alloc: Global, key: &KeyRow) -> Result<KeyRow, AllocError>
     ensures { IfOk result (λ k. key_of k ≡ key_of key.now) }
 {
@@ -47,7 +47,7 @@ fn copy_rule(alloc: Global, rule: &NameRule) -> Result<NameRule, AllocError>
 ///
 /// # Errors
 ///
-/// `AllocError` where a growth was refused.
+/// `AllocError` if an allocation was refused.
 pub fn copy_box(alloc: Global, row: &BoxRow) -> Result<BoxRow, AllocError>
     ensures { IfOk result (λ copy. settings_of copy ≡ settings_of row.now) }
 {

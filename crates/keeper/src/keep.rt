@@ -1,4 +1,4 @@
-//! The trait that every keeper meets.
+//! The trait that every keeper implements.
 ghost use Rattle.std.specs.Prelude.{◌≡◌, ◌↔◌, ◌≤◌, ℕ, ◌+◌, ◌⊎◌, List, [], ◌++◌, length, map, option_map, IsTrue, IfErr, OnOk, OnErr, IsErrOf};
 ghost use Rattle.std.specs.FinMap.{get};
 ghost use Rattle.sigtext.specs.Counts.{CountsErrors};
@@ -18,7 +18,7 @@ use thiserror::Error;
 /// Why a keeper could not answer.
 #[derive(Clone, Copy, Debug, PartialEq, Eq, Error)]
 pub enum KeepFault {
-    /// A growth was refused.
+    /// An allocation was refused.
     #[error("out of memory")]
     Memory,
     /// The store refused.
@@ -29,26 +29,26 @@ pub enum KeepFault {
     Full,
 }
 
-/// Keeps the state of an office, and counts the calls that fail: the count stops at the greatest value. An error
-/// leaves the state. Answers are promised of sound states.
+/// Keeps the state of an office, and counts the calls that fail. The count stops at its greatest value. An error
+/// leaves the state unchanged. Answers are promised only for sound states.
 pub trait Keeper {
-    /// What is kept means this state. A relation, since a store that is shut shows nothing.
+    /// What is kept means this state. This is a relation, because a store that is shut shows nothing.
     ghost means: { Self → State → Type 0 };
 
-    /// These bytes are staged beside the state: none at first. It is of no bytes where that is not known: after an error, until
-    /// the next `stage_begin` that succeeds.
+    /// These bytes are staged in addition to the state: none at first. This holds for no bytes while the staged bytes are
+    /// unknown: after an error, until the next `stage_begin` that succeeds.
     ghost stages: { Self → List ℕ → Type 0 };
 
-    /// What the store gave back so far is what was written. Memory is always honest.
+    /// The store has so far returned what was written. Memory is always honest.
     ghost is_honest: { Self → Type 0 };
 
-    /// What is kept can be seen. A store shuts itself at a fault; memory is always open.
+    /// What is kept can be seen. A store shuts itself after a fault. Memory is always open.
     ghost is_open: { Self → Type 0 };
 
     /// How many calls failed.
     ghost faults: { Self → ℕ };
 
-    /// A crash now may leave this state. Of memory it means nothing.
+    /// A crash now may leave this state. For memory this has no meaning.
     ghost leaves: { Self → State → Type 0 };
 
     /// Whatever a crash now leaves means a state.
@@ -57,7 +57,7 @@ pub trait Keeper {
     /// There is a store below, which may refuse any call. Memory has none.
     ghost has_store: { Type 0 };
 
-    /// What the office is set to. Takes no memory.
+    /// The settings of the office. Takes no memory.
     fn settings(&mut self) -> Result<OfficeRow, KeepFault>
         ensures value { Answers means is_honest self.old self.new result IsOfficeOf }
         ensures rest { Stays means is_honest is_open faults leaves leaves_whole has_store
@@ -73,8 +73,8 @@ pub trait Keeper {
             self.old self.new result }
         ensures staged { KeepsStaged stages self.old self.new };
 
-    /// Whether the key of this id may use the box of this name: it is not limited, or this box is one of those that it is
-    /// limited to. Neither need be there. Takes no memory.
+    /// Whether the key of this id may use the box of this name: the key is not limited, or this box is one of those that it
+    /// is limited to. Neither the key nor the box need exist. Takes no memory.
     fn may_use(&mut self, id: &[u8], in_box: &[u8]) -> Result<bool, KeepFault>
         ensures value { Answers means is_honest self.old self.new result
             (λ s b. IsTrue b ↔ MayUse s id.now in_box.now) }
@@ -116,7 +116,7 @@ pub trait Keeper {
             self.old self.new result }
         ensures staged { KeepsStaged stages self.old self.new };
 
-    /// What the box of this name holds; nothing, where it is not there. Takes no memory.
+    /// The totals of the box of this name. They are zero if it does not exist. Takes no memory.
     fn sizes(&mut self, in_box: &[u8]) -> Result<Totals, KeepFault>
         ensures value { Answers means is_honest self.old self.new result
             (λ s t. AreTotals s in_box.now t) }
@@ -125,7 +125,7 @@ pub trait Keeper {
         ensures staged { KeepsStaged stages self.old self.new }
         ensures sure { OnErr result has_store };
 
-    /// How many unrevoked clerk's keys stand. Takes no memory.
+    /// The number of unrevoked clerk's keys. Takes no memory.
     fn clerks(&mut self) -> Result<u64, KeepFault>
         ensures value { Answers means is_honest self.old self.new result (λ s n. n ≡ clerks s) }
         ensures rest { Stays means is_honest is_open faults leaves leaves_whole has_store
@@ -150,14 +150,14 @@ pub trait Keeper {
             self.old self.new result }
         ensures staged { KeepsStaged stages self.old self.new };
 
-    /// Nothing is staged from now on. Takes no memory.
+    /// Begins staging, with no bytes staged. Takes no memory.
     fn stage_begin(&mut self) -> Result<(), KeepFault>
         ensures rest { Stays means is_honest is_open faults leaves leaves_whole has_store
             self.old self.new result }
         ensures empty { OnOk result (stages self.new []) }
         ensures sure { OnErr result has_store };
 
-    /// Stages these bytes, 1 to 65536, behind those that are staged.
+    /// Appends these bytes, 1 to 65536, to the staged bytes.
     fn stage(&mut self, bytes: &[u8]) -> Result<(), KeepFault>
         requires some { 1 ≤ length bytes.now }
         requires short { length bytes.now ≤ 65536 }
@@ -166,7 +166,7 @@ pub trait Keeper {
         ensures added { (staged : List ℕ) → stages self.old staged
             → OnOk result (stages self.new (staged ++ bytes.now)) };
 
-    /// Whether the file of this box and name stands with just the staged bytes.
+    /// Whether the file of this box and name exists and has exactly the staged bytes.
     fn staged_equals(&mut self, in_box: &[u8], name: &[u8]) -> Result<bool, KeepFault>
         ensures value { (staged : List ℕ) → stages self.old staged
             → Answers means is_honest self.old self.new result
@@ -175,17 +175,16 @@ pub trait Keeper {
             self.old self.new result }
         ensures staged { OnOk result (KeepsStaged stages self.old self.new) };
 
-    /// Nothing is staged any more. Takes no memory.
+    /// Drops the staged bytes. Takes no memory.
     fn stage_drop(&mut self) -> Result<(), KeepFault>
         ensures rest { Stays means is_honest is_open faults leaves leaves_whole has_store
             self.old self.new result }
         ensures empty { OnOk result (stages self.new []) }
         ensures sure { OnErr result has_store };
 
-    /// Makes a change that the rules give for the state, whole or not at all. A file is set to the staged bytes, and nothing
-    /// is staged then; both are one change. Where the office has its greatest number
-    /// of receipts and the change would add one, no change is made: the error is `Full`, or the store's own. Elsewhere
-    /// `Full` never comes.
+    /// Makes a change that the rules allow in the state, completely or not at all. A file is set to the staged bytes, and
+    /// then nothing is staged; both are one change. If the office has its greatest number of receipts and the change would
+    /// add one, no change is made: the error is `Full` or the store's own. Otherwise `Full` is never returned.
     fn apply(&mut self, change: &Change<'_>) -> Result<(), KeepFault>
         ensures made { (s after : State) → means self.old s → IsSound s
             → IsChangeOf (stages self.old) s change.now after → OnOk result (means self.new after) }
@@ -212,11 +211,11 @@ pub trait Keeper {
             → IsChangeOf (stages self.old) s change.now after → is_honest self.new
             → OnErr result (LeavesEither leaves leaves_whole self.old self.new s after) };
 
-    /// An honest keeper that is open means one state.
+    /// An honest keeper that is open means at most one state.
     ghost one: { (k : Self) (s t : State) → is_honest k → is_open k → means k s → means k t
         → s ≡ t };
 
-    /// An honest keeper that is open stages one text at most.
+    /// An honest keeper that is open stages at most one text.
     ghost one_staged: { (k : Self) (a b : List ℕ) → is_honest k → is_open k → stages k a
         → stages k b → a ≡ b };
 

@@ -1,4 +1,4 @@
-//! What keeps an office: the trait that every keeper meets, and a keeper in memory.
+//! Keepers of an office: the trait that every keeper implements, and a keeper in memory.
 #![tactic(auto)]
 
 mod copies;

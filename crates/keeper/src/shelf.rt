@@ -1,4 +1,4 @@
-//! A keeper in memory, and what it is asked.
+//! A keeper in memory, and its queries.
 ghost use Rattle.std.specs.Prelude.{◌≡◌, ℕ, ◌+◌, ◌-◌, ◌≤◌, ◌↔◌, map, take, drop, cond, slice_get, option_map, IsTrue, IfSome, IfOk};
 ghost use Rattle.std.specs.FinMap.{get};
 ghost use Rattle.sigtext.specs.Counts.{Rose};
@@ -18,7 +18,7 @@ use boxes::{BoxRow, FileRow, KeyRow, OfficeRow, ReceiptRow, Role, Totals};
 use std::alloc::{AllocError, Global};
 use std::collections::{BTreeMap, BTreeSet};
 
-/// A box, and what it holds.
+/// A box and its totals.
 #[derive(Drop)]
 pub struct ShelvedBox {
     pub row: BoxRow,
@@ -32,14 +32,15 @@ pub struct StoredFile {
     pub number: u64,
 }
 
-/// An office in ordered maps. Looking up costs the logarithm of what is kept; what is answered or set is copied.
+/// An office in ordered maps. A look-up takes time logarithmic in what is kept. What is returned or set is copied, but the
+/// staged bytes are moved into the file that is set.
 #[derive(Drop)]
 pub struct Shelf {
     pub(crate) office: OfficeRow,
     pub(crate) keys: BTreeMap<Vec<u8>, KeyRow>,
     pub(crate) boxes: BTreeMap<Vec<u8>, ShelvedBox>,
     pub(crate) files: BTreeMap<(Vec<u8>, Vec<u8>), StoredFile>,
-    // The boxes that a key is limited to, by its id. No set is empty.
+    // The boxes that a key is limited to, by the key's id. No set is empty.
     pub(crate) limits: BTreeMap<Vec<u8>, BTreeSet<Vec<u8>>>,
     pub(crate) receipts: Vec<ReceiptRow>,
     // The bytes that are staged.
@@ -49,7 +50,7 @@ pub struct Shelf {
     pub(crate) alloc: Global,
 }
 
-/// There is room for a receipt of this number.
+/// Whether there is room for a receipt with this number.
 pub fn has_room(next: u64) -> bool
     ensures { IsTrue result ↔ (next ≤ most_receipts) }
 {
@@ -58,7 +59,7 @@ pub fn has_room(next: u64) -> bool
 
 const MOST_RECEIPTS: u64 = 4_000_000_000;
 
-/// 1 for an unrevoked clerk's key, and else 0.
+/// 1 for an unrevoked clerk's key, otherwise 0.
 pub(crate) fn acting(key: &KeyRow) -> u64
     ensures { result ≡ cond (is_acting (key_of key.now)) 1 0 }
 {
@@ -68,7 +69,7 @@ pub(crate) fn acting(key: &KeyRow) -> u64
     }
 }
 
-/// Where a file lies.
+/// The place of a file: its box and name.
 pub(crate) fn new_place(
     alloc: Global,
     in_box: &[u8],
@@ -97,7 +98,7 @@ fn copy_file(
     })
 }
 
-/// The receipt in the place of this number.
+/// The receipt at the position for this number.
 fn numbered_of(receipts: &[ReceiptRow], number: u64) -> Option<&ReceiptRow>
     ensures there { IfSome result (λ r. (at : ℕ) × (number ≡ at + 1)
         × (slice_get receipts.now at ≡ Some r.now)) }
@@ -108,7 +109,7 @@ fn numbered_of(receipts: &[ReceiptRow], number: u64) -> Option<&ReceiptRow>
     receipts.get(number as usize - 1)
 }
 
-/// The receipts in the places from this number on, at most so many.
+/// The receipts from the position for this number on, at most `most` of them.
 fn stretch(receipts: &[ReceiptRow], from: u64, most: usize) -> &[ReceiptRow]
     ensures { result.now ≡ take most (drop (from - 1) receipts.now) }
 {
@@ -244,7 +245,7 @@ impl Shelf {
         Ok(stored.bytes.as_slice() == self.staged.as_slice())
     }
 
-    /// What the box of this name holds.
+    /// The totals of the box of this name.
     pub(crate) fn totals_of(&self, in_box: &[u8]) -> Totals
         ensures { (s : State) → Holds self.now s → IsSound s → AreTotals s in_box.now result }
     {

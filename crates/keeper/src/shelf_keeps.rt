@@ -1,4 +1,4 @@
-//! The keeper in memory meets the trait.
+//! The keeper in memory implements the trait.
 ghost use Rattle.std.specs.Prelude.{◌≡◌, [], pos, neg_ℤ, ◌≤ℤ◌, IfOk, IfErr};
 ghost use Rattle.sigv4.specs.Credential.{IsKeyId, IsSecret};
 ghost use Rattle.boxes.specs.FirstState.{first_state};
@@ -114,11 +114,11 @@ impl Keeper for Shelf {
 }
 
 impl Shelf {
-    /// The keeper of an office that begins, with one clerk's key of this id and secret.
+    /// The keeper of a new office, with one clerk's key that has this id and secret.
     ///
     /// # Errors
     ///
-    /// `Memory` where memory was refused.
+    /// `Memory` if memory was refused.
     pub fn new(
         alloc: Global,
         office: OfficeRow,
@@ -137,7 +137,7 @@ impl Shelf {
         ensures no_store { ⟦<Shelf as Keeper>⟧.has_store → ⊥ }
         ensures fault { IfErr result (λ f. f ≡ KeepFault.Memory) }
     {
-        // The clause of this call says how great an allowance is at most.
+        // The contract of this call gives the greatest value of an allowance.
         let _ = office.allowance.seconds();
         let Ok((id, row)) = new_key(alloc, id, Role::Clerk, secret) else {
             return Err(KeepFault::Memory);

@@ -1,4 +1,4 @@
-//! What changes a keeper in memory. Growth comes first, and the change last.
+//! The changes of a keeper in memory. Memory is allocated first, and the change is made last.
 ghost use Rattle.std.specs.Prelude.{◌≡◌, ◌≤◌, ◌<◌, ◌⊎◌, [], Some, true, length, cond, option_map, IfOk, IfErr, OnOk, OnErr};
 ghost use Rattle.std.specs.FinMap.{FinMap, insert};
 ghost use Rattle.sigtext.specs.Bytes.{bytes_cmp};
@@ -23,7 +23,7 @@ use std::alloc::{AllocError, Global};
 use std::collections::{BTreeMap, BTreeSet};
 use std::mem;
 
-/// A key that is added, as it is kept.
+/// A new key, as it is kept.
 pub(crate) fn new_key(
     alloc: Global,
     id: &[u8],
@@ -42,7 +42,7 @@ pub(crate) fn new_key(
     ))
 }
 
-/// A box that is added, as it is kept. It holds nothing.
+/// A new box, as it is kept. It holds nothing.
 fn new_box(alloc: Global, name: &[u8], row: &BoxRow) -> Result<(Vec<u8>, ShelvedBox), AllocError>
     ensures { IfOk result (λ b. (b.0.items ≡ name.now)
         × (shelved_settings b.1 ≡ settings_of row.now)
@@ -57,7 +57,7 @@ fn new_box(alloc: Global, name: &[u8], row: &BoxRow) -> Result<(Vec<u8>, Shelved
     ))
 }
 
-/// A file that is set and its receipt, as they are kept. The bytes are moved.
+/// A new file and its receipt, as they are kept. The bytes are moved.
 fn new_file(
     alloc: Global,
     file: &NewFile<'_>,
@@ -86,7 +86,7 @@ fn new_file(
     ))
 }
 
-/// The key of this id is limited to this box too.
+/// Limits the key of this id to this box too.
 fn add_limit(
     alloc: Global,
     limits: &mut BTreeMap<Vec<u8>, BTreeSet<Vec<u8>>>,
@@ -110,7 +110,7 @@ fn add_limit(
     Ok(())
 }
 
-/// How long a file is.
+/// The length of a file, if there is one.
 fn length_of(file: &Option<StoredFile>) -> Option<u64>
     ensures { result ≡ option_map (λ f. length f.bytes.items) file.now }
 {
@@ -120,7 +120,7 @@ fn length_of(file: &Option<StoredFile>) -> Option<u64>
     }
 }
 
-/// 1 where this id has an unrevoked clerk's key, and else 0.
+/// 1 if this id has an unrevoked clerk's key, otherwise 0.
 fn acting_at(keys: &BTreeMap<Vec<u8>, KeyRow>, id: &[u8]) -> u64
     ensures { (k : KeyRow) → found bytes_cmp bytes_of keys.now.entries id.now ≡ Some k
         → result ≡ cond (is_acting (key_of k)) 1 0 }
@@ -131,7 +131,7 @@ fn acting_at(keys: &BTreeMap<Vec<u8>, KeyRow>, id: &[u8]) -> u64
     }
 }
 
-/// The key of this id is revoked.
+/// Marks the key of this id revoked.
 fn mark_revoked(keys: &mut BTreeMap<Vec<u8>, KeyRow>, id: &[u8])
     ensures set { (k : KeyRow) → found bytes_cmp bytes_of keys.old.entries id.now ≡ Some k
         → Sets bytes_cmp bytes_of id.now (Some
@@ -143,7 +143,7 @@ fn mark_revoked(keys: &mut BTreeMap<Vec<u8>, KeyRow>, id: &[u8])
     }
 }
 
-/// The box of this name closes for good at this second.
+/// Sets the second at which the box of this name closes permanently.
 fn set_closing(boxes: &mut BTreeMap<Vec<u8>, ShelvedBox>, name: &[u8], moment: u64)
     ensures { (b : ShelvedBox) → found bytes_cmp bytes_of boxes.old.entries name.now ≡ Some b
         → Sets bytes_cmp bytes_of name.now (Some
@@ -154,7 +154,7 @@ fn set_closing(boxes: &mut BTreeMap<Vec<u8>, ShelvedBox>, name: &[u8], moment: u
     }
 }
 
-/// The box of this name holds these totals.
+/// Sets the totals of the box of this name.
 fn set_totals(boxes: &mut BTreeMap<Vec<u8>, ShelvedBox>, name: &[u8], totals: Totals)
     ensures { (b : ShelvedBox) → found bytes_cmp bytes_of boxes.old.entries name.now ≡ Some b
         → Sets bytes_cmp bytes_of name.now (Some
@@ -166,7 +166,7 @@ fn set_totals(boxes: &mut BTreeMap<Vec<u8>, ShelvedBox>, name: &[u8], totals: To
 }
 
 impl Shelf {
-    /// Sets a file to these bytes, and adds its receipt.
+    /// Sets a file to these bytes and adds its receipt.
     fn set_file(&mut self, file: &NewFile<'_>, bytes: Vec<u8>) -> Result<(), KeepFault>
         ensures made { (s after : State) → Holds self.old s → IsSound s
             → IsFileSet s file.now bytes.items after → OnOk result (Holds self.new after) }
@@ -201,7 +201,7 @@ impl Shelf {
         }
     }
 
-    /// Sets a file to the bytes that are staged, and adds its receipt. Nothing is staged then, whatever came of it.
+    /// Sets a file to the staged bytes and adds its receipt. Afterwards nothing is staged, even after an error.
     pub(crate) fn set_staged(&mut self, file: &NewFile<'_>) -> Result<(), KeepFault>
         ensures made { (s after : State) → Holds self.old s → IsSound s
             → IsFileSet s file.now self.old.staged.items after → OnOk result (Holds self.new after) }
@@ -272,7 +272,7 @@ impl Shelf {
         }
     }
 
-    /// Sets when a box closes for good. Takes no memory.
+    /// Sets when a box closes permanently. Takes no memory.
     fn close_box(&mut self, name: &[u8], moment: u64)
         ensures made { (s after : State) → Holds self.old s
             → IsObeyed s (CloseBox name.now moment) after → Holds self.new after }
@@ -282,7 +282,7 @@ impl Shelf {
         set_closing(&mut self.boxes, name, moment);
     }
 
-    /// Takes out a file. Its receipt stays.
+    /// Removes a file. Its receipt stays.
     fn drop_file(&mut self, in_box: &[u8], name: &[u8]) -> Result<(), KeepFault>
         ensures made { (s after : State) → Holds self.old s → IsSound s
             → IsObeyed s (DropFile (record { box = in_box.now; name = name.now })) after
@@ -318,7 +318,7 @@ impl Shelf {
         }
     }
 
-    /// Sets by how many seconds a link may begin early. Takes no memory.
+    /// Sets how many seconds early a link may begin. Takes no memory.
     fn set_allowance(&mut self, seconds: u64)
         ensures made { (s after : State) → Holds self.old s
             → IsObeyed s (SetAllowance seconds) after → Holds self.new after }
@@ -330,7 +330,7 @@ impl Shelf {
         }
     }
 
-    /// Does what a command of the desk says.
+    /// Carries out a desk command.
     pub(crate) fn obey(&mut self, command: &Command<'_>) -> Result<(), KeepFault>
         ensures made { (s after : State) → Holds self.old s → IsSound s
             → IsObeyed s (command_of command.now) after → OnOk result (Holds self.new after) }

@@ -1,4 +1,4 @@
--- Requests of one signed text: what is signed of them is the same, and so is what it says.
+-- Requests with the same signed text: their signed parts are the same, and say the same.
 use Rattle.std.proofs.Common.{◌≡◌, ◌≢◌, ℕ, true, false, not, eqb, List, [], ◌∷◌, map, codes, refl, sym, ap, ◌∙◌, subst, All}
 use Rattle.std.specs.Prelude.{IsTrue, IsPermutation}
 use Rattle.std.specs.Char.{is_ascii_uppercase}
@@ -31,9 +31,9 @@ use Rattle.links.specs.WellFormed.{LinkValues, IsWellFormed, HasValue, methods}
 use Rattle.links.proofs.OwnParams.{moved_value}
 use Rattle.links.proofs.Values.{value_once, expiry_once}
 
--- ---- what is signed of a well-formed request is plain
+-- ---- the signed parts of a well-formed request are plain
 
--- capital letters are one line
+-- a text of capital letters is one line
 capitals : (text : List ℕ) → IsTrue (list_all is_ascii_uppercase text) → IsOneLine text
 capitals text h =
     recursion_from_All (λ b. b ≢ 10) text
@@ -68,9 +68,9 @@ plain r p h =
       headers = headers_plain p.signed names.forms (h rule.SignedValues).1;
     }
 
--- ---- a value stays in another order of the signed parameters
+-- ---- a value stays the same in a rearrangement of the signed parameters
 
--- a name that is not the signature's has its value among the signed ones
+-- a parameter whose name is not the signature's has its value among the signed parameters
 signed_value : (params : List Param) (name value : List ℕ) → same_bytes name (codes "X-Amz-Signature") ≡ false → HasValue params name value → HasValue (signed_params params) name value
 signed_value params name value other has =
     filter_within (λ p. not (same_bytes p.name (codes "X-Amz-Signature"))) (λ p. same_bytes p.name name) params signs ∙ has

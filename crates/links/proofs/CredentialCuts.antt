@@ -1,4 +1,4 @@
--- Where the parts of a credential lie, by the length of its key id.
+-- The positions of the parts of a credential, given the length of its key id.
 use Rattle.std.proofs.Common.{◌≡◌, ℕ, ◌+◌, ◌≤◌, List, [], ◌∷◌, ◌++◌, codes, length, take, drop, ap, sym, ◌∙◌, arith, append_assoc, length-append}
 use Rattle.std.proofs.Math.Seq.{drop-append_seam, take-append_seam}
 use Rattle.sigv4.specs.Credential.{IsCredential}
@@ -10,7 +10,7 @@ scope_with date region = record { date = date; region = region }
 abbrev fixed_end : List ℕ
 fixed_end = codes "/s3/aws4_request"
 
--- the day first
+-- what follows the key id, with the day first
 abbrev behind_key_id : CredentialScope → List ℕ
 behind_key_id scope = 47 ∷ (scope.date ++ 47 ∷ (scope.region ++ fixed_end))
 
@@ -23,7 +23,7 @@ length_behind scope day = omega (arith, day, length-append scope.date (47 ∷ (s
 joined : (text date key_id : List ℕ) (scope : CredentialScope) → IsCredential text date key_id scope → text ≡ key_id ++ behind_key_id scope
 joined text date key_id scope is = is.joined ∙ ap (λ (t : List ℕ). key_id ++ t) (day_first scope)
 
--- slash, day, slash and the fixed end stand behind the key id
+-- a slash, the day, a slash and the fixed end follow the key id
 pub scope_fits : (text date key_id : List ℕ) (scope : CredentialScope) (n : ℕ) → IsCredential text date key_id scope → length key_id ≡ n → n + 26 ≤ length text
 scope_fits text date key_id scope n is long =
     omega (arith, long, ap length (joined text date key_id scope is), length-append key_id (behind_key_id scope), length_behind scope is.day_length)
@@ -55,7 +55,7 @@ region_cut scope n day is =
     let long : n ≡ length scope.region = omega (arith, is, length_behind scope day) in
     ap (λ (k : ℕ). take k (drop 10 (behind_key_id scope))) long ∙ ap (take (length scope.region)) (behind_day scope day) ∙ take-append_seam scope.region fixed_end
 
--- the day and the region that stand there are the scope's
+-- the day and the region at these positions are those of the scope
 pub scope_cut : (text date key_id : List ℕ) (scope : CredentialScope) (rest : List ℕ) (k n : ℕ) → IsCredential text date key_id scope → length key_id ≡ k → rest ≡ drop k text → n + 26 ≡ length rest
     → scope_with (take 8 (drop 1 rest)) (take n (drop 10 rest)) ≡ scope
 scope_cut text date key_id scope rest k n is long stands left =

@@ -1,4 +1,4 @@
--- The decimal text of an expiry has an expiry's form.
+-- The decimal text of an expiry has the form of an expiry.
 use Rattle.std.proofs.Common.{◌≡◌, ◌≢◌, ℕ, ◌^◌, ◌<◌, ◌≤◌, true, List, [], ◌∷◌, get_or, refl, sym, ap, arith}
 use Rattle.std.specs.Prelude.{IsTrue}
 use Rattle.std.specs.List.{list_all}

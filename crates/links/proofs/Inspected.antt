@@ -1,4 +1,4 @@
--- What was read of a link, and what of its rules fails.
+-- What was read from a link, and which of its rules fails.
 use Rattle.std.proofs.Common.{◌≡◌, ℕ, List, sym, subst}
 use Rattle.std.specs.Prelude.{IfErr, IsErrAnd, Result, Ok, Err}
 use Rattle.sigtext.specs.declared.refusal.Refusal.{Refusal}
@@ -16,7 +16,7 @@ use Rattle.links.proofs.ServedMethods.{served_method}
 use Rattle.links.specs.declared.methods.Method.{Method}
 use Rattle.links.proofs.LinkRules.{Heads, HasTarget, HasSix, names_first, six_first, values_first}
 
--- an error that is handed on
+-- an error that is passed on
 pub carried : {T E : Type 0} (P : E → Type 0) (r : Result T E) (x : E) → IsErrAnd r (λ e. e ≡ x) → P x → IfErr r P
 carried P (Ok t) x is p = tt
 carried P (Err e) x is p = subst P (sym is) p
@@ -28,7 +28,7 @@ weaker_err (Err e) f p = f e p
 has_target : (method : Method) (t : Target) (headers : List Header) (r : Request) (asked : IsAskedBy method t headers r) → HasTarget r asked.read.read.path asked.read.read.params
 has_target method t headers r asked = record { served = served_method r.method method asked.method_is; target = asked.read.is_target; only = asked.read.only }
 
--- what read_six says of every reading
+-- what read_six says about every reading
 abbrev pub ReadsRight : Target → Params → SixTexts → Type 0
 ReadsRight t sorted six = (path : List ℕ) (params : List Param) → SpellsReading t path params → AreRightParams sorted six params
 
@@ -53,7 +53,7 @@ wrong_headers method t headers r asked sorted six sp q right all f =
     values_first r asked.read.read.path asked.read.read.params sorted six sp q (has_six method t headers r asked sorted six right) all
     (subst (λ (hs : List Header). IsFirstToFail (ValueRule hs sp.names) q) (sym asked.headers_are) f)
 
--- what is known of the names of one reading is known of the target's
+-- what is known about the names of each reading is known about the names of the request's target
 pub names_of : (method : Method) (t : Target) (headers : List Header) (r : Request) → IsAskedBy method t headers r → ((path : List ℕ) (params : List Param) → SpellsReading t path params → HaveNames params)
     → (path : List ℕ) (params : List Param) → IsTargetOf r.target path params → HaveNames params
 names_of method t headers r asked named path params is =

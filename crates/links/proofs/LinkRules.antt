@@ -1,4 +1,4 @@
--- Which of the rules 7 to 18 is the least that fails, by what was read of a request.
+-- The lowest of the rules 7 to 18 that fails, given what was read from a request.
 use Rattle.std.proofs.Common.{◌≡◌, ℕ, ◌<◌, ◌≤◌, List, [], ◌∷◌, map, codes, refl, sym, ap, subst, ⊎_elim, arith}
 use Rattle.std.specs.Prelude.{IsTrue}
 use Rattle.std.specs.List.{list_any}
@@ -53,7 +53,7 @@ early path params = record {
   signature = [];
 }
 
--- the names alone
+-- the names as headers with empty values
 abbrev blank : List (List ℕ) → List Header
 blank names = map (λ name. record { name = name; value = [] }) names
 
@@ -61,7 +61,7 @@ blank_names : (names : List (List ℕ)) → map (λ s. s.name) (blank names) ≡
 blank_names [] = refl
 blank_names (name ∷ names) = ap (λ (ns : List (List ℕ)). name ∷ ns) (blank_names names)
 
--- what the values say, as a request's parts say it
+-- what the six values say, taken from a request's parts
 abbrev six_of : LinkValues → SixParts
 six_of p = record { key_id = p.key_id; scope = p.scope; start = p.start; expires = p.expires; names = map (λ s. s.name) p.signed }
 
@@ -85,7 +85,7 @@ method_first r other = record { parts = early [] []; before = λ x lt. nothing r
     nothing r rule.HeaderNotSigned lt = absurd (omega arith)
     nothing r _ lt = tt
 
--- the rules 7 to 10 before a number
+-- the rules 7 to 10 below a number hold
 early_before : (r : Request) (p : LinkValues) (n : ℕ) → n ≤ 10 → (7 < n → HeadRule rule.Method r p) → (8 < n → HeadRule rule.Target r p) → (9 < n → HeadRule rule.NotSigned r p)
     → (x : Refusal) → number_of x < n → HeadRule x r p
 early_before r p n most method target signed rule.Method lt = method lt
@@ -110,7 +110,7 @@ target_first r served none = record {
   fails = λ p hold bad. none p.path p.params bad;
 }
 
--- a served request whose target has this one reading
+-- a request with a served method, whose target has this reading only
 pub record HasTarget (r : Request) (path : List ℕ) (params : List Param) : Type 0 where
   pub served : IsTrue (list_any (same_bytes r.method) methods)
   pub target : IsTargetOf r.target path params
@@ -133,7 +133,7 @@ names_first r path params q has wrong =
 
 -- ---- the six values
 
--- and its parameters are right, with these values
+-- such a request whose parameters are right, with these six values
 pub record HasSix (r : Request) (path : List ℕ) (params : List Param) (sorted : Params) (six : SixTexts) : Type 0 where
   pub has : HasTarget r path params
   pub right : AreRightParams sorted six params
@@ -167,7 +167,7 @@ six_from r params six p same v rule.SignedHeaders (text, has, are) =
 six_from r params six p same v rule.SignatureText (has, is) = subst IsHexDigest (value_same params p.params (codes "X-Amz-Signature") six.signature p.signature same v.signature has) is
 six_from r params six p same v _ h = tt
 
--- a rule of the values' forms that fails has one of these numbers
+-- the first rule on the values' forms to fail has a number from 11 to 16
 six_number : (six : SixTexts) (q : Refusal) → IsFirstToFail (SixRule six) q → (11 ≤ number_of q) × (number_of q ≤ 16)
 six_number six rule.Algorithm f = (omega arith, omega arith)
 six_number six rule.Credential f = (omega arith, omega arith)
@@ -202,7 +202,7 @@ no_values headers names signed rule.SignedValues lt = absurd (omega arith)
 no_values headers names signed rule.HeaderNotSigned lt = absurd (omega arith)
 no_values headers names signed _ lt = tt
 
--- the rules before 18, where the values are there
+-- the rules below 18 hold if the signed values are present
 before_cover : (r : Request) (path : List ℕ) (params : List Param) (sorted : Params) (six : SixTexts) (sp : SixParts) (signed : List Header) → HasSix r path params sorted six → AllHold (SixRule six) sp
     → ValueRule r.headers sp.names rule.SignedValues signed → (x : Refusal) → number_of x < 18 → HeadRule x r (parts_of path params six sp signed)
 before_cover r path params sorted six sp signed k all v rule.SignedValues lt =
@@ -210,7 +210,7 @@ before_cover r path params sorted six sp signed k all v rule.SignedValues lt =
 before_cover r path params sorted six sp signed k all v rule.HeaderNotSigned lt = absurd (omega arith)
 before_cover r path params sorted six sp signed k all v x lt = head_with r path params sorted six sp signed k (value_names r.headers sp.names signed v.0) x (omega arith) (all x)
 
--- the names that other parts give are these
+-- other parts give the same names
 same_names : (r : Request) (params : List Param) (six : SixTexts) (sp : SixParts) (p : LinkValues) → p.params ≡ params → AreSixOf six params → AreSignedNames six.names sp.names
     → HeadRule rule.SignedHeaders r p → map (λ s. s.name) p.signed ≡ sp.names
 same_names r params six sp p same v are h = names_once six.names sp.names (map (λ s. s.name) p.signed) are (six_from r params six p same v rule.SignedHeaders h)

@@ -1,4 +1,4 @@
--- What the test of a link's signature says.
+-- The meaning of the test of a link's signature.
 use Rattle.std.proofs.Common.{◌≡◌, ℕ, Bool, true, false, List, Result, Ok, Err, sym, ap, subst, ◌∙◌}
 use Rattle.std.specs.Prelude.{IsTrue, ◌↔◌}
 use Rattle.sigtext.specs.declared.refusal.Refusal.{Refusal}
@@ -16,7 +16,7 @@ use Rattle.links.specs.LinkReadings.{IsLinkOf}
 use Rattle.links.specs.Moments.{Now}
 use Rattle.links.specs.declared.link_parts.LinkParts.{LinkParts}
 
--- the test is that of the signature of the one canonical request
+-- the test tells whether the signature is that of the only canonical request
 abbrev pub DecidesSignature : Bool → LinkParts → List ℕ → CredentialScope → Type 0
 DecidesSignature right l secret scope =
     (signed : Signed) → AreOf l.parts signed

@@ -1,4 +1,4 @@
--- The link of an order is the only one.
+-- An order has only one link.
 use Rattle.std.proofs.Common.{◌≡◌, ℕ, List, ◌∷◌, ◌++◌, map, codes, refl, sym, ap, subst, ◌∙◌}
 use Rattle.std.specs.List.{join_with_byte}
 use Rattle.sigtext.specs.declared.encode.Slash.TheVariants.{Kept}
@@ -21,7 +21,7 @@ use Rattle.links.proofs.ReadTexts.{HasTexts, texts_read}
 use Rattle.links.proofs.SaidOnce.{expiry_text, credential_text, scope_said}
 use Rattle.links.proofs.SameParams.{HaveValues, query_same}
 
--- the parts of two links of one order
+-- the parts of two links for one order
 pub record AreSaid (t : Terms) (p q : LinkValues) : Type 0 where
   pub says : Says t p
   pub says_too : Says t q
@@ -35,7 +35,7 @@ same_five a b credential date expires names =
     rw (credential, date, expires, names) refl in
     whole
 
--- the text that is signed, from what it is made of
+-- the signed text is the same if its pieces are the same
 text_same : (r s : Signed) (query other : List ℕ) → s.method ≡ r.method → s.path ≡ r.path → s.headers ≡ r.headers
     → other ≡ query
     → canonical_text s other ≡ canonical_text r query
@@ -100,7 +100,7 @@ module _ {t : Terms} {p q : LinkValues} (said : AreSaid t p q) where
   dates : q.date ≡ p.date
   dates = said.texts_too.date ∙ date ∙ sym said.texts.date
 
-  -- the canonical queries of both are one
+  -- both have the same canonical query
   query : (text other : List ℕ) → IsCanonicalQuery p.params text → IsCanonicalQuery q.params other → other ≡ text
   query =
       query_same said.texts.five t.params p.params q.params said.texts.values
@@ -128,7 +128,7 @@ module _ {t : Terms} {p q : LinkValues} (said : AreSaid t p q) where
       ∙ ap (λ (x : List ℕ). uri_encoded Kept p.path ++ 63 ∷ c.query ++ codes "&X-Amz-Signature=" ++ x) sig
       ∙ sym c.is
 
--- two links of one order are one
+-- two links for one order are equal
 pub only_link : (t : Terms) (a b : List ℕ) → IsLinkFor t a → IsLinkFor t b → b ≡ a
 only_link t a b h k =
     let (r, is) = h.sent in

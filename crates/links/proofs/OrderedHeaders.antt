@@ -14,11 +14,11 @@ use Rattle.sigtext.proofs.ValuesNamed.{both_hold}
 use Rattle.links.specs.Orders.{Terms, AreSound, wanted}
 use Rattle.links.proofs.OwnHeaders.{own_given, own_covered, wanted_fit, values_given, cover_moved}
 
--- what holds of each in turn holds of each in another order
+-- what holds for each element of a list holds for each element of its rearrangement
 pub each_moved : {X : Type 0} (P : X → Type 0) (xs ys : List X) → IsPermutation xs ys → AllByRecursion P xs → AllByRecursion P ys
 each_moved P xs ys moved all = recursion_from_All P ys (All-permutation P xs ys moved (All-from_recursion P xs all))
 
--- a value stands among the headers in another order
+-- rearranged headers have the same signed value
 value_moved : (xs ys : List Header) (name value : List ℕ) → IsPermutation xs ys → IsSignedValue xs name value → IsSignedValue ys name value
 value_moved xs ys name value moved (h, is, at) = (h, moved_one (λ x. same_bytes (lower_case x.name) name) ys xs h (IsPermutation-sym xs ys moved) is, at)
 
@@ -28,7 +28,7 @@ given_moved xs ys moved all =
     (All-weaker (λ h. IsSignedValue xs h.name h.value) (λ h. IsSignedValue ys h.name h.value) (λ h is. value_moved xs ys h.name h.value moved is) ys
     (All-permutation (λ h. IsSignedValue xs h.name h.value) xs ys moved (All-from_recursion (λ h. IsSignedValue xs h.name h.value) xs all)))
 
--- the wanted headers, in whatever order, are their own signed values
+-- the wanted headers, in any order, are their own signed values
 pub own_values : (t : Terms) → AreSound t → (hs : List Header) → IsPermutation (wanted t) hs → AllHold (ValueRule hs (map (λ h. h.name) hs)) hs
 own_values t sound hs moved =
     both_hold hs (map (λ h. h.name) hs) hs

@@ -82,7 +82,7 @@ own t sound = All-from_recursion (IsOwnHeader t.headers) t.headers (sound fault.
 visible : (t : Terms) → AreSound t → IsTrue (list_all is_visible t.host)
 visible t sound = (sound fault.Host).each
 
--- what holds of `host` and of each other header
+-- what holds for `host` and for each other header holds for all wanted headers
 each_wanted : (P : Header → Type 0) (t : Terms) → AreSound t → P (host_header t.host) → ((h : Header) → IsOwnHeader t.headers h → Contains t.headers h → P h) → All P (wanted t)
 each_wanted P t sound host other =
     All-cons P (host_header t.host) t.headers host (λ k d within. other (get_or t.headers k d) (own t sound k d within) (All-contains_itself t.headers k d within))
@@ -99,9 +99,9 @@ wanted_forms t sound = each_wanted (λ h. IsHeaderName h.name) t sound host_form
 wanted_lower : (t : Terms) → AreSound t → All (λ h. lower_case h.name ≡ h.name) (wanted t)
 wanted_lower t sound = each_wanted (λ h. lower_case h.name ≡ h.name) t sound refl (λ h is there. lower t.headers h is)
 
--- ---- the value of each
+-- ---- the value of each header
 
--- a list of one element
+-- a list of length one that contains an element is that element alone
 one_alone : {X : Type 0} (xs : List X) (p : X) → length xs ≡ 1 → Contains xs p → xs ≡ p ∷ []
 one_alone [] p long there = absurd (omega (arith, long))
 one_alone (x ∷ []) p long (zero, within, is) = ap (λ q. q ∷ []) is
@@ -135,7 +135,7 @@ wanted_fit t sound =
     recursion_from_All (λ h. IsFitValue h.value) (wanted t)
     (each_wanted (λ h. IsFitValue h.value) t sound (visible_fit t.host (visible t sound)) (λ h is there. is.fit))
 
--- signed values of the names of some headers are those of the headers
+-- the signed values for the names of some headers are the values of these headers
 pub values_given : (headers : List Header) (hs : List Header) → AllByRecursion (λ h. IsSignedValue headers h.name h.value) hs → AreSignedValues headers (map (λ h. h.name) hs) hs
 values_given headers [] given = tt
 values_given headers (h ∷ hs) given = (refl, given.0, values_given headers hs given.1)
@@ -173,7 +173,7 @@ cover_moved xs ys (g ∷ headers) moved h =
 
 -- ---- the names in order
 
--- tests that agree at each of these keep the same
+-- tests that agree on each element keep the same elements
 agree : {X : Type 0} (p q : X → Bool) (xs : List X) → All (λ x. p x ≡ q x) xs → filter p xs ≡ filter q xs
 agree p q [] h = refl
 agree {X} p q (x ∷ xs) h =
@@ -189,7 +189,7 @@ count_map f test (x ∷ xs) = one_more (test (f x)) (f x) x (filter test (map f 
     one_more true y x ys xs e = omega (arith, e)
     one_more false y x ys xs e = e
 
--- each name is that of one header
+-- each name belongs to exactly one header
 once_wanted : (t : Terms) → AreSound t → All (λ h. times (λ g. g.name) h.name (wanted t) ≡ 1) (wanted t)
 once_wanted t sound k d within =
     let h = get_or (wanted t) k d in
@@ -201,7 +201,7 @@ once_wanted t sound k d within =
 map_contains : {X Y : Type 0} (f : X → Y) (xs : List X) (x : X) → Contains xs x → Contains (map f xs) (f x)
 map_contains f xs x (k, within, is) = (k, omega (arith, within, length-map xs f), get_or-map f xs k x (f x) within ∙ ap f is)
 
--- also after a rearrangement
+-- this also holds after a rearrangement
 once_moved : (hs : List Header) (fields : List Field) → All (λ h. times (λ g. g.name) h.name hs ≡ 1) hs → IsPermutation hs (map header_of fields) → EachOnce (λ (f : Field). f.name.now) fields
 once_moved hs fields once moved k d within =
     let f = get_or fields k d in
@@ -212,7 +212,7 @@ once_moved hs fields once moved k d within =
     let fewer = count_map header_of (λ (h : Header). same_bytes h.name f.name.now) fields in
     omega (arith, one, same, fewer)
 
--- the names of these headers, in order, are signed names
+-- the sorted names of these headers are signed names
 pub names_signed : (t : Terms) → AreSound t → (fields : List Field) → IsPermutation (wanted t) (map header_of fields)
     → IsSortedBy (λ a b. is_lt (bytes_cmp a.name.now b.name.now)) fields → AreSignedNames (signed_headers (map header_of fields)) (map (λ f. f.name.now) fields)
 names_signed t sound fields moved sorted =

@@ -13,7 +13,7 @@ use Rattle.sigtext.proofs.Targets.{decoded}
 abbrev pub any_name : (List ℕ → Bool) → List Param → Bool
 any_name test params = list_any (λ p. test p.name) params
 
--- one of the parameters before the left pairs passes the test exactly where this is true
+-- this is true exactly if one of the parameters before the remaining pairs passes the test
 abbrev pub TellsAny : (List ℕ → Bool) → List Param → Bool → Pairs → Type 0
 TellsAny test params found pairs = (rest : List Param) × SpellsOptionalQuery pairs.left rest × (any_name test params ≡ (found || any_name test rest))
 

@@ -1,4 +1,4 @@
--- A request has one list of parts at most, and the rules before the key's determine it.
+-- A request has at most one list of parts, and the rules before those about the key determine it.
 use Rattle.std.proofs.Common.{◌≡◌, ℕ, ◌<◌, List, map, refl, subst, arith}
 use Rattle.std.specs.Prelude.{codes}
 use Rattle.sigtext.specs.declared.refusal.Refusal.{Refusal}
@@ -17,11 +17,11 @@ use Rattle.links.specs.Forms.{IsExpiry}
 use Rattle.links.specs.WellFormed.{LinkValues, HeadRule, IsWellFormed}
 use Rattle.links.proofs.Values.{value_same, expiry_once}
 
--- the rules of numbers below 19 hold of the parts
+-- the rules below 19 hold for the parts
 abbrev pub HoldBeforeKey : Request → LinkValues → Type 0
 HoldBeforeKey r p = (x : Refusal) → number_of x < 19 → HeadRule x r p
 
--- the others say nothing of them
+-- the other rules say nothing about the parts
 pub well_formed_before : (r : Request) (p : LinkValues) → HoldBeforeKey r p → IsWellFormed r p
 well_formed_before r p h rule.Method = h rule.Method (omega arith)
 well_formed_before r p h rule.Target = h rule.Target (omega arith)
@@ -106,6 +106,6 @@ parts_once r p q h k =
     let signature = signature_once r p q params h k in
     same_parts p q path params key scope date start expires signed signature
 
--- parts that hold the rules before the key's are the well-formed request's
+-- parts that obey the rules before those about the key are the parts of the well-formed request
 pub parts_before : (r : Request) (p q : LinkValues) → IsWellFormed r p → HoldBeforeKey r q → q ≡ p
 parts_before r p q h before = parts_once r p q h (well_formed_before r q before)

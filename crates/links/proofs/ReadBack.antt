@@ -38,7 +38,7 @@ pub record ParamsSay (p q : LinkValues) : Type 0 where
   pub expires : q.expires ≡ p.expires
   pub names : map (λ (s : Header). s.name) q.signed ≡ map (λ (s : Header). s.name) p.signed
 
--- the same parameters say the same
+-- equal parameters say the same
 params_say : (p q : LinkValues) → q.params ≡ p.params → HasTexts p → HasTexts q → ParamsSay p q
 params_say p q same h k =
     let credential = value_same p.params q.params (codes "X-Amz-Credential") h.five.credential k.five.credential same
@@ -64,7 +64,7 @@ params_say p q same h k =
           (subst (λ (x : List ℕ). AreSignedNames x (map (λ (s : Header). s.name) q.signed)) names k.says_names);
     }
 
--- ---- the headers beside `host`
+-- ---- the headers besides `host`
 
 is_other : List ℕ → Bool
 is_other name = not (same_bytes name (codes "host"))
@@ -86,7 +86,7 @@ other_names t sound =
     each_passes is_other (map (λ h. h.name) t.headers)
     (All-map (λ n. is_other n ≡ true) (λ (h : Header). h.name) t.headers (others_pass t sound))
 
--- what is not `host`, of two rearrangements
+-- the headers besides `host`, in two rearrangements
 headers_moved : (t u : Terms) → AreSound t → AreSound u → IsPermutation (wanted t) (wanted u)
     → IsPermutation t.headers u.headers
 headers_moved t u sound sound_too moved =
@@ -138,7 +138,7 @@ told_back t u target h k =
       region = sym k.says.region ∙ ap (λ (x : CredentialScope). x.region) say.scope ∙ h.says.region;
     }
 
--- ---- and a request with it
+-- ---- what the target and a request with it tell
 
 one_value : (headers : List Header) (name value other : List ℕ) → IsSignedValue headers name value
     → IsSignedValue headers name other → other ≡ value

@@ -1,4 +1,4 @@
--- What a link's parts say has one text.
+-- What a link's parts say has only one text.
 use Rattle.std.proofs.Common.{◌≡◌, ℕ, ◌^◌, ◌<◌, List, [], ◌∷◌, ◌++◌, length, take, get_or, sym, ap, ◌∙◌, arith}
 use Rattle.std.specs.Fmt.{decimal}
 use Rattle.std.specs.Str.Parse.{AllDigits, digits_value}
@@ -30,7 +30,7 @@ expiry_text text other n h k = expiry_decimal other n k ∙ sym (expiry_decimal 
 
 -- ---- the credential
 
--- its day is the first eight bytes of the date
+-- the credential's day is the first eight bytes of the date
 pub day_taken : (text date key : List ℕ) (scope : CredentialScope) → IsCredential text date key scope
     → scope.date ≡ take 8 date
 day_taken text date key scope h =
@@ -41,13 +41,13 @@ same_scope s t date region =
     let made : List ℕ → List ℕ → CredentialScope = λ d r. record { date = d; region = r } in
     ap (λ (d : List ℕ). made d t.region) date ∙ ap (λ (r : List ℕ). made s.date r) region
 
--- so the date and the region are the scope
+-- so the date and the region determine the scope
 pub scope_said : (text other date key id : List ℕ) (s t : CredentialScope) → IsCredential text date key s
     → IsCredential other date id t → t.region ≡ s.region → t ≡ s
 scope_said text other date key id s t h k region =
     same_scope s t (day_taken other date id t k ∙ sym (day_taken text date key s h)) region
 
--- and with the key id the text
+-- and together with the key id they determine the credential's text
 pub credential_text : (text other date key : List ℕ) (s t : CredentialScope) → IsCredential text date key s
     → IsCredential other date key t → t.region ≡ s.region → other ≡ text
 credential_text text other date key s t h k region =

@@ -1,5 +1,5 @@
--- Parameters in which the signing ones but the signature have the same values, and the others are rearrangements of
--- one list, are those of one canonical query.
+-- Two lists of parameters have the same canonical query if their signing parameters except the signature have the same values,
+-- and their other parameters are rearrangements of one list.
 use Rattle.std.proofs.Common.{◌≡◌, ℕ, Bool, true, false, not, List, [], ◌∷◌, get_or, sym, ap, subst, ◌∙◌, ⊎_elim, All, map, codes}
 use Rattle.std.specs.Prelude.{Contains, IsPermutation, filter}
 use Rattle.std.specs.List.{list_any, join_with_byte, AllByRecursion}
@@ -16,7 +16,7 @@ use Rattle.sigtext.proofs.Filters.{kept}
 use Rattle.links.specs.Drafts.{DraftValues}
 use Rattle.links.specs.WellFormed.{HasValue, signing_names, is_signing_name}
 
--- the signing parameters but the signature have these values
+-- the signing parameters except the signature have these values
 pub record HaveValues (five : DraftValues) (params : List Param) : Type 0 where
   pub algorithm : HasValue params (codes "X-Amz-Algorithm") (codes "AWS4-HMAC-SHA256")
   pub credential : HasValue params (codes "X-Amz-Credential") five.credential
@@ -24,7 +24,7 @@ pub record HaveValues (five : DraftValues) (params : List Param) : Type 0 where
   pub expires : HasValue params (codes "X-Amz-Expires") five.expires
   pub names : HasValue params (codes "X-Amz-SignedHeaders") five.names
 
--- the parameters beside the signing ones
+-- the parameters besides the signing ones
 abbrev pub others_of : List Param → List Param
 others_of params = filter (λ q. not (is_signing_name q.name)) params
 
@@ -35,9 +35,9 @@ from_filter t xs x there =
 passed : {X : Type 0} (t : X → Bool) (xs : List X) (x : X) → Contains (filter t xs) x → t x ≡ true
 passed t xs x there = All-contains (λ y. t y ≡ true) (filter t xs) x (filter_passes t xs) there
 
--- ---- an element of the one is an element of the other
+-- ---- an element of one list is an element of the other
 
--- what each of these names leads to, a name among them leads to
+-- what follows from each of these names follows from a name among them
 leads : (name : List ℕ) (P : Type 0) (names : List (List ℕ)) → AllByRecursion (λ n. same_bytes name n ≡ true → P) names
     → list_any (same_bytes name) names ≡ true → P
 leads name P [] each e = absurd cc
@@ -51,7 +51,7 @@ with_value ps qs name value h k x there named =
     let back = subst (λ (zs : List Param). Contains zs x) (sym k) found in
     from_filter (λ q. same_bytes q.name name) qs x back
 
--- one beside the signing ones
+-- a parameter that is not a signing one
 beside : (own ps qs : List Param) → IsPermutation own (others_of ps) → IsPermutation own (others_of qs) → (x : Param)
     → Contains ps x → is_signing_name x.name ≡ false → Contains qs x
 beside own ps qs to_p to_q x there other_name =

@@ -1,4 +1,4 @@
--- The methods that are served have their texts.
+-- The texts of the served methods.
 use Rattle.std.proofs.Common.{◌≡◌, ℕ, List, refl, sym, subst}
 use Rattle.std.specs.Prelude.{IsTrue}
 use Rattle.std.specs.List.{list_any}
@@ -14,6 +14,6 @@ text_served method.Get = refl
 text_served method.Head = refl
 text_served method.Post = refl
 
--- a text of one of them is served
+-- a text that is the text of one of the methods is served
 pub served_method : (text : List ℕ) (m : Method) → text ≡ method_text m → IsTrue (list_any (same_bytes text) methods)
 served_method text m is = subst (λ (t : List ℕ). IsTrue (list_any (same_bytes t) methods)) (sym is) (text_served m)

@@ -1,4 +1,4 @@
--- The text of a signature has a signature's form, and its bytes stay as they are in a target.
+-- The text of a signature has the form of a signature, and its bytes stay unchanged in a target.
 use Rattle.std.proofs.Common.{◌≡◌, ℕ, ◌<◌, true, List, [], ◌∷◌, refl, arith}
 use Rattle.std.specs.Prelude.{IsTrue}
 use Rattle.std.specs.List.{list_all}
@@ -11,12 +11,12 @@ use Rattle.sigv4.specs.Signature.{CredentialScope, signature_of}
 use Rattle.sigv4.proofs.Digests.{length-signature_of, signature_digits}
 use Rattle.links.specs.Forms.{is_hex_digit, IsHexDigest}
 
--- a signature is 64 digits
+-- a signature is 64 hexadecimal digits
 pub written_signature : (secret date : List ℕ) (scope : CredentialScope) (text : List ℕ) → IsHexDigest (signature_of secret date scope text)
 written_signature secret date scope text =
     record { long = length-signature_of secret date scope text; digits = signature_digits is_hex_digit refl secret date scope text }
 
--- ---- its bytes
+-- ---- the bytes of a signature
 
 digit_stays : (b : ℕ) → is_hex_digit b ≡ true → stays Encoded b ≡ true
 digit_stays b h = grind (arith, nat_tests)
@@ -36,7 +36,7 @@ digits_small (b ∷ text) h =
     let parts = and_parts (is_hex_digit b) (list_all is_hex_digit text) h in
     (digit_small b parts.0, digits_small text parts.1)
 
--- they stay as they are
+-- the bytes of a signature stay unchanged
 pub signature_stays : (sig : List ℕ) → IsHexDigest sig → IsTrue (list_all (stays Encoded) sig)
 signature_stays sig h = digits_stay sig h.digits
 

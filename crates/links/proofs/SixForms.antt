@@ -1,4 +1,4 @@
--- Which of the rules on the six values' forms is the least that fails.
+-- The lowest rule on the forms of the six values that fails.
 use Rattle.std.proofs.Common.{◌≡◌, ◌≢◌, ℕ, ◌<◌, List, [], codes, arith}
 use Rattle.sigtext.specs.declared.refusal.Refusal.{Refusal}
 use Rattle.sigtext.specs.declared.refusal.Refusal.TheVariants as rule
@@ -11,7 +11,7 @@ use Rattle.sigv4.specs.Dates.{WritesMoment}
 use Rattle.links.specs.Forms.{IsExpiry, IsHexDigest}
 use Rattle.links.specs.SixValues.{SixTexts, SixParts, SixRule, HoldBeforeNames}
 
--- the rules before a number
+-- the rules below a number hold
 before : (six : SixTexts) (p : SixParts) (n : ℕ) → (11 < n → SixRule six rule.Algorithm p) → (12 < n → SixRule six rule.Credential p) → (13 < n → SixRule six rule.Date p)
     → (14 < n → SixRule six rule.Expiry p) → (15 < n → SixRule six rule.SignedHeaders p) → (16 < n → SixRule six rule.SignatureText p) → (q : Refusal) → number_of q < n → SixRule six q p
 before six p n a c d e h s rule.Algorithm lt = a lt

@@ -14,7 +14,7 @@ pub value_read : (text bytes : List ℕ) (params : List Param) (name : List ℕ)
 value_read text bytes params name (value, spells, has) is =
     subst (HasValue params name) (sym (is ∙ decoded _ text value spells)) has
 
--- a parameter that is not there does not stand once
+-- a name that no parameter has does not occur once
 pub not_once : (name : List ℕ) (params : List Param) → params_named name params ≡ [] → length (params_named name params) ≡ 1 → ⊥
 not_once name params none once = let zero = ap length none in omega (arith, zero, once)
 
@@ -22,12 +22,12 @@ pub none_of : {T : Type 0} {P : Type 0} (o : Option T) → P → IfNone o P
 none_of None p = p
 none_of (Some x) p = tt
 
--- six values that stand alone are there
+-- six names with one value each are present
 pub six_there : (raw : RawSix) (params : List Param) → AreRawSix raw params → AreThere params
 six_there raw params s =
     (ap length s.algorithm.2, (ap length s.credential.2, (ap length s.date.2, (ap length s.expires.2, (ap length s.names.2, (ap length s.signature.2, tt))))))
 
--- what holds whatever the error is
+-- what holds in any case holds for each error
 pub whatever_err : {T E : Type 0} {P : Type 0} (r : Result T E) → P → IfErr r (λ e. P)
 whatever_err (Ok x) p = tt
 whatever_err (Err e) p = p

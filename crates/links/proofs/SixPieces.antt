@@ -1,13 +1,13 @@
--- Pieces of a text that was written one after another.
+-- Pieces of a text that were written one after another.
 use Rattle.std.proofs.Common.{◌≡◌, ℕ, ◌-◌, List, [], ◌++◌, length, take, drop, ap, ◌∙◌, arith, append_assoc, length-append}
 use Rattle.std.proofs.Math.Seq.{drop-append_seam, take-append_seam}
 use Rattle.links.specs.SixValues.{between}
 
--- one piece more stands behind a text
+-- one more piece follows a text
 behind : (mid next whole piece rest : List ℕ) → next ≡ mid ++ piece → whole ≡ next ++ rest → whole ≡ mid ++ (piece ++ rest)
 behind mid next whole piece rest here there = there ∙ ap (λ (t : List ℕ). t ++ rest) here ∙ append_assoc mid piece rest
 
--- what was written behind a text, before the rest
+-- the piece that was written after a text, before the rest
 piece_between : (front piece mid rest whole : List ℕ) (i j : ℕ) → i ≡ length front → j ≡ length mid → mid ≡ front ++ piece → whole ≡ mid ++ rest → between i j whole ≡ piece
 piece_between front piece mid rest whole i j start end here there =
     let both = ap length here in
@@ -26,7 +26,7 @@ piece_first piece mid rest whole j end here there =
 piece_last : (front piece whole : List ℕ) (i : ℕ) → i ≡ length front → whole ≡ front ++ piece → drop i whole ≡ piece
 piece_last front piece whole i start there = ap (λ (n : ℕ). drop n whole) start ∙ ap (drop (length front)) there ∙ drop-append_seam front piece
 
--- six pieces, and where each but the last ends
+-- six pieces, and the end of each except the last
 pub record AreSixPieces (a b d e h s whole : List ℕ) (i j k l m : ℕ) : Type 0 where
   pub algorithm : take i whole ≡ a
   pub credential : between i j whole ≡ b

@@ -1,4 +1,4 @@
--- The parameters of a link that is written: the signature, the five others that sign, and the order's own.
+-- The parameters of a written link: the signature, the five other signing parameters, and the order's own.
 use Rattle.std.proofs.Common.{◌≡◌, ℕ, true, false, not, List, [], ◌∷◌, ◌++◌, length, codes, refl, sym, ap, subst, ◌∙◌, All}
 use Rattle.std.specs.Prelude.{IsPermutation, IsTrue, filter}
 use Rattle.std.specs.List.{list_any, AllByRecursion}
@@ -21,7 +21,7 @@ use Rattle.links.proofs.OwnParams.{Begin, names_differ, opposed, joined_once, jo
 abbrev pub sixth : List ℕ → Param
 sixth sig = param (codes "X-Amz-Signature") sig
 
--- the six with these values, and beside them the order's own in some order
+-- the six with these values, and the order's own parameters, rearranged
 pub record AreWritten (five : DraftValues) (sig : List ℕ) (others params : List Param) : Type 0 where
   pub six : AreTheSix params
   pub signing : IsTrue (list_any (λ q. is_signing_name q.name) params)
@@ -81,7 +81,7 @@ own_once others own =
     recursion_from_All (λ p. length (params_named p.name others) ≡ 1) others
     (All-weaker (IsOwnParam others) (λ p. length (params_named p.name others) ≡ 1) (λ p o. o.once) others (All-from_recursion (IsOwnParam others) others own))
 
--- a name that does not begin so is none of these
+-- a name without this prefix is none of the names that have it
 unlike : (name : List ℕ) (ns : List (List ℕ)) → begins_with name front ≡ false → All (λ n. begins_with n front ≡ true) ns → list_any (same_bytes name) ns ≡ false
 unlike name ns h begins =
     list_any_none (same_bytes name) ns
@@ -118,13 +118,13 @@ kept_all five sig others own =
     ∙ ap (λ (ps : List Param). ps ++ filter (λ q. not (is_signing_name q.name)) others) (six_sign five sig)
     ∙ own_kept others own
 
--- a value among the six stays one alone
+-- a value among the six stays the only value of its name
 value_all : (five : DraftValues) (sig : List ℕ) (others params : List Param) (name value : List ℕ) → Own others → IsPermutation (whole five sig others) params
     → begins_with name front ≡ true → HasValue (six_params five sig) name value → HasValue params name value
 value_all five sig others params name value own moved begins has =
     moved_value (whole five sig others) params name value moved (joined_value front name value (six_params five sig) others begins (free others own) has)
 
--- however they are rearranged
+-- this holds for every rearrangement of the parameters
 pub written : (five : DraftValues) (sig : List ℕ) (others params : List Param) → AllByRecursion (IsOwnParam others) others → IsPermutation (sixth sig ∷ draft_params five others) params → AreWritten five sig others params
 written five sig others params own moved =
     let algorithm = value_all five sig others params (codes "X-Amz-Algorithm") (codes "AWS4-HMAC-SHA256") own moved refl refl in
@@ -154,14 +154,14 @@ written five sig others params own moved =
 pub draft_once : (five : DraftValues) (others : List Param) → AllByRecursion (IsOwnParam others) others → StandOnce (draft_params five others)
 draft_once five others own = joined_once front (five_params five) others (five_begin five) (free others own) (five_once five) (own_once others own)
 
--- none of a draft's parameters is the signature
+-- no parameter of a draft is the signature
 draft_signed : (five : DraftValues) (others : List Param) → Own others → signed_params (five_params five ++ others) ≡ five_params five ++ others
 draft_signed five others own =
     filter-append (λ q. not (same_bytes q.name (codes "X-Amz-Signature"))) (five_params five) others
     ∙ ap (λ (ps : List Param). ps ++ signed_params others) (five_signed five)
     ∙ ap (λ (ps : List Param). five_params five ++ ps) (own_signed others own)
 
--- the draft in the order of its query, and the signature at the end
+-- the draft's parameters in the order of its query, with the signature at the end
 pub final_moved : (five : DraftValues) (sig : List ℕ) (others ordered : List Param) → AllByRecursion (IsOwnParam others) others → IsPermutation (signed_params (draft_params five others)) ordered
     → IsPermutation (sixth sig ∷ draft_params five others) (ordered ++ sixth sig ∷ [])
 final_moved five sig others ordered own moved =
@@ -177,7 +177,7 @@ end_unsigned sig ordered h =
     ∙ append-nil (signed_params ordered)
     ∙ each_passes (λ q. not (same_bytes q.name (codes "X-Amz-Signature"))) ordered h
 
--- so it leaves the canonical query as it is
+-- so it does not change the canonical query
 pub final_query : (five : DraftValues) (sig : List ℕ) (others : List Param) (query : List ℕ) → AllByRecursion (IsOwnParam others) others → (q : IsCanonicalQuery (draft_params five others) query)
     → IsCanonicalQuery (q.ordered ++ sixth sig ∷ []) query
 final_query five sig others query own q =

@@ -1,4 +1,4 @@
--- What is written is bytes.
+-- What is written consists of bytes.
 use Rattle.std.proofs.Common.{◌≡◌, ℕ, zero, suc, ◌+◌, ◌<◌, ◌≤◌, List, [], ◌∷◌, length, get_or, map, ap, subst, ⊎_elim, ◌∙◌, ◌-◌, arith, Fits, w8}
 use Rattle.std.proofs.lemmas.List.Elements.{All-from_get_or, recursion_from_All}
 use Rattle.std.specs.List.{AllByRecursion}
@@ -9,11 +9,11 @@ use Rattle.links.specs.Drafts.{HasBytes}
 use Rattle.links.specs.Orders.{param_of}
 use Rattle.links.specs.declared.orders.OrderParam.{OrderParam}
 
--- what the type of a slice of bytes says
+-- the elements of a slice of bytes are bytes, as its type says
 pub are_bytes : (text : List ℕ) → ((i : ℕ) → Fits w8 (get_or text i 0)) → AreBytes text
 are_bytes text fits = recursion_from_All (λ b. b < 256) text (All-from_get_or (λ b. b < 256) text 0 (λ i within. omega (arith, fits i)))
 
--- the first n parameters are bytes
+-- the first n parameters consist of bytes
 abbrev pub HaveBytes : List OrderParam → ℕ → Type 0
 HaveBytes params n = (k : ℕ) (d : OrderParam) → k < n → HasBytes (param_of (get_or params k d))
 

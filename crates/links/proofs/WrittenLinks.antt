@@ -39,7 +39,7 @@ use Rattle.links.proofs.SignatureTexts.{written_signature, signature_stays, sign
 use Rattle.links.proofs.SixWritten.{sixth, AreWritten, written, final_moved, final_query}
 use Rattle.links.proofs.OrderedHeaders.{each_moved}
 
--- the values of the signing parameters, by what they say
+-- the values of the signing parameters are the texts of what they say
 pub record AreTexts (t : Terms) (five : DraftValues) (scope : CredentialScope) (hs : List Header) : Type 0 where
   pub credential : five.credential ≡ t.key_id ++ 47 ∷ scope_text scope
   pub day : scope.date ≡ take 8 five.date
@@ -79,7 +79,7 @@ sixth_text sig stay =
 regrouped : (path query name sig : List ℕ) → path ++ 63 ∷ query ++ (38 ∷ name) ++ sig ≡ path ++ 63 ∷ (query ++ 38 ∷ (name ++ sig))
 regrouped path query name sig = simp append_assoc
 
--- the whole target is that of all parameters, the signature as the last
+-- the whole target is the text of all parameters, with the signature as the last one
 target_all : (path query sig target : List ℕ) (ps : List Param) → 0 < length ps → IsTrue (list_all (stays Encoded) sig) → query ≡ join_with_byte 38 (map param_text ps)
     → target ≡ path ++ 63 ∷ query ++ codes "&X-Amz-Signature=" ++ sig → target ≡ path ++ 63 ∷ join_with_byte 38 (map param_text (ps ++ sixth sig ∷ []))
 target_all path query sig target ps some stay joined is =
@@ -88,7 +88,7 @@ target_all path query sig target ps some stay joined is =
     let whole = more ∙ ap (λ (t : List ℕ). join_with_byte 38 (map param_text ps) ++ 38 ∷ t) (sixth_text sig stay) ∙ ap (λ (q : List ℕ). q ++ 38 ∷ (codes "X-Amz-Signature=" ++ sig)) (sym joined) in
     is ∙ regrouped path query (codes "X-Amz-Signature=") sig ∙ ap (λ (t : List ℕ). path ++ 63 ∷ t) (sym whole)
 
--- the text around the query is not of the parameters
+-- the canonical text around the query does not depend on the parameters
 same_canonical : (method path : List ℕ) (ps qs : List Param) (hs : List Header) (query : List ℕ)
     → canonical_text (record { method = method; path = path; params = ps; headers = hs }) query ≡ canonical_text (record { method = method; path = path; params = qs; headers = hs }) query
 unfolding canonical_text
@@ -262,7 +262,7 @@ module _ {t : Terms} {five : DraftValues} {scope : CredentialScope} {hs : List H
     admitted = in_window;
   }
 
--- the same, from what each step of the writing says
+-- the same, from the results of each step of the writing
 pub link_from : (t : Terms) (five : DraftValues) (scope : CredentialScope) (hs : List Header) (sig target text query : List ℕ) → AreSound t → AreTexts t five scope hs
     → AreBytes t.path → AllByRecursion HasBytes (draft_params five t.params) → IsTheOnly (IsCanonicalRequest (drafted t five hs)) text
     → ((date : List ℕ) → WritesMoment date t.start → sig ≡ signature_of t.secret date scope text)

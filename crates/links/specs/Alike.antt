@@ -1,4 +1,4 @@
--- Requests that are signed by one text, and what such requests have in common.
+-- Requests with the same signed text, and what such requests have in common.
 use Rattle.std.specs.Prelude.{◌≡◌, ℕ, List, IsPermutation}
 use Rattle.sigtext.specs.CanonicalQuery.{signed_params}
 use Rattle.sigtext.specs.CanonicalRequest.{IsCanonicalRequest}
@@ -6,13 +6,13 @@ use Rattle.sigtext.specs.Request.{Request}
 use Rattle.links.specs.Admits.{signed_of}
 use Rattle.links.specs.WellFormed.{LinkValues}
 
--- one text is the canonical request of both
+-- the same text is the canonical request of both
 pub record SameText (r s : Request) (p q : LinkValues) : Type 0 where
   pub text : List ℕ
   pub one : IsCanonicalRequest (signed_of r p) text
   pub other : IsCanonicalRequest (signed_of s q) text
 
--- all that the rules find but the signature is the same; the parameters, without it, in whichever order
+-- all that the rules find is the same, except the signature; the parameters without it may be in any order
 pub record SaysTheSame (r s : Request) (p q : LinkValues) : Type 0 where
   pub method : r.method ≡ s.method
   pub path : p.path ≡ q.path

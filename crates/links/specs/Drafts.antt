@@ -1,4 +1,4 @@
--- The texts that a link is made of.
+-- The texts of which a link consists.
 use Rattle.std.specs.Prelude.{ℕ, List, ◌∷◌, ◌++◌, map, codes}
 use Rattle.std.specs.List.{join_with_byte}
 use Rattle.sigtext.specs.Bytes.{AreBytes}
@@ -11,7 +11,7 @@ use Rattle.links.specs.declared.writing.DraftTexts.{DraftTexts}
 abbrev pub param : List ℕ → List ℕ → Param
 param name value = record { name = name; value = value }
 
--- the values of the signing parameters, but for the algorithm, which is fixed, and the signature
+-- the values of the signing parameters, except the algorithm, which is fixed, and the signature
 pub record DraftValues : Type 0 where
   pub credential : List ℕ
   pub date : List ℕ
@@ -21,7 +21,7 @@ pub record DraftValues : Type 0 where
 abbrev pub draft_values : DraftTexts → DraftValues
 draft_values five = record { credential = five.credential.now; date = five.date.now; expires = five.expires.now; names = five.names.now }
 
--- the signing parameters, but for the signature, and the others
+-- the signing parameters except the signature, followed by the other parameters
 abbrev pub draft_params : DraftValues → List Param → List Param
 draft_params five others =
     param (codes "X-Amz-Algorithm") (codes "AWS4-HMAC-SHA256") ∷ param (codes "X-Amz-Credential") five.credential

@@ -1,4 +1,4 @@
--- The forms of a link's parameters; the credential's and the date's are in `sigv4`, the signed names' in `sigtext`.
+-- The forms of a link's parameters. Those of the credential and the date are in `sigv4`, that of the signed names in `sigtext`.
 use Rattle.std.specs.Prelude.{◌≡◌, ◌≢◌, ℕ, ◌≤◌, Bool, ◌||◌, ◌&&◌, nat_le, IsTrue, List, ◌∷◌, length}
 use Rattle.std.specs.List.{list_all}
 use Rattle.std.specs.Char.{is_ascii_digit}

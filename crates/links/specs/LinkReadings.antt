@@ -1,4 +1,4 @@
--- What the parts of a link that was read mean.
+-- The meaning of the parts of a link that was read.
 use Rattle.std.specs.Prelude.{◌≡◌, List, length}
 use Rattle.sigtext.specs.Request.{Request}
 use Rattle.sigtext.specs.SignedHeaders.{Header}
@@ -13,7 +13,7 @@ use Rattle.links.specs.Admits.{signed_of}
 use Rattle.links.specs.declared.link_parts.LinkParts.{LinkParts}
 use Rattle.links.specs.declared.methods.Method.{Method}
 
--- the request has this method, this target, as it was read, and these headers
+-- the request has this method, a target with this reading, and these headers
 pub record IsAskedBy (method : Method) (target : Target) (headers : List Header) (r : Request) : Type 0 where
   pub method_is : r.method ≡ method_text method
   pub read : IsReadFrom r.target target

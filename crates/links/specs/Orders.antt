@@ -1,6 +1,6 @@
--- Orders of links: what a link is to say, what is asked of an order, and the link that meets it. The link's texts are
--- those of the Amazon S3 API Reference, "Authenticating Requests: Using Query Parameters"; what is asked of an order
--- is the office's own.
+-- Orders of links: what a link must say, the requirements on an order, and the link that meets it. The link's texts are those
+-- of the Amazon S3 API Reference, "Authenticating Requests: Using Query Parameters". The requirements on an order are the
+-- office's own.
 use Rattle.std.specs.Prelude.{◌≡◌, ◌≢◌, ◌↔◌, ℕ, ◌<◌, ◌≤◌, not, false, IsTrue, IsFalse, List, ◌∷◌, ◌++◌, length, map, filter, codes, IsPermutation, Option, Some, ⊤}
 use Rattle.std.specs.List.{list_all, list_any, AllByRecursion}
 use Rattle.sigtext.specs.Bytes.{IsWord, is_visible, same_bytes, begins_with}
@@ -26,12 +26,12 @@ use Rattle.links.specs.declared.orders.OrderParam.{OrderParam}
 
 -- ---- the order
 
--- what a link is to say, and who signs it
+-- what a link must say, and who signs it
 pub record Terms : Type 0 where
   pub method : List ℕ
   pub path : List ℕ  -- decoded
-  pub params : List Param  -- beside the six
-  pub headers : List Header  -- signed beside `host`
+  pub params : List Param  -- besides the signing parameters
+  pub headers : List Header  -- signed besides `host`
   pub start : ℕ  -- in seconds since 1970
   pub expires : ℕ  -- in seconds
   pub key_id : List ℕ
@@ -56,16 +56,16 @@ terms_of order key host region = record {
   region = region;
 }
 
--- ---- what is asked of an order
+-- ---- the requirements on an order
 
--- a name of one byte or more, which no other has, and which does not begin with `X-Amz-`
+-- the name has one byte or more, no other parameter has it, and it does not begin with `X-Amz-`
 pub record IsOwnParam (params : List Param) (p : Param) : Type 0 where
   pub some : 0 < length p.name
   pub once : length (params_named p.name params) ≡ 1
   pub free : IsFalse (begins_with p.name (codes "X-Amz-"))
 
--- a name of the form of a signed header's, which no other has and which is not `host`, and a value that may be
--- signed, without spaces and tabs at its ends
+-- the name has the form of a signed header's name, no other header has it, and it is not `host`; the value may be signed, and
+-- has no spaces or tabs at its ends
 pub record IsOwnHeader (headers : List Header) (h : Header) : Type 0 where
   pub form : IsHeaderName h.name
   pub once : length (named h.name headers) ≡ 1
@@ -73,7 +73,7 @@ pub record IsOwnHeader (headers : List Header) (h : Header) : Type 0 where
   pub fit : IsFitValue h.value
   pub bare : trimmed h.value ≡ h.value
 
--- what is asked of an order, by the fault that is told where it fails; `Memory` stands for nothing that is asked
+-- the requirement on an order for each fault, which is reported if the requirement fails; `Memory` has no requirement
 abbrev pub TermRule : LinkFault → Terms → Type 0
 TermRule fault.Method t = IsTrue (list_any (same_bytes t.method) methods)
 TermRule fault.Path t = BeginsWithSlash t.path
@@ -85,11 +85,11 @@ TermRule fault.Key t = IsKeyId t.key_id × IsSecret t.secret
 TermRule fault.Expires t = (1 ≤ t.expires) × (t.expires ≤ 604800)
 TermRule fault.Memory t = ⊤
 
--- nothing fails
+-- no requirement fails
 abbrev pub AreSound : Terms → Type 0
 AreSound t = (f : LinkFault) → TermRule f t
 
--- the order in which faults are told
+-- the sequence in which faults are reported
 abbrev pub fault_place : LinkFault → ℕ
 fault_place fault.Method = 1
 fault_place fault.Path = 2
@@ -101,7 +101,7 @@ fault_place fault.Key = 7
 fault_place fault.Expires = 8
 fault_place fault.Memory = 9
 
--- this is the first that fails
+-- the requirement for this fault is the first that fails
 pub record IsFirstFault (t : Terms) (f : LinkFault) : Type 0 where
   pub before : (g : LinkFault) → fault_place g < fault_place f → TermRule g t
   pub fails : TermRule f t → ⊥
@@ -112,16 +112,16 @@ pub record IsFirstFault (t : Terms) (f : LinkFault) : Type 0 where
 abbrev pub wanted : Terms → List Header
 wanted t = record { name = codes "host"; value = t.host } ∷ t.headers
 
--- a request with the order's method and this target, with one field each for `host` and the order's headers (names
--- in any case, values but for blanks at their ends), and with no other field whose name begins with `x-amz-`, in any
--- case. All else is free.
+-- a request with the order's method and this target. It has one field each for `host` and the order's headers, with the names
+-- in any case and perhaps blanks at the ends of the values. It has no other field whose name begins with `x-amz-` in any case.
+-- Everything else is free.
 pub record IsRequestFor (t : Terms) (target : List ℕ) (r : Request) : Type 0 where
   pub method_is : r.method ≡ t.method
   pub target_is : r.target ≡ target
   pub given : AllByRecursion (λ h. IsSignedValue r.headers h.name h.value) (wanted t)
   pub covered : IsTrue (list_all (is_covered (wanted t)) r.headers)
 
--- the parts say what was ordered, and nothing more
+-- the parts say exactly what was ordered
 pub record Says (t : Terms) (p : LinkValues) : Type 0 where
   pub path : p.path ≡ t.path
   pub params : IsPermutation t.params (filter (λ q. not (is_signing_name q.name)) p.params)
@@ -137,13 +137,13 @@ pub record IsCanonicalTarget (p : LinkValues) (target : List ℕ) : Type 0 where
   pub is_query : IsCanonicalQuery p.params query
   pub is : target ≡ uri_encoded Kept p.path ++ 63 ∷ query ++ codes "&X-Amz-Signature=" ++ p.signature
 
--- the key stands unrevoked, with the secret that signed. look_up: what the state says of a key id
+-- the key exists with the secret that signed, and is not revoked. look_up: what the state says about a key id
 abbrev pub Knows : (List ℕ → Option KnownKey) → Terms → Type 0
 Knows look_up t = look_up t.key_id ≡ Some (record { secret = t.secret; revoked = false })
 
--- the target is a link that meets the order: there are requests for it; each of them is well formed with the
--- ordered parts, and signed under the secret; and in each state where the key stands unrevoked with this secret it
--- is admitted from the start on, or by its allowance before, until the expiry is over, and at no other moment
+-- the target is a link that meets the order: requests for it exist; each of them is well formed with the ordered parts, and
+-- signed under the secret; and each state where the key has this secret and is not revoked admits it from the start, or earlier
+-- by the allowance, until the expiry is over, and at no other moment
 pub record IsLinkFor (t : Terms) (target : List ℕ) : Type 0 where
   pub sound : AreSound t
   pub sent : (r : Request) × IsRequestFor t target r

@@ -2,8 +2,8 @@
 use Rattle.std.specs.Prelude.{◌≡◌, map, IsPermutation}
 use Rattle.links.specs.Orders.{Terms}
 
--- what a target tells of its order is the same: the parameters and the names of the signed headers may stand in
--- other orders. The method, the host and the headers' values stand in no target: the signature alone depends on them.
+-- what a target tells about its order is the same, but the parameters and the names of the signed headers may be rearranged.
+-- A target does not contain the method, the host and the headers' values. Only the signature depends on them.
 pub record TellTheSame (t u : Terms) : Type 0 where
   pub path : u.path ≡ t.path
   pub params : IsPermutation t.params u.params
@@ -13,7 +13,7 @@ pub record TellTheSame (t u : Terms) : Type 0 where
   pub key_id : u.key_id ≡ t.key_id
   pub region : u.region ≡ t.region
 
--- all but the secret is the same: the parameters and the headers may stand in other orders
+-- everything except the secret is the same, but the parameters and the headers may be rearranged
 pub record OrdersTheSame (t u : Terms) : Type 0 where
   pub method : u.method ≡ t.method
   pub path : u.path ≡ t.path

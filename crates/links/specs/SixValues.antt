@@ -16,11 +16,11 @@ use Rattle.links.specs.WellFormed.{HasValue, AreTheSix, is_signing_name, is_othe
 use Rattle.links.specs.declared.six.RawSix.{RawSix}
 use Rattle.links.specs.declared.six_values.SixValues.{SixValues}
 
--- the text spells a value, and that is the one value of the parameter of this name
+-- the text spells a value, and exactly one parameter has this name, with that value
 abbrev pub SpellsValue : List ℕ → List Param → List ℕ → Type 0
 SpellsValue text params name = (value : List ℕ) × Spells (38 ∷ []) text value × HasValue params name value
 
--- the raw values are those of the six
+-- the raw values are those of the six parameters
 pub record AreRawSix (six : RawSix) (params : List Param) : Type 0 where
   pub algorithm : SpellsValue six.algorithm.now params (codes "X-Amz-Algorithm")
   pub credential : SpellsValue six.credential.now params (codes "X-Amz-Credential")
@@ -38,7 +38,7 @@ pub record SixTexts : Type 0 where
   pub names : List ℕ
   pub signature : List ℕ
 
--- what of a text lies from one place up to another
+-- the part of a text from one place up to another
 abbrev pub between : ℕ → ℕ → List ℕ → List ℕ
 between start end text = take (end - start) (drop start text)
 
@@ -53,7 +53,7 @@ texts_of six = record {
   signature = drop six.names_end six.bytes.items;
 }
 
--- the values are those of the six
+-- the values are those of the six parameters
 pub record AreSixOf (six : SixTexts) (params : List Param) : Type 0 where
   pub algorithm : HasValue params (codes "X-Amz-Algorithm") six.algorithm
   pub credential : HasValue params (codes "X-Amz-Credential") six.credential
@@ -80,26 +80,26 @@ SixRule six rule.SignedHeaders p = AreSignedNames six.names p.names
 SixRule six rule.SignatureText p = IsHexDigest six.signature
 SixRule six _ p = ⊤
 
--- the rules before that of the names
+-- the rules before the rule of the names hold
 pub record HoldBeforeNames (six : SixTexts) (p : SixParts) : Type 0 where
   pub algorithm : SixRule six rule.Algorithm p
   pub credential : SixRule six rule.Credential p
   pub date : SixRule six rule.Date p
   pub expires : SixRule six rule.Expiry p
 
--- the sorted parameters and the values are those of parameters of the right names
+-- the parameters have the right names, and these are the sorted parameters and the values of the six
 pub record AreRightParams (sorted : Params) (six : SixTexts) (params : List Param) : Type 0 where
   pub signed : IsTrue (list_any (λ p. is_signing_name p.name) params)
   pub are_six : AreTheSix params
   pub holds : HoldsParams sorted params
   pub values : AreSixOf six params
 
--- none of the names is there, or some are and they are not right
+-- none of the six names is present, or some are but the names are not right
 abbrev pub AreWrongParams : Refusal → List Param → Type 0
 AreWrongParams q params =
     ((q ≡ rule.NotSigned) × (IsTrue (list_any (λ p. is_signing_name p.name) params) → ⊥))
     ⊎ ((q ≡ rule.Parameters) × IsTrue (list_any (λ p. is_signing_name p.name) params) × (AreTheSix params → ⊥))
 
--- one of the six is there, and no other name begins with `X-Amz-`: what is asked before memory is
+-- one of the six is present, and no other name begins with `X-Amz-`; this is checked before memory is requested
 abbrev pub HaveNames : List Param → Type 0
 HaveNames params = IsTrue (list_any (λ p. is_signing_name p.name) params) × IsFalse (list_any (λ p. is_other_amz_name p.name) params)

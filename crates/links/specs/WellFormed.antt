@@ -1,5 +1,5 @@
--- What a request's method, target and fields must hold, whatever the office keeps (Amazon S3 API
--- Reference, "Authenticating Requests: Using Query Parameters").
+-- The rules for a request's method, target and fields, which do not depend on what the office stores (Amazon S3 API Reference,
+-- "Authenticating Requests: Using Query Parameters").
 use Rattle.std.specs.Prelude.{◌≡◌, ℕ, Bool, ◌&&◌, not, IsTrue, IsFalse, List, [], ◌∷◌, length, map, codes, ⊤}
 use Rattle.std.specs.List.{list_all, list_any, AllByRecursion}
 use Rattle.sigtext.specs.declared.refusal.Refusal.{Refusal}
@@ -41,15 +41,15 @@ is_signing_name name = list_any (same_bytes name) signing_names
 abbrev pub is_other_amz_name : List ℕ → Bool
 is_other_amz_name name = begins_with name (codes "X-Amz-") && not (is_signing_name name)
 
--- one parameter alone has this name, and its value is this one
+-- exactly one parameter has this name, and this is its value
 abbrev pub HasValue : List Param → List ℕ → List ℕ → Type 0
 HasValue params name value = params_named name params ≡ record { name = name; value = value } ∷ []
 
--- each of the six is there
+-- each of the six is present exactly once
 abbrev pub AreThere : List Param → Type 0
 AreThere params = AllByRecursion (λ name. length (params_named name params) ≡ 1) signing_names
 
--- each name stands once, the six are there, and no other name begins with `X-Amz-`
+-- each name occurs once, the six are present, and no other name begins with `X-Amz-`
 pub record AreTheSix (params : List Param) : Type 0 where
   pub once : StandOnce params
   pub there : AreThere params
@@ -59,7 +59,7 @@ pub record AreTheSix (params : List Param) : Type 0 where
 abbrev pub methods : List (List ℕ)
 methods = codes "PUT" ∷ codes "GET" ∷ codes "HEAD" ∷ codes "POST" ∷ []
 
--- the rules of numbers 7 to 18; a refusal of another number has none here
+-- the rules 7 to 18; a refusal with another number has no rule here
 abbrev pub HeadRule : Refusal → Request → LinkValues → Type 0
 HeadRule rule.Method r p = IsTrue (list_any (same_bytes r.method) methods)
 HeadRule rule.Target r p = IsTargetOf r.target p.path p.params

@@ -19,7 +19,7 @@ use sigtext::{Field, Parts, Refusal, SignedNames, Target, signed_values};
 use sigv4::{Moment, Scope};
 use std::alloc::Global;
 
-/// When a link begins, and for how many seconds it holds; and how long the key id of its credential is.
+/// When a link begins, for how many seconds it is valid, and how long the key id of its credential is.
 #[derive(Clone, Copy)]
 struct Window {
     key_id_length: usize,
@@ -38,7 +38,8 @@ pub fn read_moment(date: &[u8]) -> Option<Moment>
     Moment::read(text)
 }
 
-// The window of a link, where the values before the names have their forms; else the least of the refusals 11 to 14.
+// The window of a link, if its algorithm, credential, date and expiry have their forms. Otherwise the lowest refusal that
+// applies, from 11 to 14.
 fn read_window(six: &SixValues) -> Result<Window, Refusal>
     ensures ok { IfOk result (λ w. (p : SixParts) × (length p.key_id ≡ w.key_id_length)
         × (p.start ≡ w.start) × (p.expires ≡ w.expires) × HoldBeforeNames (texts_of six.now) p) }
@@ -61,10 +62,9 @@ fn read_window(six: &SixValues) -> Result<Window, Refusal>
     })
 }
 
-/// Reads the link of a request whose target was read: its parts, where no rule of the numbers 9 to 18
-/// fails, else the refusal of the least that fails; or refusal 40, where memory was refused. Whether one
-/// of the six is there, and no other `X-Amz-` name, is told without memory. It asks for memory three times
-/// at most.
+/// Reads the link of a request whose target was read. Returns its parts if no rule from 9 to 18 fails, otherwise the refusal of
+/// the lowest rule that fails. Returns refusal 40 if memory was refused. It needs no memory to check that one of the six signing
+/// parameters is present and that no other name begins with `X-Amz-`. It requests memory at most three times.
 pub fn inspect<'a>(
     alloc: Global,
     method: Method,

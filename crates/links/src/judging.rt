@@ -16,7 +16,7 @@ use crate::link_parts::LinkParts;
 use sigtext::Refusal;
 use sigv4::{Allowance, LastKey, Moment, Scope, sign};
 
-// Whether the link's signature is that of its canonical request under the secret.
+// Whether the link's signature is the signature of its canonical request under the secret.
 fn is_signed_by(link: &LinkParts<'_>, scope: &Scope<'_>, secret: &[u8], last: &mut LastKey) -> bool
     ensures { (signed : Signed) → AreOf link.now.parts signed
         → (text : List ℕ) × IsTheOnly (IsCanonicalRequest signed) text
@@ -28,8 +28,9 @@ fn is_signed_by(link: &LinkParts<'_>, scope: &Scope<'_>, secret: &[u8], last: &m
     link.six.signature() == digits.as_slice()
 }
 
-/// Checks the signature of a link that was read, under its key's secret: refusal 21 where it is not that of the canonical
-/// request. A signing key that was not the last one is derived, and then is. What is answered does not depend on memory.
+/// Checks the signature of a link that was read, under its key's secret. Refusal 21 if it is not the signature of the canonical
+/// request. If the last signing key is another one, the signing key is derived and becomes the last. The answer does not depend
+/// on memory.
 pub fn check_signature(
     link: &LinkParts<'_>,
     secret: &[u8],
@@ -44,8 +45,8 @@ pub fn check_signature(
     Ok(())
 }
 
-/// Checks the window of a link that was read, at a moment: refusal 22 before it, and 23 at its end or past it. It begins
-/// earlier by the allowance, and ends no later for it. Takes no memory.
+/// Checks the window of a link that was read, at a moment. Refusal 22 before the window, and 23 at its end or after it. The
+/// allowance makes the window begin earlier, but does not make it end later. Allocates no memory.
 pub fn check_window(link: &LinkParts<'_>, allowance: Allowance, now: Moment) -> Result<(), Refusal>
     ensures { (r : Request) (p : LinkValues) → IsLinkOf link.now r p
         → LiesIn (moment_with allowance now) p result }
@@ -61,9 +62,9 @@ pub fn check_window(link: &LinkParts<'_>, allowance: Allowance, now: Moment) -> 
     Ok(())
 }
 
-/// Judges a link that was read, under its key's secret and at a moment: refusal 21 where the signature is
-/// not that of the canonical request, 22 before the window and 23 at its end or past it. The window begins
-/// earlier by the allowance, and ends no later for it. What is answered does not depend on memory.
+/// Judges a link that was read, under its key's secret and at a moment. Refusal 21 if the signature is not that of the
+/// canonical request, 22 before the window, and 23 at its end or after it. The allowance makes the window begin earlier, but
+/// does not make it end later. The answer does not depend on memory.
 pub fn judge(
     link: &LinkParts<'_>,
     secret: &[u8],

@@ -8,27 +8,27 @@ use sigtext::Parts;
 use sigv4::{Moment, Scope};
 use std::alloc::{AllocError, Global};
 
-/// What a well-formed link says. It owns the values of the six, decoded, and the lists of parameters and
-/// signed headers; it borrows the rest from the target and the fields.
+/// What a well-formed link says. It owns the decoded values of the six signing parameters, and the lists of parameters and
+/// signed headers. It borrows the rest from the target and the fields.
 #[derive(Drop)]
 pub struct LinkParts<'a> {
     // What the signature covers.
     pub(crate) parts: Parts<'a>,
-    // Each of its form.
+    // Each value has its form.
     pub(crate) six: SixValues,
-    // Of the key id, with which the credential begins.
+    // The length of the key id, which is at the start of the credential.
     pub(crate) key_id_length: usize,
     pub(crate) start: Moment,
     // In seconds.
     pub(crate) expires: u64,
-    // A slash, the day, a slash and the fixed end stand behind the key id: 26 bytes, and the region's.
+    // A slash, the day, a slash, the region and the fixed end follow the key id: 26 bytes plus the region.
     ghost scope_fits: { key_id_length + 26 ≤ length (texts_of six).credential },
 }
 
 // The length of a day, `yyyyMMdd`.
 const DAY: usize = 8;
 
-// With what each credential ends.
+// The end of every credential.
 const FIXED_END: &[u8] = b"/s3/aws4_request";
 
 impl LinkParts<'_> {
@@ -46,7 +46,7 @@ impl LinkParts<'_> {
         self.scope().key_id
     }
 
-    // The link's credential: the key id, the day and the region, cut by slashes, without the fixed end.
+    // The link's credential, cut at its slashes: the key id, the day and the region, without the fixed end.
     pub(crate) fn scope(&self) -> Scope<'_>
         ensures { (r : Request) (p : LinkValues) → IsLinkOf self.now r p
             → (result.key_id.now ≡ p.key_id) × (scope_of result ≡ p.scope) }
@@ -67,7 +67,8 @@ impl LinkParts<'_> {
         self.start.seconds() <= now.seconds()
     }
 
-    /// Appends the decoded path. An error leaves the vector: memory was refused, where it had no room for the path.
+    /// Appends the decoded path. The only error is that memory was refused when the vector had no room for the path. It leaves
+    /// the vector unchanged.
     pub fn path_into(&self, out: &mut Vec<u8>) -> Result<(), AllocError>
         ensures ok { OnOk result
             ((r : Request) (p : LinkValues) → IsLinkOf self.now r p
@@ -78,11 +79,11 @@ impl LinkParts<'_> {
     {
         self.parts.target.path_into(out)
     }
-    /// The decoded value of the parameter of this decoded name, where there is one.
+    /// The decoded value of the parameter with this decoded name, if there is one.
     ///
     /// # Errors
     ///
-    /// Memory was refused. It is asked for where the parameter is there.
+    /// Memory was refused. Memory is requested only if the parameter exists.
     pub fn param(&self, alloc: Global, name: &[u8]) -> Result<Option<Vec<u8>>, AllocError>
         ensures found { IfOk result (λ found. (r : Request) (p : LinkValues) → IsLinkOf self.now r p
             → MatchOption found ((value : List ℕ) → HasValue p.params name.now value → ⊥)

@@ -19,7 +19,7 @@ pub enum Method {
 }
 
 impl Method {
-    /// The method of this text, of which the case counts: `None` where it is none of the four.
+    /// The method with this text. Case matters. `None` if the text is none of the four.
     pub fn read(text: &[u8]) -> Option<Method>
         ensures some { IfSome result (λ m. text.now ≡ method_text m) }
         ensures none { IfNone result (IsFalse (list_any (same_bytes text.now) methods)) }

@@ -1,4 +1,4 @@
-//! Orders of links: what a link is to say, and which orders can be met.
+//! Orders of links: what a link must say, and which orders can be met.
 ghost use Rattle.std.specs.Prelude.{◌≡◌, ◌≢◌, ◌↔◌, IsTrue, OnOk, IfErr, map, length, codes};
 ghost use Rattle.std.specs.List.{AllByRecursion};
 ghost use Rattle.sigtext.specs.Bytes.{IsWord, is_visible};
@@ -16,35 +16,34 @@ use sigtext::{Field, is_fit_value, is_header_name, is_visible, is_word, only_fie
 use sigv4::{Moment, is_key_id, is_region, is_secret};
 use thiserror::Error;
 
-/// A parameter of an order, decoded. It has no `Debug`, since its value may be a desk command with a secret.
+/// A decoded parameter of an order. It has no `Debug`, since its value may be a desk command with a secret.
 #[derive(Clone, Copy)]
 pub struct OrderParam<'a> {
-    /// One byte or more, which do not begin with `X-Amz-`.
+    /// One byte or more. It does not begin with `X-Amz-`.
     pub name: &'a [u8],
     /// Any bytes.
     pub value: &'a [u8],
 }
 
-/// What a link is to say, whoever signs it. It has no `Debug`, for its parameters' sake.
+/// What a link must say, whoever signs it. It has no `Debug`, because its parameters may hold secrets.
 #[derive(Clone, Copy)]
 pub struct LinkOrder<'a> {
     /// `PUT`, `GET`, `HEAD` or `POST`.
     pub method: &'a [u8],
-    /// The path, decoded. It begins with `/`.
+    /// The decoded path. It begins with `/`.
     pub path: &'a [u8],
-    /// The parameters beside the signing ones, each name once.
+    /// The parameters besides the signing ones. Each name occurs once.
     pub params: &'a [OrderParam<'a>],
-    /// The headers that are signed beside `host`, and none of them `host`. Each name stands once: 1 to 64 bytes
-    /// of `a-z 0-9 - _ .`. The values hold bytes 0x20 to 0x7E, with no two spaces side by side and none at an
-    /// end.
+    /// The headers that are signed besides `host`. None of them is `host`. Each name occurs once, and is 1 to 64 bytes of
+    /// `a-z 0-9 - _ .`. The values hold bytes 0x20 to 0x7E, with no two adjacent spaces and no space at either end.
     pub headers: &'a [Field<'a>],
-    /// The first moment at which the link is admitted, where no allowance lets it begin earlier.
+    /// The first moment at which the link is admitted, unless an allowance lets it begin earlier.
     pub start: Moment,
-    /// For how many seconds it is admitted: 1 to 604800, which is seven days.
+    /// For how many seconds the link is admitted: 1 to 604800, which is seven days.
     pub expires: u64,
 }
 
-/// The key that signs a link. It has no `Debug`, so that no secret gets into a log by it.
+/// The key that signs a link. It has no `Debug`, so that no secret gets into a log through it.
 #[derive(Clone, Copy)]
 pub struct LinkKey<'a> {
     /// 1 to 64 bytes of `A-Z a-z 0-9 - _`.
@@ -53,7 +52,7 @@ pub struct LinkKey<'a> {
     pub secret: &'a [u8],
 }
 
-/// Why no link was written. Where several faults are there, it is the first of them.
+/// Why no link was written. If there are several faults, it is the first of them.
 #[derive(Clone, Copy, Debug, PartialEq, Eq, Error)]
 pub enum LinkFault {
     /// The method is not PUT, GET, HEAD or POST.
@@ -62,11 +61,11 @@ pub enum LinkFault {
     /// The path does not begin with `/`.
     #[error("the path does not begin with a slash")]
     Path,
-    /// A parameter's name is empty, is there twice, or begins with `X-Amz-`.
+    /// A parameter's name is empty, occurs twice, or begins with `X-Amz-`.
     #[error("a parameter's name is empty, doubled or begins with X-Amz-")]
     Params,
-    /// A header's name is not of the form, is there twice or is `host`, or its value may not be signed or has
-    /// a space or a tab at an end.
+    /// A header's name lacks the form, occurs twice or is `host`, or its value may not be signed or has a space or a tab at
+    /// either end.
     #[error("a header is malformed, doubled or the host")]
     Headers,
     /// The host is not 1 to 255 bytes 0x21 to 0x7E.
@@ -75,7 +74,7 @@ pub enum LinkFault {
     /// The region is not 1 to 32 bytes of `a-z 0-9 -`.
     #[error("the region is malformed")]
     Region,
-    /// The key's id or its secret is not of the form.
+    /// The key's id or its secret lacks the form.
     #[error("the key is malformed")]
     Key,
     /// The expiry is not 1 to 604800 seconds.
@@ -95,7 +94,7 @@ fn begins_with_slash(path: &[u8]) -> bool
     !path.is_empty() && path[0] == b'/'
 }
 
-// Whether one parameter alone has this name.
+// Whether exactly one parameter has this name.
 fn stands_once(params: &[OrderParam<'_>], name: &[u8]) -> bool
     ensures { IsTrue result ↔ (length (params_named name.now (map param_of params.now)) ≡ 1) }
 {
@@ -127,7 +126,7 @@ fn is_bare_value(value: &[u8]) -> bool
     is_fit_value(value) && trim_blanks(value) == value
 }
 
-// Whether one header alone has this name, ASCII case aside.
+// Whether exactly one header has this name, ignoring ASCII case.
 fn is_alone(headers: &[Field<'_>], name: &[u8]) -> bool
     ensures { IsTrue result
         ↔ (length (named (lower_case name.now) (map header_of headers.now)) ≡ 1) }
@@ -151,7 +150,7 @@ fn are_own_headers(headers: &[Field<'_>]) -> bool
     headers.iter().all(|header| is_own_header(headers, header))
 }
 
-/// Whether links can be for the host: 1 to 255 visible ASCII characters, none of them a space.
+/// Whether links can be for this host: 1 to 255 visible ASCII characters, none of them a space.
 pub fn is_host(host: &[u8]) -> bool
     ensures { IsTrue result ↔ IsWord is_visible 255 host.now }
 {
@@ -164,8 +163,8 @@ fn is_key(key: &LinkKey<'_>) -> bool
     is_key_id(key.id) && is_secret(key.secret)
 }
 
-/// The first fault of an order, if it has one. It takes no memory; two names are compared for each pair of
-/// parameters and of headers.
+/// Finds the first fault of an order, if it has one. It allocates no memory. It compares two names for each pair of parameters
+/// and for each pair of headers.
 pub(crate) fn check_order(
     order: &LinkOrder<'_>,
     key: &LinkKey<'_>,

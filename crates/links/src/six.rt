@@ -14,7 +14,7 @@ use percent_encoding::percent_decode;
 use sigtext::{Params, Refusal, Target, decodes_to};
 use std::alloc::Global;
 
-/// The raw values of the six.
+/// The raw values of the six signing parameters.
 #[derive(Clone, Copy)]
 pub(crate) struct RawSix<'a> {
     pub(crate) algorithm: &'a [u8],
@@ -26,7 +26,7 @@ pub(crate) struct RawSix<'a> {
 }
 
 impl RawSix<'_> {
-    /// The length of all six, or the greatest number where that is greater.
+    /// The total length of all six, or the greatest `usize` if the total is greater.
     pub(crate) fn len(&self) -> usize {
         self.algorithm
             .len()
@@ -38,10 +38,10 @@ impl RawSix<'_> {
     }
 }
 
-// What the names of signing parameters begin with.
+// The names of the signing parameters begin with this.
 const PREFIX: &[u8] = b"X-Amz-";
 
-// Whether the raw name is that of one of the six.
+// Whether the raw name, decoded, is one of the six.
 fn is_signing(name: &[u8]) -> bool
     ensures { result ≡ is_signing_name (escapes.percent_decode name.now) }
 {
@@ -63,16 +63,16 @@ fn has_prefix(name: &[u8]) -> bool
         .eq(percent_decode(name).take(PREFIX.len()))
 }
 
-// Which names that begin with `X-Amz-` a target has.
+// Which kinds of names that begin with `X-Amz-` a target has.
 #[derive(Clone, Copy)]
 struct AmzNames {
-    // One of the six.
+    // A name that is one of the six.
     signing: bool,
-    // One that is none of the six.
+    // A name that is none of the six.
     other: bool,
 }
 
-// The names that begin with `X-Amz-`, found in one walk.
+// Finds the names that begin with `X-Amz-`, in one pass over the target.
 fn amz_names(target: &Target<'_>) -> AmzNames
     ensures signing { (path : List ℕ) (params : List Param) → SpellsReading target.now path params
         → result.signing ≡ list_any (λ p. is_signing_name p.name) params }
@@ -91,7 +91,7 @@ fn amz_names(target: &Target<'_>) -> AmzNames
     AmzNames { signing, other }
 }
 
-// The raw values of the six, where all are there.
+// The raw values of the six, if all are present.
 fn raw_six<'a>(params: &Params<'a>) -> Option<RawSix<'a>>
     ensures some { IfSome result
         (λ six. (ps : List Param) → HoldsParams params.now ps → AreRawSix six ps) }
@@ -113,9 +113,9 @@ fn raw_six<'a>(params: &Params<'a>) -> Option<RawSix<'a>>
     })
 }
 
-/// The parameters of a target in order, and the values of the six among them. Refusal 9 where none of the
-/// six is there; refusal 10 where one is missing, a name stands twice, or another name begins with
-/// `X-Amz-`; refusal 40 where memory was refused.
+/// Reads the parameters of a target, in sorted order, and the values of the six among them. Refusal 9 if none of the six is
+/// present. Refusal 10 if one is missing, a name occurs twice, or another name begins with `X-Amz-`. Refusal 40 if memory was
+/// refused.
 pub(crate) fn read_six<'a>(
     alloc: Global,
     target: &Target<'a>,

@@ -5,8 +5,8 @@ use crate::six::RawSix;
 use percent_encoding::percent_decode;
 use std::alloc::{AllocError, Global};
 
-/// The values of the six, decoded, one after another in one buffer: algorithm, credential, date, expiry,
-/// names of the signed headers, signature. The signature ends with the buffer.
+/// The decoded values of the six signing parameters, one after another in one buffer: algorithm, credential, date, expiry,
+/// names of the signed headers, signature. The signature extends to the end of the buffer.
 #[derive(Drop)]
 pub(crate) struct SixValues {
     bytes: Vec<u8>,
@@ -27,7 +27,7 @@ impl SixValues {
     ghost use Rattle.sigtext.specs.Target.{Param};
     ghost use Rattle.links.specs.SixValues.{AreRawSix, AreSixOf, texts_of};
 
-    /// Decodes the raw values. It asks for memory once.
+    /// Decodes the raw values. It requests memory once.
     pub(crate) fn decode(alloc: Global, raw: RawSix<'_>) -> Result<SixValues, AllocError>
         ensures { IfOk result (λ six. (ps : List Param) → AreRawSix raw.entry ps
             → AreSixOf (texts_of six) ps) }

@@ -87,7 +87,7 @@ fn credential_text(alloc: Global, scope: &Scope<'_>) -> Result<Vec<u8>, AllocErr
     Ok(text)
 }
 
-// The values of the signing parameters, but for the algorithm, which is fixed, and the signature.
+// The values of the signing parameters, except the algorithm, which is fixed, and the signature.
 #[derive(Clone, Copy)]
 struct DraftTexts<'a> {
     credential: &'a [u8],
@@ -96,7 +96,7 @@ struct DraftTexts<'a> {
     names: &'a [u8],
 }
 
-// The signing parameters, but for the signature, and the others.
+// The signing parameters except the signature, followed by the other parameters.
 fn all_params<'a>(
     alloc: Global,
     five: &DraftTexts<'a>,
@@ -135,8 +135,8 @@ fn all_params<'a>(
     Ok(params)
 }
 
-// Appends the encoded name, `=` and the encoded value. Clause `bytes`: these are bytes, as their types say. That
-// the text can be read again rests on it.
+// Appends the encoded name, `=` and the encoded value. Clause `bytes`: the name and the value are bytes, as their types say.
+// The proof that the text can be read back depends on it.
 fn append_param(name: &[u8], value: &[u8], text: &mut Vec<u8>) -> Result<(), AllocError>
     ensures written { OnOk result
         (text.new.items ≡ text.old.items ++ param_text (param name.now value.now)) }
@@ -147,7 +147,7 @@ fn append_param(name: &[u8], value: &[u8], text: &mut Vec<u8>) -> Result<(), All
     uri_encode(value, Slash::Encoded, text)
 }
 
-// The target of the path and the parameters, of which there is one or more.
+// The target with this path and these parameters. There is at least one parameter.
 fn draft_text(alloc: Global, path: &[u8], params: &[OrderParam<'_>]) -> Result<Vec<u8>, AllocError>
     requires { 0 < length params.now }
     ensures written { IfOk result (λ t. t.items ≡ target_text path.now (map param_of params.now)) }
@@ -165,15 +165,15 @@ fn draft_text(alloc: Global, path: &[u8], params: &[OrderParam<'_>]) -> Result<V
     Ok(text)
 }
 
-// What was written can be read again, so all that is wanting is memory.
+// What was written can be read back, so the only refusal is a lack of memory.
 fn want_of_memory(_refusal: Refusal) -> AllocError
     requires { _refusal ≡ Refusal.TryAgain }
 {
     AllocError
 }
 
-// What the signature of a draft covers: its method, path and parameters, and these fields, whose names the text
-// lists.
+// Reads what the signature of a draft covers: its method, path and parameters, and these fields. `names` is the text that
+// lists the names of the fields.
 fn read_parts<'a>(
     alloc: Global,
     method: &'a [u8],
@@ -233,7 +233,7 @@ fn final_text(
     Ok(text)
 }
 
-// The link of an order that has no fault.
+// The link for an order that has no fault.
 fn link_text(
     alloc: Global,
     order: &LinkOrder<'_>,
@@ -268,17 +268,16 @@ fn link_text(
     final_text(alloc, order.path, &parts.params, &digits)
 }
 
-/// Appends the link that an order asks for to `out`: the encoded path, `?`, the canonical query and the signature. Whoever
-/// sends it to this host by the order's method, with each header of the order once and no more headers that begin with
-/// `x-amz-`, is admitted from the start until the expiry is over, in any office where the key has this secret and is not
-/// revoked. An office with an allowance admits it that many seconds before the start, too. Nobody is admitted at any other
-/// moment.
+/// Appends the link that an order asks for to `out`: the encoded path, `?`, the canonical query and the signature. Consider a
+/// request with this link to this host, with the order's method, with each header of the order once, and with no other header
+/// that begins with `x-amz-`. Any office where the key has this secret and is not revoked admits it from the start until the
+/// expiry is over. An office with an allowance also admits it up to that many seconds before the start. It is not admitted at
+/// any other moment.
 ///
 /// # Errors
 ///
-/// The first fault of the order, in the order of `LinkFault`: method, path, parameters, headers, host, region,
-/// key, expiry. `Memory` where memory was refused, and then the order has no fault. Each leaves `out` as it
-/// was.
+/// The first fault of the order, in the sequence of `LinkFault`: method, path, parameters, headers, host, region, key, expiry.
+/// `Memory` if memory was refused. The order has no fault then. Every error leaves `out` unchanged.
 pub fn write_link(
     alloc: Global,
     order: &LinkOrder<'_>,

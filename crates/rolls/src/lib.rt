@@ -1,4 +1,4 @@
-//! What comes next in an office: the questions by which its lists walk through its keys, boxes and files.
+//! What comes next in an office: the queries with which its lists go through its keys, boxes and files.
 #![tactic(auto)]
 
 mod rolls;

@@ -1,14 +1,14 @@
-//! The trait of keepers that can be walked through.
+//! The trait of keepers whose keys, boxes, files and limits can be listed in order.
 ghost use Rattle.sigtext.specs.Bytes.{bytes_cmp};
 ghost use Rattle.keeper.specs.Keeping.{Answers, Stays, KeepsStaged};
 ghost use Rattle.rolls.specs.Next.{text_in, IsNext, IsKey, IsBox, IsFileIn, IsLimit};
 
 use keeper::{KeepFault, Keeper};
 
-/// A keeper that tells which key, box or file comes next, in the order of bytes. Every id and every name comes behind the empty
-/// text. An error leaves the state, and is counted.
+/// A keeper that tells which key, box or file comes next, in byte order. Every id and every name comes after the empty
+/// text. An error leaves the state unchanged and is counted.
 pub trait Rolls: Keeper {
-    /// The id of the first key behind this text.
+    /// The id of the first key after this text.
     fn key_after(&mut self, after: &[u8]) -> Result<Option<Vec<u8>>, KeepFault>
         ensures value { Answers Self.means Self.is_honest self.old self.new result
             (λ s found. IsNext bytes_cmp (IsKey s) after.now (text_in found)) }
@@ -16,7 +16,7 @@ pub trait Rolls: Keeper {
             Self.leaves_whole Self.has_store self.old self.new result }
         ensures staged { KeepsStaged Self.stages self.old self.new };
 
-    /// The name of the first box behind this text.
+    /// The name of the first box after this text.
     fn box_after(&mut self, after: &[u8]) -> Result<Option<Vec<u8>>, KeepFault>
         ensures value { Answers Self.means Self.is_honest self.old self.new result
             (λ s found. IsNext bytes_cmp (IsBox s) after.now (text_in found)) }
@@ -24,7 +24,7 @@ pub trait Rolls: Keeper {
             Self.leaves_whole Self.has_store self.old self.new result }
         ensures staged { KeepsStaged Self.stages self.old self.new };
 
-    /// The name of the first file of this box behind this text.
+    /// The name of the first file in this box after this text.
     fn file_after(&mut self, in_box: &[u8], after: &[u8]) -> Result<Option<Vec<u8>>, KeepFault>
         ensures value { Answers Self.means Self.is_honest self.old self.new result
             (λ s found. IsNext bytes_cmp (IsFileIn s in_box.now) after.now (text_in found)) }
@@ -32,7 +32,7 @@ pub trait Rolls: Keeper {
             Self.leaves_whole Self.has_store self.old self.new result }
         ensures staged { KeepsStaged Self.stages self.old self.new };
 
-    /// The name of the first box behind this text among those that the key of this id is limited to.
+    /// The name of the first box after this text, among those that the key of this id is limited to.
     fn limit_after(&mut self, id: &[u8], after: &[u8]) -> Result<Option<Vec<u8>>, KeepFault>
         ensures value { Answers Self.means Self.is_honest self.old self.new result
             (λ s found. IsNext bytes_cmp (IsLimit s id.now) after.now (text_in found)) }

@@ -1,4 +1,4 @@
--- Lists that ascend strictly by a text of each element: one that holds the same elements is the same list.
+-- Lists that ascend strictly by a text of each element: two of them with the same elements are equal.
 use Rattle.std.proofs.Common.{◌≡◌, ℕ, zero, suc, List, [], ◌∷◌, get_or, refl, sym, ◌∙◌, subst, inl, inr, ⊎_elim, arith, All}
 use Rattle.std.specs.Prelude.{◌⊎◌, Contains, IsPermutation, IsTrue, map}
 use Rattle.std.specs.Ordering.{is_lt}
@@ -24,16 +24,16 @@ trans x y z = nat_list_cmp_total.trans x y z
 pub never_below_itself : (x : List ℕ) → bytes_cmp x x ≡ Less → ⊥
 never_below_itself x h = let e = sym h ∙ tied_itself nat_list_cmp_total x in cc
 
--- ---- what is above a text
+-- ---- elements greater than a text
 
--- the text is below that of each element
+-- the text is less than that of each element
 abbrev pub BelowAll : {X : Type 0} → (X → List ℕ) → List ℕ → List X → Type 0
 BelowAll key a xs = All (λ x. bytes_cmp a (key x) ≡ Less) xs
 
 below_more : {X : Type 0} (key : X → List ℕ) (a b : List ℕ) (xs : List X) → bytes_cmp a b ≡ Less → BelowAll key b xs → BelowAll key a xs
 below_more key a b xs h = All-weaker (λ x. bytes_cmp b (key x) ≡ Less) (λ x. bytes_cmp a (key x) ≡ Less) (λ x. trans a b (key x) h) xs
 
--- each text is below all that follow
+-- each text is less than all that follow
 pub ascends-head : {X : Type 0} (key : X → List ℕ) (x : X) (xs : List X) → IsTrue (ascends (map key (x ∷ xs))) → BelowAll key (key x) xs
 ascends-head key x [] h = All-nil (λ y. bytes_cmp (key x) (key y) ≡ Less)
 ascends-head key x (y ∷ ys) h =
@@ -47,12 +47,12 @@ ascends-tail key x (y ∷ ys) h = (and_parts (is_lt (bytes_cmp (key x) (key y)))
 
 -- ---- the same elements
 
--- an element of a list is its first one, or one of the others
+-- an element of a list is the first, or among the others
 pub first_or_later : {X : Type 0} (x : X) (xs : List X) (q : X) → Contains (x ∷ xs) q → (x ≡ q) ⊎ Contains xs q
 first_or_later x xs q (zero, within, is) = inl is
 first_or_later x xs q (suc k, within, is) = inr (k, omega arith, is)
 
--- the first elements are one, since of two others each would be below the other
+-- the first elements are equal; otherwise each would be less than the other
 same_head : {X : Type 0} (key : X → List ℕ) (x y : X) (xs ys : List X) → BelowAll key (key x) xs → BelowAll key (key y) ys
     → Contains (y ∷ ys) x → Contains (x ∷ xs) y → x ≡ y
 same_head key x y xs ys above_x above_y x_there y_there =
@@ -67,7 +67,7 @@ same_head key x y xs ys above_x above_y x_there y_there =
     (first_or_later x xs y y_there))
     (first_or_later y ys x x_there)
 
--- an element above the first one is among the others
+-- an element greater than the first is among the others
 later : {X : Type 0} (key : X → List ℕ) (x : X) (xs : List X) (q : X) → bytes_cmp (key x) (key q) ≡ Less → Contains (x ∷ xs) q → Contains xs q
 later key x xs q above there =
     ⊎_elim
@@ -91,7 +91,7 @@ ascending_once key (x ∷ xs) (y ∷ ys) up_x up_y there back =
     let back_later = all_later key x xs ys (subst (λ z. BelowAll key (key z) ys) (sym head) above_y) (All-tail (Contains (x ∷ xs)) y ys back) in
     cc (head, ascending_once key xs ys (ascends-tail key x xs up_x) (ascends-tail key y ys up_y) there_later back_later)
 
--- two such rearrangements of one list are one
+-- two such rearrangements of one list are equal
 pub rearranged_once : {X : Type 0} (key : X → List ℕ) (base xs ys : List X) → IsPermutation base xs → IsPermutation base ys
     → IsTrue (ascends (map key xs)) → IsTrue (ascends (map key ys)) → ys ≡ xs
 rearranged_once key base xs ys to_x to_y up_x up_y = ascending_once key xs ys up_x up_y (moved base xs ys to_x to_y) (moved base ys xs to_y to_x)

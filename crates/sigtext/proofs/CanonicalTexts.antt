@@ -41,7 +41,7 @@ query_of-is sorted params h =
 
 -- ---- the whole text
 
--- the six parts, one behind another
+-- the six parts in order
 abbrev pub in_row : List ℕ → List ℕ → List ℕ → List Header → List ℕ
 in_row method path query headers =
     (method ++ 10 ∷ []) ++ ((uri_encoded Kept path ++ 10 ∷ []) ++ (query ++ (10 ∷ (canonical_headers headers ++ (10 ∷ (signed_headers headers ++ (10 ∷ codes "UNSIGNED-PAYLOAD")))))))
@@ -67,7 +67,7 @@ in_row-is r query = regrouped r.method (uri_encoded Kept r.path) query (canonica
 abbrev pub text_of : Parts → List ℕ
 text_of parts = in_row parts.method.now (percent_decode parts.target.path.now) (query_of parts.params) (values_of parts.values)
 
--- it is the canonical request of what they hold, and the only one
+-- it is the canonical request of the parts, and the only one
 pub text_of-is : (parts : Parts) (signed : Signed) → AreOf parts signed → IsTheOnly (IsCanonicalRequest signed) (text_of parts)
 text_of-is parts signed are =
     let path = decoded _ parts.target.path.now signed.path are.path in

@@ -34,7 +34,7 @@ cut_absent c [] h = cut-nil c
 cut_absent c (x ∷ xs) h =
     cut_later c x xs (All-head (λ y. eqb y c ≡ false) x xs h) ∙ ap (with_front (x ∷ [])) (cut_absent c xs (All-tail (λ y. eqb y c ≡ false) x xs h))
 
--- splitting joined pieces at the byte gives them back, since none contains it
+-- splitting the joined pieces at the byte returns them, since none contains it
 pub split_joined : (c : ℕ) (pieces : List (List ℕ)) → 0 < length pieces → AllByRecursion (All (λ x. eqb x c ≡ false)) pieces → slice_split (λ x. eqb x c) (join_with_byte c pieces) ≡ pieces
 split_joined c [] h without = absurd (omega arith)
 split_joined c (piece ∷ []) h without = slice_split_none (λ x. eqb x c) piece without.0
@@ -48,7 +48,7 @@ cut_once c xs ys front rest h k e =
     let same : Some (xs, ys) ≡ Some (front, rest) = sym (cut_at c xs ys h) ∙ ap (cut c) e ∙ cut_at c front rest k in
     (ap (λ (o : Option (List ℕ × List ℕ)). (unwrap_or o (xs, ys)).0) same, ap (λ (o : Option (List ℕ × List ℕ)). (unwrap_or o (xs, ys)).1) same)
 
--- a byte that the test fails is not in a text whose bytes all pass
+-- a byte that fails the test is not in a text whose bytes all pass
 pub lacks_failing : (test : ℕ → Bool) (c : ℕ) (text : List ℕ) → test c ≡ false → IsTrue (list_all test text) → All (λ b. eqb b c ≡ false) text
 lacks_failing test c [] fails h = All-nil (λ b. eqb b c ≡ false)
 lacks_failing test c (b ∷ text) fails h =

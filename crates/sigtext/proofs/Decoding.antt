@@ -1,4 +1,4 @@
--- What UriEncode wrote is read back.
+-- Decoding inverts UriEncode.
 use Rattle.std.proofs.Common.{◌≡◌, ◌<◌, ℕ, List, refl, sym, ap, ◌∙◌, true}
 use Rattle.std.proofs.lemmas.List.Elements.{All-from_recursion}
 use Rattle.percent_encoding.specs.Percent.{percent_decode}

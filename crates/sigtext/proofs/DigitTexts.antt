@@ -35,7 +35,7 @@ all_ascii : (text : List ℕ) → list_all is_ascii_digit text ≡ true → All 
 all_ascii [] e = All-nil (λ b. b < 128)
 all_ascii (c ∷ text) e = let p = both (is_ascii_digit c) (list_all is_ascii_digit text) e in All-cons (λ b. b < 128) c text (digit_ascii c p.0) (all_ascii text p.1)
 
--- past the end stands 0
+-- past the end each digit is 0
 ascii_at : (text : List ℕ) → All (λ b. b < 128) text → (i : ℕ) → slice_index text i < 128
 ascii_at text small i =
     ⊎_elim (λ (within : i < length text). small i 0 within) (λ (past : length text ≤ i). subst (λ (n : ℕ). n < 128) (sym (get_or-eq_default text 0 past)) (lit< tt)) (cases_lt i (length text))

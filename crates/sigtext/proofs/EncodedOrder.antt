@@ -1,5 +1,4 @@
--- Encoded texts compare as the bytes that they encode do by two keys: whether the byte stays as it is, and
--- the byte.
+-- Encoded texts compare as their bytes do by two keys: whether encoding keeps the byte, and the byte.
 use Rattle.std.proofs.Common.{◌≡◌, ℕ, ◌/◌, ◌%◌, ◌<◌, Bool, true, false, cond, List, [], ◌∷◌, ◌++◌, refl, sym, ap, ◌∙◌, subst, ⊎_elim, arith, All, map}
 use Rattle.std.specs.List.{AllByRecursion}
 use Rattle.std.specs.Cmp.Lexicographic.{slice_cmp}
@@ -42,7 +41,7 @@ level x y e = ap (λ (z : ℕ). nat_cmp x z) (sym e) ∙ tied_itself nat_cmp_tot
 glyphs_rise : (a b : ℕ) → a < b → b < 16 → digit_glyph true a < digit_glyph true b
 glyphs_rise a b h small = grind (arith, nat_tests)
 
--- the digits of one place compare as their numbers do
+-- two digits compare as their numbers do
 glyphs : (a b : ℕ) → a < 16 → b < 16 → nat_cmp (digit_glyph true a) (digit_glyph true b) ≡ nat_cmp a b
 glyphs a b small_a small_b =
     ⊎_elim
@@ -53,7 +52,7 @@ glyphs a b small_a small_b =
     other)
     (cases_order a b)
 
--- two digits compare as their number does
+-- pairs of digits compare as their numbers do
 places : (x y : ℕ) → ordering_then (nat_cmp (x / 16) (y / 16)) (nat_cmp (x % 16) (y % 16)) ≡ nat_cmp x y
 places x y =
     ⊎_elim
@@ -124,7 +123,7 @@ encoded_cmp (x ∷ xs) (y ∷ ys) small_x small_y =
     ap (ordering_then (rank_cmp (rank x) (rank y))) (encoded_cmp xs ys (All-tail (λ b. b < 256) x xs small_x) (All-tail (λ b. b < 256) y ys small_y))
     ∙ sym (heads x y (uri_encoded Encoded xs) (uri_encoded Encoded ys) (All-head (λ b. b < 256) x xs small_x) (All-head (λ b. b < 256) y ys small_y))
 
--- bytes whose encoded texts are one are the same
+-- bytes with the same encoded text are the same
 pub same_bytes_from : (xs ys : List ℕ) → All (λ b. b < 256) xs → All (λ b. b < 256) ys → bytes_cmp (uri_encoded Encoded xs) (uri_encoded Encoded ys) ≡ Equal → xs ≡ ys
 same_bytes_from xs ys small_x small_y h =
     let same = (bytes_eq-Decides (uri_encoded Encoded xs) (uri_encoded Encoded ys)).0 (sym (is_eq-slice_cmp (uri_encoded Encoded xs) (uri_encoded Encoded ys)) ∙ ap is_eq h) in

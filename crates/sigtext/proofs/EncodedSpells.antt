@@ -1,4 +1,4 @@
--- An encoded text spells its bytes, and the target that is written of a path and parameters spells them.
+-- An encoded text spells its bytes, and a target written from a path and parameters spells these.
 use Rattle.std.proofs.Common.{◌≡◌, ℕ, ◌+◌, ◌*◌, ◌/◌, ◌%◌, ◌<◌, Bool, true, false, eqb, cond, List, [], ◌∷◌, ◌++◌, length, map, refl, ap, ◌∙◌, subst, inr, arith}
 use Rattle.std.specs.Prelude.{IsTrue}
 use Rattle.std.specs.Char.{digit_value, is_digit}
@@ -42,14 +42,14 @@ byte_spells slash barred b stand small = by (stays slash b) stand
 
 -- ---- a text
 
--- the encoded text spells the bytes, where each byte that stays may stand
+-- the encoded text spells the bytes, if each byte that is kept may stand for itself
 pub encoded_spells : (slash : Slash) (barred bytes : List ℕ) → ((b : ℕ) → IsTrue (stays slash b) → IsTrue (may_stand barred b)) → AreBytes bytes → Spells barred (uri_encoded slash bytes) bytes
 unfolding uri_encoded
 encoded_spells slash barred [] stand small = refl
 encoded_spells slash barred (b ∷ bytes) stand small =
     (encoded_byte slash b, uri_encoded slash bytes, refl, byte_spells slash barred b (stand b) small.0, encoded_spells slash barred bytes stand small.1)
 
--- what stays in a path, in a name and in a value may stand there
+-- bytes that are kept in a path, a name or a value may stand for themselves there
 pub path_stands : (b : ℕ) → IsTrue (stays Kept b) → IsTrue (may_stand (63 ∷ []) b)
 path_stands b h = grind (arith, nat_tests)
 
@@ -61,7 +61,7 @@ value_stands b h = grind (arith, nat_tests)
 
 -- ---- a target
 
--- a parameter that can be written: bytes, and a name of one or more
+-- a parameter that can be written: its name and value are bytes, and the name is not empty
 abbrev pub IsWritable : Param → Type 0
 IsWritable p = (0 < length p.name) × AreBytes p.name × AreBytes p.value
 

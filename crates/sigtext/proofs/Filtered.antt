@@ -1,4 +1,4 @@
--- What a filter keeps of a rearrangement, and of a list that ascends strictly.
+-- Filters of rearranged lists, and of strictly ascending lists.
 use Rattle.std.proofs.Common.{◌≡◌, ℕ, zero, suc, ◌<◌, Bool, true, false, cond, List, [], ◌∷◌, length, get_or, refl, ap, arith}
 use Rattle.std.specs.Prelude.{IsPermutation, IsTrue, map, filter}
 use Rattle.std.specs.List.{swap}
@@ -29,7 +29,7 @@ module _ {X : Type 0} (p : X → Bool) where
   exchanged false true x y us = IsPermutation-refl (y ∷ us)
   exchanged false false x y us = IsPermutation-refl us
 
-  -- the first element in the place of a later one
+  -- the first element moves to a later place
   first_moves : (x : X) (xs : List X) (j : ℕ) (d : X) → j < length xs → Moves (x ∷ xs) (get_or xs j d ∷ set xs j x)
   first_moves x [] j d within = absurd (omega arith)
   first_moves x (y ∷ xs) zero d within = exchanged (p x) (p y) x y (filter p xs)

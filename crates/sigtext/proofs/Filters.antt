@@ -22,7 +22,7 @@ pub each_passes : {X : Type 0} (t : X → Bool) (xs : List X) → All (λ x. t x
 each_passes t [] h = refl
 each_passes {X} t (x ∷ xs) h = cond-true _ _ _ (All-head (λ y. t y ≡ true) x xs h) ∙ ap (λ (ys : List X). x ∷ ys) (each_passes t xs (All-tail (λ y. t y ≡ true) x xs h))
 
--- what passes is among what the filter keeps
+-- an element that passes is kept
 pub kept : {X : Type 0} (t : X → Bool) (xs : List X) (q : X) → t q ≡ true → Contains xs q → Contains (filter t xs) q
 kept t [] q passes c = absurd (omega (arith, c.1))
 kept t (x ∷ xs) q passes c =
@@ -39,7 +39,7 @@ alone [] p long h = absurd (omega (arith, long))
 alone (q ∷ []) p long h = ap (λ x. x ∷ []) (All-head (λ q. q ≡ p) q [] h)
 alone (q ∷ r ∷ xs) p long h = absurd (omega (arith, long))
 
--- what passes one test at least is kept by the other, so that one filter after the other is the narrower one
+-- whatever passes the first test passes the second, so both filters keep what the first keeps
 pub filter_within : {X : Type 0} (s t : X → Bool) (xs : List X) → ((x : X) → t x ≡ true → s x ≡ true) → filter t (filter s xs) ≡ filter t xs
 filter_within s t [] within = refl
 filter_within {X} s t (x ∷ xs) within =
@@ -52,7 +52,7 @@ filter_within {X} s t (x ∷ xs) within =
 in_one : {X : Type 0} (p q : X) → Contains (p ∷ []) q → q ≡ p
 in_one p q c = ⊎_elim (λ here. sym here) (λ more. absurd (omega (arith, more.1))) (first_or_later p [] q c)
 
--- where one element passes, it alone passes in each permutation
+-- if exactly one element passes, it is the only one in each permutation
 pub moved_one : {X : Type 0} (t : X → Bool) (xs ys : List X) (p : X) → IsPermutation xs ys → filter t ys ≡ p ∷ [] → filter t xs ≡ p ∷ []
 moved_one {X} t xs ys p moved one = alone (filter t xs) p (sym (counted t xs ys moved) ∙ ap (λ (zs : List X). length zs) one) (λ k d within. is (get_or (filter t xs) k d) (filter_passes t xs k d within) (All-filter t (Contains xs) xs (All-contains_itself xs) k d within))
   where

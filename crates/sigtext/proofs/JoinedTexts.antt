@@ -1,9 +1,9 @@
--- Texts joined by a byte, one after another: nothing before the first, the byte before each other one.
+-- Texts joined by a byte: nothing stands before the first, and the byte before each other one.
 use Rattle.std.proofs.Common.{◌≡◌, ℕ, ◌<◌, List, [], ◌∷◌, ◌++◌, length, refl, sym, ap, ◌∙◌, append_assoc, arith}
 use Rattle.std.proofs.lemmas.List.{append-nil}
 use Rattle.std.specs.List.{join_with_byte}
 
--- the texts in a row, with this front before the first one and the byte before each other one
+-- the texts in order, with this prefix before the first and the byte before each other one
 unfoldable pub joined_behind : List ℕ → ℕ → List (List ℕ) → List ℕ
 joined_behind front byte [] = []
 joined_behind front byte (text ∷ texts) = front ++ (text ++ joined_behind (byte ∷ []) byte texts)
@@ -30,13 +30,13 @@ joined_more byte (text ∷ next ∷ texts) last some =
     ap (λ (t : List ℕ). text ++ byte ∷ t) (joined_more byte (next ∷ texts) last (omega arith))
     ∙ sym (append_assoc text (byte ∷ join_with_byte byte (next ∷ texts)) (byte ∷ last))
 
--- a byte before the first one, where there is one
+-- a byte before the first text, if there is one
 pub joined_behind-some : (first byte : ℕ) (texts : List (List ℕ)) → 0 < length texts → joined_behind (first ∷ []) byte texts ≡ first ∷ join_with_byte byte texts
 unfolding joined_behind
 joined_behind-some first byte [] some = absurd (omega arith)
 joined_behind-some first byte (text ∷ texts) some = ap (λ (t : List ℕ). first ∷ t) (sym (joined_behind-nothing byte (text ∷ texts)))
 
--- of a whole text, two more pieces are written behind what was written before
+-- two more pieces of a text are written after those before
 pub pieces_written : (whole before between after front piece rest : List ℕ) → whole ≡ before ++ (front ++ (piece ++ rest)) → between ≡ before ++ front → after ≡ between ++ piece → whole ≡ after ++ rest
 pieces_written whole before between after front piece rest is first second =
     is ∙ sym (append_assoc before front (piece ++ rest)) ∙ ap (λ (t : List ℕ). t ++ (piece ++ rest)) (sym first)

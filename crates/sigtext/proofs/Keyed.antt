@@ -1,4 +1,4 @@
--- Lists that do not fall by a text of each element, and in which no text stands twice: they ascend strictly.
+-- Lists that ascend by a text of each element, in which no text occurs twice: they ascend strictly.
 use Rattle.std.proofs.Common.{◌≡◌, ℕ, zero, suc, ◌+◌, ◌<◌, ◌≤◌, Bool, true, false, cond, List, [], ◌∷◌, length, get_or, refl, sym, ap, subst, ◌∙◌, ⊎_elim, arith, All, map}
 use Rattle.std.specs.Prelude.{IsTrue, filter}
 use Rattle.std.specs.List.Sorted.{IsSortedBy}
@@ -13,7 +13,7 @@ use Rattle.std.proofs.lemmas.Slice.Eq.{bytes_eq-Decides}
 use Rattle.sigtext.specs.Bytes.{same_bytes, bytes_cmp}
 use Rattle.sigtext.specs.CanonicalQuery.{ascends}
 
--- ---- two texts of which neither is below the other
+-- ---- two texts, neither less than the other
 
 tied : (o : Ordering) → is_lt o ≡ false → is_lt (ordering_reverse o) ≡ false → o ≡ Equal
 tied Less h k = absurd cc
@@ -32,7 +32,7 @@ same_texts a b h k = (bytes_eq-Decides a b).0 (sym (is_eq-slice_cmp a b) ∙ ap 
 abbrev pub times : {X : Type 0} → (X → List ℕ) → List ℕ → List X → ℕ
 times key text xs = length (filter (λ x. same_bytes (key x) text) xs)
 
--- each element's text is that of no other
+-- no two elements have the same text
 abbrev pub EachOnce : {X : Type 0} → (X → List ℕ) → List X → Type 0
 EachOnce key xs = All (λ x. times key (key x) xs ≤ 1) xs
 
@@ -56,9 +56,9 @@ twice {X} key x y xs same =
     ∙ ap (λ (zs : List X). x ∷ zs) (cond-true _ (y ∷ rest) rest second) in
     omega (arith, ap (λ (zs : List X). length zs) both)
 
--- ---- never below the one before it, and each text once
+-- ---- none less than its predecessor, and each text once
 
--- none is below the one before it
+-- none is less than its predecessor
 abbrev NeverFalls : {X : Type 0} → (X → List ℕ) → List X → Type 0
 NeverFalls {X} key xs = (k : ℕ) (d : X) → suc k < length xs → is_lt (bytes_cmp (key (get_or xs (suc k) d)) (key (get_or xs k d))) ≡ false
 

@@ -1,4 +1,4 @@
--- The pieces of a text at `;`, one after another.
+-- The pieces of a text, split at `;`, in order.
 use Rattle.std.proofs.Common.{◌≡◌, ℕ, ◌+◌, ◌<◌, ◌≤◌, Bool, true, false, not, eqb, List, [], ◌∷◌, length, drop, get_or, Option, Some, refl, sym, ap, subst, ◌∙◌, arith}
 use Rattle.std.specs.Prelude.{◌&&◌, ◌↔◌, IsTrue, MatchBool, Contains, codes}
 use Rattle.std.specs.List.{AllByRecursion, AllWithin, HoldsAt, list_any, slice_split}
@@ -40,7 +40,7 @@ other_way Greater = refl
 pub not_below : (a x : List ℕ) (r : Bool) → r ≡ is_some_and is_ge (slice_partial_cmp (λ (x : ℕ) (y : ℕ). Some (nat_cmp x y)) a x) → r ≡ not (is_lt (bytes_cmp a x))
 not_below a x r e = e ∙ ap (is_some_and is_ge) (compared a x) ∙ other_way (bytes_cmp a x)
 
--- ---- ascending pieces, where n have come before this name
+-- ---- ascending pieces, after n of them
 
 turned : (all : List (List ℕ)) (n : ℕ) (before name : List ℕ) → (n < length all) × (name ≡ get_or all n name)
     → ascends (before ∷ drop n all) ≡ (is_lt (bytes_cmp before name) && ascends (name ∷ drop (n + 1) all))
@@ -63,7 +63,7 @@ has_risen all n before past = at_drop_all (λ xs. ascends (before ∷ xs)) all n
 
 -- ---- each piece, and one of them
 
--- what `all` answered by a test that decides P
+-- the answer of `all` with a test that decides P
 pub each_piece : {X : Type 0} (P : X → Type 0) (r : Bool) (all : List X)
     → MatchBool r (AllWithin P all 0 (length all)) ((k : ℕ) × (k < length all) × HoldsAt (λ x. P x → ⊥) all k)
     → IsTrue r ↔ AllByRecursion P all
@@ -72,7 +72,7 @@ each_piece P r all cases = (
   λ each. true_from_All P (λ x. P x → ⊥) r all (λ x p none. none p) cases (All-from_recursion P all each),
 )
 
--- what `any` answered by the test whether a piece is this text
+-- the answer of `any` with the test whether a piece is this text
 pub one_piece : (text : List ℕ) (r : Bool) (all : List (List ℕ)) → r ≡ list_any (λ x. same_bytes x text) all → IsTrue r ↔ Contains all text
 one_piece text r all is = (
   λ t.

@@ -1,4 +1,4 @@
--- Searching the fields of a request one after another for those of a name.
+-- Searching the fields of a request in order for those with a name.
 use Rattle.std.proofs.Common.{◌≡◌, ℕ, ◌+◌, ◌<◌, Bool, true, cond, List, [], ◌∷◌, ◌++◌, length, map, take, drop, get_or, sym, ap, Option, Some, None, ◌∙◌}
 use Rattle.std.specs.Prelude.{is_some}
 use Rattle.std.proofs.lemmas.Bool.{cond-true}
@@ -43,11 +43,11 @@ found_one : (headers : List Header) (o : Option Field) → is_some o ≡ true �
 found_one headers None e f = absurd cc
 found_one headers (Some v) e f = (header_of v, f)
 
--- a list that begins with two is not of one
+-- a list with two first elements is not a list of one
 not_one : (x y z : Header) (ys : List Header) → ((x ∷ []) ++ (y ∷ [])) ++ ys ≡ z ∷ [] → ⊥
 not_one x y z ys e = cc
 
--- a second field of the name
+-- a second field with the name
 pub is_doubled : (name : List ℕ) (fields : List Field) (i : ℕ) (d : Field) (found : Option Field) → i < length fields → has_name name (get_or fields i d) ≡ true
     → is_some found ≡ true → IsFoundIn (named_before name fields i) found → (h : Header) → named name (map header_of fields) ≡ h ∷ [] → ⊥
 is_doubled name fields i d found within here some sofar h one =

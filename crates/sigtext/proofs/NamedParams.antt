@@ -1,4 +1,4 @@
--- The parameters of one name, where the encoded names are in order.
+-- The parameters with one name, if the encoded names are in order.
 use Rattle.std.proofs.Common.{◌≡◌, ℕ, zero, suc, ◌<◌, Bool, true, false, cond, List, [], ◌∷◌, length, get_or, refl, sym, ap, subst, ◌∙◌, ⊎_elim, arith, All, map}
 use Rattle.std.specs.Prelude.{IsPermutation, Contains, ◌&&◌}
 use Rattle.std.specs.Ordering.{is_lt}
@@ -34,7 +34,7 @@ named name p e = (bytes_eq-Decides p.name name).1 e
 not_named : (name : List ℕ) (p : Param) → (p.name ≡ name → ⊥) → same_bytes p.name name ≡ false
 not_named name p other = false_from_ne_true (same_bytes p.name name) (λ e. other ((bytes_eq-Decides p.name name).0 e))
 
--- where the encoded names differ, so do the names
+-- if the encoded names differ, so do the names
 other_name : (x y : Param) → bytes_cmp (uri_encoded Encoded x.name) (uri_encoded Encoded y.name) ≡ Less → x.name ≡ y.name → ⊥
 other_name x y less same =
     never_below_itself (uri_encoded Encoded x.name) (subst (λ (n : List ℕ). bytes_cmp (uri_encoded Encoded x.name) (uri_encoded Encoded n) ≡ Less) (sym same) less)
@@ -42,7 +42,7 @@ other_name x y less same =
 abbrev param_text : Param → List ℕ
 param_text p = uri_encoded Encoded p.name
 
--- where the encoded names ascend, a parameter is the one of its name
+-- if the encoded names ascend strictly, a parameter is the only one with its name
 stands_alone : (params : List Param) (p : Param) → Ascend params → Contains params p → params_named p.name params ≡ p ∷ []
 stands_alone [] p up c = absurd (omega (arith, c.1))
 stands_alone (x ∷ params) p up c =
@@ -83,7 +83,7 @@ absent sorted params name h none =
 
 -- ---- names that stand twice
 
--- a raw name and value of these, whose name stands twice among those that they spell
+-- one of the raw names and values has a decoded name that occurs twice
 record IsDoubled (raws : List RawParam) (one : RawParam) : Type 0 where
   there : Contains raws one
   twice : 1 < length (params_named (percent_decode one.name.now) (map decoded_param raws))
@@ -138,7 +138,7 @@ stands_twice raws sorted params s moved up h once =
     let one = All-contains (λ (q : Param). length (params_named q.name params) ≡ 1) params p (All-from_recursion (λ (q : Param). length (params_named q.name params) ≡ 1) params once) there in
     omega (arith, d.1.twice, one, counted (λ (q : Param). same_bytes q.name p.name) params ordered place)
 
--- parameters in strict order stand once
+-- parameters in strict order are distinct
 pub stand_once : (sorted : Params) (params : List Param) → HoldsParams sorted params → StandOnce params
 stand_once sorted params h =
     recursion_from_All (λ (q : Param). length (params_named q.name params) ≡ 1) params (λ k d within. once (get_or params k d) (All-contains_itself params k d within))

@@ -1,4 +1,4 @@
--- Names joined by `;`, and that a text joins one list of them.
+-- Names joined by `;`: a text joins at most one list of names.
 use Rattle.std.proofs.Common.{◌≡◌, ℕ, ◌<◌, false, eqb, List, [], ◌∷◌, length, refl, sym, ap, ◌∙◌, arith, All}
 use Rattle.std.specs.Prelude.{IsTrue}
 use Rattle.std.specs.List.{list_all, slice_split, AllByRecursion}
@@ -18,6 +18,6 @@ names_are text names h =
     let some : 0 < length names = omega (arith, h.host.1) in
     sym (ap (slice_split (λ b. eqb b 59)) h.joined ∙ split_joined 59 names some (lack_semicolons names h.forms))
 
--- a text joins one list of names at most
+-- a text joins at most one list of names
 pub names_once : (text : List ℕ) (names others : List (List ℕ)) → AreSignedNames text names → AreSignedNames text others → others ≡ names
 names_once text names others h k = names_are text others k ∙ sym (names_are text names h)

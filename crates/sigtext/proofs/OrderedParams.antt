@@ -1,4 +1,4 @@
--- The parameters that raw names and values spell, and what follows from the order of their encoded names.
+-- The parameters that raw names and values spell, and consequences of the order of their encoded names.
 use Rattle.std.proofs.Common.{◌≡◌, ℕ, zero, suc, ◌+◌, ◌<◌, Bool, true, false, List, [], ◌∷◌, ◌++◌, length, get_or, refl, sym, ap, subst, ◌∙◌, arith, All, map}
 use Rattle.std.specs.Borrow.{Bor}
 use Rattle.std.specs.Prelude.{Option, Some, IsPermutation}
@@ -26,7 +26,7 @@ use Rattle.sigtext.proofs.Targets.{decoded}
 
 -- ---- what raw names and values spell
 
--- the text of the name in canonical form
+-- the encoded name
 abbrev pub encoded_name : RawParam → List ℕ
 encoded_name raw = uri_encoded Encoded (percent_decode raw.name.now)
 
@@ -64,9 +64,9 @@ spell_push [] (q ∷ params) raw p s w = absurd s
 spell_push (r ∷ raws) [] raw p s w = absurd s
 spell_push (r ∷ raws) (q ∷ params) raw p s w = (s.0, spell_push raws params raw p s.1 w)
 
--- ---- the pieces of a query, one after another
+-- ---- the pieces of a query in order
 
--- the raw names and values so far spell the first parameters, and what is left the others
+-- the raw names and values so far spell the first parameters, and the rest spells the others
 pub record SplitsParams (raws : List RawParam) (left : Option (Bor (List ℕ))) (params : List Param) : Type 0 where
   pub front : List Param
   pub rest : List Param
@@ -88,7 +88,7 @@ split_more before after raws raw params g s =
 
 -- ---- neighbours
 
--- none is below the one before it
+-- none is less than its predecessor
 abbrev pub NeverFall : List RawParam → Type 0
 NeverFall raws = (k : ℕ) (d : RawParam) → suc k < length raws → is_lt (bytes_cmp (encoded_name (get_or raws (suc k) d)) (encoded_name (get_or raws k d))) ≡ false
 
@@ -111,7 +111,7 @@ one_not_below (x ∷ []) k d within h = absurd (omega arith)
 one_not_below (x ∷ y ∷ raws) zero d within h = sym (and_left _ _ (sym h))
 one_not_below (x ∷ y ∷ raws) (suc k) d within h = sym (and_right _ _ (sym (one_not_below (y ∷ raws) k d (omega arith) h)))
 
--- what a test of all neighbours answered
+-- the answer of a test of all neighbours
 pub tested_neighbours : (raws : List RawParam) (r : Bool) → IsAllAdjacentAnswer (λ x y b. b ≡ is_lt (bytes_cmp (encoded_name x) (encoded_name y))) raws r → r ≡ ascends (map encoded_name raws)
 tested_neighbours raws true h = each_below raws (λ k d within. let next : k + 1 ≡ suc k = omega arith in subst (λ n. true ≡ is_lt (bytes_cmp (encoded_name (get_or raws k d)) (encoded_name (get_or raws n d)))) next (h k d (omega arith)))
 tested_neighbours [] false h = absurd (omega (arith, h.1))

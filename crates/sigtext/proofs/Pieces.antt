@@ -1,4 +1,4 @@
--- The pieces of a query, one after another, and the raw name and value of each.
+-- The pieces of a query in order, and the raw name and value of each.
 use Rattle.std.proofs.Common.{◌≡◌, ◌≢◌, ℕ, ◌<◌, true, false, eqb, List, [], ◌∷◌, ◌++◌, length, Option, Some, None, refl, sym, ap, subst, ◌∙◌, inl, inr, ⊎_elim, arith, All}
 use Rattle.std.specs.Prelude.{unwrap_or, MatchOption, ◌↔◌}
 use Rattle.std.specs.Borrow.{Bor}

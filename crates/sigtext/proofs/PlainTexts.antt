@@ -9,7 +9,7 @@ use Rattle.sigtext.specs.declared.encode.Slash.TheVariants.{Encoded}
 use Rattle.sigtext.specs.Spelling.{may_stand, raw, escaped, Spells}
 use Rattle.sigtext.specs.UriEncode.{stays, encoded_byte, uri_encoded}
 
--- a text of bytes that may stand spells itself
+-- a text of bytes that may stand for themselves spells itself
 pub spells_plain : (barred text : List ℕ) → IsTrue (list_all (may_stand barred) text) → Spells barred text text
 spells_plain barred [] h = refl
 spells_plain barred (b ∷ text) h =
@@ -25,7 +25,7 @@ spells_append barred a b (c ∷ x) y (piece, rest, is, spells, later) t =
 pub spells_slash : (barred : List ℕ) → Spells barred (codes "%2F") (codes "/")
 spells_slash barred = (codes "%2F", [], refl, escaped 50 70 refl refl, refl)
 
--- a text of bytes that stay is its own encoding
+-- a text of bytes that are kept is its own encoding
 pub encoded_plain : (slash : Slash) (text : List ℕ) → IsTrue (list_all (stays slash) text) → uri_encoded slash text ≡ text
 unfolding uri_encoded
 encoded_plain slash [] h = refl

@@ -1,5 +1,5 @@
 -- The example request of the Amazon S3 API Reference ("Authenticating Requests: Using Query Parameters"):
--- its target's reading, and its canonical request.
+-- its parsed target, and its canonical request.
 use Rattle.std.proofs.Common.{ℕ, List, [], ◌∷◌, codes, refl}
 use Rattle.sigtext.specs.Target.{Param, IsTargetOf}
 use Rattle.sigtext.specs.UriEncode.{uri_encoded}

@@ -1,4 +1,4 @@
--- A canonical query is the text of one list of parameters, and holds no line feed.
+-- A canonical query is the text of only one list of parameters, and contains no line feed.
 use Rattle.std.proofs.Common.{◌≡◌, ℕ, false, eqb, List, [], ◌∷◌, ◌++◌, map, Some, refl, sym, ap, ◌∙◌, All, arith}
 use Rattle.std.specs.Prelude.{IsTrue}
 use Rattle.std.specs.List.{AllByRecursion, slice_split, join_with_byte}
@@ -19,7 +19,7 @@ use Rattle.sigtext.proofs.SpellingLemmas.{spelled_from}
 
 -- ---- encoded texts
 
--- an encoded text encodes one list of bytes
+-- an encoded text encodes only one list of bytes
 encoded_once : (slash : Slash) (barred xs ys : List ℕ) → ((b : ℕ) → IsTrue (stays slash b) → IsTrue (may_stand barred b)) → AreBytes xs → AreBytes ys
     → uri_encoded slash xs ≡ uri_encoded slash ys → xs ≡ ys
 encoded_once slash barred xs ys stand small_x small_y e =
@@ -98,7 +98,7 @@ query_lacks ps h = joined_lacks 38 10 (map param_text ps) refl (texts_lack 10 ps
 pieces : (p : Param) (ps : List Param) → AllByRecursion IsPlainParam (p ∷ ps) → slice_split (λ x. eqb x 38) (query (p ∷ ps)) ≡ map param_text (p ∷ ps)
 pieces p ps h = split_joined 38 (map param_text (p ∷ ps)) (omega arith) (texts_lack 38 (p ∷ ps) name_ampersand refl h)
 
--- a parameter's text holds `=`, so that no parameter has an empty one
+-- a parameter's text contains `=`, so it is not empty
 begun : (front rest : List ℕ) (b : ℕ) → [] ≡ front ++ b ∷ rest → ⊥
 begun [] rest b e = cc
 begun (x ∷ front) rest b e = cc

@@ -25,7 +25,7 @@ spelled barred (b ∷ high ∷ low ∷ rest) =
     then option_map (λ bytes. (16 * digit_value high + digit_value low) ∷ bytes) (spelled barred rest)
     else stand barred b (spelled barred (high ∷ low ∷ rest))
 
--- the text before the first byte c, and the text behind it
+-- the text before the first byte c, and the text after it
 unfoldable pub cut : ℕ → List ℕ → Option (List ℕ × List ℕ)
 cut c [] = None
 cut c (x ∷ xs) = if x == c then Some ([], xs) else option_map (λ p. (x ∷ p.0, p.1)) (cut c xs)

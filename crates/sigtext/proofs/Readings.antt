@@ -1,4 +1,4 @@
--- Decoding finds what a target spells, and a target spells nothing else.
+-- Decoding finds what a target spells, and the target spells nothing else.
 use Rattle.std.proofs.Common.{◌≡◌, ℕ, ◌<◌, true, false, eqb, List, [], ◌∷◌, ◌++◌, length, Option, Some, None, refl, sym, ap, subst, ◌∙◌, inl, inr, ⊎_elim, arith, All}
 use Rattle.std.specs.Prelude.{is_some, unwrap_or, ◌⊎◌, ⊤}
 use Rattle.std.specs.List.{AllByRecursion, slice_split}

@@ -1,4 +1,4 @@
--- Requests of one canonical text: each part ends at the first line feed after it, and is the text of one value.
+-- Requests with the same canonical text: each part ends at the next line feed, and is the text of only one value.
 use Rattle.std.proofs.Common.{◌≡◌, ◌≢◌, ℕ, false, eqb, List, [], ◌∷◌, ◌++◌, codes, refl, sym, ap, ◌∙◌, subst, append_assoc, All, arith}
 use Rattle.std.specs.Prelude.{IsPermutation}
 use Rattle.std.specs.List.{list_all, AllByRecursion}
@@ -50,7 +50,7 @@ headers_once (h ∷ hs) (k ∷ ks) last other p q e =
 
 -- ---- the whole text
 
--- what a method, a path and a query are followed by
+-- the text after the method, the path and the query
 abbrev behind : List Header → List ℕ
 behind headers = canonical_headers headers ++ 10 ∷ (signed_headers headers ++ 10 ∷ codes "UNSIGNED-PAYLOAD")
 

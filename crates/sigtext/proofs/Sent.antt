@@ -4,17 +4,17 @@ use Rattle.std.specs.Prelude.{OnErr}
 use Rattle.std.proofs.lemmas.List.{append-nil}
 use Rattle.sigtext.specs.Sinks.{TakesBeginning}
 
--- of the whole text the sink took all but this rest
+-- the sink took the whole text except this rest
 pub record Sent {S : Type 0} (takes : S → List ℕ → S → Type 0) (old : S) (whole rest : List ℕ) (new : S) : Type 0 where
   pub front : List ℕ
   pub joined : whole ≡ front ++ rest
   pub taken : takes old front new
 
--- one text and then another are the joined text
+-- taking one text and then another is taking both, joined
 abbrev pub Joins : {S : Type 0} → (S → List ℕ → S → Type 0) → Type 0
 Joins {S} takes = (s t u : S) (a b : List ℕ) → takes s a t → takes t b u → takes s (a ++ b) u
 
--- what holds at an error
+-- the state after an error
 pub at_error : {T E P : Type 0} (r : Result T E) → P → OnErr r P
 at_error (Ok x) h = tt
 at_error (Err e) h = h
@@ -23,7 +23,7 @@ module _ {S : Type 0} {takes : S → List ℕ → S → Type 0} where
   pub sent_nothing : {old : S} {whole rest : List ℕ} → whole ≡ rest → takes old [] old → Sent takes old whole rest old
   sent_nothing is h = record { front = []; joined = is; taken = h }
 
-  -- one step more
+  -- one more step
   pub sent_more : {old mid new : S} {whole rest piece later : List ℕ} → Joins takes → Sent takes old whole rest mid → rest ≡ piece ++ later → takes mid piece new
       → Sent takes old whole later new
   sent_more {old} {mid} {new} {piece = piece} {later = later} joins s is h = record {
@@ -45,7 +45,7 @@ module _ {S : Type 0} {takes : S → List ℕ → S → Type 0} where
   pub sent_last : {old mid new : S} {whole rest : List ℕ} → Joins takes → Sent takes old whole rest mid → takes mid rest new → takes old whole new
   sent_last {rest = rest} joins s h = sent_all (sent_more joins s (sym (append-nil rest)) h) refl
 
-  -- a step that took a beginning of its piece
+  -- a step that took a prefix of its piece
   pub sent_part : {old mid new : S} {whole rest piece : List ℕ} (later : List ℕ) → Joins takes → Sent takes old whole rest mid → rest ≡ piece ++ later
       → TakesBeginning takes mid piece new → TakesBeginning takes old whole new
   sent_part {old} {mid} {new} later joins s is h =
@@ -60,7 +60,7 @@ module _ {S : Type 0} {takes : S → List ℕ → S → Type 0} where
         taken = joins old mid new s.front h.front s.taken h.taken;
       }
 
-  -- the last step, of which a beginning was taken
+  -- the last step, which took a prefix of its piece
   pub sent_last_part : {old mid new : S} {whole rest : List ℕ} → Joins takes → Sent takes old whole rest mid → TakesBeginning takes mid rest new → TakesBeginning takes old whole new
   sent_last_part {rest = rest} joins s h = sent_part [] joins s (sym (append-nil rest)) h
 

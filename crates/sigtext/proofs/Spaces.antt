@@ -1,4 +1,4 @@
--- Two spaces side by side.
+-- Two adjacent spaces.
 use Rattle.std.proofs.Common.{◌≢◌, ℕ, ◌+◌, List, [], ◌∷◌, ◌++◌, take, drop, Option, None, Some, refl}
 use Rattle.std.specs.Prelude.{IsFalse, ◌↔◌, is_some}
 use Rattle.memchr.specs.Find.{FindsNeedle}

@@ -9,7 +9,7 @@ use Rattle.sigtext.specs.Spelling.{may_stand, SpellsByte, raw, escaped, Spells}
 use Rattle.sigtext.specs.Targets.{begins_with_escape}
 use Rattle.sigtext.proofs.Reading.{stand, spelled}
 
--- a byte that may stand is no `%`
+-- a byte that may stand for itself is not `%`
 pub no_escape : (barred : List ℕ) (b high low : ℕ) → may_stand barred b ≡ true → is_escape b high low ≡ false
 no_escape barred b high low h = grind (arith, nat_tests)
 

@@ -1,4 +1,4 @@
--- What the code of targets finds, and what targets spell.
+-- What the code finds in a target, and what targets spell.
 use Rattle.std.proofs.Common.{◌≡◌, ℕ, ◌+◌, ◌*◌, ◌<◌, true, false, eqb, List, [], ◌∷◌, ◌++◌, length, get_or, drop, Option, Some, None, refl, sym, ap, subst, ◌∙◌, inl, inr, arith}
 use Rattle.std.specs.Prelude.{is_some, option_map, MatchOption, ◌↔◌, ◌⊎◌}
 use Rattle.std.specs.Borrow.{Bor}
@@ -58,7 +58,7 @@ decoded_byte : (barred piece rest : List ℕ) (b : ℕ) → SpellsByte barred pi
 decoded_byte barred piece rest b (raw x h) = decoded_raw barred x rest h
 decoded_byte barred piece rest b (escaped high low h l) = decoded_escape high low rest h l
 
--- what a text spells is its decoding
+-- a text spells its decoded bytes
 pub decoded : (barred text bytes : List ℕ) → Spells barred text bytes → percent_decode text ≡ bytes
 unfolding percent_decode
 decoded barred text [] s = ap percent_decode s
@@ -100,7 +100,7 @@ reading_from t text path params w is =
       query_spelled = spelled_query_of t.query params (sym (ap (λ (r : List ℕ × Option (List ℕ)). optional_query r.1) parts) ∙ f.1);
     }
 
--- a text whose raw path and query spell something has this one reading
+-- a text whose raw path and query spell something has only this parse
 pub read_from : (t : Target) (text path : List ℕ) (params : List Param) → IsWrittenAs t text → BeginsWithSlash text
     → Spells (63 ∷ []) t.path.now path → SpellsOptionalQuery t.query params → IsReadFrom text t
 read_from t text path params w slash s q =

@@ -21,20 +21,20 @@ decodes_to_itself (b ∷ text) none =
     let parts = or_parts (nat_eq b 37) (list_any (λ c. nat_eq c 37) text) none in
     percent_decode_not_percent b text (eqb-false b 37 parts.0) ∙ ap (λ (t : List ℕ). b ∷ t) (decodes_to_itself text parts.1)
 
--- so does a text that a search for `%` runs through
+-- so does a text in which a search for `%` finds nothing
 pub searched_through : (text : List ℕ) → Nowhere (Passes (is_byte 37) text) 0 (length text) → percent_decode text ≡ text
 searched_through text none =
     let each = All-from_get_or (λ b. nat_eq b 37 ≡ false) text 0 (λ i within. false_from_ne_true (nat_eq (get_or text i 0) 37) (none i (omega arith) within)) in
     decodes_to_itself text (list_any_none (λ b. nat_eq b 37) text each)
 
--- a text of bytes that stay decodes to itself
+-- a text of bytes that are kept decodes to itself
 stays_decoded : (text : List ℕ) → IsTrue (list_all (stays Encoded) text) → percent_decode text ≡ text
 stays_decoded [] all = percent_decode-nil
 stays_decoded (b ∷ text) all =
     let parts = and_parts (stays Encoded b) (list_all (stays Encoded) text) all in
     percent_decode_not_percent b text (λ e. false≢true (subst (λ c. stays Encoded c ≡ true) e parts.0)) ∙ ap (λ (t : List ℕ). b ∷ t) (stays_decoded text parts.1)
 
--- where no byte is to be escaped, all stay
+-- if no byte is escaped, all are kept
 all_stay : (set : AsciiSet) → EscapesTheRest Encoded set → (text : List ℕ) → All (λ b. b < 256) text → list_any (should_percent_encode set) text ≡ false
     → IsTrue (list_all (stays Encoded) text)
 unfolding EscapesTheRest
@@ -44,7 +44,7 @@ all_stay set escapes (b ∷ text) small none =
     let one = not-false (stays Encoded b) (sym (escapes b (All-head (λ c. c < 256) b text small)) ∙ parts.0) in
     ap (λ (x : Bool). x && list_all (stays Encoded) text) one ∙ all_stay set escapes text (All-tail (λ c. c < 256) b text small) parts.1
 
--- then it is its own encoding once it is decoded
+-- then decoding and encoding give it back
 pub recoded_plain : (set : AsciiSet) → EscapesTheRest Encoded set → (text : List ℕ) → All (λ b. b < 256) text → list_any (should_percent_encode set) text ≡ false
     → uri_encoded Encoded (percent_decode text) ≡ text
 recoded_plain set escapes text small none =

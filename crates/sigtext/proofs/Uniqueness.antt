@@ -1,4 +1,4 @@
--- A target has one reading, a request one canonical text, and names one list of signed values.
+-- A target has at most one parse, a request one canonical text, and a list of names one list of signed values.
 use Rattle.std.proofs.Common.{◌≡◌, ℕ, List, [], ◌∷◌, ap, sym, ◌∙◌, refl}
 use Rattle.std.specs.List.{join_with_byte}
 use Rattle.std.specs.Prelude.{map}

@@ -1,4 +1,4 @@
--- The signed values of names, one after another, the fields that they cover, and the rules of both.
+-- The signed values of names in order, the fields that they cover, and the rules on both.
 use Rattle.std.proofs.Common.{◌≡◌, lit<, ℕ, zero, suc, ◌+◌, ◌<◌, ◌≤◌, Bool, true, false, not, eqb, List, [], ◌∷◌, ◌++◌, length, map, take, get_or, refl, sym, ap, subst, ◌∙◌, arith, All}
 use Rattle.std.specs.Prelude.{◌||◌, IsTrue}
 use Rattle.std.specs.List.{list_all, list_any, slice_split, AllByRecursion}
@@ -47,7 +47,7 @@ pub of_pieces : (text : List ℕ) (names : List (List ℕ)) (headers signed : Li
     → ValueRule headers names rule.SignedValues signed → ValueRule headers (map lower_case (slice_split (λ b. eqb b 59) text)) rule.SignedValues signed
 of_pieces text names headers signed h values = subst (λ (ns : List (List ℕ)). ValueRule headers ns rule.SignedValues signed) (sym (lower_names text names h)) values
 
--- the one field of a lower-case name has that name
+-- the only field with a lower-case name has that name
 pub has_the_name : (name : List ℕ) (headers : List Header) (h : Header) → named name headers ≡ h ∷ [] → lower_case h.name ≡ name
 has_the_name name headers h is =
     let passes = subst (All (λ (x : Header). same_bytes (lower_case x.name) name ≡ true)) is (filter_passes (λ x. same_bytes (lower_case x.name) name) headers) in
@@ -66,7 +66,7 @@ fit_more : (signed : List Header) (s : Header) → AllByRecursion (λ t. IsFitVa
 fit_more [] s all fit = (fit, tt)
 fit_more (t ∷ signed) s all fit = (all.0, fit_more signed s all.1 fit)
 
--- a loop's step over the pieces, of which n have come: the next one has the value of this field
+-- a step of the loop after n pieces: the next piece has the value of this field
 pub goes_on : (headers : List Header) (pieces : List (List ℕ)) (n next : ℕ) (name : List ℕ) (values others : List Field) (f : Field)
     → (n < length pieces) × (name ≡ get_or pieces n name) → ValueRule headers (map lower_case (take n pieces)) rule.SignedValues (map signed_header values)
     → (lower_case f.name.now ≡ lower_case name) × IsSignedValue headers (lower_case name) f.value.now × IsFitValue f.value.now
@@ -91,7 +91,7 @@ value_at headers (name ∷ names) [] k d all fit within = absurd all
 value_at headers (name ∷ names) (s ∷ signed) zero d all fit within = (s.value, all.1, fit.0)
 value_at headers (name ∷ names) (s ∷ signed) (suc k) d all fit within = value_at headers names signed k d all.2 fit.1 (omega (arith, within))
 
--- the next piece has no fit value: then the names have none
+-- the next piece has no value that may be signed; then the names lack one
 pub stops : (headers : List Header) (pieces : List (List ℕ)) (n : ℕ) (name : List ℕ) → (n < length pieces) × (name ≡ get_or pieces n name)
     → ((value : List ℕ) → IsSignedValue headers (lower_case name) value → IsFitValue value → ⊥)
     → (signed : List Header) → ValueRule headers (map lower_case pieces) rule.SignedValues signed → ⊥
@@ -101,7 +101,7 @@ stops headers pieces n name turn none signed all =
     let is = get_or-map lower_case pieces n name (lower_case name) turn.0 ∙ ap lower_case (sym turn.1) in
     none there.0 (subst (λ (x : List ℕ). IsSignedValue headers x there.0) is there.1) there.2
 
--- all pieces have come
+-- after all pieces
 pub all_came : (headers : List Header) (pieces : List (List ℕ)) (n : ℕ) (signed : List Header) → length pieces ≤ n
     → ValueRule headers (map lower_case (take n pieces)) rule.SignedValues signed → ValueRule headers (map lower_case pieces) rule.SignedValues signed
 all_came headers pieces n signed past all =
@@ -150,6 +150,6 @@ pub any_signed : (name : List ℕ) (signed : List Field)
 any_signed name [] = refl
 any_signed name (f ∷ signed) = cc (any_signed name signed)
 
--- a name that begins with the prefix is to be signed
+-- a name that begins with the prefix must be signed
 pub counted : (begins r any : Bool) → begins ≡ true → r ≡ any → r ≡ (not begins || any)
 counted begins r any is e = e ∙ sym (ap (λ (b : Bool). not b || any) is)

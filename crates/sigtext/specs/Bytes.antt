@@ -9,7 +9,7 @@ use Rattle.std.specs.Cmp.Lexicographic.{slice_cmp, pointwise}
 abbrev pub AreBytes : List ℕ → Type 0
 AreBytes bytes = AllByRecursion (λ b. b < 256) bytes
 
--- 1 to n bytes, each of which passes the test
+-- 1 to n bytes, and each passes the test
 pub record IsWord (test : ℕ → Bool) (n : ℕ) (text : List ℕ) : Type 0 where
   pub some : 0 < length text
   pub short : length text ≤ n
@@ -19,7 +19,7 @@ pub record IsWord (test : ℕ → Bool) (n : ℕ) (text : List ℕ) : Type 0 whe
 abbrev pub is_visible : ℕ → Bool
 is_visible b = nat_le 0x21 b && nat_le b 0x7E
 
--- a beginning of the text
+-- a prefix of the text
 pub record IsBeginning (front text : List ℕ) : Type 0 where
   pub rest : List ℕ
   pub joined : text ≡ front ++ rest
@@ -32,6 +32,6 @@ same_bytes a b = pointwise nat_eq a b
 abbrev pub begins_with : List ℕ → List ℕ → Bool
 begins_with text front = starts_with nat_eq text front
 
--- the order of texts by their bytes, a beginning of a text before the text
+-- the lexicographic order by bytes
 abbrev pub bytes_cmp : List ℕ → List ℕ → Ordering
 bytes_cmp a b = slice_cmp nat_cmp a b

@@ -8,7 +8,7 @@ use Rattle.sigtext.specs.Bytes.{same_bytes, bytes_cmp}
 use Rattle.sigtext.specs.UriEncode.{uri_encoded}
 use Rattle.sigtext.specs.Target.{Param}
 
--- the parameters that are signed: all but the signature itself
+-- the signed parameters: all but the signature itself
 abbrev pub signed_params : List Param → List Param
 signed_params params = filter (λ p. not (same_bytes p.name (codes "X-Amz-Signature"))) params
 
@@ -16,7 +16,7 @@ signed_params params = filter (λ p. not (same_bytes p.name (codes "X-Amz-Signat
 abbrev pub param_text : Param → List ℕ
 param_text p = uri_encoded Encoded p.name ++ 61 ∷ uri_encoded Encoded p.value
 
--- each text is below the next one
+-- each text is less than the next
 abbrev pub ascends : List (List ℕ) → Bool
 ascends [] = true
 ascends (x ∷ []) = true
@@ -26,7 +26,7 @@ ascends (x ∷ y ∷ ys) = is_lt (bytes_cmp x y) && ascends (y ∷ ys)
 abbrev pub Ascend : List Param → Type 0
 Ascend params = IsTrue (ascends (map (λ p. uri_encoded Encoded p.name) params))
 
--- the text of the one rearrangement of the signed parameters whose encoded names ascend strictly
+-- the text of the signed parameters, rearranged so that their encoded names ascend strictly
 pub record IsCanonicalQuery (params : List Param) (text : List ℕ) : Type 0 where
   pub ordered : List Param
   pub rearranged : IsPermutation (signed_params params) ordered

@@ -1,4 +1,4 @@
--- What raw texts decode to.
+-- Decoded texts.
 use Rattle.percent_encoding.specs.Percent.{percent_decode}
 use Rattle.sigtext.specs.Target.{Param}
 use Rattle.sigtext.specs.declared.target.RawParam.{RawParam}

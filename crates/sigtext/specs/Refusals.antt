@@ -1,6 +1,5 @@
--- The refusals: for each rule the number, the status of the answer (RFC 9110, section 15), the word and
--- the text of its body. The words are those of the Amazon S3 API Reference, "Error Responses", where
--- it has one.
+-- The refusals: for each rule its number, the status of the answer (RFC 9110, section 15), and the error code and text of
+-- the body. The error codes are those of the Amazon S3 API Reference, "Error Responses", where it has one.
 use Rattle.std.specs.Prelude.{ℕ, List, codes}
 use Rattle.sigtext.specs.declared.refusal.Refusal.{Refusal}
 use Rattle.sigtext.specs.declared.refusal.Refusal.TheVariants.{HeadMalformed, HeadTooLong, TransferCoding, LengthMalformed, BodyTooLarge, BodyIncomplete, Method, Target, NotSigned, Parameters, Algorithm, Credential, Date, Expiry, SignedHeaders, SignatureText, SignedValues, HeaderNotSigned, KeyUnknown, KeyRevoked, SignatureMismatch, NotYetValid, Expired, RoleNotAllowed, LengthMissing, BodyNotTaken, NoSuchBox, NameTooLong, NameNotAllowed, BoxClosed, OtherBytesKept, TooManyFiles, QuotaPassed, NoSuchFile, CommandMalformed, CommandNotPossible, TryAgain}

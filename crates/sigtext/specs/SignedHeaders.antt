@@ -1,4 +1,4 @@
--- The signed headers: which values are signed, and the two texts that are made of them (Amazon S3 API
+-- The signed headers: their values, and the two texts that the canonical request has of them (Amazon S3 API
 -- Reference, "Authenticating Requests: Using Query Parameters", task 1).
 use Rattle.std.specs.Prelude.{◌≡◌, ℕ, List, [], ◌∷◌, ◌++◌, Bool, ◌||◌, ◌==◌, if◌then◌else◌, map, filter, reverse, ⊤}
 use Rattle.std.specs.List.{join_with_byte, flat_map}
@@ -18,7 +18,7 @@ abbrev pub without_leading_blanks : List ℕ → List ℕ
 without_leading_blanks [] = []
 without_leading_blanks (b ∷ bytes) = if is_blank b then without_leading_blanks bytes else b ∷ bytes
 
--- without the spaces and tabs at both ends
+-- the value without leading and trailing spaces and tabs
 unfoldable pub trimmed : List ℕ → List ℕ
 trimmed bytes = reverse (without_leading_blanks (reverse (without_leading_blanks bytes)))
 
@@ -26,11 +26,11 @@ trimmed bytes = reverse (without_leading_blanks (reverse (without_leading_blanks
 abbrev pub lower_case : List ℕ → List ℕ
 lower_case name = map to_ascii_lowercase name
 
--- the fields whose name is this lower-case one, ASCII case aside
+-- the fields with this lower-case name; ASCII case is ignored
 abbrev pub named : List ℕ → List Header → List Header
 named name headers = filter (λ h. same_bytes (lower_case h.name) name) headers
 
--- one field alone has this name, and its trimmed value is this one
+-- exactly one field has this name, and its trimmed value is this one
 abbrev pub IsSignedValue : List Header → List ℕ → List ℕ → Type 0
 IsSignedValue headers name value =
     (h : Header) × (named name headers ≡ h ∷ []) × (value ≡ trimmed h.value)
@@ -43,10 +43,10 @@ AreSignedValues headers (name ∷ names) (s ∷ signed) =
 AreSignedValues headers [] (s ∷ signed) = ⊥
 AreSignedValues headers (name ∷ names) [] = ⊥
 
--- canonical headers: `name:value` and a line feed for each
+-- the canonical headers: `name:value` and a line feed for each
 abbrev pub canonical_headers : List Header → List ℕ
 canonical_headers signed = flat_map (λ s. s.name ++ 58 ∷ s.value ++ 10 ∷ []) signed
 
--- signed headers: the names joined by `;`
+-- the signed headers: the names, joined by `;`
 abbrev pub signed_headers : List Header → List ℕ
 signed_headers signed = join_with_byte 59 (map (λ s. s.name) signed)

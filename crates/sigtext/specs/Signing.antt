@@ -1,4 +1,4 @@
--- What the types of a request's signed parts mean.
+-- What the code's types for the signed parts of a request mean.
 use Rattle.std.specs.Prelude.{◌≡◌, List, [], ◌∷◌, map, IsPermutation, ⊤}
 use Rattle.sigtext.specs.Spelling.{Spells}
 use Rattle.sigtext.specs.Target.{Param}
@@ -12,14 +12,14 @@ use Rattle.sigtext.specs.declared.params.Params.{Params}
 use Rattle.sigtext.specs.declared.values.Values.{Values}
 use Rattle.sigtext.specs.declared.canonical.Parts.{Parts}
 
--- the raw names and values spell these parameters, each the one at its place
+-- each raw name and value spells the parameter at the same place
 abbrev pub SpellRawParams : List RawParam → List Param → Type 0
 SpellRawParams [] [] = ⊤
 SpellRawParams (raw ∷ raws) (p ∷ params) = SpellRawParam raw p × SpellRawParams raws params
 SpellRawParams [] (p ∷ params) = ⊥
 SpellRawParams (raw ∷ raws) [] = ⊥
 
--- the sorted raw parameters spell these, in the one order in which the encoded names ascend strictly
+-- the sorted raw parameters spell these parameters, in the order in which the encoded names ascend strictly
 pub record HoldsParams (sorted : Params) (params : List Param) : Type 0 where
   pub ordered : List Param
   pub rearranged : IsPermutation params ordered
@@ -34,7 +34,7 @@ signed_header f = record { name = lower_case f.name.now; value = f.value.now }
 abbrev pub values_of : Values → List Header
 values_of values = map signed_header values.fields.items
 
--- the parts are those of what is signed
+-- the parts of the code are these signed parts
 pub record AreOf (parts : Parts) (signed : Signed) : Type 0 where
   pub method : signed.method ≡ parts.method.now
   pub path : Spells (63 ∷ []) parts.target.path.now signed.path

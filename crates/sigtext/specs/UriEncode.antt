@@ -1,5 +1,5 @@
 -- UriEncode (Amazon S3 API Reference, "Authenticating Requests: Using Query Parameters (AWS
--- Signature Version 4)"): one fixed text for each byte.
+-- Signature Version 4)"): each byte has one text.
 use Rattle.std.specs.Prelude.{ℕ, ◌/◌, ◌%◌, ◌<◌, ◌≡◌, Bool, true, not, ◌||◌, ◌==◌, List, [], ◌∷◌, if◌then◌else◌}
 use Rattle.std.specs.List.{flat_map}
 use Rattle.std.specs.Char.{is_ascii_alphanumeric}
@@ -13,7 +13,7 @@ use Rattle.sigtext.specs.declared.encode.Slash.TheVariants.{Kept, Encoded}
 abbrev pub is_unreserved : ℕ → Bool
 is_unreserved b = is_ascii_alphanumeric b || (b == 45 || b == 46 || b == 95 || b == 126)
 
--- a byte that stays as it is; `/` is one where the slash is kept
+-- a byte that is kept; `/` is one if slashes are kept
 abbrev pub stays : Slash → ℕ → Bool
 stays Kept b = is_unreserved b || b == 47
 stays Encoded b = is_unreserved b
@@ -29,6 +29,6 @@ encoded_byte slash b = if stays slash b then b ∷ [] else escape b
 unfoldable pub uri_encoded : Slash → List ℕ → List ℕ
 uri_encoded slash bytes = flat_map (encoded_byte slash) bytes
 
--- of the bytes, the set escapes those that do not stay
+-- the set escapes exactly the bytes that are not kept
 unfoldable pub EscapesTheRest : Slash → AsciiSet → Type 0
 EscapesTheRest slash set = (b : ℕ) → b < 256 → should_percent_encode set b ≡ not (stays slash b)

@@ -22,21 +22,21 @@ use crate::target::{RawParam, Target};
 use crate::values::Values;
 use std::alloc::AllocError;
 
-/// What of a request its signature covers.
+/// The parts of a request that its signature covers.
 #[derive(Drop)]
 pub struct Parts<'a> {
-    /// The method, as the request has it.
+    /// The method, as it stands in the request.
     pub method: &'a [u8],
-    /// The target, whose path is signed.
+    /// The target; its path is signed.
     pub target: Target<'a>,
-    /// The target's parameters. The signature is one of them, and is not signed.
+    /// The target's parameters. All but the signature are signed.
     pub params: Params<'a>,
     /// The signed headers.
     pub values: Values<'a>,
 }
 
-/// Sends the canonical request to the sink. An error is the sink's, and leaves a beginning of the text
-/// in it. No memory is taken but the sink's, and the time is linear.
+/// Sends the canonical request to the sink. An error comes from the sink, which then holds a prefix of the text. Only the
+/// sink takes memory, and the time is linear.
 pub fn canonical_into<S: ByteSink>(parts: &Parts<'_>, sink: &mut S) -> Result<(), AllocError>
     ensures ok { OnOk result ((signed : Signed) → AreOf parts.now signed
         → (text : List ℕ) × IsTheOnly (IsCanonicalRequest signed) text
@@ -59,8 +59,8 @@ pub fn canonical_into<S: ByteSink>(parts: &Parts<'_>, sink: &mut S) -> Result<()
 }
 
 impl Params<'_> {
-    /// Sends the canonical query: the encoded name, `=` and the encoded value of each parameter but the
-    /// signature, joined by `&`. An error is the sink's, and leaves a beginning of the text in it.
+    /// Sends the canonical query: the encoded name, `=` and the encoded value of each parameter except the signature,
+    /// joined by `&`. An error comes from the sink, which then holds a prefix of the text.
     pub fn query_into<S: ByteSink>(&self, sink: &mut S) -> Result<(), AllocError>
         ensures ok { OnOk result ((params : List Param) → HoldsParams self.now params
             → (query : List ℕ) × IsTheOnly (IsCanonicalQuery params) query
@@ -84,7 +84,7 @@ fn send_line<S: ByteSink>(text: &[u8], sink: &mut S) -> Result<(), AllocError>
     sink.take(b"\n")
 }
 
-// Sends the encoded form of the path that the raw one decodes to, with each `/` as it is, and a line feed.
+// Decodes the raw path, and sends it URI-encoded, with each `/` unchanged, and a line feed.
 fn send_path<S: ByteSink>(raw: &[u8], sink: &mut S) -> Result<(), AllocError>
     ensures ok { OnOk result
         (S.takes sink.old
@@ -98,7 +98,7 @@ fn send_path<S: ByteSink>(raw: &[u8], sink: &mut S) -> Result<(), AllocError>
     sink.take(b"\n")
 }
 
-// Whether the decoded name is that of the signature.
+// Whether the decoded name is `X-Amz-Signature`.
 fn is_signature(raw: &RawParam<'_>) -> bool
     ensures { result ≡ same_bytes (percent.percent_decode raw.now.name.now)
         (codes "X-Amz-Signature") }
@@ -118,7 +118,7 @@ fn send_param<S: ByteSink>(raw: &RawParam<'_>, sink: &mut S) -> Result<(), Alloc
     send_recoded(raw.value, Slash::Encoded, sink)
 }
 
-// Sends the parameters but the signature, joined by `&`.
+// Sends the parameters except the signature, joined by `&`.
 fn send_query<S: ByteSink>(items: &[RawParam<'_>], sink: &mut S) -> Result<(), AllocError>
     ensures ok { OnOk result
         (S.takes sink.old
@@ -157,7 +157,7 @@ fn send_header<S: ByteSink>(field: &Field<'_>, sink: &mut S) -> Result<(), Alloc
     send_line(field.value, sink)
 }
 
-// Sends the headers, one after another.
+// Sends the headers in order.
 fn send_headers<S: ByteSink>(fields: &[Field<'_>], sink: &mut S) -> Result<(), AllocError>
     ensures ok { OnOk result
         (S.takes sink.old (canonical_headers (map signed_header fields.now)) sink.new) }

@@ -1,4 +1,4 @@
-//! Texts of decimal digits, and the numbers that they write.
+//! Decimal digits and their numbers.
 ghost use Rattle.std.specs.Prelude.{◌≡◌, ◌↔◌, ◌≤◌, IsTrue, IfSome, IfNone};
 ghost use Rattle.std.specs.Char.{is_ascii_digit};
 ghost use Rattle.std.specs.Str.Parse.{digits_value};
@@ -20,8 +20,7 @@ pub fn are_digits(text: &[u8], most: usize) -> bool
     is_word(text, most, is_digit)
 }
 
-/// The number that 1 to `most` decimal digits write, zeros in front among them; `None` where the text has
-/// another form.
+/// Reads a number of 1 to `most` decimal digits. Leading zeros are allowed. `None` if the text has another form.
 pub fn read_digits(text: &[u8], most: usize) -> Option<u64>
     requires { most ≤ 19 }
     ensures form { IfSome result (λ n. IsWord is_ascii_digit most text.now) }

@@ -5,16 +5,16 @@ ghost use Rattle.sigtext.specs.UriEncode.{uri_encoded, EscapesTheRest};
 use percent_encoding::{AsciiSet, NON_ALPHANUMERIC, ascii_set, percent_encode};
 use std::alloc::AllocError;
 
-/// Whether a `/` is kept, as in the path, or encoded, as everywhere else.
+/// Whether `/` is kept, as in a path, or encoded, as everywhere else.
 #[derive(Clone, Copy, Debug, PartialEq, Eq)]
 pub enum Slash {
-    /// `/` stays as it is.
+    /// `/` is kept.
     Kept,
-    /// `/` is written `%2F`.
+    /// `/` becomes `%2F`.
     Encoded,
 }
 
-// The ASCII bytes that are escaped where `/` is encoded.
+// The ASCII bytes that are escaped if `/` is encoded.
 const ESCAPED: AsciiSet = ascii_set!(
     NON_ALPHANUMERIC
         .remove(b'-')
@@ -23,10 +23,10 @@ const ESCAPED: AsciiSet = ascii_set!(
         .remove(b'~')
 );
 
-// The ASCII bytes that are escaped where `/` is kept.
+// The ASCII bytes that are escaped if `/` is kept.
 const ESCAPED_BUT_SLASH: AsciiSet = ascii_set!(ESCAPED.remove(b'/'));
 
-// The bytes past ASCII are escaped always.
+// Bytes outside ASCII are always escaped.
 pub(crate) fn escaped(slash: Slash) -> AsciiSet
     ensures { EscapesTheRest slash result }
 {
@@ -36,8 +36,8 @@ pub(crate) fn escaped(slash: Slash) -> AsciiSet
     }
 }
 
-/// Appends the bytes in UriEncode's form: unreserved bytes as they are, each other one as `%` and two
-/// upper-case hexadecimal digits. An error, which is want of memory alone, leaves `out` as it was.
+/// Appends the bytes, URI-encoded: unreserved bytes unchanged, each other byte as `%` and two upper-case hexadecimal
+/// digits. The only error is a lack of memory. It leaves `out` unchanged.
 pub fn uri_encode(bytes: &[u8], slash: Slash, out: &mut Vec<u8>) -> Result<(), AllocError>
     ensures ok { OnOk result (out.new.items ≡ out.old.items ++ uri_encoded slash bytes.now) }
     ensures err { OnErr result (out.new.items ≡ out.old.items) }

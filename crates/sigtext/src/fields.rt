@@ -1,4 +1,4 @@
-//! Searches and tests of a request's fields: names in any case, and values that may be signed.
+//! Searches a request's fields by name, in any case, and tests values that may be signed.
 ghost use Rattle.std.specs.Prelude.{◌≡◌, ◌≢◌, ◌↔◌, ◌++◌, ◌∷◌, [], List, ℕ, map, reverse, codes, IsTrue, IsFalse, IfSome, IfNone, nat_le, ◌&&◌};
 ghost use Rattle.std.specs.List.{list_all};
 ghost use Rattle.sigtext.specs.Bytes.{same_bytes, begins_with};
@@ -9,21 +9,21 @@ ghost use Rattle.sigtext.specs.SignedValues.{IsFitValue};
 use crate::field::Field;
 use memchr::memmem;
 
-/// Whether the two names are one, ASCII case aside.
+/// Whether the two names are equal; ASCII case is ignored.
 pub(crate) fn is_same_name(a: &[u8], b: &[u8]) -> bool
     ensures { result ≡ same_bytes (lower_case a.now) (lower_case b.now) }
 {
     a.eq_ignore_ascii_case(b)
 }
 
-/// Whether the name begins with `x-amz-`, ASCII case aside.
+/// Whether the name begins with `x-amz-`; ASCII case is ignored.
 pub(crate) fn is_amz_name(name: &[u8]) -> bool
     ensures { result ≡ begins_with (lower_case name.now) (codes "x-amz-") }
 {
     name.len() >= 6 && name[..6].eq_ignore_ascii_case(b"x-amz-")
 }
 
-/// The one field of this name, ASCII case aside; `None` where there is none, or two.
+/// The only field with this name; ASCII case is ignored. `None` if no field or more than one has it.
 pub fn only_field<'a>(fields: &[Field<'a>], name: &[u8]) -> Option<Field<'a>>
     ensures some { IfSome result
         (λ f. named (lower_case name.now) (map header_of fields.now) ≡ header_of f ∷ []) }
@@ -69,7 +69,7 @@ fn without_blanks_behind(value: &[u8]) -> &[u8]
     &value[..end]
 }
 
-/// The value without the spaces and tabs at both ends.
+/// The value without leading and trailing spaces and tabs.
 pub fn trim_blanks(value: &[u8]) -> &[u8]
     ensures { result.now ≡ trimmed value.now }
 {
@@ -88,7 +88,7 @@ fn is_plain(value: &[u8]) -> bool
     value.iter().all(|byte| (0x20..=0x7E).contains(byte))
 }
 
-/// Whether the value may be signed: bytes 0x20 to 0x7E, and no two spaces side by side.
+/// Whether the value may be signed: its bytes are 0x20 to 0x7E, and no two spaces are adjacent.
 pub fn is_fit_value(value: &[u8]) -> bool
     ensures { IsTrue result ↔ IsFitValue value.now }
 {

@@ -1,4 +1,4 @@
-//! The texts of a presigned request: refusals, escapes, targets, and what is signed.
+//! The texts of a presigned request: refusals, escapes, targets, signed headers and the canonical request.
 #![tactic(auto)]
 
 pub mod canonical;

@@ -1,4 +1,4 @@
-//! The limits of a message, which are the office's own.
+//! The limits of a message. No standard sets them; the office does.
 
-/// The most bytes that a body may have, and so a file.
+/// The greatest length of a body, and so of a file, in bytes.
 pub const MOST_BODY: usize = 8_388_608;

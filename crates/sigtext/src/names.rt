@@ -7,15 +7,15 @@ ghost use Rattle.sigtext.specs.CanonicalQuery.{ascends};
 use crate::refusal::Refusal;
 use crate::words::is_word;
 
-/// The names of the signed headers: lower-case, strictly ascending, with `host` among them.
+/// The names of the signed headers: in lower case, strictly ascending, and with `host` among them.
 #[derive(Clone, Copy, Debug)]
 pub struct SignedNames<'a> {
     text: &'a [u8],
 }
 
 impl<'a> SignedNames<'a> {
-    /// Reads the names, which are joined by `;`. Each is 1 to 64 bytes of `a-z 0-9 - _ .`. Any other text
-    /// is refused with number 15. Nothing is copied, and the time is linear.
+    /// Reads names that are joined by `;`. Each is 1 to 64 bytes of `a-z 0-9 - _ .`. Any other text gets refusal 15.
+    /// Nothing is copied, and the time is linear.
     pub fn read(text: &'a [u8]) -> Result<SignedNames<'a>, Refusal>
         ensures ok { IfOk result
             (λ n. (n.text.now ≡ text.now)
@@ -31,7 +31,7 @@ impl<'a> SignedNames<'a> {
         }
     }
 
-    /// The text of the names: joined by `;`.
+    /// The names, joined by `;`.
     pub fn text(&self) -> &'a [u8]
         ensures { result.now ≡ self.now.text.now }
     {
@@ -52,14 +52,14 @@ pub fn is_header_name(text: &[u8]) -> bool
     is_word(text, 64, is_name_byte)
 }
 
-// Whether each piece of the text at `;` is a header name.
+// Whether each piece of the text, split at `;`, is a header name.
 fn has_form(text: &[u8]) -> bool
     ensures { IsTrue result ↔ AllByRecursion IsHeaderName (slice_split (λ b. b == 59) text.now) }
 {
     text.split(|byte| *byte == b';').all(is_header_name)
 }
 
-// Whether each piece of the text at `;` is below the next one, and the first one is not empty.
+// Whether the pieces of the text, split at `;`, are strictly ascending, and the first is not empty.
 fn are_ascending(text: &[u8]) -> bool
     ensures { result ≡ ascends ([] ∷ slice_split (λ b. b == 59) text.now) }
 {
@@ -73,7 +73,7 @@ fn are_ascending(text: &[u8]) -> bool
     true
 }
 
-// Whether `host` is a piece of the text at `;`.
+// Whether `host` is a piece of the text, split at `;`.
 fn has_host(text: &[u8]) -> bool
     ensures { IsTrue result ↔ Contains (slice_split (λ b. b == 59) text.now) (codes "host") }
 {

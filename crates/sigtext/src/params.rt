@@ -19,15 +19,15 @@ use percent_encoding::percent_decode;
 use std::alloc::{AllocError, Global};
 use std::cmp::Ordering;
 
-/// The parameters of a target, each name once, ascending by encoded name.
+/// The parameters of a target, in ascending order of their encoded names. No name occurs twice.
 #[derive(Drop)]
 pub struct Params<'a> {
     pub(crate) items: Vec<RawParam<'a>>,
 }
 
 impl<'a> Params<'a> {
-    /// Sorts the parameters of a target by their encoded names. Where two have one decoded name, that is
-    /// refusal 10; where memory is refused, refusal 40. It takes O(n log n) comparisons of names.
+    /// Sorts the parameters of a target by their encoded names. Refusal 10 if two have the same decoded name; refusal
+    /// 40 if there is no memory. It compares names O(n log n) times.
     pub fn read(alloc: Global, target: &Target<'a>) -> Result<Params<'a>, Refusal>
         ensures ok { IfOk result
             (λ sorted. (path : List ℕ) (params : List Param) → SpellsReading target.now path params
@@ -47,7 +47,7 @@ impl<'a> Params<'a> {
         }
     }
 
-    /// The raw value of the parameter of this decoded name.
+    /// The raw value of the parameter with this decoded name.
     pub fn get(&self, name: &[u8]) -> Option<&'a [u8]>
         ensures some { IfSome result (λ raw. (params : List Param) → HoldsParams self.now params
             → (value : List ℕ) × Spells (38 ∷ []) raw.now value
@@ -77,9 +77,8 @@ fn collect<'a>(alloc: Global, target: &Target<'a>) -> Result<Vec<RawParam<'a>>, 
     Ok(items)
 }
 
-// Whether the byte stays as it is in an encoded text, and the byte. An escape begins with `%`, which is
-// below each byte that stays, and the escapes are in the order of their bytes. So encoded texts compare as
-// the ranks of their bytes do.
+// The rank of a byte: whether encoding keeps it, and the byte. An escape begins with `%`, which is less than each byte
+// that is kept, and escapes are in the order of their bytes. So encoded texts compare as the ranks of their bytes do.
 fn encoded_rank(byte: u8) -> (bool, u8)
     ensures { result ≡ (is_unreserved byte, byte) }
 {
@@ -87,7 +86,7 @@ fn encoded_rank(byte: u8) -> (bool, u8)
     (!is_escaped, byte)
 }
 
-// Whether the text has nothing to be decoded or encoded.
+// Whether neither decoding nor encoding changes the text.
 fn is_plain(text: &[u8]) -> bool
     ensures { IsTrue result → uri_encoded slash.Encoded (percent.percent_decode text.now) ≡ text.now }
 {
@@ -95,7 +94,7 @@ fn is_plain(text: &[u8]) -> bool
     !text.iter().any(|byte| set.should_percent_encode(*byte))
 }
 
-// The order of the two raw names once they are decoded and encoded.
+// The order of the two raw names after they are decoded and encoded.
 fn compare_names(a: &[u8], b: &[u8]) -> Ordering
     ensures { result ≡ bytes_cmp (uri_encoded slash.Encoded (percent.percent_decode a.now))
         (uri_encoded slash.Encoded (percent.percent_decode b.now)) }
@@ -108,7 +107,7 @@ fn compare_names(a: &[u8], b: &[u8]) -> Ordering
         .cmp(percent_decode(b).map(encoded_rank))
 }
 
-// Whether each encoded name is below the next one.
+// Whether each encoded name is less than the next.
 fn names_ascend(items: &[RawParam]) -> bool
     ensures { result ≡ ascends
         (map (λ raw. uri_encoded slash.Encoded (percent.percent_decode raw.name.now)) items.now) }

@@ -1,81 +1,81 @@
-//! The refusals: which rule failed, and the number, status, word and text that answer it.
+//! The refusals: the rule that failed, and the number, status, word and text of its answer.
 
 /// Why a message is refused. Each variant is the rule that failed.
 #[derive(Clone, Copy, Debug, PartialEq, Eq)]
 pub enum Refusal {
-    /// The head, cut at its first CR LF CR LF, has another form, or more than 64 fields.
+    /// The head, which ends at the first CR LF CR LF, is malformed or has more than 64 fields.
     HeadMalformed,
-    /// The head does not end in 8192 bytes.
+    /// The head does not end within 8192 bytes.
     HeadTooLong,
-    /// A Transfer-Encoding field is there.
+    /// The head has a Transfer-Encoding field.
     TransferCoding,
-    /// Content-Length stands twice, or is not 1 to 10 digits.
+    /// Content-Length occurs twice, or is not 1 to 10 digits.
     LengthMalformed,
-    /// Content-Length is over the greatest length of a body.
+    /// Content-Length exceeds the greatest length of a body.
     BodyTooLarge,
-    /// The input ended in the body.
+    /// The input ended within the body.
     BodyIncomplete,
     /// The method is not PUT, GET, HEAD or POST.
     Method,
-    /// The target has no reading.
+    /// The target is malformed.
     Target,
-    /// None of the six signing parameters is there.
+    /// The target has none of the six signing parameters.
     NotSigned,
-    /// A parameter stands twice, one of the six is missing, or there is another `X-Amz-` name.
+    /// A parameter occurs twice, one of the six is missing, or another name begins with `X-Amz-`.
     Parameters,
-    /// `X-Amz-Algorithm` is another one.
+    /// `X-Amz-Algorithm` is not `AWS4-HMAC-SHA256`.
     Algorithm,
-    /// `X-Amz-Credential` is malformed, or its day is not the date's.
+    /// `X-Amz-Credential` is malformed, or its day is not that of `X-Amz-Date`.
     Credential,
     /// `X-Amz-Date` is not a moment of the years 1970 to 9999.
     Date,
     /// `X-Amz-Expires` is not 1 to 604800, or has a leading zero.
     Expiry,
-    /// `X-Amz-SignedHeaders` is malformed, or `host` is missing in it.
+    /// `X-Amz-SignedHeaders` is malformed, or lacks `host`.
     SignedHeaders,
     /// `X-Amz-Signature` is not 64 lower-case hexadecimal digits.
     SignatureText,
-    /// A signed header is absent, doubled or unfit.
+    /// A signed header is absent, occurs twice, or has a value that may not be signed.
     SignedValues,
-    /// An `x-amz-` header is there and not signed.
+    /// The request has an `x-amz-` header that is not signed.
     HeaderNotSigned,
     /// The key is unknown.
     KeyUnknown,
     /// The key is revoked.
     KeyRevoked,
-    /// The signature is not that of the canonical request.
+    /// The signature does not match the canonical request.
     SignatureMismatch,
-    /// The moment is before the link's start.
+    /// The link is not valid yet.
     NotYetValid,
-    /// The moment is at or past the link's end.
+    /// The link has expired.
     Expired,
-    /// A POST by a key that is no clerk's.
+    /// A POST with a key that is not a clerk's.
     RoleNotAllowed,
     /// A PUT without Content-Length.
     LengthMissing,
-    /// A body that is not empty, of another method than PUT.
+    /// A nonempty body with a method other than PUT.
     BodyNotTaken,
-    /// The box is not there.
+    /// The box does not exist.
     NoSuchBox,
-    /// The name has over 1024 bytes.
+    /// The name is longer than 1024 bytes.
     NameTooLong,
-    /// The name is empty, no plain UTF-8, or against the box's rule.
+    /// The name is empty, is not plain UTF-8, or breaks the box's naming rule.
     NameNotAllowed,
-    /// The box is closed at this moment.
+    /// The box is closed now.
     BoxClosed,
-    /// The box keeps what it has, and other bytes stand under the name.
+    /// The box keeps its files, and a file of this name has other bytes.
     OtherBytesKept,
-    /// The name is new, and the box has its greatest number of files.
+    /// The name is new, and the box holds its maximum number of files.
     TooManyFiles,
-    /// The box would hold more bytes than its quota.
+    /// The box would exceed its quota of bytes.
     QuotaPassed,
-    /// The file is not there.
+    /// The file does not exist.
     NoSuchFile,
     /// The desk command is malformed.
     CommandMalformed,
-    /// The desk command is not possible.
+    /// The desk command cannot be carried out.
     CommandNotPossible,
-    /// Memory was refused, or the keeper counted a fault.
+    /// No memory could be had, or the keeper counted a fault.
     TryAgain,
 }
 
@@ -83,7 +83,7 @@ impl Refusal {
     ghost use Rattle.std.specs.Prelude.{◌≡◌};
     ghost use Rattle.sigtext.specs.Refusals.{number_of, status_of, word_of, text_of};
 
-    // The number, the status and the word.
+    // The number, the status and the error code.
     fn row(self) -> (u8, u16, &'static str)
         ensures number { result.0 ≡ number_of self }
         ensures status { result.1 ≡ status_of self }
@@ -144,14 +144,14 @@ impl Refusal {
         self.row().1
     }
 
-    /// The word with which the body begins, as `AccessDenied`.
+    /// The error code at the beginning of the body, such as `AccessDenied`.
     pub fn word(self) -> &'static str
         ensures { result.now ≡ word_of self }
     {
         self.row().2
     }
 
-    /// The text with which the body ends.
+    /// The text at the end of the body.
     pub fn text(self) -> &'static str
         ensures { result.now ≡ text_of self }
     {

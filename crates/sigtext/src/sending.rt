@@ -1,4 +1,4 @@
-//! Texts that are sent to a sink byte by byte, in another form.
+//! Texts that are converted as they are sent to a sink.
 ghost use Rattle.std.specs.Prelude.{◌≡◌, true, IsOk, OnOk, OnErr};
 ghost use Rattle.percent_encoding.specs.Percent as percent;
 ghost use Rattle.sigtext.specs.SignedHeaders.{lower_case};
@@ -11,7 +11,7 @@ use crate::sink::ByteSink;
 use percent_encoding::{percent_decode, percent_encode};
 use std::alloc::AllocError;
 
-/// Sends the bytes in UriEncode's form. An error is the sink's, and leaves a beginning of the text in it.
+/// Sends the bytes, URI-encoded. An error comes from the sink, which then holds a prefix of the text.
 pub(crate) fn send_encoded<S: ByteSink>(
     bytes: &[u8],
     slash: Slash,
@@ -28,8 +28,8 @@ pub(crate) fn send_encoded<S: ByteSink>(
     Ok(())
 }
 
-/// Sends what the raw text decodes to in UriEncode's form. An error is the sink's, and leaves a beginning
-/// of the text in it.
+/// Decodes the raw text and sends the bytes, URI-encoded. An error comes from the sink, which then holds a prefix
+/// of the text.
 pub(crate) fn send_recoded<S: ByteSink>(
     raw: &[u8],
     slash: Slash,
@@ -51,7 +51,7 @@ pub(crate) fn send_recoded<S: ByteSink>(
     Ok(())
 }
 
-/// Sends the name in lower case. An error is the sink's, and leaves a beginning of the text in it.
+/// Sends the name in lower case. An error comes from the sink, which then holds a prefix of the text.
 pub(crate) fn send_lower_case<S: ByteSink>(name: &[u8], sink: &mut S) -> Result<(), AllocError>
     ensures ok { OnOk result (S.takes sink.old (lower_case name.now) sink.new) }
     ensures err { OnErr result (TakesBeginning S.takes sink.old (lower_case name.now) sink.new) }

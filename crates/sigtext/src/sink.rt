@@ -1,27 +1,26 @@
-//! What takes bytes, piece after piece.
+//! Sinks, which take bytes piece by piece.
 ghost use Rattle.std.specs.Prelude.{◌≡◌, ℕ, Bool, true, List, [], ◌++◌, IsOk, OnOk, OnErr};
 
 use std::alloc::AllocError;
 
-/// What takes the bytes of a text, piece after piece.
+/// A sink takes the bytes of a text, piece by piece.
 pub trait ByteSink {
-    /// From this sink, by taking these bytes, to that sink.
+    /// The first sink becomes the second by taking these bytes.
     ghost takes: { Self → List ℕ → Self → Type 0 };
 
     /// No call of `take` fails.
     ghost never_fails: { Bool };
 
-    /// Takes the bytes, after those that it took before. An error, which is want of memory alone, takes
-    /// none.
+    /// Takes the bytes, after those that it has. The only error is a lack of memory. Then it takes none of them.
     fn take(&mut self, bytes: &[u8]) -> Result<(), AllocError>
         ensures ok { OnOk result (takes self.old bytes.now self.new) }
         ensures err { OnErr result (takes self.old [] self.new) }
         ensures sure { never_fails ≡ true → IsOk result };
 
-    /// A sink that takes nothing may stay as it is.
+    /// Taking no bytes may leave a sink unchanged.
     ghost nothing: { (s : Self) → takes s [] s };
 
-    /// One text and then another are the joined text.
+    /// Taking one text and then another is taking both, joined.
     ghost joins: { (s t u : Self) (a b : List ℕ) → takes s a t → takes t b u → takes s (a ++ b) u };
 }
 

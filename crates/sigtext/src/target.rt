@@ -1,5 +1,5 @@
-//! Request targets in origin form (RFC 9112, section 3.2.1): a path that begins with `/`, and perhaps
-//! `?` and a query (RFC 3986, sections 3.3 and 3.4).
+//! Request targets in origin form (RFC 9112, section 3.2.1): a path that begins with `/`, and optionally `?` and a
+//! query (RFC 3986, sections 3.3 and 3.4).
 ghost use Rattle.std.specs.Prelude.{◌≡◌, ◌<◌, ◌≤◌, ◌↔◌, ◌+◌, ◌++◌, ◌∷◌, [], List, ℕ, length, drop, IsTrue, IfOk, OnOk, OnErr, IfSome, IfNone, vec_len, vec_capacity};
 ghost use Rattle.std.specs.Iterator.{at_most};
 ghost use Rattle.sigtext.specs.Spelling as spelling;
@@ -17,7 +17,7 @@ use std::alloc::AllocError;
 pub struct TextFault;
 
 impl TextFault {
-    /// The refusal that answers it: number 8.
+    /// The refusal for a malformed target: number 8.
     pub fn refusal(&self) -> Refusal
         ensures { result ≡ Refusal.Target }
     {
@@ -25,19 +25,19 @@ impl TextFault {
     }
 }
 
-/// The path and the query of a target, raw, as slices of the text that was read.
+/// The raw path and query of a target, as slices of the text.
 #[derive(Clone, Copy, Debug)]
 pub struct Target<'a> {
     pub(crate) path: &'a [u8],
     query: Option<&'a [u8]>,
 }
 
-/// The raw name and value of a piece of a query (RFC 3986, section 3.4), as slices.
+/// The raw name and value of one piece of a query (RFC 3986, section 3.4), as slices.
 #[derive(Clone, Copy, Debug)]
 pub struct RawParam<'a> {
-    /// The bytes before the first `=`, or the whole piece. An escape is three bytes of it.
+    /// The bytes before the first `=`, or the whole piece if it has no `=`. An escape counts as three bytes.
     pub name: &'a [u8],
-    /// The bytes behind the first `=`; empty where the piece has none.
+    /// The bytes after the first `=`; empty if the piece has no `=`.
     pub value: &'a [u8],
 }
 
@@ -48,11 +48,10 @@ pub struct Pairs<'a> {
 }
 
 impl<'a> Target<'a> {
-    /// Reads a target: the path before the first `?`, which begins with `/`, and perhaps a query behind
-    /// it, which is one or more pieces joined by `&`. A piece is a name of one byte or more, alone or
-    /// before the first `=` and a value. Each byte of these texts is 0x21 to 0x7E and none of `+`, `#`
-    /// and `%`, or stands in an escape, `%` and two hexadecimal digits (RFC 3986, section 2.1). Any other
-    /// text is an error. Nothing is copied, and the time is linear.
+    /// Reads a target. The path ends at the first `?` and begins with `/`. A query may follow the `?`: one or more
+    /// pieces, joined by `&`. A piece is a name of at least one byte, optionally followed by `=` and a value. Each byte
+    /// of these texts is 0x21 to 0x7E but not `+`, `#` or `%`, or belongs to an escape: `%` and two hexadecimal digits
+    /// (RFC 3986, section 2.1). Any other text is an error. Nothing is copied, and the time is linear.
     pub fn read(text: &'a [u8]) -> Result<Target<'a>, TextFault>
         ensures ok { IfOk result (λ t. IsReadFrom text.now t) }
         ensures err { OnErr result
@@ -72,15 +71,14 @@ impl<'a> Target<'a> {
         }
     }
 
-    /// The raw names and values of the query's pieces, in order; none where there is no query.
+    /// The raw names and values of the query's pieces, in order. Without a query there are none.
     pub fn pairs(&self) -> Pairs<'a>
         ensures { result.left ≡ self.now.query }
     {
         Pairs { left: self.query }
     }
 
-    /// Appends the decoded path (RFC 3986, section 2.1). An error, which is want of memory alone, leaves
-    /// `out` as it was.
+    /// Appends the decoded path (RFC 3986, section 2.1). The only error is a lack of memory. It leaves `out` unchanged.
     pub fn path_into(&self, out: &mut Vec<u8>) -> Result<(), AllocError>
         ensures ok { OnOk result ((path : List ℕ) → Spells (63 ∷ []) self.now.path.now path
             → out.new.items ≡ out.old.items ++ path) }
@@ -114,7 +112,8 @@ impl<'a> Iterator for Pairs<'a> {
     }
 }
 
-/// What stands before the first such byte, and what behind it; `None` where there is none. Takes no memory.
+/// The text before the first such byte, and the text after it. `None` if the text does not contain the byte. It takes no
+/// memory.
 pub fn cut(text: &[u8], byte: u8) -> Option<(&[u8], &[u8])>
     ensures { IsCut byte text.now result }
 {
@@ -157,7 +156,7 @@ fn may_stand(byte: u8, barred: &[u8]) -> bool
         && !barred.iter().any(|other| *other == byte)
 }
 
-// Whether the text begins with `%` and two hexadecimal digits.
+// Whether the text begins with an escape: `%` and two hexadecimal digits.
 fn begins_escape(text: &[u8]) -> bool
     ensures { result ≡ begins_with_escape text.now }
 {
@@ -167,7 +166,7 @@ fn begins_escape(text: &[u8]) -> bool
         && char::from(text[2]).is_digit(16)
 }
 
-// How many bytes the spelling of one byte at the front takes, if there is one.
+// The length of the first byte's spelling, if the text begins with one: 1 or 3 bytes.
 fn spelling_len(text: &[u8], barred: &[u8]) -> Option<usize>
     requires { 0 < length text.now }
     ensures within { IfSome result (λ n. (0 < n) × (n ≤ length text.now)) }
@@ -185,7 +184,7 @@ fn spelling_len(text: &[u8], barred: &[u8]) -> Option<usize>
     }
 }
 
-// Whether the text spells some bytes.
+// Whether the text can be decoded.
 fn is_spelling(text: &[u8], barred: &[u8]) -> bool
     ensures { IsTrue result ↔ SpellsSome barred.now text.now }
 {
@@ -199,7 +198,7 @@ fn is_spelling(text: &[u8], barred: &[u8]) -> bool
     true
 }
 
-// Whether the raw name and value spell a parameter, whose name is not empty.
+// Whether the raw name and value can be decoded, and the name is not empty.
 fn is_param(raw: RawParam) -> bool
     ensures { IsTrue result ↔ ((p : Param) × SpellRawParam raw.entry p) }
 {
@@ -209,7 +208,7 @@ fn is_param(raw: RawParam) -> bool
     is_spelling(raw.name, b"&=") && is_spelling(raw.value, b"&")
 }
 
-// Whether the text is a query: pieces that each spell a parameter.
+// Whether the text is a query: each piece is a parameter.
 fn is_query(text: &[u8]) -> bool
     ensures { IsTrue result ↔ SpellsSomeQuery text.now }
 {

@@ -14,18 +14,17 @@ use crate::names::SignedNames;
 use crate::refusal::Refusal;
 use std::alloc::Global;
 
-/// The signed headers of a request, one for each signed name and in the order of the names. They borrow
-/// from the request's fields alone.
+/// The signed headers of a request: one for each signed name, in the order of the names. They borrow only from the
+/// request's fields.
 #[derive(Drop)]
 pub struct Values<'a> {
-    // The name is the field's, in its case; the value is without the blanks at both ends.
+    // Names keep the field's case. Values have no leading or trailing blanks.
     pub(crate) fields: Vec<Field<'a>>,
 }
 
-/// The values that stand in a request's fields under these names, whatever the case of their ASCII letters. Refusal 17 where
-/// a name is that of no field or of several, or where its value, once blanks at both ends are gone, has a byte that is no
-/// printable ASCII or two spaces side by side. Refusal 18 where a field that begins with `x-amz-` is none of these. Refusal
-/// 40 where memory was refused.
+/// The values of these names in a request's fields; ASCII case is ignored. Refusal 17 if a name belongs to no field or to
+/// more than one, or if its value, without leading and trailing blanks, has a byte that is not printable ASCII, or two
+/// adjacent spaces. Refusal 18 if a field whose name begins with `x-amz-` is not signed. Refusal 40 if there is no memory.
 pub fn signed_values<'a>(
     alloc: Global,
     fields: &'a [Field<'a>],
@@ -44,7 +43,7 @@ pub fn signed_values<'a>(
     Ok(values)
 }
 
-// The values of the names, which are the pieces of the text at `;`.
+// The values of the names, which `;` separates in the text.
 fn values_named<'a>(
     alloc: Global,
     fields: &'a [Field<'a>],
@@ -74,7 +73,7 @@ fn values_named<'a>(
     Ok(Values { fields: values })
 }
 
-// The one field of this name, with its value trimmed, which is fit.
+// The only field with this name, with its value trimmed, if the value may be signed.
 fn signed_field<'a>(fields: &[Field<'a>], name: &[u8]) -> Option<Field<'a>>
     ensures some { IfSome result (λ f. (lower_case f.name.now ≡ lower_case name.now)
         × IsSignedValue (map header_of fields.now) (lower_case name.now) f.value.now
@@ -94,7 +93,7 @@ fn signed_field<'a>(fields: &[Field<'a>], name: &[u8]) -> Option<Field<'a>>
     })
 }
 
-// Whether the field is one of the signed ones, or its name does not begin with `x-amz-`.
+// Whether the field is signed, or its name does not begin with `x-amz-`.
 fn covers(signed: &[Field<'_>], field: &Field<'_>) -> bool
     ensures { result ≡ is_covered (map signed_header signed.now) (header_of field.now) }
 {
@@ -106,7 +105,7 @@ fn covers(signed: &[Field<'_>], field: &Field<'_>) -> bool
         .any(|value| is_same_name(value.name, field.name))
 }
 
-// Whether each field whose name begins with `x-amz-` is one of the signed ones.
+// Whether each field whose name begins with `x-amz-` is signed.
 fn covers_all(signed: &[Field<'_>], fields: &[Field<'_>]) -> bool
     ensures { result ≡ list_all (is_covered (map signed_header signed.now))
         (map header_of fields.now) }

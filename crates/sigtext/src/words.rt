@@ -1,8 +1,8 @@
-//! Texts of bytes of one kind.
+//! Texts whose bytes all pass one test.
 ghost use Rattle.std.specs.Prelude.{◌≡◌, ◌↔◌, ◌<◌, ℕ, Bool, IsTrue};
 ghost use Rattle.sigtext.specs.Bytes.{IsWord, is_visible};
 
-/// Whether the text is 1 to `most` bytes, each of which passes the test.
+/// Whether the text has 1 to `most` bytes, and each passes the test.
 pub fn is_word<F: Fn(u8) -> bool>(text: &[u8], most: usize, passes: F) -> bool
     requires { F.IsAlwaysCallable passes }
     ensures { (test : ℕ → Bool)

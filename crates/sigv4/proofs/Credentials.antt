@@ -1,4 +1,4 @@
--- A text is one credential at most: no slash stands in a key id, a day or a region.
+-- A text is at most one credential: a key id, a day and a region contain no slash.
 use Rattle.std.proofs.Common.{◌≡◌, ◌≢◌, ℕ, Bool, true, List, [], ◌∷◌, ◌++◌, codes, refl, sym, ap, ◌∙◌, subst, append_assoc, arith, All}
 use Rattle.std.specs.Prelude.{IsTrue}
 use Rattle.std.specs.List.{list_all}
@@ -10,7 +10,7 @@ use Rattle.std.proofs.lemmas.List.Elements.{All-nil, All-cons, All-head, All-tai
 use Rattle.sigv4.specs.Signature.{CredentialScope, scope_text}
 use Rattle.sigv4.specs.Credential.{is_key_byte, IsCredential}
 
--- no slash is there
+-- the text contains no slash
 abbrev pub LacksSlash : List ℕ → Type 0
 LacksSlash text = All (λ b. b ≢ 47) text
 
@@ -32,13 +32,13 @@ key_id_lacks = lacks is_key_byte key_byte_apart
 pub day_lacks : (text : List ℕ) → IsTrue (list_all is_ascii_digit text) → LacksSlash text
 day_lacks = lacks is_ascii_digit digit_apart
 
--- a text that lacks the byte is not cut at it
+-- a text without a slash is not cut at a slash
 pub uncut : (text front rest : List ℕ) → LacksSlash text → text ≡ front ++ 47 ∷ rest → ⊥
 uncut text [] rest h e = All-head (λ b. b ≢ 47) 47 rest (subst LacksSlash e h) refl
 uncut [] (x ∷ front) rest h e = cc
 uncut (b ∷ text) (x ∷ front) rest h e = uncut text front rest (All-tail (λ b. b ≢ 47) b text h) (cc)
 
--- what stands before the first slash, and what after it, is determined
+-- the text before the first slash and the text after it are determined
 pub cut_once : (front rest front₂ rest₂ : List ℕ) → front ++ 47 ∷ rest ≡ front₂ ++ 47 ∷ rest₂ → LacksSlash front → LacksSlash front₂ → (front₂ ≡ front) × (rest₂ ≡ rest)
 cut_once [] rest [] rest₂ e h h₂ = (refl, cc)
 cut_once [] rest (y ∷ front₂) rest₂ e h h₂ = absurd (All-head (λ b. b ≢ 47) y front₂ h₂ cc)
@@ -48,7 +48,7 @@ cut_once (x ∷ front) rest (y ∷ front₂) rest₂ e h h₂ =
     let first : y ≡ x = cc in
     ((rw (first, same.0) refl), same.1)
 
--- a credential is its key id, its day and its region, cut by slashes, and the fixed end
+-- a credential is its key id, its day and its region, separated by slashes, and the fixed end
 pub cuts : (key_id : List ℕ) (scope : CredentialScope) → key_id ++ 47 ∷ scope_text scope ≡ (key_id ++ 47 ∷ (scope.date ++ 47 ∷ scope.region)) ++ codes "/s3/aws4_request"
 cuts key_id scope = simp append_assoc
 
@@ -65,11 +65,11 @@ front_is : (text front key_id : List ℕ) (scope : CredentialScope) → text ≡
     → front ≡ key_id ++ 47 ∷ (scope.date ++ 47 ∷ scope.region)
 front_is text front key_id scope e f = append_cancel_right front _ (codes "/s3/aws4_request") (sym e ∙ f ∙ cuts key_id scope)
 
--- nor is one with no slash before the end
+-- a text with no slash before the end is no credential
 pub no_key_id : (text front key_id : List ℕ) (scope : CredentialScope) → text ≡ front ++ codes "/s3/aws4_request" → LacksSlash front → text ≡ key_id ++ 47 ∷ scope_text scope → ⊥
 no_key_id text front key_id scope e h f = uncut front key_id _ h (front_is text front key_id scope e f)
 
--- nor is one with a single slash there
+-- a text with a single slash before the end is no credential
 pub no_date : (text front first rest key_id : List ℕ) (scope : CredentialScope) → text ≡ front ++ codes "/s3/aws4_request" → front ≡ first ++ 47 ∷ rest
     → LacksSlash first → LacksSlash rest → LacksSlash key_id → text ≡ key_id ++ 47 ∷ scope_text scope → ⊥
 no_date text front first rest key_id scope e cut h rest_lacks k f =
@@ -90,21 +90,21 @@ scope_once s t e h h₂ =
     let parts = cut_once s.date (s.region ++ end) t.date (t.region ++ end) cut h h₂ in
     same_scope s t parts.0 (append_cancel_right t.region s.region end parts.1)
 
--- a credential has the parts of the text at its slashes
+-- the parts of a credential are the parts into which the slashes cut the text
 pub same_parts : (text date key other : List ℕ) (s t : CredentialScope) → text ≡ key ++ 47 ∷ scope_text s → LacksSlash key → LacksSlash s.date
     → IsCredential text date other t → (other ≡ key) × (t ≡ s)
 same_parts text date key other s t joined h h₂ k =
     let parts = cut_once key (scope_text s) other (scope_text t) (sym joined ∙ k.joined) h (key_id_lacks other k.key_form.each) in
     (parts.0, scope_once s t (sym parts.1) h₂ (day_lacks t.date k.day_digits))
 
--- so where those lack the form, it is none
+-- so if these parts lack the form, the text is no credential
 pub no_form : (text date key other : List ℕ) (s t : CredentialScope) → text ≡ key ++ 47 ∷ scope_text s → LacksSlash key → LacksSlash s.date
     → (IsCredential text date key s → ⊥) → IsCredential text date other t → ⊥
 no_form text date key other s t joined h h₂ none k =
     let same = same_parts text date key other s t joined h h₂ k in
     none (subst (λ (x : List ℕ). IsCredential text date x s) same.0 (subst (IsCredential text date other) same.1 k))
 
--- a text is one credential at most
+-- a text is at most one credential
 pub credential_once : (text date key other : List ℕ) (s t : CredentialScope) → IsCredential text date key s → IsCredential text date other t → (other ≡ key) × (t ≡ s)
 credential_once text date key other s t h k =
     same_parts text date key other s t h.joined (key_id_lacks key h.key_form.each) (day_lacks s.date h.day_digits) k

@@ -1,4 +1,4 @@
--- The day of a written moment: its text's first eight bytes are digits.
+-- The day of a written moment: the first eight bytes of its text are digits.
 use Rattle.std.proofs.Common.{◌≡◌, ℕ, ◌+◌, ◌/◌, ◌%◌, true, List, [], ◌∷◌, ◌++◌, length, take, drop, refl, sym, subst, arith}
 use Rattle.std.specs.Prelude.{IsTrue, nat_eq}
 use Rattle.std.specs.List.{list_all}
@@ -31,7 +31,7 @@ day_of_time s = (refl, eight (s.year / 100 / 10) (s.year / 100) (s.year % 100 / 
 begins_with_front : (n : ℕ) (text : List ℕ) → IsTrue (begins_with text (take n text))
 begins_with_front n text = subst (λ (whole : List ℕ). IsTrue (begins_with whole (take n text))) (take-append-drop n text) (begins_with_itself (take n text) (drop n text))
 
--- the first eight bytes are eight digits, with which the text begins
+-- the first eight bytes are eight digits, and the text begins with them
 pub day_of : (text : List ℕ) (moment : ℕ) → WritesMoment text moment → (length (take 8 text) ≡ 8) × IsTrue (list_all is_ascii_digit (take 8 text)) × IsTrue (begins_with text (take 8 text))
 day_of text moment w =
     let day = day_of_time w.time in (

@@ -40,7 +40,7 @@ small_sha256 message = small_words _ 8
 digit_at : (test : ℕ → Bool) → IsTrue (list_all test lower_digits) → (d : ℕ) → d < 16 → test (slice_index lower_digits d) ≡ true
 digit_at test h d within = AllPass-from_list_all test lower_digits h d 0 within
 
--- each digit is one of the sixteen
+-- each digit is one of the sixteen, so it passes each test that these pass
 each_digit : (test : ℕ → Bool) → IsTrue (list_all test lower_digits) → (bytes : List ℕ) → All (λ b. b < 256) bytes → IsTrue (list_all test (encode_lower bytes))
 unfolding encode_with
 each_digit test h [] small = refl
@@ -57,7 +57,7 @@ length-signature_of secret moment scope canonical = two_each _ (length-sha256 _)
     two_each : (bytes : List ℕ) → length bytes ≡ 32 → length (encode_lower bytes) ≡ 64
     two_each bytes long = omega (arith, long, length-encode_with lower_digits bytes)
 
--- what holds of the sixteen digits holds of a signature's
+-- each test that the sixteen digits pass, the digits of a signature pass
 pub signature_digits : (test : ℕ → Bool) → IsTrue (list_all test (codes "0123456789abcdef")) → (secret moment : List ℕ) (scope : CredentialScope) (canonical : List ℕ)
     → IsTrue (list_all test (signature_of secret moment scope canonical))
 unfolding signature_of hmac

@@ -1,4 +1,4 @@
--- A text writes one moment at most, and a moment has one text at most.
+-- A text writes at most one moment, and a moment has at most one text.
 use Rattle.std.proofs.Common.{◌≡◌, ℕ, ◌+◌, ◌*◌, ◌/◌, ◌%◌, ◌<◌, ◌≤◌, List, get_or, sym, ap, ◌∙◌, subst, inl, inr, arith, rules, ℤ, pos, negsuc, unsigned_abs, to_z, of_z, w16, w32, to_z-of_z, FitsSigned, ◌≤ℤ◌}
 use Rattle.std.proofs.lemmas.Int.{by_lt_z}
 use Rattle.std.specs.Int.{Width}
@@ -11,7 +11,7 @@ use Rattle.jiff_core.proofs.DateLemmas.{cases_date, epoch_day-lt, epoch_day_inje
 use Rattle.jiff_core.proofs.StandardFacts.{known_days}
 use Rattle.sigv4.specs.Dates.{CivilTime, IsCivilTime, civil_time_text, IsSeconds, WritesMoment}
 
--- each number is written whole by its digits
+-- each number fits into the digits that write it
 pub record IsSmall (s : CivilTime) : Type 0 where
   pub year : s.year < 10000
   pub month : s.month < 100
@@ -48,7 +48,7 @@ epoch_day-epoch : epoch_day epoch ≡ pos 0
 unfolding epoch
 epoch_day-epoch = known_days.0
 
--- the dates from 1970 on are those whose day number is not negative
+-- a date is in 1970 or later exactly if its day number is not negative
 pub day_from_year : (d : Date) → pos 1970 ≤ℤ d.year → pos 0 ≤ℤ epoch_day d
 unfolding epoch
 day_from_year d h =
@@ -94,11 +94,11 @@ civil_time_once s t small small₂ e =
     let second = two_once s.second t.second small.second small₂.second (at 13) (at 14) in
     same_time s t year month day hour minute second
 
--- a civil time has one moment at most
+-- a civil time has at most one moment
 pub seconds_once : (s : CivilTime) (m n : ℕ) → IsSeconds s m → IsSeconds s n → n ≡ m
 seconds_once s m n h k = omega (arith, signed_arith)
 
--- a text writes one moment at most
+-- a text writes at most one moment
 pub moment_once : (text : List ℕ) (m n : ℕ) → WritesMoment text m → WritesMoment text n → n ≡ m
 moment_once text m n w v =
     let same = civil_time_once w.time v.time (IsSmall-of w.time w.is_civil_time) (IsSmall-of v.time v.is_civil_time) (sym w.written ∙ v.written) in
@@ -108,7 +108,7 @@ time_once : (h m s h₂ m₂ s₂ : ℕ) → m < 60 → s < 60 → m₂ < 60 →
     → (h₂ ≡ h) × (m₂ ≡ m) × (s₂ ≡ s)
 time_once h m s h₂ m₂ s₂ a b c d e = (omega arith, omega arith, omega arith)
 
--- a moment is that of one civil time at most
+-- a moment belongs to at most one civil time
 pub time_of_moment : (s t : CivilTime) (m : ℕ) → IsCivilTime s → IsCivilTime t → IsSeconds s m → IsSeconds t m → t ≡ s
 unfolding date_of
 time_of_moment s t m h k e f =
@@ -118,7 +118,7 @@ time_of_moment s t m h k e f =
     let time = time_once s.hour s.minute s.second t.hour t.minute t.second h.minute h.second k.minute k.second clock in
     same_time s t (cc) date.1 date.2 time.0 time.1 time.2
 
--- a moment has one text
+-- a moment has at most one text
 pub text_once : (t u : List ℕ) (m : ℕ) → WritesMoment t m → WritesMoment u m → t ≡ u
 text_once t u m w v =
     w.written ∙ ap civil_time_text (sym (time_of_moment w.time v.time m w.is_civil_time v.is_civil_time w.seconds v.seconds)) ∙ sym v.written
@@ -130,7 +130,7 @@ IsDate-same : (y m d y₂ m₂ d₂ : ℤ) → y ≡ y₂ → m ≡ m₂ → d �
 IsDate-same y m d y₂ m₂ d₂ year month day h =
     subst (λ (z : ℤ). IsDate z m₂ d₂) year (subst (λ (z : ℤ). IsDate y z d₂) month (subst (λ (z : ℤ). IsDate y m z) day h))
 
--- the civil time of a date from 1970 on and a time
+-- a date in 1970 or later and a time of day make a civil time
 pub IsCivilTime-of_date : (d : Date) (s : CivilTime) → pos 0 ≤ℤ epoch_day d → d.year ≡ pos s.year → pos d.month ≡ pos s.month → pos d.day ≡ pos s.day
     → s.hour < 24 → s.minute < 60 → s.second < 60 → IsCivilTime s
 IsCivilTime-of_date d s from year month day hour minute second =
@@ -143,7 +143,7 @@ IsCivilTime-of_date d s from year month day hour minute second =
       second = second;
     }
 
--- its moment
+-- the moment of this civil time
 pub IsSeconds-of_date : (d : Date) (s : CivilTime) (day m : ℕ) → epoch_day d ≡ pos day → d.year ≡ pos s.year → pos d.month ≡ pos s.month → pos d.day ≡ pos s.day
     → m ≡ 86400 * day + (3600 * s.hour + 60 * s.minute + s.second) → IsSeconds s m
 IsSeconds-of_date d s day m e year month k time =
@@ -156,17 +156,17 @@ positive : (z : ℤ) (n : ℕ) → pos 0 ≤ℤ z → n ≡ unsigned_abs z → z
 positive (pos m) n h e = ap pos (sym e)
 positive (negsuc m) n h e = absurd (omega (arith, signed_arith))
 
--- the absolute value of a number that is not negative, as code takes it
+-- the absolute value of a number that is not negative, as the code computes it, is the number
 pub absolute_is : (w : Width) (z : ℤ) (n : ℕ) → pos 0 ≤ℤ z → FitsSigned w z → n ≡ unsigned_abs (to_z w (of_z w z)) → z ≡ pos n
 absolute_is w z n h fits e = positive z n h (rw to_z-of_z at e)
 
--- the number of a year from 1970 on
+-- the year of a date in 1970 or later, as the code computes it
 pub year_is : (d : Date) (n : ℕ) → pos 0 ≤ℤ epoch_day d → n ≡ unsigned_abs (to_z w16 (of_z w16 d.year)) → d.year ≡ pos n
 year_is d n from e =
     let late = year_from_day d from in
     absolute_is w16 d.year n (omega (arith, signed_arith)) (omega (arith, signed_arith, d.year_in)) e
 
--- and of a day
+-- the day number of such a date, as the code computes it
 pub day_is : (d : Date) (n : ℕ) → pos 1970 ≤ℤ d.year → n ≡ unsigned_abs (to_z w32 (of_z w32 (epoch_day d))) → epoch_day d ≡ pos n
 day_is d n from e =
     absolute_is w32 (epoch_day d) n (day_from_year d from) (omega (arith, signed_arith, epoch_day_range d)) e

@@ -1,5 +1,5 @@
--- The definitions at published values: NIST's example values for SHA-256, RFC 4231's test cases, and the example of the Amazon S3 API
--- Reference, "Authenticating Requests: Using Query Parameters". A wrong digit anywhere does not check.
+-- The definitions at published values: NIST's example values for SHA-256, RFC 4231's test cases, and the example of the Amazon
+-- S3 API Reference, "Authenticating Requests: Using Query Parameters". With a wrong digit anywhere, the proof does not check.
 use Rattle.std.proofs.Common.{◌≡◌, ℕ, List, [], codes, replicate, refl, lit≤, lit<, arith}
 use Rattle.std.proofs.lemmas.Int.{ints}
 use Rattle.sha2.specs.Sha256.{compress, digest_bytes, first_words, hash_after, rounds, schedule, sha256}
@@ -67,7 +67,7 @@ first = record {
   seconds = refl;
 }
 
--- the published one
+-- the moment of the published example
 pub may_24 : WritesMoment (codes "20130524T000000Z") 1369353600
 unfolding jiff_on_literals
 may_24 = record {
@@ -83,7 +83,7 @@ may_24 = record {
   seconds = refl;
 }
 
--- and the last
+-- the last moment
 pub last : WritesMoment (codes "99991231T235959Z") 253402300799
 unfolding jiff_on_literals
 last = record {

@@ -1,4 +1,4 @@
--- By how much a link may begin early.
+-- How early a link may begin.
 use Rattle.std.specs.Prelude.{ℕ}
 
 -- the greatest allowance of an office, in seconds

@@ -12,7 +12,7 @@ is_key_byte b = is_ascii_alphanumeric b || (b == 45 || b == 95)
 abbrev pub IsKeyId : List ℕ → Type 0
 IsKeyId text = IsWord is_key_byte 64 text
 
--- of a key's secret: 1 to 128 bytes 0x21 to 0x7E
+-- the form of a key's secret: 1 to 128 bytes 0x21 to 0x7E
 abbrev pub IsSecret : List ℕ → Type 0
 IsSecret secret = IsWord is_visible 128 secret
 

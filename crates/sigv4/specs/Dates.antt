@@ -39,7 +39,7 @@ abbrev pub IsSeconds : CivilTime → ℕ → Type 0
 IsSeconds s moment =
     pos moment ≡ (pos 86400 *ℤ days_from_civil (pos s.year) s.month s.day) +ℤ pos (3600 * s.hour + 60 * s.minute + s.second)
 
--- the text is the moment's
+-- the text writes the moment
 pub record WritesMoment (text : List ℕ) (moment : ℕ) : Type 0 where
   pub time : CivilTime
   pub is_civil_time : IsCivilTime time

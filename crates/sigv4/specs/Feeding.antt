@@ -1,5 +1,5 @@
--- The two laws of a sink, of the hashers: one that is fed nothing may stay as it is, and one text and then
--- another are the joined text.
+-- The two laws of a sink, for the hashers: a hasher that is fed nothing may stay as it is, and feeding one text and then
+-- another feeds the joined text.
 use Rattle.std.specs.Prelude.{ℕ, List, [], ◌++◌}
 use Rattle.std.proofs.Common.{sym, subst, append_assoc}
 use Rattle.std.proofs.lemmas.List.{append-nil}
@@ -7,7 +7,7 @@ use Rattle.sigv4.specs.Hashers.{ShaHolds, HmacHolds}
 use Rattle.sigv4.specs.declared.hash.Sha.{Sha}
 use Rattle.sigv4.specs.declared.hash.Hmac.{Hmac}
 
--- from this hasher, by feeding these bytes, to that one
+-- feeding these bytes turns the first hasher into the second
 abbrev pub ShaFeeds : Sha → List ℕ → Sha → Type 0
 ShaFeeds s bytes t = (m : List ℕ) → ShaHolds s m → ShaHolds t (m ++ bytes)
 

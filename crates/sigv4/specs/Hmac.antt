@@ -6,7 +6,7 @@ unfoldable pub use Rattle.sha2.specs.Sha256.{sha256}
 abbrev pub short_key : List ℕ → List ℕ
 short_key key = if nat_lt 64 (length key) then sha256 key else key
 
--- followed by zeros up to a block
+-- the short key, followed by zeros up to a block
 abbrev pub block_key : List ℕ → List ℕ
 block_key key = short_key key ++ replicate (64 - length (short_key key)) 0
 

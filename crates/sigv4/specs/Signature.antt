@@ -5,7 +5,7 @@ use Rattle.sha2.specs.Sha256.{sha256}
 use Rattle.hex.specs.Hex.{encode_lower}
 use Rattle.sigv4.specs.Hmac.{hmac}
 
--- what of a credential scope is not fixed: the day, yyyyMMdd, and the region
+-- the parts of a credential scope that are not fixed: the day, yyyyMMdd, and the region
 pub record CredentialScope : Type 0 where
   pub date : List ℕ
   pub region : List ℕ

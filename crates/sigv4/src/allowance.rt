@@ -1,4 +1,4 @@
-//! By how much a link may begin early.
+//! The allowance: how early a link may begin.
 ghost use Rattle.std.specs.Prelude.{◌≡◌, ◌≤◌, ℕ, SomeIff};
 ghost use Rattle.sigv4.specs.Allowances.{most_allowance};
 
@@ -7,7 +7,7 @@ use std::marker::Model;
 // A quarter of an hour.
 const MOST_SECONDS: u64 = 900;
 
-/// By how many seconds a link may begin early, for senders whose clocks run ahead: 0 to 900.
+/// How many seconds early a link may begin, for senders whose clocks run ahead: 0 to 900.
 #[derive(Clone, Copy, Debug, PartialEq, Eq)]
 pub struct Allowance {
     seconds: u64,
@@ -35,14 +35,14 @@ impl Allowance {
         }
     }
 
-    /// The allowance of offices that forgive no clock: 0 seconds.
+    /// The allowance of offices that tolerate no clock skew: 0 seconds.
     pub fn none() -> Allowance
         ensures { result ≡ 0 }
     {
         Allowance { seconds: 0 }
     }
 
-    /// How many seconds it is.
+    /// The allowance in seconds.
     pub fn seconds(&self) -> u64
         ensures value { result ≡ self.now }
         ensures bound { result ≤ most_allowance }

@@ -1,4 +1,4 @@
-//! The hasher of the signing key that was derived last.
+//! The hasher for the signing key that was derived last.
 ghost use Rattle.std.specs.Prelude.{◌≡◌, [], IsTrue, IfSome};
 ghost use Rattle.sigv4.specs.Hashers.{HmacHolds};
 ghost use Rattle.sigv4.specs.declared.hash.Hmac.{Hmac as Hasher};
@@ -11,14 +11,14 @@ use crate::signing::derive;
 use arrayvec::ArrayVec;
 use std::marker::Model;
 
-/// The most bytes of a secret whose signing key is kept, of a day and of a region: as many as their forms allow.
+/// The most bytes of a secret, a day and a region whose signing key is kept. These are the limits of their forms.
 const MOST_SECRET: usize = 128;
 
 const DAY: usize = 8;
 
 const MOST_REGION: usize = 32;
 
-// A copy of the text, where there is room for it.
+// A copy of the text, if it has at most `ROOM` bytes.
 fn copy_of<const ROOM: usize>(text: &[u8]) -> Option<ArrayVec<u8, ROOM>>
     ensures { IfSome result (λ copy. copy.items ≡ text.now) }
 {
@@ -27,7 +27,7 @@ fn copy_of<const ROOM: usize>(text: &[u8]) -> Option<ArrayVec<u8, ROOM>>
     Some(copy)
 }
 
-// A second hasher that was fed the same. No copy fails.
+// A second hasher that was fed the same. Copying never fails.
 fn copy_of_hasher(hasher: &Hmac) -> Hmac
     ensures { result ≡ hasher.now }
 {
@@ -37,7 +37,7 @@ fn copy_of_hasher(hasher: &Hmac) -> Hmac
     }
 }
 
-// A hasher for a signing key, which was fed nothing, with what the key was derived from.
+// A hasher for a signing key, with the secret, the day and the region that the key was derived from. It was fed nothing yet.
 #[derive(Drop)]
 struct Derived {
     secret: ArrayVec<u8, MOST_SECRET>,
@@ -56,7 +56,7 @@ impl Model for Derived {
 }
 
 impl Derived {
-    // Of the hasher, with copies of what its key was derived from; None where one of these is longer than its form allows.
+    // Keeps the hasher with copies of the secret, the day and the region. `None` if one of them is longer than its form allows.
     fn new(secret: &[u8], scope: &Scope<'_>, hasher: Hmac) -> Option<Derived>
         requires { HmacHolds hasher (signing_key secret.now (scope_of scope.now)) [] }
     {
@@ -68,7 +68,7 @@ impl Derived {
         })
     }
 
-    // Whether the key is that of the secret and the scope.
+    // Whether the key was derived from this secret and scope.
     fn is_of(&self, secret: &[u8], scope: &Scope<'_>) -> bool
         ensures { IsTrue result
             → HmacHolds self.now (signing_key secret.now (scope_of scope.now)) [] }
@@ -78,7 +78,7 @@ impl Derived {
             && self.region.as_slice() == scope.region
     }
 
-    // A second hasher that was fed the same. No copy fails.
+    // A second hasher that was fed the same. Copying never fails.
     fn copy(&self) -> Hmac
         ensures { result ≡ self.now }
     {
@@ -86,20 +86,21 @@ impl Derived {
     }
 }
 
-/// A hasher for the signing key that was derived last: requests of one key, day and region derive it, and mask it for HMAC, once.
-/// It lies in the value itself, with copies of what the key was derived from, and has no allocator.
+/// A hasher for the signing key that was derived last. Successive requests of one key, day and region derive the signing key,
+/// and mask it for HMAC, only once. The hasher lies in the value itself, with copies of the secret, the day and the region. It
+/// has no allocator.
 #[derive(Drop)]
 pub struct LastKey {
     last: Option<Derived>,
 }
 
 impl LastKey {
-    /// None was derived.
+    /// No key was derived yet.
     pub fn new() -> LastKey {
         LastKey { last: None }
     }
 
-    /// A hasher for the signing key of the secret and the scope, which was fed nothing. [`derive`] gives the key.
+    /// A hasher for the signing key that [`derive`] gives for the secret and the scope. It was fed nothing yet.
     pub fn hasher(&mut self, secret: &[u8], scope: &Scope<'_>) -> Hmac
         ensures { HmacHolds result (signing_key secret.now (scope_of scope.now)) [] }
     {

@@ -12,7 +12,7 @@ const SECONDS_PER_DAY: u64 = 86_400;
 // 9999-12-31T23:59:59Z
 const LAST_SECOND: u64 = 253_402_300_799;
 
-// A date and a time of day as sixteen bytes write them: the calendar need not have the date.
+// A date and a time of day as sixteen bytes write them. The date need not exist in the calendar.
 #[derive(Clone, Copy)]
 struct Stamp {
     year: u16,
@@ -86,7 +86,7 @@ impl Stamp {
         }
     }
 
-    // The moment, where the calendar has the date and the clock the time, from 1970 on.
+    // The moment, if the date exists in the calendar, its year is 1970 or later, and the time is from 00:00:00 to 23:59:59.
     fn seconds(&self) -> Option<u64>
         ensures found { IfSome result
             (λ n. dates.IsCivilTime (stamp_of self.now) × dates.IsSeconds (stamp_of self.now) n) }
@@ -103,7 +103,7 @@ impl Stamp {
         Some(u64::from(day) * SECONDS_PER_DAY + time)
     }
 
-    // What the bytes write.
+    // The stamp that the bytes write, if they have the form `yyyyMMddTHHmmssZ`.
     fn read(text: &[u8; 16]) -> Option<Stamp>
         ensures found { IfSome result (λ s. text.now ≡ dates.civil_time_text (stamp_of s)) }
         ensures absent { IfNone result
@@ -176,8 +176,7 @@ impl Model for Moment {
 }
 
 impl Moment {
-    /// The moment that is this many seconds after 1970-01-01T00:00:00Z, if its year has four digits:
-    /// up to 253402300799.
+    /// The moment this many seconds after 1970-01-01T00:00:00Z. `None` above 253402300799, since its year must have four digits.
     pub fn new(seconds: u64) -> Option<Moment>
         ensures { SomeIff result (seconds ≤ 253402300799) seconds }
     {
@@ -196,15 +195,15 @@ impl Moment {
         self.seconds
     }
 
-    /// The text of the moment as `X-Amz-Date` has it, `yyyyMMddTHHmmssZ` (ISO 8601, basic format).
+    /// The text of the moment as `X-Amz-Date` writes it: `yyyyMMddTHHmmssZ` (ISO 8601, basic format).
     pub fn text(&self) -> [u8; 16]
         ensures { WritesMoment result self.now }
     {
         Stamp::at(self.seconds).text()
     }
 
-    /// Reads `yyyyMMddTHHmmssZ`, the value of `X-Amz-Date`: `None` where the text is of another form,
-    /// the calendar lacks the date, the year is before 1970, or the time is past 23:59:59.
+    /// Reads `yyyyMMddTHHmmssZ`, the value of `X-Amz-Date`. Returns `None` if the text has another form, the date does not exist
+    /// in the calendar, the year is before 1970, or the time is not one from 00:00:00 to 23:59:59.
     pub fn read(text: &[u8; 16]) -> Option<Moment>
         ensures found { IfSome result (λ m. WritesMoment text.now m) }
         ensures absent { IfNone result ((m : ℕ) → WritesMoment text.now m → ⊥) }
@@ -214,8 +213,8 @@ impl Moment {
     }
 }
 
-/// The law of moments and their texts: a text writes one moment at most, and a moment has one text at
-/// most. So what `text` gives `read` gives back, and the other way round.
+/// The law of moments and their texts: a text writes at most one moment, and a moment has at most one text. So `read` gives
+/// back the moment that `text` wrote, and `text` gives back the text that `read` accepted.
 pub fn law_read_back()
     ensures one_moment { (text : List ℕ) (m n : ℕ) → WritesMoment text m → WritesMoment text n
         → n ≡ m }

@@ -9,7 +9,7 @@ ghost use Rattle.sigv4.specs.Scopes.{scope_of};
 
 use sigtext::{Refusal, are_digits, cut, is_visible, is_word};
 
-/// A credential: the key id, and what of its scope is not fixed.
+/// A credential: the key id, and the parts of its scope that are not fixed.
 #[derive(Clone, Copy, Debug)]
 pub struct Scope<'a> {
     /// 1 to 64 bytes of `A-Z a-z 0-9 - _`.
@@ -53,7 +53,7 @@ pub fn is_region(text: &[u8]) -> bool
     is_word(text, 32, is_region_byte)
 }
 
-// Eight digits, with which the date begins.
+// Whether the day is eight digits and the date begins with it.
 fn is_day_of(day: &[u8], date: &[u8]) -> bool
     ensures { IsTrue result
         ↔ ((length day.now ≡ 8) × IsTrue (list_all is_ascii_digit day.now)
@@ -62,7 +62,7 @@ fn is_day_of(day: &[u8], date: &[u8]) -> bool
     day.len() == 8 && are_digits(day, 8) && date.starts_with(day)
 }
 
-// The parts of a credential, of any form.
+// Splits a credential into its parts, whatever their forms.
 fn parts(credential: &[u8]) -> Option<Scope<'_>>
     ensures found { IfSome result
         (λ s. (credential.now ≡ s.key_id.now ++ 47 ∷ scope_text (scope_of s))
@@ -81,7 +81,7 @@ fn parts(credential: &[u8]) -> Option<Scope<'_>>
     })
 }
 
-// Whether each part has its form.
+// Whether each part has its form, and the date begins with the day.
 fn is_well_formed(scope: &Scope<'_>, date: &[u8]) -> bool
     ensures { IsTrue result
         ↔ (IsKeyId scope.now.key_id.now
@@ -98,7 +98,7 @@ impl<'a> Scope<'a> {
     ///
     /// # Errors
     ///
-    /// `Refusal::Credential` where the credential is of another form, or its day another one.
+    /// `Refusal::Credential` if the credential has another form or another day.
     pub fn read(credential: &'a [u8], date: &[u8]) -> Result<Scope<'a>, Refusal>
         ensures ok { IfOk result
             (λ s. IsCredential credential.now date.now s.key_id.now (scope_of s)) }

@@ -25,7 +25,7 @@ fn keyed(key: &[u8], text: &[u8]) -> [u8; 32]
     hmac.finish()
 }
 
-// The SHA-256 of the canonical request, which no hasher refuses.
+// The SHA-256 of the canonical request. Feeding it to a hasher never fails.
 fn canonical_digest(parts: &Parts<'_>) -> [u8; 32]
     ensures { (signed : Signed) → AreOf parts.now signed
         → (text : List ℕ) × IsTheOnly (IsCanonicalRequest signed) text × (result ≡ sha256 text) }
@@ -37,7 +37,7 @@ fn canonical_digest(parts: &Parts<'_>) -> [u8; 32]
     }
 }
 
-// In lower case.
+// The hexadecimal digits of the digest, in lower case.
 fn hex_digits(digest: [u8; 32]) -> [u8; 64]
     ensures { result ≡ encode_lower digest }
 {
@@ -46,8 +46,8 @@ fn hex_digits(digest: [u8; 32]) -> [u8; 64]
     digits
 }
 
-/// The signing key of a secret: HMAC of `AWS4` and the secret over the day, of that over the region,
-/// of that over `s3`, and of that over `aws4_request`.
+/// Derives the signing key from a secret with four HMACs. The first is keyed with `AWS4` followed by the secret, and covers
+/// the day. Each of the others is keyed with the result before it. They cover the region, `s3` and `aws4_request`, in this order.
 pub fn derive(secret: &[u8], scope: &Scope<'_>) -> [u8; 32]
     ensures { result ≡ signing_key secret.now (scope_of scope.now) }
 {
@@ -58,8 +58,9 @@ pub fn derive(secret: &[u8], scope: &Scope<'_>) -> [u8; 32]
     keyed(&of_service, b"aws4_request")
 }
 
-/// The signature of the canonical request of the parts, by a hasher for the signing key that was fed nothing: 64 hexadecimal
-/// digits in lower case. The request and the string to sign are sent to the hashers piece after piece, and are never held whole.
+/// Signs the canonical request of the parts. The hasher is for the signing key, and was fed nothing yet. The signature is 64
+/// hexadecimal digits in lower case. The request and the string to sign are sent to the hashers piece by piece, and are never
+/// held whole.
 pub fn sign(mut signed: Hmac, scope: &Scope<'_>, moment: &Moment, parts: &Parts<'_>) -> [u8; 64]
     ensures { (secret : List ℕ) → HmacHolds signed (signing_key secret (scope_of scope.now)) []
         → (request : Signed) → AreOf parts.now request
@@ -79,8 +80,7 @@ pub fn sign(mut signed: Hmac, scope: &Scope<'_>, moment: &Moment, parts: &Parts<
     hex_digits(signed.finish())
 }
 
-/// The signature under a secret of the canonical request of the parts, as [`sign`] gives it under the signing key of the
-/// secret.
+/// Signs the canonical request of the parts under a secret, as [`sign`] does under the secret's signing key.
 pub fn signature(secret: &[u8], scope: &Scope<'_>, moment: &Moment, parts: &Parts<'_>) -> [u8; 64]
     ensures { (signed : Signed) → AreOf parts.now signed
         → (text : List ℕ) × IsTheOnly (IsCanonicalRequest signed) text

@@ -9,12 +9,12 @@ use Rattle.boxes.specs.State.{Place, Receipt}
 use Rattle.boxes.proofs.Lookups.{some_none}
 use Rattle.sqlaudit.specs.declared.lines.FileLine.{FileLine}
 use Rattle.sqlaudit.specs.declared.rules.Lines.{Lines}
-use Rattle.sqltables.specs.Pieces.{AreBytesOf}
-use Rattle.sqlaudit.specs.Outlines.{Outline, AreLinesOf, IsSoundOutline, size_in}
+use Rattle.sqltables.specs.Pieces.{AreBytesOf, HasPiece}
+use Rattle.sqlaudit.specs.Outlines.{Outline, AreEntries, IsFileEntry, AreLinesOf, IsSoundOutline, size_in}
 use Rattle.sqlaudit.specs.Opened.{HasBytes}
 use Rattle.sqlaudit.proofs.ReceiptEntries.{one_pos}
 
--- the pieces at the place are these bytes, and the receipt of this number tells them
+-- the pieces at the place are these bytes, and the receipt of this number matches them
 pub record IsStored (rows : List Row) (o : Outline) (place : Place) (number : ℕ) (bytes : List ℕ) : Type 0 where
   pub at : ℕ
   pub counted : number ≡ at + 1
@@ -26,6 +26,7 @@ pub record IsStored (rows : List Row) (o : Outline) (place : Place) (number : �
   pub size : given.size ≡ length bytes
   pub digest : given.digest ≡ sha256 bytes
   pub pieces : AreBytesOf rows place (length bytes) bytes
+  pub bare : length bytes ≡ 0 → (piece : List ℕ) → HasPiece rows place 0 piece → ⊥
 
 pub told_size : (rows : List Row) (o : Outline) (place : Place) (number : ℕ) (bytes : List ℕ) → IsStored rows o place number bytes → size_in (slice_get o.receipts) number ≡ length bytes
 told_size rows o place number bytes it =
@@ -34,10 +35,11 @@ told_size rows o place number bytes it =
     ∙ ap (λ r. unwrap_or (option_map (λ (r : Receipt). r.size) r) 0) it.listed
     ∙ it.size
 
-module _ (rows : List Row) (lines : Lines) (o : Outline) (are : AreLinesOf lines o) (sound : IsSoundOutline o) (has : (file : FileLine) → Contains lines.files.now file → HasBytes rows lines.receipts.now file) where
+module _ (rows : List Row) (lines : Lines) (o : Outline) (are : AreLinesOf lines o) (sound : IsSoundOutline o)
+    (files : List FileLine) (files_of : AreEntries IsFileEntry (get o.files) files) (has : (file : FileLine) → Contains files file → HasBytes rows lines.receipts.now file) where
   stored : (place : Place) (number : ℕ) → get o.files place ≡ Some number → (bytes : List ℕ) × IsStored rows o place number bytes
   stored place number there =
-      let line = are.files.all place number there in
+      let line = files_of.all place number there in
       let it = has line.0 line.1 in
       let told = are.receipts.each it.given it.is.there in
       let rule = sound.files place number there in
@@ -58,6 +60,7 @@ module _ (rows : List Row) (lines : Lines) (o : Outline) (are : AreLinesOf lines
           size = ap (λ (r : Receipt). r.size) (sym same) ∙ size;
           digest = ap (λ (r : Receipt). r.digest) (sym same) ∙ sym told.2.digest_is ∙ sym it.digest;
           pieces = subst (λ (p : Place). AreBytesOf rows p (length it.bytes) it.bytes) (λ i. record { box = line.2.box_is i; name = line.2.name_is i }) it.are;
+          bare = subst (λ (p : Place). length it.bytes ≡ 0 → (piece : List ℕ) → HasPiece rows p 0 piece → ⊥) (λ i. record { box = line.2.box_is i; name = line.2.name_is i }) it.bare;
         },
       )
 
@@ -67,7 +70,7 @@ module _ (rows : List Row) (lines : Lines) (o : Outline) (are : AreLinesOf lines
       let it = stored place n there in
       (it.0, λ number is. let same : n ≡ number = cc in subst (λ m. IsStored rows o place m it.0) same it.1)
 
-  -- no bytes where no file is
+  -- the bytes of the file at this place; empty if there is no file
   pub bytes_at : Place → List ℕ
   bytes_at place = (chosen place (get o.files place) refl).0
 

@@ -1,4 +1,4 @@
--- The office of a sound outline and the bytes of its files.
+-- The office given by a sound outline and the bytes of its files.
 use Rattle.std.proofs.Common.{◌≡◌, ◌∙◌, ℕ, ◌≤◌, List, length, Option, Some, None, option_map, refl, sym, ap, subst}
 use Rattle.std.specs.Prelude.{slice_get, IsSome, IsSomeAnd}
 use Rattle.std.specs.FinMap.{get}
@@ -19,7 +19,7 @@ use Rattle.sqlaudit.proofs.Mapped.{mapped, get_mapped}
 use Rattle.sqlaudit.proofs.MappedSums.{sum_mapped, count_mapped}
 use Rattle.sqlaudit.proofs.AcceptedFiles.{IsStored, told_size}
 
--- where a replaced value is found, a value was
+-- if a mapped value is found, an original value existed
 was_there : {V W : Type 0} (g : V → W) (o : Option V) (w : W) → option_map g o ≡ Some w → (v : V) × (o ≡ Some v) × (g v ≡ w)
 was_there g None w is = absurd (some_none w (sym is))
 was_there g (Some v) w is = (v, refl, cc)

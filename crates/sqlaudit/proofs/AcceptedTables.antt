@@ -7,6 +7,7 @@ use Rattle.sqlite_value.specs.Order.{Row}
 use Rattle.sqlite_rules.proofs.ListLemmas.{has_contained, contains_had}
 use Rattle.sqlite.specs.Effect.{Database}
 use Rattle.sqlaudit.specs.declared.lines.OfficeLine.{OfficeLine}
+use Rattle.sqlaudit.specs.declared.lines.FileLine.{FileLine}
 use Rattle.sqlaudit.specs.declared.rules.Lines.{Lines}
 use Rattle.sqltables.specs.Schema.{Version, v1, v2}
 use Rattle.sqltables.specs.Tables.{RowsMean, IsOfficeRow, IsKeyRow, IsBoxRow, IsReceiptRow, IsFileRow, IsRulesRow, IsLimitRow}
@@ -78,10 +79,10 @@ module _ (v : Version) (db : Database) (lines : Lines) (listed : AreListed v db 
         key_is = l.key_is ∙ ap Text e.key_is;
       }) listed.receipts are.receipts listed.receipts_rowids
 
-  pub files_mean : RowsMean IsFileRow (get o.files) (db.trees 6)
-  files_mean = rows_mean IsFileLine IsFileEntry IsFileRow (db.trees 6) lines.files.now (get o.files)
+  pub files_mean : (files : List FileLine) → AreLines IsFileLine (db.trees 6) files → HaveRowids (db.trees 6) → AreEntries IsFileEntry (get o.files) files → RowsMean IsFileRow (get o.files) (db.trees 6)
+  files_mean files files_listed files_ids files_of = rows_mean IsFileLine IsFileEntry IsFileRow (db.trees 6) files (get o.files)
       (λ row line place number there l e. record { box_is = l.box_is ∙ ap Text e.box_is; name_is = l.name_is ∙ ap Text e.name_is; receipt_is = l.receipt_is ∙ ap Int e.receipt_is })
-      listed.files are.files listed.files_rowids
+      files_listed files_of files_ids
 
   pub rules_mean : v ≡ v2 → RowsMean IsRulesRow (λ one. Some o.allowance) (db.trees 11)
   rules_mean second = rows_mean IsRulesLine IsRulesEntry IsRulesRow (db.trees 11) lines.rules.now (λ one. Some o.allowance)

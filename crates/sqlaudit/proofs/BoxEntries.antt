@@ -1,4 +1,4 @@
--- A line is one box.
+-- A line is only one box.
 use Rattle.std.proofs.Common.{◌≡◌, ◌∙◌, map, eqb, refl, sym, ap}
 use Rattle.boxes.specs.declared.rows.Mode.{Mode}
 use Rattle.boxes.specs.declared.rows.Mode.TheVariants.{Keep, Replace}

@@ -1,4 +1,4 @@
--- What two looks at a file tell, for version 2 and then for version 1.
+-- The result of two tests of a file, for version 2 and then for version 1.
 use Rattle.std.proofs.Common.{◌≡◌, ◌≢◌, inl, inr, ℤ, pos, sym, subst, ◌∙◌}
 use Rattle.sqlite_value.specs.declared.value.Value.TheVariants.{Int}
 use Rattle.sqlite.specs.Effect.{Database}
@@ -14,11 +14,11 @@ use Rattle.sqlaudit.proofs.Tested.{office_version}
 pub other_is_whole : {finding : Finding} → finding ≡ OtherVersion → finding ≢ Damaged
 other_is_whole is damaged = let e : ◌≡◌ {A = Finding} OtherVersion Damaged = sym is ∙ damaged in cc
 
--- one version is said
+-- a database says only one version
 one_said : (db : Database) (a b : ℤ) → SaysVersion db a → SaysVersion db b → a ≡ b
 one_said db a b one two = let same : Int a ≡ Int b = sym (one.each one.row one.there) ∙ two.each one.row one.there in cc
 
--- the second look was at what the first one saw
+-- the second test saw the same as the first
 pub ours_still : (old mid : State) → SeesSame old mid → HasOurs old → HasOurs mid
 ours_still old mid same ours is_open = subst (λ db. IsOurs db.schema) (sym (same.now_is is_open)) (ours (same.was_open is_open))
 

@@ -1,5 +1,5 @@
 -- Lines that are the entries of a map, as a loop reads them.
-use Rattle.std.proofs.Common.{◌≡◌, ◌∙◌, ◌⊎◌, inl, inr, ℕ, zero, suc, ◌+◌, ◌<◌, true, false, cond, List, [], ◌∷◌, ◌++◌, take, drop, length, get_or, Option, Some, None, refl, sym, ap, subst, arith}
+use Rattle.std.proofs.Common.{◌≡◌, ◌∙◌, ◌⊎◌, inl, inr, ℕ, zero, suc, ◌+◌, ◌<◌, true, false, cond, List, [], ◌∷◌, ◌++◌, take, drop, length, get_or, append_assoc, Option, Some, None, refl, sym, ap, subst, arith}
 use Rattle.std.specs.Prelude.{Contains, option_map}
 use Rattle.std.specs.declared.cmp.Ordering.{Ordering}
 use Rattle.std.specs.Ordering.{is_eq, eq_by_cmp}
@@ -12,7 +12,7 @@ use Rattle.boxes.proofs.Lookups.{equal_is, some_none}
 use Rattle.boxes.specs.Maps.{found}
 use Rattle.boxes.proofs.MapLemmas.{sets_of, means-set, means-empty}
 use Rattle.sqlaudit.specs.Outlines.{AreEntries}
-use Rattle.sqlaudit.specs.Sorting.{AreIn, IsGood}
+use Rattle.sqlaudit.specs.Sorting.{AreAmong, AreIn, IsGood}
 
 only_at : {X : Type 0} (l x : X) (k : ℕ) → k < 1 → get_or (l ∷ []) k x ≡ x → l ≡ x
 only_at l x zero h e = e
@@ -27,7 +27,7 @@ itself l = (0, omega arith, refl)
 pub in_front : {X : Type 0} (xs : List X) (i : ℕ) (x : X) → Contains (take i xs) x → Contains xs x
 in_front xs i x h = subst (λ ys. Contains ys x) (take-append-drop i xs) (Contains-append_left (take i xs) (drop i xs) x h)
 
--- A line is one entry.
+-- A line is only one entry.
 abbrev pub IsFunctional : {L K V : Type 0} → (L → K → V → Type 0) → Type 0
 IsFunctional {L} {K} {V} E = (l : L) (j k : K) (v w : V) → E l j v → E l k w → (j ≡ k) × (v ≡ w)
 
@@ -41,7 +41,7 @@ module _ {L K V : Type 0} (R : K → K → Ordering) (o : IsTotalOrder R) (same 
   pub put_there : (m : FinMap R V) (k : K) (v : V) → get (insert m k v) k ≡ Some v
   put_there m k v = get-insert o m k v k ∙ ap (λ r. cond (is_eq r) (Some v) (get m k)) (tied_itself o k)
 
-  -- what was there stays
+  -- an existing entry stays
   stays : (m : FinMap R V) (k q : K) (v w : V) → (get m k ≡ None) ⊎ (get m k ≡ Some v) → get m q ≡ Some w → get (insert m k v) q ≡ Some w
   stays m k q v w free there = get-insert o m k v q ∙
       elim (eq_by_cmp R q k) as (λ t. eq_by_cmp R q k ≡ t → cond t (Some v) (get m q) ≡ Some w) [
@@ -66,20 +66,24 @@ module _ {L K V : Type 0} (R : K → K → Ordering) (o : IsTotalOrder R) (same 
     ] refl (sym (get-insert o m k v q) ∙ e);
   }
 
-  -- two lines that differ under one key are no map's entries
-  pub clash : IsFunctional E → (look : K → Option V) (ls : List L) (i : ℕ) (m : FinMap R V) (l : L) (k : K) (v w : V) → AreEntries E look ls → AreEntries E (get m) (take i ls)
-      → Contains ls l → E l k v → get m k ≡ Some w → v ≡ w
-  clash functional look ls i m l k v w all front there is stood =
+  -- two lines that differ under one key are not entries of the same map
+  pub clash_among : IsFunctional E → (look : K → Option V) (ls before : List L) (m : FinMap R V) (l : L) (k : K) (v w : V) → AreAmong E look ls → AreEntries E (get m) before
+      → ((x : L) → Contains before x → Contains ls x) → Contains ls l → E l k v → get m k ≡ Some w → v ≡ w
+  clash_among functional look ls before m l k v w all front inside there is stood =
       let old = front.all k w stood in
-      let a = all.each old.0 (in_front ls i old.0 old.1) in
-      let b = all.each l there in
+      let a = all old.0 (inside old.0 old.1) in
+      let b = all l there in
       let same_a = functional old.0 a.0 k a.1 w a.2 old.2 in
       let same_b = functional l b.0 k b.1 v b.2 is in
       let first : look k ≡ Some w = ap look (sym same_a.0) ∙ a.3 ∙ ap (λ x. Some x) same_a.1 in
       let second : look k ≡ Some v = ap look (sym same_b.0) ∙ b.3 ∙ ap (λ x. Some x) same_b.1 in
       cc
 
-  -- the lines are one map's entries at most
+  pub clash : IsFunctional E → (look : K → Option V) (ls : List L) (i : ℕ) (m : FinMap R V) (l : L) (k : K) (v w : V) → AreEntries E look ls → AreEntries E (get m) (take i ls)
+      → Contains ls l → E l k v → get m k ≡ Some w → v ≡ w
+  clash functional look ls i m l k v w all front there is stood = clash_among functional look ls (take i ls) m l k v w all.each front (in_front ls i) there is stood
+
+  -- the lines are the entries of at most one map
   pub one_map : IsFunctional E → (look other : K → Option V) (ls : List L) → AreEntries E look ls → AreEntries E other ls → (k : K) (v : V) → look k ≡ Some v → other k ≡ Some v
   one_map functional look other ls a b k v there =
       let line = a.all k v there in
@@ -101,31 +105,36 @@ module _ {L Q K X V : Type 0} (R : K → K → Ordering) (o : IsTotalOrder R) (s
   abbrev pub start : AreIn R f g E [] []
   start = record { map = empty; means = means-empty R f o g; entries = no_lines R o same E }
 
-  -- one line more, in the map of the code
-  abbrev pub next_line : (ls : List L) (i : ℕ) (l : L) (m n : BTreeMap Q X) (k : K) (x : X) → AreIn R f g E (take i ls) m.entries → i < length ls → get_or ls i l ≡ l → E l k (g x)
+  -- one more line, in the map of the code
+  abbrev pub next_entry : (before : List L) (l : L) (m n : BTreeMap Q X) (k : K) (x : X) → AreIn R f g E before m.entries → E l k (g x)
       → UpdatesBy (λ a b. R (f a) (f b)) (λ a. R k (f a)) m n (Some x) → (found R f m.entries k ≡ None) ⊎ ((y : X) × (found R f m.entries k ≡ Some y) × (g y ≡ g x))
-      → AreIn R f g E (take (i + 1) ls) n.entries
-  next_line ls i l m n k x old lt here is updates free = record {
+      → AreIn R f g E (before ++ l ∷ []) n.entries
+  next_entry before l m n k x old is updates free = record {
     map = insert old.map k (g x);
     means = means-set R f o g m.entries n.entries old.map k x old.means (sets_of R f o m n k (Some x) updates);
     entries =
-        let before : (get old.map k ≡ None) ⊎ (get old.map k ≡ Some (g x)) = elim free [
+        let stood : (get old.map k ≡ None) ⊎ (get old.map k ≡ Some (g x)) = elim free [
           | inl none ↦ inl (old.means.each k ∙ ap (option_map g) none)
           | inr some ↦ inr (old.means.each k ∙ ap (option_map g) some.1 ∙ ap (λ y. Some y) some.2)
         ] in
-        subst (λ xs. AreEntries E (get (insert old.map k (g x))) xs) (sym (take_more ls i l lt ∙ ap (λ y. take i ls ++ y ∷ []) here))
-        (one_more R o same E old.map (take i ls) l k (g x) old.entries is before);
+        one_more R o same E old.map before l k (g x) old.entries is stood;
   }
+
+  abbrev pub next_line : (ls : List L) (i : ℕ) (l : L) (m n : BTreeMap Q X) (k : K) (x : X) → AreIn R f g E (take i ls) m.entries → i < length ls → get_or ls i l ≡ l → E l k (g x)
+      → UpdatesBy (λ a b. R (f a) (f b)) (λ a. R k (f a)) m n (Some x) → (found R f m.entries k ≡ None) ⊎ ((y : X) × (found R f m.entries k ≡ Some y) × (g y ≡ g x))
+      → AreIn R f g E (take (i + 1) ls) n.entries
+  next_line ls i l m n k x old lt here is updates free =
+      subst (λ xs. AreIn R f g E xs n.entries) (sym (take_more ls i l lt ∙ ap (λ y. take i ls ++ y ∷ []) here)) (next_entry (take i ls) l m n k x old is updates free)
 
 pub has_at : {X : Type 0} (xs : List X) (i : ℕ) (x : X) → i < length xs → get_or xs i x ≡ x → Contains xs x
 has_at xs i x lt here = (i, lt, here)
 
--- a line that is no entry is in no map
+-- lines with a line that is not an entry are not the entries of any map
 pub refused : {L K V : Type 0} (E : L → K → V → Type 0) (look : K → Option V) (ls : List L) (i : ℕ) (l : L) → i < length ls → get_or ls i l ≡ l
     → ((k : K) (v : V) → E l k v → ⊥) → AreEntries E look ls → ⊥
 refused E look ls i l lt here none all = let e = all.each l (has_at ls i l lt here) in none e.0 e.1 e.2
 
--- a line whose key stands already with another value
+-- a line whose key already exists with a different value
 pub clashed : {L Q K X V : Type 0} (R : K → K → Ordering) (o : IsTotalOrder R) (same : IsAntisymmetric R) (f : Q → K) (g : X → V) (E : L → K → V → Type 0) → IsFunctional E
     → (look : K → Option V) (ls : List L) (i : ℕ) (l : L) (es : List (Q × X)) (k : K) (x y : X) → AreIn R f g E (take i ls) es → i < length ls → get_or ls i l ≡ l → E l k (g x)
     → found R f es k ≡ Some y → (g y ≡ g x → ⊥) → AreEntries E look ls → ⊥
@@ -133,7 +142,34 @@ clashed R o same f g E functional look ls i l es k x y old lt here is stood apar
     let there = old.means.each k ∙ ap (option_map g) stood in
     apart (sym (clash R o same E functional look ls i old.map l k (g x) (g y) all old.entries (has_at ls i l lt here) is there))
 
--- what holds of each line so far, and of one more
+-- ---- lines that are some of a map's entries
+
+-- one more item
+pub more_behind : {X : Type 0} (before xs : List X) (i : ℕ) (x : X) → i < length xs → get_or xs i x ≡ x → (before ++ take i xs) ++ x ∷ [] ≡ before ++ take (i + 1) xs
+more_behind before xs i x lt here = append_assoc before (take i xs) (x ∷ []) ∙ ap (◌++◌ before) (sym (take_more xs i x lt ∙ ap (λ y. take i xs ++ y ∷ []) here))
+
+pub among_front : {L K V : Type 0} (E : L → K → V → Type 0) (look : K → Option V) (before ls : List L) (i : ℕ) → AreAmong E look (before ++ ls) → AreAmong E look (before ++ take i ls)
+among_front E look before ls i all x there = elim (Contains-append_cases before (take i ls) x there) [
+  | inl old ↦ all x (Contains-append_left before ls x old)
+  | inr new ↦ all x (Contains-append_right before ls x (in_front ls i x new))
+]
+
+pub last_there : {X : Type 0} (before : List X) (l : X) → Contains (before ++ l ∷ []) l
+last_there before l = Contains-append_right before (l ∷ []) l (itself l)
+
+-- a line that is not an entry
+pub refused_among : {L K V : Type 0} (E : L → K → V → Type 0) (look : K → Option V) (before : List L) (l : L) → ((k : K) (v : V) → E l k v → ⊥) → AreAmong E look (before ++ l ∷ []) → ⊥
+refused_among E look before l none all = let e = all l (last_there before l) in none e.0 e.1 e.2
+
+-- a line whose key already exists with a different value
+pub clashed_among : {L Q K X V : Type 0} (R : K → K → Ordering) (o : IsTotalOrder R) (same : IsAntisymmetric R) (f : Q → K) (g : X → V) (E : L → K → V → Type 0) → IsFunctional E
+    → (look : K → Option V) (before : List L) (l : L) (es : List (Q × X)) (k : K) (x y : X) → AreIn R f g E before es → E l k (g x)
+    → found R f es k ≡ Some y → (g y ≡ g x → ⊥) → AreAmong E look (before ++ l ∷ []) → ⊥
+clashed_among R o same f g E functional look before l es k x y old is stood apart all =
+    let there = old.means.each k ∙ ap (option_map g) stood in
+    apart (sym (clash_among R o same E functional look (before ++ l ∷ []) before old.map l k (g x) (g y) all old.entries (λ z h. Contains-append_left before (l ∷ []) z h) (last_there before l) is there))
+
+-- what holds of each line so far, and of one more, holds of all of them
 pub each_more : {X : Type 0} (P : X → Type 0) (xs : List X) (i : ℕ) (x : X) → ((y : X) → Contains (take i xs) y → P y) → i < length xs → get_or xs i x ≡ x → P x
     → (y : X) → Contains (take (i + 1) xs) y → P y
 each_more P xs i x before lt here is y there =
@@ -145,7 +181,7 @@ each_more P xs i x before lt here is y there =
 pub none_before : {X : Type 0} (P : X → Type 0) (xs : List X) (y : X) → Contains (take 0 xs) y → P y
 none_before P xs y h = absurd (omega (arith, h.1))
 
--- lines whose entries keep a rule, and such lines without it
+-- lines whose entries obey a rule, with the rule and without it
 pub with_rule : {L K V : Type 0} (E : L → K → V → Type 0) (P : K → V → Type 0) (look : K → Option V) (ls : List L) → AreEntries E look ls → ((k : K) (v : V) → look k ≡ Some v → P k v)
     → AreEntries (IsGood E P) look ls
 with_rule E P look ls a keeps = record {

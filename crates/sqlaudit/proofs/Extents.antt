@@ -1,4 +1,4 @@
--- How many of an office's tables a schema of ours has.
+-- How many of an office's tables one of our schemas has.
 use Rattle.sqltables.specs.Schema.{first_version, second_version}
 use Rattle.std.proofs.Common.{◌≡◌, ◌≢◌, inl, inr, List, length, Some, slice_get, arith, refl, sym, subst, ◌∙◌}
 use Rattle.sqlite_rules.specs.Lists.{Has}
@@ -12,7 +12,7 @@ use Rattle.sqlaudit.specs.Formats.{version_of}
 use Rattle.sqlaudit.specs.Opened.{IsOurs, IsTableAt, BeginsAsOffice, BeginNamed, AreFirstNamed, AreNamed, AreNamedAs}
 use Rattle.sqltables.proofs.Ours.{keys_at, boxes_at, receipts_at, files_at, pieces_at, rules_at, limits_at}
 
--- what is known of the one table in a place
+-- what is known about the table at a position
 pub table_at : (tables : List Table) (at : _) (name : _) (columns : _) (t : Table) → slice_get tables at ≡ Some t → IsTableAt tables at name columns → (t.name ≡ name) × (length t.columns ≡ columns)
 table_at tables at name columns t there is =
     let some : Some is.table ≡ Some t = sym is.there ∙ there in
@@ -85,7 +85,7 @@ whole_named Second = record {
   views = refl;
 }
 
--- other tables than six, or than nine
+-- a schema with a number of tables other than six, or other than nine
 not_six : (s : Schema) → length s.tables ≢ 6 → AreFirstNamed s → s ≡ s6
 not_six s other named = absurd (other named.six)
 

@@ -1,4 +1,4 @@
--- A line is one file, and what a file adds to its box.
+-- A line is only one file, and what a file adds to its box.
 use Rattle.std.proofs.Common.{◌≡◌, ◌∙◌, ℕ, ◌+◌, ◌-◌, ◌^◌, pos, true, false, cond, List, [], length, Some, None, refl, sym, ap, arith}
 use Rattle.std.specs.Prelude.{slice_get, filter, sum_by, min, unwrap_or, option_map}
 use Rattle.std.specs.Ordering.{is_eq, eq_by_cmp}
@@ -31,11 +31,11 @@ one_filed rs l j k v w a b = one_file l j k v w a.entry b.entry
 less_one : (n : ℕ) → (n + 1) - 1 ≡ n
 less_one n = omega arith
 
-pub filed : (rs : List Receipt) (line : FileLine) (at : ℕ) (r : Receipt) → slice_get rs at ≡ Some r → line.receipt ≡ pos (at + 1) → r.box ≡ line.in_box.items → r.name ≡ line.name.items
-    → IsFiled rs line (record { box = line.in_box.items; name = line.name.items }) (at + 1) × (r.size ≡ size_in (slice_get rs) (at + 1))
-filed rs line at r there number box name = (
+pub filed : (rs : List Receipt) (line : FileLine) (at : ℕ) (r : Receipt) → slice_get rs at ≡ Some r → line.receipt ≡ pos (at + 1) → (place : Place) → r.box ≡ place.box → r.name ≡ place.name
+    → line.in_box.items ≡ place.box → line.name.items ≡ place.name → IsFiled rs line place (at + 1) × (r.size ≡ size_in (slice_get rs) (at + 1))
+filed rs line at r there number place box name in_box called = (
   record {
-    entry = record { box_is = refl; name_is = refl; receipt_is = number };
+    entry = record { box_is = in_box; name_is = called; receipt_is = number };
     rule = record { at = at; counted = refl; given = r; listed = there; box = box; name = name };
   },
   sym (ap (λ n. unwrap_or (option_map (λ (x : Receipt). x.size) (slice_get rs n)) 0) (less_one at) ∙ ap (λ o. unwrap_or (option_map (λ (x : Receipt). x.size) o) 0) there),
@@ -111,7 +111,7 @@ cap_twice m a b = omega arith
 not_tied : (a b : List ℕ) → eq_by_cmp bytes_cmp b a ≡ false → a ≡ b → ⊥
 not_tied a b t e = let same : eq_by_cmp bytes_cmp b a ≡ true = ap (λ x. eq_by_cmp bytes_cmp b x) e ∙ ap is_eq (tied_itself bytes_total b) in cc
 
--- a file more
+-- one more file
 pub sums_more : (rs : List Receipt) (m : FinMap place_cmp ℕ) (p : Place) (n : ℕ) (before after : List (Bor (List ℕ) × Totals)) → AreSums rs m before → get m p ≡ None
     → AddsTo p.box (size_in (slice_get rs) n) before after → AreSums rs (insert m p n) after
 sums_more rs m p n before after old none adds = record {

@@ -1,4 +1,4 @@
--- A line is one key.
+-- A line is only one key.
 use Rattle.std.proofs.Common.{◌≡◌, ◌∙◌, refl, sym, Bool, true, false}
 use Rattle.boxes.specs.declared.rows.Role.{Role}
 use Rattle.boxes.specs.declared.rows.Role.TheVariants.{Clerk, Link}

@@ -1,8 +1,10 @@
 pub mod WholeRules
+pub mod Rising
 pub mod Apart
 pub mod Listed
 pub mod PortionRows
 pub mod LongTexts
+pub mod WalkedFiles
 pub mod Entries
 pub mod KeyEntries
 pub mod ReceiptEntries
@@ -14,6 +16,7 @@ pub mod OfficeEntries
 pub mod LimitEntries
 pub mod Mapped
 pub mod PieceKeys
+pub mod PieceFiles
 pub mod AcceptedTables
 pub mod MappedSums
 pub mod AcceptedFiles

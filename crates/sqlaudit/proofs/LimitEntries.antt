@@ -1,4 +1,4 @@
--- The line of the allowance, and the lines of the limits as a set of them.
+-- The line of the allowance, and the lines of the limits as a set.
 use Rattle.std.proofs.Common.{◌≡◌, ◌∙◌, inl, inr, ◌⊎◌, ℕ, pos, List, [], ◌∷◌, ◌++◌, Option, Some, None, refl, sym, ap, subst, arith}
 use Rattle.std.specs.Prelude.{Contains, slice_get, ◌<◌, length, get_or}
 use Rattle.std.proofs.lemmas.Option.{slice_get-get_or}
@@ -15,7 +15,7 @@ use Rattle.sqlaudit.specs.Sorting.{limit_in}
 use Rattle.sqlaudit.proofs.Entries.{no_lines, one_more, only, itself}
 use Rattle.sqlaudit.proofs.ReceiptEntries.{one_pos}
 
--- ---- the one line of the rules
+-- ---- the only line of the rules
 
 abbrev RulesAre : List RulesLine → ℕ → Type 0
 RulesAre ls allowance = AreEntries IsRulesEntry (λ one. Some allowance) ls
@@ -34,7 +34,7 @@ rules_line ls l allowance there is =
     let same : allowance ≡ e.1 = cc in
     record { id_is = e.2.id_is; allowance_is = e.2.allowance_is ∙ ap (λ n. pos n) (sym same) }
 
--- lines that are each the one of this allowance
+-- lines that each give the one row of the rules with this allowance
 pub rules_are : (ls : List RulesLine) (first : RulesLine) (allowance : ℕ) → Contains ls first → first.allowance ≡ pos allowance
     → ((l : RulesLine) → Contains ls l → (l.id ≡ pos 1) × (l.allowance ≡ first.allowance)) → RulesAre ls allowance
 rules_are ls first allowance there told each = record {
@@ -92,7 +92,7 @@ gathered (l ∷ ls) front m are =
 pub limits_of : (ls : List LimitLine) → (limits : FinMap limit_cmp (Unit {0})) × AreEntries IsLimitEntry (get limits) ls
 limits_of ls = gathered ls [] empty (no_lines limit_cmp limit_total limit_same IsLimitEntry)
 
--- ---- a line in its place
+-- ---- a line at a position
 
 abbrev pub no_rules_line : RulesLine
 no_rules_line = record { id = pos 0; allowance = pos 0 }

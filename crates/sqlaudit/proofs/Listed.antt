@@ -1,4 +1,4 @@
--- What a query for a whole table tells of its rows.
+-- What a query for a whole table says about its rows.
 use Rattle.std.proofs.Common.{◌≡◌, inl, inr, ℕ, ℤ, List, [], ◌∷◌, map, filter, true, Result, Ok, Err, IfOk, OnOk, IsTrue, Less, int_cmp, refl, sym, ap, ap₂, subst, ◌∙◌}
 use Rattle.std.specs.List.{AllZip}
 use Rattle.std.specs.Ordering.{ordering_reverse}
@@ -21,14 +21,14 @@ use Rattle.std.specs.List.Sorted.{IsPermutation}
 use Rattle.sqlite_trees.proofs.ListLemmas.{map-map, pull_back}
 use Rattle.sqlite.proofs.Callers.{reads_as}
 use Rattle.sqltables.specs.Schema.{Version}
-use Rattle.sqlaudit.specs.Lines.{AreLines, AreNumbered, AreRead, HaveRowids}
+use Rattle.sqlaudit.specs.Lines.{AreLines, AreNumbersOf, AreRead, HaveRowids}
 use Rattle.sqltables.proofs.Forms.{all_rows, no_limit, select}
 use Rattle.sqltables.proofs.Says.{Asks}
 use Rattle.sqltables.proofs.Shown.{shown_open, shown_unchanged}
 use Rattle.sqltables.proofs.Queries.{has_permuted}
 use Rattle.sqltables.proofs.Ordered.{arranged}
 
--- ---- rows and lines, place by place
+-- ---- rows and lines, position by position
 
 module _ {L : Type 0} (reads : Row → L → Type 0) where
   pub line_of : (rows : List Row) (lines : List L) → AllZip reads rows lines → (row : Row) → Has rows row → (line : L) × Has lines line × reads row line
@@ -44,7 +44,7 @@ module _ {L : Type 0} (reads : Row → L → Type 0) where
   row_of (r ∷ rows) (l ∷ lines) zip line (inl here) = (r, inl refl, subst (reads r) (sym here) zip.0)
   row_of (r ∷ rows) (l ∷ lines) zip line (inr later) = let rest = row_of rows lines zip.1 line later in (rest.0, inr rest.1, rest.2)
 
--- ---- rows that numbers tell apart
+-- ---- rows that are distinguished by numbers
 
 one_number : (x y : ℤ) → Int x ≡ Int y → x ≡ y
 one_number x y same = cc
@@ -81,7 +81,7 @@ apart (r ∷ rows) (n ∷ numbers) same rising a b (inr a_in) (inr b_in) equal =
 
 -- ---- the whole table
 
--- the rows of the table, in some order, and what is shown of each
+-- the rows of the table in some order, and what is shown of each
 pub record Lists (show : Row → Row) (rows shown : List Row) : Type 0 where
   pub found : List Row
   pub same : IsPermutation rows found
@@ -91,7 +91,7 @@ all_pass : (rows : List Row) → filter (λ r. true) rows ≡ rows
 all_pass [] = refl
 all_pass (r ∷ rows) = ap (◌∷◌ r) (all_pass rows)
 
--- SELECT of these terms of each row of a table, in this order
+-- SELECT of these terms for each row of a table, in this order
 pub lists : (tree : ℕ) (project : List Term) (order : List (Term × Sort)) (db : Trees) (shown : List Row) → IsAnswer (all_rows tree project order) db [] shown → Lists (λ r. eval_all project ([] ∷ r ∷ [])) (db tree) shown
 lists tree project order db shown answer =
     let it = arranged tree [] project order no_limit db [] shown answer in
@@ -111,11 +111,11 @@ module _ {L : Type 0} (reads IsLine : Row → L → Type 0) (show : Row → Row)
         (r.0, there, fits r.0 line there (subst (λ y. reads y line) r.2 x.2));
   }
 
-module _ (show : Row → Row) (keeps : (r : Row) → column (show r) 0 ≡ rowid r) (rows shown : List Row) (listed : Lists show rows shown) (numbered : AreNumbered shown) where
+module _ (show : Row → Row) (keeps : (r : Row) → column (show r) 0 ≡ rowid r) (rows shown : List Row) (listed : Lists show rows shown) (numbers : List ℤ) (numbered : AreNumbersOf shown numbers) where
   abbrev from : (xs : List Row) × IsPermutation listed.found xs × (numbered.found ≡ map show xs)
   from = pull_back show shown numbered.found numbered.same listed.found listed.is
 
-  firsts : map rowid from.0 ≡ map Int numbered.numbers
+  firsts : map rowid from.0 ≡ map Int numbers
   firsts = sym (map-map first show from.0 ∙ same_map from.0) ∙ ap (map first) (sym from.2) ∙ numbered.are
     where
       same_map : (xs : List Row) → map (λ r. first (show r)) xs ≡ map rowid xs
@@ -126,13 +126,13 @@ module _ (show : Row → Row) (keeps : (r : Row) → column (show r) 0 ≡ rowid
   inside row has = has_permuted from.0 listed.found row (IsPermutation-sym _ _ from.1) (has_permuted listed.found rows row (IsPermutation-sym _ _ listed.same) has)
 
   -- the rowid of each row is one of the numbers
-  pub rowid_of : (row : Row) → Has rows row → (n : ℤ) × Has numbered.numbers n × (rowid row ≡ Int n)
-  rowid_of row has = number_of from.0 numbered.numbers firsts row (inside row has)
+  pub rowid_of : (row : Row) → Has rows row → (n : ℤ) × Has numbers n × (rowid row ≡ Int n)
+  rowid_of row has = number_of from.0 numbers firsts row (inside row has)
 
   pub rowids : HaveRowids rows
   rowids = record {
     keyed = λ row has. let n = rowid_of row has in (n.0, n.2);
-    apart = λ a b has_a has_b equal. apart from.0 numbered.numbers firsts numbered.rising a b (inside a has_a) (inside b has_b) equal;
+    apart = λ a b has_a has_b equal. apart from.0 numbers firsts numbered.rising a b (inside a has_a) (inside b has_b) equal;
   }
 
 -- ---- the query
@@ -151,14 +151,14 @@ module _ {L : Type 0} (reads IsLine : Row → L → Type 0) (v : Version) (text 
   lines_listed = lines_are reads IsLine (λ r. eval_all project ([] ∷ r ∷ [])) table read.rows listed lines read.each
 
   pub rowids_listed : ((row : Row) → column (eval_all project ([] ∷ row ∷ [])) 0 ≡ rowid row) → HaveRowids table
-  rowids_listed keeps = rowids (λ r. eval_all project ([] ∷ r ∷ [])) keeps table read.rows listed read.numbered
+  rowids_listed keeps = rowids (λ r. eval_all project ([] ∷ r ∷ [])) keeps table read.rows listed read.numbers read.numbered
 
   pub unchanged : IsUnchanged old new
   unchanged = shown_unchanged v text (select (all_rows tree project order) names) asks [] old new has read.rows read.shown
 
 -- ---- any query
 
--- what was read, where the schema is ours
+-- what was read, if the schema is ours
 pub as_read : {L X : Type 0} (lines_of : X → List L) (reads : Row → L → Type 0) (text : List ℕ) (old new : State) (P : X → Type 0) (r : Result X Error)
     → IfOk r (λ x. AreRead reads text old new (lines_of x)) → ((x : X) → IsTrue old.is_open → AreRead reads text old new (lines_of x) → P x) → IfOk r P
 as_read lines_of reads text old new P (Ok x) read more = more x (shown_open text [] old new read.rows read.shown) read

@@ -1,4 +1,4 @@
--- A file that was only looked at, in a transaction that was rolled back.
+-- A file that was only tested, in a transaction that was rolled back.
 use Rattle.std.proofs.Common.{◌≡◌, inl, inr, false, IsTrue, [], arith, refl, sym, subst, ◌∙◌}
 use Rattle.sqlite_trees.specs.Tree.{Trees}
 use Rattle.sqlite_value.specs.Order.{Row}
@@ -18,12 +18,12 @@ begun_of v version Nothing schema is not = absurd (not refl)
 begun_of v version Begun schema is not = is.0
 begun_of v version Whole schema is not = subst (Has begun_schemas) (sym is) (ours_begun v version)
 
--- what is known of an open database before it is looked at
+-- what is known about an open database before it is tested
 pub looks_at : (v : Version) → IsVersion v → (s : State) (extent : Extent) → HasOurs s → (IsOurs s.now.schema → IsExtent v extent s.now.schema) → (extent ≡ Nothing → ⊥) → IsLive s → IsBegunAs v extent s
 unfolding IsWhole
 looks_at v version s extent ours is not live is_open = let e = is (ours is_open) in (begun_of v version extent s.now.schema e not, e, (live is_open).0)
 
--- a transaction that begins
+-- a transaction begins
 pub record Begins (old begun : State) : Type 1 where
   pub now_is : begun.now ≡ old.now
   pub committed_is : begun.committed ≡ old.committed
@@ -61,7 +61,7 @@ module _ (old begun mid new : State) (begins : Begins old begun) (settled : IsSe
     honest = λ clean. begins.clean (omega (arith, clean, after.clean, before.clean));
   }
 
--- a file that nobody looked at
+-- a file that was not tested
 pub as_it_is : (s : State) → LeavesUntouched s s
 as_it_is s = record {
   same = λ clean. record { was_open = λ is_open. is_open; now_is = λ is_open. refl; committed_is = λ is_open. refl; mode = refl };
@@ -75,7 +75,7 @@ module _ (old new : State) (left : LeavesUntouched old new) (settled : IsSettled
       let same = left.same clean in
       record { autocommit = same.mode ∙ mode; settled = λ is_open. same.now_is is_open ∙ settled (same.was_open is_open) ∙ sym (same.committed_is is_open) }
 
--- a statement was compiled behind the look, or refused
+-- after the test a statement was compiled or refused
 module _ (old mid new : State) (left : LeavesUntouched old mid) (survives : Survives mid new (λ db. ⊥)) where
   early : HasCleanDisk new → HasCleanDisk mid
   early clean = omega (arith, clean, survives.clean)

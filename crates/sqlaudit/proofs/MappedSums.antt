@@ -10,7 +10,7 @@ use Rattle.std.proofs.lemmas.List.Sums.{sum_by-cons}
 use Rattle.boxes.proofs.EntrySums.{filter-none}
 use Rattle.sqlaudit.proofs.Mapped.{with_values, mapped, entries_mapped}
 
--- where nothing passes, each fails
+-- if no item passes, each item fails
 each_fails : {X : Type 0} (p : X → Bool) (xs : List X) → filter p xs ≡ [] → AllByRecursion (λ x. p x ≡ false) xs
 each_fails p [] none = tt
 each_fails p (x ∷ xs) none = go (p x) refl none (each_fails p xs)
@@ -43,7 +43,7 @@ module _ {K V W : Type 0} (R : K → K → Ordering) (f : K → V → W) (p : K 
         | false ↦ as_many es
       ]
 
-  -- the sum of what each value was replaced by
+  -- the sum of the replacement values
   pub sum_mapped : IsTotalOrder R → IsAntisymmetric R → (m : FinMap R V) (w : K × W → ℕ) (u : K × V → ℕ) → ((k : K) (v : V) → get m k ≡ Some v → w (k, f k v) ≡ u (k, v))
       → sum_by w (filter (λ e. p e.0) (entries (mapped R f m))) ≡ sum_by u (filter (λ e. p e.0) (entries m))
   sum_mapped o same m w u alike =

@@ -1,4 +1,4 @@
--- An office without the bytes of its files keeps the rules that it keeps.
+-- An office without the bytes of its files obeys the rules that the office obeys.
 use Rattle.std.proofs.Common.{◌≡◌, ℕ, ◌-◌, List, length, Option, None, Some, option_map, unwrap_or, slice_get, refl, sym, ap, subst, ◌∙◌, arith}
 use Rattle.std.specs.Prelude.{IsSome, IsSomeAnd}
 use Rattle.std.specs.List.{AllByRecursion}
@@ -42,13 +42,13 @@ box_look s name = get_mapped bytes_cmp (box_of s) bytes_same s.boxes name
 pub file_look : (s : State) (place : Place) → get (outline_of s).files place ≡ (tables_of s).file place
 file_look s place = get_mapped place_cmp number_at place_same s.files place
 
--- what follows of each item
+-- an implication that holds for each item
 each_then : {X : Type 0} (P Q : X → Type 0) (xs : List X) → ((x : X) → P x → Q x) → AllByRecursion P xs → AllByRecursion Q xs
 each_then P Q xs more all = recursion_from_All Q xs (All-weaker P Q more xs (All-from_recursion P xs all))
 
 -- ---- a sound office
 
--- the receipt of a file tells its length
+-- the receipt of a file gives its length
 pub size_known : (s : State) → IsSound s → (place : Place) (f : File) → get s.files place ≡ Some f → size_in (slice_get s.receipts) f.receipt ≡ length f.bytes
 size_known s sound place f there =
     let it = sound.files place f there in

@@ -1,4 +1,4 @@
--- No two rows of the pieces have one box, name and part.
+-- No two rows of the pieces have the same box, name and part.
 use Rattle.std.proofs.Common.{◌≡◌, ◌&&◌, inl, inr, ℕ, ℤ, List, [], ◌∷◌, Bool, true, false, not, Some, Ordering, Less, Equal, Greater, refl, sym, ap, ap₂, subst, ◌∙◌}
 use Rattle.std.specs.List.{list_any}
 use Rattle.std.specs.Ordering.{int_cmp, is_eq, is_ne}
@@ -25,7 +25,7 @@ use Rattle.sqltables.proofs.Ours.{pieces_at}
 use Rattle.sqltables.proofs.Rows.{equal_texts, equal_integers}
 use Rattle.sqltables.proofs.Keys.{tells_bytes, by_order}
 
--- ---- values that SQL's = and <> tell apart
+-- ---- values that SQL's = and <> distinguish
 
 texts_agree : (a b : Value) (t : List ℕ) → a ≡ Text t → b ≡ Text t → equal Binary a b ≡ true
 texts_agree a b t first second = ap₂ (equal Binary) first second ∙ equal_texts t t ∙ sym (by_order t t) ∙ tells_bytes.itself t
@@ -48,7 +48,7 @@ same_integers m n h = int_cmp-IsAntisymmetric m n (tied (int_cmp m n) (sym (ap i
 
 -- ---- the key of the pieces
 
--- the row's columns that are the key
+-- the key columns of the row
 pub record IsAt (row : Row) (box name : List ℕ) (part : ℤ) : Type 0 where
   pub box_is : column row 1 ≡ Text box
   pub name_is : column row 2 ≡ Text name
@@ -67,7 +67,7 @@ agrees a b box name part x y =
 abbrev clash : Row → Row → Bool
 clash b a = agree plain key a key b && differ (rowid a) (rowid b)
 
--- a row of the pieces that passes the rule of their key
+-- a row of the pieces that obeys the rule of their key
 abbrev Passes : Trees → Row → Type 0
 Passes trees b = not (list_any (clash b) (trees 9)) && true ≡ true
 

@@ -1,4 +1,4 @@
--- A line is one receipt.
+-- A line is only one receipt.
 use Rattle.std.proofs.Common.{◌≡◌, ◌∙◌, ℕ, ◌+◌, pos, List, Option, Some, None, refl, sym, arith}
 use Rattle.std.specs.Prelude.{IsSomeAnd}
 use Rattle.std.specs.FinMap.{FinMap, get}
@@ -33,7 +33,7 @@ pub some_there : {X : Type 0} (P : X → Type 0) (o : Option X) → IsSomeAnd o 
 some_there P None h = absurd h
 some_there P (Some x) h = (x, refl, h)
 
--- the forms that the rule of a receipt asks for
+-- the forms that the rule of a receipt requires
 pub forms_of : (ks : FinMap bytes_cmp Key) (bs : FinMap bytes_cmp Box) (r : Receipt) → ((name : List ℕ) (b : Box) → get bs name ≡ Some b → IsBoxRule name b)
     → IsReceiptRule ks bs r → HasReceiptForms r
 forms_of ks bs r good rule =

@@ -1,14 +1,13 @@
 -- Lines of receipts in the order of their numbers.
-use Rattle.std.proofs.Common.{◌≡◌, ◌≢◌, ◌∙◌, inl, inr, ℕ, zero, suc, ◌+◌, ◌<◌, ◌≤◌, ◌<ℤ◌, ℤ, pos, List, [], ◌∷◌, length, get_or, Bool, true, false, IsTrue, Option, Some, None, slice_get, arith, rules, refl, sym, ap, subst, subst₂}
+use Rattle.std.proofs.Common.{◌≡◌, ◌≢◌, ◌∙◌, inl, inr, ℕ, zero, suc, ◌+◌, ◌<◌, ◌≤◌, ◌<ℤ◌, ℤ, pos, List, [], ◌∷◌, length, get_or, Bool, true, false, IsTrue, Option, Some, None, slice_get, arith, rules, refl, sym, ap, subst}
 use Rattle.std.specs.Prelude.{Contains, MatchOption, nat_lt, int_lt}
-use Rattle.std.specs.List.{AllByRecursion, AllAdjacentBelow, IsAllAdjacentAnswer}
+use Rattle.std.specs.List.{IsAllAdjacentAnswer}
 use Rattle.std.specs.FinMap.{FinMap}
-use Rattle.std.proofs.Math.Numerals.{add-one}
 use Rattle.std.proofs.lemmas.Bool.{cases_Bool, ltb-true, ltb-false}
 use Rattle.std.proofs.lemmas.Int.{ints}
 use Rattle.std.proofs.lemmas.List.{get_or_default}
 use Rattle.std.proofs.lemmas.Option.{slice_get_within, slice_get-get_or, get_or_from_slice_get}
-use Rattle.sqlite_trees.proofs.ListLemmas.{all_weaker}
+use Rattle.sqlite_trees.proofs.ListLemmas.{ascending-get_or}
 use Rattle.sigtext.specs.Bytes.{bytes_cmp}
 use Rattle.boxes.specs.State.{Key, Receipt}
 use Rattle.boxes.proofs.Lookups.{some_none}
@@ -16,8 +15,9 @@ use Rattle.sqltables.specs.Tables.{Box}
 use Rattle.sqlaudit.specs.declared.lines.ReceiptLine.{ReceiptLine}
 use Rattle.sqlaudit.specs.Outlines.{AreEntries, IsReceiptEntry}
 use Rattle.sqlaudit.specs.Sorting.{AreRising, HoldsReceipts, IsGiven}
+use Rattle.sqlaudit.proofs.Rising.{rises}
 
--- ---- lines that rise
+-- ---- lines in ascending order
 
 abbrev below : ReceiptLine → ReceiptLine → Type 0
 below a b = a.number <ℤ b.number
@@ -25,35 +25,14 @@ below a b = a.number <ℤ b.number
 through : (a b c : ReceiptLine) → below a b → below b c → below a c
 through a b c one two = omega (arith, ints, one, two)
 
-pub rises : (lines : List ReceiptLine) → AllAdjacentBelow below lines (length lines) → AreRising lines
-rises [] next = tt
-rises (n ∷ []) next = (tt, tt)
-rises (n ∷ m ∷ lines) next =
-    let first : below n m = next 0 n (omega arith) in
-    let later : AllAdjacentBelow below (m ∷ lines) (length (m ∷ lines)) = λ k d h.
-    subst₂ (λ i j. below (get_or (n ∷ m ∷ lines) i d) (get_or (n ∷ m ∷ lines) j d)) (add-one k) (add-one (k + 1)) (next (k + 1) d (omega (arith, h))) in
-    let rest = rises (m ∷ lines) later in
-    ((first, all_weaker (below m) (below n) (λ x. through n m x first) lines rest.0), rest)
-
-all_got : (P : ReceiptLine → Type 0) (xs : List ReceiptLine) (i : ℕ) (d : ReceiptLine) → AllByRecursion P xs → i < length xs → P (get_or xs i d)
-all_got P [] i d all within = absurd (omega (arith, within))
-all_got P (x ∷ xs) zero d all within = all.0
-all_got P (x ∷ xs) (suc i) d all within = all_got P xs i d all.1 (omega (arith, within))
-
-below_later : (xs : List ReceiptLine) (i j : ℕ) (d : ReceiptLine) → AreRising xs → i < j → j < length xs → below (get_or xs i d) (get_or xs j d)
-below_later [] i j d rising before within = absurd (omega (arith, within))
-below_later (x ∷ xs) i zero d rising before within = absurd (omega (arith, before))
-below_later (x ∷ xs) zero (suc j) d rising before within = all_got (below x) xs j d rising.0 (omega (arith, within))
-below_later (x ∷ xs) (suc i) (suc j) d rising before within = below_later xs i j d rising.1 (omega (arith, before)) (omega (arith, within))
-
 is_less : (a b : ℤ) → int_lt a b ≡ true → a <ℤ b
 is_less a b h = search rules
 
 pub rise_answered : (lines : List ReceiptLine) (r : Bool) → IsAllAdjacentAnswer (λ x y b. b ≡ int_lt x.number y.number) lines r → IsTrue r → AreRising lines
-rise_answered lines true is h = rises lines (λ k d within. is_less _ _ (sym (is k d within)))
+rise_answered lines true is h = rises below through lines (λ k d within. is_less _ _ (sym (is k d within)))
 rise_answered lines false is h = absurd cc
 
--- ---- lines that are receipts place by place
+-- ---- lines that are receipts, position by position
 
 both : (P : ℕ → ReceiptLine → Receipt → Type 0) (line : ReceiptLine) (lines : List ReceiptLine) (r : Receipt) (list : List Receipt) → P 0 line r
     → ((at : ℕ) → MatchOption (slice_get lines at) (slice_get list at ≡ None) (λ l. (x : Receipt) × (slice_get list at ≡ Some x) × P (suc at) l x))
@@ -70,7 +49,7 @@ gathered P (line ∷ lines) has =
     let rest = gathered (λ at. P (suc at)) lines (λ at l is. has (suc at) l is) in
     (first.0 ∷ rest.0, both P line lines first.0 rest.0 first.1 rest.1)
 
--- these lines are receipts at their places
+-- the first `count` lines are receipts at their places
 abbrev pub StandUpTo : FinMap bytes_cmp Key → FinMap bytes_cmp Box → List ReceiptLine → ℕ → Type 0
 StandUpTo ks bs lines count = (at : ℕ) (line : ReceiptLine) → at < count → slice_get lines at ≡ Some line → (r : Receipt) × IsGiven ks bs line at r
 
@@ -114,13 +93,13 @@ module _ (ks : FinMap bytes_cmp Key) (bs : FinMap bytes_cmp Box) (lines : List R
             let same : x.0 ≡ r = cc in
             (line, (at, slice_get_within lines at line some, get_or_from_slice_get lines at line line some), subst (IsGiven ks bs line at) same x.2)
 
-  -- all lines are
+  -- if all lines are receipts at their places, they are a list of receipts
   pub all_stand : (count : ℕ) → length lines ≤ count → StandUpTo ks bs lines count → (list : List Receipt) × HoldsReceipts lines list × AreEntries (IsGiven ks bs) (slice_get list) lines
   all_stand count all stand =
       let it = gathered (λ at line r. IsGiven ks bs line at r) lines (λ at line is. stand at line (let e = slice_get_within lines at line is in omega (arith, e, all)) is) in
       (it.0, holds it.0 it.1, entries it.0 it.1)
 
-  -- ---- a line that is no receipt at its place
+  -- ---- a line that is not a receipt at its place
 
   module _ (list : List Receipt) (rising : AreRising lines) (are : AreEntries (IsGiven ks bs) (slice_get list) lines) (i : ℕ) (line : ReceiptLine) (within : i < length lines) (here : get_or lines i line ≡ line)
       (stand : StandUpTo ks bs lines i) (a : ℕ) (number : line.number ≡ pos (a + 1)) where
@@ -131,10 +110,10 @@ module _ (ks : FinMap bytes_cmp Key) (bs : FinMap bytes_cmp Box) (lines : List R
         let is = slice_get-get_or lines a line (omega (arith, before, within)) in
         let r = stand a first before is in
         let same : first.number ≡ pos (a + 1) = r.1.entry.number_is in
-        let less : below first line = subst (below first) here (below_later lines a i line rising before within) in
+        let less : below first line = subst (below first) here (ascending-get_or below lines a i line rising before within) in
         omega (arith, ints, less, same, number)
 
-    -- its place's number is another line's, or none's
+    -- the number of its place belongs to another line or to none
     missing : (r : Receipt) → slice_get list a ≡ Some r → i < a → ⊥
     missing r given after =
         let far = slice_get_within list a r given in
@@ -151,7 +130,7 @@ module _ (ks : FinMap bytes_cmp Key) (bs : FinMap bytes_cmp Box) (lines : List R
               omega (arith, ints, own, other, before)
           | inr late ↦ elim (cases_Bool (nat_lt i k.0)) [
             | inl later ↦
-                let less : below line l.0 = subst (below line) got (subst (λ y. below y (get_or lines k.0 line)) here (below_later lines i k.0 line rising (ltb-true i k.0 later) k.1)) in
+                let less : below line l.0 = subst (below line) got (subst (λ y. below y (get_or lines k.0 line)) here (ascending-get_or below lines i k.0 line rising (ltb-true i k.0 later) k.1)) in
                 omega (arith, ints, less, own, number, after)
             | inr not ↦
                 let place : k.0 ≡ i = let e = ltb-false k.0 i late in let f = ltb-false i k.0 not in omega (arith, e, f) in

@@ -1,6 +1,6 @@
--- What is so of the lines and the bytes of an office file: where it is not, the tables are no office's.
+-- What holds for the lines and the bytes of an office file. If it does not hold, the tables are not an office's.
 use Rattle.std.proofs.Common.{◌≡◌, inl, inr, ℕ, ◌+◌, ◌-◌, ◌*◌, ◌<◌, ℤ, pos, List, take, drop, length, min, Option, None, Some, option_map, option_and_then, slice_get, refl, sym, ap, subst, ◌∙◌, arith, length-take, length-drop}
-use Rattle.std.specs.Prelude.{Contains, nat_lt}
+use Rattle.std.specs.Prelude.{nat_lt}
 use Rattle.std.specs.FinMap.{get}
 use Rattle.std.proofs.lemmas.Bool.{cases_Bool, ltb-true, ltb-false}
 use Rattle.sqlite_value.specs.Order.{Row}
@@ -9,15 +9,17 @@ use Rattle.sigv4.specs.Hmac.{sha256}
 use Rattle.boxes.specs.State.{Place, File, Receipt, State as Office}
 use Rattle.sqltables.specs.Schema.{Version, IsVersion, v1}
 use Rattle.sqltables.specs.Tables.{Box, Part, RowsMean, IsOfficeRow, IsKeyRow, IsBoxRow, IsReceiptRow, IsFileRow, IsPieceRow, IsRulesRow, IsLimitRow, TablesMean, tables_of, piece_of}
-use Rattle.sqlaudit.specs.Lines.{AreLines, IsOfficeLine, IsKeyLine, IsBoxLine, IsReceiptLine, IsFileLine, IsRulesLine, IsLimitLine}
+use Rattle.sqlaudit.specs.Lines.{AreLines, IsOfficeLine, IsKeyLine, IsBoxLine, IsReceiptLine, IsFileLine, IsPieceLine, IsRulesLine, IsLimitLine}
 use Rattle.sqltables.specs.Pieces.{AreBytesOf, HasPiece}
-use Rattle.sqlaudit.specs.Outlines.{AreEntries, IsOfficeEntry, IsKeyEntry, IsBoxEntry, IsReceiptEntry, IsFileEntry, IsRulesEntry, IsLimitEntry, ArePiecesOf, AreLinesOf, AreSoundLines}
+use Rattle.sqlaudit.specs.Outlines.{AreEntries, IsOfficeEntry, IsKeyEntry, IsBoxEntry, IsReceiptEntry, IsFileEntry, IsRulesEntry, IsLimitEntry, IsPieceIn, AreLinesOf, AreSoundLines}
 use Rattle.sqlaudit.specs.Opened.{AreOffice, AreListed, AreShortLines, IsGivenFor, LacksBytes, place_in}
 use Rattle.sqlaudit.proofs.ShortReceipts.{short_lines}
 use Rattle.sqltables.specs.OneState.{same_pieces}
 use Rattle.sqlaudit.specs.declared.lines.ReceiptLine.{ReceiptLine}
 use Rattle.sqlaudit.specs.declared.lines.FileLine.{FileLine}
+use Rattle.sqlaudit.specs.declared.lines.PieceLine.{PieceLine}
 use Rattle.sqlaudit.specs.declared.rules.Lines.{Lines}
+use Rattle.sqlite_rules.specs.Lists.{Has}
 use Rattle.sqlite_rules.proofs.ListLemmas.{has_contained, contains_had}
 use Rattle.sqltables.proofs.Gathering.{no_piece}
 use Rattle.sqltables.proofs.StandingFiles.{standing, kept, listed_at}
@@ -27,7 +29,7 @@ use Rattle.sqlaudit.proofs.OutlineOf.{outline_of, box_look, file_look, size_know
 -- ---- rows, lines and entries
 
 module _ {L K V : Type 0} (IsLine : Row → L → Type 0) (IsRow : Row → K → V → Type 0) (IsEntry : L → K → V → Type 0) where
-  -- A line is the entry that its row is.
+  -- A line is the same entry as its row.
   abbrev Agree : Type 0
   Agree = (row : Row) (line : L) (k : K) (v : V) → IsLine row line → IsRow row k v → IsEntry line k v
 
@@ -80,8 +82,8 @@ limit_agrees row line limit there l r = record { key_is = cc; box_is = cc }
 
 -- ---- pieces
 
--- what is known of bytes that have this piece
-cut_from : (bytes : List ℕ) (at : ℕ) (piece : List ℕ) → piece_of bytes at ≡ Some piece → (65536 * at < length bytes) × (length piece ≡ min 65536 (length bytes - 65536 * at))
+-- what is known about bytes that have this piece
+pub cut_from : (bytes : List ℕ) (at : ℕ) (piece : List ℕ) → piece_of bytes at ≡ Some piece → (65536 * at < length bytes) × (length piece ≡ min 65536 (length bytes - 65536 * at))
 cut_from bytes at piece is = elim (cases_Bool (nat_lt (65536 * at) (length bytes))) [
   | inl within ↦
       let e = rw within at is in
@@ -116,8 +118,16 @@ module _ (v : Version) (ours : IsVersion v) (db : Database) (lines : Lines) (off
 
   -- ---- the lines are those of the office without bytes
 
-  file_lines : AreEntries IsFileEntry (tables_of office).file lines.files.now
-  file_lines = entries_of IsFileLine IsFileRow IsFileEntry file_agrees (tables_of office).file (db.trees 6) lines.files.now listed.files means.files
+  -- the lines of all files
+  pub file_lines : (files : List FileLine) → AreLines IsFileLine (db.trees 6) files → AreEntries IsFileEntry (get (outline_of office).files) files
+  file_lines files files_listed = subst (λ (look : Place → Option ℕ). AreEntries IsFileEntry look files) (λ i place. sym (file_look office place) i)
+      (entries_of IsFileLine IsFileRow IsFileEntry file_agrees (tables_of office).file (db.trees 6) files files_listed means.files)
+
+  -- the line of one file
+  pub file_line : (file : FileLine) (row : Row) → Has (db.trees 6) row → IsFileLine row file → (place : Place) × (number : ℕ) × IsFileEntry file place number × (get (outline_of office).files place ≡ Some number)
+  file_line file row there is =
+      let e = means.files.each row there in
+      (e.0, e.1, file_agrees row file e.0 e.1 is e.2, file_look office e.0 ∙ e.3)
 
   rules_lines : IsVersion v → AreEntries IsRulesEntry (λ one. Some office.allowance) lines.rules.now
   unfolding IsVersion
@@ -129,23 +139,20 @@ module _ (v : Version) (ours : IsVersion v) (db : Database) (lines : Lines) (off
   limit_lines (inl first) = none_limited lines.rules.now lines.limits.now (listed.added.unlimited first) (get office.limits) (means.unlimited first).1
   limit_lines (inr second) = entries_of IsLimitLine IsLimitRow IsLimitEntry limit_agrees (get office.limits) (db.trees 12) lines.limits.now (listed.added.limits second).0 (means.limits second)
 
-  lines_of : AreLinesOf lines (outline_of office)
+  pub lines_of : AreLinesOf lines (outline_of office)
   lines_of = record {
     office = entries_of IsOfficeLine (IsOfficeRow v.number) IsOfficeEntry (office_agrees v.number) (λ one. Some office.offset) (db.trees 0) lines.office.now listed.office means.office;
     keys = entries_of IsKeyLine IsKeyRow IsKeyEntry key_agrees (get office.keys) (db.trees 1) lines.keys.now listed.keys means.keys;
     boxes = subst (λ (look : List ℕ → Option Box). AreEntries IsBoxEntry look lines.boxes.now) (λ i name. sym (box_look office name) i)
         (entries_of IsBoxLine IsBoxRow IsBoxEntry box_agrees (tables_of office).box (db.trees 3) lines.boxes.now listed.boxes means.boxes);
     receipts = entries_of IsReceiptLine IsReceiptRow IsReceiptEntry receipt_agrees (slice_get office.receipts) (db.trees 5) lines.receipts.now listed.receipts means.receipts;
-    files = subst (λ (look : Place → Option ℕ). AreEntries IsFileEntry look lines.files.now) (λ i place. sym (file_look office place) i) file_lines;
     rules = rules_lines ours;
     limits = limit_lines ours;
   }
 
-  pieces_of : ArePiecesOf (outline_of office) lines.pieces.now
-  pieces_of line there =
-      let r = listed.pieces.all line (has_contained lines.pieces.now line there) in
-      let e = means.pieces.each r.0 r.1 in
-      let l = r.2 in
+  pub piece_of_office : (line : PieceLine) (row : Row) → Has (db.trees 9) row → IsPieceLine row line → IsPieceIn (slice_get office.receipts) (outline_of office).files line
+  piece_of_office line row there l =
+      let e = means.pieces.each row there in
       let m = e.2 in
       let it = part_there office e.0 e.1 e.3 in
       let cut = cut_from it.file.bytes e.0.at e.1 it.is in
@@ -164,24 +171,25 @@ module _ (v : Version) (ours : IsVersion v) (db : Database) (lines : Lines) (off
         length_is = sym l.length_is ∙ ap (λ (b : List ℕ). pos (length b)) bytes ∙ ap (λ n. pos n) (cut.1 ∙ ap (λ n. min 65536 (n - 65536 * e.0.at)) (sym size));
       }
 
-  pub sound_lines : AreSoundLines lines
-  sound_lines = record { office = outline_of office; lines_are = lines_of; sound = sound_outline office are.sound; pieces = pieces_of }
+  abbrev pub sound_lines : AreSoundLines lines
+  sound_lines = record { office = outline_of office; lines_are = lines_of; sound = sound_outline office are.sound }
 
   pub short_first : v ≡ v1 → AreShortLines lines.receipts.now
   short_first first = short_lines office.receipts lines.receipts.now lines_of.receipts (are.short first)
 
   -- ---- the bytes of a file
 
-  -- the file of a line, with the receipt that is given for it
+  -- the file of a line, with its receipt's line
   record FileOf (file : FileLine) (given : ReceiptLine) : Type 0 where
     held : File
     there : get office.files (place_in file) ≡ Some held
     size : given.length ≡ pos (length held.bytes)
     digest : given.digest.items ≡ sha256 held.bytes
 
-  file_of : (file : FileLine) → Contains lines.files.now file → (given : ReceiptLine) → IsGivenFor lines.receipts.now file given → FileOf file given
-  file_of file stands given is =
-      let e = file_lines.each file stands in
+  file_of : (file : FileLine) (row : Row) → Has (db.trees 6) row → IsFileLine row file → (given : ReceiptLine) → IsGivenFor lines.receipts.now file given → FileOf file given
+  file_of file row stands told given is =
+      let r6 = means.files.each row stands in
+      let e : (place : Place) × (number : ℕ) × IsFileEntry file place number × ((tables_of office).file place ≡ Some number) = (r6.0, r6.1, file_agrees row file r6.0 r6.1 told r6.2, r6.3) in
       let it = standing office e.0 e.1 e.3 in
       let k = kept office are.sound e.0 e.1 it in
       let r = lines_of.receipts.each given is.there in
@@ -204,7 +212,7 @@ module _ (v : Version) (ours : IsVersion v) (db : Database) (lines : Lines) (off
     part_of : (at : ℕ) → (tables_of office).piece (record { place = place; at = at }) ≡ piece_of held.bytes at
     part_of at = ap (option_and_then (λ (f : File). piece_of f.bytes at)) there
 
-    -- its bytes stand in rows
+    -- its bytes are in rows
     bytes_stand : AreBytesOf (db.trees 9) place (length held.bytes) held.bytes
     bytes_stand = record {
       size_is = refl;
@@ -213,30 +221,32 @@ module _ (v : Version) (ours : IsVersion v) (db : Database) (lines : Lines) (off
           record { row = r.0; there = r.1; is = r.2 };
     }
 
-    -- bytes of its length that stand in rows are its bytes
+    -- a piece in a row is one of the pieces of its bytes
+    found_stands : (at : ℕ) (piece : List ℕ) → HasPiece (db.trees 9) place at piece → piece_of held.bytes at ≡ Some piece
+    found_stands at piece has =
+        let e = means.pieces.each has.row has.there in
+        let same = one_part has.row (record { place = place; at = at }) e.0 piece e.1 has.is e.2 in
+        sym (part_of at) ∙ ap (tables_of office).piece same.0 ∙ e.3 ∙ ap (λ x. Some x) (sym same.1)
+
+    -- bytes of its length that are in rows are its bytes
     same_bytes_stand : (bytes : List ℕ) → AreBytesOf (db.trees 9) place (length held.bytes) bytes → bytes ≡ held.bytes
     same_bytes_stand bytes b = same_pieces bytes held.bytes (λ at. go at (piece_of bytes at) refl)
       where
-        found : (at : ℕ) (piece : List ℕ) → HasPiece (db.trees 9) place at piece → piece_of held.bytes at ≡ Some piece
-        found at piece has =
-            let e = means.pieces.each has.row has.there in
-            let same = one_part has.row (record { place = place; at = at }) e.0 piece e.1 has.is e.2 in
-            sym (part_of at) ∙ ap (tables_of office).piece same.0 ∙ e.3 ∙ ap (λ x. Some x) (sym same.1)
-
         go : (at : ℕ) (o : Option (List ℕ)) → piece_of bytes at ≡ o → piece_of bytes at ≡ piece_of held.bytes at
-        go at (Some piece) is = is ∙ sym (found at piece (b.pieces at piece is))
+        go at (Some piece) is = is ∙ sym (found_stands at piece (b.pieces at piece is))
         go at None is = elim (cases_Bool (nat_lt (65536 * at) (length bytes))) [
           | inl within ↦ let e = rw within at is in absurd cc
           | inr beyond ↦ is ∙ sym (no_piece held.bytes at (let past = ltb-false (65536 * at) (length bytes) beyond in omega (arith, past, b.size_is)))
         ]
 
-  pub no_bytes : (file : FileLine) → Contains lines.files.now file → LacksBytes (db.trees 9) lines.receipts.now file → ⊥
-  no_bytes file stands lacks =
-      let it = file_of file stands lacks.given lacks.is in
+  pub no_bytes : (file : FileLine) (row : Row) → Has (db.trees 6) row → IsFileLine row file → LacksBytes (db.trees 9) lines.receipts.now file → ⊥
+  no_bytes file row stands told lacks =
+      let it = file_of file row stands told lacks.given lacks.is in
       let sizes : pos lacks.size ≡ pos (length it.held.bytes) = sym lacks.size_is ∙ it.size in
       let size : lacks.size ≡ length it.held.bytes = cc in
       elim lacks.lacks [
-        | inl none ↦ none it.held.bytes (subst (λ n. AreBytesOf (db.trees 9) (place_in file) n it.held.bytes) (sym size) (bytes_stand (place_in file) it.held it.there))
+        | inl (inl none) ↦ none it.held.bytes (subst (λ n. AreBytesOf (db.trees 9) (place_in file) n it.held.bytes) (sym size) (bytes_stand (place_in file) it.held it.there))
+        | inl (inr misfit) ↦ misfit.misfits it.held.bytes (sym size) (found_stands (place_in file) it.held it.there misfit.at misfit.piece misfit.stands)
         | inr other ↦
             let b = subst (λ n. AreBytesOf (db.trees 9) (place_in file) n other.0) size other.1 in
             other.2 (ap sha256 (same_bytes_stand (place_in file) it.held it.there other.0 b) ∙ sym it.digest)

@@ -5,7 +5,7 @@ use Rattle.std.specs.Cmp.Lexicographic.{pointwise}
 use Rattle.std.proofs.lemmas.Bool.{and_parts, eqb-true}
 use mathlib.Core.Bool.{beq}
 
--- the test passes where both mean the same, and nowhere else
+-- the test passes exactly if both mean the same
 abbrev pub Tells : {X Y : Type 0} → (X → X → Bool) → (X → Y) → Type 0
 Tells {X} e f = (x y : X) → (e x y ≡ true → f x ≡ f y) × (f x ≡ f y → e x y ≡ true)
 

@@ -1,4 +1,4 @@
--- Receipts of files that version 1 holds, and their lines.
+-- Receipts of files that version 1 allows, and their lines.
 use Rattle.std.proofs.Common.{◌≡◌, ℕ, ◌≤◌, ◌≤ℤ◌, pos, List, Some, slice_get, arith, subst, sym}
 use Rattle.std.proofs.lemmas.Int.{ints}
 use Rattle.boxes.specs.State.{Receipt}

@@ -1,4 +1,4 @@
--- A transaction that goes on, and sees what it saw at first.
+-- A transaction that goes on, and sees the same as at first.
 use Rattle.std.proofs.Common.{◌≡◌, IsTrue, refl, sym, ap, subst, ◌∙◌}
 use Rattle.sqlite.specs.Effect.{Database}
 use Rattle.sqlite.specs.State.{State, KeepsCommit}

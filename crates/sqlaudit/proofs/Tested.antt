@@ -1,5 +1,5 @@
--- What the tests of a file tell of its database.
-use Rattle.std.proofs.Common.{◌≡◌, ◌≢◌, ◌<◌, inl, Bool, true, false, length, ℤ, List, [], ◌∷◌, arith, refl, sym, ap, subst, ◌∙◌}
+-- What the tests of a file say about its database.
+use Rattle.std.proofs.Common.{◌≡◌, ◌≢◌, ◌<◌, inl, inr, ℕ, Some, slice_get, Bool, true, false, length, ℤ, List, [], ◌∷◌, arith, refl, sym, ap, subst, ◌∙◌}
 use Rattle.std.specs.Prelude.{MatchBool, Contains}
 use Rattle.sqlite_value.specs.declared.value.Value.TheVariants.{Int}
 use Rattle.sqlite_value.specs.Order.{Row}
@@ -7,32 +7,36 @@ use Rattle.sqlite_rules.specs.Lists.{Has}
 use Rattle.sqlite_rules.proofs.ListLemmas.{has_contained, contains_had}
 use Rattle.sqlite_schema.specs.declared.schema.Schema.{Schema}
 use Rattle.sqlite.specs.Effect.{Database}
-use Rattle.boxes.specs.State.{State as Office}
+use Rattle.std.specs.FinMap.{FinMap, get}
+use Rattle.boxes.specs.State.{Place, place_cmp, Receipt, State as Office}
 use Rattle.sqltables.specs.Schema.{Version, IsVersion, v1, begun_schemas}
 use Rattle.sqltables.specs.Means.{IsWhole}
-use Rattle.sqlaudit.specs.Lines.{AreLines, HaveRowids, IsOfficeLine, IsKeyLine, IsBoxLine, IsReceiptLine, IsFileLine, IsPieceLine}
-use Rattle.sqlaudit.specs.Outlines.{AreSoundLines}
+use Rattle.sqlaudit.specs.Lines.{AreLines, AreLinesWhere, HaveRowids, IsLater, IsOfficeLine, IsKeyLine, IsBoxLine, IsReceiptLine, IsFileLine, IsPieceLine}
+use Rattle.sqlaudit.specs.Outlines.{AreEntries, AreSoundLines, IsFileEntry, IsFileRule, IsPieceIn}
+use Rattle.sqlaudit.specs.Sorting.{AreAmong, AreRuled, HasTotals, IsFiled}
+use Rattle.sqlaudit.specs.Walking.{AreAllFiles, AreLaterPieces, AreOf, LackFiles, LackPieces}
 use Rattle.sqlaudit.specs.declared.lines.OfficeLine.{OfficeLine}
 use Rattle.sqlaudit.specs.declared.lines.FileLine.{FileLine}
-use Rattle.sqlaudit.specs.declared.lines.ReceiptLine.{ReceiptLine}
+use Rattle.sqlaudit.specs.declared.lines.BoxLine.{BoxLine}
+use Rattle.sqlaudit.specs.declared.lines.PieceLine.{PieceLine}
+use Rattle.sqlaudit.specs.declared.file_rules.Filed.{Filed}
 use Rattle.sqlaudit.specs.declared.rules.Lines.{Lines}
 use Rattle.sqlaudit.specs.declared.listing.Listed.{Listed}
 use Rattle.sqlaudit.specs.declared.opening.Extent.{Extent}
 use Rattle.sqlaudit.specs.declared.opening.Extent.TheVariants.{Nothing, Begun, Whole}
 use Rattle.sqlaudit.specs.declared.opening.Finding.{Finding}
 use Rattle.sqlaudit.specs.declared.opening.Finding.TheVariants.{Sound, Damaged}
-use Rattle.sqlaudit.specs.Opened.{IsFound, BeginsAsOffice, IsExtent, AreOffice, SaysVersion, AreDamaged, AreAdded, AreListed, AreTables, AreShortLines, AreOfVersion, HasBytes, LacksBytes}
+use Rattle.sqlaudit.specs.Opened.{IsFound, BeginsAsOffice, IsExtent, AreOffice, SaysVersion, AreDamaged, AreAdded, AreListed, AreTables, AreShortLines, AreOfVersion}
 use Rattle.sqlaudit.proofs.Accepting.{accepted}
 use Rattle.sqlaudit.proofs.Extents.{begun_named, ours_begun, ours_named}
-use Rattle.sqlaudit.proofs.Refusing.{sound_lines, short_first, no_bytes}
+use Rattle.sqlaudit.proofs.Refusing.{sound_lines, short_first, file_line, file_lines, piece_of_office, no_bytes}
+use Rattle.sqlaudit.proofs.WholeRules.{filed_rule, totals_told, piece_in, built, built_files}
 
 pub record AreLent (lines : Lines) (first : List OfficeLine) (listed : Listed) : Type 0 where
   pub office : lines.office.now ≡ first
   pub keys : lines.keys.now ≡ listed.keys.items
   pub boxes : lines.boxes.now ≡ listed.boxes.items
   pub receipts : lines.receipts.now ≡ listed.receipts.items
-  pub files : lines.files.now ≡ listed.files.items
-  pub pieces : lines.pieces.now ≡ listed.pieces.items
   pub rules : lines.rules.now ≡ listed.added.rules.items
   pub limits : lines.limits.now ≡ listed.added.limits.items
 
@@ -42,14 +46,10 @@ are_listed v db lines office listed lent are rowids tables = record {
   keys = subst (AreLines IsKeyLine (db.trees 1)) (sym lent.keys) tables.keys;
   boxes = subst (AreLines IsBoxLine (db.trees 3)) (sym lent.boxes) tables.boxes;
   receipts = subst (AreLines IsReceiptLine (db.trees 5)) (sym lent.receipts) tables.receipts;
-  files = subst (AreLines IsFileLine (db.trees 6)) (sym lent.files) tables.files;
-  pieces = subst (AreLines IsPieceLine (db.trees 9)) (sym lent.pieces) tables.pieces;
   office_rowids = rowids;
   keys_rowids = tables.keys_rowids;
   boxes_rowids = tables.boxes_rowids;
   receipts_rowids = tables.receipts_rowids;
-  files_rowids = tables.files_rowids;
-  pieces_rowids = tables.pieces_rowids;
   added = subst (λ rules. AreAdded v db rules lines.limits.now) (sym lent.rules) (subst (AreAdded v db listed.added.rules.items) (sym lent.limits) tables.added);
 }
 
@@ -112,7 +112,7 @@ AreDamagedBut v db = ((office : Office) → AreOffice v db office → ⊥) → A
 
 -- ---- a schema that is not whole
 
--- such tables are no office's, and say no version
+-- such tables are not an office's, and say no version
 pub no_office : (v : Version) → IsVersion v → (db : Database) → (BeginsAsOffice db.schema → ⊥) → AreDamaged v db
 no_office v ours db none = record {
   none = λ office is. none (subst BeginsAsOffice (sym is.holds.schema) (ours_named v ours));
@@ -133,17 +133,66 @@ module _ (v : Version) (ours : IsVersion v) (db : Database) (lines : Lines) (off
   pub unfit : ((v ≡ v1 → AreShortLines lines.receipts.now) → ⊥) → (o : Office) → AreOffice v db o → ⊥
   unfit not o is = not (short_first v ours db lines o are is)
 
-  pub tested : db.schema ≡ v.schema → IsWhole db → AreOfVersion office v.number → AreSoundLines lines → (receipts : List ReceiptLine) (files : List FileLine) → receipts ≡ listed.receipts.items → files ≡ listed.files.items → (b : Bool)
-      → MatchBool b ((file : FileLine) → Contains files file → HasBytes (db.trees 9) receipts file) ((file : FileLine) × Contains files file × LacksBytes (db.trees 9) receipts file)
-      → (v ≡ v1 → AreShortLines lines.receipts.now)
-      → MatchBool b ((o : Office) × AreOffice v db o) ((o : Office) → AreOffice v db o → ⊥)
-  tested schema whole of sound receipts files rs fs true all short =
-      accepted v ours db lines schema whole are (λ line there. of.each line (subst (λ xs. Contains xs line) lent.office there)) sound
-      (λ file there. subst (λ r. HasBytes (db.trees 9) r file) (rs ∙ sym lent.receipts) (all file (subst (λ xs. Contains xs file) (lent.files ∙ sym fs) there))) short
-  tested schema whole of sound receipts files rs fs false lacks short = λ o is.
-      no_bytes v ours db lines o are is lacks.0 (subst (λ xs. Contains xs lacks.0) (fs ∙ sym lent.files) lacks.1) (subst (λ r. LacksBytes (db.trees 9) r lacks.0) (rs ∙ sym lent.receipts) lacks.2)
+  module _ (r : AreRuled lines) where
+    -- the lines of an office, if the tables are an office's
+    module _ (o : Office) (is : AreOffice v db o) where
+      abbrev a : AreSoundLines lines
+      a = sound_lines v ours db lines o are is
 
--- what is found of an office's tables of this version
+      rule : (place : Place) (n : ℕ) → get a.office.files place ≡ Some n → IsFileRule (slice_get r.receipts) place n
+      rule = filed_rule lines a r.keys r.boxes r.keys_are r.boxes_are r.receipts r.receipts_are
+
+      among : (files : List FileLine) → AreOf IsFileLine (db.trees 6) files → AreAmong (IsFiled r.receipts) (get a.office.files) files
+      among files of line there =
+          let x = of line (has_contained files line there) in
+          let e = file_line v ours db lines o are is line x.0 x.1 x.2 in
+          (e.0, e.1, record { entry = e.2; rule = rule e.0 e.1 e.3 }, e.3)
+
+      has_files : LackFiles r.receipts lines.receipts.now db → ⊥
+      has_files lacks = elim lacks.lack [
+        | inl unfiled ↦ unfiled (get a.office.files) (among lacks.lines lacks.of)
+        | inr file ↦ let x = lacks.of file.0 (has_contained lacks.lines file.0 file.1) in no_bytes v ours db lines o are is file.0 x.0 x.1 x.2 file.2
+      ]
+
+      module _ (filed : Filed) (all : AreAllFiles r.receipts lines.receipts.now db filed) where
+        abbrev of : AreEntries IsFileEntry (get a.office.files) all.lines
+        of = file_lines v ours db lines o are is all.lines all.are
+
+        has_totals : (line : BoxLine) → Contains lines.boxes.now line → HasTotals r.receipts all.filed_are.0.map line
+        has_totals = totals_told lines a r.keys r.boxes r.keys_are r.boxes_are r.receipts r.receipts_are all.lines of all.filed_are.0.map all.filed_are.0.entries
+
+        has_pieces : LackPieces r.receipts all.filed_are.0.map db → ⊥
+        has_pieces lacks = lacks.lack (λ line there.
+            let x = lacks.of line (has_contained lacks.lines line there) in
+            piece_in lines a r.keys r.boxes r.keys_are r.boxes_are r.receipts r.receipts_are all.lines of all.filed_are.0.map all.filed_are.0.entries line (piece_of_office v ours db lines o are is line x.0 x.1 x.2))
+
+    pub lacks_files : LackFiles r.receipts lines.receipts.now db → (o : Office) → AreOffice v db o → ⊥
+    lacks_files lacks o is = has_files o is lacks
+
+    pub lacks_totals : (filed : Filed) (all : AreAllFiles r.receipts lines.receipts.now db filed) → (((line : BoxLine) → Contains lines.boxes.now line → HasTotals r.receipts all.filed_are.0.map line) → ⊥) → (o : Office) → AreOffice v db o → ⊥
+    lacks_totals filed all none o is = none (has_totals o is filed all)
+
+    pub lacks_pieces : (filed : Filed) (all : AreAllFiles r.receipts lines.receipts.now db filed) → LackPieces r.receipts all.filed_are.0.map db → (o : Office) → AreOffice v db o → ⊥
+    lacks_pieces filed all lacks o is = has_pieces o is filed all lacks
+
+    pub tested : db.schema ≡ v.schema → IsWhole db → AreOfVersion office v.number → (filed : Filed) (all : AreAllFiles r.receipts lines.receipts.now db filed) → HaveRowids (db.trees 6)
+        → ((line : BoxLine) → Contains lines.boxes.now line → HasTotals r.receipts all.filed_are.0.map line) → AreLaterPieces r.receipts all.filed_are.0.map db → HaveRowids (db.trees 9)
+        → (v ≡ v1 → AreShortLines lines.receipts.now) → (o : Office) × AreOffice v db o
+    tested schema whole versions filed all files_ids totals pieces pieces_ids short =
+        accepted v ours db lines schema whole are (λ line there. versions.each line (subst (λ xs. Contains xs line) lent.office there))
+        (built lines r all.lines all.filed_are.0.map all.filed_are.0.entries totals)
+        all.lines all.are files_ids (built_files lines r all.lines all.filed_are.0.map all.filed_are.0.entries totals) all.bytes pieces pieces_ids short
+
+-- ---- the pieces, as they are listed
+
+module _ (db : Database) (lines : List PieceLine) (listed : AreLinesWhere IsLater IsPieceLine (db.trees 9) lines) (rs : List Receipt) (m : FinMap place_cmp ℕ) where
+  pub pieces_are : ((line : PieceLine) → Contains lines line → IsPieceIn (slice_get rs) m line) → AreLaterPieces rs m db
+  pieces_are all row there later = let l = listed.each row there later in (l.0, l.2, all l.0 (contains_had lines l.0 l.1))
+
+  pub pieces_lack : (((line : PieceLine) → Contains lines line → IsPieceIn (slice_get rs) m line) → ⊥) → LackPieces rs m db
+  pieces_lack none = record { lines = lines; of = listed.all; lack = none }
+
+-- the finding for an office's tables of this version
 pub found_of : (v : Version) (db : Database) (finding : Finding) (b : Bool) → MatchBool b (finding ≡ Sound) (finding ≡ Damaged) → AreDamagedBut v db → MatchBool b ((o : Office) × AreOffice v db o) ((o : Office) → AreOffice v db o → ⊥) → IsFound v finding db
 found_of v db finding true is rest sound = subst (λ f. IsFound v f db) (sym is) sound
 found_of v db finding false is rest none = subst (λ f. IsFound v f db) (sym is) (rest none)

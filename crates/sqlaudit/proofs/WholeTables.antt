@@ -1,4 +1,4 @@
--- The tables of an office, as its queries list them.
+-- The tables of an office, as the queries list them.
 use Rattle.std.proofs.Common.{◌≡◌, ℕ, List, [], IsTrue, refl}
 use Rattle.sqlite_value.specs.Order.{Row}
 use Rattle.sqlite_rules.specs.Lists.{Has}
@@ -9,27 +9,33 @@ use Rattle.sqltables.proofs.Ours.{asks_of}
 use Rattle.sqltables.proofs.Texts.{list_keys, list_keys_command, list_keys_is, list_boxes, list_boxes_command, list_boxes_is}
 use Rattle.sqltables.proofs.AddedTexts.{list_rules, list_rules_is, list_limits, list_limits_is}
 use Rattle.sqltables.proofs.Shown.{shown_open}
-use Rattle.sqlaudit.specs.Lines.{AreLines, AreRead, HaveRowids, IsKeyLine, IsBoxLine, IsReceiptLine, IsFileLine, IsPieceLine, ShowsPiece, IsRulesLine, IsLimitLine}
+use Rattle.sqlaudit.specs.Lines.{AreLines, AreLinesWhere, AreRead, HaveRowids, IsLater, IsKeyLine, IsBoxLine, IsReceiptLine, IsPieceLine, ShowsPiece, IsRulesLine, IsLimitLine}
+use Rattle.sqlaudit.specs.Portions.{Passes}
 use Rattle.sqlaudit.specs.declared.lines.KeyLine.{KeyLine}
 use Rattle.sqlaudit.specs.declared.lines.BoxLine.{BoxLine}
 use Rattle.sqlaudit.specs.declared.lines.ReceiptLine.{ReceiptLine}
-use Rattle.sqlaudit.specs.declared.lines.FileLine.{FileLine}
 use Rattle.sqlaudit.specs.declared.lines.PieceLine.{PieceLine}
 use Rattle.sqlaudit.specs.declared.lines.RulesLine.{RulesLine}
 use Rattle.sqlaudit.specs.declared.lines.LimitLine.{LimitLine}
 use Rattle.sqlaudit.proofs.Listed.{lines_listed, rowids_listed, unchanged}
-use Rattle.sqlaudit.proofs.LongTexts.{receipt_shown, file_shown, piece_shown}
-use Rattle.sqlaudit.proofs.PieceLines.{piece_line}
+use Rattle.sqlaudit.proofs.LongTexts.{receipt_shown, piece_shown, later}
+use Rattle.sqlaudit.proofs.PieceLines.{piece_line, later_passes}
 
--- each row of the table in this place has a line, its rows have numbers of their own, and the query wrote nothing
+-- each row of the table in this tree has a line, its rows have distinct rowids, and the query wrote nothing
 pub record Lists {L : Type 0} (IsLine : Row → L → Type 0) (tree : ℕ) (old new : State) (lines : List L) : Type 0 where
   pub lines_are : AreLines IsLine (old.now.trees tree) lines
   pub rowids : HaveRowids (old.now.trees tree)
   pub same : new.now ≡ old.now
 
-lines_more : {L : Type 0} (P Q : Row → L → Type 0) (rows : List Row) (lines : List L) → AreLines P rows lines → ((row : Row) (line : L) → Has rows row → P row line → Q row line) → AreLines Q rows lines
-lines_more P Q rows lines are more = record {
-  each = λ row there. let l = are.each row there in (l.0, l.1, more row l.0 there l.2);
+-- each row of the table in this tree that passes has a line, its rows have distinct rowids, and the query wrote nothing
+pub record ListsWhere {L : Type 0} (Pass : Row → Type 0) (IsLine : Row → L → Type 0) (tree : ℕ) (old new : State) (lines : List L) : Type 0 where
+  pub lines_are : AreLinesWhere Pass IsLine (old.now.trees tree) lines
+  pub rowids : HaveRowids (old.now.trees tree)
+  pub same : new.now ≡ old.now
+
+lines_more : {L : Type 0} (A B : Row → Type 0) (P Q : Row → L → Type 0) (rows : List Row) (lines : List L) → AreLinesWhere A P rows lines → ((row : Row) → B row → A row) → ((row : Row) (line : L) → Has rows row → P row line → Q row line) → AreLinesWhere B Q rows lines
+lines_more A B P Q rows lines are less more = record {
+  each = λ row there pass. let l = are.each row there (less row pass) in (l.0, l.1, more row l.0 there l.2);
   all = λ line there. let r = are.all line there in (r.0, r.1, more r.0 line r.1 r.2);
 }
 
@@ -56,26 +62,23 @@ module _ (v : Version) (ours : IsVersion v) (old new : State) (has : IsTrue old.
 
 -- the long tables
 module _ (old new : State) where
-  pub lists_receipts : (lines : List ReceiptLine) → AreLines (λ row line. IsReceiptLine (receipt_shown row) line) (old.now.trees 5) lines → HaveRowids (old.now.trees 5) → new.now ≡ old.now → Lists IsReceiptLine 5 old new lines
+  pub lists_receipts : (lines : List ReceiptLine) → AreLinesWhere (Passes []) (λ row line. IsReceiptLine (receipt_shown row) line) (old.now.trees 5) lines → HaveRowids (old.now.trees 5) → new.now ≡ old.now → Lists IsReceiptLine 5 old new lines
   lists_receipts lines are ids unchanged = record {
-    lines_are = lines_more (λ row line. IsReceiptLine (receipt_shown row) line) IsReceiptLine (old.now.trees 5) lines are
-        (λ row line there is. record { number_is = is.number_is; box_is = is.box_is; name_is = is.name_is; length_is = is.length_is; digest_is = is.digest_is; moment_is = is.moment_is; key_is = is.key_is });
+    lines_are = record {
+      each = λ row there. let l = are.each row there (λ given. refl) in (l.0, l.1, told row l.0 l.2);
+      all = λ line there. let r = are.all line there in (r.0, r.1, told r.0 line r.2);
+    };
     rowids = ids;
     same = unchanged;
   }
-
-  pub lists_files : (lines : List FileLine) → AreLines (λ row line. IsFileLine (file_shown row) line) (old.now.trees 6) lines → HaveRowids (old.now.trees 6) → new.now ≡ old.now → Lists IsFileLine 6 old new lines
-  lists_files lines are ids unchanged = record {
-    lines_are = lines_more (λ row line. IsFileLine (file_shown row) line) IsFileLine (old.now.trees 6) lines are
-        (λ row line there is. record { box_is = is.box_is; name_is = is.name_is; receipt_is = is.receipt_is });
-    rowids = ids;
-    same = unchanged;
-  }
+    where
+      told : (row : Row) (line : ReceiptLine) → IsReceiptLine (receipt_shown row) line → IsReceiptLine row line
+      told row line is = record { number_is = is.number_is; box_is = is.box_is; name_is = is.name_is; length_is = is.length_is; digest_is = is.digest_is; moment_is = is.moment_is; key_is = is.key_is }
 
   pub lists_pieces : (v : Version) → IsVersion v → old.now.schema ≡ v.schema → IsWhole old.now
-      → (lines : List PieceLine) → AreLines (λ row line. ShowsPiece (piece_shown row) line) (old.now.trees 9) lines → HaveRowids (old.now.trees 9) → new.now ≡ old.now → Lists IsPieceLine 9 old new lines
+      → (lines : List PieceLine) → AreLinesWhere (Passes later) (λ row line. ShowsPiece (piece_shown row) line) (old.now.trees 9) lines → HaveRowids (old.now.trees 9) → new.now ≡ old.now → ListsWhere IsLater IsPieceLine 9 old new lines
   lists_pieces v ours schema whole lines are ids unchanged = record {
-    lines_are = lines_more (λ row line. ShowsPiece (piece_shown row) line) IsPieceLine (old.now.trees 9) lines are (λ row line there is. piece_line v ours old.now schema whole row line there is);
+    lines_are = lines_more (Passes later) IsLater (λ row line. ShowsPiece (piece_shown row) line) IsPieceLine (old.now.trees 9) lines are later_passes (λ row line there is. piece_line v ours old.now schema whole row line there is);
     rowids = ids;
     same = unchanged;
   }

@@ -1,4 +1,4 @@
--- The versions of office files, as the code names them.
+-- The versions of office files, as named in the code.
 use Rattle.sqltables.specs.Schema.{Version, v1, v2}
 use Rattle.sqlaudit.specs.declared.formats.Format.{Format}
 use Rattle.sqlaudit.specs.declared.formats.Format.TheVariants.{First, Second}

@@ -4,4 +4,5 @@ pub mod Portions
 pub mod Outlines
 pub mod Sorting
 pub mod Opened
+pub mod Walking
 pub mod Listing

@@ -1,5 +1,5 @@
 -- The rows of each table, read as values.
-use Rattle.std.specs.Prelude.{◌≡◌, ℕ, ℤ, pos, List, [], length, map}
+use Rattle.std.specs.Prelude.{◌≡◌, ◌≢◌, ℕ, ℤ, pos, List, [], length, map}
 use Rattle.std.specs.List.{AllZip}
 use Rattle.std.specs.List.Sorted.{IsPermutation}
 use Rattle.std.specs.Ordering.{int_cmp}
@@ -68,7 +68,7 @@ pub record IsPieceLine (row : Row) (line : PieceLine) : Type 0 where
   pub bytes_is : column row 4 ≡ Blob bytes
   pub length_is : pos (length bytes) ≡ line.length
 
--- a row that has the length of a piece in place of its bytes
+-- a row that has the length of a piece instead of its bytes
 pub record ShowsPiece (row : Row) (line : PieceLine) : Type 0 where
   pub box_is : column row 1 ≡ Text line.in_box.items
   pub name_is : column row 2 ≡ Text line.name.items
@@ -83,22 +83,31 @@ pub record IsLimitLine (row : Row) (line : LimitLine) : Type 0 where
   pub key_is : column row 1 ≡ Text line.key.items
   pub box_is : column row 2 ≡ Text line.in_box.items
 
--- Each row has a line, and each line is one of a row.
+-- Each row has a line, and each line is the line of a row.
 pub record AreLines {L : Type 0} (IsLine : Row → L → Type 0) (rows : List Row) (lines : List L) : Type 0 where
   pub each : (row : Row) → Has rows row → (line : L) × Has lines line × IsLine row line
   pub all : (line : L) → Has lines line → (row : Row) × Has rows row × IsLine row line
 
--- The first columns are numbers that rise, in some order of the rows.
-pub record AreNumbered (rows : List Row) : Type 0 where
+-- Each row that passes has a line, and each line is the line of a row.
+pub record AreLinesWhere {L : Type 0} (Passes : Row → Type 0) (IsLine : Row → L → Type 0) (rows : List Row) (lines : List L) : Type 0 where
+  pub each : (row : Row) → Has rows row → Passes row → (line : L) × Has lines line × IsLine row line
+  pub all : (line : L) → Has lines line → (row : Row) × Has rows row × IsLine row line
+
+-- a row of the table of pieces that is not the first piece of its file
+abbrev pub IsLater : Row → Type 0
+IsLater row = (part : ℤ) × (column row 3 ≡ Int part) × (part ≢ pos 0)
+
+-- the values in the first column are these numbers, in ascending order after some reordering of the rows
+pub record AreNumbersOf (rows : List Row) (numbers : List ℤ) : Type 0 where
   pub found : List Row
   pub same : IsPermutation rows found
-  pub numbers : List ℤ
   pub are : map (λ (r : Row). column r 0) found ≡ map Int numbers
   pub rising : IsAscending (λ a b. int_cmp a b ≡ Less) numbers
 
--- the lines are what a query shows, row by row, and the first column tells its rows apart
+-- the lines are the rows that a query shows, in order, and no two of these rows have the same first column
 pub record AreRead {L : Type 0} (reads : Row → L → Type 0) (sql : List ℕ) (old new : State) (lines : List L) : Type 0 where
   pub rows : List Row
   pub shown : Shown sql [] old new rows
   pub each : AllZip reads rows lines
-  pub numbered : AreNumbered rows
+  pub numbers : List ℤ
+  pub numbered : AreNumbersOf rows numbers

@@ -1,4 +1,4 @@
--- Which tables a transaction has that is asked for whole tables.
+-- Which tables a transaction has when whole tables are read.
 use Rattle.std.specs.Prelude.{List, IsTrue}
 use Rattle.sqlite_trees.specs.declared.store.Store.{Ghosts}
 use Rattle.sqlite_rules.specs.Lists.{Has}
@@ -12,21 +12,21 @@ use Rattle.sqlaudit.specs.Lines.{AreLines, IsOfficeLine}
 use Rattle.sqlaudit.specs.Opened.{AreOfVersion}
 use Rattle.sqlaudit.specs.declared.lines.OfficeLine.{OfficeLine}
 
--- so it is where the tables begin as an office's
+-- P holds if the tables begin as an office's
 abbrev pub OfBegunOffice : {S : Type 0} → Ghosts S → Transaction S → Transaction S → Type 0 → Type 0
 OfBegunOffice g old new P = (v : Version) → Has begun_schemas v.schema → HasSchema v.schema (seen g old)
     → IsTrue (seen g old).in_transaction → HasCleanDisk (seen g new) → P
 
--- so it is where the tables are those of this version, by their definitions
+-- P holds if the definitions of the tables are those of this version
 abbrev pub OfTables : {S : Type 0} → Version → Ghosts S → Transaction S → Transaction S → Type 0 → Type 0
 OfTables v g old new P = HasSchema v.schema (seen g old) → IsTrue (seen g old).in_transaction → HasCleanDisk (seen g new) → P
 
--- so it is where, besides, each row obeys them
+-- P holds if the definitions of the tables are those of this version, and each row obeys them
 abbrev pub OfWholeTables : {S : Type 0} → Version → Ghosts S → Transaction S → Transaction S → Type 0 → Type 0
 OfWholeTables v g old new P = HasSchema v.schema (seen g old) → HasWhole (seen g old)
     → IsTrue (seen g old).in_transaction → HasCleanDisk (seen g new) → P
 
--- so it is where the tables are those of this version, each row obeys them, and these lines are the office's own row, of this version
+-- P holds if the tables are those of this version, each row obeys them, and these lines are the office's row, with this version
 abbrev pub OfVersion : {S : Type 0} → Version → Ghosts S → Transaction S → Transaction S → List OfficeLine → Type 0 → Type 0
 OfVersion v g old new office P = HasSchema v.schema (seen g old) → HasWhole (seen g old)
     → IsRunning (seen g old) → HasCleanDisk (seen g new) → AreLines IsOfficeLine ((seen g old).now.trees 0) office

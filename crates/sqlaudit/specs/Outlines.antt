@@ -1,4 +1,4 @@
--- An office without the bytes of its files, and the lines that tell it.
+-- An office without the bytes of its files, and the lines that represent it.
 use Rattle.std.specs.Prelude.{◌≡◌, ℕ, ℤ, pos, neg_ℤ, ◌≤ℤ◌, ◌+◌, ◌-◌, ◌*◌, ◌<◌, ◌≤◌, List, Contains, length, filter, sum_by, slice_get, Option, Some, option_map, unwrap_or, IsFalse, IsSome, IsSomeAnd, min, ⊤}
 use Rattle.std.specs.List.{AllByRecursion}
 use Rattle.std.specs.FinMap.{FinMap, get, entries}
@@ -33,7 +33,7 @@ pub record Outline : Type 0 where
 
 -- ---- a line is an entry
 
--- the one line; that its version is ours is asked elsewhere
+-- the only line; its version is checked elsewhere
 pub record IsOfficeEntry (line : OfficeLine) (one : Unit {0}) (offset : ℤ) : Type 0 where
   pub id_is : line.id ≡ pos 1
   pub east_is : line.east ≡ offset
@@ -74,7 +74,7 @@ pub record IsFileEntry (line : FileLine) (place : Place) (number : ℕ) : Type 0
   pub name_is : line.name.items ≡ place.name
   pub receipt_is : line.receipt ≡ pos number
 
--- the one line
+-- the only line
 pub record IsRulesEntry (line : RulesLine) (one : Unit {0}) (allowance : ℕ) : Type 0 where
   pub id_is : line.id ≡ pos 1
   pub allowance_is : line.allowance ≡ pos allowance
@@ -88,7 +88,7 @@ pub record AreEntries {L K V : Type 0} (IsEntry : L → K → V → Type 0) (loo
   pub each : (line : L) → Contains lines line → (k : K) × (v : V) × IsEntry line k v × (lookup k ≡ Some v)
   pub all : (k : K) (v : V) → lookup k ≡ Some v → (line : L) × Contains lines line × IsEntry line k v
 
--- ---- the rules of one entry
+-- ---- the rules for one entry
 
 pub record IsKeyRule (id : List ℕ) (key : Key) : Type 0 where
   pub id_form : IsKeyId id
@@ -100,7 +100,7 @@ pub record IsBoxRule (name : List ℕ) (box : Box) : Type 0 where
   pub quota : box.used ≤ box.settings.quota
   pub files : box.count ≤ box.settings.max_files
 
--- the receipt names a box that is there, a name that the box takes, and a key that is there
+-- the receipt names an existing box, a name that the box accepts, and an existing key
 pub record IsReceiptRule (keys : FinMap bytes_cmp Key) (boxes : FinMap bytes_cmp Box) (r : Receipt) : Type 0 where
   pub box : IsSomeAnd (get boxes r.box) (λ b. Fits b.settings.rule r.name)
   pub name : IsName r.name
@@ -110,7 +110,7 @@ pub record IsReceiptRule (keys : FinMap bytes_cmp Key) (boxes : FinMap bytes_cmp
   pub moment : IsMoment r.moment
   pub key : IsSomeAnd (get keys r.key) (λ k. ⊤)
 
--- the file's receipt is there, and of its place
+-- the file's receipt exists and has the same place
 pub record IsFileRule (receipt : ℕ → Option Receipt) (place : Place) (number : ℕ) : Type 0 where
   pub at : ℕ
   pub counted : number ≡ at + 1
@@ -119,7 +119,7 @@ pub record IsFileRule (receipt : ℕ → Option Receipt) (place : Place) (number
   pub box : given.box ≡ place.box
   pub name : given.name ≡ place.name
 
--- a key of the role `link` that is there, revoked or not, is limited to a box that is there
+-- an existing key of the role `link`, revoked or not, is limited to an existing box
 pub record IsLimitRule (keys : FinMap bytes_cmp Key) (boxes : FinMap bytes_cmp Box) (limit : Limit) : Type 0 where
   pub link : IsSomeAnd (get keys limit.key) (λ k. k.role ≡ Link)
   pub box_there : IsSome (get boxes limit.box)
@@ -160,7 +160,7 @@ pub record IsSoundOutline (o : Outline) : Type 0 where
   pub allowance : o.allowance ≤ most_allowance
   pub limits : (limit : Limit) (there : Unit {0}) → get o.limits limit ≡ Some there → IsLimitRule o.keys o.boxes limit
 
--- The line is a piece of a file that is there: it has the greatest length of a piece, and the last what is left.
+-- The line is a piece of an existing file. It has the maximum length of a piece, unless it is the last, which has the rest.
 pub record IsPieceIn (receipt : ℕ → Option Receipt) (files : FinMap place_cmp ℕ) (line : PieceLine) : Type 0 where
   pub number : ℕ
   pub there : get files (record { box = line.in_box.items; name = line.name.items }) ≡ Some number
@@ -169,23 +169,18 @@ pub record IsPieceIn (receipt : ℕ → Option Receipt) (files : FinMap place_cm
   pub begun : piece_size * part < size_in receipt number
   pub length_is : line.length ≡ pos (min piece_size (size_in receipt number - piece_size * part))
 
-abbrev pub ArePiecesOf : Outline → List PieceLine → Type 0
-ArePiecesOf o lines = (line : PieceLine) → Contains lines line → IsPieceIn (slice_get o.receipts) o.files line
-
--- ---- the lines of an office
+-- ---- the lines of an office, except those of its files and pieces
 
 pub record AreLinesOf (lines : Lines) (o : Outline) : Type 0 where
   pub office : AreEntries IsOfficeEntry (λ one. Some o.offset) lines.office.now
   pub keys : AreEntries IsKeyEntry (get o.keys) lines.keys.now
   pub boxes : AreEntries IsBoxEntry (get o.boxes) lines.boxes.now
   pub receipts : AreEntries IsReceiptEntry (slice_get o.receipts) lines.receipts.now
-  pub files : AreEntries IsFileEntry (get o.files) lines.files.now
   pub rules : AreEntries IsRulesEntry (λ one. Some o.allowance) lines.rules.now
   pub limits : AreEntries IsLimitEntry (get o.limits) lines.limits.now
 
--- the lines are those of an office that keeps every rule
+-- the lines are those of an office that obeys every rule
 pub record AreSoundLines (lines : Lines) : Type 0 where
   pub office : Outline
   pub lines_are : AreLinesOf lines office
   pub sound : IsSoundOutline office
-  pub pieces : ArePiecesOf office lines.pieces.now

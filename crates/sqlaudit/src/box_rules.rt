@@ -1,4 +1,4 @@
-//! The lines of the boxes, as boxes.
+//! Converts the lines of the boxes to boxes.
 
 ghost use Rattle.std.specs.Prelude.{◌≡◌, ◌↔◌, ◌≤◌, ◌==◌, ℕ, Bool, List, length, pos, IsTrue, IfOk, MatchOption};
 ghost use Rattle.sigtext.specs.Bytes.{bytes_cmp};
@@ -18,7 +18,7 @@ use sqltables::reading::{cut_texts, days_told, digits_of_days};
 use std::alloc::{AllocError, Global};
 use std::collections::BTreeMap;
 
-/// A box, as its line has it.
+/// A box, as given by its line.
 #[derive(Drop)]
 pub(crate) struct BoxEntry {
     pub(crate) row: BoxRow,
@@ -26,10 +26,10 @@ pub(crate) struct BoxEntry {
     pub(crate) count: u64,
 }
 
-/// The boxes by their names.
+/// The boxes, keyed by name.
 pub(crate) type Boxes<'a> = BTreeMap<&'a [u8], BoxEntry>;
 
-/// The mode of a number: 0 keeps, 1 replaces.
+/// The mode with this number: 0 is keep, 1 is replace.
 fn mode_of(number: i64) -> Option<Mode>
     ensures { MatchOption result ((mode : Mode) → number ≡ mode_number mode → ⊥)
         (λ mode. number ≡ mode_number mode) }
@@ -41,7 +41,7 @@ fn mode_of(number: i64) -> Option<Mode>
     }
 }
 
-/// A minute of the day, 0 to 1440.
+/// A minute of the day, from 0 to 1440.
 fn minute_of(number: i64) -> Option<u16>
     ensures { MatchOption result ((n : ℕ) → n ≤ 1440 → number ≡ pos n → ⊥) (λ n. number ≡ pos n) }
 {
@@ -51,7 +51,7 @@ fn minute_of(number: i64) -> Option<u16>
     Some(number as u16)
 }
 
-/// The days of a text, where it has seven marks, each `0` or `1`.
+/// The days given by a text, if it has seven marks, each `0` or `1`.
 fn days_of(text: &[u8]) -> Option<[bool; 7]>
     ensures { MatchOption result ((days : List Bool) → length days ≡ 7 → text.now ≡ days_text days
         → ⊥) (λ days. text.now ≡ days_text days) }
@@ -66,7 +66,7 @@ fn days_of(text: &[u8]) -> Option<[bool; 7]>
     Some(days)
 }
 
-/// The name rule of a number and a text: 0 takes all, 1 the texts' ends, 2 the text's beginning.
+/// The name rule given by a number and a text: 0 accepts every name, 1 lists the allowed endings, 2 gives the required beginning.
 fn rule_of(alloc: Global, kind: i64, text: &[u8]) -> Result<Option<NameRule>, AllocError>
     ensures { IfOk result (λ found. MatchOption found
         ((rule : Rule) → IsNameRule rule → kind ≡ rule_number rule → text.now ≡ rule_text rule → ⊥)
@@ -80,7 +80,7 @@ fn rule_of(alloc: Global, kind: i64, text: &[u8]) -> Result<Option<NameRule>, Al
     }
 }
 
-/// Whether a box of this name keeps its rules.
+/// Whether a box of this name obeys its rules.
 fn is_box(name: &[u8], entry: &BoxEntry) -> bool
     ensures { IsTrue result ↔ IsBoxRule name.now (box_in entry.now) }
 {
@@ -91,7 +91,7 @@ fn is_box(name: &[u8], entry: &BoxEntry) -> bool
     entry.used <= row.quota && entry.count <= row.max_files
 }
 
-/// The box of a line by its numbers, with this rule for names.
+/// The box given by the numbers of a line, with this rule for names.
 fn entry_of(line: &BoxLine, rule: NameRule) -> Option<BoxEntry>
     ensures { MatchOption result ((name : List ℕ) (b : Box)
         → IsGood IsBoxEntry IsBoxRule line.now name b → ⊥)
@@ -137,7 +137,7 @@ fn is_same_rule(a: &NameRule, b: &NameRule) -> bool
     }
 }
 
-/// Whether two rows tell the same numbers.
+/// Whether two rows have the same numbers.
 fn have_same_numbers(a: &BoxRow, b: &BoxRow) -> bool
     ensures { IsTrue result ↔ HaveSameNumbers (settings_of a.now) (settings_of b.now) }
 {
@@ -156,14 +156,14 @@ fn is_same_mode(a: Mode, b: Mode) -> bool
     a == b
 }
 
-/// Whether two rows of days are the same.
+/// Whether two sets of days are the same.
 fn are_same_days(a: &[bool; 7], b: &[bool; 7]) -> bool
     ensures { IsTrue result ↔ a.now ≡ b.now }
 {
     a == b
 }
 
-/// Whether two rows tell the same box.
+/// Whether two rows describe the same box.
 fn is_same_row(a: &BoxRow, b: &BoxRow) -> bool
     ensures { IsTrue result ↔ settings_of a.now ≡ settings_of b.now }
 {
@@ -186,7 +186,7 @@ fn is_same_box(a: &BoxEntry, b: &BoxEntry) -> bool
     is_same_row(&a.row, &b.row) && a.used == b.used && a.count == b.count
 }
 
-/// The box of a line, where it is one that keeps its rules.
+/// The box of a line, if the line is a box that obeys its rules.
 fn box_of(alloc: Global, line: &BoxLine) -> Result<Option<BoxEntry>, AllocError>
     ensures { IfOk result (λ found. MatchOption found
         ((name : List ℕ) (b : Box) → IsGood IsBoxEntry IsBoxRule line.now name b → ⊥)
@@ -205,7 +205,7 @@ fn box_of(alloc: Global, line: &BoxLine) -> Result<Option<BoxEntry>, AllocError>
     Ok(Some(entry))
 }
 
-/// Whether no other box stands under the name.
+/// Whether no different box has this name.
 fn agrees<'a>(boxes: &Boxes<'a>, name: &'a [u8], entry: &BoxEntry) -> bool
     ensures { MatchOption (found bytes_cmp text_of boxes.now.entries name.now) (IsTrue result)
         (λ first. IsTrue result ↔ box_in first ≡ box_in entry.now) }
@@ -216,7 +216,7 @@ fn agrees<'a>(boxes: &Boxes<'a>, name: &'a [u8], entry: &BoxEntry) -> bool
     }
 }
 
-/// The boxes of the lines, where each line is a box and no two differ in one name.
+/// The boxes of the lines, if each line is a box and no two different boxes have the same name.
 pub(crate) fn boxes_by_name<'a>(
     alloc: Global,
     lines: &'a [BoxLine],

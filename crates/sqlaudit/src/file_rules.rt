@@ -1,46 +1,50 @@
-//! The lines of the files, as files with their receipts, and what the boxes hold by them.
+//! Converts the lines of the files to files with their receipts, and computes what the boxes hold.
 
-ghost use Rattle.std.specs.Prelude.{◌≡◌, ℕ, List, slice_get, IfOk, OnOk, MatchOption};
+ghost use Rattle.std.specs.Prelude.{◌≡◌, ℕ, List, [], ◌∷◌, ◌++◌, slice_get, IfOk, OnOk, MatchBool, MatchOption};
 ghost use Rattle.sigtext.specs.Bytes.{bytes_cmp};
 ghost use Rattle.boxes.specs.State.{Place, Receipt};
 ghost use Rattle.boxes.specs.Maps.{found};
 ghost use Rattle.sqlaudit.specs.Outlines.{size_in};
-ghost use Rattle.sqlaudit.specs.Sorting.{AddsTo, AreFiled, HoldsReceipts, IsFiled, count_at, text_of, used_at};
+ghost use Rattle.sqlaudit.specs.declared.lines.FileLine.{FileLine};
+ghost use Rattle.sqlaudit.specs.Sorting.{AddsTo, AreFiled, AreUnfiled, HoldsReceipts, IsFiled, count_at, spot_of, text_of, used_at};
 
 use crate::lines::{FileLine, ReceiptLine};
 use crate::receipt_rules::{length_in, place_of, receipt_at};
 use boxes::Totals;
-use std::alloc::{AllocError, Global};
+use std::alloc::AllocError;
 use std::collections::BTreeMap;
 
-/// A file, as its line and its receipt have it.
+/// A file, as given by its line and its receipt.
 #[derive(Clone, Copy)]
-pub(crate) struct FileEntry {
+pub(crate) struct FileEntry<'a> {
+    /// Its box, as named in its receipt.
+    pub(crate) in_box: &'a [u8],
+    /// Its name, as given in its receipt.
+    pub(crate) name: &'a [u8],
     /// The number of its receipt.
     pub(crate) number: u64,
-    /// Its length by that, in bytes.
+    /// Its length according to that receipt, in bytes.
     pub(crate) size: u64,
 }
 
-/// The numbers of the files' receipts, by the files' boxes and names.
+/// The numbers of the files' receipts, keyed by the files' boxes and names.
 pub(crate) type Files<'a> = BTreeMap<(&'a [u8], &'a [u8]), u64>;
 
-/// What the boxes hold, by their names.
+/// What the boxes hold, keyed by box name.
 pub(crate) type Sums<'a> = BTreeMap<&'a [u8], Totals>;
 
-/// The files, and what the boxes hold by them.
+/// The files, and what the boxes hold according to them.
 #[derive(Drop)]
 pub(crate) struct Filed<'a> {
     pub(crate) files: Files<'a>,
     pub(crate) sums: Sums<'a>,
 }
 
-/// The file of a line, where its receipt is there, and of its place.
-fn file_of(line: &FileLine, receipts: &[ReceiptLine]) -> Option<FileEntry>
+/// The file of a line, if its receipt exists and has the same place.
+fn file_of<'a>(line: &FileLine, receipts: &'a [ReceiptLine]) -> Option<FileEntry<'a>>
     ensures { (rs : List Receipt) → HoldsReceipts receipts.now rs
         → MatchOption result ((place : Place) (n : ℕ) → IsFiled rs line.now place n → ⊥)
-        (λ e. IsFiled rs line.now
-        (record { box = line.now.in_box.items; name = line.now.name.items }) e.number
+        (λ e. IsFiled rs line.now (spot_of (e.in_box, e.name)) e.number
         × (e.size ≡ size_in (slice_get rs) e.number)) }
 {
     let number = line.receipt;
@@ -53,6 +57,8 @@ fn file_of(line: &FileLine, receipts: &[ReceiptLine]) -> Option<FileEntry>
         return None;
     }
     Some(FileEntry {
+        in_box: &receipt.in_box,
+        name: &receipt.name,
         number: at + 1,
         size: length_in(receipt)?,
     })
@@ -82,27 +88,46 @@ fn add_file<'a>(sums: &mut Sums<'a>, in_box: &'a [u8], size: u64) -> Result<(), 
     Ok(())
 }
 
-/// The files of the lines, where each line is one and no two differ in one place.
-pub(crate) fn files_by_place<'a>(
-    alloc: Global,
-    lines: &'a [FileLine],
-    receipts: &[ReceiptLine],
-) -> Result<Option<Filed<'a>>, AllocError>
-    ensures { (rs : List Receipt) → HoldsReceipts receipts.now rs
-        → IfOk result (AreFiled rs lines.now) }
+/// Adds the file of a line to the earlier files, if the line is a file and its place has no different file.
+fn add_line<'a>(
+    files: &mut Files<'a>,
+    sums: &mut Sums<'a>,
+    line: &FileLine,
+    receipts: &'a [ReceiptLine],
+) -> Result<bool, AllocError>
+    ensures { (rs : List Receipt) (before : List FileLine) → HoldsReceipts receipts.now rs
+        → AreFiled rs before files.old sums.old → IfOk result (λ added. MatchBool added
+        (AreFiled rs (before ++ line.now ∷ []) files.new sums.new)
+        (AreUnfiled rs (before ++ line.now ∷ []))) }
 {
-    let mut files = BTreeMap::new(alloc);
-    let mut sums = BTreeMap::new(alloc);
-    for line in lines {
-        let Some(file) = file_of(line, receipts) else {
-            return Ok(None);
-        };
-        let in_box = line.in_box.as_slice();
-        match files.insert((in_box, line.name.as_slice()), file.number)? {
-            Some(first) if first != file.number => return Ok(None),
-            Some(_) => {}
-            None => add_file(&mut sums, in_box, file.size)?,
+    let Some(file) = file_of(line, receipts) else {
+        return Ok(false);
+    };
+    match files.insert((file.in_box, file.name), file.number)? {
+        Some(first) => Ok(first == file.number),
+        None => {
+            add_file(sums, file.in_box, file.size)?;
+            Ok(true)
         }
     }
-    Ok(Some(Filed { files, sums }))
+}
+
+/// Adds the files of the lines to the earlier files, if each line is a file and no two different files have the same place.
+pub(crate) fn add_lines<'a>(
+    files: &mut Files<'a>,
+    sums: &mut Sums<'a>,
+    lines: &[FileLine],
+    receipts: &'a [ReceiptLine],
+) -> Result<bool, AllocError>
+    ensures { (rs : List Receipt) (before : List FileLine) → HoldsReceipts receipts.now rs
+        → AreFiled rs before files.old sums.old → IfOk result (λ added. MatchBool added
+        (AreFiled rs (before ++ lines.now) files.new sums.new)
+        (AreUnfiled rs (before ++ lines.now))) }
+{
+    for line in lines {
+        if !add_line(files, sums, line, receipts)? {
+            return Ok(false);
+        }
+    }
+    Ok(true)
 }

@@ -1,4 +1,4 @@
-//! The lines of the keys, as keys.
+//! Converts the lines of the keys to keys.
 
 ghost use Rattle.std.specs.Prelude.{◌≡◌, ◌↔◌, ℕ, Bool, List, IsTrue, IfOk, MatchOption};
 ghost use Rattle.sqlaudit.specs.Outlines.{IsKeyEntry, IsKeyRule};
@@ -14,7 +14,7 @@ use sigv4::{is_key_id, is_secret};
 use std::alloc::{AllocError, Global};
 use std::collections::BTreeMap;
 
-/// A key, as its line has it.
+/// A key, as given by its line.
 #[derive(Clone, Copy, PartialEq)]
 pub(crate) struct KeyEntry<'a> {
     pub(crate) role: Role,
@@ -22,10 +22,10 @@ pub(crate) struct KeyEntry<'a> {
     pub(crate) revoked: bool,
 }
 
-/// The keys by their ids.
+/// The keys, keyed by id.
 pub(crate) type Keys<'a> = BTreeMap<&'a [u8], KeyEntry<'a>>;
 
-/// The role of a number: 0 for a link's, 1 for a clerk's.
+/// The role with this number: 0 is a link, 1 a clerk.
 fn role_of(number: i64) -> Option<Role>
     ensures { MatchOption result ((role : Role) → number ≡ role_number role → ⊥)
         (λ role. number ≡ role_number role) }
@@ -37,7 +37,7 @@ fn role_of(number: i64) -> Option<Role>
     }
 }
 
-/// The flag of a number, 0 or 1.
+/// The flag with this number, 0 or 1.
 fn flag_of(number: i64) -> Option<bool>
     ensures { MatchOption result ((is : Bool) → number ≡ flag is → ⊥) (λ is. number ≡ flag is) }
 {
@@ -48,7 +48,7 @@ fn flag_of(number: i64) -> Option<bool>
     }
 }
 
-/// The key of a line, where it is one.
+/// The key of a line, if the line is a key.
 fn key_of(line: &KeyLine) -> Option<KeyEntry<'_>>
     ensures { MatchOption result ((id : List ℕ) (k : Key)
         → IsGood IsKeyEntry IsKeyRule line.now id k → ⊥)
@@ -72,7 +72,7 @@ fn is_same_key(a: &KeyEntry<'_>, b: &KeyEntry<'_>) -> bool
     a.role == b.role && a.revoked == b.revoked && a.secret == b.secret
 }
 
-/// The keys of the lines, where each line is a key and no two differ in one id.
+/// The keys of the lines, if each line is a key and no two different keys have the same id.
 pub(crate) fn keys_by_id<'a>(
     alloc: Global,
     lines: &'a [KeyLine],

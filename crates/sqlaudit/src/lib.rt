@@ -1,4 +1,4 @@
-//! Whether whole tables are those of an office that keeps every rule.
+//! Tests whether whole tables are those of an office that obeys every rule.
 #![tactic(auto)]
 
 mod box_rules;
@@ -14,3 +14,4 @@ mod piece_rules;
 mod portions;
 mod receipt_rules;
 mod rules;
+mod walking;

@@ -1,4 +1,4 @@
-//! The line of the allowance, and the lines of the limits among keys and boxes.
+//! The line of the allowance, and the lines of the limits between keys and boxes.
 
 ghost use Rattle.std.specs.Prelude.{◌≡◌, ◌≤◌, ◌↔◌, ℕ, pos, Contains, Some, IsTrue, IsSome, IsSomeAnd};
 ghost use Rattle.std.specs.FinMap.{FinMap, get};
@@ -19,7 +19,7 @@ use crate::receipt_rules::natural;
 use boxes::Role;
 use sigv4::Allowance;
 
-/// Whether the line is the one of the rules, with the allowance of the first.
+/// Whether the line is the line of the rules, with the same allowance as the first.
 fn is_rules_line(line: &RulesLine, first: &RulesLine) -> bool
     ensures { IsTrue result ↔ ((line.now.id ≡ pos 1)
         × (line.now.allowance ≡ first.now.allowance)) }
@@ -27,7 +27,7 @@ fn is_rules_line(line: &RulesLine, first: &RulesLine) -> bool
     line.id == 1 && line.allowance == first.allowance
 }
 
-/// Whether each line is the one of the rules, with the allowance of the first.
+/// Whether each line is the line of the rules, with the same allowance as the first.
 fn are_rules_lines(lines: &[RulesLine], first: &RulesLine) -> bool
     ensures { IsTrue result ↔ ((line : RulesLine) → Contains lines.now line
         → (line.id ≡ pos 1) × (line.allowance ≡ first.now.allowance)) }
@@ -40,7 +40,7 @@ fn are_rules_lines(lines: &[RulesLine], first: &RulesLine) -> bool
     true
 }
 
-/// Whether the line tells an allowance that an office may have.
+/// Whether the line has an allowance that an office may have.
 fn is_allowance(line: &RulesLine) -> bool
     ensures { IsTrue result ↔ ((allowance : ℕ) × (line.now.allowance ≡ pos allowance)
         × (allowance ≤ most_allowance)) }
@@ -52,7 +52,7 @@ fn is_allowance(line: &RulesLine) -> bool
     }
 }
 
-/// Whether the lines are one, with an allowance that an office may have.
+/// Whether there is a line, and every line is the one line of the rules, with the same allowance, which an office may have.
 pub(crate) fn has_allowance(lines: &[RulesLine]) -> bool
     ensures { IsTrue result ↔ ((allowance : ℕ)
         × AreEntries IsRulesEntry (λ one. Some allowance) lines.now
@@ -67,7 +67,7 @@ pub(crate) fn has_allowance(lines: &[RulesLine]) -> bool
     are_rules_lines(lines, first)
 }
 
-/// Whether the key is there, and a link's.
+/// Whether the key exists and is a link's.
 fn has_link<'a>(keys: &Keys<'a>, id: &'a [u8]) -> bool
     ensures { (ks : FinMap bytes_cmp Key) → HoldsKeys keys.now ks
         → IsTrue result ↔ IsSomeAnd (get ks id.now) (λ k. k.role ≡ Link) }
@@ -78,7 +78,7 @@ fn has_link<'a>(keys: &Keys<'a>, id: &'a [u8]) -> bool
     }
 }
 
-/// Whether the box is there.
+/// Whether the box exists.
 fn has_box<'a>(boxes: &Boxes<'a>, name: &'a [u8]) -> bool
     ensures { (bs : FinMap bytes_cmp Box) → HoldsBoxes boxes.now bs
         → IsTrue result ↔ IsSome (get bs name.now) }
@@ -86,7 +86,7 @@ fn has_box<'a>(boxes: &Boxes<'a>, name: &'a [u8]) -> bool
     boxes.contains_key(&name)
 }
 
-/// Whether the line limits a link's key that is there to a box that is there.
+/// Whether the line limits an existing link's key to an existing box.
 fn is_limit<'a>(line: &'a LimitLine, keys: &Keys<'a>, boxes: &Boxes<'a>) -> bool
     ensures { (ks : FinMap bytes_cmp Key) (bs : FinMap bytes_cmp Box) → HoldsKeys keys.now ks
         → HoldsBoxes boxes.now bs → IsTrue result ↔ IsLimitRule ks bs (limit_in line.now) }
@@ -94,7 +94,7 @@ fn is_limit<'a>(line: &'a LimitLine, keys: &Keys<'a>, boxes: &Boxes<'a>) -> bool
     has_link(keys, &line.key) && has_box(boxes, &line.in_box)
 }
 
-/// Whether each line limits a link's key that is there to a box that is there.
+/// Whether each line limits an existing link's key to an existing box.
 pub(crate) fn are_limits<'a>(lines: &'a [LimitLine], keys: &Keys<'a>, boxes: &Boxes<'a>) -> bool
     ensures { (ks : FinMap bytes_cmp Key) (bs : FinMap bytes_cmp Box) → HoldsKeys keys.now ks
         → HoldsBoxes boxes.now bs

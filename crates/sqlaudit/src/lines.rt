@@ -6,7 +6,7 @@ ghost use Rattle.std.specs.Ordering.{int_cmp};
 ghost use Rattle.std.specs.declared.cmp.Ordering.TheVariants.{Less};
 ghost use Rattle.sqlite_value.specs.declared.value.Value.TheVariants.{Int, Text};
 ghost use Rattle.sqlite_value.specs.Order.{Row as Values, column};
-ghost use Rattle.sqlaudit.specs.Lines.{IsOfficeLine, IsKeyLine, IsBoxLine, IsReceiptLine, IsFileLine, ShowsPiece, IsRulesLine, IsLimitLine, AreNumbered};
+ghost use Rattle.sqlaudit.specs.Lines.{IsOfficeLine, IsKeyLine, IsBoxLine, IsReceiptLine, IsFileLine, ShowsPiece, IsRulesLine, IsLimitLine, AreNumbersOf};
 
 use sqlite::types::ValueRef;
 use sqlite::{Error, ErrorCode, Row};
@@ -25,10 +25,10 @@ pub(crate) struct OfficeLine {
 #[derive(Drop)]
 pub(crate) struct KeyLine {
     pub(crate) id: Vec<u8>,
-    /// 1 of a clerk, 0 of one who is known by a link.
+    /// 1 for a clerk, 0 for someone known by a link.
     pub(crate) role: i64,
     pub(crate) secret: Vec<u8>,
-    /// 1 where it is revoked, else 0.
+    /// 1 if the key is revoked, otherwise 0.
     pub(crate) revoked: i64,
 }
 
@@ -36,29 +36,29 @@ pub(crate) struct KeyLine {
 #[derive(Drop)]
 pub(crate) struct BoxLine {
     pub(crate) name: Vec<u8>,
-    /// The first second at which it may be open, since 1970-01-01T00:00:00Z.
+    /// The first second at which the box may be open, since 1970-01-01T00:00:00Z.
     pub(crate) opens: i64,
-    /// The first second at which it is closed for good.
+    /// The first second at which the box is closed for good.
     pub(crate) closes: i64,
-    /// Seven digits, Monday first: '1' where it is open on the day, else '0'.
+    /// Seven digits, Monday first: '1' if the box is open on the day, otherwise '0'.
     pub(crate) days: Vec<u8>,
-    /// The first minute of the office's day at which it is open.
+    /// The first minute of the office's day at which the box is open.
     pub(crate) from_minute: i64,
-    /// The first minute after that at which it is closed.
+    /// The first later minute at which the box is closed.
     pub(crate) to_minute: i64,
-    /// How many bytes its files may have together.
+    /// The maximum total size of its files, in bytes.
     pub(crate) quota: i64,
-    /// How many files it may hold.
+    /// The maximum number of its files.
     pub(crate) max_files: i64,
-    /// 1 where other bytes may take a name, else 0.
+    /// 1 if new bytes may replace a file of the same name, otherwise 0.
     pub(crate) mode: i64,
-    /// 0 where it takes all names, 1 by their ends, 2 by their beginning.
+    /// 0 if the box accepts all names, 1 if it checks their ending, 2 if it checks their beginning.
     pub(crate) rule_kind: i64,
-    /// The texts of its rule, with a comma between each two.
+    /// The texts of its rule, joined by commas.
     pub(crate) rule_text: Vec<u8>,
-    /// How many bytes its files have together.
+    /// The total size of its files, in bytes.
     pub(crate) used: i64,
-    /// How many files it holds.
+    /// The number of its files.
     pub(crate) count: i64,
 }
 
@@ -68,7 +68,7 @@ pub(crate) struct ReceiptLine {
     pub(crate) number: i64,
     pub(crate) in_box: Vec<u8>,
     pub(crate) name: Vec<u8>,
-    /// How many bytes the file had.
+    /// The size of the file, in bytes.
     pub(crate) length: i64,
     pub(crate) digest: Vec<u8>,
     /// Seconds since 1970-01-01T00:00:00Z.
@@ -91,17 +91,17 @@ pub(crate) struct FileLine {
 pub(crate) struct PieceLine {
     pub(crate) in_box: Vec<u8>,
     pub(crate) name: Vec<u8>,
-    /// Its place among the pieces of the file, from 0.
+    /// Its position among the pieces of the file, from 0.
     pub(crate) part: i64,
-    /// How many bytes it has.
+    /// Its length in bytes.
     pub(crate) length: i64,
 }
 
-/// The row of what holds for the whole office.
+/// The row of the settings that apply to the whole office.
 #[derive(Drop)]
 pub(crate) struct RulesLine {
     pub(crate) id: i64,
-    /// By how many seconds a link may begin early.
+    /// How many seconds early a link may begin.
     pub(crate) allowance: i64,
 }
 
@@ -113,16 +113,16 @@ pub(crate) struct LimitLine {
     pub(crate) in_box: Vec<u8>,
 }
 
-/// What a row that a query shows is read into. The first column is the rowid, and the others are those of the table.
+/// A value read from a row that a query shows. The first column is the rowid, and the others are the table's columns.
 pub(crate) trait Line: Sized {
     ghost reads: { Values → Self → Type 0 };
 
-    /// A value of another type is refused, and want of memory. Texts are taken as they are.
+    /// Fails for a value of another type and for lack of memory. Texts are taken unchecked.
     fn of_row(alloc: Global, row: &Row) -> Result<Self, Error>
         ensures { IfOk result (reads row.now) };
 }
 
-/// The bytes of a text, which may be no UTF-8.
+/// The bytes of a text, which need not be UTF-8.
 fn text(alloc: Global, row: &Row, at: usize) -> Result<Vec<u8>, Error>
     ensures { IfOk result (λ bytes. column row.now at ≡ Text bytes.items) }
 {
@@ -244,7 +244,7 @@ impl Line for LimitLine {
     }
 }
 
-/// Each row as a line, in their order.
+/// Reads each row as a line, in order.
 pub(crate) fn lines_of<L: Line + Drop>(alloc: Global, rows: &[Row]) -> Result<Vec<L>, Error>
     ensures { IfOk result (λ lines. AllZip L.reads rows.now lines.items) }
 {
@@ -257,7 +257,7 @@ pub(crate) fn lines_of<L: Line + Drop>(alloc: Global, rows: &[Row]) -> Result<Ve
 }
 
 /// The numbers in the first column.
-pub(crate) fn first_numbers(alloc: Global, rows: &[Row]) -> Result<Vec<i64>, Error>
+fn first_numbers(alloc: Global, rows: &[Row]) -> Result<Vec<i64>, Error>
     ensures { IfOk result (λ numbers. map (λ r. column r 0) rows.now ≡ map Int numbers.items) }
 {
     let mut numbers = Vec::new(alloc);
@@ -268,19 +268,22 @@ pub(crate) fn first_numbers(alloc: Global, rows: &[Row]) -> Result<Vec<i64>, Err
     Ok(numbers)
 }
 
-/// Whether each number is above the one before it.
-pub(crate) fn rise(numbers: &[i64]) -> bool
+/// Whether each number is greater than the one before it.
+fn rise(numbers: &[i64]) -> bool
     ensures { IsTrue result → AllAdjacentBelow (λ a b. int_cmp a b ≡ Less) numbers.now
         (length numbers.now) }
 {
     numbers.is_sorted_by(|a, b| a.cmp(b).is_lt())
 }
 
-/// Whether no two rows have one number in the first column.
-pub(crate) fn are_apart(alloc: Global, rows: &[Row]) -> Result<bool, Error>
-    ensures { IfOk result (λ apart. IsTrue apart → AreNumbered rows.now) }
+/// The numbers in the first column, ascending. Two rows with the same number are the error `DatabaseCorrupt`.
+pub(crate) fn numbers_of(alloc: Global, rows: &[Row]) -> Result<Vec<i64>, Error>
+    ensures { IfOk result (λ numbers. AreNumbersOf rows.now numbers.items) }
 {
     let mut numbers = first_numbers(alloc, rows)?;
     numbers.sort_unstable();
-    Ok(rise(&numbers))
+    if !rise(&numbers) {
+        return Err(Error::SqliteFailure(ErrorCode::DatabaseCorrupt));
+    }
+    Ok(numbers)
 }

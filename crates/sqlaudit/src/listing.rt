@@ -1,4 +1,4 @@
-//! Whole tables, each read by one query inside a transaction. The database may mean no office.
+//! Whole tables, each read inside a transaction. The database need not mean an office.
 
 ghost use Rattle.std.specs.Prelude.{◌≡◌, IsTrue, OnOk, IfOk};
 ghost use Rattle.sqlite.specs.State.{HasCleanDisk};
@@ -12,15 +12,15 @@ ghost use Rattle.sqlaudit.specs.Lines.{IsOfficeLine, AreLines, AreRead, HaveRowi
 
 use crate::formats::Format;
 use crate::lines::{
-    BoxLine, FileLine, KeyLine, LimitLine, Line, OfficeLine, PieceLine, ReceiptLine, RulesLine,
-    are_apart, lines_of,
+    BoxLine, KeyLine, LimitLine, Line, OfficeLine, PieceLine, ReceiptLine, RulesLine, lines_of,
+    numbers_of,
 };
-use crate::portions::list_long;
-use sqlite::{Alter, Error, ErrorCode, Transaction};
+use crate::portions::{PORTION, list_long, list_numbers};
+use sqlite::{Alter, Error, Transaction};
 use sqltables::calls::query;
 use std::alloc::Global;
 
-/// What the query shows, row by row. Two rows with one number in the first column are `DatabaseCorrupt`.
+/// Each row that the query shows. Two rows with the same number in the first column are the error `DatabaseCorrupt`.
 fn list<S: Alter, L: Line + Drop>(tx: &mut Transaction<'_, S>, sql: &str) -> Result<Vec<L>, Error>
     ensures read { HasCleanDisk (seen S.Store tx.new)
         → IfOk result (λ lines. AreRead L.reads sql.now (seen S.Store tx.old)
@@ -29,13 +29,11 @@ fn list<S: Alter, L: Line + Drop>(tx: &mut Transaction<'_, S>, sql: &str) -> Res
 {
     let rows = query(tx, sql, &[])?;
     let alloc = *rows.allocator();
-    if !are_apart(alloc, &rows)? {
-        return Err(Error::SqliteFailure(ErrorCode::DatabaseCorrupt));
-    }
+    numbers_of(alloc, &rows)?;
     lines_of(alloc, &rows)
 }
 
-/// The row of the office, where the tables behind its own may not be there yet.
+/// The row of the office. The tables after the office's own need not exist yet.
 pub(crate) fn list_office<S: Alter>(tx: &mut Transaction<'_, S>) -> Result<Vec<OfficeLine>, Error>
     ensures listed { OfBegunOffice S.Store tx.old tx.new (IfOk result
         (λ lines. AreLines IsOfficeLine ((seen S.Store tx.old).now.trees 0) lines.items)) }
@@ -58,7 +56,7 @@ pub(crate) struct Added {
     pub(crate) limits: Vec<LimitLine>,
 }
 
-/// What version 2 would say of an office of version 1: no link begins early, and no key is limited.
+/// The values that version 2 would have for an office of version 1: no link begins early, and no key is limited.
 fn unlimited(alloc: Global) -> Result<Added, Error>
     ensures { IfOk result (λ added. SayUnlimited added.rules.items added.limits.items) }
 {
@@ -90,7 +88,7 @@ fn list_second<S: Alter>(tx: &mut Transaction<'_, S>) -> Result<Added, Error>
     })
 }
 
-/// The tables that version 2 adds; of an office of version 1, what stands for them.
+/// The tables that version 2 adds; for an office of version 1, the equivalent values.
 fn list_added<S: Alter>(
     tx: &mut Transaction<'_, S>,
     alloc: Global,
@@ -110,18 +108,21 @@ fn list_added<S: Alter>(
     }
 }
 
-/// The rows of each table but the office's own.
+/// The rows of every table except the office's own. For the files these are only the rowids.
 #[derive(Drop)]
 pub(crate) struct Listed {
     pub(crate) keys: Vec<KeyLine>,
     pub(crate) boxes: Vec<BoxLine>,
-    pub(crate) receipts: Vec<ReceiptLine>,
-    pub(crate) files: Vec<FileLine>,
+    /// The pieces that are not the first of their file.
     pub(crate) pieces: Vec<PieceLine>,
+    /// The rowids of the files, ascending.
+    pub(crate) files: Vec<i64>,
+    pub(crate) receipts: Vec<ReceiptLine>,
     pub(crate) added: Added,
 }
 
-/// Each table but the office's own.
+/// Reads every table except the office's own: of the files only the rowids, and of the pieces those that are not the first of
+/// their file.
 pub(crate) fn list_all<S: Alter>(
     tx: &mut Transaction<'_, S>,
     alloc: Global,
@@ -142,23 +143,20 @@ pub(crate) fn list_all<S: Alter>(
             tx,
             "SELECT rowid, name, opens, closes, days, from_minute, to_minute, quota, max_files, mode, rule_kind, rule_text, used, count FROM boxes ORDER BY name",
         )?,
-        receipts: list_long(
-            tx,
-            alloc,
-            "SELECT rowid FROM receipts",
-            "SELECT rowid, number, box, name, length, digest, moment, key_id FROM receipts WHERE rowid >= ?1 AND rowid <= ?2",
-        )?,
-        files: list_long(
-            tx,
-            alloc,
-            "SELECT rowid FROM files",
-            "SELECT rowid, box, name, receipt FROM files WHERE rowid >= ?1 AND rowid <= ?2",
-        )?,
         pieces: list_long(
             tx,
             alloc,
+            PORTION,
             "SELECT rowid FROM pieces",
-            "SELECT rowid, box, name, part, length(bytes) FROM pieces WHERE rowid >= ?1 AND rowid <= ?2",
+            "SELECT rowid, box, name, part, length(bytes) FROM pieces WHERE rowid >= ?1 AND rowid <= ?2 AND part <> 0",
+        )?,
+        files: list_numbers(tx, "SELECT rowid FROM files")?,
+        receipts: list_long(
+            tx,
+            alloc,
+            usize::MAX,
+            "SELECT rowid FROM receipts",
+            "SELECT rowid, number, box, name, length, digest, moment, key_id FROM receipts WHERE rowid >= ?1 AND rowid <= ?2",
         )?,
         added: list_added(tx, alloc, format)?,
     })

@@ -1,4 +1,4 @@
-//! What is found in an office file that is opened.
+//! Tests what an office file contains when it is opened.
 
 ghost use Rattle.std.specs.Prelude.{◌↔◌, ◌≡◌, ◌≢◌, false, ℤ, Contains, MatchBool, MatchOption, None, Some, IsTrue, IfOk, OnOk};
 ghost use Rattle.sqlite_schema.specs.declared.schema.Table.{Table};
@@ -13,52 +13,53 @@ ghost use Rattle.sqlaudit.specs.Formats.{version_of};
 ghost use Rattle.sqlaudit.specs.Listing.{OfVersion};
 ghost use Rattle.sqlaudit.specs.Opened.{HasOurs, IsOurs, AreTables, IsExtent, IsTableAt, BeginNamed, AreNamed, AreFirstNamed, AreNamedAs, IsAtRest, IsSettled, IsBegunAs, LeavesUntouched, IsFound, IsEither, HasNamesOf, AreOffice, AreOfVersion};
 
-use crate::digests::have_bytes;
 use crate::formats::Format;
 use crate::lines::OfficeLine;
 use crate::listing::{Listed, list_all, list_office};
+use crate::piece_rules::{are_pieces, have_totals};
 use crate::receipt_rules::{are_rising, fit_version};
 use crate::rules::{Lines, are_sound};
+use crate::walking::test_files;
 use sqlite::{Alter, Connection, Error, ErrorCode, Transaction};
 use sqlite_schema::schema::{Schema, Table};
 use std::alloc::Global;
 
-/// What an office file is found to be.
+/// The result of testing an office file for one version.
 #[derive(Clone, Copy, Debug, PartialEq, Eq)]
 pub enum Finding {
-    /// The tables of an office that keeps every rule.
+    /// The tables of an office that obeys every rule.
     Sound,
     /// An office of another version.
     OtherVersion,
-    /// No office, or one that breaks a rule.
+    /// Not an office, or an office that breaks a rule.
     Damaged,
 }
 
-/// Of which version an office file is found to be.
+/// The version that an office file is found to have.
 #[derive(Clone, Copy, Debug, PartialEq, Eq)]
 pub enum Found {
-    /// The tables of an office of version 1 that keeps every rule.
+    /// The tables of an office of version 1 that obeys every rule.
     First,
-    /// The tables of an office of version 2 that keeps every rule.
+    /// The tables of an office of version 2 that obeys every rule.
     Second,
     /// An office of a version that is neither 1 nor 2.
     OtherVersion,
-    /// No office, or one that breaks a rule.
+    /// Not an office, or an office that breaks a rule.
     Damaged,
 }
 
-/// How many of an office's tables are there.
+/// How many of an office's tables exist.
 #[derive(Clone, Copy, Debug, PartialEq, Eq)]
 pub(crate) enum Extent {
-    /// Not the first.
+    /// The first table does not exist.
     Nothing,
-    /// The first.
+    /// The first table exists, but the tables are not exactly those of the version.
     Begun,
-    /// All, and no others.
+    /// All tables exist, and no others.
     Whole,
 }
 
-/// Whether the table in this place has this name and so many columns.
+/// Whether the table at this position has this name and this number of columns.
 fn is_table(tables: &[Table], at: usize, name: &str, columns: usize) -> bool
     ensures { IsTrue result ↔ IsTableAt tables.now at name.now columns }
 {
@@ -68,7 +69,7 @@ fn is_table(tables: &[Table], at: usize, name: &str, columns: usize) -> bool
     table.name.as_slice() == name.as_bytes() && table.columns.len() == columns
 }
 
-/// Whether the first six are the tables of version 1, by their names and the number of their columns.
+/// Whether the first six tables are those of version 1, by their names and the number of their columns.
 fn begin_named(schema: &Schema) -> bool
     ensures { IsTrue result ↔ BeginNamed schema.now }
 {
@@ -115,7 +116,7 @@ fn are_named(schema: &Schema, format: Format) -> bool
     }
 }
 
-/// How many of the tables of this version a database has.
+/// How many of the tables of this version exist in a database.
 fn extent_of(schema: &Schema, format: Format) -> Extent
     ensures is { IsOurs schema.now → IsExtent (version_of format) result schema.now }
     ensures named { result ≡ Extent.Whole → AreNamedAs format schema.now }
@@ -129,14 +130,14 @@ fn extent_of(schema: &Schema, format: Format) -> Extent
     }
 }
 
-/// Whether the line is of the version of the other.
+/// Whether the line has the same version as the other.
 fn is_of_version(line: &OfficeLine, first: &OfficeLine) -> bool
     ensures { IsTrue result ↔ line.now.version ≡ first.now.version }
 {
     line.version == first.version
 }
 
-/// Whether each line is of the version of this one.
+/// Whether each line has the same version as this one.
 fn are_of_version(lines: &[OfficeLine], first: &OfficeLine) -> bool
     ensures { IsTrue result ↔ ((line : OfficeLine) → Contains lines.now line
         → line.version ≡ first.now.version) }
@@ -149,7 +150,7 @@ fn are_of_version(lines: &[OfficeLine], first: &OfficeLine) -> bool
     true
 }
 
-/// The row of the office, by whose version all go.
+/// The first row of the office, if every row has the same version.
 fn versioned(lines: &[OfficeLine]) -> Option<&OfficeLine>
     ensures { MatchOption result ((version : ℤ) → AreOfVersion lines.now version → ⊥)
         (λ line. AreOfVersion lines.now line.now.version) }
@@ -162,8 +163,8 @@ fn versioned(lines: &[OfficeLine]) -> Option<&OfficeLine>
     }
 }
 
-/// Whether the lines are those of an office of this version, and its files have their bytes. Receipts in another order
-/// than that of their numbers are `DatabaseCorrupt`.
+/// Whether the lines are those of an office of this version whose files have their bytes. Receipts that are not in the order
+/// of their numbers are the error `DatabaseCorrupt`.
 fn is_sound<S: Alter>(
     tx: &mut Transaction<'_, S>,
     alloc: Global,
@@ -185,8 +186,6 @@ fn is_sound<S: Alter>(
         keys: &listed.keys,
         boxes: &listed.boxes,
         receipts: &listed.receipts,
-        files: &listed.files,
-        pieces: &listed.pieces,
         rules: &listed.added.rules,
         limits: &listed.added.limits,
     };
@@ -202,10 +201,16 @@ fn is_sound<S: Alter>(
     if !sound {
         return Ok(false);
     }
-    have_bytes(tx, alloc, &listed.receipts, &listed.files)
+    let Some(filed) = test_files(tx, alloc, &listed.files, &listed.receipts)? else {
+        return Ok(false);
+    };
+    if !have_totals(&listed.boxes, &filed.sums) {
+        return Ok(false);
+    }
+    Ok(are_pieces(&listed.pieces, &filed.files, &listed.receipts))
 }
 
-// What is found where the version is ours.
+// The finding for a file of the version looked for.
 fn finding_of(sound: bool) -> Finding
     ensures { MatchBool sound (result ≡ Finding.Sound) (result ≡ Finding.Damaged) }
 {
@@ -233,7 +238,7 @@ fn look_at_all<S: Alter>(
     Ok(finding_of(sound))
 }
 
-/// Tests the tables of an office, the version first.
+/// Tests the tables of an office, starting with its version.
 fn look<S: Alter>(
     tx: &mut Transaction<'_, S>,
     alloc: Global,
@@ -260,7 +265,7 @@ fn look<S: Alter>(
     look_at_all(tx, alloc, &office, format)
 }
 
-/// What the tables are found to be, in a transaction that is rolled back.
+/// Tests the tables in a transaction that is rolled back.
 fn examine<S: Alter>(
     conn: &mut Connection<S>,
     alloc: Global,
@@ -306,14 +311,14 @@ fn find_as<S: Alter>(
     }
     let finding = examine(conn, alloc, extent, format)?;
     if finding != Finding::Damaged {
-        // A store that shut itself compiles no statement.
+        // A store that has shut itself down compiles no statement.
         conn.prepare("SELECT version FROM office")?;
     }
     Ok(finding)
 }
 
-/// Tests the whole file as one of version 2. Nothing is written, and whatever file it is, it is found as it was. An office's
-/// file is found to be open still, and to have exactly the tables of an office of version 2, by their names.
+/// Tests the whole file as one of version 2. Nothing is written, and any file is left unchanged. An office's file
+/// is still open afterwards, and has exactly the tables of an office of version 2, by their names.
 pub fn find<S: Alter>(conn: &mut Connection<S>, alloc: Global) -> Result<Finding, Error>
     ensures found { HasOurs (state S.Store conn.old) → HasCleanDisk (state S.Store conn.new)
         → IsTrue (state S.Store conn.old).is_open
@@ -329,8 +334,8 @@ pub fn find<S: Alter>(conn: &mut Connection<S>, alloc: Global) -> Result<Finding
     find_as(conn, alloc, Format::Second)
 }
 
-/// Tests the whole file as one of version 2, and where its office says another version, as one of version 1. Nothing is
-/// written, and whatever file it is, it is found as it was. An office's file is found to be open still.
+/// Tests the whole file as one of version 2 and, if its office says another version, as one of version 1. Nothing is
+/// written, and any file is left unchanged. An office's file is still open afterwards.
 pub fn find_either<S: Alter>(conn: &mut Connection<S>, alloc: Global) -> Result<Found, Error>
     ensures found { HasOurs (state S.Store conn.old) → HasCleanDisk (state S.Store conn.new)
         → IsTrue (state S.Store conn.old).is_open

@@ -1,4 +1,4 @@
-//! The rules of what pieces, boxes, receipts and keys there are.
+//! The rules about which pieces, boxes and keys exist.
 
 ghost use Rattle.std.specs.Prelude.{◌≡◌, ◌↔◌, ℕ, ◌*◌, ◌-◌, ◌<◌, pos, min, List, Contains, IsTrue, slice_get};
 ghost use Rattle.std.specs.FinMap.{FinMap, get};
@@ -16,7 +16,7 @@ use crate::receipt_rules::{length_in, natural, receipt_at};
 // The length of a piece that is not the last, in bytes.
 const PIECE_BYTES: u64 = 65_536;
 
-/// The size in the receipt of this number; 0, where it is not there.
+/// The size in the receipt of this number; 0 if there is no such receipt.
 fn size_of(receipts: &[ReceiptLine], number: u64) -> u64
     ensures { (rs : List Receipt) → HoldsReceipts receipts.now rs
         → result ≡ size_in (slice_get rs) number }
@@ -27,7 +27,7 @@ fn size_of(receipts: &[ReceiptLine], number: u64) -> u64
     }
 }
 
-/// Whether a piece of this length stands in this part of a file.
+/// Whether a piece of this length fits this part of a file of this size.
 fn is_stretch(size: u64, part: u64, length: u64) -> bool
     ensures { IsTrue result ↔ ((65536 * part < size) × (length ≡ min 65536 (size - 65536 * part))) }
 {
@@ -35,7 +35,7 @@ fn is_stretch(size: u64, part: u64, length: u64) -> bool
     begin < size && length == PIECE_BYTES.min(size - begin)
 }
 
-/// The number of the receipt of the file of a piece.
+/// The number of the receipt of a piece's file.
 fn number_of<'a>(line: &'a PieceLine, files: &Files<'a>) -> Option<u64>
     ensures { (m : FinMap place_cmp ℕ) → HoldsFiles files.now m
         → result ≡ get m (record { box = line.now.in_box.items; name = line.now.name.items }) }
@@ -82,7 +82,7 @@ pub(crate) fn are_pieces<'a>(
     true
 }
 
-/// Whether a number that is told is a sum, which stops at the greatest of 64 bits.
+/// Whether a stored number equals a sum. Sums are capped at the greatest 64-bit number.
 fn is_sum(told: i64, sum: u64) -> bool
     ensures { (n : ℕ) → sum ≡ capped n → IsTrue result ↔ told ≡ pos n }
 {
@@ -92,7 +92,7 @@ fn is_sum(told: i64, sum: u64) -> bool
     }
 }
 
-/// Whether the line tells what its box holds.
+/// Whether the line's totals are what its box holds.
 fn has_totals<'a>(line: &'a BoxLine, sums: &Sums<'a>) -> bool
     ensures { (rs : List Receipt) (m : FinMap place_cmp ℕ) → AreSums rs m sums.now.entries
         → IsTrue result ↔ HasTotals rs m line.now }
@@ -102,7 +102,7 @@ fn has_totals<'a>(line: &'a BoxLine, sums: &Sums<'a>) -> bool
     is_sum(used, held.used) && is_sum(count, held.count)
 }
 
-/// Whether each line tells what its box holds.
+/// Whether each line's totals are what its box holds.
 pub(crate) fn have_totals<'a>(lines: &'a [BoxLine], sums: &Sums<'a>) -> bool
     ensures { (rs : List Receipt) (m : FinMap place_cmp ℕ) → AreSums rs m sums.now.entries
         → IsTrue result ↔ ((line : BoxLine) → Contains lines.now line → HasTotals rs m line) }
@@ -115,14 +115,14 @@ pub(crate) fn have_totals<'a>(lines: &'a [BoxLine], sums: &Sums<'a>) -> bool
     true
 }
 
-/// Whether the line is an unrevoked clerk's.
+/// Whether the line is an unrevoked clerk's key.
 fn is_clerk(line: &KeyLine) -> bool
     ensures { IsTrue result ↔ ((line.now.role ≡ pos 1) × (line.now.revoked ≡ pos 0)) }
 {
     line.role == 1 && line.revoked == 0
 }
 
-/// Whether an unrevoked clerk's key stands.
+/// Whether an unrevoked clerk's key exists.
 pub(crate) fn has_clerk(lines: &[KeyLine]) -> bool
     ensures { (ks : FinMap bytes_cmp Key) → AreEntries (IsGood IsKeyEntry IsKeyRule)
         (get ks) lines.now → IsTrue result ↔ HasClerkIn ks }

@@ -1,41 +1,40 @@
-//! Long tables, each read portion by portion inside a transaction. The database may mean no office.
+//! Long tables, each read in portions inside a transaction. The database need not mean an office.
 
-ghost use Rattle.std.specs.Prelude.{◌≡◌, ℕ, [], ◌∷◌, IsTrue, OnOk, IfOk};
+ghost use Rattle.std.specs.Prelude.{◌≡◌, ℕ, List, [], ◌∷◌, IsTrue, OnOk, IfOk};
 ghost use Rattle.sqlite_value.specs.declared.value.Value.TheVariants.{Int};
 ghost use Rattle.sqlite_value.specs.Order.{Row};
+ghost use Rattle.sqlite_sql.specs.Term.{Term};
 ghost use Rattle.sqlite.specs.State.{HasCleanDisk};
 ghost use Rattle.sqltables.specs.Schema.{Version};
 ghost use Rattle.sqltables.specs.Inside.{seen, GoesOnBegun, GoesOnWhere};
 ghost use Rattle.sqltables.specs.Means.{IsRunning};
-ghost use Rattle.sqlaudit.specs.Lines.{AreLines, HaveRowids};
-ghost use Rattle.sqlaudit.specs.Portions.{AreNumbersOf, AreRowids, AsksBetween, AsksNumbers, OfRunning, OfTable, Shows, ShowsNumbers};
+ghost use Rattle.sqlaudit.specs.Lines.{AreLinesWhere, HaveRowids};
+ghost use Rattle.sqlaudit.specs.Portions.{AreRowids, AsksBetween, AsksNumbers, OfRunning, OfTable, Passes, Shows, ShowsNumbers};
 
-use crate::lines::{Line, first_numbers, lines_of, rise};
-use sqlite::{Alter, Error, ErrorCode, Transaction, params};
+use crate::lines::{Line, lines_of, numbers_of};
+use sqlite::{Alter, Error, Transaction, params};
 use sqltables::calls::query;
 use std::alloc::Global;
 
-/// How many rows one query shows at most.
-const PORTION: usize = 512;
+/// The maximum number of rows that one query shows.
+pub(crate) const PORTION: usize = 512;
 
-/// The numbers in the one column that the query shows, ascending. Two rows with one number are `DatabaseCorrupt`.
-fn list_numbers<S: Alter>(tx: &mut Transaction<'_, S>, sql: &str) -> Result<Vec<i64>, Error>
+/// The numbers in the only column that the query shows, ascending. Two rows with the same number are `DatabaseCorrupt`.
+pub(crate) fn list_numbers<S: Alter>(
+    tx: &mut Transaction<'_, S>,
+    sql: &str,
+) -> Result<Vec<i64>, Error>
     ensures read { HasCleanDisk (seen S.Store tx.new)
         → IfOk result (λ numbers. ShowsNumbers sql.now (seen S.Store tx.old) (seen S.Store tx.new)
         numbers.items) }
     ensures rest { GoesOnBegun S.Store tx.old tx.new result }
 {
     let rows = query(tx, sql, &[])?;
-    let mut numbers = first_numbers(*rows.allocator(), &rows)?;
-    numbers.sort_unstable();
-    if !rise(&numbers) {
-        return Err(Error::SqliteFailure(ErrorCode::DatabaseCorrupt));
-    }
-    Ok(numbers)
+    numbers_of(*rows.allocator(), &rows)
 }
 
-/// What the query shows of the rows from the one rowid to the other.
-fn list_between<S: Alter, L: Line + Drop>(
+/// What the query shows of the rows with rowids from `first` to `last`.
+pub(crate) fn list_between<S: Alter, L: Line + Drop>(
     tx: &mut Transaction<'_, S>,
     sql: &str,
     first: i64,
@@ -50,25 +49,28 @@ fn list_between<S: Alter, L: Line + Drop>(
     lines_of(*rows.allocator(), &rows)
 }
 
-/// What the query shows of the rows of these rowids, a portion at a time.
+/// What the query shows of the rows with these rowids that pass its test, one portion at a time. The initial capacity is `room`
+/// lines.
 fn list_portions<S: Alter, L: Line + Drop>(
     tx: &mut Transaction<'_, S>,
     alloc: Global,
+    room: usize,
     numbers: &[i64],
     sql: &str,
 ) -> Result<Vec<L>, Error>
-    ensures read { (v : Version) (tree : ℕ) (show : Row → Row) → AsksBetween v sql.now tree show
+    ensures read { (v : Version) (tree : ℕ) (test : List Term) (show : Row → Row)
+        → AsksBetween v sql.now tree test show
         → AreRowids ((seen S.Store tx.old).now.trees tree) numbers.now
         → OfRunning v S.Store tx.old tx.new (IfOk result
-        (λ lines. AreLines (λ row line. L.reads (show row) line)
+        (λ lines. AreLinesWhere (Passes test) (λ row line. L.reads (show row) line)
         ((seen S.Store tx.old).now.trees tree) lines.items)) }
-    ensures same { (v : Version) (tree : ℕ) (show : Row → Row) → AsksBetween v sql.now tree show
-        → OfRunning v S.Store tx.old tx.new
+    ensures same { (v : Version) (tree : ℕ) (test : List Term) (show : Row → Row)
+        → AsksBetween v sql.now tree test show → OfRunning v S.Store tx.old tx.new
         (OnOk result ((seen S.Store tx.new).now ≡ (seen S.Store tx.old).now)) }
     ensures rest { GoesOnWhere (IsRunning (seen S.Store tx.old))
         (IsRunning (seen S.Store tx.old)) S.Store tx.old tx.new result }
 {
-    let mut lines = Vec::with_capacity(alloc, numbers.len())?;
+    let mut lines = Vec::with_capacity(alloc, room)?;
     let mut at: usize = 0;
     while at < numbers.len() {
         let end = at + PORTION.min(numbers.len() - at);
@@ -79,26 +81,28 @@ fn list_portions<S: Alter, L: Line + Drop>(
     Ok(lines)
 }
 
-/// The rows of a table, by a query for their rowids and one for those from the one rowid to the other. Two rows with one
-/// rowid are `DatabaseCorrupt`.
+/// The rows of a table that pass a test. One query reads all rowids, and another reads the passing rows of a range of rowids.
+/// Two rows with the same rowid are `DatabaseCorrupt`. The initial capacity is one line per row, but at most `room` lines.
 pub(crate) fn list_long<S: Alter, L: Line + Drop>(
     tx: &mut Transaction<'_, S>,
     alloc: Global,
+    room: usize,
     rowids: &str,
     sql: &str,
 ) -> Result<Vec<L>, Error>
-    ensures read { (v : Version) (tree : ℕ) (show : Row → Row) → AsksNumbers v rowids.now tree
-        → AsksBetween v sql.now tree show → OfTable v S.Store tx.old tx.new (IfOk result
-        (λ lines. AreLines (λ row line. L.reads (show row) line)
+    ensures read { (v : Version) (tree : ℕ) (test : List Term) (show : Row → Row)
+        → AsksNumbers v rowids.now tree → AsksBetween v sql.now tree test show
+        → OfTable v S.Store tx.old tx.new (IfOk result
+        (λ lines. AreLinesWhere (Passes test) (λ row line. L.reads (show row) line)
         ((seen S.Store tx.old).now.trees tree) lines.items)) }
     ensures rowids { (v : Version) (tree : ℕ) → AsksNumbers v rowids.now tree
         → OfTable v S.Store tx.old tx.new
         (OnOk result (HaveRowids ((seen S.Store tx.old).now.trees tree))) }
-    ensures same { (v : Version) (tree : ℕ) (show : Row → Row) → AsksNumbers v rowids.now tree
-        → AsksBetween v sql.now tree show → OfTable v S.Store tx.old tx.new
+    ensures same { (v : Version) (tree : ℕ) (test : List Term) (show : Row → Row)
+        → AsksNumbers v rowids.now tree → AsksBetween v sql.now tree test show → OfTable v S.Store tx.old tx.new
         (OnOk result ((seen S.Store tx.new).now ≡ (seen S.Store tx.old).now)) }
     ensures rest { GoesOnBegun S.Store tx.old tx.new result }
 {
     let numbers = list_numbers(tx, rowids)?;
-    list_portions(tx, alloc, &numbers, sql)
+    list_portions(tx, alloc, numbers.len().min(room), &numbers, sql)
 }

@@ -1,4 +1,4 @@
-//! The lines of the receipts, as receipts among keys and boxes.
+//! Converts the lines of the receipts to receipts, given the keys and boxes.
 
 ghost use Rattle.std.specs.Prelude.{◌≡◌, ◌≢◌, ◌↔◌, ℕ, ◌+◌, ◌≤ℤ◌, pos, List, slice_get, Some, None, IsTrue, IsSomeAnd, MatchBool, MatchOption, ⊤};
 ghost use Rattle.std.specs.FinMap.{FinMap, get};
@@ -20,7 +20,7 @@ use crate::lines::ReceiptLine;
 use boxes::{Command, has_form, name_fits};
 use sigtext::MOST_BODY;
 
-/// A receipt, as its line has it.
+/// A receipt, as given by its line.
 #[derive(Clone, Copy)]
 pub(crate) struct ReceiptEntry<'a> {
     pub(crate) in_box: &'a [u8],
@@ -33,17 +33,17 @@ pub(crate) struct ReceiptEntry<'a> {
 
 const DIGEST_BYTES: usize = 32;
 
-/// The greatest length of a file in version 1, in bytes.
+/// The maximum length of a file in version 1, in bytes.
 const MOST_FIRST_BODY: i64 = 1_048_576;
 
-/// Whether version 1 holds a file of this length.
+/// Whether version 1 allows a file of this length.
 fn is_short(line: &ReceiptLine) -> bool
     ensures { IsTrue result ↔ line.now.length ≤ℤ pos most_first_body }
 {
     line.length <= MOST_FIRST_BODY
 }
 
-/// Whether version 1 holds files of all these lengths.
+/// Whether version 1 allows files of all these lengths.
 fn are_short(lines: &[ReceiptLine]) -> bool
     ensures { IsTrue result ↔ AreShortLines lines.now }
 {
@@ -55,7 +55,7 @@ fn are_short(lines: &[ReceiptLine]) -> bool
     true
 }
 
-/// Whether this version holds files of all these lengths. Of version 2 the rules of a receipt tell it.
+/// Whether this version allows files of all these lengths. For version 2 the rules of a receipt check the length.
 pub(crate) fn fit_version(lines: &[ReceiptLine], format: Format) -> bool
     ensures { IsTrue result ↔ (version_of format ≡ v1 → AreShortLines lines.now) }
 {
@@ -65,7 +65,7 @@ pub(crate) fn fit_version(lines: &[ReceiptLine], format: Format) -> bool
     }
 }
 
-/// The number, where it is not below 0.
+/// The number, if it is not below 0.
 pub(crate) fn natural(number: i64) -> Option<u64>
     ensures { MatchOption result ((n : ℕ) → number ≡ pos n → ⊥) (λ n. number ≡ pos n) }
 {
@@ -75,7 +75,7 @@ pub(crate) fn natural(number: i64) -> Option<u64>
     Some(number as u64)
 }
 
-/// The number less one, where it is above 0.
+/// The number minus one, if it is above 0.
 pub(crate) fn place_of(number: i64) -> Option<u64>
     ensures { MatchOption result ((n : ℕ) → number ≡ pos (n + 1) → ⊥) (λ n. number ≡ pos (n + 1)) }
 {
@@ -85,7 +85,7 @@ pub(crate) fn place_of(number: i64) -> Option<u64>
     Some((number - 1) as u64)
 }
 
-/// The receipt of a line with its place, where its numbers are those of one.
+/// The receipt of a line with its place, if its numbers are those of a receipt.
 fn entry_of(line: &ReceiptLine) -> Option<(u64, ReceiptEntry<'_>)>
     ensures { MatchOption result ((at : ℕ) (r : Receipt) → IsReceiptEntry line.now at r → ⊥)
         (λ e. IsReceiptEntry line.now e.0 (given_in e.1)) }
@@ -104,14 +104,14 @@ fn entry_of(line: &ReceiptLine) -> Option<(u64, ReceiptEntry<'_>)>
     ))
 }
 
-/// Whether the bytes are as many as a digest's.
+/// Whether the bytes have the length of a digest.
 fn is_digest(bytes: &[u8]) -> bool
     ensures { IsTrue result ↔ IsDigest bytes.now }
 {
     bytes.len() == DIGEST_BYTES
 }
 
-/// Whether the texts and numbers of a receipt have their forms.
+/// Whether the texts and numbers of a receipt have their required forms.
 fn has_forms(entry: &ReceiptEntry<'_>) -> bool
     ensures { IsTrue result ↔ HasReceiptForms (given_in entry.now) }
 {
@@ -129,7 +129,7 @@ fn has_forms(entry: &ReceiptEntry<'_>) -> bool
     entry.size <= MOST_BODY as u64 && is_digest(entry.digest)
 }
 
-/// Whether the box is there, and takes the name.
+/// Whether the box exists and accepts the name.
 fn takes<'a>(boxes: &Boxes<'a>, in_box: &'a [u8], name: &[u8]) -> bool
     ensures { (bs : FinMap bytes_cmp Box) → HoldsBoxes boxes.now bs
         → IsTrue result ↔ IsSomeAnd (get bs in_box.now) (λ b. Fits b.settings.rule name.now) }
@@ -140,7 +140,7 @@ fn takes<'a>(boxes: &Boxes<'a>, in_box: &'a [u8], name: &[u8]) -> bool
     }
 }
 
-/// Whether the key is there.
+/// Whether the key exists.
 fn has_key<'a>(keys: &Keys<'a>, id: &'a [u8]) -> bool
     ensures { (ks : FinMap bytes_cmp Key) → HoldsKeys keys.now ks
         → IsTrue result ↔ IsSomeAnd (get ks id.now) (λ k. ⊤) }
@@ -148,7 +148,7 @@ fn has_key<'a>(keys: &Keys<'a>, id: &'a [u8]) -> bool
     keys.contains_key(&id)
 }
 
-/// Whether the receipt is one among these keys and boxes.
+/// Whether the receipt is valid for these keys and boxes.
 fn is_receipt<'a>(entry: &ReceiptEntry<'a>, keys: &Keys<'a>, boxes: &Boxes<'a>) -> bool
     ensures { (ks : FinMap bytes_cmp Key) (bs : FinMap bytes_cmp Box) → HoldsKeys keys.now ks
         → HoldsBoxes boxes.now bs → IsTrue result ↔ IsReceiptRule ks bs (given_in entry.now) }
@@ -159,7 +159,7 @@ fn is_receipt<'a>(entry: &ReceiptEntry<'a>, keys: &Keys<'a>, boxes: &Boxes<'a>) 
     has_key(keys, entry.key) && takes(boxes, entry.in_box, entry.name)
 }
 
-/// The receipt of a line with its place, where it is one among these keys and boxes.
+/// The receipt of a line with its place, if it is valid for these keys and boxes.
 fn receipt_of<'a>(
     line: &'a ReceiptLine,
     keys: &Keys<'a>,
@@ -177,7 +177,7 @@ fn receipt_of<'a>(
     Some((at, entry))
 }
 
-/// Whether the line of this place is a receipt among these keys and boxes. That of number 1 has place 0.
+/// Whether the line at this place is a valid receipt for these keys and boxes. The receipt with number 1 has place 0.
 fn stands_at<'a>(at: usize, line: &'a ReceiptLine, keys: &Keys<'a>, boxes: &Boxes<'a>) -> bool
     ensures { (ks : FinMap bytes_cmp Key) (bs : FinMap bytes_cmp Box) → HoldsKeys keys.now ks
         → HoldsBoxes boxes.now bs → MatchBool result ((r : Receipt) × IsGiven ks bs line.now at r)
@@ -196,7 +196,7 @@ pub(crate) fn are_rising(lines: &[ReceiptLine]) -> bool
     lines.is_sorted_by(|a, b| a.number < b.number)
 }
 
-/// Whether each line is a receipt among these keys and boxes, the first has number 1, and none is missing.
+/// Whether each line is a valid receipt for these keys and boxes, the first has number 1, and none is missing.
 pub(crate) fn are_receipts<'a>(lines: &'a [ReceiptLine], keys: &Keys<'a>, boxes: &Boxes<'a>) -> bool
     ensures taken { (ks : FinMap bytes_cmp Key) (bs : FinMap bytes_cmp Box) → HoldsKeys keys.now ks
         → HoldsBoxes boxes.now bs → IsTrue result → (receipts : List Receipt)
@@ -215,7 +215,7 @@ pub(crate) fn are_receipts<'a>(lines: &'a [ReceiptLine], keys: &Keys<'a>, boxes:
     true
 }
 
-/// The line of the receipt of this place.
+/// The line of the receipt at this place.
 pub(crate) fn receipt_at(lines: &[ReceiptLine], at: u64) -> Option<&ReceiptLine>
     ensures { MatchOption result (slice_get lines.now at ≡ None)
         (λ line. slice_get lines.now at ≡ Some line.now) }
@@ -223,7 +223,7 @@ pub(crate) fn receipt_at(lines: &[ReceiptLine], at: u64) -> Option<&ReceiptLine>
     lines.get(at as usize)
 }
 
-/// The length that a receipt's line tells.
+/// The length in a receipt's line.
 pub(crate) fn length_in(line: &ReceiptLine) -> Option<u64>
     ensures { MatchOption result ((n : ℕ) → line.now.length ≡ pos n → ⊥)
         (λ n. line.now.length ≡ pos n) }

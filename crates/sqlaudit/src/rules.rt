@@ -1,45 +1,40 @@
-//! The rules between the lines of an office's tables, without SQL.
+//! The rules that relate the lines of an office's tables, without SQL.
 
-ghost use Rattle.std.specs.Prelude.{◌↔◌, ◌≤ℤ◌, ℤ, pos, neg_ℤ, Contains, Some, IsTrue, IfOk};
+ghost use Rattle.std.specs.Prelude.{◌↔◌, ◌≤ℤ◌, ℤ, pos, neg_ℤ, Contains, MatchBool, Some, IsTrue, IfOk};
 ghost use Rattle.sqlaudit.specs.declared.lines.OfficeLine.{OfficeLine};
 ghost use Rattle.sqlaudit.specs.Outlines.{AreEntries, IsOfficeEntry, AreSoundLines};
-ghost use Rattle.sqlaudit.specs.Sorting.{AreRising};
+ghost use Rattle.sqlaudit.specs.Sorting.{AreRising, AreRuled};
 
 use crate::box_rules::boxes_by_name;
-use crate::file_rules::files_by_place;
 use crate::key_rules::keys_by_id;
 use crate::limit_rules::{are_limits, has_allowance};
-use crate::lines::{
-    BoxLine, FileLine, KeyLine, LimitLine, OfficeLine, PieceLine, ReceiptLine, RulesLine,
-};
-use crate::piece_rules::{are_pieces, has_clerk, have_totals};
+use crate::lines::{BoxLine, KeyLine, LimitLine, OfficeLine, ReceiptLine, RulesLine};
+use crate::piece_rules::has_clerk;
 use crate::receipt_rules::are_receipts;
 use std::alloc::{AllocError, Global};
 
-/// The lines of all tables of an office.
+/// The lines of the tables of an office, except its files and pieces.
 #[derive(Clone, Copy)]
 pub(crate) struct Lines<'a> {
     pub(crate) office: &'a [OfficeLine],
     pub(crate) keys: &'a [KeyLine],
     pub(crate) boxes: &'a [BoxLine],
     pub(crate) receipts: &'a [ReceiptLine],
-    pub(crate) files: &'a [FileLine],
-    pub(crate) pieces: &'a [PieceLine],
     pub(crate) rules: &'a [RulesLine],
     pub(crate) limits: &'a [LimitLine],
 }
 
-// The greatest offset of an office's clock, in minutes.
+// The maximum offset of an office's clock, in minutes.
 const MOST_EAST: i64 = 840;
 
-/// Whether the line is the office's, with the offset of the first.
+/// Whether the line is the office's, with the same offset as the first.
 fn is_office_line(line: &OfficeLine, first: &OfficeLine) -> bool
     ensures { IsTrue result ↔ IsOfficeEntry line.now tt first.now.east }
 {
     line.id == 1 && line.east == first.east
 }
 
-/// Whether each line is the office's, with the offset of the first.
+/// Whether each line is the office's, with the same offset as the first.
 fn are_office_lines(lines: &[OfficeLine], first: &OfficeLine) -> bool
     ensures { IsTrue result ↔ ((line : OfficeLine) → Contains lines.now line
         → IsOfficeEntry line tt first.now.east) }
@@ -52,14 +47,14 @@ fn are_office_lines(lines: &[OfficeLine], first: &OfficeLine) -> bool
     true
 }
 
-/// Whether the offset is within a clock's limits.
+/// Whether the offset is within the limits of a clock.
 fn is_offset(line: &OfficeLine) -> bool
     ensures { IsTrue result ↔ ((neg_ℤ (pos 840) ≤ℤ line.now.east) × (line.now.east ≤ℤ pos 840)) }
 {
     line.east >= -MOST_EAST && line.east <= MOST_EAST
 }
 
-/// Whether the lines are one, with an offset within a clock's limits.
+/// Whether there is a line, and every line is the one line of the office, with the same offset, within the limits of a clock.
 pub(crate) fn is_office(lines: &[OfficeLine]) -> bool
     ensures { IsTrue result ↔ ((east : ℤ) × AreEntries IsOfficeEntry (λ one. Some east) lines.now
         × ((neg_ℤ (pos 840) ≤ℤ east) × (east ≤ℤ pos 840))) }
@@ -73,11 +68,10 @@ pub(crate) fn is_office(lines: &[OfficeLine]) -> bool
     are_office_lines(lines, first)
 }
 
-/// Whether the lines are those of an office that keeps every rule which needs no bytes of a file. Those of the receipts are
-/// in the order of their numbers.
+/// Whether the lines obey every rule that needs no file. The lines of the receipts are in the order of their numbers.
 pub(crate) fn are_sound(alloc: Global, lines: &Lines<'_>) -> Result<bool, AllocError>
-    ensures { AreRising lines.now.receipts.now
-        → IfOk result (λ b. IsTrue b ↔ AreSoundLines lines.now) }
+    ensures { AreRising lines.now.receipts.now → IfOk result
+        (λ b. MatchBool b (AreRuled lines.now) (AreSoundLines lines.now → ⊥)) }
 {
     if !is_office(lines.office) {
         return Ok(false);
@@ -97,14 +91,5 @@ pub(crate) fn are_sound(alloc: Global, lines: &Lines<'_>) -> Result<bool, AllocE
     if !are_receipts(lines.receipts, &keys, &boxes) {
         return Ok(false);
     }
-    let Some(filed) = files_by_place(alloc, lines.files, lines.receipts)? else {
-        return Ok(false);
-    };
-    if !has_clerk(lines.keys) {
-        return Ok(false);
-    }
-    if !have_totals(lines.boxes, &filed.sums) {
-        return Ok(false);
-    }
-    Ok(are_pieces(lines.pieces, &filed.files, lines.receipts))
+    Ok(has_clerk(lines.keys))
 }

@@ -1,4 +1,4 @@
--- A question whose transaction has ended.
+-- A query whose transaction has ended.
 use Rattle.std.proofs.Common.{◌≡◌, inl, inr, false, IsTrue, Result, Ok, OnOk, [], arith, sym, subst, ◌∙◌}
 use Rattle.sqlite.specs.declared.error.Error.{Error}
 use Rattle.sqlite.specs.State.{State, HasCleanDisk, IsRolledBack, Shows, KeepsCommit, KeepsCounts, Survives}
@@ -32,7 +32,7 @@ module _ (old begun mid new : State) (begins : Begins old begun) (survived : Sur
     | inr same ↦ inr (subst (λ t. OfficeMeans v2 t s) (sym same) (by_rows v2 mid.now s (holds s means clean)))
   ]
 
-  -- it could not be committed, and was rolled back
+  -- the transaction could not be committed and was rolled back
   pub not_committed : {T : Type 0} (keeps : HasCleanDisk mid → KeepsCommit begun mid) (e : Error) (failed : HasCleanDisk new → FailsToCommit mid new e) (result : Result T Error) → (HasCleanDisk new → OnOk result (IsTrue new.is_open)) → LeavesOffice old new result
   not_committed keeps e failed result opened = record {
     kept = λ s means clean.
@@ -52,7 +52,7 @@ module _ (old begun mid new : State) (begins : Begins old begun) (survived : Sur
     opened = opened;
   }
 
-  -- it was committed
+  -- the transaction was committed
   pub committed : {T : Type 0} (done : HasCleanDisk new → IsTrue mid.in_transaction × Shows mid new mid.now mid.now false × KeepsCounts mid new × (new.marks ≡ [])) (answer : T) → LeavesOffice old new (Ok answer)
   committed done answer = record {
     kept = λ s means clean.

@@ -36,7 +36,7 @@ module _ (old begun mid new : State) (begins : Begins old begun) (survived : Sur
   abbrev pub Commits : Result (Unit {0}) Error → Type 0
   Commits r = HasCleanDisk new → OnOk r (IsTrue mid.in_transaction × Shows mid new mid.now mid.now false × KeepsCounts mid new × (new.marks ≡ []))
 
-  -- the rows that were staged are gone
+  -- the staged rows are gone
   pub emptied : (HasSchema v2.schema begun → IsTrue begun.in_transaction → HasCleanDisk mid → IsEmptied begun.now mid.now) → (r : Result (Unit {0}) Error) → Commits r → OnOk r (EmptiesStaged old new)
   emptied gone (Err e) shows = tt
   emptied gone (Ok x) shows = λ clean.

@@ -1,4 +1,4 @@
--- The tables of an office that begins.
+-- The tables of a new office.
 use Rattle.std.proofs.Common.{◌≡◌, ℕ, ℤ, List, Option, None, ◌∙◌}
 use Rattle.std.specs.Prelude.{false}
 use Rattle.std.specs.FinMap.{get, empty, get-empty}
@@ -10,7 +10,7 @@ use Rattle.sqltables.specs.Tables.{tables_of, put, Part}
 use Rattle.sqltables.specs.Changes.{no_rows, with_key}
 use Rattle.sqlstatements.proofs.Commands.{get_put}
 
--- an entry of an empty map stays the same under a test
+-- at a key that a map lacks, adding an entry to the map gives the same as adding it to the empty map
 put_on_none : {V : Type 0} (f : List ℕ → Option V) (k : List ℕ) (v : V) (q : List ℕ) → f q ≡ None → put same_bytes f k v q ≡ put same_bytes (λ x. None) k v q
 put_on_none f k v q none = rw none
 

@@ -1,4 +1,4 @@
--- An office file that was looked at for both versions, and where it was of version 1, changed.
+-- An office file that was tested for both versions and, if it was of version 1, changed.
 use Rattle.std.proofs.Common.{◌≡◌, ◌≢◌, inl, inr, ℕ, length, IsTrue, refl, sym, ap, subst, ◌∙◌}
 use Rattle.sqlite_rules.specs.Lists.{Has}
 use Rattle.sqlite_schema.specs.declared.schema.Schema.{Schema}
@@ -23,7 +23,7 @@ first_is_whole is damaged = let e : ◌≡◌ {A = Found} found.First found.Dama
 pub second_is_whole : {f : Found} → f ≡ found.Second → f ≢ found.Damaged
 second_is_whole is damaged = let e : ◌≡◌ {A = Found} found.Second found.Damaged = sym is ∙ damaged in cc
 
--- the tables of the two versions are not the same
+-- the tables of the two versions differ
 apart : (db : Database) (a b : Office) → Holds v1 db (tables_of a) → Holds v2 db (tables_of b) → ⊥
 apart db a b one two = let e : ◌≡◌ {A = ℕ} 6 9 = ap (λ (s : Schema). length s.tables) (sym one.schema ∙ two.schema) in cc
 
@@ -32,7 +32,7 @@ has_ours : (v : Version) → IsVersion v → (s : State) (office : Office) → M
 has_ours v ours s office means clean is_open = inl (subst (Has begun_schemas) (sym ((means clean).tables is_open).holds.schema) (ours_begun v ours))
 
 module _ (old mid : State) (looks : LeavesUntouched old mid) where
-  -- what was found, where the look tells it
+  -- what the finding says about the file
   abbrev pub Tells : Found → Type 0
   Tells f = HasOurs old → HasCleanDisk mid → IsTrue old.is_open → IsEither f old.now
 
@@ -43,7 +43,7 @@ module _ (old mid : State) (looks : LeavesUntouched old mid) where
     was_open : HasCleanDisk mid → IsTrue old.is_open
     was_open clean = (looks.same clean).was_open (stays clean)
 
-    -- an office of version 2 is found to be one
+    -- an office of version 2 is not found to be one of version 1
     pub not_first : Tells found.First → (s : Office) → KeepsState old s → HasCleanDisk mid → ⊥
     not_first tells s keeps clean =
         let was = looks.honest clean in
@@ -61,7 +61,7 @@ module _ (old mid : State) (looks : LeavesUntouched old mid) where
     second_means tells s (inr second) = keeps_same old mid looks.honest looks.same s second
 
     module _ (rest : HasCleanDisk mid → IsAtRest mid) where
-      -- what was found of version 1
+      -- what was found about version 1
       pub first_found : Tells found.First → HasOurs old → HasCleanDisk mid → (s : Office) × KeepsFirst old s × Means v1 mid s
       first_found tells ours clean =
           let is = tells ours clean (was_open clean) in
@@ -74,7 +74,7 @@ module _ (old mid : State) (looks : LeavesUntouched old mid) where
   pub first_means : (s : Office) → KeepsFirst old s → Means v1 mid s
   first_means s keeps = means_same v1 old mid looks.honest looks.same s keeps.means
 
-  -- ---- behind the change
+  -- ---- after the change
 
   module _ (new : State) (honest : HasCleanDisk new → HasCleanDisk mid) where
     pub looks_still : OnlyLooks mid new → OnlyLooks old new
@@ -94,7 +94,7 @@ module _ (old mid : State) (looks : LeavesUntouched old mid) where
       | inr means ↦ inr means
     ]
 
-    -- this is not so
+    -- if the disk has not returned what was written, there is nothing to show
     pub untouched_never : (HasCleanDisk mid → ⊥) → LeavesUntouched old new
     untouched_never never = record {
       same = λ clean. absurd (never (honest clean));

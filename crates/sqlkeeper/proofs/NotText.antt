@@ -1,4 +1,4 @@
--- What is named by bytes that are no UTF-8 is not in a sound state.
+-- Nothing in a sound state is named by bytes that are not UTF-8.
 use Rattle.std.proofs.Common.{◌≡◌, ℕ, ◌<◌, ◌≤◌, Bool, true, List, [], ◌∷◌, length, Option, Some, None, option_map, All, ⊎_elim, arith, lit<, refl, sym, ap, subst}
 use Rattle.std.specs.Prelude.{IsUtf8, slice_index, IsSomeAnd}
 use Rattle.std.specs.List.{list_all}
@@ -23,7 +23,7 @@ module _ (test : ℕ → Bool) (small : (b : ℕ) → test b ≡ true → b < 12
   all_ascii [] e = All-nil (λ b. b < 128)
   all_ascii (c ∷ text) e = let p = and_parts (test c) (list_all test text) e in All-cons (λ b. b < 128) c text (small c p.0) (all_ascii text p.1)
 
-  -- past the end stands 0
+  -- an index past the end gives 0
   ascii_at : (text : List ℕ) → All (λ b. b < 128) text → (i : ℕ) → slice_index text i < 128
   ascii_at text all i =
       ⊎_elim (λ (within : i < length text). all i 0 within) (λ (past : length text ≤ i). subst (λ (n : ℕ). n < 128) (sym (get_or-eq_default text 0 past)) (lit< tt)) (cases_lt i (length text))
@@ -63,7 +63,7 @@ no_file_named s sound place none = none_if (get s.files place) (λ f there.
     let r = all_at (IsReceipt s) s.receipts it.listed.place it.receipt sound.receipts it.listed.listed in
     none (subst IsUtf8 it.name r.name.text))
 
--- what is named by bytes that are no UTF-8 is limited to no box
+-- a key named by bytes that are not UTF-8 is limited to no box
 pub no_limit : (s : State) → IsSound s → (id box : List ℕ) → (IsUtf8 id → ⊥) → IsLimitedTo s id box → ⊥
 no_limit s sound id box none held = some_box (get s.keys id) _ (sound.limits id box held).link (no_key s sound id none)
 

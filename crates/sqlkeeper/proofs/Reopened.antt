@@ -1,4 +1,4 @@
--- An office file that was looked at, and whose table `staged` was emptied then.
+-- An office file that was tested and whose table `staged` was then emptied.
 use Rattle.std.proofs.Common.{◌≡◌, IsTrue, sym, subst, ◌∙◌}
 use Rattle.sqlite.specs.Effect.{Database}
 use Rattle.sqlite.specs.State.{State, HasCleanDisk}
@@ -25,7 +25,7 @@ module _ (old mid : State) (looks : LeavesUntouched old mid) (stays : HasCleanDi
         record { means = means_new v2 old mid (stays early) same (rest early) is.0 is.1; sound = is.1.sound },
       )
 
-  -- the rows that were staged are gone
+  -- the staged rows are gone
   pub emptied : ((s : Office) → Means v2 mid s → EmptiesStaged mid new) → HasOurs old → EmptiesStaged old new
   emptied gone ours clean =
       let it = gone (found ours clean).0 (found ours clean).2.means clean in
@@ -37,7 +37,7 @@ module _ (old mid : State) (looks : LeavesUntouched old mid) (stays : HasCleanDi
         mode = it.mode ∙ same.mode;
       }
 
-  -- where none were, the file is as it was
+  -- if nothing was staged, the file is unchanged
   pub spared : ((s : Office) → Means v2 mid s → HasNoneStaged mid → LeavesUntouched mid new) → HasOurs old → HasNoneStaged old → LeavesUntouched old new
   spared spares ours none = record {
     same = λ clean. looks_still old mid looks new honest (still clean).same clean;
@@ -50,7 +50,7 @@ module _ (old mid : State) (looks : LeavesUntouched old mid) (stays : HasCleanDi
           let same = looks.same (honest clean) in
           spares (found ours clean).0 (found ours clean).2.means (λ is_open. subst (λ (d : Database). NoneStaged d.trees) (sym (same.now_is is_open)) (none (same.was_open is_open)))
 
-  -- a crash leaves what it could before, or tables that mean the office
+  -- a crash leaves what it could leave before, or tables that mean the office
   pub failed : ((s : Office) → Means v2 mid s → AddsOnly v2 mid new s) → (s : Office) → KeepsState old s → AddsOnly v2 old new s
   failed adds s keeps = adds_still old mid looks new honest s (adds s (keeps_same old mid looks.honest looks.same s keeps).means)
 
@@ -69,7 +69,7 @@ module _ (old mid : State) (looks : LeavesUntouched old mid) (stays : HasCleanDi
   pub means_still : ((s : Office) → Means v2 mid s → Means v2 new s) → (s : Office) → KeepsState old s → KeepsState new s
   means_still made s keeps = record { means = made s (keeps_same old mid looks.honest looks.same s keeps).means; sound = keeps.sound }
 
-  -- the file is no office's
+  -- a file that is not an office's is unchanged
   pub others : HasOurs old → ((s : Office) → KeepsState old s → ⊥) → LeavesUntouched old new
   others ours none = untouched_never old mid looks new honest (λ clean. none (early clean).0 (early clean).1)
     where

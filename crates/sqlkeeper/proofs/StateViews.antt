@@ -1,4 +1,4 @@
--- What tables tell of a sound state.
+-- What tables say about a sound state.
 use Rattle.std.proofs.Common.{◌≡◌, ℕ, List, [], ◌∷◌, Option, Some, None, option_map, refl, sym, ◌∙◌}
 use Rattle.std.specs.List.{AllByRecursion}
 use Rattle.std.specs.FinMap.{get}
@@ -24,7 +24,7 @@ totals_found s name t sound h = go (get s.boxes name) refl
     go None none = let e = rw none at h in record { used = e.0 ∙ sym (none_used s name sound none); count = e.1 ∙ sym (none_counted s name sound none) }
     go (Some b) some = let e = rw some at h in record { used = e.0; count = e.1 }
 
--- a box by bytes that are no UTF-8 holds nothing
+-- a box named by bytes that are not UTF-8 holds nothing
 pub nothing_found : (s : State) (name : List ℕ) (t : Totals) → IsSound s → None ≡ get s.boxes name → t.used ≡ 0 → t.count ≡ 0 → AreTotals s name t
 nothing_found s name t sound none used count = record { used = used ∙ sym (none_used s name sound (sym none)); count = count ∙ sym (none_counted s name sound (sym none)) }
 

@@ -1,4 +1,4 @@
--- What a question to the file leaves of its keeper.
+-- What a query to the file leaves of its keeper.
 use Rattle.std.proofs.Common.{◌≡◌, ◌≢◌, inl, inr, ℕ, Result, Ok, Err, IfOk, IfErr, OnOk, OnErr, IsTrue, subst}
 use Rattle.std.specs.Prelude.{IsErr, IsErrOf}
 use Rattle.sqlite.specs.declared.error.Error.{Error}
@@ -16,12 +16,12 @@ use Rattle.sqlkeeper.specs.Asking.{AnswersOf, LeavesOffice}
 use Rattle.sqltables.specs.Kept.{KeepsState, MayLeave, LeavesStates}
 use Rattle.sqltables.specs.OneState.{one_left}
 
--- an answer, as it was counted
+-- what holds of an answer's value also holds of the counted result's value
 pub carried : {T E F : Type 0} (P : T → Type 0) (answer : Result T E) (result : Result T F) → IfOk result (λ x. answer ≡ Ok x) → IfOk answer P → IfOk result P
 carried {T = T} {E = E} P answer (Ok x) same found = subst (λ (a : Result T E). IfOk a P) same found
 carried P answer (Err e) same found = tt
 
--- what holds of an answer holds of it as it was counted
+-- what holds if there is an answer also holds if the counted result is one
 opened_too : {T : Type 0} (answer : Result T Error) (result : Result T KeepFault) → IfOk result (λ x. answer ≡ Ok x) → (P : Type 0) → OnOk answer P → OnOk result P
 opened_too {T = T} answer (Ok x) is P h = subst (λ (a : Result T Error). OnOk a P) is h
 opened_too answer (Err e) is P h = tt
@@ -53,7 +53,7 @@ module _ {K T : Type 0} (st : K → sql.State) (faults : K → ℕ) (old new : K
       → Answers (λ k. KeepsState (st k)) (λ k. HasCleanDisk (st k)) old new result Holds
   answers Holds found = λ s k sound clean. carried (Holds s) answer result value (found s k.means k.sound clean)
 
--- a crash leaves the state that was committed, and no other
+-- a crash leaves the committed state and no other
 pub left_alone : {K : Type 0} (st : K → sql.State) (new : K) (after : State) → IsSound after → HasCleanDisk (st new) → LeavesLast (st new) → LeavesOnly v2 (st new) after
     → LeavesAlone (λ k. MayLeave (st k)) (λ k. LeavesStates (st k)) new after
 left_alone st new after sound clean last durable = record {
@@ -78,7 +78,7 @@ module _ {K : Type 0} (st : K → sql.State) (faults : K → ℕ) (old new : K) 
   pub err_too : (P : Type 0) → OnErr answer P → OnErr result P
   err_too P h = err_carried answer result P fault h
 
-  -- a crash leaves the state after and no other
+  -- a crash leaves the state `after` and no other
   pub alone : (after : State) → IsSound after → HasCleanDisk (st new) → OnOk answer (IsTrue (st new).is_open × LeavesLast (st new)) → OnOk answer (LeavesOnly v2 (st new) after)
       → OnOk result (LeavesAlone (λ k. MayLeave (st k)) (λ k. LeavesStates (st k)) new after)
   alone after sound clean opened durable = ok_too (LeavesAlone (λ k. MayLeave (st k)) (λ k. LeavesStates (st k)) new after) (go answer opened durable)

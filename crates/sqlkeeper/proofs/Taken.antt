@@ -1,4 +1,4 @@
--- A change that ends with a commit, where what it committed means a state.
+-- A change that ends with a commit, if the committed tables mean a state.
 use Rattle.std.proofs.Common.{◌≡◌, inl, inr, false, IsTrue, Result, Ok, Err, OnOk, [], refl, sym, ap, subst, ◌∙◌}
 use Rattle.sqlite_trees.specs.Tree.{Trees}
 use Rattle.sqlite.specs.Effect.{Database}
@@ -9,7 +9,7 @@ use Rattle.sqltables.specs.Tables.{tables_of, NoneStaged}
 use Rattle.sqltables.specs.Means.{Holds, IsWhole, Means, OfficeMeans, LeavesOnly, AddsOnly, LeavesLast}
 use Rattle.sqlkeeper.specs.Emptying.{HasNoneStaged}
 
--- by the rows alone
+-- given only by the rows
 pub by_rows : (v : Version) (db : Database) (office : Office) → Holds v db (tables_of office) → OfficeMeans v db.trees office
 by_rows v db office h =
     let same : db ≡ record { schema = v.schema; trees = db.trees } = λ i. record { schema = h.schema i; trees = db.trees } in
@@ -45,7 +45,7 @@ pub open_still : {X E : Type 0} (mid new : State) (r : Result X E) → (HasClean
 open_still mid new (Ok x) shows clean law = let shown = (shows clean).1 in (shown.is_open, law shown.is_open)
 open_still mid new (Err e) shows clean law = tt
 
--- what was committed has nothing staged
+-- the committed state has nothing staged
 pub unstaged : {X E : Type 0} (mid new : State) → (HasCleanDisk new → NoneStaged mid.now.trees) → (r : Result X E) → (HasCleanDisk new → OnOk r (IsTrue mid.in_transaction × Shows mid new mid.now mid.now false × KeepsCounts mid new × (new.marks ≡ [])))
     → OnOk r (HasCleanDisk new → HasNoneStaged new)
 unstaged mid new none (Ok x) shows = λ clean is_open. subst (λ (d : Database). NoneStaged d.trees) (sym (shows clean).1.now_is) (none clean)

@@ -1,4 +1,4 @@
--- What a question to the office file answers and leaves.
+-- The answer and the effect of a query to the office file.
 use Rattle.std.specs.Prelude.{Result, IfOk, OnOk, IsTrue}
 use Rattle.sqlite.specs.declared.error.Error.{Error}
 use Rattle.sqlite.specs.State.{State, HasCleanDisk}
@@ -7,12 +7,12 @@ use Rattle.boxes.specs.Sound.{IsSound}
 use Rattle.sqltables.specs.Schema.{v2}
 use Rattle.sqltables.specs.Means.{Means, AddsOnly}
 
--- an answer says this of the office, where that is sound and the disk has returned what was written
+-- an answer satisfies this relation to the office, if the office is sound and the disk has returned what was written
 abbrev pub AnswersOf : {T : Type 0} → State → State → Result T Error → (Office → T → Type 0) → Type 0
 AnswersOf old new result Says = (s : Office) → Means v2 old s → IsSound s → HasCleanDisk new → IfOk result (Says s)
 
--- What a question leaves, whatever came of it: the office is the same, a crash leaves nothing new but that office, no fault
--- of the disk is forgotten, and after an answer the database is open.
+-- The effect of a query, whatever its result: the office is the same, a crash leaves nothing new except that office, no fault
+-- of the disk is forgotten, and after a successful query the database is open.
 pub record LeavesOffice {T : Type 0} (old new : State) (result : Result T Error) : Type 0 where
   pub kept : (s : Office) → Means v2 old s → Means v2 new s
   pub crash : (s : Office) → Means v2 old s → AddsOnly v2 old new s

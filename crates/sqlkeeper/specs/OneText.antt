@@ -1,4 +1,4 @@
--- What is staged is one text.
+-- The staged bytes are one text.
 use Rattle.std.proofs.Common.{◌≡◌, ℕ, List, sym, ◌∙◌}
 
 pub one_text : (held a b : List ℕ) → held ≡ a → held ≡ b → a ≡ b

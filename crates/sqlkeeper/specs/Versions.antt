@@ -10,7 +10,7 @@ use Rattle.sqlaudit.specs.Opened.{AreShort}
 use Rattle.sqlkeeper.specs.declared.file_keeper.OpenFault.{OpenFault}
 use Rattle.sqlkeeper.specs.declared.file_keeper.OpenFault.TheVariants.{Shape, Version}
 
--- the tables of version 1 mean this sound state, whose files were never longer than version 1 holds them
+-- the tables of version 1 mean this sound state, whose files were never longer than version 1 allows
 pub record KeepsFirst (s : State) (office : Office) : Type 0 where
   pub means : Means v1 s office
   pub sound : IsSound office
@@ -20,6 +20,6 @@ pub record KeepsFirst (s : State) (office : Office) : Type 0 where
 abbrev pub IsOfficeFile : State → Office → Type 0
 IsOfficeFile s office = KeepsFirst s office ⊎ KeepsState s office
 
--- the file was refused for what it holds
+-- the file was refused because of its contents
 abbrev pub IsRefusedFile : OpenFault → Type 0
 IsRefusedFile fault = (fault ≡ Version) ⊎ (fault ≡ Shape)

@@ -1,4 +1,4 @@
-//! A change that is made, in a transaction of its own.
+//! Makes a change in a transaction of its own.
 
 ghost use Rattle.std.specs.Prelude.{◌≡◌, OnOk, OnErr};
 ghost use Rattle.sqlite.specs.State.{HasCleanDisk};
@@ -16,12 +16,12 @@ use sqlite::{Alter, Connection, Error, ErrorCode};
 use sqlstatements::changes::write_change;
 use sqlstatements::pieces::Pieces;
 
-/// Makes a change that the rules give for the office, all of it or nothing. It is committed when the call returns `Ok`.
+/// Makes a change that the rules allow for the office, completely or not at all. It is committed when the call returns `Ok`.
 ///
 /// # Errors
 ///
-/// Those of the database, a pending transaction among them, and one for a text that is not UTF-8 or a number that the
-/// file has no room for. The office is then as it was.
+/// The database's errors, including a pending transaction, and an error for a text that is not UTF-8 or a number that does
+/// not fit in the file. The office is then unchanged.
 pub(crate) fn apply_change<S: Alter>(
     conn: &mut Connection<S>,
     change: &Change<'_>,

@@ -1,5 +1,5 @@
-//! Questions to the office file. Each runs in a transaction of its own, which writes nothing: it commits where there is an
-//! answer, so that a store that shut itself gives none.
+//! Queries to the office file. Each runs in a transaction of its own, which writes nothing. It commits if there is an
+//! answer, so that a store that has shut itself down gives none.
 
 ghost use Rattle.std.specs.Prelude.{◌≡◌, ◌↔◌, IsTrue, ◌+◌, length, map, option_map};
 ghost use Rattle.std.specs.FinMap.{get};
@@ -19,7 +19,7 @@ use sqlstatements::pieces::Pieces;
 use sqlstatements::{questions, standing};
 use std::alloc::Global;
 
-/// What the office is set to.
+/// The settings of the office.
 pub(crate) fn settings<S: Alter>(conn: &mut Connection<S>) -> Result<OfficeRow, Error>
     ensures found { AnswersOf (state S.Store conn.old) (state S.Store conn.new) result
         IsOfficeOf }
@@ -35,7 +35,7 @@ pub(crate) fn settings<S: Alter>(conn: &mut Connection<S>) -> Result<OfficeRow, 
     Ok(OfficeRow { east, allowance })
 }
 
-/// Whether the key of this id may use the box of this name.
+/// Whether the key with this id may use the box with this name.
 pub(crate) fn may_use<S: Alter>(
     conn: &mut Connection<S>,
     id: &str,
@@ -54,7 +54,7 @@ pub(crate) fn may_use<S: Alter>(
     Ok(may)
 }
 
-/// Whether this box is one of those that the key of this id is limited to.
+/// Whether this box is one of those that the key with this id is limited to.
 pub(crate) fn has_limit<S: Alter>(
     conn: &mut Connection<S>,
     id: &str,
@@ -73,7 +73,7 @@ pub(crate) fn has_limit<S: Alter>(
     Ok(has)
 }
 
-/// The key of this id.
+/// The key with this id.
 pub(crate) fn key<S: Alter>(conn: &mut Connection<S>, id: &str) -> Result<Option<KeyRow>, Error>
     ensures found { AnswersOf (state S.Store conn.old) (state S.Store conn.new) result
         (λ s key. option_map key_of key ≡ get s.keys id.now) }
@@ -88,7 +88,7 @@ pub(crate) fn key<S: Alter>(conn: &mut Connection<S>, id: &str) -> Result<Option
     Ok(key)
 }
 
-/// The box of this name.
+/// The box with this name.
 pub(crate) fn box_row<S: Alter>(
     conn: &mut Connection<S>,
     name: &str,
@@ -106,7 +106,7 @@ pub(crate) fn box_row<S: Alter>(
     Ok(row)
 }
 
-/// The file of this box and name, with its receipt.
+/// The file with this box and name, with its receipt.
 pub(crate) fn file<S: Alter>(
     conn: &mut Connection<S>,
     alloc: Global,
@@ -126,7 +126,7 @@ pub(crate) fn file<S: Alter>(
     Ok(file)
 }
 
-/// The receipt of the file of this box and name.
+/// The receipt of the file with this box and name.
 pub(crate) fn file_receipt<S: Alter>(
     conn: &mut Connection<S>,
     in_box: &str,
@@ -145,7 +145,7 @@ pub(crate) fn file_receipt<S: Alter>(
     Ok(receipt)
 }
 
-/// Whether the file of this box and name stands with just these bytes.
+/// Whether the file with this box and name has exactly these bytes.
 pub(crate) fn has_bytes<S: Alter>(
     conn: &mut Connection<S>,
     in_box: &str,
@@ -165,7 +165,7 @@ pub(crate) fn has_bytes<S: Alter>(
     Ok(has)
 }
 
-/// What the box of this name holds; nothing, where it is not there.
+/// The totals of the box with this name; zero if the box does not exist.
 pub(crate) fn totals<S: Alter>(conn: &mut Connection<S>, name: &str) -> Result<Totals, Error>
     ensures found { AnswersOf (state S.Store conn.old) (state S.Store conn.new) result
         (λ s. AreTotals s name.now) }
@@ -180,7 +180,7 @@ pub(crate) fn totals<S: Alter>(conn: &mut Connection<S>, name: &str) -> Result<T
     Ok(totals)
 }
 
-/// How many unrevoked clerk's keys stand.
+/// The number of unrevoked clerk keys.
 pub(crate) fn clerks<S: Alter>(conn: &mut Connection<S>, alloc: Global) -> Result<u64, Error>
     ensures found { AnswersOf (state S.Store conn.old) (state S.Store conn.new) result
         (λ s count. count ≡ clerks s) }
@@ -210,7 +210,7 @@ pub(crate) fn next_number<S: Alter>(conn: &mut Connection<S>) -> Result<u64, Err
     Ok(u64::from(number))
 }
 
-/// The receipts numbered `from` or more, ascending, at most `most`.
+/// The receipts numbered `from` or higher, ascending, at most `most` of them.
 pub(crate) fn receipts<S: Alter>(
     conn: &mut Connection<S>,
     alloc: Global,
@@ -225,7 +225,7 @@ pub(crate) fn receipts<S: Alter>(
         return Err(Error::SqliteFailure(ErrorCode::TransactionState));
     }
     let mut tx = conn.transaction();
-    // A store that shut itself is seen here, also where no receipt is asked for.
+    // This detects a store that has shut itself down, even if no receipt is requested.
     questions::east(&mut tx)?;
     let rows = questions::receipts(&mut tx, alloc, from, most)?;
     tx.commit()?;

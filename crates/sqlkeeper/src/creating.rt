@@ -1,4 +1,4 @@
-//! A new office, made in a transaction of its own.
+//! Makes a new office in a transaction of its own.
 
 ghost use Rattle.std.specs.Prelude.{OnOk, OnErr};
 ghost use Rattle.sqlite.specs.State.{HasCleanDisk};
@@ -13,11 +13,11 @@ use sigv4::Allowance;
 use sqlite::{Alter, Connection, Error, ErrorCode};
 use sqlstatements::making::make_office;
 
-/// Makes an office that begins, in a database without a table, all of it or nothing. Nothing is staged.
+/// Makes a new office in a database without tables, completely or not at all. Nothing is staged.
 ///
 /// # Errors
 ///
-/// Those of the database, a pending transaction among them. The database is then as it was.
+/// The database's errors, including a pending transaction. The database is then unchanged.
 pub(crate) fn create<S: Alter>(
     conn: &mut Connection<S>,
     east: i16,

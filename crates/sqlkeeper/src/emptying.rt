@@ -1,4 +1,4 @@
-//! What another program left staged in an office file, taken out in a transaction of its own.
+//! Deletes what another program left staged in an office file, in a transaction of its own.
 
 ghost use Rattle.std.specs.Prelude.{OnOk, OnErr};
 ghost use Rattle.sqlite.specs.State.{HasCleanDisk};
@@ -13,11 +13,11 @@ ghost use Rattle.sqlkeeper.specs.Emptying.{EmptiesStaged, HasNoneStaged};
 use sqlite::{Alter, Connection, Error, ErrorCode};
 use sqlstatements::staged::empty_staged;
 
-/// The rows that are staged go, all or none: the office is as it was. They are gone for good when the call returns `Ok`.
+/// Deletes the staged rows, all or none. The office is unchanged. The rows are permanently gone when the call returns `Ok`.
 ///
 /// # Errors
 ///
-/// Those of the database, a pending transaction among them. The file is then as it was.
+/// The database's errors, including a pending transaction. The file is then unchanged.
 pub(crate) fn empty_file<S: Alter>(conn: &mut Connection<S>) -> Result<(), Error>
     ensures made { (s : State) → Means v2 (state S.Store conn.old) s
         → OnOk result (Means v2 (state S.Store conn.new) s) }

@@ -37,11 +37,11 @@ use std::alloc::Global;
 use std::str;
 use thiserror::Error;
 
-/// Keeps an office in a file, by a connection to it. It counts the calls that fail.
+/// Keeps an office in a file, through a connection to it. It counts the calls that fail.
 #[derive(Drop)]
 pub struct SqlKeeper<S: Alter> {
     conn: Connection<S>,
-    // The bytes that are staged. No table has them.
+    // The staged bytes. They are in no table.
     staged: Pieces,
     faults: u64,
     alloc: Global,
@@ -60,19 +60,19 @@ fn fault_of(error: sqlite::Error) -> KeepFault
 /// Why an office file could not be made or opened.
 #[derive(Clone, Copy, Debug, PartialEq, Eq, Error)]
 pub enum OpenFault {
-    /// A table is there already.
+    /// A table, an index or a view exists already.
     #[error("the office file exists already")]
     Exists,
-    /// A growth was refused.
+    /// An allocation was refused.
     #[error("out of memory")]
     Memory,
-    /// The tables are those of no office, or of one that breaks a rule.
+    /// The tables are not those of an office, or the office breaks a rule.
     #[error("the office file is damaged")]
     Shape,
     /// The store refused.
     #[error("the store refused")]
     Store,
-    /// The office is of another version.
+    /// The office has another version.
     #[error("the office file has another version")]
     Version,
 }
@@ -89,14 +89,14 @@ fn open_fault_of(error: sqlite::Error) -> OpenFault
     }
 }
 
-// Whether nothing is there.
+// Whether the database is empty.
 fn is_empty(schema: &Schema) -> bool
     ensures { IsTrue result ↔ schema.now ≡ s0 }
 {
     schema.tables.is_empty() && schema.indexes.is_empty() && schema.views.is_empty()
 }
 
-// What the file answered, where an error is counted.
+// The file's answer. An error is counted.
 fn counted<T>(faults: &mut u64, answer: Result<T, sqlite::Error>) -> Result<T, KeepFault>
     ensures value { IfOk result (λ value. answer ≡ Ok value) }
     ensures fault { IfErr result (λ f. IsErr answer) }
@@ -112,7 +112,7 @@ fn counted<T>(faults: &mut u64, answer: Result<T, sqlite::Error>) -> Result<T, K
     }
 }
 
-// The change adds a receipt, and there is no room for one.
+// Whether the change adds a receipt for which there is no room.
 fn is_past_full(change: &Change<'_>) -> bool
     ensures { (s after : State) → MayChange s change.now after
         → (IsTrue result ↔ IsPastFull s change.now) }
@@ -123,7 +123,7 @@ fn is_past_full(change: &Change<'_>) -> bool
     }
 }
 
-// Behind a change that sets a file nothing is staged, whether it was made or not.
+// After a change that sets a file nothing is staged, whether or not the change was made.
 fn unstage(staged: &mut Pieces, alloc: Global, change: &Change<'_>)
     ensures empty { TakesStaged change.now → held staged.new ≡ [] }
     ensures kept { (TakesStaged change.now → ⊥) → staged.new ≡ staged.old }
@@ -135,13 +135,13 @@ fn unstage(staged: &mut Pieces, alloc: Global, change: &Change<'_>)
 }
 
 impl<S: Alter> SqlKeeper<S> {
-    /// Makes an office file in an empty database: an office that begins, with one clerk's key of this id and secret. It is
-    /// made in one transaction.
+    /// Makes an office file in an empty database: a new office with one clerk's key, which has this id and secret. This is
+    /// done in one transaction.
     ///
     /// # Errors
     ///
-    /// The fault, with the connection as it is. `Exists` comes exactly where a table, an index or a view is there; then
-    /// nothing was tried. After any other fault a database that was empty is empty still.
+    /// The fault, with the connection as it is then. `Exists` is returned exactly if a table, an index or a view exists; then
+    /// nothing was attempted. After any other fault, a database that was empty is still empty.
     pub fn create(
         alloc: Global,
         mut conn: Connection<S>,
@@ -182,7 +182,7 @@ impl<S: Alter> SqlKeeper<S> {
         if !conn.is_autocommit() {
             return Err((OpenFault::Store, conn));
         }
-        // An allowance is in its range: this call says so.
+        // An allowance is within its range; this call establishes it.
         let _ = office.allowance.seconds();
         let Ok(id) = str::from_utf8(id) else {
             return Err((OpenFault::Store, conn));
@@ -198,16 +198,16 @@ impl<S: Alter> SqlKeeper<S> {
         }
     }
 
-    /// Opens an office file, where its tables are those of an office that keeps every rule: the state of that office is what
-    /// the keeper means. What is opened has exactly the tables of an office, by their names and the number of their columns.
-    /// What another program left staged is gone then, in one transaction. Else nothing is written: a file that has nothing
-    /// staged is as it was, and so is one that is refused.
+    /// Opens an office file if its tables are those of an office that obeys every rule. The keeper then means the state of that
+    /// office. An opened file has exactly the tables of an office, by their names and the number of their columns.
+    /// What another program left staged is deleted, in one transaction. Nothing else is written: a file that has nothing
+    /// staged is unchanged, and so is a refused file.
     ///
     /// # Errors
     ///
-    /// The fault, with the connection as it is. `Version` comes where the row of the office says another version, whatever
-    /// else is broken; `Shape` where the tables are those of no office that keeps every rule. Then nothing was tried. After
-    /// any other fault, too, the office is as it was.
+    /// The fault, with the connection as it is then. `Version` is returned if the row of the office says another version,
+    /// whatever else is broken; `Shape` if the tables are not those of an office that obeys every rule. Then nothing was
+    /// attempted. After any other fault, too, the office is unchanged.
     pub fn open(
         alloc: Global,
         mut conn: Connection<S>,
@@ -274,14 +274,14 @@ impl<S: Alter> SqlKeeper<S> {
         }
     }
 
-    /// Takes an office file of version 1 over to version 2, in one transaction: the state is the same, with no allowance and
-    /// no limits. A file of version 2 is opened as `open` does it.
+    /// Upgrades an office file from version 1 to version 2, in one transaction. The state is the same, with no allowance and
+    /// no limits. A file of version 2 is opened as by `open`.
     ///
     /// # Errors
     ///
-    /// The fault, with the connection as it is. `Version` comes where the row of the office says a version that is neither 1
-    /// nor 2, and `Shape` where the tables are those of no office that keeps every rule; then nothing was tried. After any
-    /// other fault, too, the office is as it was.
+    /// The fault, with the connection as it is then. `Version` is returned if the row of the office says a version that is
+    /// neither 1 nor 2, and `Shape` if the tables are not those of an office that obeys every rule; then nothing was
+    /// attempted. After any other fault, too, the office is unchanged.
     pub fn migrate(
         alloc: Global,
         mut conn: Connection<S>,
@@ -361,8 +361,8 @@ impl<S: Alter> SqlKeeper<S> {
         }
     }
 
-    /// Gives the connection back as it is: what the keeper means is what the connection holds, and what a crash leaves of
-    /// the one it leaves of the other.
+    /// Returns the connection as it is. The keeper and the connection mean the same state, and a crash leaves the same for
+    /// both.
     pub fn close(self) -> Connection<S>
         ensures same { result ≡ self.conn }
         ensures honest { ⟦<SqlKeeper<S> as Keeper>⟧.is_honest self

@@ -1,5 +1,5 @@
-//! Questions to the office file by which it is walked through: what comes next. Each runs in a transaction of its own, which
-//! writes nothing: it commits where there is an answer, so that a store that shut itself gives none.
+//! Queries to walk through the office file: what comes next. Each runs in a transaction of its own, which
+//! writes nothing. It commits if there is an answer, so that a store that has shut itself down gives none.
 
 ghost use Rattle.sigtext.specs.Bytes.{bytes_cmp};
 ghost use Rattle.sqlite.specs.Held.{state};
@@ -9,7 +9,7 @@ ghost use Rattle.sqlkeeper.specs.Asking.{AnswersOf, LeavesOffice};
 use sqlite::{Alter, Connection, Error, ErrorCode};
 use sqlstatements::following;
 
-/// The id of the first key behind this text.
+/// The id of the first key after this text.
 pub(crate) fn key_after<S: Alter>(
     conn: &mut Connection<S>,
     after: &str,
@@ -27,7 +27,7 @@ pub(crate) fn key_after<S: Alter>(
     Ok(found)
 }
 
-/// The name of the first box behind this text.
+/// The name of the first box after this text.
 pub(crate) fn box_after<S: Alter>(
     conn: &mut Connection<S>,
     after: &str,
@@ -45,7 +45,7 @@ pub(crate) fn box_after<S: Alter>(
     Ok(found)
 }
 
-/// The name of the first file of this box behind this text.
+/// The name of the first file of this box after this text.
 pub(crate) fn file_after<S: Alter>(
     conn: &mut Connection<S>,
     in_box: &str,
@@ -64,7 +64,7 @@ pub(crate) fn file_after<S: Alter>(
     Ok(found)
 }
 
-/// The name of the first box behind this text among those that the key of this id is limited to.
+/// The name of the first box after this text among those that the key with this id is limited to.
 pub(crate) fn limit_after<S: Alter>(
     conn: &mut Connection<S>,
     id: &str,

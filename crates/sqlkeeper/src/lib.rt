@@ -1,4 +1,4 @@
-//! The office file: a keeper over it.
+//! The office file and its keeper.
 #![tactic(auto)]
 
 mod applying;

@@ -1,4 +1,4 @@
-//! An office file of version 1, taken over to version 2 in a transaction of its own.
+//! Upgrades an office file from version 1 to version 2 in a transaction of its own.
 
 ghost use Rattle.std.specs.Prelude.{OnOk, OnErr};
 ghost use Rattle.sqlite.specs.State.{HasCleanDisk};
@@ -14,12 +14,12 @@ use sigv4::Allowance;
 use sqlite::{Alter, Connection, Error, ErrorCode};
 use sqlstatements::making::upgrade;
 
-/// Takes an office of version 1 over to version 2, all of it or nothing: the state is the same, with no allowance and no
+/// Upgrades an office from version 1 to version 2, completely or not at all. The state is the same, with no allowance and no
 /// limits, and nothing is staged. It is committed when the call returns `Ok`.
 ///
 /// # Errors
 ///
-/// Those of the database, a pending transaction among them. The office is then as it was.
+/// The database's errors, including a pending transaction. The office is then unchanged.
 pub(crate) fn upgrade_file<S: Alter>(conn: &mut Connection<S>) -> Result<(), Error>
     ensures made { (s : State) → Means v1 (state S.Store conn.old) s
         → OnOk result (Means v2 (state S.Store conn.new) s) }

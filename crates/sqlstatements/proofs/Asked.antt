@@ -1,4 +1,4 @@
--- What a question by key shows, in general, and that it changes nothing.
+-- What a query by key shows in general, and that it changes nothing.
 use Rattle.std.proofs.Common.{◌≡◌, inl, ℕ, List, [], ◌∷◌, ◌++◌, length, Option, None, Some, option_map, Bool, Result, Ok, Err, IfOk, OnOk, IsTrue, refl, sym, ap, subst, ◌∙◌}
 use Rattle.std.specs.Prelude.{option_to_list}
 use Rattle.std.specs.List.{list_all}
@@ -51,10 +51,10 @@ pub no_items : {X : Type 0} (xs : List X) → length xs ≡ 0 → xs ≡ []
 no_items [] none = refl
 no_items (x ∷ xs) none = cc
 
--- ---- a question by key
+-- ---- a query by key
 
 module _ {K V : Type 0} (IsRow : Row → K → V → Type 0) (lookup : K → Option V) (same : K → K → Bool) (tells : Tells same) (filter project : List Term) (shown : V → Row) (given : Row) (k : K) where
-  -- WHERE passes the rows of this key, of which these columns are shown
+  -- WHERE passes the rows of this key, and these columns of them are shown
   pub record Picks : Type 0 where
     pub passes : (row : Row) (q : K) (v : V) → IsRow row q v → list_all (holds (given ∷ row ∷ [])) filter ≡ same q k
     pub shows : (row : Row) (v : V) → IsRow row k v → eval_all project (given ∷ row ∷ []) ≡ shown v
@@ -77,7 +77,7 @@ module _ {K V : Type 0} (IsRow : Row → K → V → Type 0) (lookup : K → Opt
     one_row None some none = of_none (lookup k) refl (none refl)
     one_row (Some r) some none = let e = of_entry r (some r refl) in ap Some e.1 ∙ sym (ap (option_map shown) e.2)
 
--- the row that is shown is that of the entry, if it is there
+-- the row that is shown is the row of the entry, if the entry exists
 pub finds_row : {K V : Type 0} (IsRow : Row → K → V → Type 0) (lookup : K → Option V) (same : K → K → Bool) (tells : Tells same) (filter project : List Term) (shown : V → Row) (given : Row) (k : K)
     → Picks IsRow lookup same tells filter project shown given k
     → (v : Version) (tree : ℕ) (names : List (List ℕ)) (sql : List ℕ) (asks : Asks v.schema sql (select (some_rows tree filter project) names)) (old new : State) (tables : Tables)
@@ -91,7 +91,7 @@ finds_row IsRow lookup same tells filter project shown given k picks v tree name
     let are = subst (λ rows. AreFound filter project rows given h.rows) (own old.now.trees) (answered tree filter project (overlay old.now.trees []) given h.rows (read.answer Null)) in
     one_row IsRow lookup same tells filter project shown given k picks (old.now.trees tree) h.rows (means it.means) are row h.some h.none
 
--- ---- what such a row says
+-- ---- what such a row means
 
 pub none_there : {V : Type 0} (shown : V → Row) (there : Option V) → None ≡ option_map shown there → there ≡ None
 none_there shown None h = refl

@@ -1,4 +1,4 @@
--- Two calls inside a transaction, one behind the other.
+-- Two calls inside a transaction, one after the other.
 use Rattle.std.proofs.Common.{◌∙◌, arith, Result}
 use Rattle.sqlite_trees.specs.declared.store.Store.{Ghosts}
 use Rattle.sqlite.specs.declared.error.Error.{Error}

@@ -1,4 +1,4 @@
--- The rows of the unrevoked clerk's keys, and how many different ids they show.
+-- The rows of the unrevoked clerk keys, and how many different ids they show.
 use Rattle.std.proofs.Common.{◌≡◌, inl, inr, ℕ, ◌+◌, ◌&&◌, ◌||◌, pos, List, [], ◌∷◌, map, Bool, true, false, cond, Option, Some, None, Ordering, Less, Equal, Greater, Result, Ok, Err, IfOk, IsTrue, refl, sym, ap, subst, arith, ◌∙◌}
 use Rattle.std.specs.Prelude.{T, not, count_by}
 use Rattle.std.specs.List.{list_all, list_any, filter}
@@ -113,7 +113,7 @@ beside : (p rest : Bool) → ((p && false) || rest) ≡ rest
 beside true rest = refl
 beside false rest = refl
 
--- an id is among them where the entry that is found acts
+-- an id is among them exactly if the entry found for it is acting
 named : (es : List (List ℕ × Key)) (q : List ℕ) → T (is_sorted bytes_cmp es) → stands q (ids_of es) ≡ acts (find bytes_cmp q es)
 named [] q h = refl
 named (e ∷ es) q h =
@@ -178,7 +178,7 @@ shows_ids lookup rows are q = same_truth _ _
     (λ h. let it = acting_there (lookup q) h in
     shown_there q rows (shown_id q) (are.complete q it.0 it.1 it.2) (ap is_eq (tied_itself bytes_total q)))
 
--- as many as the state has
+-- the rows show as many ids as the state has unrevoked clerk keys
 clerks_are : (s : Office) (rows : List Row) → AreActing (get s.keys) rows → different_texts rows ≡ clerks s
 clerks_are s rows are =
     let es = entries s.keys in

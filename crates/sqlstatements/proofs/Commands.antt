@@ -1,4 +1,4 @@
--- The tables of a state after a command of the desk are those that its statements write. No SQL is in it.
+-- The tables of a state after a command of the desk are those that its statements write. This file involves no SQL.
 use Rattle.std.proofs.Common.{◌≡◌, ◌&&◌, inl, inr, ℕ, List, cond, false, true, Option, Some, None, Ordering, Less, Equal, Greater, refl, sym, ap, ◌∙◌}
 use Rattle.std.specs.Prelude.{IsSome}
 use Rattle.std.specs.Ordering.{is_eq, eq_by_cmp, ordering_then}
@@ -22,15 +22,15 @@ use Rattle.sqltables.specs.Changes.{with_key, with_box, with_drop, with_limit, w
 use Rattle.sqltables.proofs.Keys.{tells_bytes, by_order}
 use Rattle.sqlstatements.proofs.Uploads.{same_by_order, turned}
 
--- a map by bytes with one entry set
+-- a map keyed by bytes, with one entry set
 pub get_put : {X : Type 0} (m : FinMap bytes_cmp X) (k : List ℕ) (x : X) (q : List ℕ) → get (insert m k x) q ≡ put same_bytes (get m) k x q
 get_put m k x q = get-insert bytes_total m k x q ∙ ap (λ b. cond b (Some x) (get m q)) (sym (by_order q k))
 
--- files with one taken out
+-- the files with one removed
 get_gone : (files : FinMap place_cmp File) (place q : Place) → get (remove files place) q ≡ without (λ p. same_place p place) (get files) q
 get_gone files place q = get-remove place_total files place q ∙ ap (λ b. cond b None (get files q)) (same_by_order q place)
 
--- what the state says of a box that is there
+-- the row of a box that exists in the state
 abbrev pub row_of : State → List ℕ → Settings → Box
 row_of s name b = record { settings = b; used = used s name; count = count s name }
 
@@ -47,11 +47,11 @@ module _ (s : State) (name : List ℕ) (b : Settings) where
     | inr other ↦ rw (get_put s.boxes name b q, other)
   ]
 
-  -- a box that is set keeps its totals
+  -- setting a box keeps its totals
   box_tables : tables_of boxed ≡ with_box (tables_of s) name (row_of s name b)
   box_tables = λ i. record (tables_of s) { box = λ q. box_is q i }
 
-  -- a box that was not there holds nothing
+  -- a box that did not exist before holds nothing
   new_box_tables : IsSound s → get s.boxes name ≡ None → tables_of boxed ≡ with_box (tables_of s) name (record { settings = b; used = 0; count = 0 })
   new_box_tables sound none =
       box_tables ∙ (λ i. with_box (tables_of s) name (record { settings = b; used = none_used s name sound none i; count = none_counted s name sound none i }))

@@ -26,7 +26,7 @@ module _ (tables : Tables) (rows : List Row) (means : RowsMean IsPieceRow tables
   pub no_piece_there : ((piece : List ℕ) → HasPiece rows place at piece → ⊥) → (piece : List ℕ) → tables.piece (record { place = place; at = at }) ≡ Some piece → ⊥
   no_piece_there none piece is = let r = means.all (record { place = place; at = at }) piece is in none piece (record { row = r.0; there = r.1; is = r.2 })
 
--- ---- so many pieces are those of these bytes
+-- ---- the first `count` pieces are those of these bytes
 
 pub record Compared (entry now : State) (place : Place) (bytes : List ℕ) (count : ℕ) : Type 0 where
   pub uncommitted : HasCleanDisk now → IsTrue entry.in_transaction → KeepsCommit entry now
@@ -47,7 +47,7 @@ none_compared s place bytes = record {
   same = λ v tables ours pends inside clean at low. absurd (omega (arith, low));
 }
 
--- the next piece is these bytes
+-- the next piece has these bytes
 pub record IsNext (mid now : State) (place : Place) (at : ℕ) (piece : List ℕ) : Type 0 where
   pub is : (v : Version) (tables : Tables) → IsVersion v → Pends v mid tables → IsTrue mid.in_transaction → HasCleanDisk now → tables.piece (record { place = place; at = at }) ≡ Some piece
   pub still : (v : Version) (tables : Tables) → IsVersion v → Pends v mid tables → Pends v now tables
@@ -85,6 +85,6 @@ module _ (tables : Tables) (place : Place) (there bytes : List ℕ) (count : ℕ
     | inr past ↦ let e = ltb-false at count past in no_piece there at (omega (arith, e, all, size)) ∙ sym (no_piece bytes at (omega (arith, e, all)))
   ])
 
-  -- another piece stands
+  -- a different piece is stored
   pub not_same : (piece : List ℕ) → piece_of bytes count ≡ Some piece → (tables.piece (record { place = place; at = count }) ≡ Some piece → ⊥) → there ≡ bytes → ⊥
   not_same piece cut other is = other (pieces count ∙ ap (λ l. piece_of l count) is ∙ cut)

@@ -1,4 +1,4 @@
--- The texts that make the tables.
+-- The texts that create the tables.
 use Rattle.std.proofs.Common.{codes, List, ℕ, refl}
 use Rattle.sqlite_tied.specs.Compute.{everything}
 use Rattle.sqlite.specs.Listing.{understood}

@@ -1,4 +1,4 @@
--- How many different texts there are, by a set of keys that mean them.
+-- How many different texts there are, counted by a set of keys that mean them.
 use Rattle.std.proofs.Common.{◌≡◌, ℕ, ◌+◌, ◌||◌, List, [], ◌∷◌, ◌++◌, length, Bool, true, false, cond, Less, Equal, Greater, refl, sym, ap, arith, ◌∙◌}
 use Rattle.std.specs.Prelude.{not}
 use Rattle.std.specs.List.{list_any}
@@ -22,7 +22,7 @@ one_added true n = omega arith
 one_added false n = refl
 
 module _ {K : Type 0} (text : K → List ℕ) where
-  -- a key means this text
+  -- some key means this text
   abbrev pub has_text : List K → List ℕ → Bool
   has_text ks q = list_any (λ k. is_eq (bytes_cmp q (text k))) ks
 

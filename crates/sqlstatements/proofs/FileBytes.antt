@@ -1,4 +1,4 @@
--- The bytes of a file, by the rows of its pieces.
+-- The bytes of a file, given by the rows of its pieces.
 use Rattle.std.proofs.Common.{◌≡◌, inl, inr, ℕ, [], ◌∷◌, ◌*◌, List, length, Option, None, Some, arith, refl, sym, ap, ◌∙◌}
 use Rattle.std.specs.Prelude.{nat_lt}
 use Rattle.std.proofs.lemmas.Bool.{cases_Bool, ltb-false}
@@ -34,7 +34,7 @@ module _ (tables : Tables) (rows : List Row) (place : Place) (bytes found : List
   pub are_bytes : found ≡ bytes
   are_bytes = same_pieces found bytes same_piece
 
--- where there are none to read
+-- if there are no bytes to read
 pub no_bytes : (bytes found : List ℕ) (size : ℕ) → length bytes ≡ size → length found ≡ size → size ≡ 0 → found ≡ bytes
 no_bytes [] [] size one two none = refl
 no_bytes [] (x ∷ xs) size one two none = absurd (omega (arith, two, none))

@@ -1,4 +1,4 @@
--- What is known of a file that is set or taken out, before anything is written. No SQL is in it.
+-- What is known about a file that is set or deleted, before anything is written. This file involves no SQL.
 use Rattle.std.proofs.Common.{◌≡◌, ℕ, ◌+◌, ◌<◌, ◌^◌, List, length, is_some, Option, None, Some, Result, Ok, Err, OnOk, arith, refl, sym, ap, subst, ◌∙◌}
 use Rattle.std.specs.Prelude.{option_map}
 use Rattle.std.specs.FinMap.{get, insert, remove}
@@ -21,7 +21,7 @@ use Rattle.sqltables.specs.Questions.{AreTotalsOf}
 use Rattle.sqlstatements.proofs.Uploads.{upload_tables}
 use Rattle.sqlstatements.proofs.Commands.{row_of, drop_tables}
 
--- what was shown under a premise that the claim has itself
+-- a claim that was shown under a premise which the claim itself also has
 pub given : {X E : Type 0} (P Q : Type 0) (r : Result X E) → (P → OnOk r (P → Q)) → OnOk r (P → Q)
 given P Q (Ok x) h = λ p. h p p
 given P Q (Err e) h = tt
@@ -30,7 +30,7 @@ pub same_some : {X Y Z : Type 0} (f : X → Y) (g : X → Z) (o : Option X) → 
 same_some f g None = refl
 same_some f g (Some x) = refl
 
--- what is shown of a box that is there are its totals
+-- the totals shown for an existing box are its totals
 pub totals_are : (s : State) (name : List ℕ) (b : Settings) (held : Totals) → get s.boxes name ≡ Some b → AreTotalsOf ((tables_of s).box name) held → AreTotals s name held
 totals_are s name b held there shown =
     let are : AreTotalsOf (Some (row_of s name b)) held = subst (λ o. AreTotalsOf (option_map (λ b. row_of s name b) o) held) there shown in
@@ -39,7 +39,7 @@ totals_are s name b held there shown =
 pub row_is : (s after : State) (name : List ℕ) (b : Settings) (held : Totals) → AreTotals after name held → row_of after name b ≡ with_totals held.used held.count (row_of s name b)
 row_is s after name b held are = λ i. record { settings = b; used = sym are.used i; count = sym are.count i }
 
--- ---- a file that is set, at a place of these texts
+-- ---- a file that is set, at a place given by these texts
 
 module _ (s : State) (f : NewFile) (bytes : List ℕ) (after : State) (place : Place) (same : place ≡ (upload_in f bytes).place) (sound : IsSound s) (set : IsFileSet s f bytes after) where
   abbrev pub upload : Upload
@@ -75,7 +75,7 @@ module _ (s : State) (f : NewFile) (bytes : List ℕ) (after : State) (place : P
       ap (with_upload (tables_of s) place bytes (length s.receipts) (receipt_of upload)) (sym (row_is s (after_upload s upload) place.box in_box.0 held now))
       ∙ sym (upload_tables s upload in_box.0 in_box.1) ∙ ap tables_of (ap (after_upload s) same_upload ∙ sym set.sets)
 
--- ---- a file that is taken out
+-- ---- a file that is deleted
 
 module _ (s : State) (place : Place) (after : State) (size : ℕ) (sound : IsSound s) (obeyed : IsObeyed s (DropFile place) after)
     (shown : option_map (λ (f : File). length f.bytes) (get s.files place) ≡ Some size) where

@@ -1,4 +1,4 @@
--- The INSERT of a file, the UPDATE of its receipt, and its DELETE.
+-- The INSERT of a file, the UPDATE of its receipt, and the DELETE of a file.
 use Rattle.std.proofs.Common.{◌≡◌, ℕ, ℤ, pos, List, [], ◌∷◌, map, drop, Option, None, Some, Ok, arith, refl, ap, sym, ◌∙◌}
 use Rattle.std.specs.List.{list_all}
 use Rattle.sqlite_value.specs.declared.value.Value.TheVariants.{Null, Int, Text}
@@ -38,7 +38,7 @@ terms = lit Null ∷ col 0 0 ∷ col 0 1 ∷ col 0 2 ∷ []
 news_are : (rows : List Row) (place : Place) (number : ℕ) → numbered Chosen rows (map (λ s. cast_row files_at (drop 0 s)) ((Null ∷ given_file place number) ∷ [])) ≡ file_row (next_rowid rows) place number ∷ []
 news_are rows place number = rw (cast_null, cast_int (pos number))
 
--- the other tables mean what they did
+-- the other tables mean the same as before
 others_mean : (v : Version) (tables : Tables) (file : Place → Option ℕ) (old new : State) → TablesMean v old.now.trees tables → OthersStay v.schema 6 old.now.trees new.now.trees
     → RowsMean IsFileRow file (new.now.trees 6) → TablesMean v new.now.trees (record tables { file = file })
 others_mean v tables file old new means stay files = record {

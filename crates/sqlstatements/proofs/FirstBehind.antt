@@ -1,4 +1,4 @@
--- What a query shows that asks for the first text behind a text.
+-- What a query for the first text after a given text shows.
 use Rattle.std.proofs.Common.{◌≡◌, inl, inr, ℕ, List, [], ◌∷◌, map, filter, Bool, true, false, Ordering, Less, Equal, Greater, Option, None, Some, Result, Ok, Err, IfOk, IsTrue, refl, sym, ap, subst, ◌∙◌}
 use Rattle.std.specs.List.{list_all}
 use Rattle.std.specs.List.Sorted.{IsPermutation}
@@ -41,7 +41,7 @@ truth_of : (b : Bool) → is_true (from_truth (Some b)) ≡ b
 truth_of true = refl
 truth_of false = refl
 
--- WHERE keeps a row by > exactly where the text comes behind
+-- WHERE with > keeps a row exactly if its text comes after the given text
 pub greater_texts : (a b : List ℕ) → is_true (binary (Compare Gt Binary) (Text a) (Text b)) ≡ is_gt (bytes_cmp a b)
 unfolding binary
 greater_texts a b = truth_of (is_gt (value_cmp (Text a) (Text b))) ∙ ap is_gt (value_cmp-Text a b)
@@ -54,11 +54,11 @@ turned a Greater same h = same
 turned_back : (a b : Ordering) → b ≡ ordering_reverse a → a ≡ Less → is_gt b ≡ true
 turned_back a b same h = let e : b ≡ Greater = same ∙ ap ordering_reverse h in ap is_gt e
 
--- what passes > comes behind
+-- a text that passes > comes after
 pub is_behind : (after text : List ℕ) → is_gt (bytes_cmp text after) ≡ true → bytes_cmp after text ≡ Less
 is_behind after text h = turned (bytes_cmp after text) (bytes_cmp text after) (bytes_total.antisymm after text) h
 
--- and what comes behind passes
+-- a text that comes after passes >
 pub passes_behind : (after text : List ℕ) → bytes_cmp after text ≡ Less → is_gt (bytes_cmp text after) ≡ true
 passes_behind after text h = turned_back (bytes_cmp after text) (bytes_cmp text after) (bytes_total.antisymm text after) h
 
@@ -71,7 +71,7 @@ module _ {K V : Type 0} (IsRow : Row → K → V → Type 0) (lookup : K → Opt
   abbrev passes : Row → Bool
   passes row = list_all (holds (given ∷ row ∷ [])) tests
 
-  -- The rows that pass tell in this column the texts that stand behind, and each such text is told by each row of its entry.
+  -- This column of the rows that pass holds texts that come after the given text, and each such text is in each row of its entry.
   pub record Follows : Type 0 where
     pub sound : (row : Row) (k : K) (v : V) → IsRow row k v → lookup k ≡ Some v → passes row ≡ true
         → (text : List ℕ) × (column row place ≡ Text text) × Stands text × (bytes_cmp after text ≡ Less)
@@ -135,7 +135,7 @@ module _ {K V : Type 0} (IsRow : Row → K → V → Type 0) (lookup : K → Opt
                   ],
             )
 
-  -- the text that is shown is the first that stands behind
+  -- the text that is shown is the first existing text after the given one
   pub finds_first : Follows → (v : Version) (tree : ℕ) (names : List (List ℕ)) (sql : List ℕ) (asks : Asks v.schema sql (select (first_of tree tests place) names)) (old new : State) (tables : Tables)
       → (own : (db : Trees) → overlay db [] tree ≡ db tree) → (TablesMean v old.now.trees tables → RowsMean IsRow lookup (old.now.trees tree))
       → IsTrue old.in_transaction → (IsTrue old.is_open → Holds v old.now tables)

@@ -1,4 +1,4 @@
--- What CREATE TABLE makes of tables without a row, and what the row of the office makes of those of version 1.
+-- What CREATE TABLE makes of tables without rows, and what inserting the office's row makes of those of version 1.
 use Rattle.std.proofs.Common.{◌≡◌, ℕ, ℤ, pos, List, [], ◌∷◌, ◌++◌, map, drop, None, Some, Ok, false, inl, arith, refl, sym, ap, subst, ◌∙◌}
 use Rattle.std.specs.List.{AllByRecursion}
 use Rattle.sqlite_value.specs.declared.value.Value.TheVariants.{Null, Int}
@@ -28,7 +28,7 @@ use Rattle.sqltables.proofs.Rows.{went, same_value, cast_null, cast_int}
 use Rattle.sqltables.proofs.Maps.{means_put, Adds}
 use Rattle.sqlstatements.proofs.Steps.{inserts_row}
 
--- the table is there and empty, and the others are as they were
+-- the table exists and is empty, and the other tables are unchanged
 pub record MakesTable (schema : Schema) (table : Table) (old new : Database) : Type 0 where
   pub now_is : new.schema ≡ created schema table
   pub empty : new.trees (next_tree schema) ≡ []
@@ -51,7 +51,7 @@ makes schema table text old new count has making plain w =
       others = subst (λ (d : Database). KeepsRows schema.tables old.now.trees d.trees) (sym now) (subst (λ s. KeepsRows s.tables old.now.trees first.0.trees) has made.others);
     }
 
--- the tables that were empty stay so, and so is one more
+-- the tables that were empty stay empty, and so is the new one
 all_empty : (db after : Trees) (tables : List Table) (new : Table) → AllByRecursion (λ t. db t.tree ≡ []) tables → KeepsRows tables db after → after new.tree ≡ []
     → AllByRecursion (λ t. after t.tree ≡ []) (tables ++ new ∷ [])
 all_empty db after [] new were keeps is = (is, tt)
@@ -81,7 +81,7 @@ news_are rows east = rw (cast_null, cast_int (pos 1), cast_int east)
 pub none_mean : {K V : Type 0} {IsRow : Row → K → V → Type 0} (rows : List Row) → rows ≡ [] → RowsMean IsRow (λ k. None) rows
 none_mean rows empty = rw empty (record { each = λ row has. absurd has; all = λ k v some. absurd (let e = some in cc); keyed = λ row has. absurd has; apart = λ a b has. absurd has })
 
--- the one entry of a map that had none
+-- the only entry of a map that had none
 pub adds_one : {V : Type 0} (v : V) → Adds {K = Unit {0}} (λ one. None) (λ one. Some v) tt v
 adds_one v = record { here = refl; still = λ q w some. absurd (let e = some in cc); either = λ q w some. inl (refl, let e = some in cc) }
 

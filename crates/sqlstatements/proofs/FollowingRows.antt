@@ -1,4 +1,4 @@
--- The questions for what comes next: which rows their WHERE passes, and which texts these tell.
+-- The queries for what comes next: which rows their WHERE passes, and which texts these rows hold.
 use Rattle.std.proofs.Common.{◌≡◌, ℕ, List, [], ◌∷◌, ◌&&◌, true, false, Option, None, Some, refl, sym, ap, ◌∙◌}
 use Rattle.std.specs.Prelude.{is_some, IsSome}
 use Rattle.std.specs.List.{list_all}
@@ -50,7 +50,7 @@ follows_key tables after = follows_text IsKeyRow tables.key (λ row id key is. i
 pub follows_box : (tables : Tables) (after : List ℕ) → Follows IsBoxRow tables.box later 1 (Text after ∷ []) (λ name. IsSome (tables.box name)) after
 follows_box tables after = follows_text IsBoxRow tables.box (λ row name box is. is.name_is) after
 
--- ---- within a box, or of a key
+-- ---- within a box, or for a key
 
 abbrev later_within : List Term
 later_within = is 1 0 ∷ behind 2 1 ∷ []

@@ -1,4 +1,4 @@
--- What the texts mean that ask what comes next.
+-- What the texts of the queries for what comes next mean.
 use Rattle.std.proofs.Common.{codes, List, ℕ, [], ◌∷◌, refl}
 use Rattle.sqlite_value.specs.declared.keys.Collation.TheVariants.{Binary}
 use Rattle.sqlite_sql.specs.declared.ops.BinaryOp.TheVariants.{Compare}
@@ -12,7 +12,7 @@ use Rattle.sqltables.specs.Schema.{s9}
 use Rattle.sqltables.proofs.Forms.{query, is, rising, whole_number, select}
 use Rattle.sqltables.proofs.Says.{Asks, BothAsk}
 
--- the column comes behind the parameter
+-- the column comes after the parameter
 abbrev pub behind : ℕ → ℕ → Term
 behind place param = op2 (Compare Gt Binary) (col 1 place) (col 0 param)
 

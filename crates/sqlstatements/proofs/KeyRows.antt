@@ -28,7 +28,7 @@ use Rattle.sqltables.proofs.Keys.{adds_put, sets_put, tells_bytes}
 use Rattle.sqlstatements.proofs.TotalRows.{passes_text}
 use Rattle.sqlstatements.proofs.Steps.{inserts_row, updates_rows}
 
--- the other tables mean what they did
+-- the other tables mean the same as before
 others_mean : (v : Version) (tables : Tables) (key : List ℕ → Option Key) (old new : State) → TablesMean v old.now.trees tables → OthersStay v.schema 1 old.now.trees new.now.trees
     → RowsMean IsKeyRow key (new.now.trees 1) → TablesMean v new.now.trees (record tables { key = key })
 others_mean v tables key old new means stay keys = record {

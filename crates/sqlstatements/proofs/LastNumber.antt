@@ -79,7 +79,7 @@ module _ (v : Version) (tables : Tables) (receipts : List Receipt) (s : State) (
       let last = at_end receipts n some in
       let r = means.receipts.all n last.0 (ap (λ f. f n) listed ∙ last.1) in (r.0, r.1, r.2.number_is)
 
-  -- none that comes later has a greater number
+  -- no later row has a greater number
   after : (r x : Row) (a b : ℕ) → column r 0 ≡ Int (pos a) → column x 0 ≡ Int (pos b) → is_gt (output_cmp q (output q ([] ∷ r ∷ [])) (output q ([] ∷ x ∷ []))) ≡ false → b ≤ a
   after r x a b first second at_most = not_above a b (sym (alone (int_cmp (pos b) (pos a))) ∙ (rw (first, second, value_cmp-Int (pos b) (pos a)) at at_most))
 

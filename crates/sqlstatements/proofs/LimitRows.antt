@@ -1,4 +1,4 @@
--- The INSERT of a box that a key is limited to, the UPDATE of the allowance, and the rows that a key is limited to.
+-- The INSERT of a box that a key is limited to, the UPDATE of the allowance, and the rows of the boxes that a key is limited to.
 use Rattle.std.proofs.Common.{◌≡◌, inl, ℕ, ℤ, pos, List, [], ◌∷◌, map, drop, Bool, Option, true, false, None, Some, Result, Ok, Err, IfOk, IsTrue, arith, refl, sym, ap, subst, ◌∙◌}
 use Rattle.std.specs.Prelude.{◌↔◌, is_some, IsSome}
 use Rattle.std.specs.List.{list_all}
@@ -167,9 +167,9 @@ shows_limits rows_of (Ok x) id old new tables inside pends h =
     let are : AreFound tests shows (old.now.trees 12) (Text id ∷ []) (rows_of x) = answered 12 tests shows (overlay old.now.trees []) (Text id ∷ []) (rows_of x) (read.answer Null) in
     limit_rows tables.limit id (old.now.trees 12) (rows_of x) (it.means.limits refl) are
 
--- ---- what the rows say
+-- ---- what the rows mean
 
--- a row is there: so the key is limited, and may use the boxes that are shown
+-- a row exists, so the key is limited and may use the boxes that are shown
 reaches : (tables : Tables) (id box : List ℕ) (rows : List Row) (b : Bool) → AreLimits tables.limit id rows → (row : Row) → Has rows row → (IsTrue b ↔ ShowsText rows box)
     → IsTrue b ↔ ReachesBox tables id box
 reaches tables id box rows b are row has tells = (

@@ -1,4 +1,4 @@
--- Questions one after another, and the receipts that they list.
+-- Several queries in sequence, and the receipts that they list.
 use Rattle.std.proofs.Common.{◌≡◌, ℕ, ◌+◌, ◌≤◌, zero, suc, List, [], ◌∷◌, ◌++◌, map, take, drop, length, slice_get, Option, None, Some, option_map, IsTrue, arith, refl, sym, ap, subst, ◌∙◌}
 use Rattle.std.proofs.lemmas.List.{take_all, map-append, length-drop}
 use Rattle.sqlite.specs.State.{State, HasCleanDisk, KeepsCommit, Survives}
@@ -13,7 +13,7 @@ use Rattle.sqltables.specs.Means.{Pends, IsRunning}
 use Rattle.sqltables.specs.Questions.{IsReceiptOf}
 use Rattle.sqltables.proofs.Building.{survives_then, keeps_then}
 
--- ---- questions change nothing, however many there are
+-- ---- queries change nothing, however many there are
 
 pub record Unmoved (entry now : State) : Type 0 where
   pub uncommitted : HasCleanDisk now → IsTrue entry.in_transaction → KeepsCommit entry now
@@ -64,11 +64,11 @@ past_end (x ∷ xs) (suc n) none = let low = past_end xs n none in omega (arith,
 pub no_more : (found : Option ReceiptRow) (there : Option Receipt) (number : ℕ) → found ≡ None → IsReceiptOf number there found → there ≡ None
 no_more found there number none is = sym is.0 ∙ ap (option_map receipt_in) none
 
--- so many were listed
+-- the first `length rows` receipts after `first` were listed
 abbrev pub Lists : ℕ → List Receipt → List ReceiptRow → Type 0
 Lists first receipts rows = map numbered_receipt rows ≡ take (length rows) (drop first (numbered 1 receipts))
 
--- the next one stands
+-- the next receipt exists
 pub lists_more : (first : ℕ) (receipts : List Receipt) (rows others : List ReceiptRow) (row : ReceiptRow) (number : ℕ) → Lists first receipts rows → number ≡ first + length rows + 1 → others ≡ rows ++ row ∷ []
     → length others ≡ suc (length rows) → (found : Option ReceiptRow) → found ≡ Some row → IsReceiptOf number (slice_get receipts (first + length rows)) found → Lists first receipts others
 lists_more first receipts rows others row number listed at more long found some is =
@@ -80,7 +80,7 @@ lists_more first receipts rows others row number listed at more long found some 
     ∙ ap (λ m. take n (numbered (1 + first) (drop first receipts)) ++ (m, receipt_in row) ∷ []) (is.1 row some) ∙ sym one ∙ ap (λ k. take k (numbered (1 + first) (drop first receipts))) (sym long)
     ∙ ap (take (length others)) (sym from)
 
--- none is left
+-- no receipt is left
 pub lists_all : (first : ℕ) (receipts : List Receipt) (rows : List ReceiptRow) (most : ℕ) → Lists first receipts rows → length rows ≤ most → slice_get receipts (first + length rows) ≡ None
     → map numbered_receipt rows ≡ take most (drop first (numbered 1 receipts))
 lists_all first receipts rows most listed few none =
@@ -89,7 +89,7 @@ lists_all first receipts rows most listed few none =
     let same = length_numbered 1 receipts in
     listed ∙ take_all (length rows) (drop first (numbered 1 receipts)) (omega (arith, short, long, same)) ∙ sym (take_all most (drop first (numbered 1 receipts)) (omega (arith, short, long, same, few)))
 
--- ---- a receipt that was asked for
+-- ---- a receipt that was queried
 
 all_at : {X : Type 0} (P : X → Type 0) (xs : List X) (n : ℕ) (x : X) → AllByRecursion P xs → slice_get xs n ≡ Some x → P x
 all_at P [] n x all h = cc

@@ -1,4 +1,4 @@
--- Numbers that are handed to a statement as 64 bits with a sign.
+-- Numbers that are passed to a statement as signed 64-bit integers.
 use Rattle.std.proofs.Common.{◌≡◌, ℕ, ℤ, pos, FitsSigned, w64, to_z, of_z, sym, subst, ◌∙◌}
 use Rattle.std.proofs.lemmas.Int.{to_z-of_z}
 

@@ -39,7 +39,7 @@ news_are : (rows : List Row) (part : Part) (bytes : List ℕ)
     → numbered Chosen rows (map (λ s. cast_row pieces_at (drop 0 s)) ((Null ∷ given_piece part bytes) ∷ [])) ≡ piece_row (next_rowid rows) part bytes ∷ []
 news_are rows part bytes = rw (cast_null, cast_int (pos part.at))
 
--- the other tables mean what they did
+-- the other tables mean the same as before
 others_mean : (v : Version) (tables after : Tables) (old new : State) → TablesMean v old.now.trees tables → OthersStay v.schema 9 old.now.trees new.now.trees
     → (pieces : RowsMean IsPieceRow after.piece (new.now.trees 9)) → after ≡ record tables { piece = after.piece } → TablesMean v new.now.trees after
 others_mean v tables after old new means stay pieces same =
@@ -56,7 +56,7 @@ others_mean v tables after old new means stay pieces same =
     } in
     subst (TablesMean v new.now.trees) (sym same) at_tables
 
--- in general: `after` has one piece more
+-- in general: `after` has one more piece
 pub adds_piece : (v : Version) (ours : IsOurs v.schema) (says : Says v.schema insert_piece insert_piece_command) (old new : State) (count : ℕ) (tables after : Tables) (part : Part) (bytes : List ℕ)
     → old.now.schema ≡ v.schema → TablesMean v old.now.trees tables → Adds tables.piece after.piece part bytes → after ≡ record tables { piece = after.piece }
     → Executes insert_piece (given_piece part bytes) old new (Ok count) → Holds v new.now after

@@ -1,4 +1,4 @@
--- The questions by key: which rows their WHERE passes, and what they show.
+-- The queries by key: which rows their WHERE passes, and what they show.
 use Rattle.std.proofs.Common.{◌≡◌, ℕ, ◌+◌, pos, List, [], ◌∷◌, Bool, true, Some, arith, refl}
 use Rattle.std.specs.Prelude.{nat_eq}
 use Rattle.std.specs.List.{list_all}
@@ -17,7 +17,7 @@ use Rattle.sqltables.proofs.Keys.{Tells, tells_bytes, tells_places, by_order}
 use Rattle.sqlstatements.proofs.PieceRows.{given_place, passes_place}
 use Rattle.sqlstatements.proofs.Asked.{Picks}
 
--- ---- the one row
+-- ---- the only row
 
 pub tells_one : Tells {K = Unit {0}} (λ a b. true)
 tells_one = record { only = λ a b same. refl; itself = λ a. refl }
@@ -71,7 +71,7 @@ picks_file tables place = record {
   shows = λ row v is. rw is.receipt_is;
 }
 
--- ---- by a number, of which the first is 1
+-- ---- by a number; the first number is 1
 
 abbrev same_number : ℕ → ℕ → Bool
 same_number a b = nat_eq (a + 1) (b + 1)

@@ -1,4 +1,4 @@
--- Whether a row is staged, and the DELETE of those that are.
+-- Whether a row is staged, and the DELETE of the staged rows.
 use Rattle.std.proofs.Common.{◌≡◌, ◌≢◌, inl, ℕ, Bool, true, false, not, List, [], ◌∷◌, map, filter, length, Ok, arith, refl, sym, ap, subst, ◌∙◌}
 use Rattle.std.specs.Prelude.{◌↔◌, IsFalse}
 use Rattle.std.specs.List.{AllByRecursion}
@@ -56,7 +56,7 @@ any_shown old new rows has h =
     let it = arranged 14 [] (whole_number 1 ∷ []) [] (whole_number 1) (overlay old.now.trees []) [] rows (read.answer Null) in
     any_found (old.now.trees 14) it.found rows it.same it.is
 
--- whether the list of rows is empty tells it
+-- the answer is whether the list of rows is empty
 pub none_told : (b : Bool) (rows : List Row) (P : Type 0) → (b ≡ true → length rows ≡ 0) → (length rows ≡ 0 → b ≡ true) → (rows ≡ []) ↔ P → IsFalse (not b) ↔ P
 none_told b rows P empty full both = (
   λ told. both.0 (no_items rows (empty (let e : not (not b) ≡ true = ap not told in sym (not_twice b) ∙ e))),
@@ -103,7 +103,7 @@ others_stay old new has left =
     subst (λ (s : Schema). AllByRecursion (λ t. t.tree ≢ staged_tree → new.trees t.tree ≡ old.trees t.tree) s.tables) (sym has)
     (stay.office, (stay.keys, (stay.boxes, (stay.receipts, (stay.files, (stay.pieces, (stay.rules refl, (stay.limits refl, (stay.staged refl, tt)))))))))
 
--- where nothing is staged
+-- nothing is staged
 pub emptied_itself : (old new : Database) → new ≡ old → NoneStaged old.trees → IsEmptied old new
 emptied_itself old new same none = subst (IsEmptied old) (sym same) (record {
   schema = refl;

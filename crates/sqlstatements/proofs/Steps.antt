@@ -1,4 +1,4 @@
--- What an INSERT of one row, an UPDATE and a DELETE inside a transaction do to a table of ours, as sets of rows.
+-- What an INSERT of one row, an UPDATE and a DELETE inside a transaction do to one of our tables, as sets of rows.
 use Rattle.std.proofs.Common.{◌≡◌, ℕ, List, [], ◌∷◌, ◌/◌, map, drop, length, slice_get, Bool, true, Some, Ok, refl, ap, subst, ◌∙◌}
 use Rattle.std.specs.List.{list_all}
 use Rattle.sqlite_value.specs.declared.value.Value.TheVariants.{Null}
@@ -28,9 +28,9 @@ use Rattle.sqltables.proofs.Queries.{answered, AreFound}
 use Rattle.sqltables.proofs.Ours.{IsOurs, OthersStay}
 use Rattle.sqltables.proofs.Restrict.{one_step}
 
--- `low`, by `refl`: the table's number is below those that WITH makes
+-- `low`, by `refl`: the table's number is below the numbers of the tables that WITH makes
 
--- the schema stays, and so do the other tables
+-- the schema and the other tables are unchanged
 pub record Leaves (schema : Schema) (tree : ℕ) (old new : Database) : Type 0 where
   pub same_schema : new.schema ≡ schema
   pub sound : IsWhole new

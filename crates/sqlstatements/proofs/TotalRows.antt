@@ -24,7 +24,7 @@ use Rattle.sqltables.proofs.Maps.{Hits, means_update}
 use Rattle.sqltables.proofs.Keys.{sets_put, tells_bytes, by_order}
 use Rattle.sqlstatements.proofs.Steps.{updates_rows}
 
--- the other tables mean what they did
+-- the other tables mean the same as before
 pub boxes_mean : (v : Version) (tables : Tables) (box : List ℕ → Option Box) (old new : State) → TablesMean v old.now.trees tables → OthersStay v.schema 3 old.now.trees new.now.trees
     → RowsMean IsBoxRow box (new.now.trees 3) → TablesMean v new.now.trees (record tables { box = box })
 boxes_mean v tables box old new means stay boxes = record {

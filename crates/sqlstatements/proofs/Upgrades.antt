@@ -1,4 +1,4 @@
--- What is made of an office of version 1, statement by statement, until it is one of version 2.
+-- What an office of version 1 becomes, statement by statement, until it is one of version 2.
 use Rattle.std.proofs.Common.{◌≡◌, inl, ℕ, ℤ, pos, List, [], ◌∷◌, map, drop, Option, true, None, Some, Ok, false, arith, refl, sym, ap, subst, ◌∙◌}
 use Rattle.std.specs.Prelude.{option_map}
 use Rattle.std.specs.List.{AllByRecursion, list_all}
@@ -33,7 +33,7 @@ use Rattle.sqlstatements.proofs.Steps.{Leaves, inserts_row, updates_rows}
 use Rattle.sqlstatements.proofs.FirstRows.{makes, none_mean, adds_one, office_at}
 use Rattle.sqlstatements.proofs.Creates.{create_rules, makes_rules, create_key_box, makes_key_box, create_staged, makes_staged}
 
--- an office whose row says version 1, under a schema
+-- an office under a schema, with a row that says version 1
 abbrev moving : Schema → Version
 moving schema = record { number = pos 1; schema = schema }
 
@@ -63,13 +63,13 @@ six_mean a b tables db after unlimited means stay = record {
   limits = λ two. absurd (not_second b two);
 }
 
--- ---- a table is made
+-- ---- creating a table
 
 still_empty : (empty : List ℕ) (db after : Trees) → AllByRecursion (λ t. db t ≡ []) empty → AllByRecursion (λ t. after t ≡ db t) empty → AllByRecursion (λ t. after t ≡ []) empty
 still_empty [] db after none keeps = tt
 still_empty (t ∷ ts) db after none keeps = (keeps.0 ∙ none.0, still_empty ts db after none.1 keeps.1)
 
--- six, rest: of the tables that stay, by the schema
+-- six, rest: about the tables that stay, by the schema
 adds_table : (before : Schema) (table : Table) (text : List ℕ) → Makes before text table → lacks_sequence (created before table) ≡ false → (empty : List ℕ)
     → (six : (db after : Trees) → KeepsRows before.tables db after → SixStay db after) → (rest : (db after : Trees) → KeepsRows before.tables db after → AllByRecursion (λ t. after t ≡ db t) empty)
     → (tables : Tables) (old new : State) → AddsTable text before (created before table) empty (next_tree before ∷ empty) tables old new
@@ -148,7 +148,7 @@ puts_rules old new count tables seconds has ran =
 
 -- ---- the office's row says version 2
 
--- the row, with its version among what it says
+-- the office's row, with the version as part of its value
 abbrev IsVersioned : Row → Unit {0} → ℤ × ℤ → Type 0
 IsVersioned row one v = IsOfficeRow v.0 row one v.1
 
@@ -237,6 +237,6 @@ module _ (old new : State) (count : ℕ) (tables : Tables) (seconds : ℕ) (has 
         };
       }
 
-  -- what was not staged is not staged now
+  -- if nothing was staged before, nothing is staged now
   pub still_unstaged : NoneStaged new.now.trees
   still_unstaged = versioned.0.stay.staged refl (λ e. omega (arith, e)) ∙ has.unstaged

@@ -1,4 +1,4 @@
--- The tables of a state after an upload are those that `set a file` writes. No SQL is in it.
+-- The tables of a state after an upload are those that `set a file` writes. This file involves no SQL.
 use Rattle.std.proofs.Common.{◌≡◌, inl, inr, ℕ, ◌+◌, zero, suc, List, [], ◌∷◌, ◌++◌, length, slice_get, cond, false, Some, refl, sym, ap, ◌∙◌}
 use Rattle.std.specs.Prelude.{nat_eq}
 use Rattle.std.specs.FinMap.{FinMap, get, insert, get-insert}
@@ -17,7 +17,7 @@ use Rattle.sqltables.specs.Tables.{Tables, Box, Part, put, tables_of, same_place
 use Rattle.sqltables.specs.Changes.{with_upload}
 use Rattle.sqltables.proofs.Keys.{tells_bytes, by_order, differs}
 
--- the test of the tables and the order of the map
+-- the test of the tables agrees with the order of the map
 pub same_by_order : (a b : Place) → eq_by_cmp place_cmp a b ≡ same_place a b
 same_by_order a b = sym (tied_then (bytes_cmp a.box b.box) (bytes_cmp a.name b.name)) ∙ rw (by_order a.box b.box, by_order a.name b.name)
 
@@ -30,7 +30,7 @@ get_pushed [] x (suc i) = rw (eqb-suc-zero i)
 get_pushed (y ∷ xs) x zero = rw (eqb-zero-suc (length xs))
 get_pushed (y ∷ xs) x (suc i) = rw (eqb-suc-suc i (length xs)) (get_pushed xs x i)
 
--- names that differ, the other way round
+-- names that differ also differ in the other direction
 pub turned : (a b : List ℕ) → same_bytes a b ≡ false → same_bytes b a ≡ false
 turned a b apart = differs tells_bytes b a (λ e. let hit = sym apart ∙ ap (same_bytes a) e ∙ tells_bytes.itself a in cc)
 

@@ -1,4 +1,4 @@
--- A box as its row has it.
+-- The values in a box's row.
 use Rattle.std.specs.Prelude.{◌≡◌, pos}
 use Rattle.boxes.specs.State.{Settings}
 use Rattle.sqlstatements.specs.declared.box_rows.BoxValues.{BoxValues}

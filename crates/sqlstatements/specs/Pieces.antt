@@ -1,7 +1,7 @@
--- Bytes that are told in pieces.
+-- Bytes that are read in pieces.
 use Rattle.std.specs.Prelude.{ℕ, List}
 use Rattle.sqlstatements.specs.declared.pieces.Pieces.{Pieces}
 
--- the bytes, one behind the other
+-- all the bytes in order
 abbrev pub held : Pieces → List ℕ
 held pieces = pieces.bytes.items

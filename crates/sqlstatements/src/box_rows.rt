@@ -16,35 +16,35 @@ use sqltables::calls::execute;
 use sqltables::reading::digits_of_days;
 use std::alloc::{AllocError, Global};
 
-/// The column of a rule's text.
+/// The column that holds a rule's text.
 const RULE_TEXT: usize = 10;
 
-/// A box as its row has it, without its name and its totals.
+/// The values of a box's row, without its name and totals.
 #[derive(Clone, Copy)]
 pub(crate) struct BoxValues<'a> {
-    /// The first second at which it may be open, since 1970-01-01T00:00:00Z.
+    /// The first second at which the box may be open, since 1970-01-01T00:00:00Z.
     pub opens: i64,
-    /// The first second at which it is closed for good.
+    /// The first second at which the box is closed for good.
     pub closes: i64,
-    /// Seven digits, Monday first: '1' where it is open on the day, else '0'.
+    /// Seven digits, Monday first: '1' if the box is open on the day, otherwise '0'.
     pub days: &'a str,
-    /// The first minute of the office's day at which it is open.
+    /// The first minute of the office's day at which the box is open.
     pub from_minute: i32,
-    /// The first minute after that at which it is closed.
+    /// The first later minute at which the box is closed.
     pub to_minute: i32,
-    /// How many bytes its files may have together.
+    /// The maximum total size of its files, in bytes.
     pub quota: i64,
-    /// How many files it may hold.
+    /// The maximum number of its files.
     pub max_files: i64,
-    /// 1 where other bytes may take a name, else 0.
+    /// 1 if new bytes may replace a file of the same name, otherwise 0.
     pub mode: i32,
-    /// 0 where it takes all names, 1 by their ends, 2 by their beginning.
+    /// 0 if the box accepts all names, 1 if it checks their ending, 2 if it checks their beginning.
     pub kind: i32,
-    /// The texts of its rule, with a comma between each two.
+    /// The texts of its rule, joined by commas.
     pub text: &'a str,
 }
 
-/// One more box, which holds nothing.
+/// Inserts a box that holds nothing.
 pub(crate) fn insert_values<S: Alter>(
     tx: &mut Transaction<'_, S>,
     name: &str,
@@ -77,7 +77,7 @@ pub(crate) fn insert_values<S: Alter>(
     Ok(())
 }
 
-/// The number as SQL has it. One beyond `i64` is refused by `TooBig`.
+/// The number as an SQL integer. A number that does not fit in `i64` is refused with `TooBig`.
 fn integer(number: u64) -> Result<i64, Error>
     ensures value { IfOk result (λ n. pos number ≡ n) }
 {
@@ -105,7 +105,7 @@ fn number_of_rule(rule: &NameRule) -> i32
     }
 }
 
-/// The texts with a comma between each two.
+/// The texts joined by commas.
 fn join(alloc: Global, texts: &[Vec<u8>]) -> Result<Vec<u8>, AllocError>
     ensures value { IfOk result (λ text. text.items ≡ joined (map (λ t. t.items) texts.now)) }
 {
@@ -121,7 +121,7 @@ fn join(alloc: Global, texts: &[Vec<u8>]) -> Result<Vec<u8>, AllocError>
     Ok(text)
 }
 
-/// The values of a box, of which the texts are given.
+/// The values of a box whose texts are given.
 fn values_of<'a>(row: &BoxRow, days: &'a str, text: &'a str) -> Result<BoxValues<'a>, Error>
     ensures values { days.now ≡ days_text row.now.days
         → text.now ≡ rule_text (name_rule_of row.now.rule)
@@ -141,7 +141,7 @@ fn values_of<'a>(row: &BoxRow, days: &'a str, text: &'a str) -> Result<BoxValues
     })
 }
 
-/// One more box, which holds nothing, of whose rule the text is given, as bytes.
+/// Inserts a box that holds nothing. The text of its rule is given as bytes.
 fn insert_with_text<S: Alter>(
     tx: &mut Transaction<'_, S>,
     name: &str,
@@ -162,10 +162,10 @@ fn insert_with_text<S: Alter>(
     insert_values(tx, name, &values_of(row, days, text)?)
 }
 
-/// One more box, which holds nothing. No box of its name stands yet.
+/// Inserts a box that holds nothing. No box of its name exists yet.
 ///
-/// A number beyond `i64` is refused by `TooBig`, a text of the rule that is no UTF-8 by `Utf8Error`, and a text
-/// for which there is no memory by `OutOfMemory`: nothing is written then.
+/// A number that does not fit in `i64` is refused with `TooBig`, a rule text that is not UTF-8 with `Utf8Error`, and a text
+/// for which there is no memory with `OutOfMemory`. In these cases nothing is written.
 pub fn insert_box<S: Alter>(
     tx: &mut Transaction<'_, S>,
     name: &str,

@@ -26,10 +26,10 @@ use sqlite::{Alter, Error, ErrorCode, Transaction};
 use sqltables::MOST_BYTES;
 use std::str;
 
-/// For a number that a column has no room for.
+/// The error for a number that does not fit in its column.
 const TOO_BIG: Error = Error::SqliteFailure(ErrorCode::TooBig);
 
-/// The text of these bytes.
+/// These bytes as a text.
 fn text_of(bytes: &[u8]) -> Result<&str, Error>
     ensures { IfOk result (λ text. text.now ≡ bytes.now) }
 {
@@ -39,7 +39,7 @@ fn text_of(bytes: &[u8]) -> Result<&str, Error>
     }
 }
 
-/// The row of a file, which may stand already.
+/// Sets the row of a file, which may already exist.
 fn set_row<S: Alter>(
     tx: &mut Transaction<'_, S>,
     in_box: &str,
@@ -60,7 +60,7 @@ fn set_row<S: Alter>(
     }
 }
 
-/// What the box of this name holds.
+/// Sets the totals of the box of this name.
 fn set_totals<S: Alter>(
     tx: &mut Transaction<'_, S>,
     name: &str,
@@ -78,7 +78,7 @@ fn set_totals<S: Alter>(
     update_totals(tx, name, used, count)
 }
 
-/// The receipt of a file that is set.
+/// Adds the receipt of a file that is set.
 fn add_receipt<S: Alter>(
     tx: &mut Transaction<'_, S>,
     number: u32,
@@ -100,7 +100,7 @@ fn add_receipt<S: Alter>(
     insert_receipt(tx, number, in_box, name, size, &file.digest, moment, key)
 }
 
-/// The rows of a file that is set: the old pieces go, and its receipt and its own row come.
+/// Writes the rows of a file that is set: the old pieces are deleted, and its receipt and its own row are written.
 fn write_rows<S: Alter>(
     tx: &mut Transaction<'_, S>,
     file: &NewFile<'_>,
@@ -126,7 +126,7 @@ fn write_rows<S: Alter>(
     set_row(tx, in_box, name, stands, number)
 }
 
-/// A file with its receipt and its pieces, and what its box holds then.
+/// Writes a file with its receipt and pieces, and the new totals of its box.
 fn write_file<S: Alter>(
     tx: &mut Transaction<'_, S>,
     file: &NewFile<'_>,
@@ -225,7 +225,7 @@ fn close_box<S: Alter>(tx: &mut Transaction<'_, S>, name: &[u8], moment: u64) ->
     update_closes(tx, text_of(name)?, moment)
 }
 
-/// The rows of a file go, and the totals of its box come.
+/// Deletes the rows of a file and sets the new totals of its box.
 fn take_rows<S: Alter>(
     tx: &mut Transaction<'_, S>,
     in_box: &str,
@@ -243,7 +243,7 @@ fn take_rows<S: Alter>(
     set_totals(tx, in_box, totals)
 }
 
-/// Takes out a file. Its receipt stays.
+/// Deletes a file. Its receipt stays.
 fn drop_file<S: Alter>(tx: &mut Transaction<'_, S>, in_box: &[u8], name: &[u8]) -> Result<(), Error>
     ensures done { (v : Version) (s after : State) → IsVersion v
         → Pends v (seen S.Store tx.old) (tables_of s) → IsSound s
@@ -261,7 +261,7 @@ fn drop_file<S: Alter>(tx: &mut Transaction<'_, S>, in_box: &[u8], name: &[u8]) 
     take_rows(tx, in_box, name, left)
 }
 
-/// Limits a key to this box, beside those that it is limited to already.
+/// Limits a key to this box, in addition to those that it is already limited to.
 fn limit_key<S: Alter>(tx: &mut Transaction<'_, S>, id: &[u8], in_box: &[u8]) -> Result<(), Error>
     ensures done { (s after : State) → Pends v2 (seen S.Store tx.old) (tables_of s)
         → IsObeyed s (LimitKey id.now in_box.now) after
@@ -271,7 +271,7 @@ fn limit_key<S: Alter>(tx: &mut Transaction<'_, S>, id: &[u8], in_box: &[u8]) ->
     insert_limit(tx, text_of(id)?, text_of(in_box)?)
 }
 
-/// Sets by how many seconds a link may begin early.
+/// Sets how many seconds early a link may begin.
 fn set_allowance<S: Alter>(tx: &mut Transaction<'_, S>, seconds: u64) -> Result<(), Error>
     ensures done { (s after : State) → Pends v2 (seen S.Store tx.old) (tables_of s)
         → IsObeyed s (SetAllowance seconds) after
@@ -284,7 +284,7 @@ fn set_allowance<S: Alter>(tx: &mut Transaction<'_, S>, seconds: u64) -> Result<
     update_allowance(tx, seconds)
 }
 
-/// Does what a command of the desk says.
+/// Carries out a command of the desk.
 fn obey<S: Alter>(tx: &mut Transaction<'_, S>, command: &Command<'_>) -> Result<(), Error>
     ensures done { (s after : State) → Pends v2 (seen S.Store tx.old) (tables_of s) → IsSound s
         → IsObeyed s (command_of command.now) after
@@ -303,7 +303,7 @@ fn obey<S: Alter>(tx: &mut Transaction<'_, S>, command: &Command<'_>) -> Result<
     }
 }
 
-/// Writes what the change says, where these bytes are staged.
+/// Writes the change, given the staged bytes.
 pub fn write_change<S: Alter>(
     tx: &mut Transaction<'_, S>,
     change: &Change<'_>,

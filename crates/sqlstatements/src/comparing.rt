@@ -1,4 +1,4 @@
-//! The pieces of a file, compared with those that are staged, inside a transaction.
+//! Compares the pieces of a file with the staged pieces, inside a transaction.
 
 ghost use Rattle.std.specs.Prelude.{◌≡◌, ◌↔◌, ℕ, List, length, Some, IsTrue, IfOk};
 ghost use Rattle.sqlite.specs.State.{HasCleanDisk};
@@ -13,7 +13,7 @@ use crate::pieces::Pieces;
 use sqlite::{Alter, Error, ErrorCode, Transaction};
 use sqltables::pieces::read_piece;
 
-/// Whether this piece of a file is there, of just these bytes.
+/// Whether this piece of a file exists with exactly these bytes.
 fn is_piece<S: Alter>(
     tx: &mut Transaction<'_, S>,
     in_box: &str,
@@ -33,7 +33,8 @@ fn is_piece<S: Alter>(
     }
 }
 
-/// Whether the pieces of a file, of as many bytes as these, are these. One that is read is held at a time.
+/// Whether the pieces of a file equal these bytes, given that the file is as long as these bytes. Only one piece that was read
+/// is held at a time.
 pub(crate) fn has_pieces<S: Alter>(
     tx: &mut Transaction<'_, S>,
     in_box: &str,

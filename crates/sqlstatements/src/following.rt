@@ -1,4 +1,4 @@
-//! Questions inside a transaction by which an office is walked through: what comes first behind a text, in the order of bytes.
+//! Queries inside a transaction to walk through an office: what comes first after a text, in byte order.
 //! They change nothing.
 
 ghost use Rattle.std.specs.Prelude.{OnOk, IfOk, IsTrue, IsSome};
@@ -18,7 +18,7 @@ use sqlite::types::ValueRef;
 use sqlite::{Alter, Error, Transaction, params};
 use sqltables::reading::read_text;
 
-/// The text that the last of the rows begins with that a query of the office's own tables shows, if it shows one.
+/// The text in the first column of the last row that a query of the office's own tables shows, if it shows any row.
 fn select_text<S: Alter>(
     tx: &mut Transaction<'_, S>,
     sql: &str,
@@ -38,7 +38,7 @@ fn select_text<S: Alter>(
     Ok(Some(read_text(&row, 0)?))
 }
 
-/// The id of the first key behind this text.
+/// The id of the first key after this text.
 pub fn key_after<S: Alter>(
     tx: &mut Transaction<'_, S>,
     after: &str,
@@ -55,7 +55,7 @@ pub fn key_after<S: Alter>(
     )
 }
 
-/// The name of the first box behind this text.
+/// The name of the first box after this text.
 pub fn box_after<S: Alter>(
     tx: &mut Transaction<'_, S>,
     after: &str,
@@ -73,7 +73,7 @@ pub fn box_after<S: Alter>(
     )
 }
 
-/// The name of the first file of this box behind this text.
+/// The name of the first file of this box after this text.
 pub fn file_after<S: Alter>(
     tx: &mut Transaction<'_, S>,
     in_box: &str,
@@ -92,7 +92,7 @@ pub fn file_after<S: Alter>(
     )
 }
 
-/// The name of the first box behind this text among those that the key of this id is limited to.
+/// The name of the first box after this text among those that the key of this id is limited to.
 pub fn limit_after<S: Alter>(
     tx: &mut Transaction<'_, S>,
     id: &str,

@@ -1,4 +1,4 @@
-//! What is asked and written inside a transaction on an office file.
+//! The queries and writes inside a transaction on an office file.
 #![tactic(auto)]
 
 mod box_rows;

@@ -15,7 +15,7 @@ use sigv4::Allowance;
 use sqlite::{Alter, Error, Transaction, params};
 use sqltables::calls::execute;
 
-/// A table without a row, made by a text that creates it among those that are there.
+/// Creates a table without rows, besides the existing tables, by running this text.
 fn create_table<S: Alter>(tx: &mut Transaction<'_, S>, sql: &str) -> Result<(), Error>
     ensures done { (before after : Schema)
         → Creates sql.now before after (seen S.Store tx.old) (seen S.Store tx.new)
@@ -31,7 +31,8 @@ fn create_table<S: Alter>(tx: &mut Transaction<'_, S>, sql: &str) -> Result<(), 
     Ok(())
 }
 
-/// The six tables of version 1: the office's own, its keys, its boxes, its receipts, its files without their bytes, and those bytes.
+/// Creates the six tables of version 1: the office's own, its keys, its boxes, its receipts, its files without their bytes,
+/// and those bytes.
 fn create_tables<S: Alter>(tx: &mut Transaction<'_, S>) -> Result<(), Error>
     ensures done { SeesNothing s0 (seen S.Store tx.old)
         → OnOk result (SeesNothing s6 (seen S.Store tx.new)) }
@@ -63,7 +64,7 @@ fn create_tables<S: Alter>(tx: &mut Transaction<'_, S>) -> Result<(), Error>
     )
 }
 
-/// The row of the office: version 1, and the offset of its clock east of UTC, in minutes.
+/// Inserts the row of the office: version 1, and the offset of its clock east of UTC, in minutes.
 fn insert_office<S: Alter>(tx: &mut Transaction<'_, S>, east: i16) -> Result<(), Error>
     ensures done { SeesNothing s6 (seen S.Store tx.old)
         → OnOk result (Pends v1 (seen S.Store tx.new) (no_rows east 0)) }
@@ -77,7 +78,7 @@ fn insert_office<S: Alter>(tx: &mut Transaction<'_, S>, east: i16) -> Result<(),
     Ok(())
 }
 
-/// The three tables that version 2 adds: the office's rules, the boxes of limited keys, and what is staged.
+/// Creates the three tables that version 2 adds: the office's rules, the boxes of limited keys, and what is staged.
 fn add_tables<S: Alter>(tx: &mut Transaction<'_, S>) -> Result<(), Error>
     ensures done { (tables : Tables) → Pends v1 (seen S.Store tx.old) tables
         → OnOk result (SeesMore s9 (14 ∷ 12 ∷ 11 ∷ []) (seen S.Store tx.new) tables) }
@@ -97,7 +98,7 @@ fn add_tables<S: Alter>(tx: &mut Transaction<'_, S>) -> Result<(), Error>
     )
 }
 
-/// The row of the rules: by how many seconds a link may begin early.
+/// Inserts the row of the rules: how many seconds early a link may begin.
 fn insert_rules<S: Alter>(tx: &mut Transaction<'_, S>, seconds: u32) -> Result<(), Error>
     ensures done { (tables : Tables) → SeesMore s9 (14 ∷ 12 ∷ 11 ∷ []) (seen S.Store tx.old) tables
         → OnOk result (SeesRules (seen S.Store tx.new) tables seconds) }
@@ -107,7 +108,7 @@ fn insert_rules<S: Alter>(tx: &mut Transaction<'_, S>, seconds: u32) -> Result<(
     Ok(())
 }
 
-/// The office's row says version 2.
+/// Sets the version in the office's row to 2.
 fn update_version<S: Alter>(tx: &mut Transaction<'_, S>) -> Result<(), Error>
     ensures done { (tables : Tables) (seconds : ℕ) → SeesRules (seen S.Store tx.old) tables seconds
         → OnOk result (Pends v2 (seen S.Store tx.new) (with_allowance tables seconds)) }
@@ -119,7 +120,7 @@ fn update_version<S: Alter>(tx: &mut Transaction<'_, S>) -> Result<(), Error>
     Ok(())
 }
 
-/// Makes the tables of an office of version 1 those of version 2. All rows stay, no key is limited, and nothing is staged.
+/// Upgrades the tables of an office from version 1 to version 2. All rows stay, no key is limited, and nothing is staged.
 pub fn upgrade<S: Alter>(tx: &mut Transaction<'_, S>, allowance: Allowance) -> Result<(), Error>
     ensures done { (tables : Tables) → Pends v1 (seen S.Store tx.old) tables
         → OnOk result (Pends v2 (seen S.Store tx.new) (with_allowance tables allowance)) }
@@ -132,8 +133,8 @@ pub fn upgrade<S: Alter>(tx: &mut Transaction<'_, S>, allowance: Allowance) -> R
     update_version(tx)
 }
 
-/// The tables of an office of version 2 that has one key, a clerk's, and nothing else, of which nothing is staged: an office of
-/// version 1 is made first.
+/// Creates the tables of an office of version 2 that has one key, a clerk's, and nothing else. Nothing is staged. An office of
+/// version 1 is created first.
 pub fn make_office<S: Alter>(
     tx: &mut Transaction<'_, S>,
     east: i16,

@@ -1,4 +1,4 @@
-//! The bytes that are staged, in pieces as the rows of a file have them.
+//! The staged bytes, in pieces like those in the rows of a file.
 
 ghost use Rattle.std.specs.Prelude.{◌≡◌, ◌++◌, [], length, option_map, OnErr, OnOk};
 ghost use Rattle.sqltables.specs.Tables.{piece_of};
@@ -6,11 +6,11 @@ ghost use Rattle.sqltables.specs.Tables.{piece_of};
 use sqltables::PIECE;
 use std::alloc::{AllocError, Global};
 
-/// The memory that more than one piece is held in, in bytes. The C library maps a block of more than 32 MiB by itself, and gives
-/// it back to the system as soon as it is freed. What is not written of it takes no memory.
+/// The memory reserved to hold more than one piece, in bytes. The C library maps a block of more than 32 MiB by itself, and gives
+/// it back to the system as soon as it is freed. The part that is not written takes no memory.
 const MAPPED: usize = 33 << 20;
 
-/// Bytes that are told in pieces of 65536, of which the last may be shorter.
+/// Bytes that are read in pieces of 65536 bytes. The last piece may be shorter.
 #[derive(Drop)]
 pub struct Pieces {
     bytes: Vec<u8>,
@@ -19,7 +19,7 @@ pub struct Pieces {
 impl Pieces {
     ghost use Rattle.sqlstatements.specs.Pieces.{held};
 
-    /// No bytes. It takes no memory.
+    /// No bytes. This takes no memory.
     pub fn new(alloc: Global) -> Pieces
         ensures { held result ≡ [] }
     {
@@ -28,7 +28,7 @@ impl Pieces {
         }
     }
 
-    /// How many bytes there are.
+    /// The number of bytes.
     pub fn len(&self) -> usize
         ensures { result ≡ length (held self.now) }
     {
@@ -47,12 +47,12 @@ impl Pieces {
         Some(&rest[..rest.len().min(PIECE)])
     }
 
-    /// Adds bytes behind those that are held. A second piece asks for memory for 33 MiB at once; where that is refused, the bytes
-    /// grow as they come.
+    /// Appends bytes. A second piece requests memory for 33 MiB at once. If that is refused, the memory grows as bytes
+    /// are appended.
     ///
     /// # Errors
     ///
-    /// `AllocError` where the bytes have no room. Then none of them is held.
+    /// `AllocError` if there is no memory for the bytes. Then none of them is added.
     pub fn push(&mut self, bytes: &[u8]) -> Result<(), AllocError>
         ensures added { OnOk result (held self.new ≡ held self.old ++ bytes.now) }
         ensures kept { OnErr result (held self.new ≡ held self.old) }

@@ -1,4 +1,4 @@
-//! Questions inside a transaction. They change nothing.
+//! Queries inside a transaction. They change nothing.
 
 ghost use Rattle.std.specs.Prelude.{◌≡◌, ◌↔◌, ◌+◌, ◌-◌, ℕ, List, length, map, take, drop, slice_get, None, Some, IsTrue, OnOk, IfOk, option_map};
 ghost use Rattle.std.specs.FinMap.{get};
@@ -28,7 +28,7 @@ use sqltables::reading::{read_box, read_key, read_receipt, read_text};
 use std::alloc::Global;
 use std::collections::BTreeSet;
 
-/// The last of the rows that a query of the office's own tables shows, if it shows one.
+/// The last row that a query of the office's own tables shows, if it shows any.
 pub(crate) fn select_row<S: Alter>(
     tx: &mut Transaction<'_, S>,
     sql: &str,
@@ -46,7 +46,7 @@ pub(crate) fn select_row<S: Alter>(
     Ok(rows.pop())
 }
 
-/// The row of a key: its role, secret and whether it is revoked.
+/// The row of a key: its role, its secret and whether it is revoked.
 fn select_key<S: Alter>(tx: &mut Transaction<'_, S>, id: &str) -> Result<Option<Row>, Error>
     ensures found { FindsIn S.Store tx.old tx.new result
         (λ tables row. row ≡ option_map shown_key (tables.key id.now)) }
@@ -161,7 +161,7 @@ fn select_allowance<S: Alter>(tx: &mut Transaction<'_, S>) -> Result<Option<Row>
     select_row(tx, "SELECT allowance FROM rules", &[])
 }
 
-/// By how much a link may begin early.
+/// How early a link may begin.
 pub fn allowance<S: Alter>(tx: &mut Transaction<'_, S>) -> Result<Allowance, Error>
     ensures found { FindsInSecond S.Store tx.old tx.new result
         (λ tables allowance. allowance ≡ tables.allowance) }
@@ -177,7 +177,7 @@ pub fn allowance<S: Alter>(tx: &mut Transaction<'_, S>) -> Result<Allowance, Err
     }
 }
 
-/// The rows of the boxes that a key is limited to, each a name, in no order.
+/// The rows of the boxes that a key is limited to. Each row is a name, and they have no order.
 fn select_limits<S: Alter>(tx: &mut Transaction<'_, S>, id: &str) -> Result<Vec<Row>, Error>
     ensures found { FindsInSecond S.Store tx.old tx.new result
         (λ tables rows. AreLimits tables.limit id.now rows.items) }
@@ -187,7 +187,7 @@ fn select_limits<S: Alter>(tx: &mut Transaction<'_, S>, id: &str) -> Result<Vec<
     query(tx, "SELECT box FROM key_box WHERE key_id = ?1", params![id])
 }
 
-/// Whether one of the rows has this text first. A row before it that begins with no text is an error.
+/// Whether the first column of some row is this text. If an earlier row does not begin with a text, that is an error.
 fn shows_text(rows: &[Row], text: &[u8]) -> Result<bool, Error>
     ensures { IfOk result (λ shown. IsTrue shown ↔ ShowsText rows.now text.now) }
 {
@@ -214,7 +214,7 @@ pub fn has_limit<S: Alter>(
     shows_text(&rows, in_box)
 }
 
-/// Whether the key of this id may use this box: it is limited to no box, or to this one among others.
+/// Whether the key of this id may use this box: either it is limited to no box, or this box is among those that it is limited to.
 pub fn may_use<S: Alter>(
     tx: &mut Transaction<'_, S>,
     id: &str,
@@ -245,7 +245,7 @@ pub fn key<S: Alter>(tx: &mut Transaction<'_, S>, id: &str) -> Result<Option<Key
     Ok(Some(read_key(&row)?))
 }
 
-/// The box of this name. Its settings are to be those of a sound state.
+/// The box of this name. Its settings must be those of a sound state.
 pub fn box_row<S: Alter>(tx: &mut Transaction<'_, S>, name: &str) -> Result<Option<BoxRow>, Error>
     ensures found { (v : Version) (tables : Tables) → IsVersion v
         → Pends v (seen S.Store tx.old) tables
@@ -262,7 +262,7 @@ pub fn box_row<S: Alter>(tx: &mut Transaction<'_, S>, name: &str) -> Result<Opti
     Ok(Some(read_box(&row)?))
 }
 
-/// What the box of this name holds; nothing, where it is not there.
+/// The totals of the box of this name; zero if the box does not exist.
 pub fn totals<S: Alter>(tx: &mut Transaction<'_, S>, name: &str) -> Result<Totals, Error>
     ensures found { FindsIn S.Store tx.old tx.new result
         (λ tables. AreTotalsOf (tables.box name.now)) }
@@ -278,7 +278,7 @@ pub fn totals<S: Alter>(tx: &mut Transaction<'_, S>, name: &str) -> Result<Total
     })
 }
 
-/// The number of the receipt of the file of this box and name.
+/// The number of the receipt of the file with this box and name.
 pub(crate) fn file_number<S: Alter>(
     tx: &mut Transaction<'_, S>,
     in_box: &str,
@@ -295,7 +295,7 @@ pub(crate) fn file_number<S: Alter>(
     Ok(Some(row.get(0)?))
 }
 
-/// The receipt of this number. Its digest is to have 32 bytes.
+/// The receipt of this number. Its digest must have 32 bytes.
 pub(crate) fn receipt<S: Alter>(
     tx: &mut Transaction<'_, S>,
     number: u64,
@@ -314,7 +314,7 @@ pub(crate) fn receipt<S: Alter>(
     Ok(Some(read_receipt(&row, number)?))
 }
 
-/// The file's bytes, so many, from its pieces.
+/// The bytes of the file, which has this size, read from its pieces.
 pub(crate) fn file_bytes<S: Alter>(
     tx: &mut Transaction<'_, S>,
     alloc: Global,
@@ -338,7 +338,7 @@ pub(crate) fn file_bytes<S: Alter>(
     }
 }
 
-/// The rows of the unrevoked clerk's keys, each an id, in no order.
+/// The rows of the unrevoked clerk keys. Each row is an id, and they have no order.
 fn select_clerks<S: Alter>(tx: &mut Transaction<'_, S>) -> Result<Vec<Row>, Error>
     ensures found { FindsIn S.Store tx.old tx.new result
         (λ tables rows. AreActing tables.key rows.items) }
@@ -352,7 +352,7 @@ fn select_clerks<S: Alter>(tx: &mut Transaction<'_, S>) -> Result<Vec<Row>, Erro
     )
 }
 
-/// How many different texts stand first in the rows. A row that begins with no text is an error.
+/// How many different texts the first columns of the rows hold. A row that does not begin with a text is an error.
 fn count_texts(alloc: Global, rows: &[Row]) -> Result<u64, Error>
     ensures { IfOk result (λ count. count ≡ different_texts rows.now) }
 {
@@ -363,7 +363,7 @@ fn count_texts(alloc: Global, rows: &[Row]) -> Result<u64, Error>
     Ok(texts.len() as u64)
 }
 
-/// How many unrevoked clerk's keys stand.
+/// The number of unrevoked clerk keys.
 pub fn clerks<S: Alter>(tx: &mut Transaction<'_, S>, alloc: Global) -> Result<u64, Error>
     ensures found { (v : Version) (tables : Tables) (s : State) → IsVersion v
         → Pends v (seen S.Store tx.old) tables → tables.key ≡ get s.keys
@@ -376,7 +376,7 @@ pub fn clerks<S: Alter>(tx: &mut Transaction<'_, S>, alloc: Global) -> Result<u6
     count_texts(alloc, &rows)
 }
 
-/// The row of the last receipt, which is its number.
+/// The row of the last receipt, which holds only its number.
 fn select_last<S: Alter>(tx: &mut Transaction<'_, S>) -> Result<Vec<Row>, Error>
     ensures found { (v : Version) (tables : Tables) (receipts : List Receipt) → IsVersion v
         → Pends v (seen S.Store tx.old) tables → tables.receipt ≡ slice_get receipts
@@ -412,7 +412,7 @@ pub fn next_number<S: Alter>(tx: &mut Transaction<'_, S>) -> Result<u32, Error>
     }
 }
 
-/// The receipts numbered `from` or more, ascending, at most `most`. Their digests are to have 32 bytes.
+/// The receipts numbered `from` or higher, ascending, at most `most` of them. Their digests must have 32 bytes.
 pub fn receipts<S: Alter>(
     tx: &mut Transaction<'_, S>,
     alloc: Global,

@@ -11,7 +11,7 @@ ghost use Rattle.sqltables.specs.Inside.{seen, GoesOnInside, GoesOnBegun, StillS
 use sqlite::{Alter, Error, ErrorCode, Transaction};
 use sqltables::calls::{execute, query};
 
-/// Whether a row is staged.
+/// Whether any row is staged.
 fn has_staged<S: Alter>(tx: &mut Transaction<'_, S>) -> Result<bool, Error>
     ensures found { HasSchema v2.schema (seen S.Store tx.old)
         → IsTrue (seen S.Store tx.old).in_transaction → HasCleanDisk (seen S.Store tx.new)
@@ -26,7 +26,7 @@ fn has_staged<S: Alter>(tx: &mut Transaction<'_, S>) -> Result<bool, Error>
     Ok(!rows.is_empty())
 }
 
-/// The rows that are staged go, and no others.
+/// Deletes the staged rows, and no others.
 fn delete_staged<S: Alter>(tx: &mut Transaction<'_, S>) -> Result<(), Error>
     ensures done { StillSecond S.Store tx.old tx.new result }
     ensures schema { HasSchema v2.schema (seen S.Store tx.old) → HasCleanDisk (seen S.Store tx.new)
@@ -41,8 +41,8 @@ fn delete_staged<S: Alter>(tx: &mut Transaction<'_, S>) -> Result<(), Error>
     Ok(())
 }
 
-/// The rows that are staged go, where there are any; the office's tables are as they were. Where there are none nothing is
-/// written. A row that does not go is told as `DatabaseCorrupt`.
+/// Deletes the staged rows, if there are any. The office's tables are unchanged. If there are none, nothing is
+/// written. A row that cannot be deleted is reported as `DatabaseCorrupt`.
 pub fn empty_staged<S: Alter>(tx: &mut Transaction<'_, S>) -> Result<(), Error>
     ensures done { StillSecond S.Store tx.old tx.new result }
     ensures emptied { HasSchema v2.schema (seen S.Store tx.old)

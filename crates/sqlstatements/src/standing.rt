@@ -1,4 +1,4 @@
-//! The file that stands under a name, inside a transaction.
+//! The file under a name, inside a transaction.
 
 ghost use Rattle.std.specs.Prelude.{◌≡◌, ◌↔◌, length, option_map, IsTrue, IfOk};
 ghost use Rattle.std.specs.FinMap.{get};
@@ -22,7 +22,7 @@ use boxes::{FileRow, ReceiptRow};
 use sqlite::{Alter, Error, Transaction};
 use std::alloc::Global;
 
-/// The receipt of the file of this box and name.
+/// The receipt of the file with this box and name.
 pub fn standing_receipt<S: Alter>(
     tx: &mut Transaction<'_, S>,
     in_box: &str,
@@ -39,7 +39,7 @@ pub fn standing_receipt<S: Alter>(
     }
 }
 
-/// How long the file of this box and name is, in bytes, in a sound state: its receipt tells it.
+/// The size in bytes of the file with this box and name, in a sound state. It is read from the file's receipt.
 pub(crate) fn standing_size<S: Alter>(
     tx: &mut Transaction<'_, S>,
     in_box: &str,
@@ -59,7 +59,7 @@ pub(crate) fn standing_size<S: Alter>(
     Ok(Some(receipt.size))
 }
 
-/// The file of this box and name, with its receipt.
+/// The file with this box and name, with its receipt.
 pub fn file<S: Alter>(
     tx: &mut Transaction<'_, S>,
     alloc: Global,
@@ -78,7 +78,7 @@ pub fn file<S: Alter>(
     Ok(Some(FileRow { bytes, receipt }))
 }
 
-/// Whether the file of this box and name stands with just these bytes. Its receipt's length is looked at first.
+/// Whether the file with this box and name has exactly these bytes. The size in its receipt is checked first.
 pub fn has_bytes<S: Alter>(
     tx: &mut Transaction<'_, S>,
     in_box: &str,

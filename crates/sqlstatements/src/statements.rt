@@ -1,4 +1,4 @@
-//! One statement each, inside a transaction.
+//! Single statements, each inside a transaction.
 
 ghost use Rattle.std.specs.Prelude.{⊤, ◌≡◌, ◌≤◌, ◌+◌, ℕ, length, pos, None, Some, true, false, OnOk};
 ghost use Rattle.boxes.specs.State.{Key, Receipt};
@@ -14,7 +14,7 @@ use boxes::Role;
 use sqlite::{Alter, Error, Transaction, params};
 use sqltables::calls::execute;
 
-/// One more receipt.
+/// Inserts a receipt.
 pub(crate) fn insert_receipt<S: Alter>(
     tx: &mut Transaction<'_, S>,
     number: u32,
@@ -40,7 +40,7 @@ pub(crate) fn insert_receipt<S: Alter>(
     Ok(())
 }
 
-/// One more piece of a file.
+/// Inserts a piece of a file.
 pub(crate) fn insert_piece<S: Alter>(
     tx: &mut Transaction<'_, S>,
     box_name: &str,
@@ -63,7 +63,7 @@ pub(crate) fn insert_piece<S: Alter>(
     Ok(())
 }
 
-/// The pieces of a file go.
+/// Deletes the pieces of a file.
 pub(crate) fn delete_pieces<S: Alter>(
     tx: &mut Transaction<'_, S>,
     box_name: &str,
@@ -81,7 +81,7 @@ pub(crate) fn delete_pieces<S: Alter>(
     Ok(())
 }
 
-/// The totals of a box.
+/// Updates the totals of a box.
 pub(crate) fn update_totals<S: Alter>(
     tx: &mut Transaction<'_, S>,
     name: &str,
@@ -102,7 +102,7 @@ pub(crate) fn update_totals<S: Alter>(
     Ok(())
 }
 
-/// All pieces of a file that has none.
+/// Inserts all pieces of a file that has none.
 pub(crate) fn insert_pieces<S: Alter>(
     tx: &mut Transaction<'_, S>,
     box_name: &str,
@@ -124,7 +124,7 @@ pub(crate) fn insert_pieces<S: Alter>(
     Ok(())
 }
 
-/// A file that stood under no such name, without its pieces.
+/// Inserts a file under a name that had none, without its pieces.
 pub(crate) fn insert_file<S: Alter>(
     tx: &mut Transaction<'_, S>,
     box_name: &str,
@@ -145,7 +145,7 @@ pub(crate) fn insert_file<S: Alter>(
     Ok(())
 }
 
-/// The receipt of a file that stands.
+/// Updates the receipt of an existing file.
 pub(crate) fn update_file<S: Alter>(
     tx: &mut Transaction<'_, S>,
     box_name: &str,
@@ -166,7 +166,7 @@ pub(crate) fn update_file<S: Alter>(
     Ok(())
 }
 
-/// One more key, unrevoked.
+/// Inserts an unrevoked key.
 pub(crate) fn insert_key<S: Alter>(
     tx: &mut Transaction<'_, S>,
     id: &str,
@@ -191,7 +191,7 @@ pub(crate) fn insert_key<S: Alter>(
     Ok(())
 }
 
-/// A key is revoked.
+/// Revokes a key.
 pub(crate) fn update_revoked<S: Alter>(tx: &mut Transaction<'_, S>, id: &str) -> Result<(), Error>
     ensures done { (v : Version) (tables : Tables) (key : Key) → IsVersion v
         → Pends v (seen S.Store tx.old) tables → tables.key id.now ≡ Some key
@@ -203,7 +203,7 @@ pub(crate) fn update_revoked<S: Alter>(tx: &mut Transaction<'_, S>, id: &str) ->
     Ok(())
 }
 
-/// The moment at which a box closes for good, in seconds since 1970-01-01T00:00:00Z.
+/// Updates the moment at which a box closes for good, in seconds since 1970-01-01T00:00:00Z.
 pub(crate) fn update_closes<S: Alter>(
     tx: &mut Transaction<'_, S>,
     name: &str,
@@ -223,7 +223,7 @@ pub(crate) fn update_closes<S: Alter>(
     Ok(())
 }
 
-/// The row of a file goes. Its pieces went before.
+/// Deletes the row of a file. Its pieces were deleted before.
 pub(crate) fn delete_file<S: Alter>(
     tx: &mut Transaction<'_, S>,
     in_box: &str,
@@ -241,7 +241,7 @@ pub(crate) fn delete_file<S: Alter>(
     Ok(())
 }
 
-/// One more box that a key is limited to.
+/// Inserts a box that a key is limited to.
 pub(crate) fn insert_limit<S: Alter>(
     tx: &mut Transaction<'_, S>,
     id: &str,
@@ -261,7 +261,7 @@ pub(crate) fn insert_limit<S: Alter>(
     Ok(())
 }
 
-/// By how many seconds a link may begin early.
+/// Updates how many seconds early a link may begin.
 pub(crate) fn update_allowance<S: Alter>(
     tx: &mut Transaction<'_, S>,
     seconds: u32,

@@ -1,4 +1,4 @@
--- What the texts mean that are run in one version alone.
+-- What the texts mean that are run in only one version.
 use Rattle.std.proofs.Common.{codes, List, ℕ, [], ◌∷◌, refl}
 use Rattle.sqlite_value.specs.declared.value.Value.TheVariants.{Null}
 use Rattle.sqlite_schema.specs.declared.command.Command.{Command}

@@ -1,4 +1,4 @@
--- A file's pieces, put in one by one.
+-- A file's pieces, inserted one by one.
 use Rattle.std.proofs.Common.{◌≡◌, inl, inr, ℕ, ◌+◌, ◌*◌, ◌<◌, ◌≤◌, List, take, drop, length, min, false, Option, Some, None, arith, refl, sym, ap, subst, ◌∙◌}
 use Rattle.std.specs.Prelude.{nat_lt, if◌then◌else◌}
 use Rattle.std.proofs.lemmas.Bool.{cases_Bool, ltb-true, ltb-false, lt-ltb}
@@ -33,7 +33,7 @@ survives_itself a = record { clean = omega arith; counts = omega arith; limit = 
 pub keeps_then : (a b c : State) → KeepsCommit a b → KeepsCommit b c → KeepsCommit a c
 keeps_then a b c one two = record { was_open = λ h. one.was_open (two.was_open h); committed = λ h. two.committed h ∙ one.committed (two.was_open h) }
 
--- so many pieces stand, and nothing was committed
+-- `count` pieces are inserted, and nothing was committed
 pub record Built (entry now : State) (place : Place) (bytes : List ℕ) (count : ℕ) : Type 0 where
   pub uncommitted : HasCleanDisk now → KeepsCommit entry now
   pub survives : Survives entry now (λ db. ⊥)
@@ -107,7 +107,7 @@ module _ (tables : Tables) (place : Place) (bytes : List ℕ) where
     refl,
   )
 
--- the next piece of what is left
+-- the next piece of the remaining bytes
 pub next_piece : (bytes rest : List ℕ) (count : ℕ) → rest ≡ drop (65536 * count) bytes → 0 < length rest
     → (piece_of bytes count ≡ Some (take (min 65536 (length rest)) rest)) × (drop (min 65536 (length rest)) rest ≡ drop (65536 * (count + 1)) bytes)
 next_piece bytes rest count is some =

@@ -1,4 +1,4 @@
--- A file's bytes, gathered piece by piece.
+-- A file's bytes, collected piece by piece.
 use Rattle.std.proofs.Common.{◌≡◌, ◌⊎◌, inl, inr, ℕ, ◌+◌, ◌-◌, ◌*◌, ◌<◌, ◌≤◌, List, [], ◌++◌, take, drop, length, min, true, Some, None, IsTrue, length-append, arith, refl, sym, ap, subst, ◌∙◌}
 use Rattle.std.specs.Prelude.{nat_lt}
 use Rattle.std.proofs.lemmas.Bool.{cases_Bool, ltb-true, ltb-false, lt-ltb}
@@ -13,7 +13,7 @@ use Rattle.sqltables.specs.Pieces.{HasPiece, AreBytesOf}
 use Rattle.sqltables.proofs.Building.{survives_then, survives_itself, keeps_then}
 use Rattle.sqltables.proofs.Runs.{itself_keeps}
 
--- ---- pieces of bytes to which more come
+-- ---- pieces of bytes that are extended
 
 front_piece : (bytes more : List ℕ) (at : ℕ) → 65536 * at + 65536 ≤ length bytes → piece_of (bytes ++ more) at ≡ piece_of bytes at
 front_piece bytes more at within =
@@ -33,7 +33,7 @@ no_piece bytes at all = elim (cases_Bool (nat_lt (65536 * at) (length bytes))) [
   | inr beyond ↦ rw beyond
 ]
 
--- ---- what has been read
+-- ---- what was read
 
 -- the file opens with our schema
 pub record OpensOurs (v : Version) (s : State) : Type 0 where
@@ -41,7 +41,7 @@ pub record OpensOurs (v : Version) (s : State) : Type 0 where
   pub schema : IsTrue s.is_open → s.now.schema ≡ v.schema
   pub inside : IsTrue s.in_transaction
 
--- so many pieces were read, which are these bytes
+-- `count` pieces were read, and together they are these bytes
 pub record Gathered (entry now : State) (place : Place) (size : ℕ) (bytes : List ℕ) (count : ℕ) : Type 0 where
   pub uncommitted : HasCleanDisk now → IsTrue entry.in_transaction → KeepsCommit entry now
   pub survives : Survives entry now (λ db. ⊥)
@@ -90,7 +90,7 @@ module _ (entry mid : State) (place : Place) (size : ℕ) (bytes : List ℕ) (co
       none (take 65536 (drop (65536 * count) other))
       (subst (λ db. HasPiece (db.trees 9) place count (take 65536 (drop (65536 * count) other))) (sym (g.same v ours clean)) (are.pieces count (take 65536 (drop (65536 * count) other)) (rw long refl)))
 
--- what the question for the next piece says
+-- the answer to the query for the next piece
 pub record ReadsNext (mid now : State) (place : Place) (at : ℕ) (piece : List ℕ) : Type 0 where
   pub read : (v : Version) → OpensOurs v mid → (IsTrue mid.is_open → IsWhole mid.now) → HasCleanDisk now → HasPiece (mid.now.trees 9) place at piece
   pub same : (v : Version) → OpensOurs v mid → HasCleanDisk now → now.now ≡ mid.now

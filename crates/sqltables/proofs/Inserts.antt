@@ -1,4 +1,4 @@
--- What an INSERT of VALUES does to any table that has no AUTOINCREMENT.
+-- What an INSERT with VALUES does to any table without AUTOINCREMENT.
 use Rattle.std.proofs.Common.{◌≡◌, ℕ, List, [], ◌/◌, length, slice_get, false, Option, None, Some, Ok, sym, ap, subst, ◌∙◌}
 use Rattle.sqlite_value.specs.Order.{Row}
 use Rattle.sqlite_trees.specs.Tree.{Trees}
@@ -20,12 +20,12 @@ use Rattle.sqlite.specs.Does.{Tally, Does, AtPlace, OnRows}
 use Rattle.sqlite.proofs.Callers.{one_step}
 use Rattle.sqltables.proofs.Rows.{went, same_value}
 
--- the rows of VALUES went in, and the schema is as it was
+-- the rows of VALUES were inserted, and the schema is unchanged
 pub record InsertsRows (schema : Schema) (table : Table) (db : Trees) (after : Database) (sources : List Row) : Type 0 where
   pub same_schema : after.schema ≡ schema
   pub applied : Applies schema Enforced db (edit_of db table [] Chosen 0 sources) after.trees
 
--- a table with no AUTOINCREMENT, written so that the flag computes
+-- a table without AUTOINCREMENT, written so that the flag computes
 abbrev pub plain : Table → Table
 plain t = record t { is_counted = false }
 
@@ -50,7 +50,7 @@ inserts schema t at found limit mode base after terms width text params tally en
     let same : Applies schema Enforced db (edit sources) written.0 = subst (λ rows. Applies schema Enforced db (edit rows) written.0) given.1.1 applied in
     record { same_schema = ap (λ (d : Database). d.schema) now; applied = subst (Applies schema Enforced db (edit sources)) (sym trees ∙ ap (λ (d : Database). d.trees) (sym now)) same }
 
--- ---- INSERT of what a query shows
+-- ---- INSERT of the rows that a query shows
 
 pub record InsertsShown (schema : Schema) (table : Table) (db : Database) (body : Query) (params : Row) (after : Database) : Type 0 where
   pub shown : List Row

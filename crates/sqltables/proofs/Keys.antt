@@ -1,4 +1,4 @@
--- Keys that a Boolean test tells apart, and the maps that change at one of them.
+-- Keys that a Boolean test distinguishes, and the maps that change at one of them.
 use Rattle.std.proofs.Common.{◌≡◌, inl, inr, ℕ, List, Bool, true, false, Option, None, Some, Ordering, Less, Equal, Greater, refl, sym, ap, ◌∙◌}
 use Rattle.std.specs.Prelude.{nat_eq}
 use Rattle.std.specs.Ordering.{nat_cmp, eq_by_cmp, is_eq}
@@ -11,7 +11,7 @@ use Rattle.sigtext.specs.Bytes.{same_bytes}
 use Rattle.sqltables.specs.Tables.{same_place, same_part, same_limit, put}
 use Rattle.sqltables.proofs.Maps.{Adds, Sets}
 
--- the test is true exactly of a value and itself
+-- the test is true exactly if both values are the same
 pub record Tells {K : Type 0} (same : K → K → Bool) : Type 0 where
   pub only : (a b : K) → same a b ≡ true → a ≡ b
   pub itself : (a : K) → same a a ≡ true
@@ -52,7 +52,7 @@ is_equal Less h = cc
 is_equal Equal h = refl
 is_equal Greater h = cc
 
--- SQL's = between texts, and the specs' test
+-- SQL's = between texts agrees with the specs' test
 pub by_order : (a b : List ℕ) → same_bytes a b ≡ eq_by_cmp (slice_cmp nat_cmp) a b
 by_order a b = lists_ties nat_cmp unsigned_ties a b
 

@@ -1,4 +1,4 @@
--- A finite map with one entry more, and the rows that mean it.
+-- A finite map with one more entry, and the rows that mean it.
 use Rattle.std.proofs.Common.{◌≡◌, ◌⊎◌, inl, inr, ℤ, List, [], ◌∷◌, Bool, true, false, Option, Some, refl, sym, ap, subst, ◌∙◌}
 use Rattle.std.specs.Ordering.{is_eq}
 use Rattle.std.proofs.lemmas.Cmp.{tied_itself}
@@ -18,7 +18,7 @@ use Rattle.sqltables.proofs.Updates.{RowsChange, RowsGo}
 other_rowid : (rows : List Row) (a new : Row) → Has rows a → is_taken rows new ≡ false → rowid a ≡ rowid new → ⊥
 other_rowid rows a new has free same = let taken = some_from (λ r. is_eq (value_cmp (rowid r) (rowid new))) rows a has (rw same (ap is_eq (tied_itself value_cmp_total (rowid new)))) in cc
 
--- a row that was put where its rowid was free adds its entry
+-- a row that was inserted with an unused rowid adds its entry
 pub means_put : {K V : Type 0} {IsRow : Row → K → V → Type 0} {f : K → Option V} (g : K → Option V) (rows : List Row) (new : Row) (k : K) (v : V) (n : ℤ)
     → RowsMean IsRow f rows → IsRow new k v → rowid new ≡ Int n → Adds f g k v → are_fresh rows (new ∷ []) ≡ true → RowsMean IsRow g (put_all rows (new ∷ []))
 means_put {IsRow = IsRow} g rows new k v n means is key_is adds fresh =
@@ -116,7 +116,7 @@ module _ {K V : Type 0} {IsRow : Row → K → V → Type 0} {f : K → Option V
     ];
   }
 
--- the rows without those of the entries that pass
+-- the rows without those whose entries pass the test
 pub means_without : {K V : Type 0} {IsRow : Row → K → V → Type 0} {f : K → Option V} (test : K → Bool) (rows after : List Row) (p : Row → Bool)
     → RowsMean IsRow f rows → RowsGo rows after p → ((r : Row) (k : K) (v : V) → IsRow r k v → p r ≡ test k) → RowsMean IsRow (without test f) after
 means_without test rows after p means go agrees = record {

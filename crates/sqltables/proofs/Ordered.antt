@@ -1,4 +1,4 @@
--- What a query on one table shows in an order, and how much of it.
+-- What a query on one table shows in order, and how many of the rows.
 use Rattle.std.proofs.Common.{◌≡◌, ℕ, List, [], ◌∷◌, map, filter, Bool, true, false, cond, refl, sym, ap, subst, ◌∙◌}
 use Rattle.std.specs.List.{list_all, flat_map}
 use Rattle.std.specs.List.Sorted.{IsPermutation}
@@ -13,7 +13,7 @@ use Rattle.sqlite_sql.proofs.QueryLemmas.{output_cmp_total}
 use Rattle.sqlite_exec.proofs.PartitionLemmas.{ascending_from_sorted}
 use Rattle.sqltables.proofs.Forms.{query}
 
--- the rows of the table that pass, none before one that it is to follow, and the page of what is shown of them
+-- the rows of the table that pass, sorted by the query's order, and the page of what is shown of them
 pub record Arranged (q : Query) (rows : List Row) (given : Row) (shown : List Row) : Type 0 where
   pub found : List Row
   pub same : IsPermutation (filter (λ r. list_all (holds (given ∷ r ∷ [])) q.filter) rows) found

@@ -1,4 +1,4 @@
--- What the schemas of both versions have in common, and what a statement on one table leaves of the others.
+-- What the schemas of both versions have in common, and how a statement on one table leaves the others.
 use Rattle.std.proofs.Common.{◌≡◌, ◌≢◌, inl, inr, ℕ, ℤ, pos, List, length, Some, slice_get, arith, refl, sym, ap, subst}
 use Rattle.std.specs.List.{AllByRecursion}
 use Rattle.sqlite_trees.specs.Tree.{Trees}
@@ -9,7 +9,7 @@ use Rattle.sqlite_schema.specs.declared.command.Command.{Command}
 use Rattle.sqltables.proofs.Says.{Says, Asks, BothSay, BothAsk}
 use Rattle.sqltables.proofs.Restrict.{AllRestrict}
 
--- the tables but for one have the rows that they had
+-- all tables except one have the same rows as before
 pub record OthersStay (schema : Schema) (tree : ℕ) (db after : Trees) : Type 0 where
   pub office : 0 ≢ tree → after 0 ≡ db 0
   pub keys : 1 ≢ tree → after 1 ≡ db 1

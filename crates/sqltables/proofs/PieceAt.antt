@@ -1,4 +1,4 @@
--- What the question for a piece shows, whatever the database means.
+-- What the query for a piece shows, whatever the database means.
 use Rattle.std.proofs.Common.{◌≡◌, ◌&&◌, ℕ, ℤ, pos, List, [], ◌∷◌, true, Option, None, Some, option_map, slice_get, int_cmp, refl, sym, ap, subst, ◌∙◌}
 use denote.Bor.{Bor}
 use Rattle.std.specs.List.{list_all}
@@ -26,7 +26,7 @@ use Rattle.sqltables.proofs.Rows.{equal_texts, equal_integers}
 use Rattle.sqltables.proofs.Keys.{tells_bytes, by_order, is_equal}
 use Rattle.sqltables.proofs.PieceColumns.{PieceColumns, piece_columns}
 
--- a list without a first item
+-- a list without a first item is empty
 pub nothing_first : {X : Type 0} (first : Option (Bor X)) (xs : List X) → option_map (λ x. x.now) first ≡ slice_get xs 0 → ((x : Bor X) → first ≡ Some x → ⊥) → xs ≡ []
 nothing_first None [] e none = refl
 nothing_first None (x ∷ xs) e none = cc
@@ -41,7 +41,7 @@ filter = is 1 0 ∷ is 2 1 ∷ is 3 2 ∷ []
 abbrev pub given : List ℕ → List ℕ → ℕ → Row
 given box name at = Text box ∷ Text name ∷ Int (pos at) ∷ []
 
--- WHERE passes the row of this piece alone
+-- WHERE passes only the row of this piece
 passes_part : (box name : List ℕ) (at : ℕ) (row : Row) (c : PieceColumns row)
     → list_all (holds (given box name at ∷ row ∷ [])) filter ≡ (same_bytes c.box.0 box && (same_bytes c.name.0 name && (is_eq (int_cmp c.part.0 (pos at)) && true)))
 passes_part box name at row c = rw (c.box.1, c.name.1, c.part.1, equal_texts c.box.0 box, equal_texts c.name.0 name, equal_integers c.part.0 (pos at), ← by_order c.box.0 box, ← by_order c.name.0 name)

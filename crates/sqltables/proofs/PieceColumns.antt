@@ -1,4 +1,4 @@
--- What the columns of the pieces are, in a database of the schema.
+-- The columns of the table of pieces, in a database of the schema.
 use Rattle.std.proofs.Common.{◌≡◌, ◌≢◌, ◌&&◌, inl, inr, Bool, None, ℕ, ℤ, pos, not, length, List, [], ◌∷◌, true, refl, sym, ap, subst, ◌∙◌}
 use Rattle.std.specs.List.{AllByRecursion}
 use Rattle.std.proofs.lemmas.Bool.{and_parts}
@@ -80,7 +80,7 @@ columns s db (a ∷ b ∷ []) typed there = absurd (there.1.1.1 refl)
 columns s db (a ∷ b ∷ c ∷ []) typed there = absurd (there.1.1.1 refl)
 columns s db (a ∷ b ∷ c ∷ d ∷ []) typed there = absurd (there.1.1.1 refl)
 
--- each row keeps these two rules in the table of pieces
+-- each row of the table of pieces obeys these two rules
 row_columns : (s : Schema) (db : Trees) → AllByRecursion (λ r. passes Datatype s db pieces_at r ≡ true) (db 9) → AllByRecursion (λ r. passes NotNull s db pieces_at r ≡ true) (db 9)
     → (row : Row) → Has (db 9) row → PieceColumns row
 row_columns s db typed present row there =

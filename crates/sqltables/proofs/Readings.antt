@@ -1,4 +1,4 @@
--- What is read of the rows that questions show.
+-- The values read from the rows that queries show.
 use Rattle.std.proofs.Common.{◌≡◌, inl, inr, ℕ, ◌+◌, ◌<◌, ◌≤◌, List, [], ◌∷◌, ◌++◌, map, take, length, get_or, eqb, Bool, true, false, IsTrue, All, pos, arith, refl, sym, ap, ◌∙◌}
 use Rattle.std.specs.List.{list_all, slice_split, AllByRecursion, join_with_byte}
 use Rattle.std.proofs.lemmas.Bool.{cases_Bool, and_parts, eqb-true}
@@ -33,7 +33,7 @@ pub days_are : (marks : List ℕ) (days : List Bool) → length marks ≡ 7 → 
     → eqb (get_or marks 0 0) 49 ∷ eqb (get_or marks 1 0) 49 ∷ eqb (get_or marks 2 0) 49 ∷ eqb (get_or marks 3 0) 49 ∷ eqb (get_or marks 4 0) 49 ∷ eqb (get_or marks 5 0) 49 ∷ eqb (get_or marks 6 0) 49 ∷ [] ≡ days
 days_are marks days long is = seven marks long ∙ ap (map (λ mark. eqb mark 49)) is ∙ open_days days
 
--- ---- texts between commas
+-- ---- texts separated by commas
 
 module _ {X : Type 0} (bytes : X → List ℕ) where
   pub one_more : (pieces : List (List ℕ)) (n next : ℕ) (piece : List ℕ) (texts others : List X) (text : X) → (n < length pieces) × (piece ≡ get_or pieces n piece) → map bytes texts ≡ take n pieces

@@ -1,4 +1,4 @@
--- What holds anyway holds of an answer, and of an error.
+-- What holds unconditionally holds for a success and for an error.
 use Rattle.std.proofs.Common.{Result, Ok, Err, OnOk, OnErr}
 
 pub at_error : {X E P : Type 0} (r : Result X E) → P → OnErr r P

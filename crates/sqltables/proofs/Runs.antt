@@ -1,4 +1,4 @@
--- What statements and queries inside a transaction leave, whatever became of them.
+-- The effects of statements and queries inside a transaction, whatever their result.
 use Rattle.std.proofs.Common.{◌≡◌, ◌⊎◌, inl, inr, ℕ, List, Option, Bool, true, false, cond, None, Some, Result, Ok, Err, IfOk, IfErr, OnOk, IsTrue, refl, sym, ap, subst, ◌∙◌}
 use Rattle.std.proofs.lemmas.Bool.{cases_Bool}
 use Rattle.sqlite_value.specs.Order.{Row}
@@ -70,7 +70,7 @@ pub query_keeps : {X : Type 0} (rows_of : X → List Row) (sql : List ℕ) (para
 query_keeps rows_of sql params old new (Ok x) inside ok err = (shown_keeps sql params old new (rows_of x) inside ok).1
 query_keeps rows_of sql params old new (Err e) inside ok err = query_err_keeps sql params old new e err
 
--- ---- a query that was answered
+-- ---- a successful query
 
 rows_run : (old new : State) (sql : List ℕ) (c : Compiled) (params : Row) (rows : List Row) (o : Option Returning) → ShowsRows old new sql c params rows o
     → IsTrue old.is_open × IsTrue new.is_open × (new.in_transaction ≡ old.in_transaction)

@@ -1,4 +1,4 @@
--- What is known of a connection that a query was answered over.
+-- What is known about a connection over which a query succeeded.
 use Rattle.std.proofs.Common.{◌≡◌, None, Some, Option, List, ℕ, IsTrue, sym, ap, subst, ◌∙◌}
 use Rattle.sqlite_value.specs.Order.{Row}
 use Rattle.sqlite_schema.specs.declared.command.Command.{Command}

@@ -1,4 +1,4 @@
--- The file that stands in a sound state, its receipt, and what tables tell of them.
+-- The file at a place in a sound state, its receipt, and what the tables say about them.
 use Rattle.std.proofs.Common.{◌≡◌, ℕ, ◌+◌, List, length, Option, Some, None, Result, Ok, Err, IfOk, option_map, option_and_then, slice_get, refl, sym, ap, subst, ◌∙◌}
 use Rattle.std.specs.FinMap.{get}
 use Rattle.boxes.specs.declared.rows.ReceiptRow.{ReceiptRow}
@@ -16,7 +16,7 @@ pub if_ok_more : {X E : Type 0} (P Q : X → Type 0) (r : Result X E) → ((x : 
 if_ok_more P Q (Ok x) more h = more x h
 if_ok_more P Q (Err e) more h = tt
 
--- the file whose number stands in the tables
+-- the file whose number is in the tables
 pub record Standing (s : State) (place : Place) (number : ℕ) : Type 0 where
   pub file : File
   pub there : get s.files place ≡ Some file
@@ -43,7 +43,7 @@ module _ (s : State) (sound : IsSound s) (place : Place) (number : ℕ) (it : St
   abbrev pub kept : IsFileOf s place it.file
   kept = sound.files place it.file it.there
 
-  -- where its receipt stands
+  -- the position of its receipt
   pub listed_at : number ≡ kept.listed.place + 1
   listed_at = sym it.number_is ∙ kept.listed.counted
 
@@ -57,7 +57,7 @@ module _ (s : State) (sound : IsSound s) (place : Place) (number : ℕ) (it : St
         receipt = λ q is. let same : r ≡ q = cc in subst (λ (x : ReceiptRow). HasReceipt s x.number (receipt_in x)) same (record { place = kept.listed.place; counted = n ∙ listed_at; listed = sym e });
       }
 
--- the receipt that was found tells the length
+-- the receipt that was found gives the length
 module _ (s : State) (sound : IsSound s) (place : Place) (r : ReceiptRow) (found : IsReceiptAt s place (Some r)) where
   pub there_too : (o : Option File) → get s.files place ≡ o → (f : File) × (get s.files place ≡ Some f) × (r.number ≡ f.receipt)
   there_too None none = let e = found.there ∙ ap (option_map (λ f. f.receipt)) none in cc

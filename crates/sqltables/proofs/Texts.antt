@@ -257,7 +257,7 @@ list_office_is = (
   record { says = record { is = refl; plain = (refl, refl) }; unlisted = refl },
 )
 
--- also where the tables behind the first are not there yet
+-- also if the tables after the first do not exist yet
 list_office_all : AllByRecursion (λ s. Asks s list_office list_office_command) begun_schemas
 unfolding understood everything
 list_office_all = (record { says = record { is = refl; plain = (refl, refl) }; unlisted = refl }, (record { says = record { is = refl; plain = (refl, refl) }; unlisted = refl }, (record { says = record { is = refl; plain = (refl, refl) }; unlisted = refl }, (record { says = record { is = refl; plain = (refl, refl) }; unlisted = refl }, (record { says = record { is = refl; plain = (refl, refl) }; unlisted = refl }, (record { says = record { is = refl; plain = (refl, refl) }; unlisted = refl }, (record { says = record { is = refl; plain = (refl, refl) }; unlisted = refl }, (record { says = record { is = refl; plain = (refl, refl) }; unlisted = refl }, (record { says = record { is = refl; plain = (refl, refl) }; unlisted = refl }, tt)))))))))

@@ -1,4 +1,4 @@
--- What an UPDATE does to a table where it keeps each rowid, as sets of rows.
+-- What an UPDATE that keeps each rowid does to a table, as sets of rows.
 use Rattle.std.proofs.Common.{◌≡◌, ◌⊎◌, inl, inr, ℕ, ℤ, List, [], ◌∷◌, map, slice_get, Bool, Ordering, Less, Equal, Greater, true, false, Option, None, Some, Ok, refl, sym, ap, subst, ◌∙◌}
 use Rattle.std.proofs.lemmas.Bool.{not-true, false_from_ne_true}
 use Rattle.std.proofs.lemmas.Cmp.{tied_itself}
@@ -30,14 +30,14 @@ use Rattle.sqltables.proofs.Rows.{went, same_value}
 use Rattle.sqltables.proofs.Inserts.{plain}
 pub use Rattle.sqltables.specs.Tables.{HaveRowids}
 
--- the rows that were selected, and the edit that was made of them
+-- the selected rows, and the edit that changed them
 pub record UpdatesRows (schema : Schema) (table : Table) (db : Database) (body : Query) (params : Row) (after : Database) : Type 0 where
   pub selected : List Row
   pub answers : Answers (record { schema = schema; trees = db.trees }) (record { lets = []; body = body }) params selected
   pub written : Writes schema Enforced db.trees (edit_of db.trees table (ids_of selected) Given 1 selected) (Ok after.trees)
   pub same_schema : after.schema ≡ schema
 
--- the rows that were selected, and the edit that took them out
+-- the selected rows, and the edit that deleted them
 pub record DeletesRows (schema : Schema) (table : Table) (db : Database) (body : Query) (params : Row) (after : Database) : Type 0 where
   pub selected : List Row
   pub answers : Answers (record { schema = schema; trees = db.trees }) (record { lets = []; body = body }) params selected
@@ -116,7 +116,7 @@ pub record RowsChange (rows after : List Row) (p : Row → Bool) (upd : Row → 
   pub stays : (r : Row) → Has rows r → p r ≡ false → Has after r
   pub changed : (r : Row) → Has rows r → p r ≡ true → Has after (upd r)
 
--- Rows that pass a test go, and the others stay.
+-- Rows that pass a test are deleted, and the others stay.
 pub record RowsGo (rows after : List Row) (p : Row → Bool) : Type 0 where
   pub each : (x : Row) → Has after x → Has rows x × (p x ≡ false)
   pub stays : (r : Row) → Has rows r → p r ≡ false → Has after r
@@ -128,7 +128,7 @@ pub record AreSelected (rows selected : List Row) (p : Row → Bool) (show : Row
   pub keeps : (r : Row) → rowid (show r) ≡ rowid r
 
 module _ (rows selected : List Row) (p : Row → Bool) (show : Row → Row) (apart : HaveRowids rows) (are : AreSelected rows selected p show) where
-  -- a selected rowid is that of a row that passes
+  -- a selected rowid belongs to a row that passes
   selected_id : (id : ℤ) → Has (ids_of selected) id → (r : Row) × Has rows r × (p r ≡ true) × (rowid r ≡ Int id)
   selected_id id has =
       let s = has_mapped (λ (r : Row). id_in (rowid r)) selected id has in
@@ -167,7 +167,7 @@ module _ (rows selected : List Row) (p : Row → Bool) (show : Row → Row) (apa
         changed = λ r has passes. is_in (cast (show r)) (put_all_adds news left (cast (show r)) fresh (mapped_has cast selected (show r) (are.complete r has passes)));
       }
 
-  -- a row that is left does not pass
+  -- a row that remains does not pass
   left_fails : (x : Row) → Has (without_all rows (ids_of selected)) x → Has rows x → p x ≡ false
   left_fails x was there = false_from_ne_true (p x) (λ passes.
       let n = apart.keyed x there in

@@ -4,7 +4,7 @@ use Rattle.sigtext.specs.Bytes.{same_bytes}
 use Rattle.boxes.specs.State.{Key, Place, Receipt, Limit}
 use Rattle.sqltables.specs.Tables.{Tables, Box, Part, put, without, same_place, same_part, same_limit, piece_of}
 
--- no row but that of the office, and that of its allowance
+-- no rows except the office's row and the row with its allowance
 abbrev pub no_rows : ℤ → ℕ → Tables
 no_rows offset allowance = record {
   offset = offset;
@@ -32,7 +32,7 @@ with_receipt tables at r = record tables { receipt = put nat_eq tables.receipt a
 abbrev pub with_piece : Tables → Part → List ℕ → Tables
 with_piece tables part bytes = record tables { piece = put same_part tables.piece part bytes }
 
--- the first pieces of these bytes stand, and no others of this place
+-- the first `count` pieces of these bytes exist, and no others at this place
 abbrev pub with_pieces : Tables → Place → List ℕ → ℕ → Tables
 with_pieces tables place bytes count = record tables {
   piece = λ part. if same_place part.place place then (if nat_lt part.at count then piece_of bytes part.at else None) else tables.piece part;
@@ -44,7 +44,7 @@ without_pieces tables place = record tables { piece = without (λ part. same_pla
 abbrev pub with_totals : ℕ → ℕ → Box → Box
 with_totals used count box = record box { used = used; count = count }
 
--- it closes at this moment
+-- the box closes at this moment
 abbrev pub closing_at : ℕ → Box → Box
 closing_at moment box = record box { settings = record box.settings { closes = moment } }
 
@@ -57,15 +57,15 @@ pub record Adds {K V : Type 0} (f g : K → Option V) (k : K) (v : V) : Type 0 w
   pub still : (q : K) (w : V) → f q ≡ Some w → g q ≡ Some w
   pub either : (q : K) (w : V) → g q ≡ Some w → ((q ≡ k) × (w ≡ v)) ⊎ (f q ≡ Some w)
 
--- one piece more, and all else is as it was
+-- one more piece is there, and everything else is unchanged
 abbrev pub AddsPiece : Tables → Tables → Part → List ℕ → Type 0
 AddsPiece tables after part bytes = Adds tables.piece after.piece part bytes × (after ≡ record tables { piece = after.piece })
 
--- no piece of this place stands
+-- no piece exists at this place
 abbrev pub NoPieces : Tables → Place → Type 0
 NoPieces tables place = (at : ℕ) → tables.piece (record { place = place; at = at }) ≡ None
 
--- the pieces of this place are those of these bytes
+-- the pieces at this place are those of these bytes
 abbrev pub with_bytes : Tables → Place → List ℕ → Tables
 with_bytes tables place bytes = record tables { piece = λ part. if same_place part.place place then piece_of bytes part.at else tables.piece part }
 
@@ -75,11 +75,12 @@ with_file tables place number = record tables { file = put same_place tables.fil
 abbrev pub without_file : Tables → Place → Tables
 without_file tables place = record tables { file = without (λ q. same_place q place) tables.file }
 
--- what `drop a file` writes: its pieces and its row go, and the totals come
+-- what `drop a file` writes: the file's pieces and its row are deleted, and the totals are updated
 abbrev pub with_drop : Tables → Place → Box → Tables
 with_drop tables place box = with_box (without_file (without_pieces tables place) place) place.box box
 
--- what `set a file` writes: the old pieces go, the row of `files` is set, the receipt, the new pieces and the totals come
+-- what `set a file` writes: the old pieces are deleted, the row of `files` is set,
+-- and the receipt, the new pieces and the totals are written
 abbrev pub with_upload : Tables → Place → List ℕ → ℕ → Receipt → Box → Tables
 with_upload tables place bytes at r box =
     with_box (with_bytes (with_file (with_receipt (without_pieces tables place) at r) place (at + 1)) place bytes) place.box box

@@ -6,7 +6,7 @@ use Rattle.boxes.specs.Sound.{IsSound}
 use Rattle.sqltables.specs.Schema.{v2}
 use Rattle.sqltables.specs.Means.{Means, OfficeMeans}
 
--- The tables mean this state, which is sound: rows of tables may mean more than one state that is not.
+-- The tables mean this sound state. Rows of tables may mean more than one unsound state.
 pub record KeepsState (s : State) (office : Office) : Type 0 where
   pub means : Means v2 s office
   pub sound : IsSound office
@@ -22,6 +22,6 @@ pub record MayLeave (s : State) (office : Office) : Type 0 where
   pub left : s.may_leave trees
   pub keep : RowsKeep trees office
 
--- whatever a crash now leaves means a state
+-- whatever a crash now leaves means a sound state
 abbrev pub LeavesStates : State → Type 0
 LeavesStates s = HasCleanDisk s → (trees : Trees) → s.may_leave trees → (office : Office) × RowsKeep trees office

@@ -1,4 +1,4 @@
--- Rows mean one sound state at most.
+-- Rows mean at most one sound state.
 use Rattle.std.proofs.Common.{◌≡◌, inl, inr, ℕ, zero, suc, ◌+◌, ◌*◌, ℤ, pos, List, [], ◌∷◌, ◌++◌, take, drop, length, Bool, true, false, Option, None, Some, option_map, option_and_then, slice_get, arith, refl, sym, ap, subst, ◌∙◌, IsTrue}
 use Rattle.std.specs.List.{AllByRecursion}
 use Rattle.std.specs.FinMap.{get, same_map}
@@ -25,9 +25,9 @@ use Rattle.sqltables.specs.Schema.{Version, IsVersion, second_version, v2}
 use Rattle.sqltables.specs.Tables.{Box, Part, RowsMean, IsOfficeRow, IsKeyRow, IsBoxRow, IsReceiptRow, IsFileRow, IsPieceRow, IsRulesRow, IsLimitRow, TablesMean, tables_of, flag, role_number, mode_number, rule_number, rule_text, joined, days_text, piece_of}
 use Rattle.sqltables.specs.Kept.{KeepsState, RowsKeep}
 
--- ---- rows, and the look-ups that they mean
+-- ---- rows, and the lookups that they mean
 
--- P and Q: what is known of the values
+-- P and Q: what is known about the values
 module _ {K V : Type 0} {IsRow : Row → K → V → Type 0} (P : V → Type 0) (one : (row : Row) (k q : K) (v w : V) → IsRow row k v → IsRow row q w → P v → P w → (k ≡ q) × (v ≡ w)) (rows : List Row) where
   finds_too : (f g : K → Option V) → ((k : K) (v : V) → f k ≡ Some v → P v) → ((k : K) (v : V) → g k ≡ Some v → P v) → RowsMean IsRow f rows → RowsMean IsRow g rows
       → (k : K) (v : V) → f k ≡ Some v → g k ≡ Some v
@@ -92,7 +92,7 @@ same_days (true ∷ xs) (false ∷ ys) e = let head : ◌≡◌ {A = ℕ} 0x31 0
 same_days (false ∷ xs) (true ∷ ys) e = let head : ◌≡◌ {A = ℕ} 0x30 0x31 = cc in let none : ⊥ = omega (arith, head) in absurd none
 same_days (false ∷ xs) (false ∷ ys) e = let tail : days_text xs ≡ days_text ys = cc in ap (◌∷◌ false) (same_days xs ys tail)
 
--- ---- texts with commas between them
+-- ---- texts separated by commas
 
 abbrev All : List ℕ → Type 0
 All t = list_all is_rule_byte t ≡ true
@@ -218,9 +218,9 @@ one_limit row k q v w a b x y =
     let box = text_of k.box q.box (sym a.box_is ∙ b.box_is) in
     (λ i. record { key = key i; box = box i }, refl)
 
--- ---- bytes, and their pieces
+-- ---- bytes and their pieces
 
--- the bytes of a piece, if there is one
+-- the bytes of a piece, if it exists
 abbrev bytes_in : Option (List ℕ) → List ℕ
 bytes_in None = []
 bytes_in (Some bytes) = bytes
@@ -244,7 +244,7 @@ same_pieces xs ys same =
     let n = length xs + length ys in
     sym (take_all (65536 * n) xs (omega arith)) ∙ same_fronts xs ys same n ∙ take_all (65536 * n) ys (omega arith)
 
--- ---- the whole
+-- ---- the whole state
 
 same_list : {X : Type 0} (xs ys : List X) → ((i : ℕ) → slice_get xs i ≡ slice_get ys i) → xs ≡ ys
 same_list [] [] h = refl
@@ -252,7 +252,7 @@ same_list [] (y ∷ ys) h = let e = h 0 in cc
 same_list (x ∷ xs) [] h = let e = h 0 in cc
 same_list (x ∷ xs) (y ∷ ys) h = let e = h 0 in let head : x ≡ y = cc in let rest = same_list xs ys (λ i. h (suc i)) in rw (head, rest)
 
--- a box is its settings
+-- a box is determined by its settings
 same_settings : (s t : State) (name : List ℕ) → (tables_of s).box name ≡ (tables_of t).box name → get s.boxes name ≡ get t.boxes name
 same_settings s t name e = go (get s.boxes name) (get t.boxes name) refl refl
   where
@@ -266,7 +266,7 @@ same_settings s t name e = go (get s.boxes name) (get t.boxes name) refl refl
         let same : v ≡ w = cc in
         x ∙ ap Some same ∙ sym y
 
--- a file is its number and its pieces
+-- a file is determined by its number and its pieces
 same_file : (a b : Option File) → option_map (λ f. f.receipt) a ≡ option_map (λ f. f.receipt) b → ((n : ℕ) → option_and_then (λ f. piece_of f.bytes n) a ≡ option_and_then (λ f. piece_of f.bytes n) b) → a ≡ b
 same_file None None e h = refl
 same_file None (Some y) e h = cc
@@ -316,11 +316,11 @@ one_office v ours trees a b sound other one two =
     let receipts = same_list a.receipts b.receipts receipt in
     λ i. record { offset = east i; allowance = allowance i; keys = keys i; boxes = boxes i; files = files i; receipts = receipts i; limits = limits i }
 
--- rows that a crash leaves mean one sound state
+-- the rows that a crash leaves mean only one sound state
 pub one_left : (trees : Trees) (a b : State) → RowsKeep trees a → RowsKeep trees b → a ≡ b
 one_left trees a b one two = one_office v2 second_version trees a b one.sound two.sound one.means.means two.means.means
 
--- an open file means one state
+-- an open file means only one state
 pub one_kept : (s : sql.State) (a b : State) → HasCleanDisk s → IsTrue s.is_open → KeepsState s a → KeepsState s b → a ≡ b
 one_kept s a b clean is_open one two =
     let first = ((one.means clean).tables is_open).holds in

@@ -1,4 +1,4 @@
--- What questions show.
+-- What queries show.
 use Rattle.std.specs.Prelude.{◌≡◌, ℕ, ℤ, suc, zero, pos, List, [], ◌∷◌, map, true, Option, Some, None, IsSome, option_map}
 use Rattle.std.specs.FinSet.{len, from_list}
 use Rattle.sqlite_value.specs.declared.value.Value.{Value}
@@ -14,7 +14,7 @@ use Rattle.boxes.specs.Rows.{receipt_in}
 use Rattle.sqlite.specs.State.{State, Shown}
 use Rattle.sqltables.specs.Tables.{Tables, Box, role_number, flag, days_text, mode_number, rule_number, rule_text}
 
--- the number of the last of so many receipts, if there is one
+-- the number of the last of this many receipts, if there is one
 abbrev pub last_rows : ℕ → List Row
 last_rows zero = []
 last_rows (suc n) = (Int (pos (suc n)) ∷ []) ∷ []
@@ -39,19 +39,19 @@ shown_receipt r = Text r.box ∷ Text r.name ∷ Int (pos r.size) ∷ Blob r.dig
 abbrev pub shown_number : ℕ → Row
 shown_number n = Int (pos n) ∷ []
 
--- the last of the rows that the query shows, if it shows one
+-- the last of the rows that the query shows, if it shows any
 pub record ShowsRow (sql : List ℕ) (given : Row) (old new : State) (row : Option Row) : Type 0 where
   pub rows : List Row
   pub shown : Shown sql given old new rows
   pub some : (r : Row) → row ≡ Some r → Has rows r
   pub none : row ≡ None → rows ≡ []
 
--- what a box holds, where it is there; else nothing
+-- the totals of a box if it exists, otherwise zero
 abbrev pub AreTotalsOf : Option Box → Totals → Type 0
 AreTotalsOf None t = (t.used ≡ 0) × (t.count ≡ 0)
 AreTotalsOf (Some b) t = (t.used ≡ b.used) × (t.count ≡ b.count)
 
--- the receipt with its number, where it is there
+-- the receipt with its number, if it exists
 abbrev pub IsReceiptOf : ℕ → Option Receipt → Option ReceiptRow → Type 0
 IsReceiptOf number there found = (option_map receipt_in found ≡ there) × ((r : ReceiptRow) → found ≡ Some r → r.number ≡ number)
 
@@ -64,7 +64,7 @@ shown_name name = Text name ∷ []
 abbrev pub HasLimit : Tables → List ℕ → List ℕ → Type 0
 HasLimit tables key box = IsSome (tables.limit (record { key = key; box = box }))
 
--- the key's set of boxes is empty, or holds this box
+-- the key's set of boxes is empty or holds this box
 abbrev pub ReachesBox : Tables → List ℕ → List ℕ → Type 0
 ReachesBox tables key box = (other : List ℕ) × HasLimit tables key other → HasLimit tables key box
 
@@ -73,17 +73,17 @@ pub record AreLimits (lookup : Limit → Option (Unit {0})) (key : List ℕ) (ro
   pub sound : (row : Row) → Has rows row → (box : List ℕ) × (row ≡ shown_name box) × IsSome (lookup (record { key = key; box = box }))
   pub complete : (box : List ℕ) → IsSome (lookup (record { key = key; box = box })) → Has rows (shown_name box)
 
--- ---- the unrevoked clerk's keys
+-- ---- the unrevoked clerk keys
 
 abbrev pub shown_id : List ℕ → Row
 shown_id id = Text id ∷ []
 
--- the rows, as a set, are the ids of the unrevoked clerk's keys
+-- the rows, as a set, are the ids of the unrevoked clerk keys
 pub record AreActing (lookup : List ℕ → Option Key) (rows : List Row) : Type 0 where
   pub sound : (row : Row) → Has rows row → (id : List ℕ) × (key : Key) × (row ≡ shown_id id) × (lookup id ≡ Some key) × (is_acting key ≡ true)
   pub complete : (id : List ℕ) (key : Key) → lookup id ≡ Some key → is_acting key ≡ true → Has rows (shown_id id)
 
--- the bytes of a text; a value that is no text has none
+-- the bytes of a text; empty for a value that is not a text
 abbrev pub text_in : Value → List ℕ
 text_in Null = []
 text_in (Int n) = []
@@ -94,12 +94,12 @@ text_in (Blob bytes) = []
 abbrev pub first_text : Row → List ℕ
 first_text row = text_in (column row 0)
 
--- a row has this text first
+-- the first column of some row is this text
 pub record ShowsText (rows : List Row) (text : List ℕ) : Type 0 where
   pub row : Row
   pub there : Has rows row
   pub first : first_text row ≡ text
 
--- how many different texts stand first in the rows
+-- how many different texts the first columns of the rows hold
 abbrev pub different_texts : List Row → ℕ
 different_texts rows = len (from_list {R = bytes_cmp} (map first_text rows))

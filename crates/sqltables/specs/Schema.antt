@@ -1,4 +1,4 @@
--- The tables of an office, as their CREATE statements make them, in this order.
+-- The tables of an office in the order in which their CREATE statements make them.
 use Rattle.std.specs.Prelude.{◌≡◌, ◌⊎◌, true, false, [], ◌∷◌, Some, None, codes, List, ℕ, ℤ, pos, negsuc}
 use Rattle.std.proofs.Common.{inl, inr, refl}
 use Rattle.sqlite_value.specs.declared.keys.Collation.TheVariants.{Binary}
@@ -27,15 +27,15 @@ text name = column name Text
 abbrev pub blob : List ℕ → Column
 blob name = column name Blob
 
--- the integer in this place of a row (0 is the rowid) lies between these two
+-- the integer in this column of a row (0 is the rowid) lies between these two, inclusive
 abbrev pub between : ℕ → ℤ → ℤ → Term
 between place low high = op2 And (op2 (Compare Ge Binary) (col 1 place) (lit (Int low))) (op2 (Compare Le Binary) (col 1 place) (lit (Int high)))
 
--- these columns have the values that these columns of the other table's rows have
+-- these columns refer to these columns of the parent table
 abbrev pub refers : List ℕ → List ℕ → List (List ℕ) → Reference
 refers columns parent parent_columns = record { columns = columns; parent = parent; parent_columns = parent_columns; on_delete = Restrict; on_update = Restrict; is_deferred = false }
 
--- a table with these columns; the next line but one gives the keys
+-- a table with these columns; the two definitions below add the keys
 abbrev pub table : List ℕ → List Column → List Term → List Reference → Table
 table name columns checks references = record {
   name = name;
@@ -56,7 +56,7 @@ table name columns checks references = record {
 abbrev pub numbered : Table → Table
 numbered t = record t { key = Some 0; primary = 0 ∷ [] }
 
--- these columns are the key, and have an index of their own
+-- these columns are the primary key and have their own index
 abbrev pub keyed_by : List ℕ → Table → Table
 keyed_by places t = record t { primary = places; uniques = places ∷ []; orders = (record { digits = 0 }) ∷ [] }
 
@@ -102,7 +102,7 @@ key_box_table = keyed_by (1 ∷ 2 ∷ []) (table (codes "key_box") (text (codes 
 abbrev pub staged_table : Table
 staged_table = numbered (table (codes "staged") (integer (codes "part") ∷ blob (codes "bytes") ∷ []) [] [])
 
--- where the rows of `staged` lie in version 2
+-- the tree that holds the rows of `staged` in version 2
 abbrev pub staged_tree : ℕ
 staged_tree = 14
 
@@ -138,11 +138,11 @@ s8 = created s7 key_box_table
 abbrev pub s9 : Schema
 s9 = created s8 staged_table
 
--- the schemas with the table of the office itself, as the CREATE statements make them one after another
+-- the schemas that contain the office's own table, in the order in which the CREATE statements make them
 abbrev pub begun_schemas : List Schema
 begun_schemas = s1 ∷ s2 ∷ s3 ∷ s4 ∷ s5 ∷ s6 ∷ s7 ∷ s8 ∷ s9 ∷ []
 
--- what `version` in the office's row says, and the tables that go with it
+-- the value of `version` in the office's row, and the tables that go with it
 pub record Version : Type 0 where
   pub number : ℤ
   pub schema : Schema
@@ -153,7 +153,7 @@ v1 = record { number = pos 1; schema = s6 }
 abbrev pub v2 : Version
 v2 = record { number = pos 2; schema = s9 }
 
--- The versions that there are. What version 2 adds stands behind the tables of version 1.
+-- The existing versions. The tables that version 2 adds come after the tables of version 1.
 unfoldable pub IsVersion : Version → Type 0
 IsVersion v = (v ≡ v1) ⊎ (v ≡ v2)
 

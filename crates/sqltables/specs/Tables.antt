@@ -24,16 +24,16 @@ pub record Box : Type 0 where
   pub used : ℕ  -- in bytes
   pub count : ℕ
 
--- where a file of this name lies in this box
+-- the place of the file with this name in this box
 abbrev pub placed : List ℕ → List ℕ → Place
 placed in_box name = record { box = in_box; name = name }
 
--- where a piece of a file lies
+-- the place of a piece of a file
 pub record Part : Type 0 where
   pub place : Place
   pub at : ℕ
 
--- Each table by its key. No law ties one table to another.
+-- Each table as a map from its key. No law relates one table to another.
 pub record Tables : Type 0 where
   pub offset : ℤ
   pub allowance : ℕ
@@ -57,7 +57,7 @@ same_limit a b = same_bytes a.key b.key && same_bytes a.box b.box
 abbrev pub put : {K V : Type 0} → (K → K → Bool) → (K → Option V) → K → V → K → Option V
 put same f k v q = if same q k then Some v else f q
 
--- the map without the entries that pass
+-- the map without the entries whose keys pass the test
 abbrev pub without : {K V : Type 0} → (K → Bool) → (K → Option V) → K → Option V
 without test f q = if test q then None else f q
 
@@ -88,14 +88,14 @@ IsOf tables s = tables ≡ tables_of s
 
 -- ---- the tables in the database
 
--- The rows, as a set, are the entries of a map: each row is one entry, and each entry has a row. No two rows have one rowid.
+-- The rows, as a set, are the entries of a map: each row is one entry, and each entry has a row. No two rows have the same rowid.
 pub record RowsMean {K V : Type 0} (IsRow : Row → K → V → Type 0) (lookup : K → Option V) (rows : List Row) : Type 0 where
   pub each : (row : Row) → Has rows row → (k : K) × (v : V) × IsRow row k v × (lookup k ≡ Some v)
   pub all : (k : K) (v : V) → lookup k ≡ Some v → (row : Row) × Has rows row × IsRow row k v
   pub keyed : (row : Row) → Has rows row → (n : ℤ) × (rowid row ≡ Int n)
   pub apart : (a b : Row) → Has rows a → Has rows b → rowid a ≡ rowid b → a ≡ b
 
--- each rowid is a number, and no two rows have one
+-- each rowid is a number, and no two rows share one
 pub record HaveRowids (rows : List Row) : Type 0 where
   pub keyed : (row : Row) → Has rows row → (n : ℤ) × (rowid row ≡ Int n)
   pub apart : (a b : Row) → Has rows a → Has rows b → rowid a ≡ rowid b → a ≡ b
@@ -116,7 +116,7 @@ rule_number AnyName = pos 0
 rule_number (Ends texts) = pos 1
 rule_number (Begins text) = pos 2
 
--- texts with a comma between each two
+-- texts joined by commas
 abbrev pub joined : List (List ℕ) → List ℕ
 joined [] = []
 joined (t ∷ []) = t
@@ -130,7 +130,7 @@ rule_text (Begins text) = text
 abbrev pub days_text : List Bool → List ℕ
 days_text = map (λ d. if d then 0x31 else 0x30)
 
--- the one row
+-- the only row
 pub record IsOfficeRow (version : ℤ) (row : Row) (one : Unit {0}) (offset : ℤ) : Type 0 where
   pub id_is : column row 0 ≡ Int (pos 1)
   pub version_is : column row 2 ≡ Int version
@@ -187,11 +187,11 @@ pub record IsLimitRow (row : Row) (limit : Limit) (there : Unit {0}) : Type 0 wh
   pub key_is : column row 1 ≡ Text limit.key
   pub box_is : column row 2 ≡ Text limit.box
 
--- an office of version 1 lets no link begin early, and limits no key
+-- an office of version 1 lets no link begin early and limits no key
 abbrev pub IsUnlimited : Tables → Type 0
 IsUnlimited tables = (tables.allowance ≡ 0) × ((limit : Limit) → tables.limit limit ≡ None)
 
--- Each table's rows mean its map. Version 2 adds the two last; what is staged means nothing.
+-- The rows of each table mean its map. Version 2 adds the last two tables. What is staged means nothing.
 pub record TablesMean (v : Version) (trees : Trees) (tables : Tables) : Type 0 where
   pub office : RowsMean (IsOfficeRow v.number) (λ one. Some tables.offset) (trees 0)
   pub keys : RowsMean IsKeyRow tables.key (trees 1)
@@ -209,7 +209,7 @@ pub record TablesMean (v : Version) (trees : Trees) (tables : Tables) : Type 0 w
 abbrev pub NoneStaged : Trees → Type 0
 NoneStaged trees = trees staged_tree ≡ []
 
--- nothing is staged any more, and each other table has the rows that it had
+-- nothing is staged any more, and every other table has the same rows as before
 pub record IsEmptied (old new : Database) : Type 0 where
   pub schema : new.schema ≡ old.schema
   pub others : AllByRecursion (λ t. t.tree ≢ staged_tree → new.trees t.tree ≡ old.trees t.tree) old.schema.tables

@@ -1,4 +1,4 @@
-//! What a transaction is asked to run.
+//! Runs statements and queries in a transaction.
 
 ghost use Rattle.std.specs.Prelude.{IfOk, IsTrue, Ok};
 ghost use Rattle.sqlite.specs.State.{HasCleanDisk, ExecutesInside, Shown};
@@ -8,11 +8,11 @@ ghost use Rattle.sqltables.specs.Inside.{seen, GoesOnInside, GoesOnBegun};
 use sqlite::types::ValueRef;
 use sqlite::{Alter, Error, Row, Transaction};
 
-/// Runs a statement that writes, inside a transaction, and tells how many rows it wrote.
+/// Runs a statement that writes, inside a transaction, and returns how many rows it wrote.
 ///
 /// # Errors
 ///
-/// Those of the database; where the transaction is over, that of its state.
+/// The database's errors. If the transaction is over, the error for the transaction's state.
 pub fn execute<S: Alter>(
     tx: &mut Transaction<'_, S>,
     sql: &str,
@@ -31,7 +31,7 @@ pub fn execute<S: Alter>(
 ///
 /// # Errors
 ///
-/// Those of the database.
+/// The database's errors.
 pub fn query<S: Alter>(
     tx: &mut Transaction<'_, S>,
     sql: &str,

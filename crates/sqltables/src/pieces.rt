@@ -1,4 +1,4 @@
-//! The bytes of a file, read piece by piece inside a transaction. The database may mean no office.
+//! Reads the bytes of a file piece by piece, inside a transaction. The database need not mean an office.
 
 ghost use Rattle.std.specs.Prelude.{◌≡◌, ◌⊎◌, IsTrue, OnOk, IfOk};
 ghost use Rattle.sqlite.specs.State.{HasCleanDisk};
@@ -12,7 +12,7 @@ use crate::{MOST_BYTES, PIECE};
 use sqlite::{Alter, Error, ErrorCode, Transaction, params};
 use std::alloc::Global;
 
-/// One piece of a file, if it is there.
+/// One piece of a file, if it exists.
 pub fn read_piece<S: Alter>(
     tx: &mut Transaction<'_, S>,
     in_box: &str,
@@ -38,7 +38,7 @@ pub fn read_piece<S: Alter>(
     Ok(Some(piece))
 }
 
-/// The bytes of a file of this size, if each of its pieces is there. A piece of another length is `DatabaseCorrupt`.
+/// The bytes of a file of this size, if all its pieces exist. A piece with a wrong length is the error `DatabaseCorrupt`.
 pub fn read_file<S: Alter>(
     tx: &mut Transaction<'_, S>,
     alloc: Global,

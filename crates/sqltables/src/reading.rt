@@ -1,4 +1,4 @@
-//! Rows that questions show, as what they mean.
+//! Converts the rows that queries show to what they mean.
 
 ghost use Rattle.std.specs.Prelude.{◌≡◌, ◌==◌, List, Bool, map, pos, IfOk};
 ghost use Rattle.std.specs.List.{slice_split};
@@ -14,7 +14,7 @@ use boxes::{BoxRow, KeyRow, Mode, NameRule, ReceiptRow, Role};
 use sqlite::{Error, Row};
 use std::alloc::{AllocError, Global};
 
-/// A role by its number: 0 is a link's, 1 a clerk's. Another number is an error.
+/// Reads a role from its number: 0 is a link, 1 a clerk. Any other number is an error.
 fn read_role(row: &Row, at: usize) -> Result<Role, Error>
     ensures { IfOk result (λ role. column row.now at ≡ Int (role_number role)) }
 {
@@ -25,7 +25,7 @@ fn read_role(row: &Row, at: usize) -> Result<Role, Error>
     }
 }
 
-/// A flag by its number, 0 or 1. Another number is an error.
+/// Reads a flag from its number, 0 or 1. Any other number is an error.
 fn read_flag(row: &Row, at: usize) -> Result<bool, Error>
     ensures { IfOk result (λ is. column row.now at ≡ Int (flag is)) }
 {
@@ -36,7 +36,7 @@ fn read_flag(row: &Row, at: usize) -> Result<bool, Error>
     }
 }
 
-/// A mode by its number: 0 keeps, 1 replaces. Another number is an error.
+/// Reads a mode from its number: 0 is keep, 1 is replace. Any other number is an error.
 fn read_mode(row: &Row, at: usize) -> Result<Mode, Error>
     ensures { IfOk result (λ mode. column row.now at ≡ Int (mode_number mode)) }
 {
@@ -47,14 +47,14 @@ fn read_mode(row: &Row, at: usize) -> Result<Mode, Error>
     }
 }
 
-/// A text's bytes.
+/// The bytes of a text.
 pub fn read_text(row: &Row, at: usize) -> Result<Vec<u8>, Error>
     ensures { IfOk result (λ text. column row.now at ≡ Text text.items) }
 {
     Ok(row.get::<String>(at)?.into_bytes())
 }
 
-/// A minute of the day. A number over 65535 is an error.
+/// Reads a minute of the day. A number above 65535 is an error.
 fn read_minute(row: &Row, at: usize) -> Result<u16, Error>
     ensures { IfOk result (λ minute. column row.now at ≡ Int (pos minute)) }
 {
@@ -65,7 +65,7 @@ fn read_minute(row: &Row, at: usize) -> Result<u16, Error>
     }
 }
 
-/// A digest. Bytes that are not 32 are an error.
+/// Reads a digest. A length other than 32 bytes is an error.
 fn read_digest(row: &Row, at: usize) -> Result<[u8; 32], Error>
     ensures { IfOk result (λ digest. column row.now at ≡ Blob digest) }
 {
@@ -76,7 +76,7 @@ fn read_digest(row: &Row, at: usize) -> Result<[u8; 32], Error>
     }
 }
 
-/// The days that seven marks tell: `1` for a day on which a box is open.
+/// The days given by seven marks: `1` marks a day on which a box is open.
 pub fn days_told(marks: &[u8; 7]) -> [bool; 7]
     ensures { (days : List Bool) → marks.now ≡ days_text days → result ≡ days }
 {
@@ -100,7 +100,7 @@ pub fn days_told(marks: &[u8; 7]) -> [bool; 7]
     ]
 }
 
-/// The days of a box. A text that has not seven bytes is an error.
+/// Reads the days of a box. A text that is not seven bytes long is an error.
 fn read_days(row: &Row, at: usize) -> Result<[bool; 7], Error>
     ensures { (days : List Bool) → column row.now at ≡ Text (days_text days)
         → IfOk result (λ found. found ≡ days) }
@@ -112,7 +112,7 @@ fn read_days(row: &Row, at: usize) -> Result<[bool; 7], Error>
     }
 }
 
-/// The texts between a text's commas.
+/// Splits a text at its commas.
 pub fn cut_texts(alloc: Global, text: &[u8]) -> Result<Vec<Vec<u8>>, AllocError>
     ensures { IfOk result (λ texts. map (λ t. t.items) texts.items
         ≡ slice_split (λ b. b == 44) text.now) }
@@ -124,7 +124,7 @@ pub fn cut_texts(alloc: Global, text: &[u8]) -> Result<Vec<Vec<u8>>, AllocError>
     Ok(texts)
 }
 
-/// A name rule, of its number and its text: 0 takes all, 1 the texts' ends, 2 the text's beginning.
+/// Reads a name rule from its number and text: 0 accepts every name, 1 lists the allowed endings, 2 gives the required beginning.
 fn read_rule(row: &Row) -> Result<NameRule, Error>
     ensures { (rule : Rule) → IsNameRule rule → column row.now 8 ≡ Int (rule_number rule)
         → column row.now 9 ≡ Text (rule_text rule)
@@ -139,7 +139,7 @@ fn read_rule(row: &Row) -> Result<NameRule, Error>
     }
 }
 
-/// A key, of its role, secret and whether it is revoked.
+/// Reads a key: its role, its secret and whether it is revoked.
 pub fn read_key(row: &Row) -> Result<KeyRow, Error>
     ensures { (k : Key) → row.now ≡ shown_key k → IfOk result (λ key. key_of key ≡ k) }
 {
@@ -150,7 +150,7 @@ pub fn read_key(row: &Row) -> Result<KeyRow, Error>
     })
 }
 
-/// A box, of all that its row has beside its name.
+/// Reads a box from all columns of its row except the name.
 pub fn read_box(row: &Row) -> Result<BoxRow, Error>
     ensures { (b : Box) → row.now ≡ shown_box b → AreSettings b.settings
         → IfOk result (λ found. settings_of found ≡ b.settings) }
@@ -168,7 +168,7 @@ pub fn read_box(row: &Row) -> Result<BoxRow, Error>
     })
 }
 
-/// A receipt, of its number and all that its row has beside it.
+/// Reads a receipt from its number and the other columns of its row.
 pub fn read_receipt(row: &Row, number: u64) -> Result<ReceiptRow, Error>
     ensures { (r : Receipt) → row.now ≡ shown_receipt r
         → IfOk result (λ found. (receipt_in found ≡ r) × (found.number ≡ number)) }
@@ -184,7 +184,7 @@ pub fn read_receipt(row: &Row, number: u64) -> Result<ReceiptRow, Error>
     })
 }
 
-/// The days, Monday first: '1' for each on which the box is open, else '0'.
+/// The days, Monday first: '1' for a day on which the box is open, otherwise '0'.
 pub fn digits_of_days(days: [bool; 7]) -> [u8; 7]
     ensures value { result ≡ days_text days }
 {

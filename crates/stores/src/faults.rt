@@ -17,7 +17,7 @@ use trials::rows::holds;
 use trials::telling::told;
 
 /// Statements that damage an office of any version after `a_day`, and their repairs.
-pub(crate) const DAMAGES: [(&str, &str); 9] = [
+pub(crate) const DAMAGES: [(&str, &str); 10] = [
     (
         "UPDATE receipts SET number = 9 WHERE number = 4",
         "UPDATE receipts SET number = 4 WHERE number = 9",
@@ -45,6 +45,11 @@ pub(crate) const DAMAGES: [(&str, &str); 9] = [
     (
         "UPDATE pieces SET part = 2 WHERE part = 1",
         "UPDATE pieces SET part = 1 WHERE part = 2",
+    ),
+    // A file is empty by its receipt, and has a piece.
+    (
+        "UPDATE receipts SET length = 0, digest = x'e3b0c44298fc1c149afbf4c8996fb92427ae41e4649b934ca495991b7852b855' WHERE number = 3; UPDATE boxes SET used = used - 3 WHERE name = 'in'",
+        "UPDATE receipts SET length = 3, digest = x'ba7816bf8f01cfea414140de5dae2223b00361a396177a9cb410ff61f20015ad' WHERE number = 3; UPDATE boxes SET used = used + 3 WHERE name = 'in'",
     ),
     (
         "UPDATE keys SET id = 'k/2' WHERE id = 'k2'",

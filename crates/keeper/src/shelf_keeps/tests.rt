@@ -1,5 +1,5 @@
-//! One office in memory, change by change. A call to which memory is refused is made once more (`ci/memory.py` refuses
-//! each allocation in turn): its error must leave the office, and count one.
+//! One office in memory, change by change. `ci/test_memory.py` refuses each allocation in turn. A call that is refused
+//! memory is retried once. Its error must leave the office unchanged and be counted once.
 use crate::keep::{KeepFault, Keeper};
 use crate::shelf::{Shelf, has_room};
 use boxes::{BoxRow, Change, Command, Mode, NameRule, NewFile, OfficeRow, Role};
@@ -19,8 +19,8 @@ struct Tried {
     refused: u64,
 }
 
-// How much is kept: keys, clerks among them, boxes, files, receipts, what the box `in` holds, the boxes that the key
-// `lin` is limited to, and the allowance.
+// How much is kept: keys, unrevoked clerk's keys, boxes, files, receipts, the totals of the box `in`, the boxes that the
+// key `lin` is limited to, and the allowance.
 fn kept(shelf: &Shelf) -> [u64; 9] {
     let totals = shelf.totals_of(b"in");
     [
@@ -45,7 +45,7 @@ fn expect(holds: bool, else_wrong: &'static str) -> Result<(), Fail> {
 }
 
 impl Tried {
-    // An office whose clerk is `ann`, two hours west, that forgives no clock.
+    // An office with the clerk `ann`, two hours west of UTC, with an allowance of 0 seconds.
     fn new(alloc: Global) -> Result<Tried, Fail> {
         let office = OfficeRow {
             east: -120,
@@ -60,7 +60,7 @@ impl Tried {
         }
     }
 
-    // What a call gives, at the second time where memory was refused at the first.
+    // The result of a call. The call is made a second time if memory was refused the first time.
     fn call<T: Drop, F: Fn(&mut Shelf) -> Result<T, KeepFault>>(
         &mut self,
         call: F,
@@ -87,7 +87,7 @@ impl Tried {
         self.call(|shelf| shelf.apply(&change))
     }
 
-    // Stages the bytes, and does this behind.
+    // Stages the bytes, and then makes the call.
     fn staging<T: Drop, F: Fn(&mut Shelf) -> Result<T, KeepFault>>(
         &mut self,
         bytes: &[u8],
@@ -109,12 +109,12 @@ impl Tried {
         self.staging(bytes, |shelf| shelf.apply(&sets(number, bytes)))
     }
 
-    // Whether the file of the box `in` stands with just these bytes.
+    // Whether the file of the box `in` exists and has exactly these bytes.
     fn stands(&mut self, bytes: &[u8]) -> Result<bool, Fail> {
         self.staging(bytes, |shelf| shelf.staged_equals(b"in", NAME))
     }
 
-    // Whether the box `in` holds so many bytes in so many files.
+    // Whether the box `in` holds `used` bytes in `count` files.
     fn holds(&mut self, used: u64, count: u64) -> Result<bool, Fail> {
         let totals = self.call(|shelf| shelf.sizes(b"in"))?;
         Ok(totals.used == used && totals.count == count)
@@ -150,7 +150,7 @@ fn a_box(alloc: Global) -> Result<BoxRow, AllocError> {
     })
 }
 
-// The change that sets a file of the box `in` to the staged bytes, which are these.
+// The change that sets a file of the box `in` to these bytes, which are staged.
 fn sets(number: u64, bytes: &[u8]) -> Change<'static> {
     let file = NewFile {
         number,
@@ -201,7 +201,7 @@ fn keeps_boxes(rt: &impl Abort, alloc: Global, office: &mut Tried) -> Result<(),
     Ok(())
 }
 
-// The box `none` is not there, and no key `eve`.
+// There is no box `none` and no key `eve`.
 fn keeps_limits(rt: &impl Abort, office: &mut Tried) -> Result<(), Fail> {
     office.change(Change::Desk(Command::AddKey {
         id: LINK,

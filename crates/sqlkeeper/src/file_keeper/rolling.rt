@@ -1,4 +1,4 @@
-//! An office file is walked through: the keeper tells what comes next.
+//! Walks through an office file: the keeper tells what comes next.
 
 ghost use Rattle.std.specs.Prelude.{◌≡◌, IfOk, IfErr, IsUtf8};
 ghost use Rattle.sigtext.specs.Counts.{CountsErrors};
@@ -10,7 +10,7 @@ use rolls::Rolls;
 use sqlite::Alter;
 use std::str;
 
-// A text that a question gives. Bytes that are no UTF-8 are a fault, which is counted: the file has none.
+// The bytes of a query as a text. Bytes that are not UTF-8 are a fault, which is counted: the file contains none.
 fn counted_text<'a>(faults: &mut u64, bytes: &'a [u8]) -> Result<&'a str, KeepFault>
     ensures value { IfOk result (λ text. text.now ≡ bytes.now) }
     ensures fault { IfErr result (λ f. IsUtf8 bytes.now → ⊥) }

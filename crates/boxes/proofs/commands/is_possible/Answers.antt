@@ -1,4 +1,4 @@
--- The key that was found is the state's, and two clerks stand exactly where another does.
+-- The key that was found is the state's. There are two clerks exactly if another clerk exists.
 use Rattle.std.proofs.Common.{◌≡◌, List, ℕ, ◌≤◌, Option, Some, sym, ap, ◌∙◌, subst}
 use Rattle.std.specs.Prelude.{IsSomeAnd, IsFalse, option_map, ◌↔◌}
 use Rattle.std.specs.FinMap.{get}

@@ -1,4 +1,4 @@
--- The file that the keeper said is the one that stands.
+-- The file that the keeper answered is the stored one.
 use Rattle.std.proofs.Common.{◌≡◌, ◌∙◌, Result, Ok, Err, Option, Some, None, refl, sym, ap, subst, rules}
 use Rattle.std.specs.Prelude.{option_map, is_some}
 use Rattle.std.specs.FinMap.{get}

@@ -1,4 +1,4 @@
--- Each text is tested.
+-- The code tests each text.
 use Rattle.std.proofs.Common.{ℕ, List, [], ◌∷◌, map, rules, tests}
 use Rattle.std.specs.Prelude.{◌↔◌, Vec}
 use Rattle.std.specs.declared.alloc.Global.{Global}

@@ -1,4 +1,4 @@
--- Each byte is tested, and the whole for UTF-8.
+-- The code tests each byte, and the whole text for UTF-8.
 use Rattle.std.proofs.Common.{◌∙◌, sym, rules}
 use Rattle.std.specs.Prelude.{IsUtf8}
 use Rattle.boxes.specs.Sound.{is_rule_byte}

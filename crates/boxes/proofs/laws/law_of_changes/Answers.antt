@@ -1,4 +1,4 @@
--- A file that is set is an upload that is taken; a command with its form is possible.
+-- A file that is set is an accepted upload. A desk command that is obeyed has its form and is possible.
 use Rattle.std.proofs.Common.{sym, subst}
 use Rattle.boxes.specs.declared.change.Change.{Change}
 use Rattle.boxes.specs.declared.change.Change.TheVariants as change

@@ -1,4 +1,4 @@
--- Each of the three parts of a name is tested.
+-- The code tests each of the three conditions on a name.
 use Rattle.std.proofs.Common.{◌∙◌, ◌<◌, length, rules, tests, sym, arith}
 use Rattle.std.specs.Prelude.{◌&&◌, ◌==◌, nat_le, not, IsUtf8}
 use Rattle.std.proofs.lemmas.Bool.Decides.{nat_tests}

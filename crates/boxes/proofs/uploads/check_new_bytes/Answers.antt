@@ -1,4 +1,4 @@
--- The sum that was tested is that of the rule.
+-- The sum that the code tests is the sum in the rule.
 use Rattle.std.proofs.Common.{◌≡◌, ◌∙◌, ◌+◌, ◌-◌, ◌≤◌, length, true, false, sym, rules, arith}
 use Rattle.std.specs.Prelude.{unwrap_or}
 use Rattle.boxes.specs.Rows.{settings_of}

@@ -1,4 +1,4 @@
--- The size of the standing receipt.
+-- The size in the receipt of the stored file.
 use Rattle.std.proofs.Common.{◌≡◌, ◌∙◌, rules}
 use Rattle.std.specs.Prelude.{option_map}
 use Rattle.boxes.specs.declared.rows.ReceiptRow.{ReceiptRow}

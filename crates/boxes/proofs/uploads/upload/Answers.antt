@@ -1,4 +1,4 @@
--- A refusal of the place is one of the upload; bytes that stand have the standing receipt.
+-- A refusal of the place is a refusal of the upload. Bytes already stored have the receipt of the stored file.
 use Rattle.std.proofs.Common.{ap, rules}
 use Rattle.sigtext.specs.declared.refusal.Refusal.{Refusal}
 use Rattle.boxes.specs.Rules.{PlaceRule}

@@ -12,7 +12,7 @@ use Rattle.links.proofs.writing.draft_text.Goals as goal
 abbrev texts : List OrderParam → List (List ℕ)
 texts params = map param_text (map param_of params)
 
--- what is left at a parameter
+-- the rest of the text, from a parameter on
 at_param : (front : List ℕ) (params : List OrderParam) (i : ℕ) (d : OrderParam) → i < length params
     → joined_behind front 38 (texts (drop i params)) ≡ front ++ (param_text (param_of (get_or params i d)) ++ joined_behind (38 ∷ []) 38 (texts (drop (i + 1) params)))
 at_param front params i d within =

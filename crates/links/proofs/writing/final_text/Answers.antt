@@ -1,7 +1,7 @@
 use Rattle.std.proofs.Common.{◌≡◌, ℕ, List, [], ◌∷◌, ◌++◌, ap, ◌∙◌, append_assoc}
 use Rattle.links.proofs.writing.final_text.Goals as goal
 
--- a text that is written piece after piece
+-- a text that is written piece by piece
 written : (text-0 text-1 text-2 text-3 text-4 text-5 path query word signature : List ℕ)
     → text-0 ≡ [] → text-1 ≡ text-0 ++ path → text-2 ≡ text-1 ++ 63 ∷ [] → text-3 ≡ text-2 ++ query → text-4 ≡ text-3 ++ word → text-5 ≡ text-4 ++ signature
     → text-5 ≡ path ++ 63 ∷ query ++ word ++ signature

@@ -8,7 +8,7 @@ use Rattle.links.proofs.writing.names_text.Goals as goal
 abbrev names : List Field → List (List ℕ)
 names fields = map (λ s. s.name) (map header_of fields)
 
--- what is left at a field
+-- the rest of the text, from a field on
 at_field : (front : List ℕ) (fields : List Field) (i : ℕ) (d : Field) → i < length fields
     → joined_behind front 59 (names (drop i fields)) ≡ front ++ ((get_or fields i d).name.now ++ joined_behind (59 ∷ []) 59 (names (drop (i + 1) fields)))
 at_field front fields i d within =

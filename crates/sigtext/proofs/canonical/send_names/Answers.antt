@@ -11,7 +11,7 @@ use Rattle.sigtext.proofs.canonical.send_names.Goals as goal
 abbrev names : List Field → List (List ℕ)
 names fields = map (λ s. s.name) (map signed_header fields)
 
--- what is left at a field
+-- the rest at a field
 at_field : (front : List ℕ) (fields : List Field) (i : ℕ) (d : Field) → i < length fields
     → joined_behind front 59 (names (drop i fields)) ≡ front ++ (lower_case (get_or fields i d).name.now ++ joined_behind (59 ∷ []) 59 (names (drop (i + 1) fields)))
 at_field front fields i d within =

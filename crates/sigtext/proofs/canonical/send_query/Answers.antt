@@ -9,14 +9,14 @@ use Rattle.sigtext.proofs.JoinedTexts.{joined_behind, joined_behind-nil, joined_
 use Rattle.sigtext.proofs.Sent.{sent_nothing, sent_more, sent_step, sent_all, sent_part, sent_none, at_error}
 use Rattle.sigtext.proofs.canonical.send_query.Goals as goal
 
--- the texts of the parameters that are signed
+-- the texts of the signed parameters
 abbrev texts : List RawParam → List (List ℕ)
 texts raws = map param_text (signed_params (map decoded_param raws))
 
 abbrev is_signature : RawParam → Bool
 is_signature raw = same_bytes (percent_decode raw.name.now) (codes "X-Amz-Signature")
 
--- what is left at a parameter
+-- the rest at a parameter
 at_param : (front : List ℕ) (raws : List RawParam) (i : ℕ) (d : RawParam) (b : Bool) → i < length raws → b ≡ is_signature (get_or raws i d)
     → joined_behind front 38 (texts (drop i raws))
     ≡ joined_behind front 38 (map param_text (cond (not b) (decoded_param (get_or raws i d) ∷ signed_params (map decoded_param (drop (i + 1) raws))) (signed_params (map decoded_param (drop (i + 1) raws)))))
@@ -26,7 +26,7 @@ at_param front raws i d b within is =
     at_drop_more (λ (rest : List RawParam). joined_behind front 38 (texts rest)) raws i d within
     ∙ ap (λ (t : Bool). joined_behind front 38 (map param_text (cond (not t) (first ∷ others) others))) (sym is)
 
--- that of the signature is passed over
+-- the signature is skipped
 at_signature : (front : List ℕ) (raws : List RawParam) (i : ℕ) (d : RawParam) → i < length raws → true ≡ is_signature (get_or raws i d)
     → joined_behind front 38 (texts (drop i raws)) ≡ joined_behind front 38 (texts (drop (i + 1) raws))
 at_signature front raws i d within is = at_param front raws i d true within is

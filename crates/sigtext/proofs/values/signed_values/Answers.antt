@@ -10,7 +10,7 @@ use Rattle.sigtext.specs.Signing.{signed_header, values_of}
 use Rattle.sigtext.proofs.ValuesNamed.{of_names, of_pieces, values_fail, cover_fails, both_hold}
 use Rattle.sigtext.proofs.values.signed_values.Goals as goal
 
--- the names of a text, where another is the same text
+-- the names of a text that equals another
 same_text : (text other : List ℕ) (names : List (List ℕ)) → text ≡ other → AreSignedNames other names → AreSignedNames text names
 same_text text other names is h = subst (λ (t : List ℕ). AreSignedNames t names) (sym is) h
 

@@ -1,11 +1,12 @@
-use Rattle.std.proofs.Common.{◌≡◌, IsTrue, pos, rules, subst}
+use Rattle.std.proofs.Common.{◌≡◌, ◌<◌, IsTrue, pos, rules, subst}
+use Rattle.std.specs.Prelude.{MatchBool}
+use Rattle.std.proofs.lemmas.Result.{IfOk-weaker}
 use Rattle.sigtext.specs.Bytes.{AreBytes}
 use Rattle.sigv4.specs.Hmac.{sha256}
 use Rattle.sqlite.specs.Held.{state}
 use Rattle.boxes.specs.State.{Place}
-use Rattle.sqltables.specs.Pieces.{AreFound}
-use Rattle.sqlaudit.specs.Opened.{place_in}
-use Rattle.sqlaudit.proofs.Digested.{told, none_told}
+use Rattle.sqlaudit.specs.Opened.{AreBytesFound, HasBytes, IsBare, IsNotBare, LacksBytes, place_in}
+use Rattle.sqlaudit.proofs.Digested.{told, told_empty, none_told}
 use Rattle.sqlaudit.proofs.digests.has_bytes.Goals as goal
 
 pub returns-in_default-3-clause-read : goal.returns-in_default-3-clause-read
@@ -17,7 +18,22 @@ returns-in_default-3-clause-read g c v ours has whole inside clean =
     let there : place ≡ place_in c.args.file.now = (λ i. record { box = box i; name = name i }) in
     let size : c.in-Some.given.now.length ≡ pos c.in-Ok.size = search rules in
     none_told rows c.args.receipts.now c.args.file.now c.in-Some.given.now c.in-Some.ensures c.in-Ok.size size place there
-    (subst (AreFound rows place c.in-Ok.size) c.in_default-3.is (c.in_ok-bytes.ensures.read v ours has whole inside clean))
+    (subst (AreBytesFound rows place c.in-Ok.size) c.in_default-3.is (c.in_ok-bytes.ensures.read v ours has whole inside clean))
+
+pub returns-then-size-eq0-clause-read : goal.returns-then-size-eq0-clause-read
+returns-then-size-eq0-clause-read g c v ours has whole inside clean =
+    let rows = (state g.S.Store c.args.tx.now.conn.now).now.trees 9 in
+    let receipts = c.args.receipts.now in
+    let file = c.args.file.now in
+    let given = c.in-Some.given.now in
+    let place : Place = record { box = c.in-Ok-Ok.in_box.now; name = c.in-Ok-Ok.name.now } in
+    let box : c.in-Ok-Ok.in_box.now ≡ c.args.file.now.in_box.items = search rules in
+    let name : c.in-Ok-Ok.name.now ≡ c.args.file.now.name.items = search rules in
+    let there : place ≡ place_in c.args.file.now = (λ i. record { box = box i; name = name i }) in
+    let size : given.length ≡ pos c.in-Ok.size = search rules in
+    let none : c.in-Ok.size ≡ 0 = search rules in
+    IfOk-weaker c.is_bare.result (λ b. MatchBool b (IsBare rows place given) (IsNotBare rows place given)) (λ b. MatchBool b (HasBytes rows receipts file) (LacksBytes rows receipts file))
+    (told_empty rows receipts file given c.in-Some.ensures c.in-Ok.size size place there none) (c.is_bare.ensures.read v ours has whole inside clean)
 
 pub returns-clause-read : goal.returns-clause-read
 returns-clause-read g c v ours has whole inside clean =
@@ -27,7 +43,8 @@ returns-clause-read g c v ours has whole inside clean =
     let name : c.in-Ok-Ok.name.now ≡ c.args.file.now.name.items = search rules in
     let there : place ≡ place_in c.args.file.now = (λ i. record { box = box i; name = name i }) in
     let size : c.in-Some.given.now.length ≡ pos c.in-Ok.size = search rules in
-    let are = subst (AreFound rows place c.in-Ok.size) c.in-Some-2.is (c.in_ok-bytes.ensures.read v ours has whole inside clean) in
+    let are = subst (AreBytesFound rows place c.in-Ok.size) c.in-Some-2.is (c.in_ok-bytes.ensures.read v ours has whole inside clean) in
     let octets = subst AreBytes c.deref-3.ensures.value c.have_digest.ensures.octets in
-    told rows c.args.receipts.now c.args.file.now c.in-Some.given.now c.in-Some.ensures c.in-Ok.size size place there c.in-Some-2.bytes.items are octets c.have_digest.result
+    let full : 0 < c.in-Ok.size = search rules in
+    told rows c.args.receipts.now c.args.file.now c.in-Some.given.now c.in-Some.ensures c.in-Ok.size size place there full c.in-Some-2.bytes.items are octets c.have_digest.result
     (subst (λ xs. (IsTrue c.have_digest.result → sha256 xs ≡ c.in-Some.given.now.digest.items) × (sha256 xs ≡ c.in-Some.given.now.digest.items → IsTrue c.have_digest.result)) c.deref-3.ensures.value c.have_digest.ensures.told)

@@ -1,14 +1,16 @@
-use Rattle.std.proofs.Common.{arith, subst, ◌∙◌}
+use Rattle.std.proofs.Common.{[], arith, subst, ◌∙◌}
 use Rattle.sqlite.specs.Effect.{Database}
 use Rattle.sqlite.specs.State.{HasCleanDisk}
 use Rattle.sqlite.specs.Held.{state}
-use Rattle.sqlaudit.specs.Lines.{AreLines, HaveRowids, IsKeyLine, IsBoxLine, IsReceiptLine, IsFileLine, IsPieceLine}
+use Rattle.sqlaudit.specs.Lines.{AreLines, AreLinesWhere, HaveRowids, IsLater, IsKeyLine, IsBoxLine, IsReceiptLine, IsPieceLine}
 use Rattle.sqlaudit.specs.Formats.{version_of}
 use Rattle.sqlaudit.specs.Opened.{AreAdded}
 use Rattle.sqlaudit.proofs.Extents.{is_version}
 use Rattle.sqlaudit.proofs.StillReads.{begins, goes_on, whole_still}
-use Rattle.sqlaudit.proofs.LongTexts.{receipt_shown, counts_receipts, asks_receipts, file_shown, counts_files, asks_files, piece_shown, counts_pieces, asks_pieces}
-use Rattle.sqlaudit.proofs.WholeTables.{lists_keys, lists_boxes, lists_receipts, lists_files, lists_pieces}
+use Rattle.sqlaudit.specs.Portions.{AreRowids}
+use Rattle.sqlaudit.proofs.LongTexts.{receipt_shown, counts_receipts, asks_receipts, file_numbers, counts_files, piece_shown, counts_pieces, asks_pieces, later}
+use Rattle.sqlaudit.proofs.PortionRows.{counted}
+use Rattle.sqlaudit.proofs.WholeTables.{lists_keys, lists_boxes, lists_receipts, lists_pieces}
 use Rattle.sqlaudit.proofs.listing.list_all.Goals as goal
 
 pub returns-clause-listed : goal.returns-clause-listed
@@ -18,41 +20,41 @@ returns-clause-listed g c has whole inside clean =
     let entry = state g.S.Store c.args.tx.now.conn.now in
     let at_keys = state g.S.Store c.list.new.tx.conn.now in
     let at_boxes = state g.S.Store c.list-2.new.tx.conn.now in
-    let at_receipts = state g.S.Store c.list_long.new.tx.conn.now in
-    let at_files = state g.S.Store c.list_long-2.new.tx.conn.now in
-    let at_pieces = state g.S.Store c.list_long-3.new.tx.conn.now in
-    let clean_pieces : HasCleanDisk at_pieces = omega (arith, clean, c.list_added.ensures.rest.survives.clean) in
-    let clean_files : HasCleanDisk at_files = omega (arith, clean_pieces, c.list_long-3.ensures.rest.survives.clean) in
-    let clean_receipts : HasCleanDisk at_receipts = omega (arith, clean_files, c.list_long-2.ensures.rest.survives.clean) in
-    let clean_boxes : HasCleanDisk at_boxes = omega (arith, clean_receipts, c.list_long.ensures.rest.survives.clean) in
+    let at_pieces = state g.S.Store c.list_long.new.tx.conn.now in
+    let at_files = state g.S.Store c.list_numbers.new.tx.conn.now in
+    let at_receipts = state g.S.Store c.list_long-2.new.tx.conn.now in
+    let clean_receipts : HasCleanDisk at_receipts = omega (arith, clean, c.list_added.ensures.rest.survives.clean) in
+    let clean_files : HasCleanDisk at_files = omega (arith, clean_receipts, c.list_long-2.ensures.rest.survives.clean) in
+    let clean_pieces : HasCleanDisk at_pieces = omega (arith, clean_files, c.list_numbers.ensures.rest.survives.clean) in
+    let clean_boxes : HasCleanDisk at_boxes = omega (arith, clean_pieces, c.list_long.ensures.rest.survives.clean) in
     let clean_keys : HasCleanDisk at_keys = omega (arith, clean_boxes, c.list-2.ensures.rest.survives.clean) in
     let s0 = begins v entry has inside in
     let keys = lists_keys v ours entry at_keys s0.schema c.in_ok-list.field-0.items (c.in_ok-list.ensures.read clean_keys) in
     let s1 = goes_on v entry entry at_keys s0 keys.same (c.in_ok-list.ensures.rest.running clean_keys s0.inside) (c.list.ensures.rest.uncommitted clean_keys s0.inside) in
     let boxes = lists_boxes v ours at_keys at_boxes s1.schema c.in_ok-list-2.field-0.items (c.in_ok-list-2.ensures.read clean_boxes) in
     let s2 = goes_on v entry at_keys at_boxes s1 boxes.same (c.in_ok-list-2.ensures.rest.running clean_boxes s1.inside) (c.list-2.ensures.rest.uncommitted clean_boxes s1.inside) in
-    let receipts = lists_receipts at_boxes at_receipts c.in_ok-list_long.field-0.items (c.in_ok-list_long.ensures.read v 5 receipt_shown (counts_receipts v ours) (asks_receipts v ours) s2.schema s2.inside clean_receipts)
-    (c.in_ok-list_long.ensures.rowids v 5 (counts_receipts v ours) s2.schema s2.inside clean_receipts) (c.in_ok-list_long.ensures.same v 5 receipt_shown (counts_receipts v ours) (asks_receipts v ours) s2.schema s2.inside clean_receipts) in
-    let s3 = goes_on v entry at_boxes at_receipts s2 receipts.same (c.in_ok-list_long.ensures.rest.running clean_receipts s2.inside) (c.list_long.ensures.rest.uncommitted clean_receipts s2.inside) in
-    let files = lists_files at_receipts at_files c.in_ok-list_long-2.field-0.items (c.in_ok-list_long-2.ensures.read v 6 file_shown (counts_files v ours) (asks_files v ours) s3.schema s3.inside clean_files)
-    (c.in_ok-list_long-2.ensures.rowids v 6 (counts_files v ours) s3.schema s3.inside clean_files) (c.in_ok-list_long-2.ensures.same v 6 file_shown (counts_files v ours) (asks_files v ours) s3.schema s3.inside clean_files) in
-    let s4 = goes_on v entry at_receipts at_files s3 files.same (c.in_ok-list_long-2.ensures.rest.running clean_files s3.inside) (c.list_long-2.ensures.rest.uncommitted clean_files s3.inside) in
-    let is_open = (c.in_ok-list_long-2.ensures.rest.running clean_files s3.inside).1 in
-    let pieces = lists_pieces at_files at_pieces v ours (s4.schema is_open) (whole_still v entry at_files s4 whole is_open) c.in_ok-list_long-3.field-0.items (c.in_ok-list_long-3.ensures.read v 9 piece_shown (counts_pieces v ours) (asks_pieces v ours) s4.schema s4.inside clean_pieces)
-    (c.in_ok-list_long-3.ensures.rowids v 9 (counts_pieces v ours) s4.schema s4.inside clean_pieces) (c.in_ok-list_long-3.ensures.same v 9 piece_shown (counts_pieces v ours) (asks_pieces v ours) s4.schema s4.inside clean_pieces) in
-    let s5 = goes_on v entry at_files at_pieces s4 pieces.same (c.in_ok-list_long-3.ensures.rest.running clean_pieces s4.inside) (c.list_long-3.ensures.rest.uncommitted clean_pieces s4.inside) in
+    let pieces_same = c.in_ok-list_long.ensures.same v 9 later piece_shown (counts_pieces v ours) (asks_pieces v ours) s2.schema s2.inside clean_pieces in
+    let s3 = goes_on v entry at_boxes at_pieces s2 pieces_same (c.in_ok-list_long.ensures.rest.running clean_pieces s2.inside) (c.list_long.ensures.rest.uncommitted clean_pieces s2.inside) in
+    let files = counted v file_numbers 6 (counts_files v ours) at_pieces at_files s3.schema c.in_ok-list_numbers.field-0.items (c.in_ok-list_numbers.ensures.read clean_files) in
+    let s4 = goes_on v entry at_pieces at_files s3 files.same (c.in_ok-list_numbers.ensures.rest.running clean_files s3.inside) (c.list_numbers.ensures.rest.uncommitted clean_files s3.inside) in
+    let receipts = lists_receipts at_files at_receipts c.in_ok-list_long-2.field-0.items (c.in_ok-list_long-2.ensures.read v 5 [] receipt_shown (counts_receipts v ours) (asks_receipts v ours) s4.schema s4.inside clean_receipts)
+    (c.in_ok-list_long-2.ensures.rowids v 5 (counts_receipts v ours) s4.schema s4.inside clean_receipts) (c.in_ok-list_long-2.ensures.same v 5 [] receipt_shown (counts_receipts v ours) (asks_receipts v ours) s4.schema s4.inside clean_receipts) in
+    let s5 = goes_on v entry at_files at_receipts s4 receipts.same (c.in_ok-list_long-2.ensures.rest.running clean_receipts s4.inside) (c.list_long-2.ensures.rest.uncommitted clean_receipts s4.inside) in
+    let is_open = (c.in_ok-list-2.ensures.rest.running clean_boxes s1.inside).1 in
+    let pieces = lists_pieces at_boxes at_pieces v ours (s2.schema is_open) (whole_still v entry at_boxes s2 whole is_open) c.in_ok-list_long.field-0.items (c.in_ok-list_long.ensures.read v 9 later piece_shown (counts_pieces v ours) (asks_pieces v ours) s2.schema s2.inside clean_pieces)
+    (c.in_ok-list_long.ensures.rowids v 9 (counts_pieces v ours) s2.schema s2.inside clean_pieces) pieces_same in
     let added = c.in_ok-list_added.ensures.listed s5.schema s5.inside clean in
     record {
       keys = subst (λ (d : Database). AreLines IsKeyLine (d.trees 1) c.in_ok-list.field-0.items) s0.same keys.lines_are;
       boxes = subst (λ (d : Database). AreLines IsBoxLine (d.trees 3) c.in_ok-list-2.field-0.items) s1.same boxes.lines_are;
-      receipts = subst (λ (d : Database). AreLines IsReceiptLine (d.trees 5) c.in_ok-list_long.field-0.items) s2.same receipts.lines_are;
-      files = subst (λ (d : Database). AreLines IsFileLine (d.trees 6) c.in_ok-list_long-2.field-0.items) s3.same files.lines_are;
-      pieces = subst (λ (d : Database). AreLines IsPieceLine (d.trees 9) c.in_ok-list_long-3.field-0.items) s4.same pieces.lines_are;
+      pieces = subst (λ (d : Database). AreLinesWhere IsLater IsPieceLine (d.trees 9) c.in_ok-list_long.field-0.items) s2.same pieces.lines_are;
+      files = subst (λ (d : Database). AreRowids (d.trees 6) c.in_ok-list_numbers.field-0.items) s3.same files.rowids;
+      receipts = subst (λ (d : Database). AreLines IsReceiptLine (d.trees 5) c.in_ok-list_long-2.field-0.items) s4.same receipts.lines_are;
       keys_rowids = subst (λ (d : Database). HaveRowids (d.trees 1)) s0.same keys.rowids;
       boxes_rowids = subst (λ (d : Database). HaveRowids (d.trees 3)) s1.same boxes.rowids;
-      receipts_rowids = subst (λ (d : Database). HaveRowids (d.trees 5)) s2.same receipts.rowids;
-      files_rowids = subst (λ (d : Database). HaveRowids (d.trees 6)) s3.same files.rowids;
-      pieces_rowids = subst (λ (d : Database). HaveRowids (d.trees 9)) s4.same pieces.rowids;
+      receipts_rowids = subst (λ (d : Database). HaveRowids (d.trees 5)) s4.same receipts.rowids;
+      files_rowids = subst (λ (d : Database). HaveRowids (d.trees 6)) s3.same files.have;
+      pieces_rowids = subst (λ (d : Database). HaveRowids (d.trees 9)) s2.same pieces.rowids;
       added = subst (λ d. AreAdded v d c.in_ok-list_added.field-0.rules.items c.in_ok-list_added.field-0.limits.items) s5.same added;
     }
 
@@ -63,25 +65,24 @@ returns-clause-same g c has inside clean =
     let entry = state g.S.Store c.args.tx.now.conn.now in
     let at_keys = state g.S.Store c.list.new.tx.conn.now in
     let at_boxes = state g.S.Store c.list-2.new.tx.conn.now in
-    let at_receipts = state g.S.Store c.list_long.new.tx.conn.now in
-    let at_files = state g.S.Store c.list_long-2.new.tx.conn.now in
-    let at_pieces = state g.S.Store c.list_long-3.new.tx.conn.now in
-    let clean_pieces : HasCleanDisk at_pieces = omega (arith, clean, c.list_added.ensures.rest.survives.clean) in
-    let clean_files : HasCleanDisk at_files = omega (arith, clean_pieces, c.list_long-3.ensures.rest.survives.clean) in
-    let clean_receipts : HasCleanDisk at_receipts = omega (arith, clean_files, c.list_long-2.ensures.rest.survives.clean) in
-    let clean_boxes : HasCleanDisk at_boxes = omega (arith, clean_receipts, c.list_long.ensures.rest.survives.clean) in
+    let at_pieces = state g.S.Store c.list_long.new.tx.conn.now in
+    let at_files = state g.S.Store c.list_numbers.new.tx.conn.now in
+    let at_receipts = state g.S.Store c.list_long-2.new.tx.conn.now in
+    let clean_receipts : HasCleanDisk at_receipts = omega (arith, clean, c.list_added.ensures.rest.survives.clean) in
+    let clean_files : HasCleanDisk at_files = omega (arith, clean_receipts, c.list_long-2.ensures.rest.survives.clean) in
+    let clean_pieces : HasCleanDisk at_pieces = omega (arith, clean_files, c.list_numbers.ensures.rest.survives.clean) in
+    let clean_boxes : HasCleanDisk at_boxes = omega (arith, clean_pieces, c.list_long.ensures.rest.survives.clean) in
     let clean_keys : HasCleanDisk at_keys = omega (arith, clean_boxes, c.list-2.ensures.rest.survives.clean) in
     let s0 = begins v entry has inside in
     let keys = lists_keys v ours entry at_keys s0.schema c.in_ok-list.field-0.items (c.in_ok-list.ensures.read clean_keys) in
     let s1 = goes_on v entry entry at_keys s0 keys.same (c.in_ok-list.ensures.rest.running clean_keys s0.inside) (c.list.ensures.rest.uncommitted clean_keys s0.inside) in
     let boxes = lists_boxes v ours at_keys at_boxes s1.schema c.in_ok-list-2.field-0.items (c.in_ok-list-2.ensures.read clean_boxes) in
     let s2 = goes_on v entry at_keys at_boxes s1 boxes.same (c.in_ok-list-2.ensures.rest.running clean_boxes s1.inside) (c.list-2.ensures.rest.uncommitted clean_boxes s1.inside) in
-    let receipts = lists_receipts at_boxes at_receipts c.in_ok-list_long.field-0.items (c.in_ok-list_long.ensures.read v 5 receipt_shown (counts_receipts v ours) (asks_receipts v ours) s2.schema s2.inside clean_receipts)
-    (c.in_ok-list_long.ensures.rowids v 5 (counts_receipts v ours) s2.schema s2.inside clean_receipts) (c.in_ok-list_long.ensures.same v 5 receipt_shown (counts_receipts v ours) (asks_receipts v ours) s2.schema s2.inside clean_receipts) in
-    let s3 = goes_on v entry at_boxes at_receipts s2 receipts.same (c.in_ok-list_long.ensures.rest.running clean_receipts s2.inside) (c.list_long.ensures.rest.uncommitted clean_receipts s2.inside) in
-    let files = lists_files at_receipts at_files c.in_ok-list_long-2.field-0.items (c.in_ok-list_long-2.ensures.read v 6 file_shown (counts_files v ours) (asks_files v ours) s3.schema s3.inside clean_files)
-    (c.in_ok-list_long-2.ensures.rowids v 6 (counts_files v ours) s3.schema s3.inside clean_files) (c.in_ok-list_long-2.ensures.same v 6 file_shown (counts_files v ours) (asks_files v ours) s3.schema s3.inside clean_files) in
-    let s4 = goes_on v entry at_receipts at_files s3 files.same (c.in_ok-list_long-2.ensures.rest.running clean_files s3.inside) (c.list_long-2.ensures.rest.uncommitted clean_files s3.inside) in
-    let same = c.in_ok-list_long-3.ensures.same v 9 piece_shown (counts_pieces v ours) (asks_pieces v ours) s4.schema s4.inside clean_pieces in
-    let s5 = goes_on v entry at_files at_pieces s4 same (c.in_ok-list_long-3.ensures.rest.running clean_pieces s4.inside) (c.list_long-3.ensures.rest.uncommitted clean_pieces s4.inside) in
+    let pieces_same = c.in_ok-list_long.ensures.same v 9 later piece_shown (counts_pieces v ours) (asks_pieces v ours) s2.schema s2.inside clean_pieces in
+    let s3 = goes_on v entry at_boxes at_pieces s2 pieces_same (c.in_ok-list_long.ensures.rest.running clean_pieces s2.inside) (c.list_long.ensures.rest.uncommitted clean_pieces s2.inside) in
+    let files = counted v file_numbers 6 (counts_files v ours) at_pieces at_files s3.schema c.in_ok-list_numbers.field-0.items (c.in_ok-list_numbers.ensures.read clean_files) in
+    let s4 = goes_on v entry at_pieces at_files s3 files.same (c.in_ok-list_numbers.ensures.rest.running clean_files s3.inside) (c.list_numbers.ensures.rest.uncommitted clean_files s3.inside) in
+    let receipts = lists_receipts at_files at_receipts c.in_ok-list_long-2.field-0.items (c.in_ok-list_long-2.ensures.read v 5 [] receipt_shown (counts_receipts v ours) (asks_receipts v ours) s4.schema s4.inside clean_receipts)
+    (c.in_ok-list_long-2.ensures.rowids v 5 (counts_receipts v ours) s4.schema s4.inside clean_receipts) (c.in_ok-list_long-2.ensures.same v 5 [] receipt_shown (counts_receipts v ours) (asks_receipts v ours) s4.schema s4.inside clean_receipts) in
+    let s5 = goes_on v entry at_files at_receipts s4 receipts.same (c.in_ok-list_long-2.ensures.rest.running clean_receipts s4.inside) (c.list_long-2.ensures.rest.uncommitted clean_receipts s4.inside) in
     c.in_ok-list_added.ensures.same s5.schema s5.inside clean ∙ s5.same

@@ -1,9 +1,11 @@
-use Rattle.sqlaudit.proofs.Apart.{numbers_of}
+use Rattle.std.proofs.lemmas.Result.{IfOk-weaker}
+use Rattle.sqlite.specs.Held.{state}
+use Rattle.sqlaudit.specs.Lines.{AreNumbersOf}
+use Rattle.sqlaudit.specs.Portions.{ShowsNumbers}
 use Rattle.sqlaudit.proofs.portions.list_numbers.Goals as goal
 
 pub returns-clause-read : goal.returns-clause-read
-returns-clause-read g c clean = record {
-  rows = c.in_ok-rows.rows.items;
-  shown = c.in_ok-rows.ensures.ok clean;
-  are = numbers_of c.in_ok-rows.rows.items c.in_ok-numbers.numbers.items c.sort_unstable.new.self.items (rw c.deref.ensures.value at c.in_ok-numbers.ensures) c.sort_unstable.ensures.permutation (rw c.deref-2.ensures.value at (c.rise.ensures c.if-not-rise.false));
-}
+returns-clause-read g c clean =
+    IfOk-weaker c.numbers_of.result (λ numbers. AreNumbersOf c.in_ok-rows.rows.items numbers.items)
+    (λ numbers. ShowsNumbers c.args.sql.now (state g.S.Store c.args.tx.now.conn.now) (state g.S.Store c.query.new.tx.conn.now) numbers.items)
+    (λ numbers are. record { rows = c.in_ok-rows.rows.items; shown = c.in_ok-rows.ensures.ok clean; are = are }) (rw c.deref.ensures.value at c.numbers_of.ensures)

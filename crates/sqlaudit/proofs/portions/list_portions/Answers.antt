@@ -32,14 +32,14 @@ loop-at-preserved g c =
     )
 
 pub returns-clause-read : goal.returns-clause-read
-returns-clause-read g c v tree show asks are schema running clean =
+returns-clause-read g c v tree test show asks are schema running clean =
     let entry = state g.S.Store c.args.tx.now.conn.now in
     let now = state g.S.Store c.loop-at.tx.conn.now in
-    let opens : Opens v c.args.sql.now tree show entry = record { asks = asks; schema = schema; running = running } in
-    all_read g.L.Line.reads c.args.sql.now entry now c.args.numbers.now c.loop-at.at c.loop-at.lines.items c.loop-at.invariant.1 c.loop-at-test.false v tree show opens clean are
+    let opens : Opens v c.args.sql.now tree test show entry = record { asks = asks; schema = schema; running = running } in
+    all_read g.L.Line.reads c.args.sql.now entry now c.args.numbers.now c.loop-at.at c.loop-at.lines.items c.loop-at.invariant.1 c.loop-at-test.false v tree test show opens clean are
 
 pub returns-clause-same : goal.returns-clause-same
-returns-clause-same g c v tree show asks schema running clean =
+returns-clause-same g c v tree test show asks schema running clean =
     let entry = state g.S.Store c.args.tx.now.conn.now in
-    let opens : Opens v c.args.sql.now tree show entry = record { asks = asks; schema = schema; running = running } in
-    c.loop-at.invariant.1.same v tree show opens clean
+    let opens : Opens v c.args.sql.now tree test show entry = record { asks = asks; schema = schema; running = running } in
+    c.loop-at.invariant.1.same v tree test show opens clean

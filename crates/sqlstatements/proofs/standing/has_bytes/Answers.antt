@@ -10,7 +10,7 @@ use Rattle.sqltables.proofs.StandingFiles.{if_ok_more}
 use Rattle.sqlstatements.specs.Pieces.{held}
 use Rattle.sqlstatements.proofs.standing.has_bytes.Goals as goal
 
--- a file of this length stands
+-- a file of this length exists
 record Stands (s : State) (place : Place) (size : ℕ) : Type 0 where
   file : File
   there : get s.files place ≡ Some file

@@ -7,7 +7,7 @@ use Rattle.boxes.specs.Rules.{standing_bytes}
 use Rattle.boxes.proofs.FileTotals.{ones, used_here, count_here, stands_within}
 use Rattle.boxes.proofs.totals.Totals.set.Goals as goal
 
--- as many as stand
+-- the file and its length are present or absent together
 ones_of : (o : Option File) (old : Option ℕ) → old ≡ option_map (λ (g : File). length g.bytes) o → ones o ≡ ones old
 ones_of None old e = sym (ap (λ (x : Option ℕ). ones x) e)
 ones_of (Some f) old e = sym (ap (λ (x : Option ℕ). ones x) e)

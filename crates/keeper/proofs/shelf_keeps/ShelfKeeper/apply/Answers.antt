@@ -8,7 +8,7 @@ use Rattle.boxes.specs.Changes.{IsChangeOf, IsFileSet}
 use Rattle.keeper.specs.OneState.{one_state}
 use Rattle.keeper.proofs.shelf_keeps.ShelfKeeper.apply.Goals as goal
 
--- a file is set to what is staged
+-- a file is set to the staged bytes
 of_staged : (held : List ℕ) (s after : State) (it : Change) (f : NewFile) → it ≡ change.SetFile f → IsChangeOf (λ bytes. held ≡ bytes) s it after → IsFileSet s f held after
 of_staged held s after it f is h =
     let set = subst (λ (x : Change). IsChangeOf (λ bytes. held ≡ bytes) s x after) is h in

@@ -7,7 +7,7 @@ use Rattle.sqlkeeper.proofs.Reopened.{accepted, emptied, failed, others, spared}
 use Rattle.sqlkeeper.proofs.Stays.{left_alone}
 use Rattle.sqlkeeper.proofs.file_keeper.SqlKeeper.migrate.Goals as goal
 
--- ---- a file of version 2, whose table `staged` was emptied
+-- ---- a file of version 2 whose table `staged` was emptied
 
 pub returns-in-Ok-clause-accepts : goal.returns-in-Ok-clause-accepts
 returns-in-Ok-clause-accepts g c ours clean =
@@ -85,7 +85,7 @@ returns-in-Err-empty_file-clause-untouched g c other not_named =
     let new = state g.S.Store c.empty_file.new.conn in
     untouched_never old mid c.in-Ok-Second.ensures.rest new c.empty_file.ensures.honest (λ clean. not_named (subst (λ f. HasNamesOf f old.now.schema) c.in-Ok-Second.field-0-is (c.in-Ok-Second.ensures.named clean)))
 
--- ---- one of version 1
+-- ---- a file of version 1
 
 pub returns-in-Ok-upgrade_file-clause-means : goal.returns-in-Ok-upgrade_file-clause-means
 returns-in-Ok-upgrade_file-clause-means g c s is =
@@ -153,7 +153,7 @@ returns-in-Ok-clause-named g c clean = inr (subst (λ f. HasNamesOf f (state g.S
 pub returns-in-Ok-upgrade_file-clause-named : goal.returns-in-Ok-upgrade_file-clause-named
 returns-in-Ok-upgrade_file-clause-named g c clean = inl (subst (λ f. HasNamesOf f (state g.S.Store c.args.conn).now.schema) c.in-Ok-First.field-0-is (c.in-Ok-First.ensures.named (c.upgrade_file.ensures.honest clean)))
 
--- ---- a file that has other tables than those of version 1
+-- ---- a file whose tables are not those of version 1
 
 pub returns-in-Ok-upgrade_file-clause-same : goal.returns-in-Ok-upgrade_file-clause-same
 returns-in-Ok-upgrade_file-clause-same g c ours other clean = absurd (other (subst (λ f. HasNamesOf f (state g.S.Store c.args.conn).now.schema) c.in-Ok-First.field-0-is (c.in-Ok-First.ensures.named (c.upgrade_file.ensures.honest clean))))
@@ -172,7 +172,7 @@ returns-in-Err-upgrade_file-clause-untouched g c other not_second =
     let end = state g.S.Store c.upgrade_file.new.conn in
     untouched_never old mid c.in-Ok-First.ensures.rest end c.upgrade_file.ensures.honest (λ clean. other (subst (λ f. HasNamesOf f old.now.schema) c.in-Ok-First.field-0-is (c.in-Ok-First.ensures.named clean)))
 
--- ---- what is left of a file of version 2 with nothing staged
+-- ---- what remains of a file of version 2 with nothing staged
 
 pub returns-in-Err-empty_file-clause-idle : goal.returns-in-Err-empty_file-clause-idle
 returns-in-Err-empty_file-clause-idle g c ours none other =

@@ -7,7 +7,7 @@ use Rattle.sqlkeeper.proofs.Reopened.{accepted, crashes, emptied, failed, means_
 use Rattle.sqlkeeper.proofs.Stays.{left_alone}
 use Rattle.sqlkeeper.proofs.file_keeper.SqlKeeper.open.Goals as goal
 
--- ---- a sound file, whose table `staged` was emptied
+-- ---- a sound file whose table `staged` was emptied
 
 pub returns-in-Ok-clause-accepts : goal.returns-in-Ok-clause-accepts
 returns-in-Ok-clause-accepts g c ours clean =
@@ -60,7 +60,7 @@ returns-in-Ok-clause-durable g c clean s keeps =
     left_alone (λ k. state g.S.Store k.conn) _ s keeps.sound clean (c.in-Ok.ensures.opened clean).1
     (leaves_kept end s (c.in-Ok.ensures.opened clean).0 (λ db. g.met.S.Store.settled c.empty_file.new.conn.store db (c.in-Ok.ensures.opened clean).0) keeps.means)
 
--- ---- one whose table `staged` could not be emptied
+-- ---- a sound file whose table `staged` could not be emptied
 
 pub returns-in-Err-empty_file-clause-failed : goal.returns-in-Err-empty_file-clause-failed
 returns-in-Err-empty_file-clause-failed g c =
@@ -81,7 +81,7 @@ returns-in-Err-empty_file-clause-others g c =
 pub returns-in-Err-empty_file-clause-untouched : goal.returns-in-Err-empty_file-clause-untouched
 returns-in-Err-empty_file-clause-untouched g c other = absurd (other (c.in-Ok-Sound.ensures.named c.in-Ok-Sound.field-0-is))
 
--- ---- one that is refused
+-- ---- a refused file
 
 pub returns-in-Ok-OtherVersion-clause-version : goal.returns-in-Ok-OtherVersion-clause-version
 returns-in-Ok-OtherVersion-clause-version g c ours told clean was_open =

@@ -4,7 +4,7 @@ use Rattle.std.proofs.lemmas.List.{length-drop, take_all, take_min}
 use Rattle.sqltables.proofs.Gathering.{no_piece}
 use Rattle.sqlstatements.proofs.pieces.Pieces.piece.Goals as goal
 
--- the rest of the bytes, and as much of it as a piece has
+-- the remaining bytes, and as many of them as a piece holds
 take_rest : (bytes : List ℕ) (start n : ℕ) → n ≡ min (length (take (length bytes - start) (drop start bytes))) 65536
     → take n (take (length bytes - start) (drop start bytes)) ≡ take 65536 (drop start bytes)
 take_rest bytes start n is =

@@ -1,0 +1,61 @@
+use Rattle.std.proofs.Common.{◌≡◌, ◌+◌, ◌-◌, ◌<◌, ◌++◌, inl, inr, length, min, arith, rules, sym, ap, subst, subst₂, ◌∙◌}
+use Rattle.std.specs.Prelude.{◌≢◌}
+use Rattle.sqlite.specs.Held.{state}
+use Rattle.sqlite.specs.State.{HasCleanDisk}
+use Rattle.boxes.specs.State.{Place}
+use Rattle.sqltables.specs.Pieces.{HasPiece, IsPieceAt}
+use Rattle.sqltables.proofs.Gathering.{Gathered, ReadsNext, OpensOurs, gathers, ours_at, whole_at, no_bytes}
+use Rattle.sqlaudit.proofs.Digested.{lacked_at, next_misfits}
+use Rattle.sqlaudit.proofs.digests.find_bytes.Goals as goal
+
+pub loop-tx-preserved : goal.loop-tx-preserved
+loop-tx-preserved g c =
+    let place : Place = record { box = c.args.in_box.now; name = c.args.name.now } in
+    let entry = state g.S.Store c.args.tx.now.conn.now in
+    let mid = state g.S.Store c.loop-tx.tx.conn.now in
+    let now = state g.S.Store c.read_piece.new.tx.conn.now in
+    let bytes = c.loop-tx.bytes.items in
+    let piece = c.in-Some.piece.items in
+    let next : ReadsNext mid now place c.loop-tx.part piece = record {
+      read = λ v ours whole clean. subst (IsPieceAt (mid.now.trees 9) place c.loop-tx.part) c.in-Some.is (c.in_ok-piece.ensures.read v ours.version ours.schema whole ours.inside clean);
+      same = λ v ours clean. c.in_ok-piece.ensures.same v ours.version ours.schema ours.inside clean;
+      mode = c.in_ok-piece.ensures.mode;
+      running = λ clean inside. c.in_ok-piece.ensures.rest.running clean inside;
+      uncommitted = c.read_piece.ensures.rest.uncommitted;
+      survives = c.read_piece.ensures.rest.survives;
+    } in
+    let count : c.in-Some-checked_add.next ≡ c.loop-tx.part + 1 = search rules in
+    let items : c.extend_from_slice.new.self.items ≡ bytes ++ piece = c.in_ok-extend_from_slice.ensures.items ∙ ap (◌++◌ bytes) c.deref.ensures.value in
+    let less : length bytes < c.args.size = search rules in
+    let fits : length piece ≡ min (c.args.size - length bytes) 65536 = search rules in
+    (search rules, subst₂ (Gathered entry now place c.args.size) (sym items) (sym count) (gathers entry mid now place c.args.size bytes piece c.loop-tx.part c.loop-tx.invariant.1 next less fits))
+
+pub returns-in_default-clause-read : goal.returns-in_default-clause-read
+returns-in_default-clause-read g c v ours has whole inside clean =
+    let place : Place = record { box = c.args.in_box.now; name = c.args.name.now } in
+    let entry = state g.S.Store c.args.tx.now.conn.now in
+    let mid = state g.S.Store c.loop-tx.tx.conn.now in
+    let bytes = c.loop-tx.bytes.items in
+    let first : OpensOurs v entry = record { version = ours; schema = has; inside = inside } in
+    let early : HasCleanDisk mid = omega (arith, clean, c.read_piece.ensures.rest.survives.clean) in
+    let now = ours_at entry mid place c.args.size bytes c.loop-tx.part c.loop-tx.invariant.1 v first early in
+    let none = subst (IsPieceAt (mid.now.trees 9) place c.loop-tx.part) c.in_default.is
+    (c.in_ok-piece.ensures.read v now.version now.schema (whole_at entry mid place c.args.size bytes c.loop-tx.part c.loop-tx.invariant.1 v first early whole) now.inside clean) in
+    inl (no_bytes entry mid place c.args.size bytes c.loop-tx.part c.loop-tx.invariant.1 v first early (search rules) none)
+
+pub returns-then-len-min-clause-read : goal.returns-then-len-min-clause-read
+returns-then-len-min-clause-read g c v ours has whole inside clean =
+    let place : Place = record { box = c.args.in_box.now; name = c.args.name.now } in
+    let entry = state g.S.Store c.args.tx.now.conn.now in
+    let mid = state g.S.Store c.loop-tx.tx.conn.now in
+    let bytes = c.loop-tx.bytes.items in
+    let piece = c.in-Some.piece.items in
+    let first : OpensOurs v entry = record { version = ours; schema = has; inside = inside } in
+    let early : HasCleanDisk mid = omega (arith, clean, c.read_piece.ensures.rest.survives.clean) in
+    let now = ours_at entry mid place c.args.size bytes c.loop-tx.part c.loop-tx.invariant.1 v first early in
+    let stands : HasPiece (mid.now.trees 9) place c.loop-tx.part piece = subst (IsPieceAt (mid.now.trees 9) place c.loop-tx.part) c.in-Some.is
+    (c.in_ok-piece.ensures.read v now.version now.schema (whole_at entry mid place c.args.size bytes c.loop-tx.part c.loop-tx.invariant.1 v first early whole) now.inside clean) in
+    let less : length bytes < c.args.size = search rules in
+    let other : length piece ≢ min (c.args.size - length bytes) 65536 = search rules in
+    lacked_at entry mid place c.args.size bytes c.loop-tx.part c.loop-tx.invariant.1 v first early
+    (inr (next_misfits entry mid place c.args.size bytes c.loop-tx.part c.loop-tx.invariant.1 v first early less piece stands other))

@@ -1,0 +1,182 @@
+use Rattle.std.proofs.Common.{◌≡◌, ◌∙◌, ◌+◌, ◌++◌, ◌-◌, ◌≤◌, ℕ, pos, [], get_or, to_z, of_z, w64, length, rules, arith, refl, subst}
+use Rattle.std.specs.Prelude.{Contains, MatchBool}
+use Rattle.boxes.specs.State.{place_cmp}
+use Rattle.boxes.proofs.Lookups.{place_total}
+use Rattle.boxes.proofs.FileTotals.{place_same}
+use Rattle.sqlite.specs.Held.{state}
+use Rattle.sqlite.specs.State.{HasCleanDisk}
+use Rattle.sqltables.specs.Schema.{Version}
+use Rattle.sqlaudit.specs.declared.lines.FileLine.{FileLine}
+use Rattle.sqlaudit.specs.Lines.{IsFileLine}
+use Rattle.sqlaudit.specs.Opened.{HasBytes, LacksBytes}
+use Rattle.sqlaudit.specs.Sorting.{AreFiled, AreUnfiled, IsFiled, spot_of}
+use Rattle.sqlaudit.proofs.Entries.{start}
+use Rattle.sqlaudit.proofs.FileEntries.{no_sums}
+use Rattle.sqlaudit.proofs.LongTexts.{files_between, file_shown}
+use Rattle.sqlaudit.proofs.PortionRows.{ReadsOn, GoesFrom, none_read}
+use Rattle.sqlaudit.proofs.WalkedFiles.{OpensWhole, opens_files, seen_then, unfiled_portion, lacking_portion, walked_on, all_walked}
+use Rattle.sqlaudit.proofs.walking.test_files.Goals as goal
+
+pub loop-at-init : goal.loop-at-init
+loop-at-init g c =
+    let entry = state g.S.Store c.args.tx.now.conn.now in (
+      refl,
+      record {
+        done = [];
+        portioned = none_read IsFileLine files_between entry c.args.numbers.now;
+        filed = λ rs h. rw (c.new-files.ensures.empty, c.new-sums.ensures.empty) (start place_cmp place_total place_same spot_of (λ (n : ℕ). n) (IsFiled rs), no_sums rs);
+        bytes = λ v opens clean file there. absurd (omega (arith, there.1));
+      },
+    )
+
+pub returns-then-not-branch-clause-read : goal.returns-then-not-branch-clause-read
+returns-then-not-branch-clause-read g c rs held are v ours schema whole running clean =
+    let entry = state g.S.Store c.args.tx.now.conn.now in
+    let mid = state g.S.Store c.loop-at.tx.conn.now in
+    let now = state g.S.Store c.list_between.new.tx.conn.now in
+    let numbers = c.args.numbers.now in
+    let at = c.loop-at.at in
+    let end = at + c.min.result in
+    let more = c.in_ok-lines.lines.items in
+    let first : to_z w64 (of_z w64 (get_or numbers at (pos 0))) ≡ get_or numbers at (pos 0) = search rules in
+    let last : to_z w64 (of_z w64 (get_or numbers (end - 1) (pos 0))) ≡ get_or numbers (end - 1) (pos 0) = search rules in
+    let next : ReadsOn IsFileLine files_between mid now (get_or numbers at (pos 0)) (get_or numbers (end - 1) (pos 0)) more = record {
+      read = rw (first, last) at c.in_ok-lines.ensures.read;
+      running = c.in_ok-lines.ensures.rest.running;
+      uncommitted = c.list_between.ensures.rest.uncommitted;
+      survives = c.list_between.ensures.rest.survives;
+    } in
+    let within : end ≤ length numbers = search rules in
+    let w = c.loop-at.invariant.1 in
+    let unfiled = subst (λ b. MatchBool b (AreFiled rs (w.done ++ c.deref.result.now) c.add_lines.new.files c.add_lines.new.sums) (AreUnfiled rs (w.done ++ c.deref.result.now))) c.if-not-branch.true
+    (c.in_ok-add_lines.ensures rs w.done held (w.filed rs held)) in
+    unfiled_portion entry mid now c.args.receipts.now numbers at end c.loop-at.files c.loop-at.sums w more next within rs v (record { version = ours; schema = schema; whole = whole; running = running }) clean
+    (subst (λ ls. AreUnfiled rs (w.done ++ ls)) c.deref.ensures.value unfiled)
+
+pub returns-then-not-branch-clause-same : goal.returns-then-not-branch-clause-same
+returns-then-not-branch-clause-same g c v ours schema whole running clean =
+    let entry = state g.S.Store c.args.tx.now.conn.now in
+    let mid = state g.S.Store c.loop-at.tx.conn.now in
+    let now = state g.S.Store c.list_between.new.tx.conn.now in
+    let numbers = c.args.numbers.now in
+    let at = c.loop-at.at in
+    let end = at + c.min.result in
+    let more = c.in_ok-lines.lines.items in
+    let first : to_z w64 (of_z w64 (get_or numbers at (pos 0))) ≡ get_or numbers at (pos 0) = search rules in
+    let last : to_z w64 (of_z w64 (get_or numbers (end - 1) (pos 0))) ≡ get_or numbers (end - 1) (pos 0) = search rules in
+    let next : ReadsOn IsFileLine files_between mid now (get_or numbers at (pos 0)) (get_or numbers (end - 1) (pos 0)) more = record {
+      read = rw (first, last) at c.in_ok-lines.ensures.read;
+      running = c.in_ok-lines.ensures.rest.running;
+      uncommitted = c.list_between.ensures.rest.uncommitted;
+      survives = c.list_between.ensures.rest.survives;
+    } in
+    let within : end ≤ length numbers = search rules in
+    (seen_then entry mid now c.args.receipts.now numbers at end c.loop-at.files c.loop-at.sums c.loop-at.invariant.1 more next within v (record { version = ours; schema = schema; whole = whole; running = running }) clean).same
+
+pub returns-then-not-branch-2-clause-read : goal.returns-then-not-branch-2-clause-read
+returns-then-not-branch-2-clause-read g c rs held are v ours schema whole running clean =
+    let entry = state g.S.Store c.args.tx.now.conn.now in
+    let mid = state g.S.Store c.loop-at.tx.conn.now in
+    let now = state g.S.Store c.list_between.new.tx.conn.now in
+    let then = state g.S.Store c.have_bytes.new.tx.conn.now in
+    let given = c.args.receipts.now in
+    let numbers = c.args.numbers.now in
+    let at = c.loop-at.at in
+    let end = at + c.min.result in
+    let more = c.in_ok-lines.lines.items in
+    let first : to_z w64 (of_z w64 (get_or numbers at (pos 0))) ≡ get_or numbers at (pos 0) = search rules in
+    let last : to_z w64 (of_z w64 (get_or numbers (end - 1) (pos 0))) ≡ get_or numbers (end - 1) (pos 0) = search rules in
+    let next : ReadsOn IsFileLine files_between mid now (get_or numbers at (pos 0)) (get_or numbers (end - 1) (pos 0)) more = record {
+      read = rw (first, last) at c.in_ok-lines.ensures.read;
+      running = c.in_ok-lines.ensures.rest.running;
+      uncommitted = c.list_between.ensures.rest.uncommitted;
+      survives = c.list_between.ensures.rest.survives;
+    } in
+    let within : end ≤ length numbers = search rules in
+    let goes : GoesFrom now then = record {
+      uncommitted = c.have_bytes.ensures.rest.uncommitted;
+      survives = c.have_bytes.ensures.rest.survives;
+      running = c.in_ok-have_bytes.ensures.rest.running;
+      same = λ v ours schema running clean. c.in_ok-have_bytes.ensures.same v ours schema running clean;
+    } in
+    let read = λ (v : Version) (opens : OpensWhole v now) (clean : HasCleanDisk then).
+    subst (λ ls. MatchBool c.in_ok-have_bytes.field-0 ((file : FileLine) → Contains ls file → HasBytes (now.now.trees 9) given file) ((file : FileLine) × Contains ls file × LacksBytes (now.now.trees 9) given file))
+    c.deref-in-loop-at.ensures.value (c.in_ok-have_bytes.ensures.read v opens.version opens.schema opens.whole opens.running clean) in
+    lacking_portion entry mid now given numbers at end c.loop-at.files c.loop-at.sums c.loop-at.invariant.1 more next within then goes c.in_ok-have_bytes.field-0 read c.if-not-branch-2.true rs v
+    (record { version = ours; schema = schema; whole = whole; running = running }) clean
+
+pub returns-then-not-branch-2-clause-same : goal.returns-then-not-branch-2-clause-same
+returns-then-not-branch-2-clause-same g c v ours schema whole running clean =
+    let entry = state g.S.Store c.args.tx.now.conn.now in
+    let mid = state g.S.Store c.loop-at.tx.conn.now in
+    let now = state g.S.Store c.list_between.new.tx.conn.now in
+    let then = state g.S.Store c.have_bytes.new.tx.conn.now in
+    let given = c.args.receipts.now in
+    let numbers = c.args.numbers.now in
+    let at = c.loop-at.at in
+    let end = at + c.min.result in
+    let more = c.in_ok-lines.lines.items in
+    let first : to_z w64 (of_z w64 (get_or numbers at (pos 0))) ≡ get_or numbers at (pos 0) = search rules in
+    let last : to_z w64 (of_z w64 (get_or numbers (end - 1) (pos 0))) ≡ get_or numbers (end - 1) (pos 0) = search rules in
+    let next : ReadsOn IsFileLine files_between mid now (get_or numbers at (pos 0)) (get_or numbers (end - 1) (pos 0)) more = record {
+      read = rw (first, last) at c.in_ok-lines.ensures.read;
+      running = c.in_ok-lines.ensures.rest.running;
+      uncommitted = c.list_between.ensures.rest.uncommitted;
+      survives = c.list_between.ensures.rest.survives;
+    } in
+    let within : end ≤ length numbers = search rules in
+    let goes : GoesFrom now then = record {
+      uncommitted = c.have_bytes.ensures.rest.uncommitted;
+      survives = c.have_bytes.ensures.rest.survives;
+      running = c.in_ok-have_bytes.ensures.rest.running;
+      same = λ v ours schema running clean. c.in_ok-have_bytes.ensures.same v ours schema running clean;
+    } in
+    let early : HasCleanDisk now = omega (arith, clean, goes.survives.clean) in
+    let s = seen_then entry mid now given numbers at end c.loop-at.files c.loop-at.sums c.loop-at.invariant.1 more next within v (record { version = ours; schema = schema; whole = whole; running = running }) early in
+    goes.same v ours s.schema s.running clean ∙ s.same
+
+pub loop-at-preserved : goal.loop-at-preserved
+loop-at-preserved g c =
+    let entry = state g.S.Store c.args.tx.now.conn.now in
+    let mid = state g.S.Store c.loop-at.tx.conn.now in
+    let now = state g.S.Store c.list_between.new.tx.conn.now in
+    let then = state g.S.Store c.have_bytes.new.tx.conn.now in
+    let given = c.args.receipts.now in
+    let numbers = c.args.numbers.now in
+    let at = c.loop-at.at in
+    let end = at + c.min.result in
+    let more = c.in_ok-lines.lines.items in
+    let first : to_z w64 (of_z w64 (get_or numbers at (pos 0))) ≡ get_or numbers at (pos 0) = search rules in
+    let last : to_z w64 (of_z w64 (get_or numbers (end - 1) (pos 0))) ≡ get_or numbers (end - 1) (pos 0) = search rules in
+    let next : ReadsOn IsFileLine files_between mid now (get_or numbers at (pos 0)) (get_or numbers (end - 1) (pos 0)) more = record {
+      read = rw (first, last) at c.in_ok-lines.ensures.read;
+      running = c.in_ok-lines.ensures.rest.running;
+      uncommitted = c.list_between.ensures.rest.uncommitted;
+      survives = c.list_between.ensures.rest.survives;
+    } in
+    let within : end ≤ length numbers = search rules in
+    let goes : GoesFrom now then = record {
+      uncommitted = c.have_bytes.ensures.rest.uncommitted;
+      survives = c.have_bytes.ensures.rest.survives;
+      running = c.in_ok-have_bytes.ensures.rest.running;
+      same = λ v ours schema running clean. c.in_ok-have_bytes.ensures.same v ours schema running clean;
+    } in
+    let read = λ (v : Version) (opens : OpensWhole v now) (clean : HasCleanDisk then).
+    subst (λ ls. MatchBool c.in_ok-have_bytes.field-0 ((file : FileLine) → Contains ls file → HasBytes (now.now.trees 9) given file) ((file : FileLine) × Contains ls file × LacksBytes (now.now.trees 9) given file))
+    c.deref-in-loop-at.ensures.value (c.in_ok-have_bytes.ensures.read v opens.version opens.schema opens.whole opens.running clean) in
+    let w = c.loop-at.invariant.1 in (
+      c.have_bytes.ensures.rest.same_reference ∙ c.list_between.ensures.rest.same_reference ∙ c.loop-at.invariant.0,
+      walked_on entry mid now given numbers at end c.loop-at.files c.loop-at.sums w more next within then goes c.in_ok-have_bytes.field-0 read c.if-not-branch-2.false c.add_lines.new.files c.add_lines.new.sums
+          (λ rs held. subst (λ ls. AreFiled rs (w.done ++ ls) c.add_lines.new.files c.add_lines.new.sums) c.deref.ensures.value
+          (subst (λ b. MatchBool b (AreFiled rs (w.done ++ c.deref.result.now) c.add_lines.new.files c.add_lines.new.sums) (AreUnfiled rs (w.done ++ c.deref.result.now))) c.if-not-branch.false
+          (c.in_ok-add_lines.ensures rs w.done held (w.filed rs held)))),
+    )
+
+pub returns-clause-read : goal.returns-clause-read
+returns-clause-read g c rs held are v ours schema whole running clean =
+    all_walked (state g.S.Store c.args.tx.now.conn.now) (state g.S.Store c.loop-at.tx.conn.now) c.args.receipts.now c.args.numbers.now c.loop-at.at (record { files = c.loop-at.files; sums = c.loop-at.sums }) c.loop-at.invariant.1 c.loop-at-test.false
+    rs held are v (record { version = ours; schema = schema; whole = whole; running = running }) clean
+
+pub returns-clause-same : goal.returns-clause-same
+returns-clause-same g c v ours schema whole running clean =
+    c.loop-at.invariant.1.portioned.same v 6 [] file_shown (opens_files v (state g.S.Store c.args.tx.now.conn.now) (record { version = ours; schema = schema; whole = whole; running = running })) clean
