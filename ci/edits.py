@@ -18,11 +18,14 @@ name alone. Such an edit counts, and is told. In a check that edits share it cou
 what is gone; a lemma that was not admitted may be another edit's doing, so such an edit is tried alone.
 
 The harmless edits `ci/controls/NAME/*.edit` are tried among the others, and must be found to be proved still. Each edit
-that is not refused, and each harmless one that is, is named. The last line is `N passed, M failed`.
+that is not refused, and each harmless one that is, is named. The last line is `N passed, M failed`, or `N passed, M failed, K
+skipped`.
 
-What a try showed is kept on this machine, as `rt ci` keeps what it proved: under a sum of all that the try read, which is
-the toolchain, the crate with its edit and the crates below it. A later run, in any checkout here, tries only the
-others; `--anew` tries all.
+What a try showed is kept on this machine under a sum of all that the try read, which is the toolchain, the crate with its edit
+and the crates below it. A later run, in any checkout here, tries only the others; `--anew` tries all.
+
+The whole gate has a limit of time, which a slow machine may reach. After `--minutes` no check begins. Edits that were not tried
+then are named and counted as skipped, and a later run tries them.
 """
 
 import argparse
@@ -61,6 +64,7 @@ GONE = re.compile(r"has no field|is not in scope|has no `")
 NAMES = re.compile(rf"{GONE.pattern}|was not admitted")
 STILL_PROVED = "NOT REFUSED: the crate is still proved with this edit"
 BY_A_NAME = "refused, since a proof file names what it took away"
+NO_TIME = "SKIPPED: there was no time to try it"
 
 
 @dataclasses.dataclass(frozen=True)
@@ -342,11 +346,12 @@ class Trial:
         return [(it, reading.fault_beside(it)) for it in refused]
 
 
-def settled(trials, jobs, beside):
-    """Runs the checks side by side, as many as processors and memory allow, and yields each edit with its crate and fault."""
+def settled(trials, jobs, beside, last):
+    """Runs the checks side by side, as many as processors and memory allow, and yields each edit with its crate and fault. No
+    check begins after the moment `last` of the monotonic clock."""
     running = {}
     with concurrent.futures.ThreadPoolExecutor(jobs) as pool:
-        while begin_checks(trials, running, pool, jobs // 2 if beside.is_running() else jobs, beside) or running:
+        while begin_checks(trials, running, pool, jobs // 2 if beside.is_running() else jobs, beside, last) or running:
             done = concurrent.futures.wait(running, SETTLES, concurrent.futures.FIRST_COMPLETED).done if running else []
             for ended in done:
                 trial, group = running.pop(ended)
@@ -356,8 +361,9 @@ def settled(trials, jobs, beside):
                 yield from ((trial.crate, *it) for it in found)
             if not running:
                 time.sleep(1)
+    is_over = time.monotonic() > last
     for trial in trials:
-        fault = f"NOT TRIED: there is no library of {', '.join(trial.lacks(beside))} as it stands"
+        fault = NO_TIME if is_over else f"NOT TRIED: there is no library of {', '.join(trial.lacks(beside))} as it stands"
         yield from ((trial.crate, it, fault) for it in trial.left())
 
 
@@ -366,8 +372,11 @@ def room_of(running, beside):
     return (0.4 if beside.is_running() else 0.85) * (RT.free() + sum(it.need for it, _ in running.values()))
 
 
-def begin_checks(trials, running, pool, jobs, beside):
-    """Begins the checks for which there is room, those of the first crates first. Gives whether any may come later."""
+def begin_checks(trials, running, pool, jobs, beside, last):
+    """Begins the checks for which there is room, those of the first crates first. Gives whether any may come later: none does
+    after the moment `last`."""
+    if time.monotonic() > last:
+        return False
     memory = room_of(running, beside)
     for trial in trials:
         if trial.lacks(beside):
@@ -411,6 +420,7 @@ def main():
     parser.add_argument("--list", action="store_true", help="prove nothing: tell how each edit would be tried")
     parser.add_argument("--anew", action="store_true", help="try also what earlier runs on this machine tried")
     parser.add_argument("--beside", type=pathlib.Path, metavar="FILE", help="rt ci still runs, until FILE is there")
+    parser.add_argument("--minutes", type=float, default=math.inf, help="begin no check after so many")
     given = parser.parse_args()
     # what `rt ci` builds while the edits are read is of this run
     beside = Beside(given.beside)
@@ -425,7 +435,10 @@ def main():
     RT.rtlib.guarded()
     with tempfile.TemporaryDirectory(prefix="edits-") as room:
         trials = trials_of(of_crates, given.keep or pathlib.Path(room), given.jobs)
-        for crate, edit, fault in settled(trials, given.jobs, beside):
+        for crate, edit, fault in settled(trials, given.jobs, beside, begin + 60 * given.minutes):
+            if fault == NO_TIME:
+                count.skip(edit.name, fault)
+                continue
             wrong = edit.fault_of(fault)
             count.add(edit.name, wrong)
             if fault == BY_A_NAME and not wrong:

@@ -76,11 +76,12 @@ def side_by_side(call, items):
 
 
 class Count:
-    """How many tests passed and failed."""
+    """How many tests passed, failed and were skipped."""
 
     def __init__(self):
         self.passed = 0
         self.failed = 0
+        self.skipped = 0
 
     def add(self, name, fault):
         """A test passed if there is no fault to tell."""
@@ -90,6 +91,11 @@ class Count:
         else:
             self.passed += 1
 
+    def skip(self, name, reason):
+        self.skipped += 1
+        print(f"{name}: {reason}")
+
     def end(self):
-        print(f"{self.passed} passed, {self.failed} failed")
+        skipped = f", {self.skipped} skipped" if self.skipped else ""
+        print(f"{self.passed} passed, {self.failed} failed{skipped}")
         sys.exit(self.failed > 0 or self.passed == 0)

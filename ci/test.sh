@@ -1,12 +1,14 @@
 #!/usr/bin/env bash
 # Runs all tests: `rt ci`, the must-fail edits beside it, and then the tests of the built programs, by pytest. Each part ends
-# with `N passed, M failed`; a part that does not, or cannot be run, has failed. The last line is the sum of all.
+# with `N passed, M failed`; a part that does not, or cannot be run, has failed. The last line is the sum of all. The edits are
+# given a limit of time, so that the whole ends in 180 minutes on a slow machine too: `, K skipped` then says how many are left.
 set -uo pipefail
 cd "$(dirname "$0")/.." || exit 2
 work=$(mktemp -d)
 trap 'rm -rf "$work"' EXIT
 passed=0
 failed=0
+skipped=0
 TIMEFORMAT='%R %U %S'
 
 # Runs a part, shows what it says, and keeps that, its time and its status in files of its name.
@@ -21,10 +23,11 @@ run() {
 add() {
     local name=$1 status line
     read -r status <"$work/$name.status"
-    line=$(grep -E '^[0-9]+ passed, [0-9]+ failed$' "$work/$name.log" | tail -1)
-    if [[ $line =~ ^([0-9]+)\ passed,\ ([0-9]+)\ failed$ ]]; then
+    line=$(grep -E '^[0-9]+ passed, [0-9]+ failed(, [0-9]+ skipped)?$' "$work/$name.log" | tail -1)
+    if [[ $line =~ ^([0-9]+)\ passed,\ ([0-9]+)\ failed(,\ ([0-9]+)\ skipped)?$ ]]; then
         passed=$((passed + BASH_REMATCH[1]))
         failed=$((failed + BASH_REMATCH[2]))
+        skipped=$((skipped + ${BASH_REMATCH[4]:-0}))
         if [ "$status" -ne 0 ] && [ "${BASH_REMATCH[2]}" -eq 0 ]; then
             failed=$((failed + 1))
             line="$line, but status $status"
@@ -90,7 +93,7 @@ alone=(ci/test_{serve,kills,crowd,stops,page,clerk,memory,deploy,package}.py)
 SECONDS=0
 # The edits of a crate are tried once `rt ci` has built its library, and beside the other parts, most of which wait for
 # servers and browsers.
-run edits python3 -B ci/edits.py --beside "$work/rt-ci.status" >"$work/edits" &
+run edits python3 -B ci/edits.py --beside "$work/rt-ci.status" --minutes 135 >"$work/edits" &
 count rt-ci rt ci
 count side-by-side tests -n "$(nproc)" "${beside[@]}"
 count one-by-one tests --shots "$work/shots" "${alone[@]}"
@@ -101,5 +104,9 @@ add edits
 echo
 cat "$work/times"
 echo "$((SECONDS / 60)) min $((SECONDS % 60)) s in all"
-echo "$passed passed, $failed failed"
+if [ "$skipped" -eq 0 ]; then
+    echo "$passed passed, $failed failed"
+else
+    echo "$passed passed, $failed failed, $skipped skipped"
+fi
 [ "$failed" -eq 0 ]
