@@ -19,7 +19,7 @@ from shared import load, machine
 
 HERE = pathlib.Path(__file__).resolve().parent
 PYTHON = [sys.executable, "-B"]
-# What a part needs beside Python: whether it is there, and what gives it.
+# What a part needs besides Python: a test whether it is installed, and what provides it.
 NEEDS = {
     "rt": (lambda: shutil.which("rt"), "the toolchain's command rt"),
     "cc": (lambda: shutil.which("cc"), "Debian's package gcc"),
@@ -34,7 +34,7 @@ NEEDS = {
 
 @dataclasses.dataclass(frozen=True)
 class Part:
-    """A bench: its own command, with words that stand for what the run gives, and with few rounds in place of many."""
+    """A bench: its command, with placeholders that the run fills in, and arguments for many rounds or few."""
 
     title: str
     command: list
@@ -67,7 +67,7 @@ PARTS = {
 
 
 def version(name, words, form):
-    """What a program says of its version."""
+    """The version that a program reports."""
     if not shutil.which(words[0]):
         return f"no {name}"
     ran = subprocess.run(words, capture_output=True, text=True, check=False)
@@ -81,7 +81,7 @@ def versions():
 
 
 def result(name, words, part, quick, folder):
-    """What a part prints, and whether it ran."""
+    """The text for a part, and whether the part succeeded."""
     if lacks := part.lacks():
         return f"Not run: lacking is {', '.join(lacks)}.\n", False
     given = {"DROP": words.drop.resolve(), "FOLDER": folder, "OWN": folder / name}
@@ -103,7 +103,7 @@ def run_part(name, words, folder):
 
 @contextlib.contextmanager
 def folder_of(words):
-    """The folder that was given, where the programs of the benches stay; else one that goes."""
+    """The given folder, where the benches' programs stay; otherwise a temporary one."""
     if words.folder:
         words.folder.mkdir(parents=True, exist_ok=True)
         yield words.folder.resolve()

@@ -1,5 +1,5 @@
 #!/usr/bin/env bash
-# Runs all benches, one after the other, and prints one Markdown text. bench/README.md says more.
+# Runs all benches, one after the other, and prints one Markdown text. More in bench/README.md.
 # Usage: bench/run.sh DROP [--quick] [--only NAME].. [--folder FOLDER]
 set -eu
 export PATH="$PATH:/usr/sbin" # where Debian has nginx

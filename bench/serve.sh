@@ -1,5 +1,5 @@
 #!/usr/bin/env bash
-# `drop serve` beside nginx and Swift, one connection at a time, by the same clients in the same run: bench/serve/README.md.
+# Measures `drop serve`, nginx and Swift with the same clients in the same run: bench/serve/README.md.
 # Usage: bench/serve.sh DROP [--seconds S] [--rounds N] [--folder FOLDER] [--profile]
 set -eu
 export PATH="$PATH:/usr/sbin" # where Debian has nginx

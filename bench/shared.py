@@ -1,5 +1,5 @@
-"""What the benches share: the machine and its load, tables in Markdown, and Python's `sqlite3` as a peer that syncs each
-commit."""
+"""Code that the benches share: the machine and its load, Markdown tables, perf's report and counts of system calls in words, and
+Python's `sqlite3` as a peer that syncs each commit."""
 
 import datetime
 import os
@@ -14,7 +14,7 @@ DEAREST = 5  # how many functions are shown
 
 
 class Wrong(Exception):
-    """A program failed, or said something else than what is owed."""
+    """A program failed, or its output differs from the expected output."""
 
 
 def cpu_field(name):
@@ -23,13 +23,13 @@ def cpu_field(name):
 
 
 def processor():
-    """Its name, and what it has for SHA."""
+    """The processor's name, and its SHA instructions."""
     flags = [it for it in cpu_field("flags").split() if it.startswith("sha")]
     return f"{cpu_field('model name')}, {' '.join(flags) or 'no SHA instructions'}"
 
 
 def disk_of(folder):
-    """The kind of its file system."""
+    """The type of the folder's file system."""
     words = ["stat", "-f", "-c", "%T", folder]
     return subprocess.run(words, capture_output=True, text=True, check=True).stdout.strip()
 
@@ -50,12 +50,12 @@ def print_table(head, rows):
 
 
 def timings(best, seconds):
-    """Microseconds: the best, and in brackets the median."""
+    """Microseconds: the best, and the median in brackets."""
     return f"{best * 1e6:.0f} ({statistics.median(seconds) * 1e6:.0f})"
 
 
 def connected(file):
-    """A connection that commits each statement by itself, and asks the disk to keep each commit."""
+    """A connection that commits each statement separately, and syncs each commit to the disk."""
     db = sqlite3.connect(file, isolation_level=None)
     found = db.execute("PRAGMA journal_mode = WAL").fetchone()
     db.execute("PRAGMA synchronous = FULL")
@@ -65,20 +65,19 @@ def connected(file):
 
 
 def report(data, *more):
-    """The lines of perf's report, each a function's part of the samples in percent, the nanoseconds, `k` for the system, and its
-    name; the dearest first."""
+    """The lines of perf's report, slowest function first: percentage of the samples, nanoseconds, `k` for the kernel, name."""
     words = ["perf", "report", "-i", data, "--stdio", "--no-children", "-g", "none", "-F", "overhead,period,symbol", "-t", "|"]
     out = subprocess.run([*words, *more], capture_output=True, text=True, check=True).stdout
     return re.findall(r"^\s*([\d.]+)%\s*\|\s*(\d+)\s*\|\[(.)\] (.*?)\s*$", out, re.M)
 
 
 def dearest(lines):
-    """The dearest functions of such lines, in words, without what tells the types of a generic one."""
+    """The slowest functions of such lines, as text, without the type suffixes of generic functions."""
     shown = [(re.sub(r"::<#\w+>", "", name), " (system)" if kind == "k" else "", part) for part, _, kind, name in lines[:DEAREST]]
     return ", ".join(f"`{name}`{where} {float(part):.0f}" for name, where, part in shown)
 
 
 def often(calls, times):
-    """The system calls, the most frequent first, each with how often it comes at a time; those of fewer than 0.1 are left out."""
+    """The system calls, the most frequent first, each with its count per time; counts below 0.1 are left out."""
     each = sorted(((count / times, name) for name, count in calls.items()), reverse=True)
     return ", ".join(f"{name} {count:.1f}" for count, name in each if count >= 0.1)

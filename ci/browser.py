@@ -1,4 +1,4 @@
-"""Debian's chromium, headless, driven by the WebDriver protocol over HTTP, with Python's `urllib` alone."""
+"""Debian's chromium, headless, driven by the WebDriver protocol over HTTP, with only Python's `urllib`."""
 
 import base64
 import contextlib
@@ -17,7 +17,7 @@ SECONDS = 30
 
 
 def until(what, call, seconds=SECONDS):
-    """What the call gives once it is true; it is asked again and again."""
+    """Repeats the call until its result is true, and returns that result."""
     end = time.monotonic() + seconds
     while not (found := call()):
         if time.monotonic() > end:
@@ -49,7 +49,7 @@ class Element:
 
 
 class Browser:
-    """A session of chromium's driver, in a folder of its own. For https any certificate is taken."""
+    """A session of chromium's driver, in a folder of its own. For https it accepts any certificate."""
 
     def __init__(self, folder, scheme="http"):
         self.folder, self.port, self.opened, self.path = folder, free_port(), 0, ""
@@ -113,7 +113,7 @@ class Browser:
         return until(script, lambda: self.js(script, *values))
 
     def open(self, host, page, link):
-        """A new load of a page with this link."""
+        """Loads a page anew with this link."""
         self.opened += 1
         self.ask("POST", "/url", {"url": f"{self.scheme}://{host}/{page}.html?{self.opened}#{link}"})
 
@@ -125,7 +125,7 @@ class Browser:
         return [Element(self, value) for value in found]
 
     def press(self, *keys):
-        """Each key down and up, at whatever has the focus."""
+        """Presses and releases each key, on whatever has the focus."""
         actions = [{"type": kind, "value": key} for key in keys for kind in ("keyDown", "keyUp")]
         self.ask("POST", "/actions", {"actions": [{"type": "key", "id": "keys", "actions": actions}]})
 
@@ -141,14 +141,14 @@ class Browser:
         self.cdp("Emulation.setEmulatedMedia", media=kind, features=named)
 
     def shot(self, file):
-        """A picture of the whole page."""
+        """Saves a screenshot of the whole page."""
         size = self.js("return [document.documentElement.clientWidth, document.documentElement.scrollHeight]")
         clip = {"x": 0, "y": 0, "width": size[0], "height": size[1], "scale": 1}
         found = self.cdp("Page.captureScreenshot", format="png", captureBeyondViewport=True, clip=clip)
         pathlib.Path(file).write_bytes(base64.b64decode(found["data"]))
 
     def downloaded(self, before):
-        """The one file that came since, whole."""
+        """The one file downloaded since `before`, once it is complete."""
         def new():
             names = set(os.listdir(self.downloads)) - before
             return names and not any(name.endswith(".crdownload") or name.startswith(".") for name in names) and names

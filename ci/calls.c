@@ -1,8 +1,8 @@
-// Tells what a program writes, for a test: of each call that was taken, in order, a line `KIND OFFSET LENGTH NAME` and then the
-// bytes of the call go to the file descriptor that CALLS_TOLD_TO names. KIND is `write`, `cut` (the file has OFFSET bytes now),
-// `sync`, or `send` for bytes that have no offset; NAME is what the descriptor leads to. It is loaded before the C library
-// (LD_PRELOAD), into the proved program as it was built (ci/test_stops.py). The toolchain has no headers of the C library, so what
-// is called of it is declared here.
+// Reports what a program writes, for a test. For each successful call, in order, a line `KIND OFFSET LENGTH NAME` and then the
+// bytes of the call go to the file descriptor named by CALLS_TOLD_TO. KIND is `write`, `cut` (the file now has OFFSET bytes),
+// `sync`, or `send` for bytes that have no offset; NAME is what the descriptor refers to. It is loaded before the C library
+// (LD_PRELOAD), into the proved program as it was built (ci/test_stops.py). The toolchain has no headers of the C library, so the
+// functions used are declared here.
 typedef unsigned long size_t;
 extern char *getenv(const char *);
 extern long strtol(const char *, char **, int);
@@ -11,7 +11,7 @@ extern int dprintf(int, const char *, ...);
 extern int snprintf(char *, size_t, const char *, ...);
 extern void abort(void);
 
-// The system's calls, on x86-64.
+// System call numbers, on x86-64.
 enum { WRITE = 1, PWRITE = 18, SENDTO = 44, FSYNC = 74, FDATASYNC = 75, FTRUNCATE = 77, READLINK = 89 };
 
 enum { LONGEST_NAME = 4096 };

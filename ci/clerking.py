@@ -1,4 +1,4 @@
-"""What a test of page/clerk.html does in a browser and what it finds there, and the links that `drop links` owes."""
+"""Helpers for tests of page/clerk.html: what they do and find in a browser, and the links expected of `drop links`."""
 
 import csv
 import datetime
@@ -39,7 +39,7 @@ def fill(case, form, **values):
 
 
 def send(case, form, **values):
-    """Fills the form in and sends it; the result, in the words of the page."""
+    """Fills in the form and sends it; returns the result, in the words of the page."""
     fill(case, form, **values)
     case.browser.js("document.getElementById('result').hidden = true")
     case.click(f"#{form}_go")
@@ -53,7 +53,7 @@ def again(case):
 
 
 def opened(case, preset="east=60", host=None):
-    """The page, opened anew."""
+    """Opens the page anew."""
     case.open("clerk", preset, host)
     case.browser.wait_for("return !document.getElementById('languages').hidden")
 
@@ -63,7 +63,7 @@ def use_key(case, key=ID, secret=WORD, **more):
 
 
 def begin(case, **key):
-    """The page with a key that the office knows as a clerk's."""
+    """Opens the page with a key that the office knows as a clerk's."""
     opened(case)
     found = use_key(case, **key)
     assert found["kind"] == "keyed", found
@@ -71,7 +71,7 @@ def begin(case, **key):
 
 
 def rows(case, query, *values):
-    """What stands in the office's tables; it is stopped for it."""
+    """Rows of the office's tables; the office is stopped while they are read."""
     case.office.kill()
     found = tables.rows(case.office.file, query, *values)
     case.office.start()
@@ -79,7 +79,7 @@ def rows(case, query, *values):
 
 
 def spoken(case, language, words):
-    """What the result lacks of these words in a language."""
+    """Which of these words the result lacks in a language."""
     case.speak(language)
     found = case.result_now()
     return lacks(found["title"] + "\n" + found["text"], *words)
@@ -92,7 +92,7 @@ def both(case, check, name, english, german):
 
 
 def said_refusal(case, check, name, number, english, german):
-    """The result is this refusal, with its number, its line and the words."""
+    """Checks that the result is this refusal, with its number, its line and the words."""
     found = case.result_now()
     told = found["kind"], found["title"], found["facts"].get("office_says"), found["focus"]
     check(name, is_not(told, ("refused", f"Refused: number {number}", expected.refusal(number)[1].strip(), "result_title"))
@@ -102,7 +102,7 @@ def said_refusal(case, check, name, number, english, german):
 
 
 def field_fault(case, check, name, field, words, focus=None):
-    """This field alone is said to be wrong, beside it and to a screen reader, and has the focus."""
+    """Checks that only this field is reported as wrong, next to it and to a screen reader, and has the focus."""
     bad, active, live, invalid = case.browser.js(FAULTS)
     well = is_not((list(bad), active), ([field], focus or field)) or lacks(bad[field], words)
     check(name, well or lacks(live, words) or is_not(invalid, [] if focus else [field]))
@@ -112,7 +112,7 @@ def field_fault(case, check, name, field, words, focus=None):
 
 
 def field_of(moment, zone=datetime.timezone(datetime.timedelta(minutes=EAST))):
-    """What stands in a field for date and time, by the office's clock."""
+    """The text of a field for date and time, by the office's clock."""
     return moment.astimezone(zone).strftime("%Y-%m-%dT%H:%M")
 
 
@@ -124,7 +124,7 @@ def utc(*parts):
 
 
 def copy_of(case):
-    """A copy of the office file, which the server keeps to itself."""
+    """A copy of the office file, to which a running server has exclusive access."""
     copy = case.drop.path("copy")
     for ending in ["", "-wal"]:
         pathlib.Path(f"{copy}{ending}").unlink(missing_ok=True)
@@ -137,7 +137,7 @@ def copy_of(case):
 
 
 def owed_links(case, method, box, names, key=ID, start=None, expires=3600):
-    """What `drop links` writes of these names."""
+    """The links that `drop links` writes for these names."""
     start = start or datetime.datetime.now(datetime.timezone.utc).strftime("%Y%m%dT%H%M00Z")
     out = io.StringIO()
     csv.writer(out, lineterminator="\n").writerows([["method", "box", "name", "start", "expires"],
@@ -149,7 +149,7 @@ def owed_links(case, method, box, names, key=ID, start=None, expires=3600):
 
 
 def saved(case):
-    """The rows of the CSV file that the page lets one save, and its text."""
+    """The rows of the CSV file that the page offers to save, and its text."""
     before = set(os.listdir(case.browser.downloads))
     case.click("#keep")
     text = case.browser.downloaded(before).read_bytes().decode()
@@ -157,7 +157,7 @@ def saved(case):
 
 
 def copied(case, check, button, owed):
-    """What is copied by this button, and that it is said."""
+    """Checks what this button copies, and that the page reports it."""
     case.browser.js("navigator.clipboard.writeText = async (it) => { window.copy = it; }")
     case.click(button)
     case.browser.wait_for("return document.getElementById('copied').textContent")

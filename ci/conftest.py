@@ -1,7 +1,7 @@
-"""What pytest gives each test, and the count of a run: its last line is `N passed, M failed`.
+"""Fixtures and options of the tests, and the count of a run: its last line is `N passed, M failed`.
 
-A test asks many rows by `check`, and fails at its end with the faults of all that are wrong. The count has each row, and one for
-a test that asks none. Above the last line stand the time and the count of each module.
+A test checks many rows with `check`, and fails at its end with the faults of all wrong rows. The count includes each row, and
+one for a test without rows. The time and the count of each module are printed above the last line.
 """
 
 import pathlib
@@ -27,13 +27,13 @@ def pytest_addoption(parser):
 
 
 class Check:
-    """The rows that a test asks: how many were right, and what is wrong with the others."""
+    """The rows that a test checks: how many were right, and what is wrong with the others."""
 
     def __init__(self):
         self.passed, self.faults = 0, []
 
     def __call__(self, name, fault):
-        """A row is right if there is no fault to tell."""
+        """A row is right if it has no fault."""
         if fault:
             self.faults.append(f"{name}: {fault}")
         else:
@@ -47,14 +47,14 @@ def check():
 
 @pytest.fixture
 def tmp_path(tmp_path):
-    """A folder of the test's own, which is gone behind it."""
+    """A folder of the test's own, deleted after it."""
     yield tmp_path
     shutil.rmtree(tmp_path, ignore_errors=True)
 
 
 @pytest.fixture(scope="module")
 def module_folder(tmp_path_factory):
-    """A folder of the module's own, which is gone behind it."""
+    """A folder of the module's own, deleted after it."""
     folder = tmp_path_factory.mktemp("module")
     yield folder
     shutil.rmtree(folder, ignore_errors=True)
@@ -85,7 +85,7 @@ def case(shared_case):
 
 @pytest.fixture
 def stopped_clock():
-    """Botocore signs at one moment."""
+    """Botocore signs at one fixed moment."""
     with clock_at():
         yield
 
@@ -95,7 +95,7 @@ def stopped_clock():
 
 @pytest.hookimpl(hookwrapper=True)
 def pytest_runtest_makereport(item, call):
-    """A test fails by each row that is wrong. Its report has how many rows passed and failed."""
+    """A test fails if any of its rows is wrong. Its report says how many rows passed and failed."""
     report = (yield).get_result()
     rows = item.funcargs.get("check", Check()) if call.when == "call" else Check()
     has_raised = report.failed

@@ -1,10 +1,10 @@
-"""By hand, since it takes hours of a processor: runs the proved program `drop` on a thousand published requests and one more,
-their stream cut in two once at each place. The second part is written once the first was read whole, so no read has bytes of
-both. Each time the thousand are answered, and no more. The gate has some of these places, by readers of its own
-(crates/streams).
+"""By hand, since it takes hours of processor time: runs the proved program `drop` on a thousand published requests and one more,
+with their stream cut in two, once at each place. The second part is written after the first was read completely, so no read
+returns bytes of both. Each time exactly the first thousand must be answered. The gate covers some of these places, with readers
+of its own (crates/streams).
 
-The answers that are owed come from the table of refusals in docs/RULES.md, and the request from ci/expected.py. With `--step N`
-each Nth place alone is tried, from that of `--first` on. The last line is `N passed, M failed`.
+The expected answers come from the table of refusals in docs/RULES.md, and the request from ci/messages.py. With `--step N` only
+each Nth place is tried, starting at `--first`. The last line is `N passed, M failed`.
 """
 
 import argparse
@@ -23,8 +23,8 @@ from program import IN_MEMORY
 
 STREAM = REQUEST * 1001
 OWED = answer(27) * 1000
-ROOM = 1 << 19  # bytes that a pipe has room for: more than the stream, and than its answers
-PATIENCE = 300_000  # looks until all must be read, 0.2 ms apart
+ROOM = 1 << 19  # capacity of a pipe in bytes: more than the stream, and more than its answers
+PATIENCE = 300_000  # polls until everything must be read, 0.2 ms apart
 
 
 def pipe():
@@ -34,7 +34,7 @@ def pipe():
 
 
 def wait_until_read(end):
-    """Waits until nothing is in the pipe any more."""
+    """Waits until the pipe is empty."""
     for _ in range(PATIENCE):
         if struct.unpack("i", fcntl.ioctl(end, termios.FIONREAD, bytes(4)))[0] == 0:
             return
@@ -43,7 +43,7 @@ def wait_until_read(end):
 
 
 def answers(place):
-    """What the program answers to the stream, cut there, and how it ends."""
+    """How the program ends, and what it answers to the stream, cut at this place."""
     (heard, told), (read, written) = pipe(), pipe()
     words = [kit.built("drop"), "replay", IN_MEMORY, "--at", MOMENT, "/dev/stdin"]
     ends = [(os.POSIX_SPAWN_DUP2, heard, 0), (os.POSIX_SPAWN_DUP2, written, 1)]
@@ -53,17 +53,17 @@ def answers(place):
     with open(told, "wb", buffering=0) as it:
         it.write(STREAM[:place])
         wait_until_read(told)
-        # what follows the thousand is not read by all means
+        # what follows the thousand requests may stay unread
         with contextlib.suppress(BrokenPipeError):
             it.write(STREAM[place:])
-    # it is not woken for each answer, since its pipe has room for all
+    # this process is not woken for each answer, since the pipe has room for all
     status = os.waitstatus_to_exitcode(os.waitpid(process, 0)[1])
     with open(read, "rb") as it:
         return status, it.read()
 
 
 def fault_of(place):
-    """What is wrong with what is answered where the stream is cut at this place."""
+    """What is wrong with the answers if the stream is cut at this place."""
     status, said = answers(place)
     return None if (status, said) == (0, OWED) else f"cut at {place}: status {status}, {len(said)} bytes"
 

@@ -1,11 +1,11 @@
 """Draws docs/crates.svg from crates.txt, and docs/request.svg from the table below. With `--check` it compares them with the
-files: the last line is `N passed, M failed`, and the status 1 where one differs. It needs Python 3 alone."""
+files: the last line is `N passed, M failed`, and the status is 1 if one differs. It needs only Python 3."""
 
 import pathlib
 import sys
 
 ROOT = pathlib.Path(__file__).resolve().parent.parent
-# In pixels: a letter of a name, the height of a box, the distances of two layers, two steps, two things in a layer; the margin.
+# In pixels: width of a letter, height of a box, distance between layers, between steps and within a layer, and margin.
 LETTER, HEIGHT, LAYER, STEP, GAP, MARGIN = 8, 28, 84, 66, 22, 24
 PROGRAM, TESTS, OUTSIDE = "#dce9f7", "#f6ead0", "#e9ecef"
 STYLE = """<style>text{font:13px monospace;fill:#1b1b1b}.s{font:13px sans-serif}.m{text-anchor:middle}rect{stroke:#33506e}
@@ -15,7 +15,7 @@ path{fill:none;stroke:#6b7b8c;stroke-width:1.3}</style>
 """
 CAPTION = ["An arrow leads from a crate to one that it uses; what follows from others is left out.",
            "Blue: the program and its libraries. Yellow: crates for tests alone."]
-# What a PUT goes through, what happens there, and what goes on from there.
+# What a PUT passes through, what happens there, and what is passed on.
 STEPS = [
     ("socket", OUTSIDE, "sockets reads ahead until a message is whole, and gives its connection a turn", "bytes"),
     ("wire", PROGRAM, "reads the head (rules 1 to 5), and hands on the body in pieces (6)", "the head, pieces of the body"),
@@ -45,13 +45,13 @@ def drawing(width, height, parts):
 
 
 def read_layers():
-    """The layers from the lowest up, each arrow as a path with a place in each layer that it passes, and the program's crates."""
+    """The layers from the lowest up, the arrows (paths with a place in each layer that they pass), and the program's crates."""
     needs, below, level, arrows = {}, {}, {}, []
     for name, names in (it.split(":") for it in (ROOT / "crates.txt").read_text().splitlines() if not it.startswith("#")):
-        needs[name] = [it for it in names.split() if it in needs]  # crates of this repository, which stand on lines above
+        needs[name] = [it for it in names.split() if it in needs]  # crates of this repository, listed on earlier lines
         below[name] = {name}.union(*(below[it] for it in needs[name]))
         level[name] = 1 + max((level[it] for it in needs[name]), default=-1)
-    for name in (it for it in needs if not needs[it]):  # what stands on none lies right below what names it
+    for name in (it for it in needs if not needs[it]):  # without dependencies: right below its lowest user
         level[name] = min((level[it] for it in needs if name in needs[it]), default=1) - 1
     for name, it in ((name, it) for name in needs for it in needs[name]):
         if not any(it in below[other] for other in needs[name] if other != it):
@@ -65,7 +65,7 @@ def half(thing):
 
 
 def spread(layer, wished):
-    """Places near those that are wished, in order and apart: halfway between giving way to the right alone, and to the left."""
+    """Places near the wished ones, in order and apart: the mean of shifting things only right and shifting them only left."""
     right, left = dict(wished), dict(wished)
     for a, b in zip(layer, layer[1:]):
         right[b] = max(right[b], right[a] + half(a) + GAP + half(b))
@@ -75,8 +75,8 @@ def spread(layer, wished):
 
 
 def places(layers, links):
-    """Where the middle of each thing lies. Things move to the middle of their neighbours, and change their order at first: by
-    those above from layer to layer, and back by those below. Then the order stays, and both count."""
+    """The place of the middle of each thing. Things move to the mean of their neighbours. At first they also change their order:
+    layer by layer, by the neighbours above, and then back by those below. Later the order stays, and both kinds count."""
     x, both = {it: k * LAYER for layer in layers for k, it in enumerate(layer)}, links + [it[::-1] for it in links]
     for turn in range(300):
         beside = both if turn >= 100 else links if turn % 2 else both[len(links):]

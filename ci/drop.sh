@@ -1,13 +1,14 @@
 #!/usr/bin/env bash
-# Proves and builds `drop` with all crates below it, and runs it in crates/drop with the words that are given.
+# Proves and builds `drop` with all crates below it, and runs it in crates/drop with the given arguments.
 #
-# `rt run` does the same, but takes one crate after another, and loads the proofs of those below with each. So the first time
-# `rt ci` proves them, which loads statements alone, in a copy that has the program's crates without their tests and edits: those
-# are the gate's. Several runs of it share what they prove, so crates that do not need each other are proved side by side.
+# `rt run` does the same, but takes one crate after another, and with each loads the proofs of the crates below. So the first
+# time they are proved by `rt ci`, which loads only statements, in a copy of the program's crates without their tests and edits:
+# those belong to the gate. Several runs of it share what they prove, so crates that do not need each other are proved in
+# parallel.
 set -euo pipefail
 cd "$(dirname "$0")/.."
 
-# The crates of this repository that a crate stands on, and the crate.
+# Prints a crate and the crates of this repository that it depends on.
 crates_to() {
     local crate
     echo "$1"
@@ -16,7 +17,7 @@ crates_to() {
     done
 }
 
-# Whether the program is there, and no file that it was made of has changed since.
+# Whether the program exists, and no file that it was built from has changed since.
 is_built() {
     local crate folders=()
     [ -e crates/drop/out/drop ] || return 1
@@ -39,21 +40,21 @@ copy_crates() {
     find "$1" -name '*.rt' -exec sed -zi 's/\n#\[cfg(test)\]\nmod tests;\n//' {} +
 }
 
-# Whether what rt proves can be kept, beside the kit.
+# Whether what rt proves can be kept, in a folder next to the kit.
 keeps_proofs() {
     local kept
     kept=$(dirname "$(dirname "$(rt doc)")")/rattle-kept
     [ -w "$kept" ] || mkdir "$kept" 2>/dev/null
 }
 
-# Whether `rt ci` takes the names of crates. Some kits have no such runs, and then print how rt is used.
+# Whether `rt ci` accepts names of crates. Some kits don't, and then print the usage of rt.
 proves_by_name() {
     local told
     told=$(timeout 20 rt ci no_such_crate 2>&1) || true
     [[ $told != usage:* ]]
 }
 
-# Proves and builds the program in that folder: first three parts that need little of each other, and then all.
+# Proves and builds the program in that folder: first three parts that share little, and then everything.
 prove() (
     cd "$1"
     unset CI

@@ -1,30 +1,30 @@
-"""Tries the edits `crates/*/edits/*.edit`, each of which the prover must refuse, many in one check and several checks
-side by side.
+"""Tries the edits `crates/*/edits/*.edit`, each of which the prover must refuse: many in one check, and several checks in
+parallel.
 
-It runs behind `rt ci`, over the libraries that it leaves, or beside it (`--beside`), and then half of the processors are left
-to `rt ci`. A crate's turn comes once its own library is there, since only a proved crate has one. Beside the lines that
-`rt` knows, a file has a line `fn: NAME`, the function that must be refused, as a check prints it. The code of `rt` applies
+It runs after `rt ci`, over the libraries that `rt ci` leaves, or in parallel with it (`--beside`), and then leaves half of the
+processors to it. A crate's turn comes once its own library exists, since only a proved crate has one. Besides the lines that
+`rt` knows, a file has a line `fn: NAME`: the function that must be refused, as a check prints it. The code of `rt` applies
 the edits and runs the checks.
 
 A check looks at the functions that its edits name, at those that they call, and at the lemmas of both (`--only`), and at
-nothing else of the crate. Edits of the bodies of different functions share a check, since callers see contracts alone. It
-goes on behind what it refuses (`--allow-holes`), to the goals of callers too. There an edit counts as refused only where
-its own function is, for its own goals or for a name. What is not settled so is tried alone, and so are edits of constants,
-types and specs. One that names no function is tried over the whole crate, by the rule of `rt`. What the first check of a
-crate proves is kept in a folder: each later one starts from a copy of it.
+nothing else of the crate. Edits of the bodies of different functions share a check, since callers see only contracts. The
+check continues after a refusal (`--allow-holes`), to the goals of callers too. In a shared check an edit counts as refused
+only if its own function is refused, for its own goals or for a name. An edit that is not settled this way is tried alone, and
+so are edits of constants, types and specs. An edit that names no function is tried over the whole crate, by the rule of `rt`.
+What the first check of a crate proves is kept in a folder: each later check starts from a copy of it.
 
-Where a proof file names what an edit took away, or a lemma on which that file stands, the refusal shows less: it may be of the
-name alone. Such an edit counts, and is told. In a check that edits share it counts where the function's own proof file names
-what is gone; a lemma that was not admitted may be another edit's doing, so such an edit is tried alone.
+If a proof file names what an edit removed, or a lemma that the file depends on does, the refusal shows less: it may be for the
+name alone. Such an edit counts, and is reported. In a shared check it counts if the function's own proof file names what is
+gone. A lemma that was not admitted may be due to another edit, so such an edit is tried alone.
 
-The harmless edits `ci/controls/NAME/*.edit` are tried among the others, and must be found to be proved still. Each edit
-that is not refused, and each harmless one that is, is named. The last line is `N passed, M failed`, or `N passed, M failed, K
+The harmless edits `ci/controls/NAME/*.edit` are tried along with the others, and must be found still proved. Each edit that is
+not refused, and each harmless edit that is refused, is named. The last line is `N passed, M failed`, or `N passed, M failed, K
 skipped`.
 
-What a try showed is kept on this machine under a sum of all that the try read, which is the toolchain, the crate with its edit
+Each edit that passes is recorded on this machine under a hash of all that its try read: the toolchain, the crate with its edit
 and the crates below it. A later run, in any checkout here, tries only the others; `--anew` tries all.
 
-The whole gate has a limit of time, which a slow machine may reach. After `--minutes` no check begins. Edits that were not tried
+The whole gate has a time limit, which a slow machine may reach. No check begins after `--minutes`. Edits that were not tried by
 then are named and counted as skipped, and a later run tries them.
 """
 
@@ -46,20 +46,20 @@ import time
 import kit
 
 RT = kit.rt()
-# What counts as a refusal: another number where that changes, so that nothing that was kept before counts.
+# The version of what counts as a refusal: it changes with that, so that nothing that was kept before counts.
 RULES = 3
 KEPT = pathlib.Path(os.environ.get("XDG_CACHE_HOME") or pathlib.Path.home() / ".cache") / "drop-edits"
-# So many edits share a check at least, where there are so many: to load what is kept costs as much as a few edits.
+# At least this many edits share a check, if there are that many: loading what is kept costs as much as a few edits.
 FEWEST = 24
-# A library that `rt ci` has built is whole once nothing of it was written for so many seconds.
+# A library that `rt ci` has built is complete once none of its files was written for so many seconds.
 SETTLES = 10
-# A check takes less than so much of the memory that `rt` reckons for it: up to 2 GB were seen, 3.6 in `sqlkeeper`.
+# A check takes less than this share of the memory that `rt` estimates for it: up to 2 GB were seen, 3.6 in `sqlkeeper`.
 SHARE = 0.5
 HEAD = re.compile(r"^( *)(?:pub(?:\([^)]*\))? )?(?:final )?fn (\w+)", re.M)
 VERDICT = re.compile(r"^fn (\S+): (.*)$")
-# A goal that a check left: what it says, and its name.
+# A goal that a check left open: its text, and its name.
 GOAL = re.compile(r"note: \S+: (.*) \(`(\S+)`\)")
-# A proof file that names what an edit took away, by the words of `rt`; or also a lemma that stood on such a file.
+# The words of `rt` for a proof file that names what an edit removed; NAMES also matches a lemma that depends on such a file.
 GONE = re.compile(r"has no field|is not in scope|has no `")
 NAMES = re.compile(rf"{GONE.pattern}|was not admitted")
 STILL_PROVED = "NOT REFUSED: the crate is still proved with this edit"
@@ -69,7 +69,7 @@ NO_TIME = "SKIPPED: there was no time to try it"
 
 @dataclasses.dataclass(frozen=True)
 class Edit:
-    """An edit. It may share a check where it changes the body alone of the function that must be refused."""
+    """An edit. It may share a check if it changes only the body of the function that must be refused."""
 
     name: str
     text: str
@@ -78,7 +78,7 @@ class Edit:
     is_harmless: bool
 
     def fault_of(self, fault):
-        """What is wrong with the edit, by what was wrong with it as a refusal."""
+        """What is wrong with the edit, given what was wrong with it as a refusal."""
         if not self.is_harmless:
             return None if fault == BY_A_NAME else fault
         if fault == STILL_PROVED:
@@ -90,7 +90,7 @@ class Edit:
 
 
 def sum_of_tools():
-    """A sum of the programs that try the edits, and of what the toolchain says that it is."""
+    """A hash of the programs that try the edits, and of the toolchain's description of itself."""
     told, tools = hashlib.sha256(), kit.toolchain()
     for file in [*(tools / "bin" / name for name in ["rattle", "rt", "rtlib.py"]), tools / "WHAT"]:
         told.update(repr((file.name, file.read_bytes())).encode())
@@ -98,7 +98,7 @@ def sum_of_tools():
 
 
 def sum_of(crate):
-    """A sum of the sources of the crate and of those below it, and of what each stands on."""
+    """A hash of the sources of the crate and of those below it, and of the dependencies of each."""
     told = hashlib.sha256()
     for it in sorted([crate, *crate.below()], key=lambda it: it.name):
         told.update(repr((it.name, sorted(it.of_kit), sorted(dep.name for dep in it.deps))).encode())
@@ -109,25 +109,25 @@ def sum_of(crate):
 
 
 class Kept:
-    """The edits that earlier runs on this machine found to be as they must be: a file each, named for all that was read."""
+    """The edits that passed in earlier runs on this machine: one file each, named by a hash of all that was read."""
 
     def __init__(self, anew):
         self.anew, self.tools, self.sums, self.names = anew, sum_of_tools(), {}, {}
 
     def name(self, crate, edit):
-        """The file of the edit. The sum of its crate is that of the first call: what the run then reads."""
+        """The name of the edit's file. Its crate's hash is that of the first call: of what the run then reads."""
         if crate.name not in self.sums:
             self.sums[crate.name] = sum_of(crate)
         told = repr((RULES, self.tools, self.sums[crate.name], edit.name, edit.is_harmless, edit.text))
         return hashlib.sha256(told.encode()).hexdigest()
 
     def holds(self, crate, edit):
-        """Whether an earlier run found it so."""
+        """Whether the edit passed in an earlier run."""
         self.names[edit.name] = KEPT / self.name(crate, edit)
         return not self.anew and self.names[edit.name].is_file()
 
     def keep(self, crate, edit):
-        """Keeps that this run found it so, unless a file that was read has changed meanwhile, or nothing can be kept."""
+        """Records that the edit passed, unless a file that was read has changed meanwhile, or nothing can be written."""
         if sum_of(crate) == self.sums[crate.name]:
             try:
                 KEPT.mkdir(parents=True, exist_ok=True)
@@ -137,8 +137,8 @@ class Kept:
 
 
 def function_at(source, place):
-    """The name of the function in whose body this place of a source lies; none where it lies in no body. `rt fmt` begins
-    and ends a body at the indentation of its head. A `const fn` counts as none, since constants may depend on it."""
+    """The name of the function whose body contains this place of a source; None if no body does. `rt fmt` begins and ends
+    a body at the indentation of its head. A `const fn` does not count as a function, since constants may depend on it."""
     for head in reversed([*HEAD.finditer(source, 0, place)]):
         indent = head[1]
         begin = re.compile(rf"^{indent}(?:\S.* )?\{{$", re.M).search(source, head.start())
@@ -162,7 +162,7 @@ def lies_in(folder, text, function):
 
 
 def edits_in(folder, crate, count, is_harmless=False):
-    """The edits of a folder, by name. A file that is none, or cannot be applied, has failed."""
+    """The edits of a folder, by name. A file that is not an edit, or cannot be applied, counts as failed."""
     edits = []
     for path in sorted(it for it in folder.glob("*") if it.suffix != ".md"):
         name = f"{crate.name}/{path.stem}"
@@ -177,20 +177,20 @@ def edits_in(folder, crate, count, is_harmless=False):
 
 
 def applied(crate, group):
-    """The crate's texts with these edits, or None where one doesn't stand beside the others."""
+    """The crate's texts with these edits, or None if one cannot be combined with the others."""
     return RT.edited("\n".join(it.text for it in group), crate.folder)[0] if group else {}
 
 
 @dataclasses.dataclass(frozen=True)
 class Reading:
-    """What a check said, and of which changed texts."""
+    """What a check printed, its status, and the changed texts that it read."""
 
     status: int
     said: str
     texts: dict
 
     def fault(self):
-        """Why the check refuses no edit, by the rule of `rt`; None where it refuses the crate."""
+        """Why the check refuses no edit, by the rule of `rt`; None if it refuses the crate."""
         lines = self.said.rstrip("\n").split("\n")
         unread = next((it for it in lines if RT.unread(it, self.texts)), None)
         if unread:
@@ -204,7 +204,7 @@ class Reading:
         return None
 
     def verdict(self, function):
-        """What the check says of the function, and the goals that it left of it; nothing where it doesn't name it."""
+        """What the check says of the function, and which of its goals it left open; empty if it doesn't name the function."""
         goals = []
         for line in self.said.splitlines():
             goals += GOAL.findall(line)
@@ -220,15 +220,15 @@ class Reading:
         return re.findall(rf"^(?:\./)?{re.escape(folder)}/\w+\.antt:\d+:\d+: error: .*$", self.said, re.M)
 
     def lacks_names(self, function, names=NAMES):
-        """Whether a proof file of the function names what is no longer there."""
+        """Whether a proof file of the function names something that no longer exists."""
         return any(names.search(it) for it in self.errors(function))
 
     def refuses(self, function):
-        """Whether the prover refuses the function for its own goals: the search leaves one, or its answer is no proof."""
+        """Whether the prover refuses the function for its own goals: the search leaves one open, or an answer is no proof."""
         crate, _, rest = function.replace("::", ".").partition(".")
         own = re.escape(f"Rattle.{crate}.proofs.{rest}.")
         said, goals = self.verdict(function)
-        # that a call's premise holds says nothing of the function's promise
+        # whether a call's precondition holds says nothing about the function's promise
         is_own = any("requires holds at this call" not in goal for goal, _ in goals)
         is_open = re.match(r"no proof: expected answers in [^ ;]+; `search` did not prove `", said) and is_own
         is_wrong = re.match(rf"not proved(?:$|; it stands on `{own})", said) and self.errors(function)
@@ -239,7 +239,7 @@ class Reading:
         return not self.fault() and (self.refuses(edit.function) or self.lacks_names(edit.function, GONE))
 
     def fault_beside(self, edit):
-        """What is to be told of an edit that this check of several settles."""
+        """What to report of an edit that this check of several settles."""
         return None if self.refuses(edit.function) else BY_A_NAME
 
     def fault_alone(self, edit):
@@ -259,7 +259,7 @@ def times_of(crate):
 
 
 class Beside:
-    """A run of `rt ci` that goes on meanwhile, or none."""
+    """A run of `rt ci` in parallel with this one, or none."""
 
     def __init__(self, ended):
         self.ended, self.begin, self.built = ended, time.time(), set()
@@ -268,9 +268,9 @@ class Beside:
         return self.ended is not None and not self.ended.exists()
 
     def has_built(self, crate):
-        """Whether the library is there as a whole, and younger than what it is made of, its own sources and the libraries below; of
-        a run that goes on, written since it began. What was there once stays so. Another run that takes a library of this one for
-        its own makes some of its files look younger, so of a library below the oldest file counts."""
+        """Whether the library is complete, and newer than what it is made of: its own sources and the libraries below. While
+        `rt ci` runs, it must also have been written since this script began. Once built, a library stays built. Another run
+        that takes over a library here makes some of its files look newer, so for a library below the oldest file counts."""
         if crate.name not in self.built and self.is_whole(crate):
             self.built.add(crate.name)
         return crate.name in self.built
@@ -295,7 +295,7 @@ class Trial:
         self.edits, self.checks, self.seconds = len(edits), 0, 0
 
     def lacks(self, beside):
-        """Of the crate and those below it, the ones whose libraries are not there."""
+        """Those of the crate and the crates below it whose libraries are missing."""
         return [it.name for it in [*self.crate.below(), self.crate] if not beside.has_built(it)]
 
     def left(self):
@@ -303,7 +303,7 @@ class Trial:
         return [*self.shared, *self.alone]
 
     def group(self):
-        """The next edits that share a check, of functions that differ; first of those functions that have most."""
+        """The next edits that share a check, each of another function; the functions with the most edits come first."""
         of_function = collections.Counter(it.function for it in self.shared)
         most, group = max(FEWEST, math.ceil(len(self.shared) / self.lanes)), []
         for edit in sorted(self.shared, key=lambda it: -of_function[it.function]):
@@ -313,7 +313,7 @@ class Trial:
         return group
 
     def take(self):
-        """The edits of the next check, or None where there is none now: the others wait for the first."""
+        """The edits of the next check, or None if there is none now: all other checks wait for the first."""
         if self.is_begun and not self.is_warm:
             return None
         self.is_begun = True
@@ -323,7 +323,7 @@ class Trial:
         return group or None
 
     def check(self, group):
-        """Checks the functions that these edits name, over a copy of what is kept; in the first check, over the folder."""
+        """Checks the functions that these edits name, over a copy of what is kept; the first check uses the folder itself."""
         begin, texts, functions = time.monotonic(), applied(self.crate, group), [it.function for it in group]
         words = ["--jobs", str(1 if self.is_warm else max(1, self.lanes // 2)), *["--allow-holes"] * (len(group) > 1)]
         if all(functions):
@@ -331,13 +331,13 @@ class Trial:
         with tempfile.TemporaryDirectory(prefix="edits-", dir=self.folder.parent) as room:
             kept = self.folder
             if self.is_warm:
-                # antt puts a new file in the place of an old one, so what is linked stays as it is
+                # antt replaces an old file with a new one, so linked files stay as they are
                 kept = shutil.copytree(self.folder, f"{room}/kept", copy_function=os.link)
             ran = RT.checked(self.crate, texts, words, str(kept))
         return Reading(ran.returncode, ran.stdout, texts), time.monotonic() - begin
 
     def heard(self, group, reading, seconds):
-        """Gives the edits that their check settles, each with why it is not refused; the others are to be tried alone."""
+        """Returns the edits that their check settles, each with why it is not refused; the others are to be tried alone."""
         self.checks, self.seconds, self.is_warm = self.checks + 1, self.seconds + seconds, True
         if len(group) == 1:
             return [(group[0], reading.fault_alone(group[0]))]
@@ -347,7 +347,7 @@ class Trial:
 
 
 def settled(trials, jobs, beside, last):
-    """Runs the checks side by side, as many as processors and memory allow, and yields each edit with its crate and fault. No
+    """Runs the checks in parallel, as many as processors and memory allow, and yields each edit with its crate and fault. No
     check begins after the moment `last` of the monotonic clock."""
     running = {}
     with concurrent.futures.ThreadPoolExecutor(jobs) as pool:
@@ -368,13 +368,13 @@ def settled(trials, jobs, beside, last):
 
 
 def room_of(running, beside):
-    """The memory that the checks may take, those that run among them."""
+    """The memory that the checks may take, including those that run now."""
     return (0.4 if beside.is_running() else 0.85) * (RT.free() + sum(it.need for it, _ in running.values()))
 
 
 def begin_checks(trials, running, pool, jobs, beside, last):
-    """Begins the checks for which there is room, those of the first crates first. Gives whether any may come later: none does
-    after the moment `last`."""
+    """Begins the checks for which there is room, those of the first crates first. Returns whether any may follow later: none
+    does after the moment `last`."""
     if time.monotonic() > last:
         return False
     memory = room_of(running, beside)
@@ -390,8 +390,8 @@ def begin_checks(trials, running, pool, jobs, beside, last):
 
 
 def edits_of_crates(names, count, kept):
-    """The crates that have edits of these names, CRATE or CRATE/EDIT, with those that are to be tried; all where no name is
-    given. The others have passed."""
+    """The crates that have edits of these names (CRATE or CRATE/EDIT; all if no name is given), each with the edits still to be
+    tried. The others count as passed."""
     of_crates = []
     for crate in RT.rtlib.crates_below(str(kit.ROOT)):
         edits = edits_in(pathlib.Path(crate.folder) / "edits", crate, count)
@@ -408,7 +408,7 @@ def edits_of_crates(names, count, kept):
 
 
 def trials_of(of_crates, folder, jobs):
-    """What is to be tried, the dearest crate first."""
+    """What is to be tried; the crate that needs the most memory comes first."""
     return sorted((Trial(*it, folder, jobs) for it in of_crates), key=lambda it: -it.need)
 
 
@@ -422,7 +422,7 @@ def main():
     parser.add_argument("--beside", type=pathlib.Path, metavar="FILE", help="rt ci still runs, until FILE is there")
     parser.add_argument("--minutes", type=float, default=math.inf, help="begin no check after so many")
     given = parser.parse_args()
-    # what `rt ci` builds while the edits are read is of this run
+    # created first: what `rt ci` builds while the edits are read counts as built in this run
     beside = Beside(given.beside)
     begin, count, kept = time.monotonic(), kit.Count(), Kept(given.anew)
     of_crates = edits_of_crates(given.only, count, kept)
@@ -431,7 +431,7 @@ def main():
         sys.exit(count.failed > 0)
     if given.beside:
         os.nice(10)
-    # its first call sets a signal's handler, which only the main thread may
+    # its first call sets a signal handler, which only the main thread may do
     RT.rtlib.guarded()
     with tempfile.TemporaryDirectory(prefix="edits-") as room:
         trials = trials_of(of_crates, given.keep or pathlib.Path(room), given.jobs)

@@ -1,5 +1,5 @@
-"""What is owed, without the crates: the table of refusals in docs/RULES.md, the answers that it makes, and canonical
-requests and signatures by Python's `urllib.parse`, `hashlib` and `hmac`. The constants are the example of the Amazon
+"""Expected values, computed without the crates: the table of refusals in docs/RULES.md, the answers that follow from it, and
+canonical requests and signatures by Python's `urllib.parse`, `hashlib` and `hmac`. The constants are the example of the Amazon
 S3 API Reference, "Authenticating Requests: Using Query Parameters".
 """
 
@@ -37,7 +37,7 @@ def as_bytes(word):
 
 
 def quoted(text, safe=""):
-    """UriEncode: Python's own, with the four other bytes that it may leave."""
+    """UriEncode, by Python's own function; `-._~` also stay unescaped."""
     return urllib.parse.quote(text, safe="-._~" + safe).encode()
 
 
@@ -46,14 +46,14 @@ def decoded(raw):
 
 
 def canonical_query(target):
-    """The canonical query of a target whose names stand once."""
+    """The canonical query of a target in which each name occurs once."""
     raw = [piece.partition(b"=")[::2] for piece in target.partition(b"?")[2].split(b"&") if piece]
     params = sorted((quoted(decoded(name)), quoted(decoded(value))) for name, value in raw)
     return b"&".join(name + b"=" + value for name, value in params if name != b"X-Amz-Signature")
 
 
 def canonical_request(method, target, names, fields):
-    """The canonical request of a request whose signed names have one field each."""
+    """The canonical request of a request with one field for each signed name."""
     values = {as_bytes(name).lower(): as_bytes(value).strip(b" \t") for name, value in fields}
     headers = b"".join(name + b":" + values[name] + b"\n" for name in as_bytes(names).split(b";"))
     path = quoted(decoded(as_bytes(target).partition(b"?")[0]), "/")
@@ -84,14 +84,14 @@ def table_of_refusals():
 
 @functools.cache
 def refusal(number):
-    """The status and the body that answer a refusal."""
+    """The status and the body of the answer for a refusal."""
     columns = {int(it[0]): it for it in table_of_refusals()}[number]
     _, word, status, text = columns
     return int(status), f"{word} {number} {text}\n"
 
 
 def answer(number, method="GET"):
-    """The whole answer of a refusal to this method (docs/RULES.md, 7)."""
+    """The whole answer for a refusal, to this method (docs/RULES.md, 7)."""
     status, body = refusal(number)
     lines = [f"HTTP/1.1 {status} {http.HTTPStatus(status).phrase}", "Content-Type: text/plain"]
     lines += [f"Content-Length: {len(body)}", *["Connection: close"] * (number < 7 or number == 40), "", ""]
@@ -121,7 +121,7 @@ OBEYED = head("200 OK", [("Content-Type", "text/plain"), ("Content-Length", 5)])
 
 def python_link(method, target, key=ID, secret=SECRET, host="files.example", region="us-east-1", start=MOMENT,
                 expires="604800"):
-    """The line that `drop link` owes, by Python's `hmac`."""
+    """The line expected of `drop link`, by Python's `hmac`."""
     credential = f"{key}/{start[:8]}/{region}/s3/aws4_request"
     query = [b"X-Amz-Algorithm=AWS4-HMAC-SHA256", b"X-Amz-Credential=" + quoted(credential),
              b"X-Amz-Date=" + quoted(start), b"X-Amz-Expires=%d" % int(expires), b"X-Amz-SignedHeaders=host"]

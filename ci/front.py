@@ -1,5 +1,5 @@
-"""An office behind a small web server: `drop serve`, which can be killed and started again, and `Front`, which serves
-page/, passes all else on as it came, and can be told to lose or to change what it passes.
+"""An office behind a small web server: `drop serve`, which can be killed and restarted, and `Front`, which serves page/,
+passes on everything else unchanged, and can be told to lose or to change what it passes on.
 """
 
 import contextlib
@@ -16,17 +16,17 @@ PAGE = kit.ROOT / "page"
 KINDS = {".html": "text/html; charset=utf-8", ".js": "text/javascript; charset=utf-8", ".css": "text/css",
          ".svg": "image/svg+xml"}
 SECONDS = 30
-BREAK = struct.pack("ii", 1, 0)  # SO_LINGER: a socket that is closed is reset
+BREAK = struct.pack("ii", 1, 0)  # SO_LINGER: closing the socket resets the connection
 
 
 def free_port():
-    """A port that nobody listens at."""
+    """A port on which nobody listens."""
     with socket.create_server(("127.0.0.1", 0)) as server:
         return server.getsockname()[1]
 
 
 def asked(url, method, data=None):
-    """The status, the fields and the body that Python's own client gets."""
+    """The status, the header fields and the body that Python's own client receives."""
     request = urllib.request.Request(url, data=data, method=method)
     try:
         with urllib.request.urlopen(request, timeout=SECONDS) as it:
@@ -36,7 +36,7 @@ def asked(url, method, data=None):
 
 
 class Office:
-    """A `drop serve` that can be killed and started again at its port. With a file for it, the manifest is kept there."""
+    """A `drop serve` that can be killed and restarted at its port. If a file is given for it, the manifest is kept there."""
 
     def __init__(self, drop, file, manifest=None):
         self.drop, self.file, self.port, self.process = drop, file, free_port(), None
@@ -58,9 +58,9 @@ class Office:
 class Front:
     """Serves page/, and passes each other request to the office on a connection of its own, byte for byte.
 
-    `mode` says what is done to a request that is passed: `through`; `lost`, it is not passed and the connection is reset;
-    `swallowed`, the answer is not given; `held`, half of the body is read, and the rest once `gate` is set; `other body`
-    and `other answer`, the last byte is another one; or bytes, which are the answer.
+    `mode` says what happens to such a request. `through`: nothing. `lost`: it is not passed on, and the connection is reset.
+    `swallowed`: the answer is not sent. `held`: half of the body is read, and the rest once `gate` is set. `other body` and
+    `other answer`: the last byte is changed. If `mode` is bytes, they are the answer.
     """
 
     def __init__(self, office):
@@ -104,7 +104,7 @@ class Front:
 
     @staticmethod
     def head(stream):
-        """The lines of the next head, without the empty one at its end; nothing where the peer has gone."""
+        """The lines of the next head, without the empty one at its end; empty if the peer has gone."""
         lines = []
         while (line := stream.readline()) != b"\r\n":
             if not line:

@@ -1,8 +1,8 @@
-// A heap that refuses, for tests: the allocation of the program whose number REFUSED_ALLOCATION names, counted from 1, cannot
-// be made. Then a byte goes to the file descriptor that REFUSAL_TOLD_TO names, so that the caller knows that there was such
-// an allocation. It is loaded before the C library (LD_PRELOAD), into a proved program as it was built (ci/test_memory.py). What
-// the C library itself asks for is neither counted nor refused.
-// The toolchain has no headers of the C library, so what is called of it is declared here.
+// A heap that refuses, for tests: the program's allocation with the number REFUSED_ALLOCATION, counted from 1, fails. Then a
+// byte goes to the file descriptor named by REFUSAL_TOLD_TO, so that the caller knows that there was such an allocation. It is
+// loaded before the C library (LD_PRELOAD), into a proved program as it was built (ci/test_memory.py). Allocations by the C
+// library itself are neither counted nor refused.
+// The toolchain has no headers of the C library, so the functions used are declared here.
 typedef unsigned long size_t;
 extern void *__libc_malloc(size_t), *__libc_realloc(void *, size_t);
 extern void abort(void);
@@ -10,7 +10,7 @@ extern char *getenv(const char *);
 extern long strtol(const char *, char **, int);
 extern long write(int, const void *, size_t);
 
-// A segment of a program, and where its segments lie, as in ELF for 64 bits and in glibc's link.h.
+// A segment of a program, and where its segments are, as in 64-bit ELF and in glibc's link.h.
 struct segment {
     unsigned int type, flags;
     unsigned long offset, address, physical, in_file, in_memory, align;
@@ -25,7 +25,7 @@ struct object {
 
 extern int dl_iterate_phdr(int (*)(struct object *, size_t, void *), void *);
 
-// What is loaded of the program itself lies from here to there.
+// The loaded segments of the program itself are between these addresses.
 static unsigned long first = ~0UL, last = 0;
 
 static int note(struct object *program, size_t size, void *given)
@@ -55,7 +55,7 @@ static long number_in(const char *name)
     return text ? strtol(text, 0, 10) : 0;
 }
 
-// Whether the call that comes from there is the one to refuse.
+// Whether the call from this address is the one to refuse.
 static int is_refused(const void *from)
 {
     static long refused = -1, made = 0;

@@ -1,13 +1,13 @@
-"""Office files that are kept as data, with what a program said of them: ci/version1 has a folder for each.
+"""Office files that are kept as data, with what a program said of them; ci/version1 has a folder for each.
 
-| In a folder | Is |
+| File in a folder | Content |
 |---|---|
-| `office.gz`, `office-wal.gz` | the office file, and its journal where one was left |
+| `office.gz`, `office-wal.gz` | the office file, and its journal if one was left |
 | `manifest.csv` | what `drop manifest` said of it |
-| `asked.json.gz` | the words that were then given to the program, one run after another, each with its bytes and what came of it |
+| `asked.json.gz` | the arguments of the program's runs after that, in order, each with its input bytes and its result |
 
-Texts in `asked.json.gz` have a letter for each byte (Latin-1). Of the words FILE stands for the office file, and STREAM for a
-file with the bytes of one caller.
+Texts in `asked.json.gz` have a letter for each byte (Latin-1). In the arguments, FILE stands for the office file, and STREAM
+for a file with the bytes of one caller.
 """
 
 import dataclasses
@@ -19,13 +19,13 @@ import kit
 
 VERSION_1 = kit.ROOT / "ci" / "version1"
 FILES = ["office", "office-wal"]
-# The length that is the least too large for a body: in version 1, and today. It is told in a field that nobody signs.
+# The smallest length that is too large for a body: in version 1, and today. It is sent in a field that nobody signs.
 GREATER = (b"\r\nContent-Length: 1048577\r\n", b"\r\nContent-Length: 8388609\r\n")
 
 
 @dataclasses.dataclass(frozen=True)
 class Asked:
-    """Words for the program, with a caller's bytes and standard input; and what came of them."""
+    """Arguments of the program, with a caller's bytes and standard input, and the result of the run."""
 
     words: list
     stream: bytes = b""
@@ -33,7 +33,7 @@ class Asked:
     came: kit.Run | None = None
 
     def run(self, program, file):
-        """What comes of them now."""
+        """The result of running this program with them."""
         stream = file.with_name("stream")
         stream.write_bytes(self.stream)
         places = {"FILE": file, "STREAM": stream}
@@ -54,7 +54,7 @@ def as_asked(row):
 
 
 def packed(data):
-    """The same bytes give the same file."""
+    """The compressed data; the same bytes make the same file."""
     return gzip.compress(data, 9, mtime=0)
 
 
@@ -74,12 +74,12 @@ class Kept:
 
     @property
     def asked(self):
-        """What was asked. A length that was one byte too large then is told as one that is so today."""
+        """The recorded runs. A length that was one byte too large then is replaced by one that is so today."""
         rows = json.loads(gzip.decompress((self.folder / "asked.json.gz").read_bytes()))
         return [dataclasses.replace(it, stream=it.stream.replace(*GREATER)) for it in map(as_asked, rows)]
 
     def copied(self, folder):
-        """A copy of the office file, with its journal, in this folder, which is made."""
+        """Copies the office file, with its journal, into this folder, which it creates."""
         folder.mkdir()
         for name in FILES:
             kept = self.folder / f"{name}.gz"
@@ -88,7 +88,7 @@ class Kept:
         return folder / "office"
 
     def keep(self, file, manifest, asked):
-        """Keeps this office file and all of this."""
+        """Keeps this office file, its manifest and these runs."""
         shutil.rmtree(self.folder, ignore_errors=True)
         self.folder.mkdir(parents=True)
         for name in FILES:

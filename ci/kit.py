@@ -1,4 +1,4 @@
-"""What the tests of built programs share: the toolchain, programs run side by side, and the count of a script."""
+"""What the tests of built programs share: the toolchain, programs run in parallel, and the test count of a script."""
 
 import atexit
 import concurrent.futures
@@ -18,7 +18,7 @@ SECONDS = 60
 
 
 def toolchain():
-    """The toolchain's folder, which is above that of its command `rt`."""
+    """The toolchain's folder: the parent of the folder of its command `rt`."""
     command = shutil.which("rt")
     if not command:
         sys.exit("there is no command rt")
@@ -34,7 +34,7 @@ def rt():
 
 
 def built(crate, ending=""):
-    """What `rt ci`, or `rt run` in its folder, left of a program."""
+    """A program's file as built by `rt ci`, or by `rt run` in the crate's folder."""
     file = ROOT / "crates" / crate / "out" / f"{crate}{ending}"
     if not file.is_file():
         sys.exit(f"there is no {file.relative_to(ROOT)}: `rt ci` builds it")
@@ -43,7 +43,7 @@ def built(crate, ending=""):
 
 @functools.cache
 def library(source):
-    """This file of C, built by the toolchain's compiler, as a library that is loaded before others."""
+    """This C file, built by the toolchain's compiler, as a library to be loaded before others."""
     folder = tempfile.mkdtemp(prefix="drop-")
     atexit.register(shutil.rmtree, folder)
     made = pathlib.Path(folder) / pathlib.Path(source).with_suffix(".so").name
@@ -54,7 +54,7 @@ def library(source):
 
 @dataclasses.dataclass(frozen=True)
 class Run:
-    """What a program wrote, and its status; a signal's number is below 0."""
+    """What a program wrote, and its status; a signal's number is negative."""
 
     status: int
     out: bytes
@@ -62,7 +62,7 @@ class Run:
 
 
 def run(words, given=b"", out=subprocess.PIPE, err=subprocess.PIPE, **how):
-    """Runs the words on these bytes, or on an open file. What went to an `out` or `err` of the caller's own is not told."""
+    """Runs a command with these bytes, or an open file, as input. Output to the caller's own `out` or `err` is not returned."""
     how |= {"stdout": out, "stderr": err, "timeout": SECONDS, "check": False}
     how |= {"input": given} if isinstance(given, bytes) else {"stdin": given}
     ended = subprocess.run(words, **how)
@@ -70,7 +70,7 @@ def run(words, given=b"", out=subprocess.PIPE, err=subprocess.PIPE, **how):
 
 
 def side_by_side(call, items):
-    """What the call gives for each item, in order; as many at once as there are processors."""
+    """The results of the call for each item, in order; as many run at once as there are processors."""
     with concurrent.futures.ThreadPoolExecutor(len(os.sched_getaffinity(0))) as pool:
         return list(pool.map(call, items))
 
@@ -84,7 +84,7 @@ class Count:
         self.skipped = 0
 
     def add(self, name, fault):
-        """A test passed if there is no fault to tell."""
+        """A test passed if it has no fault."""
         if fault:
             self.failed += 1
             print(f"{name}: {fault}")

@@ -1,5 +1,5 @@
-"""Lists that are owed, of an office file's tables: its manifest, what stands of one, and what is kept, by Python's `sqlite3`, `hashlib` and
-`csv`.
+"""Expected lists, from an office file's tables: its manifest, the state of a manifest's rows, and what is kept, by Python's
+`sqlite3`, `hashlib` and `csv`.
 """
 
 import csv
@@ -45,7 +45,7 @@ def moment_text(seconds):
 
 
 def receipts(file):
-    """The manifest of an office. The digests of files that stand are those of their bytes."""
+    """The manifest of an office. The digests of stored files are computed from their bytes."""
     digests = {number: hashlib.sha256(data).digest() for number, data in standing(file).values()}
     yield RECEIPT_HEAD
     for number, in_box, name, length, digest, moment, key in tables.rows(file, "SELECT * FROM receipts ORDER BY number"):
@@ -54,7 +54,7 @@ def receipts(file):
 
 
 def state(files, row):
-    """What stands of a row."""
+    """The state of the file of a manifest's row."""
     number, in_box, name, length, digest, *_ = row
     found, data = files.get((in_box, name), (None, b""))
     if found != int(number):
@@ -64,7 +64,7 @@ def state(files, row):
 
 
 def states(file, rows):
-    """What is owed for the rows of a manifest, its head among them."""
+    """The expected states for the rows of a manifest, with a head."""
     files = standing(file)
     return [STATE_HEAD, *([*row[:3], state(files, row)] for row in rows[1:])]
 
@@ -96,7 +96,7 @@ def kept_boxes(file):
 
 
 def ascending(file):
-    """The place, the receipt and the bytes of each file that stands, by the bytes of box and name."""
+    """The box, name, receipt and bytes of each stored file, sorted by the bytes of box and name."""
     return sorted(((*place, *held) for place, held in standing(file).items()), key=lambda it: (it[0].encode(), it[1].encode()))
 
 
@@ -107,7 +107,7 @@ def kept_files(file):
         yield [in_box, name, str(len(data)), hashlib.sha256(data).hexdigest(), str(number), *given[number]]
 
 
-# The lists of what an office keeps, by the word that asks for each.
+# The lists of what an office keeps, by the word that requests each.
 KEPT = {"keys": kept_keys, "boxes": kept_boxes, "files": kept_files}
 
 
@@ -115,7 +115,7 @@ KEPT = {"keys": kept_keys, "boxes": kept_boxes, "files": kept_files}
 
 
 def first_difference(found, owed):
-    """The first rows that are not the same."""
+    """The first rows that differ."""
     if found == owed:
         return None
     pairs = [(number, *pair) for number, pair in enumerate(zip(found, owed)) if pair[0] != pair[1]]
@@ -124,7 +124,7 @@ def first_difference(found, owed):
 
 
 def unlike(found, owed):
-    """Why a run did not write these rows and nothing else, in the rows as they are read and in their bytes."""
+    """Why a run did not write exactly these rows, compared as parsed rows and as bytes."""
     if found.status or found.err:
         return f"status {found.status}, {found.err}"
     return first_difference(read(found.out), owed) or (None if found.out == written(owed) else "other quotes or row ends")

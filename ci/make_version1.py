@@ -1,8 +1,8 @@
 """By hand, and done: has a program of version 1 make the office files that are kept in ci/version1, and asks it of each.
 
-It takes the path of that program, the proved `drop` of a tree that makes office files of version 1. All is made by its words
-and by requests that Python's `hmac` signs (ci/test_replays.py), but for one file, which Python's `sqlite3` then wrote anew in pages
-of another size. ci/test_migrate.py asks the program of today the same (ci/kept.py).
+It takes the path of that program, the proved `drop` of a tree that makes office files of version 1. Everything is made by its
+commands and by requests that Python's `hmac` signs (ci/test_replays.py), except that Python's `sqlite3` then rewrote one file
+with another page size. ci/test_migrate.py does the same runs with today's program (ci/kept.py).
 """
 
 import argparse
@@ -30,11 +30,11 @@ BAD_LIST = LIST + b"DELETE,in,a.txt,20130524T000000Z,1\n"
 
 
 def at(moment, **how):
-    """How a request is signed that is good from this moment on."""
+    """Arguments that sign a request to be valid from this moment on."""
     return {"date": moment, **how}
 
 
-# ---- what is asked of each
+# ---- the runs for each office
 
 
 def asked(*requests, moment=MOMENT):
@@ -76,7 +76,7 @@ def asks_of_desk(key):
 
 
 def asks_of_words(key, manifest):
-    """Words that are no requests."""
+    """Commands that are not requests."""
     place = ["--key", key[0], *PLACE]
     yield said("link", "FILE", "PUT", "in/a b, \u00e9.txt", *place, "--start", MOMENT, "--expires", "604800")
     yield said("link", "FILE", "POST", "key revoke k2", *place, "--start", LAST, "--expires", "1")
@@ -91,7 +91,7 @@ def asks_of_words(key, manifest):
 
 
 def asks(key, manifest, own):
-    """All that is asked of an office, in this order; at the end what it then keeps."""
+    """All runs for an office, in this order; the last ones say what it then keeps."""
     yield from own
     yield from asks_of_links(key)
     yield from asks_of_desk(key)
@@ -107,7 +107,7 @@ CLERK = (ID, SECRET)
 
 
 class Maker:
-    """Makes one office by the program, and stops where it is not answered as it has to be."""
+    """Makes one office with the program, and stops if an answer is not the expected one."""
 
     def __init__(self, program, folder):
         self.drop = Drop(program, folder)
@@ -124,19 +124,19 @@ class Maker:
             assert ran.out == b"done\n", (line, ran)
 
     def put(self, path, data, moment=MOMENT, **how):
-        """A file that is new, or in the place of another."""
+        """Uploads a file, which is new or replaces another."""
         self.receipts += 1
         ran = self.drop.replay(self.file, put(path, data, date=moment, **how), at=moment)
         assert ran == answered(receipt(self.receipts, data)), (path, ran)
 
     def put_all(self, path, files):
-        """Many small ones, in one run."""
+        """Uploads many small files in one run."""
         requests, owed = [], []
         for name, data in files:
             self.receipts += 1
             requests.append(put(path + name, data))
             owed.append(receipt(self.receipts, data))
-        # a connection has at most a thousand
+        # a connection has at most a thousand requests
         assert len(requests) <= 1000
         ran = self.drop.replay(self.file, b"".join(requests))
         assert ran == answered(*owed), ran
@@ -148,7 +148,7 @@ def fresh(it):
 
 
 def of_hours(it, side):
-    """An office whose clock is fourteen hours off, and a box with hours."""
+    """An office whose clock is fourteen hours off, and a box with opening hours."""
     it.init(f"--{side}", "840")
     it.desk(f"box add in {FIRST} {LAST} 0000010 0100 0159 1000 5 keep any")
     # Saturday 25 May 2013, 01:00 to 01:59 by the office's clock
@@ -161,7 +161,7 @@ def of_hours(it, side):
 
 
 def keys(it):
-    """Keys of both roles with the least and the greatest ids and secrets, also revoked, the first clerk's among them."""
+    """Keys of both roles with the shortest and longest ids and secrets, some revoked, including the first clerk's."""
     greatest = ("k" * 64, b"!" * 128)
     it.init()
     it.desk("key add - link ~", f"key add {'K' * 64} link {'~' * 128}", "key add gone link s3cr3t", f"key add {greatest[0]} clerk {'!' * 128}",
@@ -177,7 +177,7 @@ def keys(it):
 
 
 def boxes(it):
-    """Boxes of all rules, modes and hours, with the least and the greatest numbers; the office's clock is an hour east."""
+    """Boxes with all rules, modes and hours, and with the least and greatest numbers; the office's clock is an hour east."""
     it.init("--east", "60")
     it.desk(
         f"box add in {ANY_TIME} 1000000000000 1000000 keep any", f"box add {'b' * 63} {LAST} {LAST} 0000000 2359 2400 0 0 replace any",
@@ -202,7 +202,7 @@ SIZES = [0, 1, 65535, 65536, 65537, 131072, 1048575, 1048576]
 
 
 def sizes(it):
-    """Files by their sizes, each of one letter."""
+    """Files of various sizes, each of one repeated letter."""
     it.init()
     it.desk(f"box add in {ANY_TIME} 1000000000000 100 keep any", f"box add out {ANY_TIME} 3000000 100 replace any")
     for number, size in enumerate(SIZES):
@@ -254,7 +254,7 @@ def names(it):
 
 
 def many(it):
-    """Nine hundred receipts, most of which have no file any more."""
+    """Nine hundred receipts, most of which no longer have a file."""
     it.init()
     it.desk(f"box add in {ANY_TIME} 100000 1000 replace any", f"box add out {ANY_TIME} 100000 1000 keep any")
     it.put_all(b"/in/", [(b"%d.txt" % (number % 20), b"%d" % number) for number in range(600)])
@@ -282,7 +282,7 @@ def filled(it):
 
 
 def killed(it):
-    """An office whose server was killed: what it told last stands in the journal alone."""
+    """An office whose server was killed: what it confirmed last is only in the journal."""
     it.init()
     it.desk(f"box add in {ANY_TIME} 1000000 9 keep any", "key add k2 link s3cr3t")
     it.put(b"/in/a.txt", b"abc")
@@ -300,7 +300,7 @@ def killed(it):
 
 
 def rewritten(it):
-    """An office that another program wrote anew, in small pages, with a journal of another kind."""
+    """An office that another program rewrote, with small pages and another journal mode."""
     key, own = past(it)
     with contextlib.closing(sqlite3.connect(it.file, isolation_level=None)) as db:
         for line in ["PRAGMA journal_mode = DELETE", "PRAGMA page_size = 1024", "VACUUM"]:
@@ -320,14 +320,14 @@ KINDS = [fresh, east, west, keys, boxes, sizes, past, names, many, filled, kille
 
 
 def made(program, kind):
-    """Makes an office of this kind, keeps it, and asks a copy."""
+    """Makes an office of this kind, keeps it, and does the runs on a copy."""
     with tempfile.TemporaryDirectory(prefix="drop-version1-") as room:
         folder = pathlib.Path(room) / "made"
         folder.mkdir()
         it = Maker(program, folder)
         key, own = kind(it)
         kept = Kept(VERSION_1 / kind.__name__)
-        # what the program says is asked of a copy, since to open an office file may write to it
+        # the program runs on a copy, since opening an office file may write to it
         kept.keep(it.file, b"", [])
         manifest = kit.run([program, "manifest", kept.copied(pathlib.Path(room) / "listed")])
         assert manifest.status == 0, manifest

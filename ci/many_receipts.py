@@ -1,4 +1,4 @@
-"""Offices of two thousand receipts, under names that a list has to quote, and of three; filled by Python's `sqlite3`."""
+"""Offices with two thousand receipts, under names that a list has to quote, and with three, filled by Python's `sqlite3`."""
 
 import random
 
@@ -12,19 +12,19 @@ from samples import LETTERS, NAMES
 RECEIPTS = 2000
 BOXES = ["in", "out.1-2", "b" * 63]
 KEYS = {ID: SECRET, "k2": b"s3cr3t", "-_" * 32: b"%2F+/" * 25 + b"=&?"}
-# How a name may begin and end, and what stands between.
+# How a name may begin and end, and the letters between.
 FRONTS = ["", "=", "+", "-", "@", " ", ",", '"', '""', "'", "#", ";", "\\", "\ufeff", "\u2028", "\u00a0"]
 ODD_LETTERS = LETTERS + '",,""\\;|\u00a0\u2028\ufeff'
 
 
 def odd_name(source, number):
-    """A name of letters that a list may have to quote, or that other programs take for something else."""
+    """A name of letters that a list may have to quote, or that other programs misread."""
     text = "".join(source.choices(ODD_LETTERS, k=source.randint(0, 30)))
     return f"{source.choice(FRONTS)}{text}{number}{source.choice(FRONTS)}"
 
 
 def sizes(source):
-    """Sizes of files: most of them small, some of several pieces."""
+    """The size of a file: most files are small, some have several pieces."""
     return source.choice([0, 1, 3, 300, 2000]) if source.random() < 0.99 else source.choice([65536, 65537, 200_000])
 
 
@@ -39,7 +39,7 @@ def begun(drop, name):
 
 
 def fill(file):
-    """Receipts of as many files, each of which stands."""
+    """Adds the receipts and as many files, all of which are stored."""
     source = random.Random(20130524)
     names = [*NAMES, "n" * 1024, "é" * 512, '"', ",", " ", "=", *FRONTS[1:7]]
     names += [odd_name(source, number) for number in range(len(set(names)), RECEIPTS)]
@@ -66,7 +66,7 @@ def few(drop, name):
 
 
 def change(drop, file, source):
-    """Has the office drop an eighth of its files and set an eighth anew: the answers' fault, if there is one."""
+    """Has the office drop an eighth of its files and replace an eighth; returns what is wrong with the answers, or None."""
     places = source.sample(sorted(standing(file)), RECEIPTS // 4)
     dropped, replaced = places[::2], places[1::2]
     number = tables.rows(file, "SELECT MAX(number) FROM receipts")[0][0]

@@ -1,7 +1,7 @@
-"""The two programs that docs/DEPLOY.md sets up, at ports of their own: `Office`, the `drop serve` of a unit, and `Front`, an
+"""The two programs that docs/DEPLOY.md sets up, on ports of their own: `Office`, the `drop serve` of a unit, and `Front`, an
 nginx of this user whose site is deploy/nginx.conf.
 
-Of the unit and the site the ports, the paths and the host's name are replaced, and nothing else.
+In the unit and the site only the ports, the paths and the host's name are replaced.
 """
 
 import contextlib
@@ -23,10 +23,10 @@ from front import free_port
 
 PAGE = kit.ROOT / "docs" / "DEPLOY.md"
 HOST = "files.example"
-SECONDS = 30  # until what is waited for must be there
+SECONDS = 30  # timeout of each wait
 NGINX = shutil.which("nginx", path=os.environ.get("PATH", "") + ":/usr/sbin")
 
-# What stands around a site in Debian's own configuration, without its folders and its user.
+# Debian's own configuration around a site, without its folders and its user.
 AROUND = """
 daemon off;
 master_process off;
@@ -58,7 +58,7 @@ def listens(port):
 
 
 def replaced(text, replacements):
-    """The text with each of these replaced, which must stand in it."""
+    """The text with these replacements, each of which must occur in it."""
     for old, new in replacements:
         if old not in text:
             raise AssertionError(f"there is no {old!r}")
@@ -67,7 +67,7 @@ def replaced(text, replacements):
 
 
 class Office:
-    """The `drop serve` of a unit, at another port and over another file: it can be started again at its address."""
+    """The `drop serve` of a unit, on another port and with another file; it can be restarted at its address."""
 
     def __init__(self, unit, folder, paths):
         self.folder, self.port, self.process = folder, free_port(), None
@@ -82,7 +82,7 @@ class Office:
         return None if line == f"listening on {self.address}\n" else f"it said {line!r}"
 
     def end(self):
-        """The status with which it ends by itself."""
+        """Waits until it ends by itself, and returns its status."""
         self.process.communicate(timeout=SECONDS)
         return self.process.returncode
 
@@ -100,12 +100,12 @@ class Office:
 
 
 def paths_of(drop, file):
-    """What is replaced in the unit: the program's path and the office file's."""
+    """The replacements in the unit: the program's path and the office file's."""
     return [("/usr/bin/drop", str(drop.program)), ("/var/lib/drop/office", str(file))]
 
 
 def certificate(folder):
-    """A certificate for the host, and its key, by the words of the page."""
+    """Makes a certificate for the host, and its key, by the command of docs/DEPLOY.md."""
     line = next(it for it in joined(PAGE.read_text()) if it.startswith("openssl req"))
     ran = kit.run(shlex.split(line.replace(f"/etc/letsencrypt/live/{HOST}", str(folder))))
     if ran.status:
@@ -113,12 +113,12 @@ def certificate(folder):
 
 
 def joined(text):
-    """Its lines, of which those that end in a backslash go on."""
+    """The lines of the text; a line that ends in a backslash continues on the next."""
     return text.replace("\\\n", " ").splitlines()
 
 
 class Connection(http.client.HTTPConnection):
-    """A connection to the front, over TLS, whatever the host's name is."""
+    """A TLS connection to the front, whatever the host's name is."""
 
     def __init__(self, front, buffer=None):
         super().__init__(HOST, timeout=SECONDS)
@@ -138,14 +138,14 @@ class Front:
         self.process, self.links = None, []
 
     def ports(self):
-        """What is replaced in the site, but for the host's name and the paths."""
+        """The replacements in the site, except for the host's name and the paths."""
         here = "127.0.0.1"
         return [("listen 443 ssl;", f"listen {here}:{self.port} ssl;"), ("listen 80;", f"listen {here}:{self.clear_port};"),
                 ("    listen [::]:443 ssl;\n", ""), ("    listen [::]:80;\n", ""),
                 (f"{here}:8333;", f"{here}:{self.office_port};")]
 
     def configure(self, site, paths, chain):
-        """The words that run it with this site, in which these paths are replaced."""
+        """Configures it with this site, in which these paths are replaced; returns the command that runs it."""
         self.chain = chain
         text = replaced(site.read_text(), [*self.ports(), *((old, str(new)) for old, new in paths)])
         own = self.folder / "site.conf"
@@ -160,7 +160,7 @@ class Front:
         until("nginx", lambda: listens(self.port))
 
     def restart(self):
-        """Another start, which reads the site anew."""
+        """Restarts nginx, which then reads the site anew."""
         self.stop()
         self.start()
 
@@ -184,14 +184,14 @@ class Front:
         return self.context.wrap_socket(plain, server_hostname=HOST)
 
     def begin(self, method, target, body=None, fields=(), buffer=None):
-        """A connection on which this was asked."""
+        """Sends this request, and returns its connection."""
         self.links.append(target)
         it = Connection(self, buffer)
         it.request(method, target, body, {"Host": self.host, **dict(fields)}, encode_chunked=True)
         return it
 
     def ask(self, method, target, body=None, fields=()):
-        """The status, the body and the fields that this is answered."""
+        """The status, the body and the header fields of the answer to this request."""
         with contextlib.closing(self.begin(method, target, body, fields)) as it:
             answer = it.getresponse()
             return answer.status, answer.read(), answer.headers

@@ -1,10 +1,10 @@
 """Orders of links, each with the link that botocore's own signer makes of the same request: the path and the query
-that botocore signed, its parameters in canonical order with the signature last. The moments and the random texts are
+that botocore signed, with the parameters in canonical order and the signature last. The moments and the random texts are
 fixed, so each run makes the same orders.
 
-Three things botocore does otherwise than S3, and no order here depends on them: it leaves some headers unsigned, as
-`user-agent`; it signs the value of `x-amz-content-sha256` in the place of UNSIGNED-PAYLOAD; and it takes the form's
-`content-type` out of the request.
+Botocore differs from S3 in three things, and no order here depends on them: it leaves some headers unsigned, such as
+`user-agent`; it signs the value of `x-amz-content-sha256` instead of UNSIGNED-PAYLOAD; and it removes the form's
+`content-type` from the request.
 """
 
 import datetime
@@ -28,12 +28,12 @@ KEYS = [
     ("-_" * 32, "%2F+/" * 25 + "=&?"),
 ]
 SHOWN = {"response-content-type": "text/plain; charset=utf-8", "response-cache-control": "no-cache"}
-# Names that sort before and behind X-Amz-.., and names whose order changes once they are encoded.
+# Names that sort before and after X-Amz-.., and names whose order changes once they are encoded.
 SORTED = {"!": "1", "A": "", "X-Amz": "2", "X-Amz.": "3", "X-B": "/", "a": " ", "x-amz-date": "4", "~": "~"}
 ENCODED = {"a/": "2", "a-": "1", "a": "0", "a b": "c/d", "a=": "&", "a+": "+", "ä": "\0", "é": "%41",
            b"\xff": b"\x80\n"}
 RANGE = {"x-amz-note": "n", "range": "bytes=0-1"}
-# One header of each letter that a name may have, and values of each letter that they may have.
+# A header name with each letter that a name may have, and values with each letter that they may have.
 LETTERED = {
     "content-type": "text/plain; charset=utf-8",
     "abcdefghijklmnopqrstuvwxyz-0123456789_.": "".join(map(chr, range(0x21, 0x7F))),
@@ -93,7 +93,7 @@ ORDER = functools.partial(BotocoreOrder, host=HOST, key=KEYS[0])
 
 
 def orders_of_names(source):
-    """Names of all kinds, each by itself, with parameters and with a header."""
+    """Names of all kinds, each alone, with parameters and with a header."""
     number = 0
     for name in NAMES + [random_text(source) for _ in range(20)]:
         for params, headers in [({}, {}), (SHOWN, {}), ({}, {"x-amz-meta-note": f"number {number}"})]:
@@ -109,7 +109,7 @@ def orders_of_names(source):
 
 
 def orders_at_edges():
-    """Paths, parameters, headers, hosts, regions, keys and starts that are least, longest or odd."""
+    """Paths, parameters, headers, hosts, regions, keys and starts that are shortest, longest or odd."""
     for method in METHODS:
         yield ORDER(method, "/")
         yield ORDER(method, "//", {"desk": "key revoke k2"}, expires=604800)
@@ -138,7 +138,7 @@ def random_order(source):
 
 
 def orders(source):
-    """The orders."""
+    """All orders."""
     yield from orders_of_names(source)
     yield from orders_at_edges()
     yield from (random_order(source) for _ in range(100))

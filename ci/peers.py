@@ -1,5 +1,5 @@
-"""Peers of an office that come many at once: clients that wait for each answer and take its time, and peers that keep an office
-waiting. They come to `drop serve` itself, or to a server in front of it.
+"""Many simultaneous peers of an office: clients that wait for each answer and measure its time, and peers that keep an office
+waiting. They connect to `drop serve` itself, or to a server in front of it.
 """
 
 import contextlib
@@ -11,8 +11,8 @@ import time
 from expected import OBEYED, answer, fetched, receipt
 from messages import get, post, put
 
-SECONDS = 60  # until what is waited for must be there
-SOON = 5.0  # how long an answer may take that waits for no other peer
+SECONDS = 60  # timeout of each wait
+SOON = 5.0  # how long an answer may take if it waits for no other peer
 SIZES = [0, 1, 100, 5000, 70_000, 1 << 20]
 UNSIGNED = b"GET / HTTP/1.1\r\nHost: files.example\r\n\r\n"
 DELETED = b"DELETE /in/a HTTP/1.1\r\nHost: files.example\r\n\r\n"
@@ -21,12 +21,12 @@ OWN_FIELDS = {b"Content-Type", b"Content-Length", b"X-Drop-Receipt", b"X-Drop-Sh
 
 
 def a_minute_ago():
-    """The moment from which links hold that are used now."""
+    """The start of links that are used now, a minute ago."""
     return time.strftime("%Y%m%dT%H%M%SZ", time.gmtime(time.time() - 60))
 
 
 def facts(found):
-    """What an answer tells, also where a server in front adds fields of its own: the status, the office's fields, the body."""
+    """The status, the office's fields and the body of an answer, even if a server in front adds fields of its own."""
     head, _, body = found.partition(b"\r\n\r\n")
     first, *lines = head.split(b"\r\n")
     fields = dict(line.split(b": ", 1) for line in lines)
@@ -34,7 +34,7 @@ def facts(found):
 
 
 def whole_answer(stream, method):
-    """The next answer."""
+    """Reads the next answer."""
     head = b""
     while not head.endswith(b"\r\n\r\n"):
         line = stream.readline()
@@ -49,7 +49,7 @@ def whole_answer(stream, method):
 
 
 class Peer:
-    """A connection on which each answer is awaited, and how long the slowest one took."""
+    """A connection that waits for each answer, and how long the slowest one took."""
 
     def __init__(self, connect):
         self.socket, self.slowest, self.waiting = connect(), 0.0, b""
@@ -62,7 +62,7 @@ class Peer:
         self.socket.close()
 
     def take(self, method="GET"):
-        """One answer, as its Content-Length tells."""
+        """Reads one answer, as long as its Content-Length says."""
         while not (cut := self.waiting.find(b"\r\n\r\n") + 4) > 3:
             self.more()
         length = re.search(rb"\r\nContent-Length: (\d+)\r\n", self.waiting[:cut])
@@ -81,7 +81,7 @@ class Peer:
         self.waiting += data
 
     def ask(self, *parts, method="GET"):
-        """What these bytes are answered. The time counts from the last part on."""
+        """The answer to these bytes. Its time counts from the last part on."""
         for part in parts[:-1]:
             self.socket.sendall(part)
             time.sleep(0.01)
@@ -93,8 +93,8 @@ class Peer:
 
 
 class Client(threading.Thread):
-    """A client that behaves: on some connections, one after another, it puts files in pieces, fetches them, is refused, and gives
-    a command of the desk. What is owed is known of each answer but a receipt's number. `is_alike` compares two answers."""
+    """A client that behaves: on some connections, one after another, it uploads files in pieces, fetches them, is refused, and
+    sends desk commands. Each expected answer is known, except for a receipt's number. `is_alike` compares two answers."""
 
     def __init__(self, connect, number, visits, rounds, sizes=None, is_alike=bytes.__eq__):
         super().__init__(daemon=True)
@@ -114,13 +114,13 @@ class Client(threading.Thread):
                 self.faults.append(f"client {self.number}, connection {visit}: {error!r}")
 
     def data(self, visit, step):
-        """The bytes of the file of this step: no other step has the same."""
+        """The bytes of the file of this step; no other step has the same, unless they are very few."""
         size = self.sizes[(self.number + visit + step) % len(self.sizes)]
         whole = hashlib.sha256(b"%d %d %d" % (self.number, visit, step)).digest() * (size // 32 + 1)
         return whole[:size]
 
     def exchange(self, peer, visit, step):
-        """Each method once, and refusals."""
+        """Requests with each method, and refusals."""
         path, data, date = b"/in/%d-%d-%d" % (self.number, visit, step), self.data(visit, step), self.start_of_links
         message = put(path, data, date=date)
         cut = len(message) - len(data) // 2
@@ -145,7 +145,7 @@ class Client(threading.Thread):
 
 
 def add_clients(check, name, clients):
-    """Runs the clients side by side: whether each answer was right, and came soon. The receipts that they were told."""
+    """Runs the clients in parallel; checks that each answer was right and came soon. Returns their receipts' numbers."""
     for it in clients:
         it.start()
     for it in clients:
@@ -159,8 +159,8 @@ def add_clients(check, name, clients):
 
 
 class Crowd:
-    """Peers that keep an office waiting, from `with` on: some are idle; of the others half send a byte a second of a head, and
-    half of a body, which they never end."""
+    """Peers that keep an office waiting, inside `with`. Some are idle. Of the others, half send a byte per second of a head, and
+    half of a body, which they never finish."""
 
     def __init__(self, connect, idle, slow):
         self.connect, self.numbers, self.is_over = connect, (idle, slow), threading.Event()

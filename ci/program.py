@@ -1,4 +1,4 @@
-"""The program `drop` with a folder for what it makes, its fault lines (docs/USE.md), and files that hold no office."""
+"""The program `drop` with a folder for its files, its fault lines (docs/USE.md), and files that hold no office."""
 
 import contextlib
 import dataclasses
@@ -44,13 +44,13 @@ CANNOT_WRITE = fault("cannot write")
 
 
 def umasked(umask):
-    """What is run has this umask."""
+    """The argument that runs a program with this umask, if one is given."""
     return {"umask": umask} if umask is not None else {}
 
 
 @dataclasses.dataclass(frozen=True)
 class Drop:
-    """The program, and a folder for what it makes."""
+    """The program, and a folder for its files."""
 
     program: pathlib.Path
     folder: pathlib.Path
@@ -65,7 +65,7 @@ class Drop:
         return self.run("link", file, method, target, *(f"--{name}={value}" for name, value in (LINK | values).items()))
 
     def replay(self, file, *streams, at=MOMENT):
-        """Answers these streams, each in a file of its own."""
+        """Runs `drop replay` on these streams, each in a file of its own."""
         names = []
         for stream in streams:
             handle, name = tempfile.mkstemp(dir=self.folder, prefix="stream-")
@@ -103,7 +103,7 @@ def answered(*answers):
 
 
 def help_of(command):
-    """What the help of this command has to be."""
+    """The expected help of this command."""
     return (kit.ROOT / "ci" / f"{command}.help").read_bytes()
 
 
@@ -113,7 +113,7 @@ def help_lines(command):
 
 @contextlib.contextmanager
 def closed_pipe():
-    """A file to write to that nobody reads."""
+    """A file to write to whose reader is gone."""
     heard, told = os.pipe()
     os.close(heard)
     try:
@@ -130,7 +130,7 @@ def full_disk():
 
 
 def stock(file, command):
-    """What the command `sqlite3` says."""
+    """What the command `sqlite3` prints."""
     words = [shutil.which("sqlite3") or "sqlite3", "-batch", str(file), command]
     return subprocess.run(words, capture_output=True, text=True, check=False).stdout.strip()
 
@@ -142,7 +142,7 @@ def other_program(file):
 
 
 def not_offices(drop):
-    """Files that hold no office, and the fault that is owed."""
+    """Files that hold no office, each with the expected fault."""
     empty, text, folder, other = (drop.path(f"no-office-{name}") for name in ["empty", "text", "folder", "other"])
     empty.touch()
     text.write_bytes(b"not a database\n" * 1000)

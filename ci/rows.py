@@ -1,11 +1,11 @@
-"""Writes the table of calls that crates/rows answers, and what is owed for each: crates/rows/stdin and stdout.
+"""Writes the table of calls that crates/rows answers, and the expected answers: crates/rows/stdin and stdout.
 
-What is owed comes from outside the crates: from the table of refusals in docs/RULES.md, from Python's `hashlib`,
+The expected answers come from outside the crates: from the table of refusals in docs/RULES.md, from Python's `hashlib`,
 `hmac`, `calendar`, `datetime` and `urllib.parse`, from published vectors, and from the forms in docs/RULES.md, read by a person.
-ci/test_rows.py says whether both files are as they would be written.
+ci/test_rows.py checks that both files are as they would be written.
 
 A row is the name of a call and its words, with one space before each. A byte outside 0x21..0x7E, and `"` and `%`,
-stands as `%` and two digits; a word without bytes is `""`. An answer is written in the same way.
+are written as `%` and two digits; an empty word is `""`. An answer is written in the same way.
 """
 
 import calendar
@@ -31,7 +31,7 @@ REFUSALS = """HeadMalformed HeadTooLong TransferCoding LengthMalformed BodyTooLa
 
 
 def written(*words):
-    """The words, as a row and an answer have them."""
+    """The words, as they are written in a row or an answer."""
     def escaped(word):
         return "".join(chr(b) if 0x21 <= b <= 0x7E and b not in b'"%' else f"%{b:02X}" for b in as_bytes(word)) or '""'
 
@@ -188,7 +188,7 @@ UNFIT = [
     (18, "host", [("X-AMZ-", ""), ("host", "h")]),
     (18, "host;x-amz-a", [("x-amz-a", "d"), ("X-Amz-B", "d"), ("host", "h")]),
 ]
-# Names in any case, blanks round a value and within it, an empty value, and fields that are not signed.
+# Names in any case, blanks around a value and within it, an empty value, and fields that are not signed.
 GIVEN = [
     ("Range", "bytes=0-9, 20-29"), ("X-Amz-Empty", " \t "), ("X-Am", "  "), ("HOST", "\t box.example:9000 \t"),
     ("Accept", "a"), ("accept", "b"),
@@ -349,7 +349,7 @@ def pairs_of(pairs):
 
 @dataclasses.dataclass
 class Order:
-    """What a link is to say, and who signs it (docs/RULES.md, 1.11). Without more, it is the published one."""
+    """What a link should say, and who signs it (docs/RULES.md, 1.11). The default is the published one."""
 
     method: str = "GET"
     path: str | bytes = "/test.txt"
@@ -380,12 +380,12 @@ class Order:
         return target + b"&X-Amz-Signature=" + signature(self.key[1], credential, self.start, text).encode()
 
     def answer(self):
-        """What is owed for the row: what stands behind `GET ` then."""
+        """The expected answer to the row: the link, appended to `GET `."""
         return written(b"GET " + as_bytes(self.link()))
 
 
 RANGE = ("range", "bytes=0-1")
-# Orders, each with the signature of its link by botocore's S3SigV4QueryAuth where one was stored.
+# Orders, each with the signature of its link by botocore's S3SigV4QueryAuth if one was stored.
 ORDERS = [
     (SIGNATURE.decode(), "GET", "/test.txt", {}),
     ("1777a2c5a9b660385989f2bfebb13754b33e47c642858eefa2dd845c627c50cc", "GET", "/test.txt",
@@ -401,7 +401,7 @@ ORDERS = [
      {"params": [("a b", "c/d")], "headers": [RANGE]}),
 ]
 LONG = "a" * 256
-# What of the published order is another, and the first fault then: None where a link is written.
+# Changes to the published order, and the first fault then: None if a link is written.
 FAULTS = [
     ("Method", {"method": "PATCH", "path": ""}),
     ("Path", {"path": "", "params": [("", "")]}),
@@ -428,7 +428,7 @@ FAULTS = [
         (("k", ""), "Key"), (("k", LONG[:129]), "Key"), (("k", "s s"), "Key"),
     ]),
 ]
-# A parameter beside `a`, and a header beside `range`.
+# A parameter in addition to `a`, and a header in addition to `range`.
 OTHER_PARAMS = [
     (("b", "1"), None), (("x-amz-foo", ""), None), (("X-Amz", "\0"), None), (("", "1"), "Params"),
     (("a", "2"), "Params"),
@@ -563,7 +563,7 @@ def heads():
 
 
 def good(kind, body, method, *fields):
-    """An answer of status 200 to this method (docs/RULES.md, 7), that it is not refusal 40, and no fault."""
+    """An answer of status 200 to this method (docs/RULES.md, 7); that it is not refusal 40; and no fault."""
     lines = ["HTTP/1.1 200 OK", f"Content-Type: {kind}", f"Content-Length: {len(body)}", *fields, "", ""]
     return written("\r\n".join(lines).encode() + (b"" if method == "HEAD" else body), "false", "0")
 
@@ -587,8 +587,8 @@ def answers():
 
 
 def local(east, now):
-    """The office's date and time at a moment, by Python's datetime. Its years end in 9999: 400 years have whole weeks, so
-    a moment of the last day is told with the weekday and time of 400 years before."""
+    """The office's date and time at a moment, by Python's datetime. Its years end in 9999. 400 years are whole weeks,
+    so a later time is returned as the same weekday and time 400 years before."""
     seconds = now + 60 * east
     if seconds > 253402300799:
         seconds -= 146097 * 86400
@@ -639,7 +639,7 @@ GROUPS = [
 
 
 def files():
-    """The texts of the two files. A remark stands in both, so that a row and its answer have one line number."""
+    """The texts of the two files. Remarks are in both, so that a row and its answer have the same line number."""
     given, owed = [], []
     for group in GROUPS:
         for line in group():

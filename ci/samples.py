@@ -35,12 +35,12 @@ LETTERS = "abcXYZ019 -._~/+%&=?#;:@!$'()*,[]éß中\U0001f4e6"
 
 
 def random_text(source, most=40):
-    """One letter or more, up to so many."""
+    """A random text of one to `most` letters."""
     return "".join(source.choice(LETTERS) for _ in range(source.randint(1, most)))
 
 
 def signers():
-    """The modules by which botocore signs: its own, and that over awscrt where this is there."""
+    """The modules with which botocore signs: its own, and the one over awscrt if that is installed."""
     with contextlib.suppress(ImportError):
         if botocore.compat.HAS_CRT:
             return [botocore.auth, importlib.import_module("botocore.crt.auth")]
@@ -49,7 +49,7 @@ def signers():
 
 @contextlib.contextmanager
 def clock_at(moment=MOMENT):
-    """Lets botocore sign at the moment, in its newer and its older versions."""
+    """Makes botocore sign at this moment, in its newer and its older versions."""
     def now(remove_tzinfo=True):
         return moment.replace(tzinfo=None) if remove_tzinfo else moment
 

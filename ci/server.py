@@ -1,4 +1,4 @@
-"""`drop serve` at a port of its own, an office for it, and clients of others."""
+"""`drop serve` on a port of its own, an office for it, and third-party clients."""
 
 import socket
 import subprocess
@@ -27,9 +27,9 @@ def open_office(drop, name):
 
 
 class Server:
-    """A `drop serve` that runs from `with` on, and says where it listens before it is used.
+    """A `drop serve` that runs inside `with`, and reports where it listens before it is used.
 
-    The office file is its own while it runs, so links are made before.
+    It has exclusive access to the office file while it runs, so links are made before.
     """
 
     def __init__(self, drop, file, connections, patience=None, most_open=None):
@@ -38,7 +38,7 @@ class Server:
         self.words = [drop.program, "serve", file, "--listen", self.address, "--connections", str(connections)]
         self.words += ["--patience", str(patience)] if patience is not None else []
         self.words += ["--open", str(most_open)] if most_open is not None else []
-        self.own = {}  # what else the program is started with
+        self.own = {}  # further arguments with which the process is started
 
     def __enter__(self):
         pipes = {"stdin": subprocess.DEVNULL, "stdout": subprocess.PIPE, "stderr": subprocess.PIPE}
@@ -47,7 +47,7 @@ class Server:
         return self
 
     def link(self, method, target, key=ID):
-        """The URL of a link that `drop link` writes for this server, good from a minute ago on."""
+        """The URL of a link that `drop link` writes for this server, valid from a minute ago on."""
         start = time.strftime("%Y%m%dT%H%M%SZ", time.gmtime(time.time() - 60))
         ran = self.drop.link(self.file, method, target, key=key, host=self.address, start=start)
         assert ran.status == 0, ran
@@ -66,7 +66,7 @@ class Server:
         self.process.communicate()
 
     def connect(self, buffer=None):
-        """A connection, which has room for so many bytes that it has not read, if that is told."""
+        """A connection. If `buffer` is given, it has room for so many unread bytes."""
         it = socket.socket()
         it.settimeout(SECONDS)
         it.setsockopt(socket.IPPROTO_TCP, socket.TCP_NODELAY, 1)
@@ -77,7 +77,7 @@ class Server:
         return it
 
     def ask(self, *parts, shut=True, pause=0.0):
-        """What a connection is answered that sends these bytes, and then closes its sending side."""
+        """What a connection receives that sends these bytes, and then closes its sending side."""
         with self.connect() as it:
             for part in parts:
                 it.sendall(part)
@@ -87,7 +87,7 @@ class Server:
             return b"".join(iter(lambda: it.recv(1 << 16), b""))
 
     def end(self):
-        """How the program ended, once its last connection was served."""
+        """How the program ends, once its last connection was served."""
         out, err = self.process.communicate(timeout=SECONDS)
         return kit.Run(self.process.returncode, self.line + out, err or b"")
 
@@ -97,7 +97,7 @@ class Server:
 
 
 def curl(*words, given=b""):
-    """What curl got: the status and the body; with -i the head too."""
+    """The result of curl: its status and the body; with -i the head too."""
     return kit.run(["curl", "--silent", "--show-error", "--max-time", str(SECONDS), *words], given)
 
 

@@ -1,4 +1,4 @@
-"""What a test of page/ does in a browser and what it finds there, and what is owed of a receipt."""
+"""Helpers for tests of page/: what they do and find in a browser, and what is expected of a receipt."""
 
 import contextlib
 import hashlib
@@ -22,7 +22,7 @@ return all;
 
 
 class Case:
-    """A test's office, front and browser, the links that it needs, and files to be chosen."""
+    """A test's office, front and browser, the links that it needs, and files to choose."""
 
     def __init__(self, drop, office, front, browser, links, shots):
         self.drop, self.office, self.front, self.browser = drop, office, front, browser
@@ -42,7 +42,7 @@ class Case:
         self.browser.find("#file").type(self.file(name, data))
 
     def result(self, *kinds):
-        """The result that is shown, once there is one of these kinds."""
+        """The result that is shown, once it is of one of these kinds."""
         kinds = kinds or ("receipt", "fetched", "refused", "lost", "stopped", "away", "strange", "unreadable")
         def shown():
             found = self.browser.js(RESULT)
@@ -57,7 +57,7 @@ class Case:
         self.browser.find(selector).click()
 
     def speak(self, language):
-        """The switch, by a script: quicker than `click`."""
+        """Switches the language by a script, which is faster than `click`."""
         self.browser.js("document.getElementById(arguments[0]).click()", language)
 
     def put(self, link, name, data, host=None):
@@ -72,7 +72,7 @@ class Case:
         return self.result()
 
     def shot(self, name):
-        """Pictures of what is shown: in both languages, narrow and wide, light and dark."""
+        """Saves screenshots: in both languages, narrow and wide, light and dark."""
         if not self.shots:
             return
         for width in [320, 1280]:
@@ -107,7 +107,7 @@ def is_not(found, owed):
 
 
 def lacks(text, *words):
-    """Those of the words that a text does not have."""
+    """Which of the words a text lacks."""
     missing = [word for word in words if word not in (text or "")]
     return f"{missing} not in {text!r}" if missing else None
 
@@ -118,7 +118,7 @@ def receipt_facts(number, data):
 
 
 def of(found, owed):
-    """The facts of a result that are owed, among others."""
+    """Those facts of a result that are expected, without the others."""
     return {name: found["facts"].get(name) for name in owed}
 
 
@@ -129,7 +129,7 @@ TAB, ENTER, SPACE = "\ue004", "\ue007", " "
 
 
 def receipts(case):
-    """The receipts of the office, by a manifest; it is stopped for it."""
+    """The receipts of the office, from a manifest; the office is stopped meanwhile."""
     case.office.kill()
     ran = case.drop.run("manifest", case.office.file)
     case.office.start()
@@ -138,7 +138,7 @@ def receipts(case):
 
 
 def tabbed(case, times):
-    """What has the focus behind each of so many Tabs."""
+    """What has the focus after each of so many Tabs."""
     order = []
     for _ in range(times):
         case.browser.press(TAB)
@@ -157,7 +157,7 @@ def labels(case):
 
 
 BACKGROUND = "return getComputedStyle(document.body).backgroundColor"
-# The contrast of what is written with what it is written on, by WCAG 2.2, the least of all that is shown.
+# The lowest contrast of any text that is shown with its background, by WCAG 2.2.
 CONTRAST = """
 const parse = (it) => it.match(/[\\d.]+/g).map(Number);
 const light = (it) => it.slice(0, 3).map((c) => c / 255).map((c) => c <= 0.04045 ? c / 12.92 : ((c + 0.055) / 1.055) ** 2.4)
@@ -176,8 +176,8 @@ return Math.min(...texts.map((it) => {
 
 
 def looks(case, check, states):
-    """Of each state: no scrolling to the side on a telephone; enough contrast, light and dark; nothing moves where that is not
-    wanted."""
+    """Checks each state: no sideways scrolling on a phone; enough contrast, light and dark. Then checks that nothing moves if
+    that is not wanted."""
     for name, reach in states:
         reach()
         case.browser.width(320)
@@ -204,14 +204,14 @@ def looks(case, check, states):
 
 
 def loads_its_own(case, check, page):
-    """All that the page has loaded is from its own origin."""
+    """Checks that all that the page has loaded is from its own origin."""
     names = case.browser.js("return performance.getEntriesByType('resource').map((it) => it.name)")
     far = [it for it in names if not it.startswith(f"http://{case.front.host}/")]
     check(f"{page} loads from its own origin", is_not((far, len(names) >= 4), ([], True)))
 
 
 def reaches_nothing_else(case, check):
-    """Nothing could be loaded from elsewhere."""
+    """Checks that nothing can be loaded from elsewhere."""
     elsewhere = f"http://files.example:{case.front.port}/put.html"
     for what, script in [
         ("fetch", "fetch(url, {mode: 'no-cors'}).then(() => done('loaded'), () => done('barred'))"),

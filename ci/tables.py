@@ -19,7 +19,7 @@ TABLES = [*OF_VERSION_1, *NEW_TABLES]
 
 @contextlib.contextmanager
 def opened(file, *, unchecked=False):
-    """A connection that is committed and closed; unchecked, it tests neither CHECKs nor references."""
+    """A connection that is committed and closed at the end; if unchecked, it tests neither CHECKs nor references."""
     db = sqlite3.connect(file)
     try:
         db.execute(f"PRAGMA foreign_keys = {'OFF' if unchecked else 'ON'}")
@@ -44,7 +44,7 @@ def rows(file, query, *values):
 
 @dataclasses.dataclass(frozen=True)
 class Box:
-    """A row of `boxes` of a box without files. As it stands it is always open."""
+    """A row of `boxes` for a box without files. By default it is always open."""
 
     name: str
     opens: int = 0
@@ -94,8 +94,8 @@ def add_file(file, *words, **how):
 
 
 def fill(file, clerk):
-    """A whole office: four keys, four boxes, one for each kind of rule and one with the greatest numbers, five receipts,
-    the third of which no file has any more, and files of 3, 0, 65537 and 131072 bytes. The revoked key of role `link` is limited
+    """Fills an office: four keys, four boxes (one for each kind of rule and one with the greatest numbers), five receipts,
+    the third of which no longer has a file, and files of 3, 0, 65537 and 131072 bytes. The revoked key of role `link` is limited
     to two boxes."""
     add_key(file, "k2", b"s3cr3t")
     add_key(file, "k3", b"s3cr3t", revoked=1)
@@ -119,7 +119,7 @@ def fill(file, clerk):
 
 @dataclasses.dataclass(frozen=True)
 class Break:
-    """Statements that break a rule. The database itself may refuse the file where it is one of its own rules: a CHECK,
+    """Statements that break a rule. The database itself may refuse the file if it is one of its own rules: a CHECK,
     NOT NULL, the type of a column, or a reference."""
 
     name: str
@@ -261,7 +261,7 @@ def limit_breaks():
 
 
 def table_breaks(tables):
-    """A table is missing, has another name, or a column more. Where others refer to it, they then refer to nothing."""
+    """A table is missing, has another name, or has an extra column. References of other tables to it then lead nowhere."""
     for table in tables:
         yield broken(f"DROP TABLE {table}", own=table in ("keys", "boxes", "receipts", "files"))
         yield broken(f"ALTER TABLE {table} RENAME TO other", own=True)
@@ -272,18 +272,18 @@ def table_breaks(tables):
 
 
 def breaks_of_both():
-    """Each rule of both versions broken by itself, in an office that is filled as by `fill`."""
+    """Each rule that both versions have, broken alone, in an office that is filled as by `fill`."""
     return [*office_breaks(), *key_breaks(), *box_breaks(), *receipt_breaks(), *file_breaks(), *piece_breaks(),
             *table_breaks(OF_VERSION_1)]
 
 
 def breaks_of_version_1():
-    """Each rule of the tables of version 1 broken by itself, in an office that is filled as by `fill`."""
+    """Each rule of the tables of version 1, broken alone, in an office that is filled as by `fill`."""
     return [*breaks_of_both(), set_to("receipts", "length", 1048577, "number = 3")]
 
 
 def breaks():
-    """Each rule of an office that is filled by `fill`, broken by itself."""
+    """Each rule of an office that is filled by `fill`, broken alone."""
     return [*breaks_of_both(), *allowance_breaks(), *limit_breaks(), *table_breaks(NEW_TABLES)]
 
 
@@ -301,7 +301,7 @@ def write_text(file, table, text):
 
 
 def loosened(file, table, old, new, statement):
-    """Breaks a rule of the columns of a table, by way of a looser text of the table, which is put back."""
+    """Breaks a rule of a table's columns: the table's text in the schema is loosened, and restored afterwards."""
     text = rows(file, "SELECT sql FROM sqlite_schema WHERE name = ?", table)[0][0]
     assert old in text, (old, text)
     write_text(file, table, text.replace(old, new, 1))
@@ -309,7 +309,7 @@ def loosened(file, table, old, new, statement):
     write_text(file, table, text)
 
 
-# Of columns: a table, what its text is for a moment, and a statement that breaks the rule.
+# Rules of columns: a table, a part of its text, what that is for a moment, and a statement that breaks the rule.
 LOOSENED = [
     ("keys", "revoked INTEGER NOT NULL", "revoked INTEGER", "UPDATE keys SET revoked = NULL WHERE id = 'k2'"),
     ("boxes", "rule_text TEXT NOT NULL", "rule_text TEXT", "UPDATE boxes SET rule_text = NULL WHERE name = 'in'"),

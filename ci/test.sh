@@ -1,7 +1,7 @@
 #!/usr/bin/env bash
-# Runs all tests: `rt ci`, the must-fail edits beside it, and then the tests of the built programs, by pytest. Each part ends
-# with `N passed, M failed`; a part that does not, or cannot be run, has failed. The last line is the sum of all. The edits are
-# given a limit of time, so that the whole ends in 180 minutes on a slow machine too: `, K skipped` then says how many are left.
+# Runs all tests: `rt ci`, the must-fail edits in parallel with it, and then the tests of the built programs, with pytest. Each
+# part ends with `N passed, M failed`; a part that does not, or cannot be run, has failed. The last line is the sum of all. The
+# edits have a time limit, so that the whole ends in 180 minutes on a slow machine too: `, K skipped` then says how many are left.
 set -uo pipefail
 cd "$(dirname "$0")/.." || exit 2
 work=$(mktemp -d)
@@ -11,7 +11,7 @@ failed=0
 skipped=0
 TIMEFORMAT='%R %U %S'
 
-# Runs a part, shows what it says, and keeps that, its time and its status in files of its name.
+# Runs a part, shows its output, and keeps its output, time and status in files named after it.
 run() {
     local name=$1
     shift
@@ -19,7 +19,7 @@ run() {
     echo $? >"$work/$name.status"
 }
 
-# Adds what a part's last line of counts says; a part without one has failed.
+# Adds the counts in a part's last line of counts; a part without one has failed.
 add() {
     local name=$1 status line
     read -r status <"$work/$name.status"
@@ -41,19 +41,19 @@ add() {
     grep -E '^[a-z0-9_]+ +[0-9.]+ s +[0-9]+ passed, [0-9]+ failed$' "$work/$name.log" | sed 's/^/  /' >>"$work/times"
 }
 
-# Runs a part, and adds what it counts.
+# Runs a part, and adds its counts.
 count() {
     run "$@"
     add "$1"
 }
 
-# A command, which Debian has in a package of its name, or in the one that is named behind it. Without it the tests that need
-# it fail.
+# Makes sure that a command is installed, from Debian's package of the same name or the one named after it. Without the command,
+# the tests that need it fail.
 with_command() {
     command -v "$1" >/dev/null || install "${2-$1}"
 }
 
-# A module of Debian's Python, and the package that has it.
+# Makes sure that a module of Debian's Python is installed, from the package that has it.
 with_module() {
     /usr/bin/python3 -c "import $1" 2>/dev/null || install "$2"
 }
@@ -63,7 +63,7 @@ install() {
     (apt-get update && apt-get install -y --no-install-recommends "$1") >&2
 }
 
-# Runs these modules by pytest.
+# Runs these modules with pytest.
 tests() {
     /usr/bin/python3 -B -m pytest "$@"
 }
@@ -85,13 +85,13 @@ with_command lintian
 with_command man man-db
 with_command objdump binutils
 
-# These have folders and ports of their own, and measure nothing: they run side by side.
+# These have folders and ports of their own, and measure nothing: they run in parallel.
 beside=(ci/test_{rows,replays,office,migrate,desk,respelled,lists,exports,interop,documents}.py)
-# These measure time or memory, load the machine, or ask for all of it: they run one after another, and nothing beside them.
+# These measure time or memory, load the machine, or need all of it: they run one by one, in parallel with no other tests.
 alone=(ci/test_{serve,kills,crowd,stops,page,clerk,memory,deploy,package}.py)
 
 SECONDS=0
-# The edits of a crate are tried once `rt ci` has built its library, and beside the other parts, most of which wait for
+# The edits of a crate are tried once `rt ci` has built its library, in parallel with the other parts, most of which wait for
 # servers and browsers.
 run edits python3 -B ci/edits.py --beside "$work/rt-ci.status" --minutes 135 >"$work/edits" &
 count rt-ci rt ci

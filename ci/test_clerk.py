@@ -1,8 +1,8 @@
 """Drives page/clerk.html in Debian's chromium, headless, over the proved program `drop serve`, as ci/test_page.py drives the pages
 for strangers.
 
-What is owed comes from the links that `drop link` and `drop links` write over a copy of the office file, the rows of its
-tables, the table of refusals in docs/RULES.md, and the words below, in both languages. `--shots FOLDER` keeps pictures.
+Expected values come from the links that `drop link` and `drop links` write on a copy of the office file, the rows of its
+tables, the table of refusals in docs/RULES.md, and the words below, in both languages. `--shots FOLDER` keeps screenshots.
 """
 
 import csv
@@ -28,7 +28,7 @@ from shown import (
     ENTER, TAB, digest, is_not, labels, lacks, loads_its_own, looks, opened_case, reaches_nothing_else, receipts, tabbed,
 )
 
-ZONE = "Asia/Kolkata"  # of the browser, ahead of the office by four hours and a half
+ZONE = "Asia/Kolkata"  # the browser's, four and a half hours ahead of the office
 BOXES = [tables.Box("in", max_files=1000), tables.Box("closed", closes=1)]
 COMMANDS = ["add_box", "close_box", "add_key", "revoke_key", "drop_file"]
 NAMES = ["a b.txt", "Ä ö ß €.pdf", "100%", "%2F", "it's", "a//b", "/c", "d/", "~'()*!.txt", "a+b=c&d?#",
@@ -54,7 +54,7 @@ def shared_case(module_folder, shots):
 
 
 def test_texts(case, check):
-    """Both languages have the same texts, each is translated and used; and each refusal that a form can get has words."""
+    """Both languages have the same texts; each is translated and used; each refusal that a form can get has a text."""
     opened(case)
     texts = case.browser.js("return CLERK_TEXTS")
     marks = re.compile(r"\{\w+\}")
@@ -89,7 +89,7 @@ KEY_FAULTS = [
 
 
 def test_fields_of_key(case, check):
-    """A field that is wrong is told, and nothing is sent."""
+    """A wrong field is reported, and nothing is sent."""
     opened(case)
     before = len(case.front.passed)
     for values, field, words in KEY_FAULTS:
@@ -124,7 +124,7 @@ def test_fields_of_key(case, check):
 
 
 def test_key(case, check):
-    """A key that is right: from the keyboard and from a file. Its secret goes nowhere, and is gone with the page."""
+    """A right key, typed and from a file. Its secret is sent and stored nowhere, and is gone with the page."""
     begun = len(case.front.passed)
     found = begin(case)
     check("a clerk’s key", is_not((found["title"], found["focus"]), ("The key is right", "result_title"))
@@ -159,7 +159,7 @@ LATE = "const now = Date.now; Date.now = () => now() + arguments[0]"
 
 
 def test_wrong_keys(case, check):
-    """Keys and clocks that are wrong, each in words."""
+    """Wrong keys and wrong clocks are each explained in words."""
     opened(case)
     use_key(case, secret="another")
     said_refusal(case, check, "a wrong secret", 21, ["the secret is not the one of this key", "Give the right secret"],
@@ -199,13 +199,13 @@ BOX = {"box": "tender-7", "opens": field_of(OPENS), "closes": field_of(CLOSES), 
 
 
 def row_of(case, box):
-    """What stands in the tables of a box: its settings, from when it opens to the text of its rule."""
+    """The settings of a box in the tables, from when it opens to the text of its rule."""
     [row] = rows(case, "SELECT * FROM boxes WHERE name = ?", box)
     return row[1:11]
 
 
 def test_box(case, check):
-    """A box is opened, extended and closed; the clocks stand beside each other."""
+    """A box is opened, extended and closed; times are shown by both clocks."""
     begin(case)
     fill(case, "add_box", **BOX)
     hints = case.browser.js("const hint = (it) => document.getElementById(`add_box_${it}_hint`).textContent;"
@@ -256,7 +256,7 @@ BOX_FAULTS = [
 
 
 def test_fields(case, check):
-    """Fields of the commands and of the links that are wrong: nothing is sent."""
+    """If fields of the commands or of the links are wrong, nothing is sent."""
     begin(case)
     before = len(case.front.passed)
 
@@ -287,7 +287,7 @@ def test_fields(case, check):
 
 
 def test_keys(case, check):
-    """Keys are added with secrets that are made there, used, and revoked."""
+    """Keys are added with secrets made by the page, used, and revoked."""
     begin(case)
     found = send(case, "add_key", id="tender-2")
     secret = found["facts"].get("secret") or ""
@@ -318,7 +318,7 @@ def test_keys(case, check):
 
 
 def add_revoked(case, check):
-    """The added keys are revoked, and the page's own is."""
+    """The added key is revoked, and the page's own key too."""
     [link] = owed_links(case, "PUT", "in", ["by key"], "tender-2")
     check("its link is good", is_not(asked(link, "PUT", b"by key")[0], 200))
     found = send(case, "revoke_key", id="tender-2")
@@ -337,7 +337,7 @@ def add_revoked(case, check):
 
 
 def test_drop(case, check):
-    """Files are taken out of their box, whatever their names are."""
+    """Files are dropped from their box, whatever their names are."""
     for name in ["a/../b", "Ä ö ' % // .pdf"]:
         [link] = owed_links(case, "PUT", "in", [name])
         check(f"{name} is put", is_not(asked(link, "PUT", b"x")[0], 200))
@@ -366,7 +366,7 @@ MODES = [
 
 
 def test_faults(case, check):
-    """What is lost on the way is told, with a warning, and "try again" sends the same command again."""
+    """A lost command or answer is reported with a warning, and "try again" sends the same command again."""
     begin(case)
     fill(case, "add_key", id="unsure")
     secret = None
@@ -414,14 +414,14 @@ HELD = {"start": field_of(utc(2026, 1, 30, 23, 30)), "end": field_of(utc(2026, 2
 
 
 def link_of_drop(case, copy, method, name, **where):
-    """What `drop link` prints for this name."""
+    """The link that `drop link` prints for this name."""
     ran = case.drop.link(copy, method, f"in/{name}", **{"host": case.front.host, "start": START, "expires": "604800"} | where)
     assert ran.status == 0, ran
     return ran.out.decode().removesuffix("\n")
 
 
 def test_one_link(case, check):
-    """A link is that of `drop link`; beside it stands the address of the page for it, where a browser can send it."""
+    """A link is that of `drop link`; the page's address for it is shown too, if a browser can send the link."""
     begin(case)
     copy = copy_of(case)
     for method, name in [("PUT", NAMES[1]), ("GET", "ä" * 512), ("PUT", DOTS[0])]:
@@ -449,7 +449,7 @@ def test_one_link(case, check):
 
 
 def test_odd_names(case, check):
-    """Links for odd names are those of `drop link`; and what one may not have meant is told."""
+    """Links for odd names are those of `drop link`; names that may be mistakes are pointed out."""
     begin(case)
     copy, names = copy_of(case), [*NAMES, *DOTS, NAMES[0]]
     for method in ["PUT", "GET"]:
@@ -466,7 +466,7 @@ def test_odd_names(case, check):
 
 
 def test_many_links(case, check):
-    """120 links of each method: what `drop links` writes, row by row; how many are made is shown and said."""
+    """120 links of each method are those of `drop links`, row by row; how many are made is shown and announced."""
     names = [f"{number:03} {NAMES[number % len(NAMES)].strip()}" for number in range(120)]
     begin(case)
     for method in ["PUT", "GET"]:
@@ -500,7 +500,7 @@ def test_many_links(case, check):
 
 
 def test_many_more(case, check):
-    """Links that are stopped, and more than are shown."""
+    """Making links is stopped; and more links are made than are shown."""
     begin(case)
     fill(case, "links", box="in", names="\n".join(map(str, range(20000))), **HELD)
     case.click("#links_go")
@@ -516,16 +516,18 @@ def test_many_more(case, check):
 
 
 def sent_by(row):
-    """What a stranger sends by the link of this row, and how it is answered."""
+    """What a stranger sends by the link of this row, and the answer."""
     data = row["name"].encode() * 9
     status, _, body = asked(row["link"], "PUT", data)
     return data, (status, body.decode())
 
 
 def test_tender(case, check):
-    """A whole tender, over which the office is never stopped: the clerk's page opens a box and makes 120 links, strangers send by
-    put.html and by a program of their own, and find their receipts in the manifest that is published; the page closes the box,
-    and who is late is refused; then the clerk fetches all."""
+    """A whole tender, during which the office is never stopped.
+
+    The clerk's page opens a box and makes 120 links. Strangers send by put.html and by their own program, and find their
+    receipts in the published manifest. The page closes the box, and late uploads are refused. Then the clerk fetches all.
+    """
     before = len(receipts(case))
     serves = case.office.process
     now = datetime.datetime.now(datetime.timezone.utc)
@@ -574,11 +576,11 @@ ess_cert_id_alg = sha256
 """
 
 
-# ---- keys alone, screen readers, a telephone
+# ---- keyboard only, screen readers, a telephone
 
 
 def test_keyboard(case, check):
-    """Tab, Enter and Space alone: the key, a link, and a command."""
+    """The key, a link and a command, with Tab, Enter and Space only."""
     opened(case, f"east=60&key={ID}")
     order = [it for it in tabbed(case, 7)]
     check("the order", is_not(order, ["de", "en", "use_key_id", "use_key_secret", "use_key_file", "use_key_clock", ""]))
@@ -610,7 +612,7 @@ def test_keyboard(case, check):
 
 
 def test_reader(case, check):
-    """Each control has a name; hints and faults belong to their fields; results stand in regions that have names."""
+    """Each control has a name; hints and faults belong to their fields; results are in named regions."""
     opened(case)
     owed = {"de": ("button", "Deutsch"), "en": ("button", "English"), "use_key_id": ("textbox", "Id of the key"),
             "use_key_secret": ("textbox", "Secret"), "use_key_clock": ("textbox", "The office’s clock, ahead of UTC by"),
@@ -643,7 +645,7 @@ def test_reader(case, check):
 
 
 def test_looks(case, check):
-    """Narrow, wide, light and dark."""
+    """The page looks right narrow, wide, light and dark."""
     def all_open():
         begin(case)
         case.browser.js("for (const it of document.querySelectorAll('details')) it.open = true")
@@ -666,7 +668,7 @@ def test_looks(case, check):
 
 
 def test_insecure(case, check):
-    """Over plain http from another host: it says why it can't sign, and offers nothing."""
+    """Over plain http from another host, the page says why it can't sign, and offers nothing."""
     opened(case, host=f"files.example:{case.front.port}")
     shown = case.browser.js("return document.getElementById('insecure').innerText")
     hidden = case.browser.js(HIDDEN, ["insecure", "key", "work"])
@@ -694,13 +696,13 @@ def test_own_origin(case, check):
 
 
 def published(case):
-    """The rows of the manifest that is kept beside the office."""
+    """The rows of the manifest that the office publishes."""
     with open(case.office.published[1], encoding="utf-8", newline="") as reader:
         return list(csv.reader(reader))
 
 
 def test_end(case, check):
-    """The office ends. What was published is its manifest, which is stamped; each file is exported, and its sums are right."""
+    """The office ends: the published manifest is its own, and is stamped; each file is exported, and the sums are right."""
     folder = case.drop.folder
     case.office.kill()
     manifest = case.drop.run("manifest", case.office.file)
@@ -722,7 +724,7 @@ def test_end(case, check):
 
 
 def stamped(folder, manifest):
-    """Has a trial authority of openssl stamp the manifest: what comes of trying the stamp with it, and with another."""
+    """Has a trial authority of openssl stamp the manifest. Returns the results of verifying it for that one and another."""
     def openssl(*words):
         return kit.run(["openssl", *words], cwd=folder)
 

@@ -1,9 +1,9 @@
-"""Runs the proved program `drop serve` with many peers at once: clients that behave, beside idle and slow ones, beside peers that
-do what no client should, and where connections or descriptors run out; directly, by programs of others, and through nginx, as
-deploy/nginx.conf sets it up.
+"""Runs the proved program `drop serve` with many peers at once: well-behaved clients together with idle and slow ones, with peers
+that do what no client should, and when connections or descriptors run out; directly, with third-party programs, and through
+nginx, as deploy/nginx.conf sets it up.
 
-What is owed comes from Python's `hashlib` and `hmac` (ci/expected.py) and the table of refusals in docs/RULES.md. An answer to a
-client that behaves may take 5 seconds, and the patience of the server is 30: so it waited for no peer.
+Expected values come from Python's `hashlib` and `hmac` (ci/expected.py) and the table of refusals in docs/RULES.md. An answer to
+a well-behaved client may take 5 seconds, and the patience of the server is 30: so it waited for no peer.
 """
 
 import concurrent.futures
@@ -32,12 +32,12 @@ from server import Server, boto_client, curl, open_office
 DEPLOY = kit.ROOT / "deploy"
 PATIENCE = 30
 IDLE, SLOW, CLIENTS, VISITS, ROUNDS = 300, 20, 8, 5, 4
-AHEAD = 64  # MiB of all connections that may be read ahead
-ANSWERS = CLIENTS  # MiB of the answers to clients, of 1 MiB at the most, that may be on their way
+AHEAD = 64  # MiB that may be read ahead, over all connections
+ANSWERS = CLIENTS  # MiB of answers to clients that may be in transit, at most 1 MiB each
 BODIES = 60
 MANY = 2000
 LARGE = b"l" * (8 << 20)
-FILES = ["a.txt", "a b/é.txt", "x+y=z&#%.bin"]  # by links of boto3
+FILES = ["a.txt", "a b/é.txt", "x+y=z&#%.bin"]  # for links by boto3
 
 
 def clients(connect, visits=VISITS, **how):
@@ -45,20 +45,20 @@ def clients(connect, visits=VISITS, **how):
 
 
 def most_memory(process):
-    """The most that the process had in memory, in MiB."""
+    """The peak memory of the process, in MiB."""
     text = pathlib.Path(f"/proc/{process.pid}/status").read_text()
     return int(re.search(r"VmHWM:\s*(\d+) kB", text)[1]) / 1024
 
 
 def add_memory(check, name, server, alone):
-    """The memory of a server is what one had that clients came to one after another, and what may be ahead and on its way."""
+    """A server's memory is at most that of one with clients one after another, plus what may be read ahead and in transit."""
     most = most_memory(server.process)
     print(f"{name}: {most:.0f} MiB, and {alone:.0f} for one client after another")
     check(f"{name}: the memory", f"{most:.0f} MiB" if most > alone + AHEAD + ANSWERS else None)
 
 
 def add_office(drop, file, check, name, told):
-    """What the office has behind it all: each receipt that was told, from the first on, and no other."""
+    """Checks the office at the end: it has each receipt that clients got, from the first on, and no other."""
     numbers = list(range(1, len(told) + 1))
     check(f"{name}: the receipts", difference(told, numbers))
     rows = read(drop.run("manifest", file).out)[1:]
@@ -78,7 +78,7 @@ def is_let_go(it):
 
 
 def rest(it):
-    """What still comes on a connection, up to its end."""
+    """The remaining bytes of a connection, up to its end."""
     found = b""
     with contextlib.suppress(ConnectionError):
         while data := it.recv(1 << 20):
@@ -90,7 +90,7 @@ def rest(it):
 
 
 def memory_alone(drop, check):
-    """What a server takes to which the clients come one after another."""
+    """The peak memory of a server whose clients come one after another."""
     file, told = open_office(drop, "alone"), []
     with Server(drop, file, CLIENTS * VISITS, PATIENCE) as server:
         for it in clients(server.connect):
@@ -102,7 +102,7 @@ def memory_alone(drop, check):
 
 
 def many_at_once(server, number, date):
-    """A file, and then a hundred requests in one piece, which are answered one after another."""
+    """An upload and a hundred requests, sent in one piece, are answered in order. Returns what is wrong."""
     data = b"many at once"
     message = put(b"/in/many", data, date=date) + (get(b"/in/many", date=date) + UNSIGNED) * 50
     owed = receipt(number, data) + (fetched(number, data) + answer(9)) * 50
@@ -110,14 +110,14 @@ def many_at_once(server, number, date):
 
 
 def test_crowd(drop, check):
-    """Clients that behave are served soon beside idle and slow peers; and the program ends with its last connection."""
+    """Well-behaved clients are served soon despite idle and slow peers, and the program ends with its last connection."""
     alone, file = memory_alone(drop, check), open_office(drop, "crowd")
     with Server(drop, file, IDLE + SLOW + CLIENTS * VISITS + 1, PATIENCE) as server:
         with Crowd(server.connect, IDLE, SLOW):
             told = add_clients(check, "a crowd", clients(server.connect))
             check("many at once", many_at_once(server, len(told) + 1, a_minute_ago()))
             add_memory(check, "a crowd", server, alone)
-        # where that took longer than the patience, the idle ones were let go as such that failed
+        # if that took longer than the patience, the idle connections were closed and count as failed
         check("a crowd: the end", difference(server.end(), server.owed_end(False), server.owed_end(True)))
     add_office(drop, file, check, "a crowd", [*told, len(told) + 1])
     bodies_ahead(drop, check, alone)
@@ -125,7 +125,7 @@ def test_crowd(drop, check):
 
 @contextlib.contextmanager
 def pushed(connect, message):
-    """A connection on which these bytes are sent, as far as the other end takes them."""
+    """A connection on which these bytes are sent, as far as the other end reads them."""
     with connect() as it:
         def push():
             with contextlib.suppress(OSError):
@@ -140,7 +140,7 @@ def pushed(connect, message):
 
 
 def bodies_ahead(drop, check, alone):
-    """Peers that send the greatest body but for its last byte: they hold nobody, and together they have a bound."""
+    """Peers that send the greatest body except its last byte delay nobody, and their memory is bounded in total."""
     file, message = open_office(drop, "bodies"), put(b"/in/large", LARGE, date=a_minute_ago())[:-1]
     with Server(drop, file, BODIES + CLIENTS, PATIENCE) as server, contextlib.ExitStack() as stack:
         for _ in range(BODIES):
@@ -154,7 +154,7 @@ def bodies_ahead(drop, check, alone):
 
 
 def test_large(drop, check):
-    """More files of the greatest size at once than there is room for: each is taken, and nobody is let go."""
+    """More files of the greatest size at once than there is room for: each is accepted, and no connection is dropped."""
     file, date = open_office(drop, "large"), a_minute_ago()
     files = [bytes([number]) * len(LARGE) for number in range(12)]
 
@@ -176,7 +176,7 @@ def test_large(drop, check):
 
 
 def test_open(drop, check):
-    """Where as many are open as may be, the one goes that is silent longest with nothing pending."""
+    """At the limit of open connections, the one is closed that is silent longest with nothing pending."""
     file, date = open_office(drop, "open"), a_minute_ago()
     ask, owed = get(b"/in/none", date=date), answer(34)
     with Server(drop, file, 8 + 3, PATIENCE, most_open=8) as server, contextlib.ExitStack() as stack:
@@ -199,7 +199,7 @@ def test_open(drop, check):
 
 
 def pending_at_bound(check, server, stack, peers, ask):
-    """Where something is pending of each, nobody goes, and who comes waits until one has ended."""
+    """If each connection has something pending, none is closed, and a new one waits until another has ended."""
     for it in peers[1:]:
         it.socket.sendall(ask[:20])
     eighth = stack.enter_context(Peer(server.connect))
@@ -216,7 +216,7 @@ def pending_at_bound(check, server, stack, peers, ask):
 
 
 def test_last(drop, check):
-    """Where all have come, and one has not ended, the program goes on with that one, and takes no other."""
+    """Once all connections have come and one has not ended, the program goes on with that one and accepts no other."""
     file, ask = open_office(drop, "last"), get(b"/in/none", date=a_minute_ago())
     with Server(drop, file, 2, PATIENCE) as server, contextlib.ExitStack() as stack:
         first = stack.enter_context(Peer(server.connect))
@@ -235,13 +235,13 @@ def test_last(drop, check):
 
 
 def seconds_of(process):
-    """The seconds of a processor that the process has taken."""
+    """The processor time of the process, in seconds."""
     fields = pathlib.Path(f"/proc/{process.pid}/stat").read_text().rpartition(")")[2].split()
     return (int(fields[11]) + int(fields[12])) / os.sysconf("SC_CLK_TCK")
 
 
 def test_descriptors(drop, check):
-    """Where descriptors run out, those go that are silent longest, and who comes is served soon; and the server rests."""
+    """If descriptors run out, the longest silent connections are closed, new ones served soon, and the server doesn't spin."""
     file = open_office(drop, "descriptors")
     server = Server(drop, file, 100 + CLIENTS, PATIENCE)
     server.own = {"preexec_fn": lambda: resource.setrlimit(resource.RLIMIT_NOFILE, (64, 64))}
@@ -260,7 +260,7 @@ def test_descriptors(drop, check):
 
 
 def test_leaving(drop, check):
-    """Two thousand connections that come and leave: who asks meanwhile is answered."""
+    """Two thousand connections open and close; requests sent meanwhile are answered."""
     file, date = open_office(drop, "leaving"), a_minute_ago()
     ask, owed = get(b"/in/none", date=date), answer(34)
     soft, hard = resource.getrlimit(resource.RLIMIT_NOFILE)
@@ -279,7 +279,7 @@ def test_leaving(drop, check):
 
 
 def add_ask(check, server, ask, owed):
-    """An answer on a connection of its own, and its seconds. A connection that was let go before it asked asks once more."""
+    """Checks an answer on its own connection, and returns its seconds. If the connection was closed early, it is retried."""
     begun, found = time.monotonic(), b""
     for _ in range(3):
         with contextlib.suppress(ConnectionError):
@@ -288,11 +288,11 @@ def add_ask(check, server, ask, owed):
     return time.monotonic() - begun
 
 
-# ---- what may last how long
+# ---- time limits
 
 
 def pausing(pause, *parts):
-    """A peer that sends these parts, so many seconds from one to the next, and then waits for the end."""
+    """A peer that sends these parts, with a pause in seconds between them, and then waits for the end."""
     def act(it):
         for part in parts[:-1]:
             it.sendall(part)
@@ -305,7 +305,7 @@ def pausing(pause, *parts):
 
 
 def test_bounds(drop, check):
-    """With a patience of 30 seconds silence and heads may last for 12; of a body 65536 bytes are to come in 10."""
+    """With a patience of 30 seconds, silence and heads may last 12; of a body, 65536 bytes must come within 10."""
     file, date = open_office(drop, "bounds"), a_minute_ago()
     ask, data = get(b"/in/none", date=date), b"b" * (3 << 16)
     message = put(b"/in/a", data, date=date)
@@ -323,7 +323,7 @@ def test_bounds(drop, check):
 
 
 def all_at_once(connect, rows):
-    """What came of these peers, each on a connection of its own."""
+    """Runs these peers in parallel, each on its own connection, and returns their results."""
     results = []
     threads = [threading.Thread(target=lambda row=row: results.append(odd_result(connect, row)), daemon=True) for row in rows]
     for it in threads:
@@ -339,7 +339,7 @@ ODD_PATIENCE = 3
 
 
 def a_byte_a_second(it, data, before=b""):
-    """Sends the data so, behind what comes before, until the connection has ended, or was reset: what came on it."""
+    """Sends `before`, then one byte of data a second until the connection ends or is reset. Returns what came on it."""
     it.sendall(before)
     it.settimeout(1.0)
     with contextlib.suppress(ConnectionError):
@@ -352,14 +352,14 @@ def a_byte_a_second(it, data, before=b""):
 
 
 def takes_nothing(it, message):
-    """Asks, and reads only what is left once the patience is over: whether that is less than a file."""
+    """Sends requests, and reads only after the patience is over. Returns whether what is left is less than a file."""
     it.sendall(message)
     time.sleep(ODD_PATIENCE + SOON)
     return len(rest(it)) < len(LARGE)
 
 
 def takes_slowly(it, message):
-    """Asks for a file, and reads a megabyte of it a second, for longer than the patience."""
+    """Requests a file, and reads a megabyte of it per second, for longer than the patience."""
     it.sendall(message)
     it.shutdown(socket.SHUT_WR)
     found = b""
@@ -371,7 +371,7 @@ def takes_slowly(it, message):
 
 
 def sends(*parts):
-    """A peer that sends this and nothing more."""
+    """A peer that sends these parts and nothing more."""
     def act(it):
         for part in parts:
             it.sendall(part)
@@ -381,7 +381,7 @@ def sends(*parts):
 
 
 def odd_peers(date):
-    """Each with its name, what it does, what comes of it, and how many seconds it has for that at the least."""
+    """Each peer with its name, what it does, its expected result, and the least number of seconds that takes."""
     large, ask = get(b"/in/large", date=date), get(b"/in/none", date=date)
     message = put(b"/in/new", b"n" * 100_000, date=date)
     head = UNSIGNED[:-2] + b"A: " + b"a" * (8193 - len(UNSIGNED) - 5) + b"\r\n\r\n"
@@ -403,10 +403,10 @@ def odd_peers(date):
 
 
 def odd_result(connect, row):
-    """The name of such a peer, and what is wrong with what came of it, or with the time at which it came."""
+    """The name of such a peer, and what is wrong with its result or with the time it took."""
     name, act, owed, least = row
     begun = time.monotonic()
-    with connect(4096 if owed is True else None) as it:  # who takes nothing has little room for it
+    with connect(4096 if owed is True else None) as it:  # a peer that reads nothing gets a small receive buffer
         try:
             found = act(it)
         except OSError as error:
@@ -419,7 +419,7 @@ def odd_result(connect, row):
 
 
 def test_odd(drop, check):
-    """Peers that do what no client should, all at once and beside clients that behave: each ends as it is owed, and holds nobody."""
+    """Peers that do what no client should, all at once with well-behaved clients: each ends as expected, and delays nobody."""
     file, date = open_office(drop, "odd"), a_minute_ago()
     rows = odd_peers(date)
     with Server(drop, file, 10**6, ODD_PATIENCE) as server:
@@ -435,7 +435,7 @@ def test_odd(drop, check):
 
 
 def beside_resets(server, check, date):
-    """Connections that are reset behind a part of an upload, or while an answer comes, beside clients that behave."""
+    """Connections that are reset after part of an upload or during an answer, while well-behaved clients are served."""
     message, large = put(b"/in/reset", b"r" * 3000, date=date), get(b"/in/large", date=date)
     is_over = threading.Event()
 
@@ -449,14 +449,14 @@ def beside_resets(server, check, date):
 
     thread = threading.Thread(target=reset, daemon=True)
     thread.start()
-    # other names than those of the clients before
+    # names that differ from those of the earlier clients
     found = add_clients(check, "resets", [Client(server.connect, CLIENTS + number, 1, ROUNDS) for number in range(CLIENTS)])
     is_over.set()
     thread.join()
     return found
 
 
-# ---- programs of others
+# ---- third-party programs
 
 
 FETCH = """
@@ -467,7 +467,7 @@ return fetch(url, {method, body: method == "PUT" ? body : undefined})
 
 
 class Link:
-    """A name's links by boto3, and what is owed for them."""
+    """The links by boto3 for a name, and the expected answers."""
 
     def __init__(self, client, name):
         self.name, self.data = name, name.encode() * 20
@@ -475,20 +475,20 @@ class Link:
         self.put, self.get = (client.generate_presigned_url(call, Params=where, ExpiresIn=600) for call in ["put_object", "get_object"])
 
     def fault(self, found):
-        """What is wrong with the status and the text of the answers to the upload, to the same again, and to the fetch."""
+        """What is wrong with the status and the text of the answers to the upload, to its repeat, and to the fetch."""
         number = int(told[1]) if (told := re.match(r"receipt (\d+) ", found[0][1])) else 0
         said = receipt(number, self.data).partition(b"\r\n\r\n")[2].decode()
         return difference(found, [(200, said), (200, said), (200, self.data.decode())])
 
 
 def by_boto3(link, _):
-    """By Python's own client."""
+    """Links used by Python's own HTTP client."""
     answers = [asked(link.put, "PUT", link.data), asked(link.put, "PUT", link.data), asked(link.get, "GET")]
     return link.fault([(status, body.decode()) for status, _, body in answers])
 
 
 def by_curl(link, _):
-    """By curl, which fetches on the connection on which it put."""
+    """Links used by curl, which fetches on the connection of its uploads."""
     wanted = ["--write-out", "\n%{http_code}\n", "-X", "PUT", "-H", "Expect:", "--data-binary", link.data, link.put]
     ran = curl("--path-as-is", *wanted, "--next", *wanted, "--next", "--write-out", "\n%{http_code}\n", link.get)
     parts = re.findall(r"(.*?)\n(\d{3})\n", ran.out.decode(), re.DOTALL)
@@ -496,7 +496,7 @@ def by_curl(link, _):
 
 
 def by_chromium(link, browser):
-    """By a page of the office itself, which is a refusal, in a browser."""
+    """Links used in a browser, by a page of the office itself, which is a refusal."""
     answers = [browser.js(FETCH, *words) for words in
                [("PUT", link.put, link.data.decode()), ("PUT", link.put, link.data.decode()), ("GET", link.get, "")]]
     slowest = max(it[2] for it in answers) / 1000
@@ -505,7 +505,7 @@ def by_chromium(link, browser):
 
 
 def test_programs(drop, check):
-    """boto3, curl and chromium at once, at the office itself, beside idle peers."""
+    """boto3, curl and chromium at once, directly at the office, with idle peers connected."""
     file, folder = open_office(drop, "programs"), drop.path("browser")
     folder.mkdir()
     with Server(drop, file, 10**6, PATIENCE) as server, Browser(folder) as browser:
@@ -525,7 +525,7 @@ def test_programs(drop, check):
 
 
 def test_front(drop, check):
-    """The same crowd through nginx, which keeps connections to the office open: so it needs few of them."""
+    """The same crowd through nginx, which keeps connections to the office open, and so needs few of them."""
     file = open_office(drop, "office")
     certificate(drop.folder)
     paths = [*paths_of(drop, file), ("--connections 1000000", "--connections 100")]

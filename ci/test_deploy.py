@@ -1,8 +1,8 @@
 """Runs Debian's nginx, as deploy/nginx.conf sets it up, in front of the proved `drop serve`, as deploy/drop.service starts
-it, and drives both over TLS. Then it does what docs/DEPLOY.md says, line by line, in a folder that stands for the machine.
+it, and drives both over TLS. Then it follows docs/DEPLOY.md line by line, in a folder that stands in for the machine.
 
-Both are run by ci/nginx.py. What is owed comes from Python's `hashlib`, the table of refusals in docs/RULES.md, and links
-that boto3 makes.
+ci/nginx.py runs both. Expected values come from Python's `hashlib`, the table of refusals in docs/RULES.md, and links made by
+boto3.
 """
 
 import contextlib
@@ -30,15 +30,15 @@ from shown import Case, lacks, of, receipt_facts
 
 DEPLOY = kit.ROOT / "deploy"
 UNIT = DEPLOY / "drop.service"
-# What is served beside the office, and as what.
+# The files served besides the office, with their content types.
 PAGES = {**{f"{it}.html": "text/html; charset=utf-8" for it in ["put", "get", "clerk"]},
          **{f"{it}.js": "application/javascript; charset=utf-8"
             for it in ["drop", "shared", "texts", "clerk", "clerk_texts", "desk", "sign"]},
          "drop.css": "text/css", "drop.svg": "image/svg+xml"}
-# What comes with each answer of the front.
+# The header fields of each answer of the front.
 FIELDS = {"Cache-Control": "no-store", "Referrer-Policy": "no-referrer", "X-Content-Type-Options": "nosniff",
           "X-Frame-Options": "DENY"}
-MOST_EXPOSED = 12  # tenths, as systemd-analyze counts
+MOST_EXPOSED = 12  # in tenths of systemd-analyze's score
 AWAY = (502, b"the office does not answer: try again\n")
 IN_THE_CLEAR = (403, b"https: alone is served here, and a link is the same behind it\n")
 
@@ -62,7 +62,7 @@ def target_of(drop, front, office_file, method, name):
     return url.removeprefix(f"http://{front.host}")
 
 
-# ---- what passes the front
+# ---- what passes through the front
 
 
 NAMES = ["a.txt", "a b/é.txt", "a%2Fb", "a/b//c", "//", "..", "../a", "a/../b", "./.", "x+y=z&?#%.bin", "%252F",
@@ -106,14 +106,14 @@ def head_of(front, method, target, *lines):
 
 
 def add_climbing(front, check):
-    """What docs/DEPLOY.md says of names that climb out of their box: they don't reach the office."""
+    """As docs/DEPLOY.md says, names that climb out of their box don't reach the office."""
     for name in ["../../a", "a/../../../b"]:
         status, _ = front.said("GET", front.link("GET", name))
         check(f"GET {name}", difference(status, 400))
 
 
 def add_bodies(front, check):
-    """Bodies up to the greatest, however they are sent."""
+    """Bodies up to the greatest size, however they are sent."""
     data = bytes(range(256)) * 4096
     pieces = [data[at:at + 30000] for at in range(0, len(data), 30000)]
     status, body = front.said("PUT", front.link("PUT", "chunks"), iter(pieces), [("Transfer-Encoding", "chunked")])
@@ -146,7 +146,7 @@ def add_bodies(front, check):
 
 
 def add_heads(front, check):
-    """Heads that are too long, for nginx and for the office: one refusal for both."""
+    """Heads that are too long for nginx or for the office get the same refusal."""
     target = front.link("GET", "a.txt")
     for name, head in [
         ("a line of 9000 bytes", head_of(front, "GET", target + "&long=" + "a" * 9000)),
@@ -165,14 +165,14 @@ def add_heads(front, check):
 
 
 def others_are_answered(front, name, check, between=range(3)):
-    """In the meantime: each is answered, while the slow ones are there."""
+    """Checks that other peers are answered while the slow ones are connected."""
     target = front.link("GET", "a.txt")
     found = [front.said("GET", target) for _ in between]
     check(f"{name}: others are answered", difference(found, [(200, b"a.txt")] * len(found)))
 
 
 def is_let_go(it):
-    """Whether this silent peer was told something, or its connection has ended."""
+    """Whether this silent peer received something, or its connection has ended."""
     it.setblocking(False)
     try:
         it.recv(1)
@@ -182,7 +182,7 @@ def is_let_go(it):
 
 
 def a_byte_a_second(it, data):
-    """Sends the data so, and has something else done before each byte."""
+    """Sends the data at a byte per second, and yields before each byte so that the caller can act."""
     for at in range(len(data)):
         yield
         time.sleep(1)
@@ -190,7 +190,7 @@ def a_byte_a_second(it, data):
 
 
 def add_slow(front, check):
-    """Peers that are slow, each beside one that is not."""
+    """Slow peers, each in parallel with one that is not slow."""
     data = b"slow"
     with front.connect() as it:
         head = head_of(front, "PUT", front.link("PUT", "slow"), f"Content-Length: {len(data)}", "Connection: close")
@@ -218,7 +218,7 @@ def add_slow(front, check):
 
 
 def add_pages(front, check):
-    """The pages and what they are made of, each at its own path alone, and nothing in the clear."""
+    """The pages and their parts are served at their own paths only; in the clear, only certificate challenges are."""
     folder = front.folder / "drop"
     folder.mkdir()
     for file in [*sorted((kit.ROOT / "page").iterdir()), None]:
@@ -254,7 +254,7 @@ def add_pages(front, check):
 
 
 def add_browser(drop, front, office, check):
-    """A stranger's way: a file is sent by put.html and fetched by get.html, in chromium over TLS."""
+    """A stranger sends a file by put.html and fetches it by get.html, in chromium over TLS."""
     data, folder = bytes(range(256)) * 300, drop.path("browser")
     folder.mkdir()
     targets = {method: front.link(method, "dir/a stranger's file") for method in ["PUT", "GET"]}
@@ -285,7 +285,7 @@ def add_browser(drop, front, office, check):
 
 
 def add_network(front, post, check):
-    """The clerk's page and the commands of the desk, kept to a network by the lines of the page; all else is served as before."""
+    """The page's lines restrict the clerk's page and the desk commands to a network; all else is served as before."""
     lines = re.search(r"drop-clerk\.conf <<'END'\n(.*?)^END$", PAGE.read_text(), re.MULTILINE | re.DOTALL)[1]
     target, snippet = front.link("GET", "a.txt"), front.folder / "drop-clerk.conf"
 
@@ -303,11 +303,11 @@ def add_network(front, post, check):
     check("from anywhere", difference(found(), [200, 200, 400, 200, 200]))
 
 
-# ---- an office that is away
+# ---- an office that is down
 
 
 def add_away(front, office, check):
-    """An office that is killed, under nginx that goes on."""
+    """The office is killed while nginx goes on."""
     put, get = front.link("PUT", "away"), front.link("GET", "away")
     status, body = front.said("PUT", put, b"before")
     number = int(body.split()[1]) if status == 200 else 0
@@ -329,7 +329,7 @@ ROW = re.compile(r'127\.0\.0\.1 \S+T\S+ (\S+) ([A-Z]+|-) "([^"]*)" (\d{3}) \d+ \
 
 
 def add_log(front, check, secret):
-    """Who asked what, and with which status; and nowhere what makes a link good."""
+    """The log has who requested what and with which status, and nowhere what makes a link valid."""
     log = front.folder / "drop.log"
     owed = [(ID, "PUT", "/in/a.txt", "200", "200"), (ID, "GET", "/in/a.txt", "200", "200"),
             (ID, "GET", "/in/away", "502", "502"), (ID, "HEAD", "/in/none", "404", "404"), (ID, "POST", "/", "200", "200"),
@@ -390,7 +390,7 @@ def test_front(drop, check):
 
 
 def test_unit(drop, check):
-    """What systemd says of the unit: it has no fault, and few rights."""
+    """systemd finds no fault in the unit, and few rights."""
     unit = drop.path("drop.service")
     text = UNIT.read_text()
     unit.write_text(replaced(text, [("=/usr/bin/drop serve", f"={drop.program} serve")]))
@@ -404,7 +404,7 @@ def test_unit(drop, check):
 
 
 def test_restart(drop, check):
-    """What the unit runs ends with 0 behind its last connection. Then, and killed as it serves, it can be started again."""
+    """The unit's program ends with 0 after its last connection. It can be restarted then, and after a kill while it serves."""
     paths = [*paths_of(drop, open_office(drop, "office")), ("--connections 1000000", "--connections 2")]
     with Office(UNIT, drop.folder, paths) as office:
         def serves(name, method, file, data, owed):
@@ -433,7 +433,7 @@ def link_past(office, method, file):
 
 
 def ended_by(office):
-    """A connection that the office is the first to end: for a while the system then has its port in use."""
+    """A connection that the office ends first: the system then keeps its port in use for a while."""
     with socket.create_connection(("127.0.0.1", office.port), SECONDS) as it:
         it.sendall(b"\r\n\r\n")
         found = *next_answer(it), it.recv(1)
@@ -441,7 +441,7 @@ def ended_by(office):
 
 
 def killed_within(office):
-    """Kills the office within an upload, on a connection on which it has given an answer."""
+    """Kills the office during an upload, on a connection on which it has already answered."""
     links = link_past(office, "GET", "a.txt"), link_past(office, "PUT", "b.txt")
     get, put = (it.removeprefix(f"http://{office.address}") for it in links)
     with contextlib.closing(http.client.HTTPConnection(office.address, timeout=SECONDS)) as it:
@@ -454,7 +454,7 @@ def killed_within(office):
     return difference(found, b"kept")
 
 
-# ---- the page
+# ---- docs/DEPLOY.md, line by line
 
 
 STAND_IN = """#!/bin/sh
@@ -478,7 +478,7 @@ exec /usr/bin/install "$@"
 
 
 class Machine:
-    """A folder that stands for a machine: what the page asks of systemd and nginx is done by this test."""
+    """A folder that stands in for a machine: this test does what the page asks of systemd and nginx."""
 
     def __init__(self, drop, check):
         self.drop, self.check, self.root = drop, check, drop.folder
@@ -497,14 +497,14 @@ class Machine:
             os.mkfifo(self.root / name)
 
     def here(self, text):
-        """The text with the paths of the machine in this folder."""
+        """The text with the machine's paths moved into this folder."""
         return re.sub(r"(?<![\w/.])/(etc|var|root|tmp|usr/share)(?=[/\s])", rf"{self.root}/\1", text + "\n").removesuffix("\n")
 
     def path(self, name):
         return pathlib.Path(self.here(name))
 
     def run(self, script):
-        """Runs the script, and does what it asks for."""
+        """Runs the script, and carries out what it requests."""
         attendant = threading.Thread(target=self.attend, daemon=True)
         attendant.start()
         where = f"{self.root}/bin:{self.root}/usr/bin:{os.environ['PATH']}"
@@ -527,7 +527,7 @@ class Machine:
             (self.root / "told").write_text(f"{int(bool(fault))}\n")
 
     def do(self, words):
-        """Does what these words ask; why not, if it could not."""
+        """Does what these words request. Returns why not, if it could not."""
         match words.split():
             case ["apt-get", "install", *_, file] if file.endswith(".deb"):
                 return self.install(file)
@@ -551,7 +551,7 @@ class Machine:
         return "nobody does this"
 
     def install(self, file):
-        """What the package does, but for its user: its own test is ci/test_package.py."""
+        """Does what the package does, except for its user; ci/test_package.py tests the package itself."""
         if self.office:
             self.office.stop()
         ran = kit.run(["dpkg-deb", "-x", file, self.root])
@@ -571,16 +571,16 @@ class Machine:
         ran = kit.run([*words, "-t"])
         return None if ran.status == 0 and "HOST" not in sites[0].read_text() else f"{ran}"
 
-    # -- between the lines of the page
+    # -- checks between the lines of the page
 
     def asked(self, method, name, body=None):
-        """What is answered to a link that the secret of the page makes."""
+        """The answer to a link that is signed with the page's secret."""
         secret = self.path("/var/lib/drop/secret").read_text().strip()
         self.front.host = HOST
         return self.front.said(method, self.front.link(method, name, key="clerk", secret=secret), body)
 
     def backed_up(self):
-        """Behind the backup: another upload, and what nobody else may do while the office is served."""
+        """After the backup: another upload, and what no other program can do while the office is served."""
         self.check("a later upload", difference(self.asked("PUT", "later.txt", b"later"), owed_receipt(2, b"later")))
         file, copy = self.path("/var/lib/drop/office"), self.root / "copy.db"
         ran = kit.run(["sqlite3", file, f".backup {copy}"])
@@ -594,7 +594,7 @@ class Machine:
         self.check("the log's rights", difference(found, (oct(0o640), True)))
 
     def restored(self):
-        """Behind the restore: the office is that of the backup."""
+        """After the restore: the office is that of the backup."""
         self.check("the first file", difference(self.asked("GET", "hello.txt"), (200, b"hello\n")))
         self.check("the later file", difference(self.asked("GET", "later.txt"), owed_refusal(34)))
         self.check("the next number", difference(self.asked("PUT", "new.txt", b"new"), owed_receipt(2, b"new")))
@@ -607,7 +607,7 @@ class Machine:
 
 
     def gone_on(self):
-        """Behind the second office's start: it has nothing of the first, whose links to put hold on, and the first is whole."""
+        """After the second office's start: it has nothing of the first, whose upload links stay valid; the first is intact."""
         self.check("the first's file", difference(self.asked("GET", "hello.txt"), owed_refusal(34)))
         self.check("the second's number", difference(self.asked("PUT", "hello.txt", b"second"), owed_receipt(1, b"second")))
         ran = self.drop.run("manifest", self.path("/var/lib/drop/first/office"))
@@ -616,7 +616,7 @@ class Machine:
 
 
 def test_page(drop, check):
-    """The lines of the page, in their order; and what it shows as their output."""
+    """Runs the lines of the page in order, and compares their output with what it shows."""
     found = re.findall(r"^```(sh)?\n(.*?)^```$", PAGE.read_text(), re.MULTILINE | re.DOTALL)
     script, owed = [], {}
     for at, (kind, text) in enumerate(found):

@@ -1,8 +1,7 @@
-"""Runs the desk of the proved program `drop`: commands that are signed requests, over an office in memory and over an
-office file; commands that are words, `drop desk`; and an office that is made, filled and closed by the program alone,
-over a socket.
+"""Runs the desk of the proved program `drop`: commands as signed requests, to an office in memory and to an office file;
+commands as arguments of `drop desk`; and an office that the program alone makes, fills and closes, over a socket.
 
-What is owed comes from Python's `hashlib` and `hmac` (ci/expected.py), the table of refusals in docs/RULES.md, the fault
+Expected values come from Python's `hashlib` and `hmac` (ci/expected.py), the table of refusals in docs/RULES.md, the fault
 lines in docs/USE.md, and links that botocore signs.
 """
 
@@ -30,7 +29,7 @@ BOX = f"box add in {ANY} 100 2 keep any"
 
 # ---- lines
 
-# A box whose line has one word of another form.
+# The line that adds a box, right values for it, and malformed ones.
 WORDS = "box add b {opens} {closes} {days} {start} {end} {quota} {files} {mode} {rule}"
 RIGHT = {"opens": "20130101T000000Z", "closes": "20130601T000000Z", "days": "1111111", "start": "0000", "end": "2400",
          "quota": "100", "files": "2", "mode": "keep", "rule": "any"}
@@ -62,7 +61,7 @@ ODD_LINES = [
     "office allow -1", "office allow +1", "office allow 1s", "office allow 1e2", "office allow ²", "office allow 0x1", "Office allow 1", "office allows 1",
     "offices allow 1",
 ]
-# These can't be given as words.
+# These can't be given as arguments.
 ODD_BYTES = [
     f"box add b {ANY} 100 2 keep begins a".encode() + byte for byte in [b"\xff", b"\x7f", b"\t", b"\xc3"]
 ] + [
@@ -84,14 +83,14 @@ DONE_LINES = [
     "box close in 19700101T000000Z", "box close in 99991231T235959Z", "file drop in  a b", "file drop in a ", "file drop in " + "n" * 1024,
     "key limit - in", "key limit lim 0", f"key limit lim {'b' * 63}", "office allow 900", "office allow 0", "office allow 7", "office allow 7",
 ]
-# What stands before each of these lines: a link's key, a revoked key, a box and its files, and a key that is limited to it.
+# What exists before each of these lines: a link's key, a revoked key, a box and its files, and a key limited to it.
 BEFORE = ["key add k2 link s3cr3t", "key add gone link s3cr3t", "key revoke gone", f"box add in {ANY} 100000 9 keep any",
           "key add lim link s3cr3t", "key limit lim in"]
 FILES = [(b"/in/%20a%20b", b"spaces"), (b"/in/a%20", b"space"), (b"/in/" + b"n" * 1024, b"long")]
 
 
 def stream_before():
-    """Requests that make what stands before, and their answers."""
+    """The requests that make what exists before each line, and their answers."""
     asked = b"".join(map(post, BEFORE)) + b"".join(put(path, data) for path, data in FILES)
     return asked, OBEYED * len(BEFORE) + b"".join(receipt(number, data) for number, (_, data) in enumerate(FILES, 1))
 
@@ -109,7 +108,7 @@ class Step:
 
 
 def lines_day():
-    """Every line once, over what stands before."""
+    """Every line once, after the requests of `stream_before`."""
     asked, owed = stream_before()
     yield Step(asked, owed)
     for line in [*MALFORMED_LINES, *ODD_BYTES]:
@@ -122,7 +121,7 @@ def lines_day():
 
 
 def places_day():
-    """A command is at `/` alone, under `desk` alone, by a clerk alone, and in no body."""
+    """A command is accepted only at `/`, only under `desk`, only from a clerk, and never in a body."""
     asked, owed = stream_before()
     line = "box close in 20130101T000000Z"
     yield Step(asked, owed)
@@ -144,7 +143,7 @@ def places_day():
 
 
 def closing_day():
-    """Uploads until the box is full; it is closed, and a repeat gets its receipt still."""
+    """Uploads until the box is full; then it is closed, and a repeat still gets its receipt."""
     yield Step(post(BOX), OBEYED)
     yield Step(put(b"/in/a.txt", b"abc"), receipt(1, b"abc"))
     yield Step(put(b"/in/b.txt", b"x"), receipt(2, b"x"))
@@ -155,7 +154,7 @@ def closing_day():
 
 
 def keys_day():
-    """A link's key puts until it is revoked, and gives no command; the last clerk's key stays."""
+    """A link's key uploads until it is revoked, and can give no command; the last clerk's key can't be revoked."""
     other = {"key": ("k2", b"s3cr3t")}
     yield Step(post(BOX), OBEYED)
     yield Step(post("key add k2 link s3cr3t"), OBEYED)
@@ -171,7 +170,7 @@ def keys_day():
 
 
 def files_day():
-    """A file is fetched, and dropped; its receipt stands, and the next one has the next number."""
+    """A file is fetched, and dropped; its receipt stays, and the next one has the next number."""
     yield Step(post(BOX), OBEYED)
     yield Step(put(b"/in/a.txt", b"abc"), receipt(1, b"abc"))
     for method in ["GET", "HEAD"]:
@@ -182,7 +181,7 @@ def files_day():
 
 
 def limits_day():
-    """A key that is limited reaches its boxes alone, whatever else its request breaks."""
+    """A limited key reaches only its own boxes, whatever else its request breaks."""
     other, free = {"key": ("k2", b"s3cr3t")}, {"key": ("k3", b"s3cr3t")}
     for line in [BOX, f"box add b2 {ANY} 100 2 keep any", "key add k2 link s3cr3t", "key add k3 link s3cr3t", "key limit k2 in"]:
         yield Step(post(line), OBEYED)
@@ -214,7 +213,7 @@ def limits_day():
 
 
 def allowance_day():
-    """A link is taken so many seconds before its start, and ends when it says."""
+    """A link is accepted this many seconds before its start, by the office's allowance, and ends when it says."""
     for line, owed in [("office allow 901", answer(35)), ("office allow 0900", answer(35)), ("office allow 900", OBEYED), (BOX, OBEYED)]:
         yield Step(post(line), owed)
     for at, number in [("20130523T234500Z", 27), ("20130523T234459Z", 22), ("20130524T235959Z", 27), ("20130525T000000Z", 23)]:
@@ -233,14 +232,14 @@ DAYS = [lines_day, places_day, closing_day, keys_day, files_day, limits_day, all
 
 
 def runs(steps):
-    """Steps side by side at one moment: the moment, their stream and their answers."""
+    """Consecutive steps at one moment: the moment, their stream and their answers."""
     for at, together in itertools.groupby(steps, key=lambda step: step.at):
         asked, owed = zip(*((step.asked, step.owed) for step in together))
         yield at, b"".join(asked), b"".join(owed)
 
 
 def test_days(drop, check):
-    """Each day in memory as far as its first moment goes, and whole over a file, one connection for each moment."""
+    """The first moment of each day in memory, and the whole day over a file, with one connection for each moment."""
     for day in DAYS:
         file = drop.office(day.__name__)
         for number, (at, asked, owed) in enumerate(runs(day())):
@@ -251,7 +250,7 @@ def test_days(drop, check):
 
 
 def test_steps(drop, check):
-    """Each step of a day by a program of its own."""
+    """Each step of a day in its own run of the program."""
     for day in DAYS[1:]:
         file = drop.office(f"steps-{day.__name__}")
         for number, step in enumerate(day()):
@@ -259,11 +258,11 @@ def test_steps(drop, check):
             check(f"{day.__name__}, step {number}", difference(found, kit.Run(0, step.owed, b"")))
 
 
-# ---- words
+# ---- command-line arguments
 
 
 def prepared(drop, name):
-    """An office in which stands what stands before each line."""
+    """An office with what exists before each line."""
     file = drop.office(name)
     asked, owed = stream_before()
     found = drop.replay(file, asked)
@@ -272,7 +271,7 @@ def prepared(drop, name):
 
 
 def test_words(drop, check):
-    """`drop desk`: a line is done, or its fault is told and the tables stay."""
+    """`drop desk`: a line is done, or its fault is reported and the tables are unchanged."""
     file = prepared(drop, "words")
     before = tables.dump(file)
     for lines, owed in [(MALFORMED_LINES, MALFORMED), (NOT_POSSIBLE_LINES, NOT_POSSIBLE)]:
@@ -308,7 +307,7 @@ def test_words(drop, check):
 
 
 def test_given_lines(drop, check):
-    """`drop desk FILE -`: the command is the one line of standard input, and what it does is what it does as a word."""
+    """`drop desk FILE -`: the command is the one line of standard input, and has the same effect as an argument."""
     file = prepared(drop, "given")
     before = tables.dump(file)
     wrong = [line.encode() for line in MALFORMED_LINES if "\n" not in line and "\r" not in line]
@@ -331,7 +330,7 @@ def test_given_lines(drop, check):
 
 
 def test_given_bounds(drop, check):
-    """The longest commands, and input without end: no more of it is read than tells that it is no command."""
+    """The longest commands, and endless input, which is read only until it is clear that it is no command."""
     file = drop.office("bounds")
     for data, owed in [(f"box add in {ANY} 100 2 keep any\r\n", SAID_DONE), (f"key add k2 link {'s' * 128}\r\n", SAID_DONE)]:
         check(f"desk - {data!r}", difference(drop.run("desk", file, "-", given=data.encode()), owed))
@@ -346,7 +345,7 @@ def test_given_bounds(drop, check):
 
 
 def test_given_faults(drop, check):
-    """Input that can't be read, and the order of faults: the file's before those of the command."""
+    """Unreadable input, and the order of faults: those of the file come before those of the command."""
     file, gone = drop.office("faults"), drop.path("gone")
     before = tables.dump(file)
     with open(drop.path("told"), "wb") as told:
@@ -370,7 +369,7 @@ def test_given_faults(drop, check):
 
 
 def test_log(drop, check):
-    """Behind a command, done or refused, what a killed server left in the log is in the file."""
+    """After a command, done or refused, what a killed server left in the log is in the file."""
     for name, line, owed in [("done", "key add k3 link s3cr3t", SAID_DONE), ("not possible", "key revoke nobody", NOT_POSSIBLE), ("malformed", "no command", MALFORMED)]:
         file = open_office(drop, f"log {name}")
         server = Server(drop, file, 10)
@@ -392,7 +391,7 @@ def examples():
 
 
 def test_examples(drop, check):
-    """Each example of the help does what it says, as it stands."""
+    """Each example of the help, run unchanged, does what it says."""
     file = drop.office("examples")
     lines = examples()
     check("seven examples", difference(len(lines), 7))
@@ -412,7 +411,7 @@ def test_examples(drop, check):
 
 
 def test_links(drop, check):
-    """`drop link FILE POST`: botocore's own link, byte for byte; and it is obeyed. A line that is no command has none."""
+    """`drop link FILE POST`: botocore's own link, byte for byte, and it is obeyed. A line that is no command gets none."""
     file = prepared(drop, "links")
     for line in [*DONE_LINES, "key revoke k9", "key add k3 link a+b/c=d%&?#"]:
         found = drop.link(file, "POST", line)
@@ -437,7 +436,7 @@ def test_links(drop, check):
 
 
 def test_from_nothing(drop, check):
-    """Made, opened, filled, closed and asked again by the program and curl alone."""
+    """An office is made, opened, filled, closed and requested again, by the program and curl alone."""
     file = drop.path("tender")
     now = time.time()
 

@@ -1,11 +1,12 @@
-"""Runs the lines of docs/USE.md, and README.md's five lines, as they stand, in an empty folder with the proved `drop`, and
-compares what they print with the blocks beside them; only the port is replaced. It asks the program what the page's table
-on boto3 says of links. Then it compares the page's tables of refusals and of fault lines with docs/RULES.md, with the
-texts in the code and with each other, its commands of the desk with docs/RULES.md and the help, and the lengths in
-docs/PROVED.md with the files; and it checks that each path, each module, and in the tables of docs/PROVED.md each call and
-each clause that is named is there. README.md has at most 90 lines, and all documents together at most 25,000 words.
+"""Runs the lines of docs/USE.md and README.md's five lines, unchanged, in an empty folder with the proved `drop`, and compares
+their output with the blocks that follow them; only the port is replaced.
 
-What is owed is in the documents themselves, and of names and texts in the tree.
+It tests on the program what the page's table on boto3 says about links. Then it compares the page's tables of refusals and
+of fault lines with docs/RULES.md, with the texts in the code and with each other; its desk commands with docs/RULES.md and
+the help; and the lengths in docs/PROVED.md with the files. It checks that each named path and module exists, and in the tables
+of docs/PROVED.md each named call and clause. README.md has at most 90 lines, and all documents together at most 25,000 words.
+
+The expected values are in the documents themselves, and for names and texts in the tree.
 """
 
 import os
@@ -35,7 +36,7 @@ FIVE = re.compile(r"^## Five lines\n.*?(?=^## )", re.MULTILINE | re.DOTALL)
 
 
 def blocks(text):
-    """The blocks of lines to run, each with the output that stands beside it, or None."""
+    """The blocks of lines to run, each with the output shown after it, or None."""
     found = re.findall(r"^```(\w*)\n(.*?)^```$", text, re.MULTILINE | re.DOTALL)
     behind = [*found[1:], ("none", "")]
     return [(lines, shown if not other else None)
@@ -43,7 +44,7 @@ def blocks(text):
 
 
 def run_blocks(drop, check, name, parts):
-    """Runs these blocks, one after another in one shell and an empty folder."""
+    """Runs these blocks in order, in one shell and an empty folder."""
     folder = drop.folder / name
     tools, home = folder / "tools", folder / "home"
     for it in [tools, home, folder / "empty"]:
@@ -92,7 +93,7 @@ def boto3_link(more=None, expires=600, **settings):
     return target_of(s3.generate_presigned_url("put_object", Params=wanted, ExpiresIn=expires))
 
 
-# What is given to boto3 so that a header is signed, and the field that has to be sent.
+# What is passed to boto3 so that a header is signed, and the field that must be sent.
 SIGNED = [("ContentType", "text/plain", "Content-Type", "text/plain"),
           ("ContentMD5", "1B2M2Y8AsgTpgAmY7PhCfg==", "Content-MD5", "1B2M2Y8AsgTpgAmY7PhCfg=="),
           ("Metadata", {"note": "one"}, "X-Amz-Meta-Note", "one")]
@@ -100,7 +101,7 @@ SIGNED = [("ContentType", "text/plain", "Content-Type", "text/plain"),
 
 @pytest.mark.usefixtures("stopped_clock")
 def test_boto3(drop, check):
-    """Rows of the page's table on boto3: the program refuses such a link by the number that stands there."""
+    """Rows of the page's table on boto3: the program refuses such a link with the number given there."""
     rows = dict(re.findall(r"^\| (.+?) \| .*\b(?:with|gets) (\d+) \|$", PAGE.read_text(), re.MULTILINE))
     file = drop.filled("boto3")
 
@@ -134,25 +135,25 @@ def test_refusals(check):
 
 
 def texts_of(enum):
-    """What each variant of this enum tells, its name, and the type of what it holds."""
+    """The text of each variant of this enum, its name, and the type of what it holds."""
     form = re.compile(rf"^pub(?:\(crate\))? enum {enum}\b.*?^}}", re.MULTILINE | re.DOTALL)
     [body] = [it for file in (kit.ROOT / "crates").glob("*/src/**/*.rt") for it in form.findall(file.read_text())]
     return re.findall(r"""#\[error\("(.+?)"\)\]\n +(\w+)(?:\((?:&'a )?(\w+)\))?""", body)
 
 
 def blanked(text):
-    """The line with `{0}` for what differs: a word in capitals, or one in `<>` or `{}`."""
+    """The line with `{0}` for each variable part: a word in capitals, or one in `<>` or `{}`."""
     return re.sub(r"\b[A-Z]{2,}\b|<\w+>|\{\w+\}", "{0}", text)
 
 
 def warnings_of_code():
-    """The warnings that the program can tell, beside its faults."""
+    """The warnings that the program can print, besides its faults."""
     source = (kit.ROOT / "crates" / "dropoffice" / "src" / "watching.rt").read_text()
     return {it.replace("\\\n", "") for it in re.findall(r'"\\\ndrop: ([^"]+)"', source)}
 
 
 def lines_of_code():
-    """The lines that the program can tell."""
+    """The lines that the program can print."""
     source = (kit.ROOT / "crates" / "dropoffice" / "src" / "faults.rt").read_text()
     main = (kit.ROOT / "crates" / "drop" / "src" / "main.rt").read_text()
     lines = {*re.findall(r'=> "([^"]+)",', main)} | warnings_of_code()
@@ -160,15 +161,17 @@ def lines_of_code():
         if text != "{0}":
             lines.add(text)
             continue
-        # Of these the conversions in this file make other faults, so that their own texts are never told.
+        # The conversions in this file turn some of these into other faults, so their own texts are never printed.
         others = re.findall(rf"\b{inner}::(\w+)(?:\(\w+\))? => Fault::(?!Office|Desk|List)", source)
         lines |= {its for its, name, _ in texts_of(inner) if name not in others}
     return lines
 
 
 def test_faults(check):
-    """Each fault line stands in the table once, with what it means, its cause and what to do. They are those that the code can
-    tell, with a word in capitals, or one in `<>`, for what differs."""
+    """Each fault line is in the table once, with what it means, its cause and what to do.
+
+    They are those that the code can print, with a word in capitals, or one in `<>`, for each variable part.
+    """
     form = re.compile(r"^\| `(drop: [^`]+)` \| (.+) \|$", re.MULTILINE)
     rows = [(line, rest.split(" | ")) for line, rest in form.findall(PAGE.read_text())]
     owed = [line for line, _ in rows]
@@ -184,7 +187,7 @@ def test_faults(check):
 
 
 def test_commands(check):
-    """The commands of the desk that the page explains are those of docs/RULES.md and of the help."""
+    """The desk commands that the page explains are those of docs/RULES.md and of the help."""
     rules, words = (kit.ROOT / "docs" / "RULES.md").read_text(), (kit.ROOT / "ci" / "desk.help").read_text()
     row = re.compile(r"^\| `((?:box|file|key|office) [a-z]+ [A-Z ]+)` \| ", re.MULTILINE)
     owed = row.findall(rules)
@@ -194,14 +197,14 @@ def test_commands(check):
 
 
 def test_words(check):
-    """The words of page/ that docs/USE.md shows, behind which a saved receipt has the office's line."""
+    """docs/USE.md shows the words of page/ that precede the office's line in a saved receipt."""
     answers = re.findall(r'^ +answer: "(.+)",$', (kit.ROOT / "page" / "texts.js").read_text(), re.MULTILINE)
     check("two languages of page/", difference(len(answers), 2))
     for it in answers:
         check(f"docs/USE.md: {it}", None if f"`{it}:`" in PAGE.read_text() else "is not there")
 
 
-# A path that begins at the top. Words in capitals in it stand for names, and `out` is what a run leaves.
+# A path from the top of the tree. Words in capitals are placeholders for names, and `out` is what a run leaves.
 PATH = re.compile(r"(?<![\w/.*-])(?:\.ci|bench|ci|crates|deploy|docs|page)/[\w*-]?[\w./*-]*")
 # A crate, and modules of its `specs`.
 MODULES = re.compile(rf"`({'|'.join(CRATES)})`([ \n]`[A-Z][a-z]\w*`(?:(?:, | and | |\n)+`[A-Z][a-z]\w*`)*)")
@@ -225,7 +228,7 @@ def named(document):
 
 
 def test_names(check):
-    """What the documents name in the tree is there."""
+    """What the documents name in the tree exists."""
     for document in DOCUMENTS:
         for path in sorted({*named(document)}):
             there = next(kit.ROOT.glob(path), None)
@@ -233,14 +236,14 @@ def test_names(check):
 
 
 def length(modules):
-    """The lines of the modules that a cell names, crate by crate."""
+    """The number of lines of all modules that a cell names."""
     files = [kit.ROOT / "crates" / crate / "specs" / f"{it}.antt"
              for crate, names in MODULES.findall(modules) for it in re.findall(r"`(\w+)`", names)]
     return sum(len(it.read_text().splitlines()) for it in files)
 
 
 def test_lengths(check):
-    """The lengths of definitions in docs/PROVED.md, in lines to the nearest ten; a little more or less passes."""
+    """The lengths of definitions in docs/PROVED.md, in lines to the nearest ten; small differences pass."""
     text = PROVED.read_text()
     rows = re.findall(r"^\| (\d+) \| ([^|]+) \| (\d+) \| [^|]+ \|$", text, re.MULTILINE)
     check("numbers of definitions", difference([int(it[0]) for it in rows], [*range(1, 17)]))
@@ -259,7 +262,7 @@ OWNER = re.compile(r"^(?:pub )?(impl|trait)\b(?:<(?:[^<>]|<[^<>]*>)*>)? ((?:[\w:
 
 
 def public_calls():
-    """For each public function of the libraries, by `crate::name` or `crate::Type::name`, its clauses' names."""
+    """The clause names of each public function of the libraries, by `crate::name` or `crate::Type::name`."""
     calls = {}
     for file in sorted((kit.ROOT / "crates").glob("*/src/**/*.rt")):
         owner, of_trait, clauses = [file.relative_to(kit.ROOT / "crates").parts[0]], False, None
@@ -278,7 +281,7 @@ def public_calls():
 
 
 def fault_of_call(calls, crates, name, clauses):
-    """What is wrong with a call that a table names with these clauses, in a part that is about these crates."""
+    """What is wrong with a call that a table names with these clauses, in a part about these crates."""
     parts = name.split("::")
     if len(parts) > 1 and parts[0] in CRATES:
         crates, parts = [parts[0]], parts[1:]
@@ -301,7 +304,7 @@ def rows_of_calls(document):
 
 
 def test_clauses(check):
-    """Wherever clauses stand in brackets behind a call, some public call of this name has them."""
+    """If clauses follow a call in brackets, some public call of this name has them."""
     calls = public_calls()
     for document in DOCUMENTS:
         for name, clauses in re.findall(r"`([\w:]+)`\s\[([a-z]\w*(?:,\s\w+)*)\]", document.read_text()):
@@ -311,8 +314,10 @@ def test_clauses(check):
 
 
 def test_calls(check):
-    """The calls in the first column of docs/PROVED.md's tables are there, each in its crate. Where several stand before one
-    bracket, the last has these clauses, and each of the others that has named ones."""
+    """The calls in the first column of docs/PROVED.md's tables exist, each in its crate.
+
+    If several calls precede one bracket, the last has these clauses, and so has each of the others that has named clauses.
+    """
     calls = public_calls()
     named_ones = [call for call, its in calls.items() if its]
     rows = [*rows_of_calls(PROVED)]

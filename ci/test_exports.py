@@ -1,8 +1,8 @@
 """Runs `drop list` and `drop export` of the proved program over an office of two thousand receipts, limited and revoked keys,
 and names of every kind.
 
-What is owed comes from the tables as `sqlite3` reads them and from Python's `csv` and `hashlib`; that the sums are right also
-from `sha256sum --check`.
+Expected values come from the tables as `sqlite3` reads them and from Python's `csv` and `hashlib`; `sha256sum --check` verifies
+the sums too.
 """
 
 import random
@@ -21,18 +21,18 @@ from program import (
 
 PATH_HEAD = ["path", "box", "name", "receipt", "length", "sha256", "moment", "key"]
 WHATS = ["keys", "boxes", "files"]
-# What some file system does not take in a name.
+# Characters that some file system doesn't accept in a name.
 NOT_TAKEN = set('/\\:*?"<>|') | {chr(code) for code in [*range(32), 127]}
 NAMES = ["..", ".", "a/..", "a/../b", "../../etc/passwd", "/etc/passwd", ".hidden", "...x", "x.", "x. ", "x .", " ", "  ", "a/b/c",
          "a//", "/", "aux", "CON", "a:b", "a\\b", "*?", '"<>|', "\u00fc", "u\u0308", "\U0001f4c4.pdf", "n" * 1024, "\u00e9" * 512,
          "x" * 199 + "\u00e9", "x" * 198 + "\u00e9", "-rf", "~", "$HOME", "`id`", "a b", "a,b", "files.csv", "SHA256SUMS", "a\u2028b"]
 
 
-# ---- what is owed
+# ---- expected values
 
 
 def part_of(name):
-    """What is left of a name: the characters of its last part that every file system takes, at most 200 bytes of them."""
+    """A name in a path: its last part, with `_` for what some file system doesn't accept, and at most 200 bytes of it."""
     last = name.rsplit("/", 1)[-1]
     front = len(last) - len(last.lstrip("."))
     text = "".join("_" if letter in NOT_TAKEN or at < front else letter for at, letter in enumerate(last))
@@ -42,7 +42,7 @@ def part_of(name):
     return text or "_"
 
 
-# a box that has the name of a list beside the folders
+# boxes with the name of a list that is written next to the folders
 CALLED = {"files.csv": "files_csv", "sha256sums": "sha256_sums"}
 
 
@@ -65,7 +65,7 @@ def owed_paths(file, only=None):
 
 
 def limit_keys(file):
-    """Two keys that are limited, one of them to every box."""
+    """Limits two keys, one of them to every box."""
     for key, boxes in [("k2", BOXES[:1]), ("-_" * 32, BOXES)]:
         for in_box in boxes:
             tables.limit_key(file, key, in_box)
@@ -76,7 +76,7 @@ def listed(drop, file, what, **how):
 
 
 def test_lists(drop, check):
-    """Each list as the tables have it: of an office that begins, of one of every kind of box, of many files, and behind changes."""
+    """Each list as the tables have it: of a new office, of one with every kind of box, of many files, and after changes."""
     empty, whole, many = drop.office("empty"), drop.filled("whole"), filled(drop, "many")
     limit_keys(many)
     for file in [empty, whole, many]:
@@ -93,7 +93,7 @@ def test_lists(drop, check):
 
 
 def test_list_faults(drop, check):
-    """What is listed comes before the file; a list that cannot be written."""
+    """What to list is checked before the file; and a list that cannot be written."""
     gone, file = drop.path("gone"), few(drop, "faults")
     for what in ["", "key", "Keys", "secrets", "keys boxes"]:
         check(f"list {what!r}", difference(listed(drop, gone, what), malformed("what")))
@@ -126,7 +126,7 @@ def files_below(folder):
 
 
 def wrong_modes(folder):
-    """What others may read or write, or is neither a folder nor a file."""
+    """The first path with wrong permissions, or that is neither a folder nor a file."""
     for it in [folder, *folder.rglob("*")]:
         mode = it.lstat().st_mode
         owed = 0o700 if stat.S_ISDIR(mode) else 0o600
@@ -149,7 +149,7 @@ def unlike_folder(folder, file, only=None):
 
 
 def test_exports(drop, check):
-    """Offices of every kind, whole and box by box."""
+    """Exports offices of every kind, whole and box by box."""
     empty, whole, many = drop.office("none-yet"), drop.filled("every"), filled(drop, "thousands")
     check("changes", change(drop, many, random.Random(9)))
     odd = few(drop, "odd")
@@ -171,7 +171,7 @@ def test_exports(drop, check):
 
 
 def test_names(drop, check):
-    """Each name by itself: one component below its box, which no other file has."""
+    """Each name becomes one path component below its box, which no other file has."""
     file, folder = few(drop, "names"), drop.path("names-out")
     for name in NAMES:
         tables.add_file(file, BOXES[1], name, b"x", ID)
@@ -184,7 +184,7 @@ def test_names(drop, check):
 
 
 def test_export_faults(drop, check):
-    """A folder that is there, or cannot be made; a disk that fills."""
+    """A folder that exists or cannot be made, and a disk that fills up."""
     file = few(drop, "export-faults")
     tables.add_file(file, "in", "large", b"x" * 3_000_000, ID)
     there, link, plain = drop.path("there"), drop.path("link"), drop.path("plain")
@@ -203,16 +203,16 @@ def test_export_faults(drop, check):
 
 
 def short_of_disk():
-    """No file may have more than a million bytes: a write of more fails, as where a disk is full."""
+    """Limits files to a million bytes: a write of more fails, as on a full disk."""
     resource.setrlimit(resource.RLIMIT_FSIZE, (1_000_000, 1_000_000))
     signal.signal(signal.SIGXFSZ, signal.SIG_IGN)
 
 
-# ---- words
+# ---- command-line arguments
 
 
 def test_words(drop, check):
-    """The version, help, and words that name no task."""
+    """The version, help, and invalid arguments."""
     found = drop.run("--version")
     check("the version", None if found.status == 0 and found.out.startswith(b"drop ") and not found.err else f"{found}")
     check("-V", difference(drop.run("-V"), found))

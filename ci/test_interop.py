@@ -1,9 +1,9 @@
 """Compares the proved programs with boto3 and its botocore.
 
-`drop` answers presigned requests that boto3 makes: right ones of many names, regions, windows, further parameters and
-signed headers, and wrong ones; and some of a clock that runs ahead, over an office with an allowance. Then the rows of
-crates/rows write links to many orders (ci/orders.py), and each must be botocore's own for the same request at the same
-moment. The times and the random names are fixed, so each run makes the same cases.
+`drop` answers presigned requests made by boto3: right ones with many names, regions, windows, further parameters and signed
+headers, and wrong ones; and some from a clock that runs ahead, to an office with an allowance. Then the program of crates/rows
+writes links for many orders (ci/orders.py), and each must be botocore's own for the same request at the same moment. The times
+and the random names are fixed, so each run makes the same cases.
 """
 
 import random
@@ -21,7 +21,7 @@ from s3 import request, target_of
 from samples import HOST, KEY_ID, NAMES, REGIONS, SECRET, random_text
 
 pytestmark = pytest.mark.usefixtures("stopped_clock")
-# The refusals that are owed where there are no boxes.
+# The expected refusals of an office without boxes.
 FOUND_NO_BOX = 27
 NEEDS_LENGTH = 25
 WRONG_SIGNATURE = 21
@@ -31,7 +31,7 @@ def client(region):
     link_to = (f"http://{HOST}", KEY_ID, SECRET, region)
     try:
         return s3.client(*link_to, request_checksum_calculation="when_required")
-    except TypeError:  # an older botocore, which computes none by itself
+    except TypeError:  # an older botocore, which computes no checksum by itself
         return s3.client(*link_to)
 
 
@@ -41,7 +41,7 @@ def with_another_digit(target):
 
 
 def links(source):
-    """Each link: its method, its target, the fields to send, and what is owed."""
+    """Each link: its method, its target, the fields to send, and the expected refusal."""
     names = NAMES + [random_text(source) for _ in range(40)]
     clients = [client(region) for region in REGIONS]
     for number, name in enumerate(names):
@@ -77,7 +77,7 @@ def test_links(drop, check):
     print(f"{len(cases)} links of boto3 {boto3.__version__} answered")
 
 
-# What a link of a minute that boto3 makes at 20130524T000000Z gets, by the office's allowance and its clock.
+# The refusals of a one-minute link that boto3 makes at 20130524T000000Z, by the office's allowance and its clock.
 AHEAD = {
     900: [("20130523T234459Z", 22), ("20130523T234500Z", 27), ("20130524T000059Z", 27), ("20130524T000100Z", 23)],
     60: [("20130523T235859Z", 22), ("20130523T235900Z", 27), ("20130524T000059Z", 27), ("20130524T000100Z", 23)],
@@ -102,7 +102,7 @@ def test_ahead(drop, check):
 
 
 def test_orders(check):
-    """Has the rows write a link for each order."""
+    """Has the program of crates/rows write a link for each order."""
     cases = list(orders.orders(random.Random(20130524)))
     found = kit.run([kit.built("rows")], "".join(f"{it.row()}\n" for it in cases).encode())
     lines = found.out.decode().splitlines()

@@ -1,12 +1,12 @@
 """Kills the proved program `drop serve` in the midst of its work, fifty times over one office file.
 
-Clients ask side by side, beside peers that are idle or slow, until the program is killed behind a random number of answers and a
-random part of a request. Then `drop manifest` and Python's `sqlite3`, on a copy, must tell the same of the file as the kill left
-it; what a client was told stands; and what stands beyond that was sent whole by a client that waited for its answer. Then the
-program goes on, and each client asks again what it got no answer to.
+Clients send requests in parallel, alongside idle and slow peers, until the program is killed after a random number of answers
+and a random part of a request. Then `drop manifest` and Python's `sqlite3`, on a copy, must report the same about the file
+that the kill left. What clients were told must be stored, and anything more must have been sent whole by a client that waited
+for its answer. Then the program starts again, and each client repeats the request that got no answer.
 
-What is owed comes from what the clients sent and were told, and from Python's `hashlib` and `hmac` (ci/expected.py,
-ci/listed.py). The seed is told, and `--seed` gives it; `--kills` tells how many.
+Expected values come from what the clients sent and were told, and from Python's `hashlib` and `hmac` (ci/expected.py,
+ci/listed.py). The seed is printed, and `--seed` sets it; `--kills` sets the number of kills.
 """
 
 import collections
@@ -31,14 +31,14 @@ from server import SECONDS, Server
 
 CLIENTS = 6
 IDLE, SLOW = 100, 20
-MOST_ANSWERS = 160  # from the start of the program on
+MOST_ANSWERS = 160  # since the start of the program
 LONGEST_PAUSE = 0.004  # seconds from an answer to the kill
 MOST_ON_A_CONNECTION = 8
-LEAST_RECEIPTS = 20  # for each kill, that clients were told
+LEAST_RECEIPTS = 20  # told to clients, per kill
 KEEPS, REPLACES = "in", "out.1-2"
 PIECES = [tables.PIECE, tables.PIECE + 1, 2 * tables.PIECE, 300_000]
 SHARED = 200
-# What clients ask, and how often.
+# The kinds of request, with their weights.
 KINDS = {"new": 40, "large": 4, "shared": 8, "repeat": 10, "replace": 12, "other": 4, "fetch": 10, "head": 4, "key": 4,
          "drop": 4, "greatest": 2}
 
@@ -48,7 +48,7 @@ KINDS = {"new": 40, "large": 4, "shared": 8, "repeat": 10, "replace": 12, "other
 
 @dataclasses.dataclass(frozen=True)
 class Wish:
-    """A request, and the answer that is owed: that of an upload has a number, which the office gives."""
+    """A request and its expected answer; None if that is a receipt, whose number the office assigns."""
 
     kind: str
     message: bytes
@@ -59,12 +59,12 @@ class Wish:
 
     @functools.cached_property
     def row(self):
-        """The box, the name, the length and the digest that a receipt of this upload has."""
+        """The box, name, length and digest in a receipt of this upload."""
         return *self.place, str(len(self.data)), hashlib.sha256(self.data).hexdigest()
 
 
 class Client:
-    """Asks one request after another, each once its answer was read, and remembers the one that was not answered."""
+    """Sends one request after another, each after the previous answer was read, and remembers the one without an answer."""
 
     def __init__(self, name, seed, ledger):
         self.name, self.ledger = name, ledger
@@ -74,7 +74,7 @@ class Client:
         self.wish, self.is_sent = None, False
 
     def work(self, server, killed):
-        """Asks until the server is killed; why, if it could not as long."""
+        """Sends requests until the server is killed. Returns why, if it failed before that."""
         while True:
             try:
                 self.ask_some(server, self.source.randint(1, MOST_ON_A_CONNECTION))
@@ -87,7 +87,7 @@ class Client:
                 self.ask(it, answers)
 
     def ask(self, it, answers):
-        """Asks something new, or once more what was not answered."""
+        """Sends a new request, or repeats the one that was not answered."""
         self.wish = self.wish or self.next()
         self.is_sent = False
         it.sendall(self.wish.message)
@@ -99,18 +99,18 @@ class Client:
         kind = self.source.choices(list(KINDS), KINDS.values())[0]
         return getattr(self, kind)()
 
-    # -- what is asked
+    # -- requests
 
     def upload(self, kind, place, data, owed=None):
         return Wish(kind, put(path_of(place), data, date=self.start), owed, place, data)
 
     def placed(self):
-        """A new place of this client's own."""
+        """A new place that only this client uses."""
         self.places.append((KEEPS, f"{self.name}, é {len(self.places)}"))
         return self.places[-1]
 
     def standing(self):
-        """A place of this client's own and the file there, if there is one."""
+        """One of this client's own places, and the file there, if any."""
         place = self.source.choice(self.places or [()])
         return place, self.ledger.standing.get(place)
 
@@ -121,7 +121,7 @@ class Client:
         return self.upload("large", self.placed(), self.source.randbytes(self.source.choice(PIECES)))
 
     def greatest(self):
-        """A file as large as any may be, in the place of this client's last one."""
+        """A file of the greatest size, in place of this client's last one."""
         return self.upload("greatest", (REPLACES, f"{self.name}-greatest"), self.source.randbytes(LIMIT))
 
     def shared(self):
@@ -167,25 +167,25 @@ def path_of(place):
 
 
 class Ledger:
-    """What clients were told by the office, over all kills; and what stood behind a kill though nobody was told."""
+    """What the office told clients over all kills, and what was stored after a kill though no client was told."""
 
     def __init__(self):
         self.changed = threading.Condition()
-        self.receipts = {}  # of each number what its receipt says
-        self.standing = {}  # of each place the number and the bytes of its file
+        self.receipts = {}  # by number: what its receipt says
+        self.standing = {}  # by place: the number and the bytes of its file
         self.keys = {(ID, 1, SECRET, 0)}
-        self.last = 0  # the greatest number behind the last kill
+        self.last = 0  # the greatest number after the last kill
         self.answers = collections.Counter()
         self.told = self.untold = 0
         self.faults = []
 
     def wait_for(self, total):
-        """Whether so many answers came."""
+        """Whether this many answers came in time."""
         with self.changed:
             return self.changed.wait_for(lambda: self.answers.total() >= total, 3 * SECONDS)
 
     def take(self, wish, found):
-        """A client was answered so."""
+        """Records the answer to a client's request."""
         with self.changed:
             fault = self.upload(wish, found) if wish.owed is None else difference(found, wish.owed)
             self.faults += [f"{wish.kind} {wish.place}: {fault}"[:500]] if fault else []
@@ -211,7 +211,7 @@ class Ledger:
         return None
 
     def may_add(self, wish):
-        """Whether other bytes stand at the place of this upload, or none."""
+        """Whether the place of this upload has other bytes or no file, so that a receipt is added."""
         return wish.owed is None and self.standing.get(wish.place, (0, None))[1] != wish.data
 
     def add(self, wish, number):
@@ -221,7 +221,7 @@ class Ledger:
     # -- what a kill left
 
     def compare_receipts(self, rows, sent):
-        """The rows of a manifest: those that clients were told, and those of uploads that were sent and not answered."""
+        """Faults of a manifest: its rows must be those told to clients, and those of uploads that were sent and not answered."""
         found = {int(row[0]): tuple(row[1:5]) for row in rows}
         if [int(row[0]) for row in rows] != list(range(1, len(rows) + 1)):
             yield f"the numbers are not 1 to {len(rows)}"
@@ -238,7 +238,7 @@ class Ledger:
         self.last = len(rows)
 
     def compare_files(self, files, sent):
-        """The number at each place: each receipt's file stands, but for one that a client may have dropped."""
+        """Faults in the numbers by place: each receipt's file must be stored, except one that a client may have dropped."""
         for wish in sent:
             if wish.kind == "drop" and wish.place not in files:
                 self.standing.pop(wish.place, None)
@@ -259,7 +259,7 @@ class Ledger:
 
 
 def copied(drop, file):
-    """A copy of the office file and what stands beside it."""
+    """A copy of the office file and of the files next to it."""
     folder = drop.path("copy")
     shutil.rmtree(folder, ignore_errors=True)
     folder.mkdir()
@@ -269,7 +269,7 @@ def copied(drop, file):
 
 
 def compared(drop, file, ledger, clients):
-    """What is wrong with the office file as it is now. The clients then know what is owed when they ask again."""
+    """What is wrong with the office file as it is now. Also sets what the clients expect when they repeat a request."""
     copy = copied(drop, file)
     sent = [client.wish for client in clients if client.wish and client.is_sent]
     integrity = stock(copy, "PRAGMA integrity_check")
@@ -286,13 +286,13 @@ def compared(drop, file, ledger, clients):
 
 
 def again(wish, files, keys):
-    """The same request, which a command of the desk bars that was done."""
+    """The same request, with refusal 36 expected if it is a desk command that was already done."""
     is_done = wish and (wish.kind == "key" and wish.key in keys or wish.kind == "drop" and wish.place not in files)
     return dataclasses.replace(wish, owed=answer(36)) if is_done else wish
 
 
 def kill_once(drop, file, ledger, clients, source):
-    """Serves the clients up to a random moment. What is wrong then."""
+    """Serves the clients up to a random moment, and kills the program. Returns what is wrong then."""
     killed, total = threading.Event(), ledger.answers.total() + source.randrange(MOST_ANSWERS)
     pool = concurrent.futures.ThreadPoolExecutor(len(clients))
     with Server(drop, file, 10**6) as server, Crowd(server.connect, IDLE, SLOW), pool:
@@ -310,7 +310,7 @@ def kill_once(drop, file, ledger, clients, source):
 
 
 def served_on(drop, file, ledger, clients, check):
-    """The program goes on once more and ends: each client asks again what it got no answer to, or something new."""
+    """Starts the program once more and lets it end: each client repeats its unanswered request, or sends a new one."""
     server = Server(drop, file, len(clients))
     with server:
         for client in clients:
@@ -321,7 +321,7 @@ def served_on(drop, file, ledger, clients, check):
 
 
 def test_kills(drop, check, pytestconfig):
-    """One office file over all kills, up to the first that something is wrong behind."""
+    """One office file over all kills, up to the first kill after which something is wrong."""
     kills, seed = pytestconfig.getoption("kills"), pytestconfig.getoption("seed")
     print(f"the seed is {seed}")
     file, ledger, source, waiting = drop.office("killed"), Ledger(), random.Random(seed), 0

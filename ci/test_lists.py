@@ -1,9 +1,9 @@
 """Runs the lists of the proved program `drop`: `manifest`, `compare` and `links`, over an office of two thousand receipts,
 and on lists of every form.
 
-The office is made by `drop init` and filled by Python's `sqlite3` (ci/tables.py); files are then dropped and set anew by
-requests. What is owed comes from the tables as `sqlite3` reads them and from Python's `csv` and `hashlib` (ci/listed.py),
-from links that botocore signs, and from the fault lines in docs/USE.md.
+`drop init` makes the office, and Python's `sqlite3` fills it (ci/tables.py); requests then drop files and upload some anew.
+Expected values come from the tables as `sqlite3` reads them and from Python's `csv` and `hashlib` (ci/listed.py), from links
+that botocore signs, and from the fault lines in docs/USE.md.
 """
 
 import contextlib
@@ -47,10 +47,7 @@ def forms(rows):
     yield "no end of the last row", plain.removesuffix(b"\n")
 
 
-# ---- an office of many receipts
-
-
-# ---- manifests and what stands of them
+# ---- manifests, and which of their files exist
 
 
 def compared(drop, file, rows, **how):
@@ -58,7 +55,7 @@ def compared(drop, file, rows, **how):
 
 
 def test_manifest(drop, check):
-    """Each receipt as the tables have it, before and behind changes, which leave the receipts that were there."""
+    """Each receipt as the tables have it, before and after changes, which keep the earlier receipts."""
     empty = drop.office("empty")
     check("no receipts", unlike(drop.run("manifest", empty), [RECEIPT_HEAD]))
     file = filled(drop, "manifest")
@@ -73,7 +70,7 @@ def test_manifest(drop, check):
 
 
 def altered(rows, source):
-    """Rows that say another number, box, name, length or digest."""
+    """Rows with another number, box, name, length or digest, or with another moment and key."""
     for number, in_box, name, length, digest, *rest in source.sample(rows, RECEIPTS // 10):
         other = hashlib.sha256(digest.encode()).hexdigest()
         yield [number, in_box, name, length, other, *rest]
@@ -89,7 +86,7 @@ def altered(rows, source):
 
 
 def test_compare(drop, check):
-    """Each state, as the tables tell it."""
+    """Each state, as the tables have it."""
     file = filled(drop, "compare")
     manifest = drop.run("manifest", file).out
     rows = read(manifest)
@@ -113,7 +110,7 @@ def test_compare(drop, check):
 
 
 def test_altered(drop, check):
-    """Manifests that say something else, which may need other quotes."""
+    """Altered manifests, which may need other quotes."""
     file = filled(drop, "altered")
     rows = [RECEIPT_HEAD, *altered(list(receipts(file))[1:], random.Random(3))]
     owed = states(file, rows)
@@ -130,7 +127,7 @@ def test_altered(drop, check):
 
 @dataclasses.dataclass(frozen=True)
 class Wish:
-    """A row of a list of links, and who signs it for which host and region."""
+    """A row of a list of links, and its link by a key, for a host and a region."""
 
     method: str
     in_box: str
@@ -190,7 +187,7 @@ def test_links(drop, check):
 
 
 def test_used_links(drop, check):
-    """Links of a list are taken by the office that they were written for."""
+    """Links of a list are accepted by the office that they were written for."""
     file = begun(drop, "used")
     source = random.Random(5)
     puts = [Wish("PUT", source.choice(BOXES), odd_name(source, f"new {number} ")) for number in range(50)]
@@ -203,7 +200,7 @@ def test_used_links(drop, check):
 
 
 def test_secret_links(drop, check):
-    """`key:SECRETFILE` in the place of an office file: botocore's own links, by each key, and no office is there."""
+    """`key:SECRETFILE` in place of an office file: botocore's own links, by each key, without an office."""
     those = list(wishes(random.Random(6)))[:200]
     for number, (key, secret) in enumerate(KEYS.items()):
         file = drop.path(f"secret-{number}")
@@ -221,7 +218,7 @@ def test_secret_links(drop, check):
 
 
 def test_bad_secrets(drop, check):
-    """Secrets that can't be read or are none, ids that are none, and an office file whose name begins so."""
+    """Unreadable and invalid secrets, invalid ids, and an office file whose name begins with `key:`."""
     for name in ["", drop.folder, drop.path("gone")]:
         found = drop.link(f"key:{name}", "PUT", "in/a")
         check(f"the secret in {name!r}", difference(found, CANNOT_READ_SECRET))
@@ -255,7 +252,7 @@ BAD_RECEIPTS = {
     3: ["", "00", "03", "-3", "+3", " 3", "3 ", "3.0", "10000000", "²"],
     4: ["", "a" * 63, "a" * 65, "A" * 64, "g" * 64, "a" * 63 + " ", "é" * 32],
 }
-# Bytes in the place of a name that are no text, and rows that are none of the list.
+# Bytes in place of a name that are no text.
 NO_TEXTS = [b"\xff", b"a\xc3", b"\xed\xa0\x80", b"\xc0\x80", b"\xf4\x90\x80\x80", b'"\xe9"']
 
 
@@ -273,7 +270,7 @@ def bad_rows(row, values):
         yield marked.replace(b"MARK", data)
     for others in [row[:-1], row[:1], [*row, ""], [*row, "more"], [" "], [""], row * 2]:
         yield written([others])
-    # Quotes that have no end, and one row that is cut in two.
+    # Quotes without an end, and one row that is cut in two.
     yield marked.replace(b"MARK", b'"a')
     yield marked.replace(b"MARK", b"a\rb")
 
@@ -290,12 +287,12 @@ def bad_heads(head):
 
 
 def refused(number, rows):
-    """What is owed where this row is refused, and these were written before."""
+    """The expected run if this row is refused after these were written."""
     return kit.Run(1, written(rows), fault(f"row {number} is refused").err)
 
 
 def test_bad_links(drop, check):
-    """A row that is malformed, as the first and as the third; a list without its head."""
+    """A malformed row, as the first and as the third; and a list without its head."""
     file = begun(drop, "bad-links")
     run = functools.partial(linked, drop, file)
     good = [Wish("PUT", "in", "b.txt"), Wish("GET", "no-box", "a,b")]
@@ -309,7 +306,7 @@ def test_bad_links(drop, check):
 
 
 def test_bad_manifests(drop, check):
-    """The same of manifests."""
+    """The same for manifests."""
     file = few(drop, "bad-manifests")
     rows = list(receipts(file))
 
@@ -329,14 +326,14 @@ def test_bad_manifests(drop, check):
 
 
 def each_list(drop, file):
-    """A good run of each of the three, by what is given and the words."""
+    """A good run of each of the three lists: its input and its arguments."""
     wish = written([WISH_HEAD, GOOD_WISH])
     return [(b"", ["manifest", file]), (written(list(receipts(file))), ["compare", file]),
             (wish, ["links", file, *(f"--{name}={value}" for name, value in PLACE.items())])]
 
 
 def test_faults(drop, check):
-    """The first fault of the words is told: a malformed value, then the file, then the key, then the list."""
+    """The first fault is reported: a malformed value, then the file, then the key, then the list."""
     gone, file = drop.path("gone"), few(drop, "faults")
     for place in [{"host": "two words", "region": "US"}, {"host": ""}, {"host": "h" * 256}, {"host": "é"}, {"host": "a\n"}]:
         check(f"links, {place}", difference(linked(drop, gone, b"", key="k 2", **place), malformed("host")))
@@ -390,11 +387,11 @@ def test_streams(drop, check):
     check("the office stays", None if tables.dump(file) == before else "it was changed")
 
 
-# ---- words and great fields
+# ---- command-line arguments and large fields
 
 
 def test_words(drop, check):
-    """Words that name no task come before all else, and help."""
+    """Invalid arguments are reported before all else; and the help."""
     missing = "error: the following required arguments were not provided:"
     for words, line in [
         (["manifest"], missing), (["compare"], missing), (["links", "no-file"], missing), (["links", "no-file", "--key", ID], missing),
@@ -415,7 +412,7 @@ def test_words(drop, check):
 
 
 def test_examples(drop, check):
-    """The example of the help does what it says, as it stands; the heads that the help shows are those that are written."""
+    """The help's example, run unchanged, does what it says; the heads that the help shows are those that are written."""
     file, secret = drop.office("office"), b"3kQz7mWx0PbT"
     tables.add_key(file, "tender-2", secret)
     lines = help_lines("links")

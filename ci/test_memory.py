@@ -1,13 +1,13 @@
-"""Runs the proved programs with each allocation refused in turn.
+"""Runs the proved programs with each allocation refused, one at a time.
 
-The programs that `rt ci` leaves of crates/drop, crates/rows and the tests of crates/keeper run as they are, with ci/heap.c
-loaded before the C library. Then each number from 1 on is refused, up to the first at
-which there is no allocation left to refuse; of `init`, `desk`, `link`, `migrate` and lists over an office file a sample of them. The program
-must give its whole right answer, or say that memory was refused, in the way that is owed there; and never anything else. What
-an office keeps then is looked at too: by further requests where it lives in memory, and in the tables of its file.
+The programs that `rt ci` builds from crates/drop, crates/rows and the tests of crates/keeper run unchanged, with ci/heap.c
+loaded before the C library. The allocations are refused one per run, from number 1 up to the first number at
+which none is left; for `init`, `desk`, `link`, `migrate` and lists over an office file, only a sample of them. The program must
+return its whole right answer, or report the lack of memory in the way expected there, and never anything else. What the
+office then holds is checked too: by further requests if it lives in memory, and else in the tables of its file.
 
-Each words of `drop` are a row, each session is one in memory and one over a file, each row of crates/rows is one, and so is the
-keeper's.
+Each command line of `drop` is a row. Each session is a row in memory and one over a file. Each row of crates/rows is one, and
+so is the keeper's.
 """
 
 import collections
@@ -33,13 +33,13 @@ DROP = kit.ROOT / "crates" / "drop"
 TRY_AGAIN = kit.Run(0, answer(40), b"")
 OUT_OF_MEMORY = fault("out of memory")
 HELPED = ["init", "desk", "link", "links", "manifest", "compare", "list", "export", "replay", "serve", "migrate"]
-# What a program says whose table cannot be read; nothing was answered then.
+# The run of a program whose table cannot be read; it answered nothing.
 UNREAD = kit.Run(1, b"", b"Error: Kind(OutOfMemory)\n")
-LEAST_REFUSALS = 2000  # of all sessions
+LEAST_REFUSALS = 2000  # over all sessions
 
 
 def refusing(number, words, given=b""):
-    """The run with this allocation refused, and whether there was such an allocation."""
+    """Runs the words with this allocation refused. Returns the run, and whether there was such an allocation."""
     heard, told = os.pipe()
     env = {"REFUSED_ALLOCATION": str(number), "REFUSAL_TOLD_TO": str(told), "LD_PRELOAD": str(kit.library("ci/heap.c")),
            "PATH": "/usr/bin:/bin"}
@@ -58,11 +58,11 @@ def program():
 
 
 class Wrong(Exception):
-    """A run gave something else than what is owed."""
+    """A run had an unexpected result."""
 
 
 def each_refusal(words, given, right, others):
-    """The numbers at which each of the runs came that may be: the right one, or another."""
+    """For each allowed run, the right one or another: the numbers of the refused allocations that led to it."""
     came = {it: [] for it in [right, *others]}
     for number in itertools.count(1):
         run, is_refused = refusing(number, words, given)
@@ -79,7 +79,7 @@ def each_refusal(words, given, right, others):
 
 
 def test_drop(program, check):
-    """Words of the program: a right request, one at a wrong moment, and words for which nothing is replayed."""
+    """Command lines: a right request, one at a wrong moment, and some for which nothing is replayed."""
     replay = ["replay", IN_MEMORY, STREAM, "--at"]
     for words, right in [
         ([*replay, MOMENT], answered(answer(27))),
@@ -109,13 +109,16 @@ def test_drop(program, check):
 
 
 def sampled():
-    """The first hundred numbers, and then one of each seventeen: a run over an office file asks for thousands."""
+    """The first hundred numbers, then every seventeenth: a run over an office file makes thousands of allocations."""
     return itertools.chain(range(1, 101), itertools.count(101, 17))
 
 
 def each_office(program, name, words, prepare, right, others, check, done=(), given=b""):
-    """As `each_refusal`, over an office file, of a sample of the numbers. `prepare` sets the file up before each run, and gives
-    what tells, of a run that was right or was not, whether the file is then wrong. The runs of `done` did what was asked too."""
+    """Like `each_refusal`, over an office file, for a sample of the numbers.
+
+    `prepare` sets up the file before each run. It returns a function that takes whether the run carried out the request,
+    and returns what is then wrong with the file. The runs in `done` carried it out too, besides the right one.
+    """
     came = {it: [] for it in [right, *others]}
     for number in sampled():
         wrong_file = prepare()
@@ -131,7 +134,7 @@ def each_office(program, name, words, prepare, right, others, check, done=(), gi
 
 
 def test_offices(program, tmp_path, check):
-    """`init`, `desk`, `link` and `migrate`. Memory that is refused makes no file, changes none and obeys no command."""
+    """`init`, `desk`, `link` and `migrate`: a run without enough memory makes no file, changes none and obeys no command."""
     file, whole = tmp_path / "office", tmp_path / "whole"
     init = ["--clerk", ID, "--secret", SECRET.decode()]
     done = kit.Run(0, b"", b"")
@@ -182,7 +185,7 @@ class Step:
 
 @dataclasses.dataclass(frozen=True)
 class Probe:
-    """A request that tells what an office keeps: its answers, each from so many steps on that were done."""
+    """A request that shows what an office holds: its answers, each with the number of done steps from which it is expected."""
 
     asked: bytes
     answers: tuple
@@ -193,7 +196,7 @@ class Probe:
 
 @dataclasses.dataclass(frozen=True)
 class Session:
-    """A connection of these steps; where the office lives in memory, another one follows with the probes."""
+    """A connection with these steps; if the office lives in memory, another one follows with the probes."""
 
     name: str
     steps: tuple
@@ -207,14 +210,14 @@ def opens(name, quota=100, files=2, mode="keep"):
 
 
 def take_out(file, box, name, length):
-    """What a file that is dropped leaves."""
+    """Changes the tables as dropping this file must."""
     where = f"WHERE box = '{box}' AND name = '{name}'"
     tables.run(file, [f"DELETE FROM pieces {where}", f"DELETE FROM files {where}",
                       f"UPDATE boxes SET used = used - {length}, count = count - 1 WHERE name = '{box}'"])
 
 
 def uploads(number, box, name, data, instead_of=None):
-    """An upload that is taken, of a new file or in the place of another."""
+    """An accepted upload, of a new file or in place of another."""
     def does(file):
         if instead_of is not None:
             take_out(file, box, name, len(instead_of))
@@ -224,7 +227,7 @@ def uploads(number, box, name, data, instead_of=None):
 
 
 def commands(line, *statements):
-    """A command of the desk, and what it does in SQL."""
+    """A desk command, and its effect in SQL."""
     return Step(post(line), OBEYED, functools.partial(tables.run, statements=statements))
 
 
@@ -238,7 +241,7 @@ K2 = {"key": ("k2", b"s3cr3t")}
 
 
 def every_kind():
-    """One connection that asks all that can be asked, and what an office keeps behind each of its steps."""
+    """One connection with every kind of request, and what an office holds after each of its steps."""
     steps = [
         opens("in", 10**6, 3), UPLOADED, Step(UPLOADED.asked, UPLOADED.owed), REFUSED, opens("out", mode="replace"),
         uploads(2, "out", "b", b"abc"), uploads(3, "out", "b", b"abd", b"abc"), *FETCHED, uploads(4, "in", "large", LARGE),
@@ -264,7 +267,7 @@ def every_kind():
 
 
 def sessions():
-    """The published request, alone and before an upload that is cut off; an upload; two to one name; a file's life; and all."""
+    """The published request, alone and before a cut-off upload; an upload; two to one name; a file's life; and all kinds."""
     published = Step(REQUEST, answer(27))
     uploaded = ((0, answer(27)), (1, answer(34)), (2, fetched(1, b"abc")))
     replaced = [opens("out", mode="replace"), uploads(1, "out", "b", b"abc"), uploads(2, "out", "b", b"abd", b"abc")]
@@ -285,8 +288,10 @@ def right_run(session, probes):
 
 
 def bearable(session, probes):
-    """The runs that may come where memory is refused once, and how many steps are done then. The answers are right up to a
-    refusal 40, which ends its connection, or up to the fault line, which ends them all."""
+    """The possible runs if one allocation is refused, and how many steps are done in each.
+
+    The answers are right up to a refusal 40, which ends its connection, or up to the fault line, which ends all of them.
+    """
     again, total, runs = answer(40), len(session.steps), {}
     for done in range(total + 1):
         front = b"".join(step.owed for step in session.steps[:done])
@@ -301,7 +306,7 @@ def bearable(session, probes):
 
 
 def in_memory(program, streams, runs):
-    """The run of a number, whether there was such an allocation, and what is wrong."""
+    """Returns a function of a number that returns its run, whether there was such an allocation, and what is wrong."""
     def one(number):
         run, is_refused = refusing(number, [program, "replay", IN_MEMORY, *streams, "--at", MOMENT])
         return run, is_refused, None if run in runs else f"{run}"
@@ -310,7 +315,7 @@ def in_memory(program, streams, runs):
 
 
 def over_file(program, stream, runs, whole, states):
-    """As `in_memory`, over a copy of an office file: its tables are those behind the steps that are done."""
+    """Like `in_memory`, over a copy of an office file: its tables must be those after the done steps."""
     def one(number):
         with tempfile.TemporaryDirectory(dir=whole.parent) as room:
             file = shutil.copy(whole, room)
@@ -324,7 +329,7 @@ def over_file(program, stream, runs, whole, states):
 
 
 def states_of(session, whole, file):
-    """The tables behind each number of steps, by Python's `sqlite3`."""
+    """The tables after each number of steps, by Python's `sqlite3`."""
     shutil.copy(whole, file)
     states = [sorted(tables.dump(file))]
     for step in session.steps:
@@ -335,7 +340,7 @@ def states_of(session, whole, file):
 
 
 def each_number(one, begin):
-    """What each number gives, up to the first at which there is no allocation left, many side by side."""
+    """The result for each number, up to the first without an allocation to refuse; many run in parallel."""
     for first in itertools.count(begin, 32):
         for number, (run, is_refused, wrong) in enumerate(kit.side_by_side(one, range(first, first + 32)), first):
             yield number, run, is_refused, wrong
@@ -344,7 +349,7 @@ def each_number(one, begin):
 
 
 def swept(name, one, right, check, begin=1):
-    """Refuses every allocation in turn, from this number on, and tells how many there were, and at which one 40 came first."""
+    """Refuses each allocation from this number on, one per run. Returns how many there were, and the first that led to a 40."""
     kinds, first = collections.Counter(), 0
     for number, run, is_refused, wrong in each_number(one, begin):
         if wrong or not is_refused and run != right:
@@ -360,8 +365,11 @@ def swept(name, one, right, check, begin=1):
 
 
 def test_sessions(program, tmp_path, check):
-    """Each session, in memory and over a file. What the opening of the file asks for is refused in the first session alone; the
-    others begin a little before the first number at which that one was answered."""
+    """Each session, in memory and over a file.
+
+    The allocations made by opening the file are refused in the first session only. The others begin a little before the first
+    number at which that one was answered with 40.
+    """
     whole, total, begin = tmp_path / "swept", 0, 1
     made = kit.run([program, "init", whole, "--clerk", ID, "--secret", SECRET.decode()])
     check("an office file for sessions", None if made == kit.Run(0, b"", b"") else f"{made}")
@@ -381,14 +389,16 @@ def test_sessions(program, tmp_path, check):
 
 
 def broken_off(right):
-    """The runs that wrote a beginning of the right list, of some rows or of none, and then lacked memory."""
+    """The runs that wrote the beginning of the right list, some rows or none, and then lacked memory."""
     lines = right.out.splitlines(True)
     return [kit.Run(1, b"".join(lines[:number]), OUT_OF_MEMORY.err) for number in range(len(lines) + 1)]
 
 
 def test_lists(program, tmp_path, check):
-    """`manifest`, `compare`, `list`, `export` and `links` change no office file, and where memory is refused they write a beginning
-    of the list."""
+    """`manifest`, `compare`, `list`, `export` and `links` change no office file.
+
+    If memory is refused, they write the beginning of the list.
+    """
     file, whole = tmp_path / "lists", tmp_path / "whole-lists"
     made = kit.run([program, "init", whole, "--clerk", ID, "--secret", SECRET.decode()])
     if made != kit.Run(0, b"", b""):
@@ -422,7 +432,7 @@ def test_lists(program, tmp_path, check):
 
 
 def rows():
-    """Each row with what is owed for it."""
+    """Each row with its expected output."""
     folder = kit.ROOT / "crates" / "rows"
     pairs = zip((folder / "stdin").read_bytes().splitlines(True), (folder / "stdout").read_bytes().splitlines(True))
     return [(row, owed) for row, owed in pairs if not row.startswith(b"#") and row.strip()]
@@ -450,7 +460,7 @@ def test_rows(check):
 
 
 def test_keeper(check):
-    """Each call of the keeper in memory, by the test that makes a call once more to which memory was refused."""
+    """Each call of the keeper in memory, by the test that repeats a call to which memory was refused."""
     program = kit.built("keeper", "_tests")
     name = "shelf_keeps::tests::keeps_each_change"
     right, again = (kit.Run(0, f"{number} refused\n\ntest result: ok\n".encode(), b"") for number in (0, 1))

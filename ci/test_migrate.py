@@ -1,7 +1,7 @@
-"""Runs `drop migrate` on the office files of version 1 that are kept in ci/version1, and on such files that were broken.
+"""Runs `drop migrate` on the office files of version 1 that are kept in ci/version1, and on damaged copies of them.
 
-A program of version 1 made them and was asked of each (ci/make_version1.py, ci/kept.py): what it said then is owed now, byte for
-byte. Fault lines come from docs/USE.md, and the tables are read by Python's `sqlite3`.
+A program of version 1 made them and answered requests on each (ci/make_version1.py, ci/kept.py): what it wrote then is expected
+now, byte for byte. Fault lines come from docs/USE.md, and Python's `sqlite3` reads the tables.
 """
 
 import functools
@@ -23,7 +23,7 @@ from program import (
 )
 
 REFUSED = fault("the store refused")
-LEAST_PAGE = 512  # bytes of a page, in a journal or not
+LEAST_PAGE = 512  # bytes of a page, in a journal or elsewhere
 KILLS = 20
 KILLED = ["many", "sizes"]
 OF_EACH = pytest.mark.parametrize("kept", all_kept(), ids=lambda it: it.name)
@@ -38,7 +38,7 @@ def copied(drop, kept, name=""):
 
 
 def looked_at(file):
-    """A copy of an office file, with its journal, that may be opened by others."""
+    """A copy of an office file, with its journal, that other programs may open."""
     folder = file.with_name("looked-at")
     shutil.rmtree(folder, ignore_errors=True)
     folder.mkdir()
@@ -49,7 +49,7 @@ def looked_at(file):
 
 
 def content(file):
-    """All that the tables hold, and how they were made."""
+    """All that the tables hold, and how they were created."""
     return tables.dump(looked_at(file))
 
 
@@ -60,26 +60,26 @@ def rows_of(file):
 
 
 def is_at_rest(file):
-    """Whether the journal holds no page, and is of the office's kind: then who only looks writes nothing to the file."""
+    """Whether the journal holds no page and is of the office's kind: then reading writes nothing to the file."""
     journal = file.with_name(f"{file.name}-wal")
     return file.read_bytes()[18:20] == b"\2\2" and (not journal.exists() or journal.stat().st_size < LEAST_PAGE)
 
 
 def left(file):
-    """What must not change: all that the tables hold, and of a file at rest its bytes."""
+    """What must not change: all that the tables hold, and the bytes of a file at rest."""
     return content(file), file.read_bytes() if is_at_rest(file) else None
 
 
 def other(found, owed):
-    """Whether what was left is something else, in words."""
+    """How what was left differs from what is expected, in words, or None."""
     return None if found == owed else "the tables were changed" if found[0] != owed[0] else "the bytes were changed"
 
 
-# ---- what a migrated office says
+# ---- the answers of a migrated office
 
 
 def refused_by_each(drop, file):
-    """Each command on an office file that it can't open."""
+    """The run of each command on an office file that it can't open."""
     place = ["--key", ID, "--host", LINK["host"], "--region", LINK["region"]]
     stream = file.with_name("stream")
     stream.write_bytes(get(b"/in/a.txt"))
@@ -106,7 +106,7 @@ def test_unmigrated(drop, check, kept):
 
 @OF_EACH
 def test_rows(drop, check, kept):
-    """The rows of version 1 stay as they are, but for the version; what is new is what a new office has."""
+    """The rows of version 1 are unchanged except for the version; new tables are those of a new office."""
     new = drop.office("new")
     texts = "SELECT name, sql FROM sqlite_schema WHERE name NOT LIKE 'sqlite_%' ORDER BY name"
     file = copied(drop, kept)
@@ -124,7 +124,7 @@ def test_rows(drop, check, kept):
 
 @OF_EACH
 def test_twice(drop, check, kept):
-    """The manifest is that of version 1. The next `migrate` changes nothing."""
+    """The manifest is that of version 1. Another `migrate` changes nothing."""
     file = copied(drop, kept)
     before, manifest = None, kit.Run(0, kept.manifest, b"")
     for time_of in ["once", "twice", "three times"]:
@@ -137,7 +137,7 @@ def test_twice(drop, check, kept):
 
 @OF_EACH
 def test_answers(drop, check, kept):
-    """Each request and each word is answered as it was."""
+    """Each request and each command line is answered as version 1 answered it."""
     file = copied(drop, kept)
     check("migrate", difference(migrate(drop, file), SAID_DONE))
     for number, asked in enumerate(kept.asked):
@@ -146,7 +146,7 @@ def test_answers(drop, check, kept):
 
 
 def test_changed(drop, check):
-    """A migrated office takes what is new, and another `migrate` leaves that."""
+    """A migrated office accepts the commands that are new, and another `migrate` keeps their effects."""
     file = copied(drop, Kept(VERSION_1 / "filled"))
     check("migrate", difference(migrate(drop, file), SAID_DONE))
     for line in ["key limit k2 in", "key limit k2 ends", "office allow 900"]:
@@ -159,7 +159,7 @@ def test_changed(drop, check):
 
 
 def test_new(drop, check):
-    """A file of version 2 is left as it is."""
+    """A file of version 2 stays unchanged."""
     for name, file in [("new", drop.office("new", "--allowance", "60")), ("filled", drop.filled("full"))]:
         before = content(file)
         bytes_before = file.read_bytes()
@@ -169,7 +169,7 @@ def test_new(drop, check):
 
 
 def test_output(drop, check):
-    """Where nobody hears it, the office is migrated nevertheless."""
+    """If its output can't be written, the office is migrated nevertheless."""
     kept = Kept(VERSION_1 / "filled")
     file = copied(drop, kept)
     with full_disk() as full:
@@ -187,7 +187,7 @@ def refused(drop, check, name, file, *owed):
 
 
 def test_broken(drop, check):
-    """Each rule of the tables of version 1 broken in turn."""
+    """Breaks each rule of the tables of version 1, one at a time."""
     whole = copied(drop, Kept(VERSION_1 / "filled"))
     loosened = [it for it in tables.LOOSENED if it[0] in tables.OF_VERSION_1]
     cases = [(it.name, it.own, functools.partial(tables.run, statements=it.statements)) for it in tables.breaks_of_version_1()]
@@ -211,7 +211,7 @@ def test_broken(drop, check):
         check(f"broken: {name}", wrong)
 
 
-# A table, a view or an index of a new table's name.
+# Tables, views and indexes that have the name of a new table.
 TAKEN = [
     *(f"CREATE TABLE {name} (id INTEGER PRIMARY KEY) STRICT" for name in tables.NEW_TABLES),
     "CREATE TABLE rules (id INTEGER NOT NULL PRIMARY KEY, allowance INTEGER NOT NULL) STRICT",
@@ -225,7 +225,7 @@ TAKEN_OTHERWISE = [
 
 
 def test_taken(drop, check):
-    """A file of version 1 that holds the name of a new table."""
+    """A file of version 1 in which the name of a new table is already used."""
     cases = [*(([it], [DAMAGED]) for it in TAKEN), (TAKEN[:3], [DAMAGED]), *(([it], [DAMAGED, CANNOT_OPEN]) for it in TAKEN_OTHERWISE)]
     for number, (statements, owed) in enumerate(cases):
         file = copied(drop, Kept(VERSION_1 / "filled"), f"-taken-{number}")
@@ -234,7 +234,7 @@ def test_taken(drop, check):
 
 
 def test_versions(drop, check):
-    """Another version is told before all else; one that says version 2 has all its tables."""
+    """An unknown version is reported before all else; a file that says version 2 must have all its tables."""
     cases = [
         *((version, [], [VERSION]) for version in [7, 0, 3, -1, 2**62]), (2, [], [DAMAGED]),
         (7, ["UPDATE keys SET secret = x'20'"], [VERSION]), (7, ["DELETE FROM pieces"], [VERSION]),
@@ -251,7 +251,7 @@ def test_not_offices(drop, check):
     for file, owed in not_offices(drop):
         before = file.read_bytes() if file.is_file() else None
         check(f"{file.name}", difference(migrate(drop, file), owed))
-        # to open a file of no bytes makes it a database without tables
+        # opening an empty file makes it a database without tables
         well = not file.is_file() or file.read_bytes() == before or not before and not tables.rows(file, "SELECT * FROM sqlite_schema")
         check(f"{file.name} stays", None if well else "it was changed")
     check("no file", difference(migrate(drop, drop.path("gone")), CANNOT_OPEN))
@@ -269,7 +269,7 @@ def test_not_offices(drop, check):
 
 
 def killed_at(drop, file, seconds):
-    """`drop migrate`, killed behind so many seconds. Whether it had ended by then."""
+    """Kills `drop migrate` after this many seconds. Returns whether it had ended by then."""
     process = subprocess.Popen([drop.program, "migrate", file], cwd=drop.folder, stdout=subprocess.PIPE, stderr=subprocess.PIPE)
     time.sleep(seconds)
     process.send_signal(signal.SIGKILL)
@@ -278,7 +278,7 @@ def killed_at(drop, file, seconds):
 
 
 def fault_behind(drop, file, kept, old):
-    """What is wrong with a file that a kill left: it is the old one or the new one, whole, and it can be migrated."""
+    """What is wrong with a file that a kill left: it must be the whole old one or the whole new one, and can be migrated."""
     copy = looked_at(file)
     version = tables.rows(copy, "SELECT version FROM office")
     manifest = kit.Run(0, kept.manifest, b"")
@@ -291,7 +291,7 @@ def fault_behind(drop, file, kept, old):
 
 
 def test_kills(drop, check):
-    """The program is killed at random moments of its work."""
+    """Kills the program at random moments of its work."""
     seed = random.SystemRandom().randrange(10**9)
     source, versions = random.Random(seed), []
     print(f"the seed is {seed}")

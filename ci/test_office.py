@@ -1,8 +1,8 @@
 """Runs the proved program `drop` on office files: `init`, `link`, and `replay` over a file.
 
-Files are made by `drop init` in a folder of their own, and filled, looked at and broken by Python's `sqlite3`
-(ci/tables.py) and by the command `sqlite3`. What is owed comes from Python's `hashlib` and `hmac` (ci/expected.py), the
-table of refusals in docs/RULES.md and the fault lines in docs/USE.md.
+`drop init` makes the files in their own folder. Python's `sqlite3` (ci/tables.py) and the command `sqlite3` fill, read and
+damage them. Expected values come from Python's `hashlib` and `hmac` (ci/expected.py), the table of refusals in docs/RULES.md
+and the fault lines in docs/USE.md.
 """
 
 import dataclasses
@@ -25,12 +25,6 @@ from program import (
 FILE_FAULTS = [CANNOT_OPEN, DAMAGED, VERSION]
 
 
-# ---- answers
-
-
-# ---- requests
-
-
 # ---- init
 
 
@@ -49,19 +43,19 @@ def test_umasks(drop, check):
 
 
 def office_rows(file):
-    """The rows of the office, its rules and the keys, and of the other tables how many they have."""
+    """The rows of the tables `office`, `rules` and `keys`, and the row counts of the other tables."""
     first = ["office", "rules", "keys"]
     others = [tables.rows(file, f"SELECT COUNT(*) FROM {name}")[0][0] for name in tables.TABLES if name not in first]
     return [*(tables.rows(file, f"SELECT * FROM {name}") for name in first), others]
 
 
 def rows_of_new(east=0, allowance=0, secret=SECRET):
-    """Those of an office that was made."""
+    """The expected `office_rows` of a new office."""
     return [[(1, 2, east)], [(1, allowance)], [(ID, 1, secret, 0)], [0] * 6]
 
 
 def test_made(drop, check):
-    """What an office that was made holds."""
+    """What a new office holds."""
     for words, east, allowance in [
         ([], 0, 0), (["--east", "60"], 60, 0), (["--west", "60"], -60, 0), (["--east", "840"], 840, 0), (["--west", "840"], -840, 0),
         (["--east", "840", "--west", "840"], 0, 0), (["--west=5", "--east=3"], -2, 0), (["--east", "0", "--west", "0"], 0, 0),
@@ -105,7 +99,7 @@ def secret_file(drop, name, data):
 
 
 def test_secret_files(drop, check):
-    """`--secret-file`: the same office as by `--secret`, and the secret is no word."""
+    """`--secret-file` makes the same office as `--secret`, and the secret is in no argument."""
     for name, data, secret in [
         ("LF", SECRET + b"\n", SECRET), ("CR LF", SECRET + b"\r\n", SECRET), ("no end", SECRET, SECRET), ("one byte", b"~\n", b"~"),
         *((f"128 bytes, {name}", b"!" * 128 + end, b"!" * 128) for name, end in ENDS.items()),
@@ -128,7 +122,7 @@ def test_secret_files(drop, check):
 
 
 def test_malformed_secret_files(drop, check):
-    """What is no secret on one line, and what can't be read: no file is made, and one that is there is not asked."""
+    """If the secret file holds no one-line secret or can't be read, no file is made, and an existing file is not checked."""
     there = drop.office("there")
     before = there.read_bytes()
     for name, data in [
@@ -157,7 +151,7 @@ def test_malformed_secret_files(drop, check):
 
 
 def test_init_over(drop, check):
-    """A file that is there: without a byte it becomes an office, else it stays as it is."""
+    """`init` over an existing file: an empty one becomes an office, any other stays unchanged."""
     empty = drop.path("empty")
     empty.touch()
     os.chmod(empty, 0o640)
@@ -180,7 +174,7 @@ def test_init_over(drop, check):
 
 
 def test_init_that_fails(drop, check):
-    """An init that fails behind the making of its file takes it away again, and nothing else."""
+    """An `init` that fails after it created its file removes that file, and nothing else."""
     for name in ["file:name", ":memory:"]:
         found = drop.run("init", name, *CLERK)
         left = [it.name for it in drop.folder.iterdir() if it.name.startswith(name)]
@@ -203,7 +197,7 @@ def test_init_that_fails(drop, check):
     check("init of a link to nothing", difference(found, CANNOT_OPEN) or (None if well else "a file was made"))
 
 
-# ---- words
+# ---- command-line arguments
 
 
 INIT = ["init", "no-file", *CLERK]
@@ -239,7 +233,7 @@ WORDS = [
 
 
 def test_words(drop, check):
-    """Words that name no task come before all else."""
+    """Invalid arguments are reported before all else."""
     link = ["link", "no-file", "NONE", "none", *itertools.chain(*((f"--{k}", "") for k in list(LINK)[:-1]))]
     rows = [*WORDS, *((
         [*link, "--expires", number], f"error: invalid value '{number}' for '--expires <N>': {number} is not in 1..=604800"
@@ -265,7 +259,7 @@ BAD_TARGETS = [
 
 
 def test_link_faults(drop, check):
-    """The first fault of a link is told, and the office file is asked behind them all."""
+    """The first fault of a link is reported, and the office file is checked last."""
     gone, wrong = drop.path("gone"), dict(LINK)
     for name, value in [("region", "US"), ("host", "two words"), ("start", "now")]:
         wrong[name] = value
@@ -344,7 +338,7 @@ def test_links(drop, check):
 
 
 def test_written_links(drop, check):
-    """A link that `drop link` wrote is taken by the office that it was written for, in its window."""
+    """A link that `drop link` wrote is accepted by the office it was written for, within its time window."""
     file = drop.filled("written")
     for number, (target, data) in enumerate([("in/a/../b c", b"one"), ("ends/é ~+%2F.txt", b""), ("in/a.txt", b"abd")], 6):
         url = drop.link(file, "PUT", target, key="k2").out.strip()
@@ -376,7 +370,7 @@ BOX = tables.Box("in", tables.OPENS, tables.CLOSES, quota=100, max_files=2)
 
 
 def test_uploads(drop, check):
-    """Uploads over one file, each by a run of its own."""
+    """Uploads and fetches on one office file, each in its own run."""
     file = limited(drop, "uploads", BOX)
     abc = put(b"/in/a.txt", b"abc")
     steps = [
@@ -402,7 +396,7 @@ def test_uploads(drop, check):
 
 
 def test_boxes(drop, check):
-    """Boxes of other settings: each request by a run of its own."""
+    """Boxes with other settings; each request is in its own run."""
     kept = tables.Box("in", tables.OPENS, tables.CLOSES, quota=100, max_files=2, mode=1)
     small = tables.Box("q", quota=3, max_files=5, mode=1)
     friday = dataclasses.replace(BOX, days="0000100", from_minute=60, to_minute=120)
@@ -430,7 +424,7 @@ def test_boxes(drop, check):
 
 
 def test_allowance(drop, check):
-    """An office that was made with an allowance: the published request, before its start and at its end."""
+    """Offices made with and without an allowance: the published request, around its start and at its end."""
     for words, rows in [
         (["--allowance", "900"], [("20130523T234500Z", 27), ("20130523T234459Z", 22), ("20130524T235959Z", 27), ("20130525T000000Z", 23)]),
         (["--allowance", "1"], [("20130523T235959Z", 27), ("20130523T235958Z", 22), ("20130525T000000Z", 23)]),
@@ -445,7 +439,7 @@ def test_allowance(drop, check):
 
 
 def test_pieces(drop, check):
-    """Files by their sizes, each with the pieces that it is owed."""
+    """Files of several sizes, each with its expected pieces."""
     file = limited(drop, "pieces", tables.Box("in", quota=10**12, max_files=9))
     for number, size in enumerate([10**6, 65536, 65537, 1048577, 8388608, 0, 1], 1):
         data = b"a" * size
@@ -461,7 +455,7 @@ def test_pieces(drop, check):
 
 
 def test_streamed(drop, check):
-    """Uploads that come in pieces: one that breaks off, one of just the quota, one byte beyond, and one of a wrong signature."""
+    """Uploads that come in pieces: one cut off, one of exactly the quota, one byte beyond it, and one with a wrong signature."""
     boxes = [tables.Box(name, quota=8388608, max_files=5) for name in ["in", "full"]]
     file = limited(drop, "streamed", *boxes)
     large, full = bytes(range(250)) * 800, b"f" * 8388608
@@ -484,7 +478,7 @@ def test_streamed(drop, check):
 
 
 def test_staged(drop, check):
-    """What was left in the table `staged` is gone once the file was opened, and the office is what it was."""
+    """Rows left in the table `staged` are gone once the file was opened, and the office is otherwise unchanged."""
     whole = drop.filled("staged-whole")
     owed = drop.replay(whole, get(b"/in/a.txt"))
     for number, left in enumerate([
@@ -500,7 +494,7 @@ def test_staged(drop, check):
 
 
 def test_streams(drop, check):
-    """Several streams in one run: each is a connection, over the office as the one before left it."""
+    """Several streams in one run: each is a connection to the office as the previous one left it."""
     for name in ["file", "memory"]:
         file = limited(drop, "streams", BOX) if name == "file" else f"memory:{ID}/{SECRET.decode()}"
         owed = {"put": receipt(1, b"abc"), "get": fetched(1, b"abc")} if name == "file" else dict.fromkeys(["put", "get"], answer(27))
@@ -531,7 +525,7 @@ def test_streams(drop, check):
 
 
 def is_sound(drop, file):
-    """An office that was filled answers as it is owed."""
+    """Why a filled office doesn't answer as expected, or None."""
     streams = [get(b"/in/a.txt"), get(b"/ends/y.txt", "HEAD")]
     owed = answered(fetched(1, b"abc"), fetched(4, b"y" * (tables.PIECE + 1), "HEAD"))
     return difference(drop.replay(file, *streams), owed)
@@ -554,12 +548,12 @@ def test_stock(drop, check):
 
 
 def refusals(drop, file):
-    """What the two commands say of a file, and whether it has the same tables behind them."""
+    """The runs of `drop link` and `drop replay` on a file."""
     return [drop.link(file, "GET", "in/a.txt"), drop.replay(file, get(b"/in/a.txt"))]
 
 
 def test_broken(drop, check):
-    """Each rule of the tables broken in turn."""
+    """Breaks each rule of the tables, one at a time."""
     whole = drop.filled("whole")
     check("the office before it is broken", is_sound(drop, whole))
     cases = [(it.name, it.own, functools.partial(tables.run, statements=it.statements)) for it in tables.breaks()]
@@ -574,7 +568,7 @@ def test_broken(drop, check):
         before = tables.dump(file)
         if before == tables.dump(whole):
             return f"{name}: nothing was broken"
-        # Tables are known by the number of their columns: under another name a column is one that no query finds.
+        # Tables are recognised by their number of columns: no query finds a renamed column.
         owed = [DAMAGED] + [CANNOT_OPEN] * (own or "RENAME COLUMN" in name)
         wrong = [difference(found, *owed) for found in refusals(drop, file)]
         if tables.dump(file) != before:
@@ -606,7 +600,7 @@ def test_versions(drop, check):
 
 
 def is_bearable(found):
-    """A fault line of the file and no answer, or answers as an office gives them; never anything else."""
+    """Why a run is neither a fault line of the file without an answer, nor answers as an office returns them; or None."""
     if found.status == 1:
         return None if found in FILE_FAULTS else f"{found}"
     well = found.status == 0 and not found.err and found.out.startswith(b"HTTP/1.1 ")
@@ -631,7 +625,7 @@ def test_cut(drop, check):
 
 
 def test_changed(drop, check):
-    """One byte changed, at some hundred places: all over the first pages, and here and there behind them."""
+    """Changes one byte, at some hundred places: all over the first page, and here and there after it."""
     whole = drop.filled("changed-whole").read_bytes()
     places = sorted({*range(0, 108), *range(108, 4096, 61), *range(4096, len(whole), 1009)})[:700]
 

@@ -1,8 +1,7 @@
 """Makes the Debian package of the proved `drop`, and installs, upgrades, removes and purges it in a Debian 12 made by `debootstrap`.
 
-There systemd has a stand-in, which does what the unit says and keeps a log of what it was asked. What is owed comes from the
-lines of docs/DEPLOY.md, from office files of version 1 that are kept (ci/kept.py), and from links that boto3 makes. It has to be
-run as root.
+There a stand-in replaces systemd: it does what the unit says and logs its requests. Expected values come from the lines of
+docs/DEPLOY.md, from the kept office files of version 1 (ci/kept.py), and from links made by boto3. It must be run as root.
 """
 
 import hashlib
@@ -28,12 +27,12 @@ from program import difference
 MIRROR = "http://deb.debian.org/debian"
 PORT = 8333
 OFFICE = "var/lib/drop/office"
-OLDER = "1.0.0~older"  # what is built without a version has the program's own
+OLDER = "1.0.0~older"  # a package built without a version has the program's own
 BOX = "box add in 20200101T000000Z 20400101T000000Z 1111111 0000 2400 1000000000 1000 keep any"
 PREPARED = {"DEBIAN_FRONTEND": "noninteractive", "LC_ALL": "C", "PATH": "/usr/sbin:/usr/bin:/sbin:/bin"}
 
-# What stands for systemd where a service is started or stopped: the unit's program, as the unit's user, where its condition holds.
-# All else is done by systemd's own command.
+# Replaces systemd when a service is started or stopped: runs the unit's program as the unit's user, if its condition holds.
+# systemd's own command does all else.
 SYSTEMCTL = r"""#!/bin/sh
 unit=/lib/systemd/system/drop.service
 case "$*" in
@@ -58,7 +57,7 @@ esac
 
 
 class Machine:
-    """A Debian in a folder, and what is run in it."""
+    """A Debian in a folder, in which programs are run."""
 
     def __init__(self, root):
         self.root = root
@@ -73,12 +72,12 @@ class Machine:
         return self.run("sh", "-eu", "-c", lines)
 
     def install(self, package):
-        """Installs a package by the words of docs/DEPLOY.md."""
+        """Installs a package with the command of docs/DEPLOY.md."""
         shutil.copy(package, self.path(f"root/{package.name}"))
         return self.sh(f"cd /root && apt-get install -y --allow-downgrades ./{package.name}")
 
     def log(self):
-        """What systemd was asked since the last look."""
+        """The requests to systemd since the last call."""
         file = self.path("asked.log")
         found = file.read_text().split() if file.exists() else []
         file.unlink(missing_ok=True)
@@ -101,7 +100,7 @@ class Machine:
         until("the server's end", lambda: not listens(PORT))
 
     def put_office(self, kept):
-        """An office file of version 1 in the place of what is there."""
+        """Replaces everything in the office's folder by an office file of version 1."""
         for it in self.path("var/lib/drop").iterdir():
             shutil.rmtree(it) if it.is_dir() else it.unlink()
         with tempfile.TemporaryDirectory() as folder:
@@ -111,7 +110,7 @@ class Machine:
         self.run("sh", "-c", "chown drop:drop /var/lib/drop/*; chmod 600 /var/lib/drop/*")
 
     def content(self, name=OFFICE):
-        """What the tables of this office file hold, by its digest: a look at a file may change its bytes."""
+        """The digest of the content of this office file's tables; of a copy, because reading a file may change its bytes."""
         with tempfile.TemporaryDirectory() as folder:
             for it in self.path(name).parent.glob("office*"):
                 shutil.copy(it, folder)
@@ -139,7 +138,7 @@ def machine():
 
 
 def built(folder, version=None):
-    """The package of this version, in the folder, which is made."""
+    """Makes the folder, and the package of this version in it."""
     folder.mkdir()
     own = {"PACKAGE_VERSION": version} if version else {}
     ran = kit.run(["bash", "deploy/package.sh", folder], cwd=kit.ROOT, env=os.environ | own)
@@ -167,7 +166,7 @@ def newer(module_folder):
 
 
 def test_package(module_folder, newer, check):
-    """It is made twice with the same bytes, has no error by lintian, and has all that is promised."""
+    """Two builds have the same bytes; lintian finds no error; the package has all that is promised."""
     again = built(module_folder / "again")
     check("made twice", difference(digest_of(again), digest_of(newer)))
     ran = kit.run(["lintian", "--fail-on", "error", "--no-tag-display-limit", newer])
@@ -180,7 +179,7 @@ def test_package(module_folder, newer, check):
     check("files of root alone", difference({*re.findall(r"^\S+ (\S+)", listed, re.MULTILINE)}, {"root/root"}))
 
 
-# ---- a machine's life: each test goes on where the one before it has ended
+# ---- a machine's life: each test continues where the previous one ended
 
 
 def lines_of(section):
@@ -218,7 +217,7 @@ def test_install(machine, older, check):
 
 
 def test_office(machine, check):
-    """The lines of the page make an office, which then serves; a box; a file is put and fetched."""
+    """The lines of the page make an office, which then serves; a box is added, and a file is put and fetched."""
     for lines in lines_of(2):
         ran = machine.sh(lines)
         check("the lines of 2", difference(ran.status, 0) and f"{ran}")
@@ -233,7 +232,7 @@ def test_office(machine, check):
 
 
 def test_same_version(machine, newer, check):
-    """An upgrade of an office of version 2 stops, replaces and starts, and makes no copy."""
+    """An upgrade with an office of version 2 stops, replaces and starts the program, and makes no copy."""
     ran = machine.install(newer)
     check("upgraded", difference(ran.status, 0) and f"{ran}")
     until("the server", lambda: listens(PORT))
@@ -244,7 +243,7 @@ def test_same_version(machine, newer, check):
 
 
 def test_manual(machine, check):
-    """The manual page can be read, and has each command's help."""
+    """The manual page is readable, and has each command's help."""
     page = machine.path("usr/share/man/man1/drop.1.gz")
     ran = kit.run(["man", "--warnings", "-E", "UTF-8", "-l", page], env=os.environ | {"MANPAGER": "cat", "MANWIDTH": "200"})
     check("its page has no fault", difference((ran.status, ran.err), (0, b"")))
@@ -277,7 +276,7 @@ def test_migration(machine, older, newer, check):
 
 
 def test_damage(machine, older, newer, check):
-    """An upgrade of a damaged office of version 1 fails, says so, and leaves the office as it is."""
+    """An upgrade with a damaged office of version 1 fails, says so, and leaves the office unchanged."""
     machine.install(older)
     machine.stop()
     machine.put_office(Kept(VERSION_1 / "fresh"))
@@ -298,7 +297,7 @@ def test_damage(machine, older, newer, check):
 
 
 def test_removal(machine, newer, check):
-    """Removing keeps the office, also purging where the answer is no; where it is yes, nothing is left."""
+    """Removing keeps the office, and so does purging unless the answer to its question is yes; then nothing is left."""
     machine.put_office(Kept(VERSION_1 / "fresh"))
     machine.run("setpriv", "--reuid=drop", "--regid=drop", "--clear-groups", "drop", "migrate", f"/{OFFICE}")
     machine.run("systemctl", "start", "drop")

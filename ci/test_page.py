@@ -1,9 +1,9 @@
 """Drives page/put.html and page/get.html in Debian's chromium, headless, over the proved program `drop serve`.
 
-The browser is asked by the WebDriver protocol (ci/browser.py). Between it and the office stands a small web server, which
-serves page/, passes all else on as it came, and can be told to lose or to change it (ci/front.py).
-What is owed comes from Python's `hashlib`, the table of refusals in docs/RULES.md, and the words below, in both
-languages. `--shots FOLDER` keeps pictures.
+The WebDriver protocol controls the browser (ci/browser.py). A small web server between it and the office serves page/, passes
+all else on unchanged, and can be told to lose or to change it (ci/front.py).
+Expected values come from Python's `hashlib`, the table of refusals in docs/RULES.md, and the words below, in both
+languages. `--shots FOLDER` keeps screenshots.
 """
 
 import os
@@ -32,7 +32,7 @@ ODD = "Ä ö + ß %2F/b//c ~'().pdf"
 
 
 def write_links(drop, file, front):
-    """All links of the tests, by `drop link`: an office file is the server's own while it runs."""
+    """Makes all links of the tests by `drop link`, before the server starts, because only the server can then open the file."""
     def moment(seconds):
         return time.strftime("%Y%m%dT%H%M%SZ", time.gmtime(time.time() + seconds))
 
@@ -116,12 +116,12 @@ def test_put(case, check):
 
 
 def target_of(link):
-    """Path and query of a link, as they stand."""
+    """The path and query of a link, unchanged."""
     return "/" + link.split("/", 3)[3]
 
 
 def test_receipt_file(case, check):
-    """The receipt printed, and saved as a text file."""
+    """The receipt is printed, and saved as a text file."""
     case.put("put a", "a", DATA)
     case.browser.js("window.print = () => { window.printed = true; }")
     case.click("#print")
@@ -147,7 +147,7 @@ def test_receipt_file(case, check):
         check(f"saved as {name}", is_not(file.name, name) or lacks(text, *words, line, case.front.host))
 
 
-# Of each refusal: its number, the page, the link, the bytes sent, and words of what happened and of the remedy.
+# For each refusal: its number, the page, the link, the bytes sent, and words about what happened and about the remedy.
 REFUSALS = [
     (30, "put", "put closed", b"abc", ("The box is closed now.", "Try again when the box is open"),
      ("Das Fach ist jetzt geschlossen.", "wenn das Fach offen ist")),
@@ -186,7 +186,7 @@ REFUSALS = [
 
 
 def test_refusals(case, check):
-    """Each is told with its number, what happened and what to do, in both languages."""
+    """Each refusal is shown with its number, what happened and what to do, in both languages."""
     for number, page, link, data, english, german in REFUSALS:
         found = case.fetch(link) if page == "get" else case.put(link, "b", data)
         name = f"refusal {number}, {page} of {link}"
@@ -206,7 +206,7 @@ def test_refusals(case, check):
 
 
 def test_table(case, check):
-    """Each refusal of docs/RULES.md has words and a remedy in both languages; and both have the same texts."""
+    """Each refusal of docs/RULES.md has a text and a remedy in both languages, which have the same texts."""
     case.open("put", "put a")
     texts = case.browser.js("return TEXTS")
     numbers = [row[0] for row in expected.table_of_refusals()]
@@ -229,7 +229,7 @@ def test_table(case, check):
 
 
 def test_too_large(case, check):
-    """A file that is too large is told before it is sent."""
+    """A file that is too large is reported instead of being sent."""
     before = len(case.front.passed)
     case.open("put", "put new")
     case.choose("large", b"l" * (LIMIT + 1))
@@ -249,7 +249,7 @@ FAULTS = b"faults" * 100
 
 
 def test_faults(case, check):
-    """What is lost on the way is told, and "try again" tries again; the office keeps the file once."""
+    """A lost upload or answer is reported, and "try again" tries again; the office keeps the file once."""
     case.open("put", "put faults")
     case.choose("f", FAULTS)
     rows = [
@@ -290,7 +290,7 @@ def test_faults(case, check):
 
 
 def test_faults_of_get(case, check):
-    """What is lost on the way back is told, and "try again" tries again."""
+    """A lost answer to a fetch is reported, and "try again" tries again."""
     case.open("get", "get faults")
     case.office.kill()
     case.click("#go")
@@ -305,7 +305,7 @@ def test_faults_of_get(case, check):
 
 
 def test_changed(case, check):
-    """Bytes that were changed on the way are told."""
+    """Bytes that were changed on the way are reported."""
     case.open("put", "put changed")
     case.choose("c", b"changed")
     case.front.mode = "other body"
@@ -326,7 +326,7 @@ def test_changed(case, check):
 
 
 def test_get(case, check):
-    """A file that was put under an odd name is fetched, compared and saved; the links arrive as they stand."""
+    """A file that was put under an odd name is fetched, compared and saved; the links arrive unchanged."""
     for number, (name, saved) in enumerate([("odd", "c ~'().pdf"), ("respelled", "d e.txt")], 6):
         data = name.encode() * 1000
         before = len(case.front.passed)
@@ -350,7 +350,7 @@ def test_get(case, check):
 
 
 def test_links(case, check):
-    """What is not a link, or none that a browser sends as it stands, is told, and nothing is sent."""
+    """Text that is no link, or a link that a browser would not send unchanged, is reported, and nothing is sent."""
     before = len(case.front.passed)
     rows = [
         ("", "No link was given."), ("in/a?x", "is not a link"), ("ftp://files.example/in/a", "is not a link"),
@@ -389,7 +389,7 @@ def test_links(case, check):
 
 
 def test_chosen_again(case, check):
-    """A file that was changed is read once more when it is chosen once more; one that can't be read is not kept."""
+    """A changed file is read again when it is chosen again; a file that can't be read is not kept."""
     case.open("put", "put again")
     for data in [b"first", b"second"]:
         case.browser.js("document.getElementById('file').dispatchEvent(new Event('click'))")
@@ -409,7 +409,7 @@ def test_chosen_again(case, check):
 
 
 def test_left_meanwhile(case, check):
-    """A file whose digest is still computed when another link is opened is not shown as that one's."""
+    """A file whose digest is still being computed when another link is opened is not shown as that link's file."""
     case.open("get", "get a")
     case.browser.js("""window.held = [];
         const digest = crypto.subtle.digest.bind(crypto.subtle);
@@ -424,7 +424,7 @@ def test_left_meanwhile(case, check):
 
 
 def test_keyboard(case, check):
-    """Tab, Enter and Space alone; only the choosing of the file is the browser's own."""
+    """Works with Tab, Enter and Space only; choosing the file is left to the browser."""
     case.open("put", "put keys")
     check("the order", is_not(tabbed(case, 4), ["de", "en", "file", "go"]))
     case.browser.press(ENTER)
@@ -472,7 +472,7 @@ NETWORK = {"offline": False, "latency": 0, "downloadThroughput": -1, "uploadThro
 
 
 def test_progress(case, check):
-    """How much is sent is shown and said while it is."""
+    """The progress of an upload is shown and announced while it lasts."""
     case.open("put", "put progress")
     case.choose("p", b"p" * LIMIT)
     case.browser.wait_for("return document.querySelectorAll('#facts .code').length")
@@ -516,7 +516,7 @@ def test_dropped(case, check):
 
 
 def test_insecure(case, check):
-    """On plain http the browser computes no digest, and what that means is told."""
+    """On plain http the browser computes no digest, and the page says what that means."""
     host = f"files.example:{case.front.port}"
     found = case.put("put plain", "plain", b"plain", host)
     said = case.browser.js("return document.getElementById('facts').innerText")
@@ -532,7 +532,7 @@ def test_insecure(case, check):
 
 
 def test_reader(case, check):
-    """Controls have names; results stand in regions that have names; the page says its language."""
+    """Controls have names; results are in named regions; the page declares its language."""
     speech = {"de": ("button", "Deutsch"), "en": ("button", "English")}
     case.put("put a", "a", DATA)
     owed = speech | {"file": ("button", "Choose a file"), "go": ("button", "Send the file"), "print": ("button", "Print"),
@@ -566,7 +566,7 @@ def test_reader(case, check):
 
 
 def test_hints(case, check):
-    """The lines for curl that are shown without JavaScript, with links that no browser sends as they stand."""
+    """The lines for curl that are shown without JavaScript work, with links that no browser sends unchanged."""
     file = case.drop.path("by hand")
     for method in ["put", "get"]:
         lines = re.findall("<code>(.*)</code>", (PAGE / f"{method}.html").read_text(encoding="utf-8"))
@@ -610,7 +610,7 @@ def test_own_origin(case, check):
 
 
 def complains_of_nothing(case, check):
-    """Since its log was read last."""
+    """Checks that the browser logged nothing since its log was last read."""
     log = [it["message"] for it in case.browser.ask("POST", "/se/log", {"type": "browser"})]
     check("the browser complains of nothing", is_not(log, []))
 

@@ -1,6 +1,6 @@
-"""Runs the proved program `drop` on streams of requests and on words, and compares all that it writes, and its status.
+"""Runs the proved program `drop` on request streams and on command lines, and compares its whole output and its exit status.
 
-The answers that are owed come from the table of refusals in docs/RULES.md, the signatures from Python's `hmac`
+The expected answers come from the table of refusals in docs/RULES.md, the signatures from Python's `hmac`
 (ci/expected.py), the lines on standard error from docs/USE.md, and the help from ci/drop.help, ci/desk.help,
 ci/migrate.help and ci/replay.help, whose lines were read and found true.
 """
@@ -21,7 +21,7 @@ SIGNED = QUERY + b"&X-Amz-Signature=" + SIGNATURE
 
 @dataclasses.dataclass(frozen=True)
 class Case:
-    """A stream that is replayed at a moment, to an office; and what is owed."""
+    """A stream that is replayed to an office at a moment, and the expected run."""
 
     name: str
     stream: bytes
@@ -35,7 +35,7 @@ def refused(number, method="GET"):
 
 
 def all_refused(numbers):
-    """What is owed for a stream of GETs that are refused so, one after another."""
+    """The expected run for a stream of GETs with these refusals, in order."""
     return answered(*map(answer, numbers))
 
 
@@ -44,7 +44,7 @@ def changes(owed, rows):
         yield Case(f"{part!r} by {by!r}", changed(part, by), owed)
 
 
-# What is replaced in the published request, and by what; and the refusal that answers it.
+# For each refusal: what is replaced in the published request, and by what, to get it.
 MALFORMED = {
     7: [
         (b"GET /test.txt?", b"DELETE /te+st.txt?"), (b"GET", b"DELETE"), (b"GET", b"get"),
@@ -89,7 +89,7 @@ MALFORMED = {
     ],
 }
 SCOPE = b"k/20130524/r/s3/aws4_request"
-# Queries in which one rule after another is mended: the least that fails answers.
+# Queries that satisfy one rule after another: the lowest-numbered rule that fails determines the refusal.
 LEAST = {
     10: b"X-Amz-Algorithm=A&" + SIX % (b"B", b"C", b"D", b"E", b"F") + b"&X-Amz-Signature=F",
     11: b"X-Amz-Algorithm=A&" + SIX % (b"B", b"C", b"D", b"E", b"F"),
@@ -100,7 +100,7 @@ LEAST = {
     16: b"X-Amz-Algorithm=AWS4-HMAC-SHA256&" + SIX % (SCOPE, MOMENT.encode(), b"1", b"host;range", b"F"),
     17: b"X-Amz-Algorithm=AWS4-HMAC-SHA256&" + SIX % (SCOPE, MOMENT.encode(), b"1", b"host;range", b"0" * 64),
 }
-# Other spellings of the published target, and odd heads that are legal: the signature stays right.
+# Other spellings of the published target, and odd but legal heads: the signature stays valid.
 SPELLINGS = [
     (b"/test.txt?", b"/%74est.txt?"), (b"/test.txt?", b"/te%73%74.tx%74?"), (b"X-Amz-Expires", b"X%2DAmz%2DExpires"),
     (b"X-Amz-Signature", b"%58-Amz-Signature"), (b"=aeeed9", b"=%61eeed9"),
@@ -115,7 +115,7 @@ ODD_HEADS = [
     (b"Host:", b"HOST:"), (b"Host:", b"hOsT:"), (b"Host: ", b"host:"), (b"Host:", b"Host: \t "),
     (b".amazonaws.com\r\n", b".amazonaws.com \t \r\n"),
 ]
-# Heads that break a rule of framing: the refusal answers, and closes the connection.
+# Heads that break a framing rule: the refusal is the answer, and closes the connection.
 BADLY_FRAMED = {
     1: [
         (b"GET", b"G(T"), (b"\r\nHost", b"\n\nHost"), (b"\r\nHost", b"\r\nA\r\nHost"), (b"HTTP/1.1", b"HTTP/2.0"),
@@ -138,7 +138,7 @@ BADLY_FRAMED = {
         (HOST + b"\r\n\r\n", b"Content-Length: 3\r\n\r\nab"),
     ],
 }
-# Streams in which no message stands whole, and no rule is broken yet.
+# Streams without a whole message, in which no rule is broken yet.
 CUT_OFF = [
     b"", b"\r", b"\r\n", b"GET /", b"PUT / HTTP/1.1" + LENGTH + b"3", b"a" * 8191,
     changed(b"\r\n\r\n", b"\r\n"), changed(b"\r\n\r\n", b"\n\r\n"), changed(b"\r\n\r\n", b"\r\n\r"),
@@ -171,7 +171,7 @@ def odd():
 
 
 def framed():
-    """What is no message: it is refused, and closes the connection, or it is cut off, and gets no answer."""
+    """Streams that are no message: one is refused and closes the connection, or it is cut off and gets no answer."""
     for number, rows in BADLY_FRAMED.items():
         yield from changes(refused(number), rows)
         part, by = rows[-1]
@@ -196,7 +196,7 @@ def connections():
         (changed(b"\r\nHost", LENGTH + b"9999999999\r\nHost"), [27, 5]), (b"\r\n", [27, 27]),
     ]:
         yield Case(f"{middle!r} between two", REQUEST + middle + REQUEST, all_refused(numbers))
-    # A body may hold what would be a request if it stood alone.
+    # A body may hold bytes that would be a request on their own.
     hidden = changed(b"\r\nHost", LENGTH + b"%d\r\nHost" % len(REQUEST)) + REQUEST
     yield Case("a request in a body", hidden + REQUEST, all_refused([26, 27]))
     stream = thrice + CUT_UPLOAD
@@ -213,7 +213,7 @@ def connections():
 
 
 def bodies():
-    """Requests that tell a length: only a PUT may have a body, and must tell its length."""
+    """Requests with and without a Content-Length: only a PUT may have a body, and it must state its length."""
     for method, number in [("GET", 26), ("HEAD", 26), ("POST", 26), ("PUT", 27)]:
         for value, body in [
             (b"1", b"x"), (b"0000000003", b"abc"), (b"\t4 ", b"\r\n\r\n"), (b"8388608", b"a" * 8388608),
@@ -230,7 +230,7 @@ def bodies():
 
 
 def links():
-    """Links that Python signs, of other methods, paths, parameters and headers."""
+    """Links signed by Python, with other methods, paths, parameters and headers."""
     note = {"names": b"host;x-amz-note", "unsigned": [(b"Accept", b"*/*")]}
     note["fields"] = [(b"Host", b"files.example"), (b"X-Amz-Note", b"two words")]
     path = b"/in/a%20%C3%A9.txt"
@@ -248,7 +248,7 @@ def links():
 
 
 def windows():
-    """The edges of a window: the moment, and the refusal that answers it."""
+    """The edges of a link's time window: moments, and the refusal at each."""
     for at, number in [
         ("20130523T235959Z", 22), (MOMENT, 27), ("20130524T000001Z", 27), ("20130524T123456Z", 27),
         ("20130524T235959Z", 27), ("20130525T000000Z", 23), ("19700101T000000Z", 22), ("99991231T235959Z", 23),
@@ -269,7 +269,7 @@ def windows():
 
 
 def greatest():
-    """A request with every size at its greatest: never is it too much."""
+    """A request with every size at its maximum is not too large; one byte more is."""
     key = ("k" * 64, b"!" * 128)
     letters = string.ascii_lowercase + string.digits
     params = b"".join(f"&{a}{b}".encode() for a, b in itertools.islice(itertools.product(letters, letters), 1000))
@@ -287,7 +287,7 @@ def greatest():
 
 
 def replayed(drop, number, case):
-    """What the program gives for the case."""
+    """Runs the program on the case."""
     stream = drop.path(str(number))
     stream.write_bytes(case.stream)
     return drop.run("replay", case.office, stream, "--at", case.at)
@@ -302,7 +302,7 @@ def test_streams(drop, check, group):
 
 
 def words_of_values(stream):
-    """Words with values of another form, and what is owed for them."""
+    """Command lines with values of several forms, and the expected runs."""
     for office in [
         "memory:", "memory:id", "memory:/secret", "memory:id/", "memory:i.d/secret", "memory:id/two words",
         f"memory:{'k' * 65}/s", f"memory:k/{'s' * 129}",
@@ -317,7 +317,7 @@ def words_of_values(stream):
     ]:
         yield ["replay", "memory:id/a/b", "no such file", "--at", at], fault("malformed value: at")
     yield ["replay", IN_MEMORY, "no such file", "--at", MOMENT], fault("cannot read no such file")
-    # A folder can be opened, and not be read.
+    # A folder can be opened but not read.
     yield ["replay", IN_MEMORY, "/", "--at", MOMENT], fault("a connection failed")
     for words in [
         ["replay", "--at", MOMENT, IN_MEMORY, stream], ["replay", IN_MEMORY, "--at", MOMENT, stream],
@@ -326,7 +326,7 @@ def words_of_values(stream):
         yield words, refused(27)
 
 
-# Words that name no task, and the first line of what is said about them.
+# Invalid command lines, and the first line of the output for each.
 NO_TASK = [
     (["restore"], "error: unrecognized subcommand 'restore'"),
     (["replay", "f", "s", "t", "--to", "m"], "error: unexpected argument '--to' found"),
@@ -380,7 +380,7 @@ def test_words(drop, check):
 
 
 def test_failing_output(drop, check):
-    """Standard output or standard error fails. Where that is standard error, the status alone tells."""
+    """Standard output or standard error fails. If it is standard error, only the exit status reports the fault."""
     stream, other = drop.path("published.http"), drop.path("other.http")
     stream.write_bytes(REQUEST)
     other.write_bytes(b"GET / HTTP/1.1\r\nContent-Length: 0\r\n\r\n")

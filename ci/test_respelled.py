@@ -1,10 +1,9 @@
-"""Runs the proved program `drop` on requests that are spelled anew on their way, as a proxy or another client may do it.
+"""Runs the proved program `drop` on requests that are respelled on their way, as a proxy or another client may do.
 
-A respelled request that has the plain one's signed text is answered byte for byte as the plain one is, at the same moment
-over a copy of the same office file, and leaves the same: the manifest and the tables. One that has another signed text is
-refused. The offices are made by `drop init` and furnished by Python's `sqlite3` (ci/tables.py). What is owed comes from
-Python's `urllib.parse`, `hashlib` and `hmac` (ci/expected.py) and the table of refusals in docs/RULES.md. The requests are
-the same in each run.
+A respelled request with the plain one's signed text gets the plain one's answer, byte for byte, at the same moment on a copy
+of the same office file, and leaves the same manifest and tables. One with another signed text is refused. `drop init` makes
+the offices, and Python's `sqlite3` furnishes them (ci/tables.py). Expected values come from Python's `urllib.parse`, `hashlib`
+and `hmac` (ci/expected.py) and the table of refusals in docs/RULES.md. The requests are the same in each run.
 """
 
 import dataclasses
@@ -21,8 +20,8 @@ from messages import HOST, REQUEST, changed, signed
 from program import answered, difference
 
 SEED = 20130524
-SEVERAL = 4  # of each plain request, so many respellings in several ways at once
-TOGETHER = 250  # so many requests in one run
+SEVERAL = 4  # respellings in several ways at once, per plain request
+TOGETHER = 250  # requests in one run, at most
 
 
 # ---- requests in parts
@@ -30,7 +29,7 @@ TOGETHER = 250  # so many requests in one run
 
 @dataclasses.dataclass(frozen=True)
 class Request:
-    """A request in its parts, as they are spelled. A parameter without `=` has no value."""
+    """A request in parts, as they are spelled. A parameter without `=` has the value None."""
 
     method: bytes
     path: bytes
@@ -76,7 +75,7 @@ def parsed(text):
     return Request(method, path, tuple(params), fields, body, version)
 
 
-# ---- ways to spell a request anew that leave its signed text
+# ---- ways to respell a request that keep its signed text
 
 
 def either_case(source, text):
@@ -84,7 +83,7 @@ def either_case(source, text):
 
 
 def spelled(source, raw, barred, share):
-    """Bytes, each escaped by digits of either case, or by itself where it may: of these this share is escaped too."""
+    """Bytes, each escaped with digits of either case, or unescaped if allowed; this share of the latter is escaped too."""
     plain = set(range(0x21, 0x7F)).difference(b"+#%" + barred)
     pieces = []
     for byte in raw:
@@ -94,12 +93,12 @@ def spelled(source, raw, barred, share):
 
 
 def spelled_path(source, raw, share):
-    """The first byte stands by itself."""
+    """A path whose first byte is not escaped."""
     return raw[:1] + spelled(source, raw[1:], b"?", share)
 
 
 def escaped(source, it):
-    """Path, names and values with other escapes."""
+    """The path, names and values with other escapes."""
     share = source.choice([0.02, 0.2, 0.7, 1])
 
     def each(name, value):
@@ -111,7 +110,7 @@ def escaped(source, it):
 
 
 def other_digits(source, it):
-    """Escapes by digits of another case."""
+    """Escapes with digits of another case."""
     def other(text):
         return re.sub(rb"%..", lambda found: either_case(source, found[0]), text) if text else text
 
@@ -125,7 +124,7 @@ def reordered(source, it):
 
 
 def bared(_, it):
-    """A parameter of no value with or without its `=`."""
+    """Parameters with an empty value, with or without their `=`."""
     other = {None: b"", b"": None}
     return dataclasses.replace(it, params=tuple((name, other.get(value, value)) for name, value in it.params))
 
@@ -189,8 +188,10 @@ def some_ways(source, least):
 
 
 def respellings(source, it):
-    """Each way alone, and several at once: the names of the ways, and the request. Each is another text than the plain
-    request's, and has its signed text."""
+    """The names of the ways, and the respelled request: by each way alone, and by several at once.
+
+    Each differs from the text of the plain request, and has its signed text.
+    """
     for ways in [*([way] for way in WAYS), *(some_ways(source, 2) for _ in range(SEVERAL))]:
         other = respelled(source, it, ways)
         assert other.signed_text() == it.signed_text(), (it, other)
@@ -209,7 +210,7 @@ BOXES = [
     tables.Box("in", max_files=50), tables.Box("swap", quota=300, mode=1), tables.Box("shut", tables.OPENS, tables.M),
     tables.Box("small", quota=3), tables.Box("full", max_files=1), tables.Box("ends", rule_kind=1, rule_text=".txt,.pdf"),
 ]
-# The files that stand; the first has receipt 1.
+# The existing files; the first has receipt 1.
 FILES = [
     ("in", "kept.txt", b"kept"), ("in", "a b/\u00fc+%41.txt", b""), ("in", "large", b"l" * (tables.PIECE + 1)),
     ("swap", "s.txt", b"old"), ("shut", "in time.txt", b"before the hour"), ("full", "only", b"1"), ("small", "s", b"12"),
@@ -218,7 +219,7 @@ NEXT = len(FILES) + 1
 
 
 def furnished(drop):
-    """An office with boxes of all kinds, a clerk's key, a link's and a revoked one, and files."""
+    """An office with boxes of all kinds, a clerk's key, a link's key, a revoked key, and files."""
     file = drop.office("furnished")
     tables.add_key(file, *LINK)
     tables.add_key(file, *REVOKED, revoked=1)
@@ -250,8 +251,7 @@ SIGNED_FIELDS = [
 
 
 def asked(source, method, path, data=None, more=b"", key=None, date=None):
-    """A request for a link that Python signs: of one of the hosts, regions and dates, with some more parameters and signed
-    fields."""
+    """A request for a link signed by Python, for one of the hosts, regions and dates, with more parameters and signed fields."""
     names, fields = source.choice(SIGNED_FIELDS)
     how = {"names": names, "fields": [(b"Host", source.choice(HOSTS)), *fields], "expires": 604800}
     how["unsigned"] = [] if data is None else [(b"Content-Length", b"%d" % len(data))]
@@ -283,7 +283,7 @@ DONE_LINES = [
 
 
 def uploads(source, in_box, key=None):
-    """Uploads that are taken, and change the office."""
+    """Uploads that are accepted, and change the office."""
     for name in NEW_NAMES:
         data = source.choice(DATA)
         request = asked(source, "PUT", place(in_box, name), data, key=key)
@@ -305,7 +305,7 @@ def changing(source):
 
 
 def standing(source):
-    """What is asked of files that stand: their bytes, and to put them once more."""
+    """Requests for existing files: to fetch them, and to put them once more."""
     for number, (in_box, name, data) in enumerate(FILES, 1):
         path = place(in_box, name)
         yield Plain(f"PUT {name} again", asked(source, "PUT", path, data), receipt(number, data))
@@ -313,7 +313,7 @@ def standing(source):
             yield Plain(f"{method} {name}", asked(source, method, path), fetched(number, data, method))
 
 
-# What is refused by the rules of boxes and bodies.
+# Requests that the rules of boxes and bodies refuse.
 REFUSED = [
     (25, "PUT", b"/in/a", None), (26, "GET", b"/in/kept.txt", b"x"), (26, "HEAD", b"/in/kept.txt", b"x"),
     (27, "PUT", b"/none/a", b"x"), (27, "GET", b"/none/a", None), (27, "HEAD", b"/", None),
@@ -334,7 +334,7 @@ def refused(source):
 
 
 def barred(source, line):
-    """Requests of each method that are refused for their key, their signature or their moment."""
+    """Requests of each method that are refused because of their key, their signature or their moment."""
     for number, how in [
         (19, {"key": UNKNOWN}), (20, {"key": REVOKED}), (21, {"key": (ID, b"another")}), (21, {"key": ("k2", SECRET)}),
         (22, {"date": "20130524T000001Z", "key": CLERK}), (23, {"date": "20130517T000000Z", "key": CLERK}),
@@ -356,7 +356,7 @@ def refused_commands(source):
         yield Plain(f"POST {line!r}", commanded(source, line), answer(36))
 
 
-# What is replaced in a request to GET that is else admitted, and by what.
+# The refusal, and what is replaced by what in a GET that is admitted otherwise.
 UNREADABLE = [
     (7, b"GET", b"DELETE"), (10, b"X-Amz-Date=", b"X-Amz-Day="), (10, b"&X-Amz-Expires=604800", b""),
     (10, b"&X-Amz-Expires", b"&twice=1&twice=1&X-Amz-Expires"), (11, b"SHA256", b"SHA512"), (12, b"/s3/", b"/S3/"),
@@ -377,7 +377,7 @@ def unreadable(source):
 
 
 def without_boxes(source):
-    """What an office without boxes is asked, and does not do."""
+    """Requests that an office without boxes refuses."""
     for method, data in [("PUT", b"x"), ("PUT", b""), ("GET", None), ("HEAD", None)]:
         for path in [b"/test.txt", b"/in/a%20b", b"/"]:
             yield Plain(f"{method} {path}, no box", asked(source, method, path, data, key=CLERK), answer(27, method))
@@ -386,7 +386,7 @@ def without_boxes(source):
 
 
 def quiet(source):
-    """What a furnished office is asked and stays as it is for."""
+    """Requests that leave a furnished office unchanged."""
     for _ in range(2):
         for kind in [standing(source), refused(source), barred(source, "key revoke k2"), refused_commands(source)]:
             yield from kind
@@ -397,7 +397,7 @@ def quiet(source):
 
 
 class Left(typing.NamedTuple):
-    """How a run ended, what the manifest of its office says, the digest of the office file, and what is in the tables."""
+    """How a run ended, its office's manifest, the digest of the office file, and the content of the tables."""
 
     status: int
     err: bytes
@@ -412,7 +412,7 @@ def digest(file):
 
 
 def over_copy(drop, office, number, requests):
-    """What requests are answered in one connection over a copy of the office, and what is left."""
+    """The answers to requests in one connection to a copy of the office, and what is left."""
     file = drop.path(f"copy-{number}")
     shutil.copy(office, file)
     ran = drop.replay(file, b"".join(it.text() for it in requests))
@@ -423,7 +423,7 @@ def over_copy(drop, office, number, requests):
 
 
 def one_by_one(out, requests):
-    """The answers to these requests, and what stands behind them as one more if there is any."""
+    """The answers to these requests, and the bytes after them as one more answer, if any."""
     answers, at = [], 0
     for it in requests:
         end = out.find(b"\r\n\r\n", at) + 4
@@ -437,12 +437,12 @@ def one_by_one(out, requests):
 
 
 def unlike(found, owed):
-    """Where one answer is not the other."""
+    """How an answer differs from the expected one, or None."""
     return None if found == owed else f"{found[:400]} and not {owed[:400]}"
 
 
 def unlike_left(found, owed):
-    """What is left otherwise."""
+    """What a run left differently from the expected one, or None."""
     names = [name for name, one, other in zip(Left._fields, found, owed) if one != other]
     return f"another {' and '.join(names)}: {found.status} {found.err}" if names else None
 
@@ -452,7 +452,7 @@ def ended_well(left):
 
 
 def add_plain(drop, check, office, plains):
-    """Plain requests that change nothing, in one run: each is answered as is owed. Tells the answers and what is left."""
+    """Checks plain requests that change nothing, in one run, for the expected answers. Returns the answers and what is left."""
     before = tables.dump(office)
     out, left = over_copy(drop, office, "plain", [it.request for it in plains])
     answers = one_by_one(out, [it.request for it in plains])
@@ -465,7 +465,7 @@ def add_plain(drop, check, office, plains):
 
 
 def add_together(drop, check, office, items, unlike_end):
-    """Items of a name, the answer that is owed and a request, many in one run: each answer, and what each run leaves."""
+    """Checks items of a name, the expected answer and a request, many in one run: each answer, and what each run leaves."""
     runs = [items[at:at + TOGETHER] for at in range(0, len(items), TOGETHER)]
 
     def each(numbered):
@@ -482,7 +482,7 @@ def add_together(drop, check, office, items, unlike_end):
 
 
 def add_quiet(drop, check, office, plains, source):
-    """Requests that change nothing, many in one run."""
+    """Checks requests that change nothing and their respellings, many in one run."""
     answers, left = add_plain(drop, check, office, plains)
     items = []
     for it, owed in zip(plains, answers):
@@ -492,7 +492,7 @@ def add_quiet(drop, check, office, plains, source):
 
 
 def add_changing(drop, check, office, plains, source):
-    """Requests that change the office, each by a run over a copy of its own."""
+    """Checks requests that change the office and their respellings, each in a run on its own copy."""
     before = tables.dump(office)
     items, owners = [], []
     for it in plains:
@@ -519,7 +519,7 @@ def with_path(it, raw):
 
 
 def place_in(source, raw, least=1):
-    """A place behind the first byte."""
+    """A position after the first byte."""
     return source.randint(least, max(len(raw) - 1, least))
 
 
@@ -587,7 +587,7 @@ def param_of_other_name(_, it):
 
 
 def with_value(it, name, part, by):
-    """The parameter's value with its first such part replaced."""
+    """The request with the first occurrence of this part in the parameter's value replaced."""
     def other(value):
         raw = decoded(value or b"")
         assert part in raw, (part, raw)
@@ -609,7 +609,7 @@ def other_region(source, it):
 
 
 def other_key(_, it):
-    """A key that the furnished office has, with another secret."""
+    """The request with another key of the furnished office, which has another secret."""
     key, *_ = it.param(b"X-Amz-Credential").split(b"/")
     return with_value(it, b"X-Amz-Credential", key + b"/", b"k2/" if key == ID.encode() else ID.encode() + b"/")
 
@@ -631,7 +631,7 @@ def other_method(source, it):
 
 
 def with_host(it, change):
-    """The host's field with another value."""
+    """The request with another value of the Host field."""
     fields = tuple((name, b" " + change(value.strip(b" \t")) if name == b"Host" else value) for name, value in it.fields)
     return dataclasses.replace(it, fields=fields)
 
@@ -646,7 +646,7 @@ def space_in_host(_, it):
 
 
 def other_signed_value(source, it):
-    """Another value of a signed field that is not the host."""
+    """The request with other values of the signed fields except the host."""
     names = set(it.signed_names())
     by = source.choice([b" 1", b"=", b"."])
     fields = tuple((name, value + by if name.lower() in names and name != b"Host" else value) for name, value in it.fields)
@@ -654,12 +654,12 @@ def other_signed_value(source, it):
 
 
 def swapped_values(_, it):
-    """A parameter's name where its value stands."""
+    """The request with the name and the value of a parameter swapped."""
     params = [(value or b"x", name) if name == b"a-" else (name, value) for name, value in it.params]
     return with_params(it, *params)
 
 
-# Each of these has another signed text, or is the request as it is where there is nothing to change so.
+# Each of these gives a request another signed text, or leaves it unchanged if it has nothing to change.
 TURNS = [
     other_byte, other_case, byte_more, byte_less, slash_twice, slash_escaped, dots, escaped_twice, param_more, param_less,
     param_of_other_name, other_expiry, other_second, other_region, other_key, other_command, signed_name_more, other_method,
@@ -702,7 +702,7 @@ def unsigned_field(source, it):
     return dataclasses.replace(it, fields=(*it.fields, (source.choice([b"X-Amz-A", b"x-AMZ-acl", b"x-amz-"]), b" 1")))
 
 
-# Of these some have no signed text at all: the rule that each breaks.
+# Each of these breaks the rule of this number; some of the results have no signed text at all.
 BREACHES = [
     (7, unserved_method), (10, param_twice), (10, signing_param_more), (10, signing_param_less), (17, host_with_blanks),
     (17, host_twice), (17, host_left_out), (18, unsigned_field),
@@ -710,8 +710,10 @@ BREACHES = [
 
 
 def turned(source, it):
-    """Requests that have not the signed text of this one: what was done to it, the refusal, and the request, which is then
-    spelled anew in some ways too."""
+    """Requests without the signed text of this one: what was done to it, the refusal, and the request.
+
+    The request is also respelled in some ways.
+    """
     for turn in TURNS:
         other = turn(source, it)
         if other != it:
@@ -722,7 +724,7 @@ def turned(source, it):
 
 
 def add_turned(drop, check, office, plains, source):
-    """None of them is answered as the plain one, and nothing is changed by them."""
+    """Checks that none of them is answered as the plain one is, and that they change nothing."""
     before = tables.dump(office)
     items = [(f"{it.name}; {name}", answer(number, other.method.decode()), other)
              for it in plains if it.owed.startswith(b"HTTP/1.1 200 ") for name, number, other in turned(source, it.request)]
@@ -738,7 +740,7 @@ def add_turned(drop, check, office, plains, source):
 
 
 END = b"d404 HTTP"
-# What is replaced in the published request, and by what; and the refusal that answers it over an office without boxes.
+# The refusal by an office without boxes, and what is replaced by what in the published request.
 ROWS = [
     (27, HOST, HOST.replace(b": ", b":   ")), (27, b"\r\nHost", b"\r\nAccept: x\r\nHost"),
     (8, b"/test.txt?", b"%2Ftest.txt?"), (8, END, b"d404&% HTTP"), (8, END, b"d404&%4 HTTP"),
@@ -747,8 +749,10 @@ ROWS = [
 
 
 def test_published(drop, check):
-    """Rows over the published request, and the request cut behind each of its bytes: a cut one is no request, and what is
-    asked on the next connection is answered."""
+    """Changes of the published request, and the request cut off after each number of bytes.
+
+    A cut-off one is no request, and the request on the next connection is answered.
+    """
     office = drop.office("without-boxes")
     before = tables.dump(office)
     for number, part, by in ROWS:

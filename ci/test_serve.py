@@ -1,7 +1,7 @@
-"""Runs the proved program `drop serve` on an office file and drives it over sockets: with curl, with links that boto3
-makes, and with bytes that stop, break off or make no sense.
+"""Runs the proved program `drop serve` on an office file and drives it over sockets: with curl, with links made by boto3,
+and with bytes that stop, break off or make no sense.
 
-The office is made by `drop init` and its boxes by Python's `sqlite3` (ci/tables.py). What is owed comes from Python's
+`drop init` makes the office, and Python's `sqlite3` its boxes (ci/tables.py). Expected values come from Python's
 `hashlib`, the table of refusals in docs/RULES.md and the fault lines in docs/USE.md.
 """
 
@@ -25,7 +25,7 @@ CANNOT_LISTEN = fault("cannot listen")
 MEBIBYTE = 1 << 20
 
 
-# ---- what comes before a connection
+# ---- before any connection
 
 
 def test_words(drop, check):
@@ -54,7 +54,7 @@ BAD_ADDRESSES = [
 
 
 def test_faults(drop, check):
-    """The first fault is told: of the address, then of the file, then of listening."""
+    """The first fault is reported: of the address, then of the file, then of listening."""
     gone, file = drop.path("gone"), open_office(drop, "faults")
     for address in BAD_ADDRESSES:
         found = drop.run("serve", gone, f"--listen={address}", "--connections", "1")
@@ -106,7 +106,7 @@ def test_curl(drop, check):
 
 
 def test_boto3(drop, check):
-    """Links that boto3 makes are taken, each on a connection of its own."""
+    """Links made by boto3 are accepted, each on its own connection."""
     file = open_office(drop, "boto3")
     names = ["a.txt", "a b/é.txt", "x+y=z&?#%.bin", "..", "//"]
     with Server(drop, file, 3 * len(names)) as server:
@@ -132,7 +132,7 @@ def test_boto3(drop, check):
 
 
 def test_bytes(drop, check):
-    """Streams that are whole, however they come in."""
+    """Whole messages however they are split, messages that are cut off, and one message too many."""
     file = open_office(drop, "bytes")
     server = Server(drop, file, 8)
     put, get = server.message("PUT", "in/a.txt", b"abc"), server.message("GET", "in/a.txt")
@@ -157,7 +157,7 @@ PREFACE = b"PRI * HTTP/2.0\r\n\r\nSM\r\n\r\n"
 
 
 def test_nonsense(drop, check):
-    """Bytes that are no request are refused, and the refusal arrives, though more bytes were sent than were read."""
+    """Bytes that are no request are refused, and the refusal arrives even if more bytes were sent than were read."""
     file = open_office(drop, "nonsense")
     large = b"PUT /in/a HTTP/1.1\r\nContent-Length: 8388609\r\n\r\n" + b"a" * 100000
     rows = [
@@ -177,7 +177,7 @@ def test_nonsense(drop, check):
 
 
 def broken_off(server, *parts):
-    """A connection that is reset behind these bytes."""
+    """Sends these bytes on a new connection, and resets it."""
     with server.connect() as it:
         for part in parts:
             it.sendall(part)
@@ -186,14 +186,14 @@ def broken_off(server, *parts):
 
 
 def silent_for(server, *parts):
-    """A connection that sends these bytes and nothing more: what it is answered, and after how many seconds."""
+    """Sends these bytes and nothing more on a new connection. Returns the answer, and how many seconds it took."""
     begun = time.monotonic()
     found = server.ask(*parts, shut=False)
     return found, time.monotonic() - begun
 
 
 def test_broken(drop, check):
-    """Peers that are silent or go away: each ends its own connection alone, and the last one is served."""
+    """A peer that is silent or goes away ends only its own connection, and the last connection is served."""
     file, data = open_office(drop, "broken"), b"d" * MEBIBYTE
     server = Server(drop, file, 10, patience=1)
     put, get = server.message("PUT", "in/a", data), server.message("GET", "in/a")
@@ -208,7 +208,7 @@ def test_broken(drop, check):
         broken_off(server, put[:-1])
         broken_off(server, get[:-1])
         broken_off(server, get * 100)
-        with server.connect(4096) as it:  # takes no answer, and stays
+        with server.connect(4096) as it:  # reads no answer, and stays connected
             it.settimeout(3)
             with contextlib.suppress(OSError):
                 it.sendall(get * 1000)
@@ -218,7 +218,7 @@ def test_broken(drop, check):
 
 
 def test_patience(drop, check):
-    """Without end, and what holds where none is told: a peer that pauses for longer than others are given is answered."""
+    """With patience 0 (no limit) or the default, a peer is answered even if it pauses longer than the patience of other tests."""
     for patience in [0, None]:
         file = open_office(drop, f"patience-{patience}")
         server = Server(drop, file, 2, patience)
@@ -231,7 +231,7 @@ def test_patience(drop, check):
 
 
 def test_killed(drop, check):
-    """What was acknowledged stands, though the program was killed; and the office file is whole."""
+    """Acknowledged uploads survive a kill of the program, and the office file is intact."""
     file = open_office(drop, "killed")
     files = [(number, b"%d" % number) for number in range(1, 21)]
     server = Server(drop, file, 1000)
@@ -251,7 +251,7 @@ def test_killed(drop, check):
 
 
 def test_closed(drop, check):
-    """At the end the log is in the file, and stock SQLite reads what was served."""
+    """When the program has ended, the log is merged into the file, and stock SQLite reads what was served."""
     file = open_office(drop, "closed")
     server = Server(drop, file, 1)
     put = server.message("PUT", "in/a", b"abc")
@@ -263,11 +263,11 @@ def test_closed(drop, check):
     check("the receipt", difference(tables.rows(file, "SELECT number, box, name, length FROM receipts"), [(1, "in", "a", 3)]))
 
 
-# ---- a manifest beside the office
+# ---- the manifest file of a server
 
 
 def published(drop, file, name, check, uploads=3):
-    """Serves so many uploads with this file for the manifest, which is read behind each answer: the end, and what stood there."""
+    """Serves that many uploads with this manifest file. Returns the end, the expected end, and the file after each answer."""
     server = Server(drop, file, uploads)
     puts = [server.message("PUT", f"in/{name}-{number}", b"x" * number) for number in range(uploads)]
     server.words += ["--manifest", drop.path(name)]
@@ -281,7 +281,7 @@ def published(drop, file, name, check, uploads=3):
 
 
 def test_manifest(drop, check):
-    """The manifest has each receipt once its upload was answered. A file or a link that is there is replaced."""
+    """The manifest has each receipt once its upload was answered. An existing file or link is replaced."""
     file = open_office(drop, "published")
     other = drop.path("other")
     other.write_bytes(b"as it was")
@@ -298,7 +298,7 @@ def test_manifest(drop, check):
 
 
 def test_lost_manifest(drop, check):
-    """Where the manifest can't be written the office goes on. It is told once, and by the status."""
+    """If the manifest can't be written, the office goes on. The fault is reported once, and by the exit status."""
     file = open_office(drop, "lost")
     drop.path("folder.csv").mkdir()
     drop.path("full.csv.part").symlink_to("/dev/full")
@@ -309,7 +309,7 @@ def test_lost_manifest(drop, check):
 
 
 def test_settings(drop, check):
-    """Each connection's socket is set to send at once (TCP_NODELAY) where its answer is sent, by what ci/sockets.c hears."""
+    """Each connection's socket is set to send at once (TCP_NODELAY) when its answer is sent, as ci/sockets.c records."""
     library = kit.library("ci/sockets.c")
     file = open_office(drop, "settings")
     server = Server(drop, file, 2)
@@ -325,12 +325,12 @@ def test_settings(drop, check):
         check("sockets that send at once", difference(sends.read(), "1\n1\n"))
 
 
-# ---- an office that is large for the memory
+# ---- an office that is large for the available memory
 
 
 MEGABYTE = 1_000_000
 TOTAL, BOUND = "proc/meminfo", "sys/fs/cgroup{}/memory.max"
-TAKEN = {"proc/self/status": "Name:\tdrop\nVmPeak:\t  999999 kB\nVmHWM:\t  300000 kB\n"}  # half of it, and no more
+TAKEN = {"proc/self/status": "Name:\tdrop\nVmPeak:\t  999999 kB\nVmHWM:\t  300000 kB\n"}  # exactly half of ENOUGH
 ENOUGH, SHORT = 614_400_000, 614_399_999
 GROUP = {"proc/self/cgroup": "0::/a.slice/b.service\n"}
 
@@ -340,12 +340,12 @@ def total(units, form="MemTotal:       {} kB"):
 
 
 def bounds(**groups):
-    """What bounds the group of the program (`own`), the one above it, and the top."""
+    """The memory bounds of the program's cgroup (`own`), of its parent, of the root, and of another cgroup."""
     names = {"own": "/a.slice/b.service", "above": "/a.slice", "top": "", "other": "/other"}
     return {BOUND.format(names[name]): f"{bound}\n" for name, bound in groups.items()}
 
 
-# What the system tells of memory, and the memory that the program then says that it may have, in bytes; none where it is silent.
+# What the system reports about memory, and the memory that the program then says it may have, in bytes; None if it is silent.
 MEMORY = [
     ("enough in all", TAKEN | total(600_000), None), ("less in all", TAKEN | total(599_999), 599_999 * 1024),
     ("the first of two totals", TAKEN | {TOTAL: "MemTotal: 599999 kB\nMemTotal: 600000 kB\n"}, 599_999 * 1024),
@@ -369,7 +369,7 @@ MEMORY = [
 
 
 def system(drop, library, name, files):
-    """What a program is started with so that these files stand in for all of /proc and /sys, by ci/system.c."""
+    """The process settings with which these files replace all of /proc and /sys, by ci/system.c."""
     folder = drop.path(name)
     folder.mkdir()
     for path, text in files.items():
@@ -379,7 +379,7 @@ def system(drop, library, name, files):
 
 
 def warned(length, needed, memory):
-    """The line that an office of so many bytes is large for so much memory."""
+    """The warning that an office of this many bytes is large for this much memory."""
     length, needed, memory = (it // MEGABYTE for it in [length, needed, memory])
     return (f"drop: the office file of {length} MB takes {needed} MB of memory to open, over half of the {memory} MB that the "
             "server may have: a larger one may not open at the next start. Give the server more memory, or go on in a second "
@@ -387,7 +387,7 @@ def warned(length, needed, memory):
 
 
 def test_memory(drop, check):
-    """An office whose opening took over half of the memory that the program may have is told at the start, and served."""
+    """If opening the office took over half of the memory that the program may have, it warns at the start, and serves it."""
     library, file = kit.library("ci/system.c"), open_office(drop, "memory")
     for at, (name, files, memory) in enumerate(MEMORY):
         server = Server(drop, file, 1)
@@ -406,7 +406,7 @@ def test_memory(drop, check):
 
 
 def test_growth(drop, check):
-    """An office that grows over half of the memory is told so once, while it is served; and at its next start."""
+    """An office that grows beyond half of the memory is reported once while it is served, and at its next start."""
     library, file, memory = kit.library("ci/system.c"), open_office(drop, "grown"), 100 * MEGABYTE
     own = system(drop, library, "system-grown", GROUP | bounds(own=memory))
     server, data = Server(drop, file, 30), b"g" * LIMIT

@@ -1,15 +1,16 @@
-"""Stops the proved program `drop` at each call by which it changes its files, while it takes an upload of the greatest size.
+"""Stops the proved program `drop` at each call that changes its files, while it takes an upload of the greatest size.
 
-`drop serve` takes a new file, and `drop replay` one in the place of another, with ci/calls.c loaded before the C library, which
-tells each write, sync and change of length of the office file and of the journal beside it. Then the two are built as they may
-be left behind each call (by `drop replay`, of the writes to the office file behind each eighth): as they were written; without
-what was not synced, of either or of both; and with a write that broke off after each eighth of its bytes, of the journal's all,
-of the office file's some. Of each the proved `drop manifest` must tell what it would have told before the upload, or what it must
-tell after it; and the latter, once the answer was sent. Of some, among them all in which the office file is not written to yet,
-Python's `sqlite3` must find all rows of the tables so, and `drop replay` must fetch the file so, and another one.
+`drop serve` takes a new file, and `drop replay` one in place of another. ci/calls.c, loaded before the C library, records each
+write, sync and change of length of the office file and of its journal. Then both files are built as a stop after each call may
+leave them (for `drop replay`, after only every eighth write to the office file): as they were written; without what was not
+synced, in either or in both; and with a write cut off after each eighth of its bytes, for all writes to the journal and some to
+the office file. For each such pair, the proved `drop manifest` must print what it would have printed before the upload, or what
+it must print after it; and the latter, once the answer was sent. For some pairs, among them all with the office file not yet
+written to, Python's `sqlite3` must find all rows of the tables in the same state, and `drop replay` must fetch the uploaded file
+and another one in that state.
 
-What is owed comes from the tables before the upload (ci/tables.py, ci/listed.py) and from Python's `hashlib`. With `--size` the
-upload has so many bytes. Each two files that are left are a row.
+Expected values come from the tables before the upload (ci/tables.py, ci/listed.py) and from Python's `hashlib`. `--size` sets
+the number of bytes of the upload. Each pair of files is a row.
 """
 
 import collections
@@ -37,10 +38,10 @@ LARGE, TARGET = ("large", "a"), "large/a"
 OTHER = ("ends", "y.txt")  # a file that the upload does not touch
 SIDES = {"journal": "office-wal", "file": "office"}
 EIGHTHS = range(1, 8)
-TORN = 64  # of so many writes to the office file one breaks off
-STEP = 8  # of so many writes to the office file by `drop replay` one is stopped behind
-LOOKED = 32  # of so many images one is looked at in all its rows
-PARTS = 8  # of the images, for each processor
+TORN = 64  # one in this many writes to the office file is cut off
+STEP = 8  # `drop replay` is stopped after one in this many writes to the office file
+LOOKED = 32  # one in this many images is checked in all its rows
+PARTS = 8  # the images are split into this many parts per processor
 ROOM = 64 << 20  # bytes, for the files of one process
 PROCESSORS = len(os.sched_getaffinity(0))
 
@@ -50,7 +51,7 @@ PROCESSORS = len(os.sched_getaffinity(0))
 
 @dataclasses.dataclass(frozen=True)
 class Call:
-    """A call that was taken: `write`, `cut` to the length `at`, `sync`, or `send` of bytes that have no place."""
+    """A recorded call: `write`, `cut` to the length `at`, `sync`, or `send` of bytes that have no offset."""
 
     kind: str
     at: int
@@ -58,7 +59,7 @@ class Call:
     name: str
 
     def change(self, content, part=None):
-        """Makes the change, or so many bytes of the write."""
+        """Makes the change, or only this many bytes of the write."""
         data = self.data[:part]
         end = self.at + len(data)
         content.extend(bytes(max(0, end - len(content))))
@@ -69,7 +70,7 @@ class Call:
 
 
 def calls_in(record):
-    """What ci/calls.c told."""
+    """The calls that ci/calls.c recorded."""
     with open(record, "rb") as it:
         while line := it.readline():
             kind, at, length, name = line.removesuffix(b"\n").split(b" ", 3)
@@ -78,14 +79,14 @@ def calls_in(record):
 
 @dataclasses.dataclass(frozen=True, order=True)
 class Image:
-    """The two files as a stop may leave them: of each how many changes were made, and how many bytes of the next."""
+    """The two files as a stop may leave them: for each, how many changes were made, and how many bytes of the next one."""
 
     journal: tuple
     file: tuple
 
 
 class Content:
-    """The bytes of one of the two files, which goes from change to change."""
+    """The bytes of one of the two files after any number of its changes."""
 
     def __init__(self, begun, changes):
         self.begun, self.changes = begun, changes
@@ -105,7 +106,7 @@ class Content:
 
 
 class Stops:
-    """What a program that makes these calls leaves, wherever it stops; of so many writes to the office file, behind one."""
+    """What a program that makes these calls leaves wherever it stops; after only one in `step` writes to the office file."""
 
     def __init__(self, calls, step):
         self.step = step
@@ -113,8 +114,8 @@ class Stops:
         self.synced = dict.fromkeys(SIDES, 0)
         self.is_told = False
         self.calls = 0  # on the two files
-        self.images = {}  # whether each was left behind the answer
-        self.written, self.kept = [], []  # those of all that was written, and those of what was synced, in order
+        self.images = {}  # for each, whether it was left after the answer
+        self.written, self.kept = [], []  # images with all that was written, and with only what was synced, in order
         self.stop()
         for call in calls:
             self.go_on(call)
@@ -143,14 +144,14 @@ class Stops:
         return image
 
     def stop(self):
-        """Each file is as it was written, or without what was not synced."""
+        """Leaves each file as it was written, or without what was not synced."""
         for journal, file in itertools.product([self.made, self.synced], repeat=2):
             image = self.leave(journal=(journal["journal"], 0), file=(file["file"], 0))
             if journal is file:
                 (self.written if file is self.made else self.kept).append(image)
 
     def tear(self, side, call):
-        """The write breaks off."""
+        """Leaves the files with this write cut off."""
         if call.kind == "cut" or side == "file" and self.made[side] % TORN:
             return
         for eighth in EIGHTHS:
@@ -159,12 +160,12 @@ class Stops:
             self.leave(**sides)
 
 
-# ---- what is owed
+# ---- expected values
 
 
 @dataclasses.dataclass(frozen=True)
 class Stand:
-    """What is owed of an office: its manifest, the rows of its tables, and what a fetch of the two files is answered."""
+    """The expected state of an office: its manifest, the rows of its tables, and the answers to fetches of the two files."""
 
     manifest: kit.Run
     rows: dict
@@ -181,7 +182,7 @@ FETCHES = [get(f"/{'/'.join(it)}".encode()) for it in [LARGE, OTHER]]
 
 
 def stand_of(file):
-    """What is owed of the office in this file, which Python alone has written."""
+    """The expected state of the office in this file, a copy that only Python changes."""
     rows = rows_of(file)
     numbers = {row[:2]: row[2] for row in rows["files"]}
     pieces = collections.defaultdict(bytes)
@@ -192,7 +193,7 @@ def stand_of(file):
 
 
 def put_anew(file, data, moment):
-    """What the upload must write: in the place of the file that stands there, if there is one."""
+    """Writes what the upload must write: in place of the existing file, if there is one."""
     with tables.opened(file) as db:
         old = db.execute("SELECT COALESCE(SUM(length(bytes)), 0) FROM pieces WHERE (box, name) = (?, ?)", LARGE).fetchone()[0]
         db.execute("DELETE FROM pieces WHERE (box, name) = (?, ?)", LARGE)
@@ -205,9 +206,9 @@ def put_anew(file, data, moment):
 
 
 class Upload:
-    """An upload that the program took: the calls that it made, and what is owed before and after.
+    """An upload that the program took: the calls that it made, and the expected states before and after.
 
-    `take` has the program take it, and gives what was answered. The receipt tells the moment, if that is known, or else the time.
+    `take` makes the program take it, and returns the answer. The receipt has the given moment, or else the current time.
     """
 
     def __init__(self, name, file, data, take, moment=None, step=1):
@@ -236,10 +237,10 @@ class Upload:
     def number(self):
         return self.after.rows["receipts"][-1][0]
 
-    # -- what was taken
+    # -- what was recorded
 
     def faults(self):
-        """Of each thing that must be so, what is wrong."""
+        """What is wrong with each of the required properties."""
         yield "the answer", difference(self.said, receipt(self.number(), self.data))
         yield "the moment", None if self.moment in self.moments else f"{self.moment} is not in {self.moments}"
         for side in SIDES:
@@ -252,7 +253,7 @@ class Upload:
         yield "the answer behind the journal, and before the file", self.order()
 
     def order(self):
-        """Why an answer would be sent before the journal was synced."""
+        """Why no answer was sent, or one before the journal was synced; else None."""
         at = next((at for at, it in enumerate(self.calls) if it.kind == "send" and b"\nreceipt " in it.data), None)
         if at is None:
             return "no answer was told"
@@ -261,7 +262,7 @@ class Upload:
 
 
 def recorded(file, take, data):
-    """What was answered where the program takes the upload, and its calls."""
+    """The program's answer to the upload, and its calls."""
     record = file.with_name("calls")
     with open(record, "wb") as told:
         env = {"LD_PRELOAD": kit.library("ci/calls.c"), "CALLS_TOLD_TO": str(told.fileno()), "PATH": os.defpath}
@@ -300,7 +301,7 @@ def new_office(folder, name):
 
 
 def uploads(folder, size):
-    """A new file, to a server; and one in the place of another."""
+    """A new file, sent to a server; and one in place of another, by replay."""
     new, old, other = (random.Random(it).randbytes(size) for it in ["new", "old", "other"])
     yield Upload("a new file, by serve", new_office(folder, "new"), new, by_serve)
     file = new_office(folder, "other")
@@ -312,7 +313,7 @@ def uploads(folder, size):
 
 
 class Looker:
-    """Builds images of an upload's files in a folder of its own, and looks at them."""
+    """Builds images of an upload's files in its own folder, and checks them."""
 
     def __init__(self, upload, folder):
         self.upload = upload
@@ -325,7 +326,7 @@ class Looker:
             self.file.with_name(name).write_bytes(self.contents[side].at(*getattr(image, side)))
 
     def fault(self, image, is_looked):
-        """Whether the image stands as after the upload, and what is wrong with it."""
+        """Whether the image has the state after the upload, and what is wrong with it."""
         self.build(image)
         found = self.drop.run("manifest", self.file)
         stands = [self.upload.before, self.upload.after]
@@ -349,7 +350,7 @@ class Looker:
 
 
 def faults_of(work):
-    """What is wrong with these images of an upload, of which some are looked at."""
+    """What is wrong with these images of an upload; some are checked in all their rows."""
     number, images = work
     with tempfile.TemporaryDirectory(prefix="drop-stops-", dir=memory()) as folder:
         looker = Looker(UPLOADS[number], folder)
@@ -357,7 +358,7 @@ def faults_of(work):
 
 
 def looked_at(images):
-    """The images in order, with whether each is looked at in all its rows."""
+    """The images in order, with whether each is checked in all its rows."""
     return [(it, number % LOOKED == 0 or it.file == (0, 0)) for number, it in enumerate(sorted(images))]
 
 
@@ -367,7 +368,7 @@ def parts_of(images):
 
 
 def is_in_order(images, is_after):
-    """Why an office that has the upload would come to be without it again."""
+    """Why these images don't change just once from the state before the upload to the state after it, or None."""
     line = [is_after[it] for it in images]
     return None if line == sorted(line) and {False, True} == set(line) else "it comes and goes"
 
@@ -377,7 +378,7 @@ UPLOADS = []
 
 @pytest.fixture(scope="module", autouse=True)
 def taken(pytestconfig):
-    """The uploads that the program took, in a folder of their own: the processes that look at images know them too."""
+    """The uploads that the program took, in their own folder; the processes that check images have them too."""
     with tempfile.TemporaryDirectory(prefix="drop-stops-", dir=memory()) as folder:
         UPLOADS.extend(uploads(pathlib.Path(folder), pytestconfig.getoption("size")))
         yield
@@ -405,6 +406,6 @@ def test_stops(check):
 
 
 def memory():
-    """Where a folder lies in memory, if it has room: all that is built is synced."""
+    """A folder in memory, if it has room, because all that is built is synced; else None."""
     shared = pathlib.Path("/dev/shm")
     return shared if shared.is_dir() and shutil.disk_usage(shared).free >= (PROCESSORS + 2) * ROOM else None

@@ -2,7 +2,7 @@
 
     python3 deploy/manual.py PROGRAM VERSION SECONDS
 
-SECONDS since 1970 give the page its date.
+SECONDS since 1970 are the date of the page.
 """
 
 import re
@@ -18,7 +18,7 @@ def help_of(program, *command):
 
 
 def escaped(text):
-    """The text as roff shows it as it stands."""
+    """The text, escaped so that roff shows it unchanged."""
     text = text.replace("\\", "\\e").replace("-", "\\-")
     return re.sub(r"^(?=[.'])", r"\\&", text, flags=re.MULTILINE)
 

@@ -1,6 +1,6 @@
 #!/usr/bin/env bash
-# Makes drop_VERSION_amd64.deb from the proved program crates/drop/out/drop, in the current folder or in the one that is given.
-# The same commit and the same program give the same bytes.
+# Makes drop_VERSION_amd64.deb from the proved program crates/drop/out/drop, in the current folder or in the given one.
+# The same commit and the same program produce the same bytes.
 #
 #     bash deploy/package.sh [FOLDER]
 #
@@ -11,7 +11,7 @@ cd "$(dirname "$0")/.."
 program=${DROP:-crates/drop/out/drop}
 test -x "$program" || { echo "there is no $program: README.md says how it is built" >&2; exit 1; }
 version=${PACKAGE_VERSION:-$("$program" --version | cut -d' ' -f2)}
-# All times in the package are that of the commit, or of the source's release.
+# All times in the package are that of the commit, or SOURCE_DATE_EPOCH if it is set.
 SOURCE_DATE_EPOCH=${SOURCE_DATE_EPOCH:-$(git log -1 --format=%ct)}
 export SOURCE_DATE_EPOCH
 work=$(mktemp -d)
@@ -37,7 +37,7 @@ done
 sed "s/VERSION/$version/; s/DATE/$(date -R -u -d "@$SOURCE_DATE_EPOCH")/" deploy/debian/changelog \
     | gzip -9n >"$tree/usr/share/doc/drop/changelog.gz"
 
-# What dpkg reads. The least libc is the newest whose symbols the program asks for.
+# What dpkg reads. The required libc is the newest version whose symbols the program uses.
 libc=$(objdump -T "$program" | grep -o 'GLIBC_[0-9.]*' | sed 's/GLIBC_//' | sort -uV | tail -1)
 install -d "$tree/DEBIAN"
 sed "s/VERSION/$version/; s/LIBC/$libc/; s/SIZE/$(du -sk --apparent-size "$tree" | cut -f1)/" deploy/debian/control \

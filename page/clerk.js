@@ -1,8 +1,8 @@
 "use strict";
 
-// The page behind clerk.html: with a key of the office it signs links in the browser, and commands of the desk, which it sends
-// to the origin that it came from. The key's secret stays in this page's memory, as a key of the browser's own, until the page
-// is left. What stands in `state` is drawn anew by `draw` whenever it changes.
+// The script of clerk.html. With a key of the office, it signs links in the browser, and also desk commands, which it sends to
+// its own origin. The key's secret stays in this page's memory, as a key object of the browser, until the user leaves the page.
+// `draw` redraws the page from `state` whenever that changes.
 
 (() => {
   const {
@@ -21,7 +21,7 @@
 
   // ---- fields
 
-  /** The fields of each form that is sent: each with what it reads, from what stands in it and from the values before it. */
+  /** For each form, its fields and their parsers. A parser gets the field's text and the values of the fields before it. */
   const fields = {
     use_key: () => ({ id: Desk.id, clock: Desk.clock, host: Desk.host, region: Desk.region }),
     links: () => ({ box: Desk.box, names: Desk.names, start: Desk.moment(state.east), end: endOf("start", true) }),
@@ -40,7 +40,7 @@
     add_box_box: () => text("box_hint"), add_box_rule: () => text("rule_hint"), use_key_host: () => text("host_hint"),
   };
 
-  /** A moment that lies behind that of another field; and, of a link, not more than a week. */
+  /** Parses a moment that must be after the moment of another field; for a link, at most a week after it. */
   function endOf(start, isLink) {
     return (raw, values) => {
       const end = Desk.moment(state.east)(raw);
@@ -69,7 +69,7 @@
     return document.querySelector(`input[name="${name}"]:checked`).value;
   }
 
-  /** The values of a form, or null where a field is bad: what is wrong is told beside it, and the first one has the focus. */
+  /** Returns a form's values, or null if a field is bad. Each bad field shows its fault, and the first one gets the focus. */
   function read(form) {
     const values = {};
     const faults = {};
@@ -81,7 +81,7 @@
     return toldFaults(faults) ? null : values;
   }
 
-  /** Tells the faults of a form's fields, and whether there are any. */
+  /** Shows the faults of a form's fields, and returns whether there are any. */
   function toldFaults(faults) {
     state.faults = faults;
     drawFields();
@@ -111,7 +111,7 @@
     return text("by_office", { moment: words, clock: Desk.clockText(state.east) });
   }
 
-  /** A moment by both clocks. */
+  /** A moment on both clocks. */
   function byBoth(moment) {
     return `${byOffice(moment)}\n${text("by_device", { moment: withUtc(moment) })}`;
   }
@@ -130,7 +130,7 @@
     return text("clock_hint", { there: told(there, { ...short, timeZone: "UTC" }), here: told(now, short) });
   }
 
-  /** The hours of the first day, by this device's clock. */
+  /** The hours of the first day, on this device's clock. */
   function hoursHint(raw) {
     const [from, to] = [$("add_box_from").value, raw].map(Desk.hour);
     const opens = Desk.moment(state.east)($("add_box_opens").value);
@@ -142,7 +142,7 @@
 
   // ---- the key
 
-  /** The secret that was typed, or that is in the file. */
+  /** The secret from the text field or from the file. */
   async function givenSecret() {
     const [file] = $("use_key_file").files;
     const typed = $("use_key_secret").value;
@@ -168,8 +168,8 @@
   }
 
   /**
-   * What the answer to an empty command says of the key. The office never does one: a clerk's is refused for it with 35, and a
-   * key of role `link` with 24.
+   * What the answer to an empty command says about the key. The office never executes an empty command: it refuses a clerk's key
+   * with 35, and a key of role `link` with 24.
    */
   function keyed(result) {
     const role = result.kind === "refused" && { 35: "clerk", 24: "link" }[result.number];
@@ -207,7 +207,7 @@
     ask({ form, values: order, line: Desk.command[form](order) });
   }
 
-  /** Asks the office one command, signed at this moment; `times` counts how often it was asked. */
+  /** Sends the office one command, signed at this moment; `times` counts how often it was sent. */
   async function ask(order) {
     const asked = { order };
     order.times = (order.times || 0) + 1;
@@ -267,7 +267,7 @@
     finish({ kind: "links", rows, ...order });
   }
 
-  /** One link, as `drop link` prints it, and the address of the page for it, where a browser can send it. */
+  /** One link, as `drop link` prints it, and the address of its page, if a browser can send the link. */
   async function linkTo(name, { method, box, start, expires }) {
     const { host, region } = state;
     const target = await Sign.target(state.signer, { method, path: `/${box}/${name}`, host, region, start, expires });
@@ -275,7 +275,7 @@
     return { name, link, page: unsendable(target) ? "" : `${location.protocol}//${host}/${method.toLowerCase()}.html#${link}` };
   }
 
-  /** Shows how many links are made, and lets the browser draw that. */
+  /** Shows how many links are finished, and lets the browser draw that. */
   async function moved(making, done) {
     making.done = done;
     drawProgress();
@@ -311,7 +311,7 @@
     return node("p", "", { id: "copied", class: "small" });
   }
 
-  /** The secret of a key that was added, or perhaps was. */
+  /** The secret of a key that was added, or may have been. */
   function newSecret({ order }) {
     if (order.form !== "add_key") return [];
     const { id, secret } = order.values;
@@ -323,7 +323,7 @@
     ];
   }
 
-  /** What was done, with its moments by both clocks. */
+  /** What was done, with its moments on both clocks. */
   function showDone(result) {
     const { form, values } = result.order;
     const { opens, closes = values.moment } = values;
@@ -337,7 +337,7 @@
     return ["good", text("key_right_title"), [node("p", text("key_right"), { id: "lead" })]];
   }
 
-  /** What happened and what to do, for who has this number from this form. */
+  /** What happened and what to do, for this refusal number and this form. */
   function showRefused(result) {
     const { number, line, order } = result;
     const key = [`desk_${number}_${order.form}`, `desk_${number}`].find(has);
@@ -360,7 +360,7 @@
     ]];
   }
 
-  /** A warning that this command was perhaps done; to ask for the key does nothing. */
+  /** A warning that this command may have been executed; none for checking the key, which changes nothing. */
   function unsure({ form }) {
     if (form === "use_key") return [];
     const words = [text("unsure"), ...(form === "drop_file" ? [text("unsure_drop")] : [])];
@@ -383,7 +383,7 @@
     return node("li", [node("strong", name), ...note, shown, copies]);
   }
 
-  /** What one may not have meant of names, and that not all are shown. */
+  /** Notes on names that may be mistakes, and a note if not all links are shown. */
   function linkNotes(rows) {
     const names = rows.map(({ name }) => name);
     const keys = [
@@ -462,9 +462,9 @@
     for (const each of document.querySelectorAll("[type=submit]")) each.setAttribute("aria-disabled", String(Boolean(state.busy)));
   }
 
-  // ---- what is there when the page is loaded
+  // ---- setup when the page is loaded
 
-  /** Gives each field the places where its hint and its fault stand. */
+  /** Adds to each field the elements for its hint and its fault. */
   function furnish() {
     for (let at = 0; at < 7; at += 1) {
       const box = node("input", [], { type: "checkbox", id: `add_box_day_${at}`, checked: "" });
@@ -480,7 +480,7 @@
     }
   }
 
-  /** What the address presets behind its #: never a secret. */
+  /** Fills in the values that the address has after its #: never a secret. */
   function preset() {
     const given = new URLSearchParams(location.hash.slice(1));
     const east = Number(given.get("east") || 0);

@@ -1,7 +1,7 @@
 "use strict";
 
-// What the clerk's page says beside texts.js. A refusal that a clerk gets is told by its number, where it hangs on the form
-// with the form's name behind it, and with `_do` for what to do.
+// Texts of the clerk's page, in addition to texts.js. The key of a refusal that a clerk gets has its number. If the text depends
+// on the form, the form's name follows. `_do` at the end marks the text that says what to do.
 
 const CLERK_TEXTS = {
   en: {

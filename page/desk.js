@@ -1,7 +1,7 @@
 "use strict";
 
-// The forms of what a clerk types (docs/RULES.md, 2.2 and 5.4), each as a function from what stands in a field to its value, or
-// to `bad`, with the name of the text that says why not; and the commands of the desk, which are made of these values.
+// Parsers for what a clerk types (docs/RULES.md, 2.2 and 5.4). Each is a function from a field's text to its value, or to `bad`
+// with the name of the text that says why. Also the desk commands, which are built from these values.
 
 const Desk = (() => {
   const MINUTE = 60000;
@@ -30,13 +30,13 @@ const Desk = (() => {
   const box = like(/^[a-z0-9.-]{1,63}$/, "bad_box");
   const region = like(/^[a-z0-9-]{1,32}$/, "bad_region");
 
-  /** The secret in a file of one line, whose end may be missing. */
+  /** The secret in a file of one line; the line end may be missing. */
   function secretLine(content) {
     const found = secret(content.replace(/\r?\n$/, ""));
     return isBad(found) ? bad("bad_file") : found;
   }
 
-  /** A host as browsers send it: in small letters, and without the port that goes with the scheme. */
+  /** A host as browsers send it: in lower case, and without the scheme's default port. */
   function host(raw) {
     try {
       const { host: sent } = new URL(`${location.protocol}//${raw}/`);
@@ -52,7 +52,7 @@ const Desk = (() => {
     return raw && size(raw) <= 1024 ? raw : bad("bad_name");
   }
 
-  /** Names, one in a line; empty lines count for nothing. */
+  /** Names, one per line; empty lines are ignored. */
   function names(raw) {
     const lines = raw.split(/\r?\n/);
     const at = lines.findIndex((line) => line && isBad(name(line)));
@@ -73,7 +73,7 @@ const Desk = (() => {
     return `${east < 0 ? "-" : "+"}${String(hours).padStart(2, "0")}:${String(minutes).padStart(2, "0")}`;
   }
 
-  /** The moment that a field for date and time means, by a clock so many minutes east of UTC. */
+  /** Parses a field for date and time, on a clock that is `east` minutes east of UTC. */
   function moment(east) {
     return (raw) => {
       const found = /^(\d{4})-(\d\d)-(\d\d)T(\d\d):(\d\d)(?::(\d\d))?$/.exec(raw);
@@ -85,12 +85,12 @@ const Desk = (() => {
     };
   }
 
-  /** What stands in such a field for a moment, by that clock. */
+  /** The text of such a field for a moment, on that clock. */
   function fieldOf(date, east) {
     return new Date(date.getTime() + MINUTE * east).toISOString().slice(0, 16);
   }
 
-  /** A time of day as minutes: 00:00 to 24:00. */
+  /** A time of day in minutes: 00:00 to 24:00. */
   function hour(raw) {
     const found = /^(\d\d?):?([0-5]\d)$/.exec(raw.trim());
     const minutes = found ? 60 * Number(found[1]) + Number(found[2]) : Infinity;
@@ -101,7 +101,7 @@ const Desk = (() => {
     return (raw) => (/^\d{1,9}$/.test(raw.trim()) && Number(raw) <= most ? Number(raw) : bad(key));
   }
 
-  /** A rule for names: any, up to 8 endings, or a beginning. */
+  /** A rule for names: any name, up to 8 endings, or one beginning. */
   function rule(kind) {
     return (raw) => {
       if (kind === "any") return "any";
@@ -125,7 +125,7 @@ const Desk = (() => {
     drop_file: ({ box: where, name: file }) => `file drop ${where} ${file}`,
   };
 
-  /** Rows as CSV, as `drop links` writes them: a field stands in quotes where it has to. */
+  /** Rows as CSV, as `drop links` writes them: fields are quoted only if necessary. */
   function table(rows) {
     const field = (content) => (/[",]/.test(content) ? `"${content.replaceAll('"', '""')}"` : content);
     return rows.map((row) => `${row.map(field).join(",")}\n`).join("");

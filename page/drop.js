@@ -1,7 +1,7 @@
 "use strict";
 
-// The page behind put.html#LINK and get.html#LINK: it sends one file by a presigned link, or fetches one, from the origin
-// that it came from, and tells the answer. What stands in `state` is drawn anew by `draw` whenever it changes.
+// The script of put.html#LINK and get.html#LINK. With a presigned link, it sends one file to its own origin, or fetches one
+// from there, and shows the answer. `draw` redraws the page from `state` whenever that changes.
 
 (() => {
   const PUT = document.documentElement.dataset.page === "put";
@@ -16,14 +16,14 @@
 
   // ---- texts
 
-  /** A text that has a form of its own for fetching. */
+  /** A text that has a separate version for fetching. */
   function either(key, values) {
     return text(PUT ? key : `${key}_get`, values);
   }
 
   // ---- the link
 
-  /** The path of a target as box and name, decoded; null where it is not decoded to UTF-8. */
+  /** The path of a target as box and name, decoded; null if it does not decode to UTF-8. */
   function place(target) {
     try {
       const [, box, name] = /^\/([^/]*)\/?(.*)$/s.exec(decodeURIComponent(target.split("?")[0]));
@@ -33,7 +33,7 @@
     }
   }
 
-  /** When the link holds, as it says itself. */
+  /** The link's period of validity, as the link states it. */
   function term(target) {
     const said = new URLSearchParams(target.split("?")[1] || "");
     const date = /^(\d{4})(\d\d)(\d\d)T(\d\d)(\d\d)(\d\d)Z$/.exec(said.get("X-Amz-Date") || "");
@@ -45,8 +45,8 @@
   }
 
   /**
-   * The link behind the #, a whole URL or its path and query; or the address of such a page, as the office hands it out. It
-   * is of use only where the browser sends path and query as they stand.
+   * The link after the #: a full URL, or its path and query, or the address of such a page, as the office hands it out. It is
+   * usable only if the browser sends path and query unchanged.
    */
   function readLink() {
     const [, page, raw] = /^(?:https?:\/\/([^/?#]+)\/(?:put|get)\.html#)?(.*)$/is.exec(location.hash.slice(1));
@@ -78,7 +78,7 @@
     return Array.from(digest, (byte) => byte.toString(16).padStart(2, "0")).join("");
   }
 
-  /** Takes the first of these files; the others are told. */
+  /** Takes the first of these files, and reports that there are several. */
   async function takeFile(files) {
     if (!files.length || state.busy || state.link.fault) return;
     forget();
@@ -105,9 +105,9 @@
     if (file.wanted) go();
   }
 
-  // ---- asking the office
+  // ---- requests to the office
 
-  /** Takes the last result away. */
+  /** Clears the last result, and aborts a running request. */
   function forget() {
     const old = request;
     request = null;
@@ -255,7 +255,7 @@
     return node("p", checkWords(result), { id: "checked", class: tone(result) });
   }
 
-  /** The part of the name behind its last slash, for a file that is saved. */
+  /** The part of the name after its last slash, for a file that is saved. */
   function fileName() {
     const name = state.link.place ? state.link.place.name.split("/").pop() : "";
     return name || "file";
@@ -371,7 +371,7 @@
     $("go").setAttribute("aria-disabled", String(Boolean(state.busy)));
   }
 
-  // ---- what the user does
+  // ---- user actions
 
   function drops() {
     const zone = $("zone");
@@ -398,7 +398,7 @@
     $("pasted").value = "";
   });
   if (PUT) {
-    // emptied first, so that a file that is chosen once more is read once more
+    // cleared first, so that choosing the same file again reads it again
     $("file").addEventListener("click", () => { $("file").value = ""; });
     $("file").addEventListener("change", () => takeFile($("file").files));
     drops();

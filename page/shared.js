@@ -1,6 +1,6 @@
 "use strict";
 
-// What the pages have in common: the language, texts and nodes, what a screen reader is told, and what an answer means.
+// Code that the pages share: the language, texts and nodes, announcements for screen readers, and the meaning of answers.
 
 const Page = (() => {
   let language = /^de\b/i.test(navigator.language) ? "de" : "en";
@@ -25,7 +25,7 @@ const Page = (() => {
     return moment.toLocaleString(language, how);
   }
 
-  /** A moment by this device's clock, with UTC beside it. */
+  /** A moment on this device's clock, followed by UTC. */
   function withUtc(moment) {
     return `${told(moment)} (${moment.toISOString().slice(0, 19).replace("T", " ")} UTC)`;
   }
@@ -47,7 +47,7 @@ const Page = (() => {
     return node("div", buttons, { class: "acts" });
   }
 
-  /** Fills a list of facts: each has the key of its name, its value, and the class of this. */
+  /** Fills a list of facts: each has the text key of its name, its value, and the value's class. */
   function facts(list, rows) {
     list.replaceChildren(...rows.flatMap(([key, value, kind]) => [
       node("dt", text(key)), node("dd", value, { "data-fact": key, ...(kind && { class: kind }) }),
@@ -74,8 +74,8 @@ const Page = (() => {
   // ---- links and answers
 
   /**
-   * Why a browser can't send this path and query as they stand, or null: it takes parts out of a path that are `.` or `..`,
-   * and respells some characters.
+   * Why a browser can't send this path and query unchanged, or null if it can. A browser removes path segments that are `.` or
+   * `..`, and encodes some characters differently.
    */
   function unsendable(target) {
     const sent = new URL(location.origin + target);
@@ -83,18 +83,18 @@ const Page = (() => {
     return /\/(\.|%2e){1,2}(\/|$)/i.test(target.split("?")[0]) ? "dots" : "respelled";
   }
 
-  /** A refusal in the office's words, or null: the first line of an answer tells, and no other word is believed. */
+  /** A refusal by the office, or null. The answer must consist of exactly one line of the office's form. */
   function refused(status, said) {
     const found = status >= 400 && /^[A-Za-z]+ ([1-9]\d?) [ -~]+\n$/.exec(said);
     return found ? { kind: "refused", number: Number(found[1]), line: said.trim() } : null;
   }
 
-  /** What an answer is that is none of the office's. */
+  /** The kind of an answer that does not come from the office. */
   function foreign(status) {
     return { kind: [502, 503, 504].includes(status) ? "away" : "strange", status };
   }
 
-  /** What happened, by the number of a refusal, and the name of its remedy. */
+  /** For the number of a refusal: what happened, and the name of the remedy. */
   function refusal(number) {
     return TEXTS[language].refusals[number] || [text("unknown"), "page"];
   }
@@ -113,7 +113,7 @@ const Page = (() => {
 
   // ---- drawing
 
-  /** Draws a result, or none: `show` gives its tone, its title, and what stands below. */
+  /** Draws a result, or none: `show` returns its tone, its title, and its body. */
   function drawResult(result, show) {
     $("result").hidden = !result;
     if (!result) {
@@ -127,13 +127,13 @@ const Page = (() => {
     $("result_body").replaceChildren(...body);
   }
 
-  /** Says the result that was drawn, and goes there. */
+  /** Announces the result that was drawn, and moves the focus to it. */
   function goToResult() {
     announce(`${$("result_title").textContent}. ${$("result_body").firstElementChild.textContent}`);
     $("result_title").focus();
   }
 
-  /** Draws all that changes with the language alone. */
+  /** Draws everything that depends only on the language. */
   function translate(title) {
     document.documentElement.lang = language;
     document.title = text(title);
@@ -142,7 +142,7 @@ const Page = (() => {
     for (const each of ["de", "en"]) $(each).setAttribute("aria-pressed", String(each === language));
   }
 
-  /** Has both buttons speak their language: all is drawn anew then. */
+  /** Makes each language button switch the language and redraw everything. */
   function speaks(draw) {
     for (const each of ["de", "en"]) {
       $(each).addEventListener("click", () => {

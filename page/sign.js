@@ -1,7 +1,7 @@
 "use strict";
 
-// Links, written as `drop link` writes them (docs/RULES.md, 1): presigned for S3 with Signature Version 4, by the browser's own
-// cryptography, which pages have over https and on their own machine alone.
+// Links as `drop link` writes them (docs/RULES.md, 1): presigned for S3 with Signature Version 4, using the browser's own
+// cryptography, which is available to pages only over https and on the local machine.
 
 const Sign = (() => {
   const HMAC = { name: "HMAC", hash: "SHA-256" };
@@ -15,17 +15,17 @@ const Sign = (() => {
     return Array.from(new Uint8Array(found), (byte) => byte.toString(16).padStart(2, "0")).join("");
   }
 
-  /** UriEncode: letters, digits and `-._~` stay, and every other byte is `%` and two capital digits. */
+  /** UriEncode: letters, digits and `-._~` stay; every other byte becomes `%` and two upper-case hex digits. */
   function encoded(text) {
     return encodeURIComponent(text).replace(/[!'()*]/g, (sign) => `%${sign.charCodeAt(0).toString(16).toUpperCase()}`);
   }
 
-  /** A moment as links have it: 20130524T000000Z. */
+  /** A moment in the format of links: 20130524T000000Z. */
   function moment(date) {
     return `${date.toISOString().slice(0, 19).replace(/[-:]/g, "")}Z`;
   }
 
-  /** A key of the browser's, which signs and gives its bytes to nobody. */
+  /** A key object of the browser, which can sign and whose bytes cannot be exported. */
   function keyOf(material) {
     return crypto.subtle.importKey("raw", material, HMAC, false, ["sign"]);
   }
@@ -34,12 +34,12 @@ const Sign = (() => {
     return crypto.subtle.sign("HMAC", key, bytes(text));
   }
 
-  /** Who signs: the id of a key, its secret in the browser's keeping, and the signing keys that were made of it, by scope. */
+  /** A signer: the id of a key, its secret as a key object of the browser, and the signing keys derived from it, by scope. */
   async function signerOf(id, secret) {
     return { id, root: await keyOf(bytes(`AWS4${secret}`)), keys: new Map() };
   }
 
-  /** The signing key of a day and a region. */
+  /** The signing key for a day and a region. */
   async function signingKey(signer, scope) {
     if (!signer.keys.has(scope)) {
       let key = signer.root;
@@ -49,7 +49,7 @@ const Sign = (() => {
     return signer.keys.get(scope);
   }
 
-  /** The target of a link: its path and query. An order with a `desk` is a command of the desk. */
+  /** The target of a link: its path and query. An order with `desk` is a desk command. */
   async function target(signer, { method, path, desk, host, region, start, expires }) {
     const date = moment(start);
     const scope = `${date.slice(0, 8)}/${region}/s3/aws4_request`;
@@ -65,7 +65,7 @@ const Sign = (() => {
     return `${where}?${query}&X-Amz-Signature=${hex(signed)}`;
   }
 
-  /** A secret that nobody has to think of: 32 random bytes. */
+  /** A new random secret: 32 bytes, as hex. */
   function randomSecret() {
     return hex(crypto.getRandomValues(new Uint8Array(32)));
   }

@@ -1,7 +1,7 @@
 "use strict";
 
-// All that the page says. A text may name values in braces. A refusal is told by its number, as docs/RULES.md has it: what
-// happened, and the name of its remedy.
+// All texts of the page. A text may name values in braces. Refusals are listed by their numbers in docs/RULES.md: what
+// happened, and the name of the remedy.
 
 const TEXTS = {
   en: {
@@ -340,5 +340,5 @@ const TEXTS = {
   },
 };
 
-// The refusals behind which the same request may be taken.
+// The refusals after which the same request may succeed.
 const RETRY = [1, 2, 3, 4, 6, 7, 18, 22, 25, 26, 27, 30, 32, 33, 34, 40];

@@ -26,13 +26,13 @@ from shared import Wrong, load, machine, print_table, timings  # noqa: E402
 KIB, MIB = 1 << 10, 1 << 20
 BOX = tables.Box("in", quota=10**12, max_files=10**6)
 SIGNATURE = b"X-Amz-Signature="
-# Valgrind says so at the end of a run.
+# Valgrind prints this at the end of a run.
 COLLECTED = re.compile(rb"Collected : (\d+)")
 
 
 @dataclasses.dataclass(frozen=True)
 class Row:
-    """A kind of request: how many a batch has, and how many are counted; the file's bytes; and the status that is owed."""
+    """A kind of request: the file's bytes, the requests of a batch, the requests that are counted, and the expected status."""
 
     name: str
     kind: str
@@ -57,7 +57,7 @@ def with_wrong_signature(message):
 
 
 def messages(row, count):
-    """The requests of a batch, behind one upload of the file that they ask for or bring again."""
+    """One upload, and after it the requests of a batch, which fetch that file or upload it again, or upload new files."""
     start = time.strftime("%Y%m%dT%H%M%SZ", time.gmtime(time.time() - 60))
     data = os.urandom(row.size)
     first = put(b"/in/first", data, date=start)
@@ -75,7 +75,7 @@ def ask(it, answers, message, status):
 
 
 def seconds_of(drop, server, row, count):
-    """How long so many requests of the row take over one connection."""
+    """The seconds that `count` requests of the row take over one connection."""
     first, batch = messages(row, count)
     with server.connect() as it, it.makefile("rb") as answers:
         ask(it, answers, first, b"200")
@@ -93,7 +93,7 @@ def office(program, folder, name):
 
 
 def timed(program, folder, row):
-    """Seconds a request, by a server of its own over a new office."""
+    """Seconds per request, with a separate server on a new office."""
     drop, file = office(program, folder, "timed")
     with Server(drop, file, 1) as server:
         seconds = seconds_of(drop, server, row, row.batch) / row.batch
@@ -102,7 +102,7 @@ def timed(program, folder, row):
 
 
 def instructions(program, folder, row, count):
-    """All that the program takes for so many requests."""
+    """All instructions of the program for `count` requests."""
     drop, file = office(program, folder, "counted")
     watched = folder / "watched"
     watched.write_text(f'#!/bin/sh\nexec valgrind --tool=callgrind --callgrind-out-file=/dev/null {program} "$@"\n')
@@ -115,7 +115,7 @@ def instructions(program, folder, row, count):
 
 
 def counted(program, folder, row):
-    """Instructions a request: those of twice as many less those of as many."""
+    """Instructions per request: from the difference between a run of 2n requests and a run of n."""
     return (instructions(program, folder, row, 2 * row.counted) - instructions(program, folder, row, row.counted)) / row.counted
 
 

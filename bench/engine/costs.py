@@ -1,6 +1,6 @@
 #!/usr/bin/env python3
-"""costs.py PROGRAM FOLDER: what each step of the engine's program costs, over a database with 1000 receipts: its processor time
-and dearest functions by perf, and in a run of its own its system calls by strace. Prints a table in Markdown.
+"""costs.py PROGRAM FOLDER: what each step of the engine's program costs on a database with 1000 receipts: processor time and
+slowest functions by perf, and system calls by strace in a separate run. Prints a table in Markdown.
 """
 
 import collections
@@ -19,7 +19,7 @@ RECEIPTS = 1000
 
 
 def run(watch, program, whole):
-    """A watched run on a fresh copy: when each of its lines came, and the nanoseconds that the line tells."""
+    """A watched run on a fresh copy: the moment of each output line, and the nanoseconds that the line reports."""
     words = [*watch, program, measure.copy(whole, "engine"), str(RECEIPTS)]
     with subprocess.Popen(words, stdout=subprocess.PIPE, stderr=subprocess.DEVNULL, text=True) as process:
         lines = [(time.monotonic(), int(line.split()[2])) for line in process.stdout]
@@ -29,7 +29,7 @@ def run(watch, program, whole):
 
 
 def by_perf(program, whole, folder):
-    """Of each step the lines of perf's report."""
+    """The lines of perf's report for each step."""
     data = folder / "perf.data"
     watch = ["perf", "record", "-e", "cpu-clock", "-F", "1997", "-k", "CLOCK_MONOTONIC", "-o", data]
     lines = run(watch, program, whole)
@@ -37,7 +37,7 @@ def by_perf(program, whole, folder):
 
 
 def by_strace(program, whole, folder):
-    """Of each step how often each system call was made, and the bytes that were written. A step ends where its line is written."""
+    """For each step, the counts of system calls and the bytes written. A step ends when its line is written."""
     trace, steps = folder / "strace", [(collections.Counter(), [])]
     run(["strace", "-f", "-o", trace], program, whole)
     for line in trace.read_text(errors="replace").splitlines():

@@ -1,6 +1,7 @@
 #!/usr/bin/env python3
-"""measure.py PROGRAM ROUNDS FOLDER: what the kit's database engine takes for an office's rows, by the program of main.rt.txt,
-and in the same rounds, on the same disk, Python's `sqlite3`. Prints a table in Markdown. README.md beside this says more.
+"""measure.py PROGRAM ROUNDS FOLDER: the time that the kit's database engine takes for an office's rows, by the program of
+main.rt.txt, and in the same rounds, on the same disk, the time of Python's `sqlite3`. Prints a table in Markdown. README.md in
+this folder has more.
 """
 
 import contextlib
@@ -18,7 +19,7 @@ import stock  # noqa: E402
 from run import fill, names_of  # noqa: E402
 from shared import Wrong, disk_of, load, machine, print_table, timings  # noqa: E402
 
-SIZES = {1000: "10^3", 100_000: "10^5"}  # receipts that stand at first, of files of 3 bytes
+SIZES = {1000: "10^3", 100_000: "10^5"}  # initial receipts, of files of 3 bytes
 TITLES = {
     "commit": "one row of 1 KiB, committed",
     "upload": "the rows of an upload of 1 KiB",
@@ -33,7 +34,7 @@ TITLES = {
 
 
 def made(folder, receipts):
-    """A closed database with so many receipts."""
+    """A closed database with this number of receipts."""
     file = folder / f"office-{receipts}"
     with contextlib.closing(stock.alone(file)) as db:
         stock.make(db)
@@ -42,7 +43,7 @@ def made(folder, receipts):
 
 
 def copy(whole, name):
-    """A copy, written through to the disk."""
+    """A copy, synced to the disk."""
     file = whole.with_name(name)
     for old in file.parent.glob(f"{name}*"):
         old.unlink()
@@ -53,7 +54,7 @@ def copy(whole, name):
 
 
 def by_engine(program, whole, receipts):
-    """Of each step the seconds of one time."""
+    """For each step, the mean seconds of one time."""
     words = [program, copy(whole, "engine"), str(receipts)]
     ran = subprocess.run(words, capture_output=True, text=True, check=False)
     lines = [line.split() for line in ran.stdout.splitlines()]
@@ -68,7 +69,7 @@ def by_stock(_, whole, receipts):
 
 
 def measured(program, rounds, folder):
-    """Of each number of receipts, the engine's seconds and the peer's, each a list of the steps of each round."""
+    """For each number of receipts, the seconds of the engine and of the peer: per round, a list of the steps."""
     files = {receipts: made(folder, receipts) for receipts in SIZES}
     found = {receipts: ([], []) for receipts in SIZES}
     for number in range(rounds):
@@ -79,7 +80,7 @@ def measured(program, rounds, folder):
 
 
 def row(found, place):
-    """A step's cells; a ratio is the peer's time to the engine's, by the best, in brackets the median of the rounds'."""
+    """The cells of a step. A ratio is the peer's time divided by the engine's: the best, and the rounds' median in brackets."""
     cells, own = [TITLES[stock.STEPS[place][0]]], []
     for engine, peer in found.values():
         ours, theirs = ([one[place] for one in rounds] for rounds in (engine, peer))

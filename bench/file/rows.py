@@ -1,8 +1,8 @@
 #!/usr/bin/env python3
 """What the rows of an upload cost by themselves: stock SQLite, by Python's `sqlite3`, commits one row of 1 KiB in a table of its own,
-and in turn with that the rows that an upload of 1 KiB writes into the tables that `drop init` made. No HTTP, no signature, no
-program of ours: the ratio of the two bounds what a durable upload over these tables can reach beside a bare commit.
-README.md beside this says more.
+and alternately the rows that an upload of 1 KiB writes into the tables that `drop init` made. No HTTP, no signature, no program
+of ours: the ratio of the two bounds what a durable upload into these tables can reach, compared with a bare commit. More in
+README.md in this folder.
 """
 
 import argparse
@@ -32,7 +32,7 @@ def commit_upload(db, number):
 
 
 def seconds(commit, db, numbers):
-    """The seconds of one commit, taken over all of these."""
+    """The mean seconds of one commit over these numbers."""
     begun = time.perf_counter()
     for number in numbers:
         commit(db, number)

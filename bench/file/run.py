@@ -26,10 +26,9 @@ from shared import Wrong, connected, disk_of, load, machine, print_table, timing
 
 KIB, MIB = 1 << 10, 1 << 20
 BOX = tables.Box("bench", quota=10**12, max_files=10**6)
-# A new process that is small itself starts the program, for a process that starts another lends it its greatest
-# memory. The program's first stream is a pipe with a name, and has no bytes: that the program opens it tells that the
-# office is open. Told are the status, the seconds of all, those since the office was open, and the greatest memory in
-# KiB.
+# A small new process starts the program, because a child process inherits the peak memory of its parent. The program's
+# first stream is a named pipe without any bytes: when the program opens it, the office is open. Reported are the exit
+# status, the seconds of the whole run, the seconds since the office was open, and the peak memory in KiB.
 START = """import os, signal, sys, time
 
 def ended(*_):
@@ -51,15 +50,15 @@ os.write(told, b"%d %.9f %.9f %d" % (os.waitstatus_to_exitcode(status), end - be
 
 @dataclasses.dataclass(frozen=True)
 class Sizes:
-    few: int = 1000  # receipts of the small office
-    many: int = 100_000  # receipts of the great one
-    large: int = 400  # files of a million bytes of the heavy one
-    uploads: int = 500  # of 1 KiB a run
+    few: int = 1000  # receipts in the small office
+    many: int = 100_000  # receipts in the great one
+    large: int = 400  # files of a million bytes in the heavy one
+    uploads: int = 500  # of 1 KiB, per run
     a_stream: int = 250  # of them in one stream
-    large_uploads: int = 16  # of 1 MiB a run, in one stream
+    large_uploads: int = 16  # of 1 MiB, per run, in one stream
     fetches: int = 1000  # of 1 KiB in one stream
-    fetched_again: int = 10  # how often a run has this stream
-    large_fetches: int = 200  # of 1 MiB a run, in one stream
+    fetched_again: int = 10  # how often a run has this stream of fetches
+    large_fetches: int = 200  # of 1 MiB, per run, in one stream
 
 
 TINY = Sizes(few=10, many=50, large=2, uploads=6, a_stream=3, large_uploads=2, fetches=5, fetched_again=2,
@@ -67,7 +66,7 @@ TINY = Sizes(few=10, many=50, large=2, uploads=6, a_stream=3, large_uploads=2, f
 
 
 def body_of(name, size):
-    """Bytes that are another file's for another name."""
+    """Bytes that differ for each name."""
     block = hashlib.sha256(name.encode()).digest()
     return (block * (size // len(block) + 1))[:size]
 
@@ -76,7 +75,7 @@ def body_of(name, size):
 
 
 def fill(file, names, size):
-    """What uploads of these files write, straight into the tables, in one transaction."""
+    """Writes the rows of these files' uploads directly into the tables, in one transaction."""
     def receipts():
         for number, name in enumerate(names, 1):
             digest = hashlib.sha256(body_of(name, size)).digest()
@@ -101,7 +100,7 @@ def names_of(count):
 
 
 def names_among(count, files, mark):
-    """Names that lie spread among those of so many files."""
+    """`count` names, spread among the names of `files` files."""
     return [f"f{number * files // count:06d}{mark}{number:04d}" for number in range(count)]
 
 
@@ -112,19 +111,19 @@ def names_among(count, files, mark):
 class Run:
     whole: float  # in seconds
     since_open: float
-    memory: int  # the greatest, in KiB
+    memory: int  # the peak, in KiB
 
 
 @dataclasses.dataclass(frozen=True)
 class Work:
-    """Streams in files, and the answers that are owed to them, one for each message."""
+    """Streams in files, and the expected answers, one for each message."""
 
     streams: list
     owed: list
 
 
 def compare(answers, owed):
-    """The answers are exactly these, one after another."""
+    """Checks that the answers are exactly the expected ones, in order."""
     answers.seek(0)
     for number, one in enumerate(owed):
         if answers.read(len(one)) != one:
@@ -142,7 +141,7 @@ class Bench:
         return self.drop.path(name)
 
     def replay(self, file, work):
-        """A run of the program, timed, and its answers, written into memory, compared when it has ended."""
+        """Runs the program, timed; its answers go into memory and are compared after it has ended."""
         heard, told = os.pipe()
         pipe = self.path("pipe")
         if not pipe.exists():
@@ -167,7 +166,7 @@ class Bench:
         return file
 
     def uploads(self, mark, names, size, first, a_stream):
-        """Uploads of new files, whose receipts have the numbers from `first` on."""
+        """Uploads of new files; their receipts are numbered from `first`."""
         bodies = [body_of(name, size) for name in names]
         messages = [put(f"/{BOX.name}/{name}".encode(), body) for name, body in zip(names, bodies)]
         parts = range(0, len(messages), a_stream)
@@ -175,14 +174,14 @@ class Bench:
         return Work(streams, [receipt(number, body) for number, body in enumerate(bodies, first)])
 
     def fetches(self, mark, count, names, size, first, again=1):
-        """So many fetches of these files on one connection, now of the one, now of the other; and that so often."""
+        """`count` fetches of these files, in mixed order, on one connection; `again` times."""
         held = [(name, fetched(number, body_of(name, size))) for number, name in enumerate(names, first)]
         asked = [held[number * 7 % len(held)] for number in range(count)]
         messages = (get(f"/{BOX.name}/{name}".encode()) for name, _ in asked)
         return Work([self.stream(f"{mark}.http", messages)] * again, [answer for _, answer in asked] * again)
 
     def filled(self, name, count, size):
-        """An office of so many files, that the program opens and answers from."""
+        """An office with `count` files; the program has opened it and answered from it."""
         file = self.drop.office(name)
         names = names_of(count)
         fill(file, names, size)
@@ -193,7 +192,7 @@ class Bench:
         return file
 
     def copy(self, whole):
-        """A copy of an office that is closed, written through to the disk."""
+        """A copy of a closed office, synced to the disk."""
         file = whole.with_name(whole.name + "-copy")
         for old in file.parent.glob(file.name + "*"):
             old.unlink()
@@ -207,7 +206,7 @@ class Bench:
 
 
 def peer(file, sizes):
-    """A connection to a table as small as can be, with as many short rows at first as the small office has."""
+    """A connection to a minimal table, which initially has as many short rows as the small office."""
     for old in file.parent.glob(file.name + "*"):
         old.unlink()
     db = connected(file)
@@ -219,7 +218,7 @@ def peer(file, sizes):
 
 
 def commits(db, first, bodies):
-    """The seconds of a commit for each body, and of the closing, which writes the log into the file."""
+    """The seconds of one commit for each body, plus closing, which writes the log into the file."""
     begun = time.perf_counter()
     for number, body in enumerate(bodies, first):
         db.execute("INSERT INTO blobs VALUES (?, ?)", (number, body))
@@ -228,7 +227,7 @@ def commits(db, first, bodies):
 
 
 def selects(file, first, bodies, count):
-    """The seconds of so many reads of these bodies, in the order of the fetches."""
+    """The seconds of `count` reads of these bodies, in the order of the fetches."""
     db = connected(file)
     asked = [number * 7 % len(bodies) for number in range(count)]
     begun = time.perf_counter()
@@ -245,8 +244,7 @@ def selects(file, first, bodies, count):
 
 @dataclasses.dataclass
 class Step:
-    """Of each round the seconds of the run, of the run without a message, both since the office was open, and of the
-    peer."""
+    """For each round, the seconds of the run and of the empty run, both since the office was open, and of the peer."""
 
     messages: int
     runs: list = dataclasses.field(default_factory=list)
@@ -254,16 +252,16 @@ class Step:
     peers: list = dataclasses.field(default_factory=list)
 
     def each(self):
-        """Of each round the seconds of a message."""
+        """The seconds per message, for each round."""
         return [(run - empty) / self.messages for run, empty in zip(self.runs, self.empties)]
 
     def best(self):
-        """By the least run and the least empty one: the least difference would flatter."""
+        """The shortest run minus the shortest empty run; the smallest difference would flatter."""
         return (min(self.runs) - min(self.empties)) / self.messages
 
 
 class Rounds:
-    """The offices, the streams, and what the rounds gave."""
+    """The offices, the streams, and the results of the rounds."""
 
     def __init__(self, bench):
         self.bench, self.sizes = bench, bench.sizes
@@ -287,14 +285,14 @@ class Rounds:
         self.opens = {"few": [], "many": [], "heavy": []}
 
     def step(self, name, file, work):
-        """One run, and before it one over the same office that answers nothing."""
+        """One run, after an empty run on the same office."""
         opened = self.bench.replay(file, self.empty)
         self.steps[name].empties.append(opened.since_open)
         self.steps[name].runs.append(self.bench.replay(file, work).since_open)
         return opened
 
     def go(self, number):
-        """One round."""
+        """Runs one round."""
         it, steps = self.sizes, self.steps
         copies = {}
         for name in ["few", "many"] if number % 2 else ["many", "few"]:

@@ -1,6 +1,6 @@
 #!/usr/bin/env python3
-"""measure.py HASHBENCH ENGINEBENCH ROUNDS FOLDER: milliseconds for 8 MiB, the best of the rounds: what the kit's `sha2` takes,
-what the rows of an upload and of a fetch take by its engine, and the sums that an office cannot go below.
+"""measure.py HASHBENCH ENGINEBENCH ROUNDS FOLDER: milliseconds for 8 MiB, the best of the rounds, for the kit's `sha2`, for the
+rows of an upload and of a fetch with its engine, and the sums that are a lower bound for an office.
 """
 
 import importlib.util
@@ -18,11 +18,11 @@ SPEC = importlib.util.spec_from_file_location("engine_measure", HERE.parent / "e
 engine = importlib.util.module_from_spec(SPEC)
 SPEC.loader.exec_module(engine)
 
-RECEIPTS = 1000  # that stand at first, of files of 3 bytes
+RECEIPTS = 1000  # initial receipts, of files of 3 bytes
 
 
 def hashed(program):
-    """The milliseconds of each time."""
+    """The milliseconds of each repetition."""
     ran = subprocess.run([program], capture_output=True, text=True, check=True)
     return [int(line.split()[0]) / 1000 for line in ran.stdout.splitlines()]
 

@@ -1,14 +1,16 @@
 #!/usr/bin/env bash
-# The least that an upload and a fetch of 8 MiB can take with the kit: its `sha2` over the bytes, and the rows by its database
-# engine (`bench/engine`), with no HTTP, no signature and no socket. Both programs are proved and built in folders of their own.
-# Usage: run.sh [ROUNDS [FOLDER]]   (3. The folder is outside of this repository and on a disk; the programs stay there)
+# Measures the least time that an upload and a fetch of 8 MiB can take with the kit: its `sha2` on the bytes, and its database
+# engine on the rows (`bench/engine`), with no HTTP, no signature and no socket. Both programs are proved and built in separate
+# folders.
+# Usage: run.sh [ROUNDS [FOLDER]]   (ROUNDS is 3 by default. FOLDER is outside of this repository and on a disk; the programs stay
+# there)
 set -u
 here=$(cd "$(dirname "$0")" && pwd)
 rounds=${1:-3}
 work=${2:-$(mktemp -d -p /var/tmp)}
 if [ $# -lt 2 ]; then trap 'rm -rf "$work"' EXIT; fi
 
-# build NAME SOURCE CRATES..: the program NAME of this source over these crates of the kit.
+# build NAME SOURCE CRATES..: builds the program NAME from this source, with these crates of the kit.
 build() {
     local name=$1 source=$2 folder=$work/$1
     shift 2

@@ -1,4 +1,4 @@
-/* The heap of the kit's C library, which counts the blocks that are asked for, and tells the number on standard error
+/* The heap of the kit's C library. It counts the blocks that are allocated, and prints the number to standard error
    when the program ends. Growth of a block counts too. */
 #include <stdio.h>
 #include <stdlib.h>

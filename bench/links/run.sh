@@ -1,10 +1,10 @@
 #!/usr/bin/env bash
 # Measures how long reading, inspecting and judging a link takes, up to refusal 21, and how many blocks of memory one
-# such request asks for; beside it, in the same run, botocore's signer and Python's hmac on the same links. The program
-# (main.rt.txt) is proved and built in a repository of its own, over copies of sigtext, sigv4 and links. Where the crates
-# here were checked before, what `out/` keeps of that is copied too, so that the proofs are not made from nothing.
-# Usage: run.sh [COUNT [FOLDER]]   (how often each request is judged; 20000. With a folder, outside of this repository, the
-# copies stay there, and a later run proves only what has changed)
+# such request allocates; and in the same run, botocore's signer and Python's hmac on the same links. The program
+# (main.rt.txt) is proved and built in a separate repository, with copies of sigtext, sigv4 and links. If the crates here
+# were checked before, their `out/` folders are copied too, so that the proofs need not start from scratch.
+# Usage: run.sh [COUNT [FOLDER]]   (COUNT says how often each request is judged; 20000 by default. With a folder, outside of
+# this repository, the copies stay there, and a later run proves only what has changed)
 set -u
 here=$(cd "$(dirname "$0")" && pwd)
 top=$(cd "$here/../.." && pwd)
@@ -29,7 +29,7 @@ echo "linkbench: links sigtext sigv4 anyhow" >>"$work/crates.txt"
 python3 -B "$here/samples.py" "$work/links" || exit 2
 host=$(cat "$work/links/host")
 
-# The program, and the same object over a heap that counts.
+# Builds the program, and links the same object with a heap that counts.
 if ! (cd "$work/crates/linkbench" && rt run --jobs 1 -- "$work/links/published" 1 "$host") >"$work/log" 2>&1; then
     tail -5 "$work/log"
     exit 1

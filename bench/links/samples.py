@@ -1,10 +1,10 @@
 #!/usr/bin/env python3
 """samples.py FOLDER: three targets and their hosts. `published` is the example of the Amazon S3 API Reference; `one`
-and `many` are botocore's links of about 7.5 KiB, with one further parameter and with 1000 of them, so that a head with
-`Host` stays below 8192 bytes. All are signed at 2013-05-24T00:00:00Z with the reference's key.
+and `many` are botocore's links of about 7.5 KiB, with one extra parameter and with 1000 of them; a head with `Host` stays
+below 8192 bytes. All are signed at 2013-05-24T00:00:00Z with the reference's key.
 
-samples.py verify FILE HOST COUNT: the microseconds that Python takes to verify the target under another secret, by
-botocore's signer and by `hmac` and `hashlib` alone."""
+samples.py verify FILE HOST COUNT: the microseconds that Python takes to verify the target under another secret, with
+botocore's signer and with `hmac` and `hashlib` alone."""
 import datetime, hashlib, hmac, sys, time
 from urllib.parse import parse_qsl, quote, unquote, urlsplit
 from botocore.auth import S3SigV4QueryAuth

@@ -1,10 +1,10 @@
 #!/usr/bin/env python3
-"""peer.py manifest|compare|list OFFICE: what `drop manifest`, `drop compare` and `drop list OFFICE files` do, by Python's
-`sqlite3`, `csv` and `hashlib`.
-peer.py export OFFICE DIR: what `drop export` does, by the same.
-peer.py links OFFICE ID HOST REGION: what `drop links` does, by `sqlite3`, `csv` and botocore's own signer.
+"""peer.py manifest|compare|list OFFICE: does what `drop manifest`, `drop compare` and `drop list OFFICE files` do, with
+Python's `sqlite3`, `csv` and `hashlib`.
+peer.py export OFFICE DIR: does what `drop export` does, with the same modules.
+peer.py links OFFICE ID HOST REGION: does what `drop links` does, with `sqlite3`, `csv` and botocore's own signer.
 
-A list is read from standard input, and one is written to standard output. README.md beside this says more.
+The input list is read from standard input, the output list is written to standard output. More in README.md in this folder.
 """
 
 import csv
@@ -44,7 +44,7 @@ def manifest(db, _, out):
 
 
 def state(db, number, box, name, length, digest):
-    """What stands of a receipt's file."""
+    """The state of a receipt's file."""
     found = db.execute(FILE, (box, name)).fetchall()
     if not found or found[0][0] != int(number):
         return "gone"
@@ -73,7 +73,7 @@ def list_files(db, _, out):
 
 
 def part_of(name):
-    """What is left of a name in that of an exported file."""
+    """The part of a name that is kept in an exported file's name."""
     part = name.rpartition("/")[2].encode()[:200].decode(errors="ignore")
     part = re.sub(r"^\.+", lambda dots: "_" * len(dots[0]), re.sub(r'[\x00-\x1f\x7f/\\:*?"<>|]', "_", part))
     return re.sub(r"[. ]$", "_", part) or "_"
@@ -97,7 +97,7 @@ def export(db, _, out, folder):
 
 
 def is_wish(method, box, name, expires):
-    """The row asks for a link, if its moment is one."""
+    """Whether the row requests a link, provided that its moment is valid."""
     forms = METHOD.fullmatch(method) and BOX.fullmatch(box) and NAME.fullmatch(name) and EXPIRES.fullmatch(expires)
     return forms and len(name.encode()) <= 1024 and int(expires) <= 604800
 

@@ -1,6 +1,7 @@
 #!/usr/bin/env python3
 """What lists cost: `drop manifest`, `drop compare`, `drop list`, `drop export` and `drop links`, and beside them, in the same
-rounds, a peer in Python (peer.py) that does the same from the same office file. Prints tables in Markdown. README.md beside this says more.
+rounds, a peer in Python (peer.py) that does the same from the same office file. Prints tables in Markdown. More in
+README.md in this folder.
 """
 
 import argparse
@@ -26,19 +27,19 @@ from expected import ID  # noqa: E402
 from program import Drop  # noqa: E402
 from shared import Wrong, load, machine, print_table  # noqa: E402
 
-FEW = 1000  # receipts of the small office
+FEW = 1000  # receipts in the small office
 BOX = tables.Box("in", quota=10**12, max_files=10**6, mode=1)
 HOST, REGION = "files.example", "us-east-1"
 STARTS = ["20130524T000000Z", "19700101T000000Z", "20380119T031408Z"]
 EXPIRIES = ["604800", "1", "86400"]
 METHODS = ["PUT", "GET", "HEAD"]
-# Two of eight names are as plain as most are, and the others hold what CSV quotes or links encode.
+# Two of the eight names are plain, like most names; the others contain what CSV quotes or links encode.
 NAMES = [
     "plan-{}.pdf", "offer, part {}.pdf", 'the "last" {}.txt', " {} ", "Angebot Müller {}", "報告書 {}", "{}%20+&=?#;", "{}",
 ]
 SECONDS = 600
-# A new process that is small itself starts the program, for a process that starts another lends it its greatest memory.
-# Told are the status, the seconds from the start to the end, and the greatest memory in KiB.
+# A small new process starts the program, because a child process inherits the peak memory of its parent.
+# Reported are the exit status, the seconds from the start to the end, and the peak memory in KiB.
 START = """import os, sys, time
 
 os.set_inheritable(told := int(sys.argv[1]), False)
@@ -52,23 +53,23 @@ os.write(told, b"%d %.9f %d" % (os.waitstatus_to_exitcode(status), time.perf_cou
 
 
 def body_of(number):
-    """64 bytes, others for each receipt."""
+    """64 bytes that differ for each receipt."""
     return hashlib.sha512(b"%d" % number).digest()
 
 
 def name_of(number):
-    """The name of a receipt's file. Receipt 7 of ten has that of the receipt before it, whose file it replaced."""
+    """The name of a receipt's file. Receipt 7 of ten has the name of the receipt before it, whose file it replaced."""
     number -= number % 10 == 7
     return NAMES[number % len(NAMES)].format(number)
 
 
 def stands(number, most):
-    """Whether the file of a receipt is still there: the third of ten was taken out, and the sixth was replaced."""
+    """Whether a receipt's file still exists: the third of ten was removed, and the sixth was replaced."""
     return number % 10 != 3 and (number % 10 != 6 or number == most)
 
 
 def fill(file, most):
-    """What so many uploads leave, of which some were replaced or taken out, straight into the tables."""
+    """Writes directly into the tables what `most` uploads leave, some of them replaced or removed."""
     receipts = ((number, BOX.name, name_of(number), 64, hashlib.sha256(body_of(number)).digest(), tables.M + number, ID)
                 for number in range(1, most + 1))
     standing = [number for number in range(1, most + 1) if stands(number, most)]
@@ -81,7 +82,7 @@ def fill(file, most):
 
 
 def told_row(number):
-    """A row of the manifest that is compared: the ninth of ten tells another length or digest than the receipt."""
+    """A row of the manifest that is compared: the ninth of ten has a different length or digest than the receipt."""
     digest = hashlib.sha256(body_of(number - (number % 20 == 19))).hexdigest()
     moment = datetime.datetime.fromtimestamp(tables.M + number, datetime.timezone.utc).strftime("%Y%m%dT%H%M%SZ")
     return [number, BOX.name, name_of(number), 64 + (number % 20 == 9), digest, moment, ID]
@@ -92,7 +93,7 @@ def wish(number):
 
 
 def state_of(number, most):
-    """What is owed of a row of `told_row`."""
+    """The expected state for a row of `told_row`."""
     if not stands(number, most):
         return "gone"
     return "differs" if number % 10 == 9 else "standing"
@@ -110,11 +111,11 @@ def write_list(file, head, rows):
 @dataclasses.dataclass(frozen=True)
 class Run:
     seconds: float
-    memory: int  # the greatest, in KiB
+    memory: int  # the peak, in KiB
 
 
 def timed(words, given, out):
-    """A run of these words, which reads one file and writes another."""
+    """Runs this command, which reads one file and writes another."""
     heard, told = os.pipe()
     with open(given, "rb") as reader, open(out, "wb") as writer:
         ran = subprocess.run([sys.executable, "-IS", "-c", START, str(told), *words], stdin=reader, stdout=writer,
@@ -129,7 +130,7 @@ def timed(words, given, out):
 
 @dataclasses.dataclass(frozen=True)
 class Step:
-    """A list of an office. One of no rows reads a head alone, and tells what opening costs."""
+    """A list of an office. A list without rows reads only a head, and shows what opening costs."""
 
     task: str
     receipts: int
@@ -152,13 +153,13 @@ def rows_of(file):
 
 
 def owed_rows(step):
-    """The rows of a comparison, where they are known beforehand; of another list none."""
+    """The expected rows of a comparison, which are known beforehand; none for other lists."""
     known = step.rows if step.task == "compare" else 0
     return ([str(it), BOX.name, name_of(it), state_of(it, step.receipts)] for it in range(1, known + 1))
 
 
 def check(step, ours, theirs):
-    """Both wrote the same rows, a head and as many as are owed; of a comparison those that are owed."""
+    """Checks that both wrote the same rows, a head and the expected number; for a comparison, also the expected rows."""
     count = -1
     for number, (one, other) in enumerate(itertools.zip_longest(rows_of(ours), rows_of(theirs))):
         count = number
@@ -170,7 +171,7 @@ def check(step, ours, theirs):
 
 
 def take_exported(folder, out):
-    """The rows of an export, whose sums are right; then its folder goes."""
+    """Checks the sums of an export, takes its rows, and deletes its folder."""
     subprocess.run(["sha256sum", "--check", "--quiet", "--strict", "SHA256SUMS"], cwd=folder, check=True)
     shutil.copyfile(folder / "files.csv", out)
     shutil.rmtree(folder)
@@ -181,10 +182,10 @@ class Bench:
     program: pathlib.Path
     folder: pathlib.Path
     steps: list
-    runs: dict = dataclasses.field(default_factory=dict)  # of each step those of the program, and those of the peer
+    runs: dict = dataclasses.field(default_factory=dict)  # for each step, the runs of the program and of the peer
 
     def run(self, step, is_first):
-        """One run of each, the program's first or second."""
+        """Runs both once, the program first or second."""
         ours, theirs = self.folder / "ours.csv", self.folder / "theirs.csv"
         pair = {}
         for is_peer in [not is_first, is_first]:
@@ -197,13 +198,13 @@ class Bench:
         self.runs.setdefault(step, []).append((pair[False], pair[True]))
 
     def go(self, number):
-        """One round."""
+        """Runs one round."""
         for place, step in enumerate(self.steps):
             self.run(step, (number + place) % 2 == 0)
 
 
 def steps_of(file, receipts, folder):
-    """The opening of an office, its manifest, and a comparison with it; the list of its files, and the files."""
+    """Opening an office, its manifest, a comparison with it, the list of its files, and the export of its files."""
     head = write_list(folder / "head.csv", MANIFEST_HEAD, [])
     told = write_list(folder / f"told-{receipts}.csv", MANIFEST_HEAD, map(told_row, range(1, receipts + 1)))
     nothing = pathlib.Path(os.devnull)
@@ -223,7 +224,7 @@ def link_steps(file, rows, folder):
 
 
 def steps_in(folder, words):
-    """The steps of a round, over offices that are made for them."""
+    """The steps of a round, on offices that are made for them."""
     drop, steps = Drop(words.drop.resolve(), folder), []
     for receipts in [FEW, words.receipts]:
         file = drop.office(f"office-{receipts}")
@@ -236,12 +237,12 @@ def steps_in(folder, words):
 
 
 def opening_of(step, steps):
-    """The step that reads a head alone: the last one before this, over the same office."""
+    """The step that reads only a head: the last one before this step on the same office."""
     return [it for it in steps[:steps.index(step)] if not it.rows and it.file == step.file][-1]
 
 
 def times(whole, empty, rows):
-    """The seconds, in brackets those of the opening; and rows a second, in brackets those behind the opening."""
+    """The seconds, and in brackets those of the opening; the rows a second, and in brackets those without the opening."""
     behind = [a - b for a, b in zip(whole, empty)]
     median = statistics.median
     return [f"{median(whole):.2f} ({median(empty):.2f})", f"{rows / median(whole):.0f} ({rows / median(behind):.0f})"]

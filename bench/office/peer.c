@@ -1,8 +1,8 @@
 // The hashing that one request needs, by OpenSSL: SHA-256 of a canonical request, the four keyed hashes of the signing
-// key, that of the string to sign, and SHA-256 of the body; then one copy of so many bytes that are kept or sent.
-// Words: `hmac`, for OpenSSL's calls as programs make them, `HMAC` and `SHA256`, or `sha`, for the least, which is its
-// block function with no look-up of algorithms; the bytes of the canonical request, of the body that is hashed, of
-// those that are copied; and how often. Prints the nanoseconds of all.
+// key, that of the string to sign, and SHA-256 of the body; then one copy of the bytes that are stored or sent.
+// Arguments: the method, which is `hmac` for the calls that programs usually make, `HMAC` and `SHA256`, or `sha` for the
+// minimum, OpenSSL's SHA-256 functions that look up no algorithm; the number of bytes of the canonical request, of the
+// hashed body, and of the copy; and the number of repetitions. Prints the nanoseconds of all repetitions.
 #define OPENSSL_SUPPRESS_DEPRECATED
 #include <openssl/evp.h>
 #include <openssl/hmac.h>

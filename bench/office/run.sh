@@ -1,10 +1,9 @@
 #!/usr/bin/env bash
-# Requests a second through an office in memory, from memory to memory, with 10^3 and with 10^5 files, and beside them
-# in the same run the hashing that such a request needs, by OpenSSL. The program (main.rt.txt) is proved and built in a
-# repository of its own, over copies of the crates; what their `out/` keeps is copied too, so that the proofs are not
-# made from nothing.
-# Usage: run.sh [ROUNDS [FOLDER]]   (how often each size is measured, one after the other in turn; 40. With a folder,
-# outside of this repository, the copies stay there, and a later run proves only what has changed)
+# Measures the requests a second that an office in memory answers, from memory to memory, with 10^3 and with 10^5 files, and in
+# the same run the hashing that such a request needs, by OpenSSL. The program (main.rt.txt) is proved and built in a separate
+# repository, with copies of the crates. What their `out/` holds is copied too, so that the proofs need not start from scratch.
+# Usage: run.sh [ROUNDS [FOLDER]]   (ROUNDS says how often each size is measured, alternating between them; 40 by default. With
+# a folder, outside of this repository, the copies stay there, and a later run proves only what has changed)
 set -u
 here=$(cd "$(dirname "$0")" && pwd)
 top=$(cd "$here/../.." && pwd)
@@ -26,7 +25,7 @@ for name in sigtext sigv4 links boxes keeper wire desk office; do
 done >"$work/crates.txt"
 echo "officebench: boxes keeper sigv4 office anyhow" >>"$work/crates.txt"
 
-# 501 files come by the streams themselves.
+# The streams themselves upload 501 files.
 small=499
 great=99499
 for files in $small $great; do
@@ -41,7 +40,7 @@ fi
 
 rm -f "$work"/times.*
 
-# Each round asks the peer and both sizes, so that other work on the machine meets them alike.
+# Each round measures the peer and both sizes, so that other work on the machine affects them equally.
 canonical=269
 for ((round = 0; round < rounds; round++)); do
     for files in $small $great; do

@@ -1,6 +1,6 @@
 #!/usr/bin/env python3
-"""samples.py FOLDER FILES: the streams of the bench for an office that holds so many small files, each with the answers
-that are owed (Python's hmac and hashlib, by ci/expected.py). All messages of a stream have one length."""
+"""samples.py FOLDER FILES: the streams of the bench for an office with FILES small files, each with the expected answers
+(by Python's hmac and hashlib, with ci/expected.py). All messages of a stream have the same length."""
 import hashlib, itertools, pathlib, sys
 
 TOP = pathlib.Path(__file__).resolve().parents[2]
@@ -33,7 +33,7 @@ def found(number, body):
 
 
 def body_of(name, size):
-    """Bytes that are another file's for another name."""
+    """Bytes that differ for each name."""
     block = hashlib.sha256(name).digest()
     return (block * (size // len(block) + 1))[:size]
 
@@ -46,7 +46,7 @@ def write(folder, name, pairs):
 
 
 def main(folder, files):
-    # The names asked for lie spread among the small files' names, f000001 and so on.
+    # The requested names are spread among the small files' names, f000001 and so on.
     first, second = ([b"f%06d%c%04d" % (i * files // NAMES, mark, i) for i in range(NAMES)] for mark in b"ab")
     numbers = itertools.count(files + 1)
     large = b"f%06dlarge" % (files // 2)

@@ -1,9 +1,9 @@
 #!/usr/bin/env python3
-"""table.py SMALL GREAT PEER: the figures of the rounds, as a table: of requests a second the best; of microseconds the
-best and, in brackets, the median; the ratio of the two best and, in brackets, the median of the rounds' ratios."""
+"""table.py SMALL GREAT PEER: the figures of the rounds as a table: the best requests a second; the best microseconds and, in
+brackets, the median; the ratio of the two best and, in brackets, the median of the rounds' ratios."""
 import statistics, sys
 
-# The steps in the order of the program: what is asked, the messages, their connections, and the peer's work.
+# The steps in the order of the program: the request, the messages, their connections, and the peer's work.
 STEPS = [
     ("PUT of 1 MiB, new", 1, 1, "1048576 1048576"),
     ("PUT of 1 KiB, new", 250, 1, "1024 1024"),
@@ -20,7 +20,7 @@ STEPS = [
 
 
 def steps_of(name):
-    """For each step the microseconds of a request, round by round."""
+    """For each step, the microseconds of a request, round by round."""
     lines = [line.split() for line in open(name)]
     rounds = [lines[i : i + len(STEPS)] for i in range(0, len(lines), len(STEPS))]
     for one in rounds:
@@ -29,7 +29,7 @@ def steps_of(name):
 
 
 def peers_of(name):
-    """For each way and work the least microseconds of a request."""
+    """For each method and work, the fewest microseconds of a request."""
     best = {}
     for way, body, copied, often, time in map(str.split, open(name)):
         key, cost = (way, f"{body} {copied}"), int(time) / 1000 / int(often)

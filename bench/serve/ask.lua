@@ -1,4 +1,4 @@
--- Requests for the targets of a file, one a line, in turn. Words: the file, the method, the length of the body, the host.
+-- Requests the targets in a file, one per line, in turn. Arguments: the file, the method, the length of the body, the host.
 local targets, bodies, at = {}, nil, 0
 local method, host
 

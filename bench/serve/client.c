@@ -1,9 +1,9 @@
-/* Sends requests one after another on loopback and reads each answer whole: for what wrk can't do, a new connection for
+/* Sends requests one after another on loopback and reads each answer completely. It does what wrk can't: a new connection for
  * each request, and a given number of requests.
  * Usage: client PORT TARGETS METHOD BYTES REQUESTS NEW
- *   TARGETS  a file with a request target on each line, taken in turn
+ *   TARGETS  a file with a request target on each line, used in turn
  *   BYTES    the length of each body, 0 for none
- *   NEW      a new connection for each so many requests; 0: one for all
+ *   NEW      a new connection after this many requests; 0: one for all
  * Prints the requests, how many were answered with 200, and the seconds. */
 #include <arpa/inet.h>
 #include <netinet/in.h>
@@ -43,7 +43,7 @@ static void send_all(int it, const char *from, size_t left) {
     }
 }
 
-/* The status of the next answer, which is read whole; 0 where the connection ended before its first byte. */
+/* Reads the next answer completely and returns its status; 0 if the connection ended before its first byte. */
 static int answered(int it, int is_head) {
     size_t have = 0;
     char *end = NULL;

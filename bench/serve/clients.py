@@ -1,4 +1,4 @@
-"""The clients that ask a server for a row, and what they tell."""
+"""The clients that send a server the requests of a row, and the figures that they report."""
 
 import contextlib
 import dataclasses
@@ -10,7 +10,7 @@ from servers import HERE, HOST, free_port, names_of
 
 @contextlib.contextmanager
 def serving(server, row, folder, mark):
-    """The server as it runs for a row: its process, its port, and a file with a target on each line."""
+    """Runs the server for a row: its process id, its port, and a file with a target on each line."""
     port, file = free_port(), folder / "targets"
     file.write_text("".join(f"{it}\n" for it in server.targets(row, names_of(row, mark), port)))
     with server.running(port) as pid:
@@ -19,7 +19,7 @@ def serving(server, row, folder, mark):
 
 @dataclasses.dataclass(frozen=True)
 class Figure:
-    """Requests a second, how many were answered with another status than owed, and within how many milliseconds 99 in 100 were."""
+    """Requests a second, how many answers had an unexpected status, and the milliseconds within which 99 of 100 were answered."""
 
     rate: float
     wrong: int
@@ -47,7 +47,7 @@ def by_client(client, row, file, port, requests):
 
 
 def by_either(client, row, file, port, seconds):
-    """By wrk, but for what it can't do."""
+    """With wrk, except for rows that wrk cannot do."""
     if row.new:
         return by_client(client, row, file, port, seconds * 1000)
     return by_wrk(row, file, port, seconds)

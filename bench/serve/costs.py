@@ -1,4 +1,4 @@
-"""What a row costs `drop serve`: where its time goes, by perf, and its system calls, by strace in a run of its own."""
+"""What a row costs `drop serve`: where its time goes, by perf, and its system calls, by strace in a separate run."""
 
 import contextlib
 import re
@@ -10,13 +10,13 @@ from clients import by_client, by_either, serving
 from servers import KIB
 from shared import dearest, often, report
 
-REQUESTS = {True: 500, False: 20}  # while system calls are counted: of 1 KiB, and of 1 MiB
-READY = 2  # seconds, for perf or strace to take hold of a process
+REQUESTS = {True: 500, False: 20}  # while system calls are counted: of 1 KiB, and of 1 MiB or more
+READY = 2  # seconds, for perf or strace to attach to a process
 
 
 @contextlib.contextmanager
 def watched(words, log):
-    """A program that watches another one until it is interrupted."""
+    """Runs a program that watches another one, and interrupts it at the end."""
     with open(log, "wb") as writer, subprocess.Popen(words, stdout=writer, stderr=writer) as process:
         time.sleep(READY)
         try:
@@ -27,7 +27,7 @@ def watched(words, log):
 
 
 def profile(server, row, folder, client, seconds):
-    """The lines of perf's report on the server while it is asked for a row."""
+    """The lines of perf's report on the server while it serves a row."""
     data, log = folder / "perf.data", folder / "watched"
     with serving(server, row, folder, "perf") as (pid, port, file):
         with watched(["perf", "record", "-g", "-e", "cpu-clock", "-F", "997", "-o", data, "-p", str(pid)], log):
@@ -36,7 +36,7 @@ def profile(server, row, folder, client, seconds):
 
 
 def count_calls(server, row, folder, client, requests):
-    """How often the server made each system call for so many requests, by strace's summary."""
+    """How often the server made each system call for this number of requests, by strace's summary."""
     summary, log = folder / "strace", folder / "watched"
     with serving(server, row, folder, "strace") as (pid, port, file):
         with watched(["strace", "-f", "-c", "-U", "calls,name", "-o", summary, "-p", str(pid)], log):

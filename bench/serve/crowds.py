@@ -1,4 +1,4 @@
-"""How soon `drop serve` answers clients that behave, beside peers that keep it waiting."""
+"""How fast `drop serve` answers well-behaved clients while other peers keep it waiting."""
 
 import contextlib
 import socket
@@ -20,7 +20,7 @@ def connecting(port):
 
 
 def exchanges(peers, date):
-    """How long each answer took, in milliseconds: the peers take turns, with a PUT of 1 KiB and a GET of it."""
+    """The milliseconds that each answer took; the peers take turns with a PUT of 1 KiB and a GET of it."""
     for step in range(EXCHANGES):
         for number, peer in enumerate(peers):
             path = f"/{BOX}/crowd-{number}-{step}".encode()

@@ -1,4 +1,4 @@
-"""The memory of `drop serve`: behind many fetches, and over uploads."""
+"""The memory of `drop serve`: after many fetches, and before, during and after uploads."""
 
 import dataclasses
 import pathlib
@@ -7,19 +7,19 @@ import re
 from clients import by_client, serving
 from servers import KIB, MOST, ROWS, Drop, Row
 
-UPLOADS = 100  # of a kind
+UPLOADS = 100  # of each kind
 ON_EACH = 10  # fetches on a connection
-MOST_AT_ONCE = 10**5  # fetches of one run of the client: more may take longer than a run may
+MOST_AT_ONCE = 10**5  # fetches in one run of the client: more may exceed the time limit of a run
 
 
 def memory_of(pid, name="VmRSS"):
-    """The process's memory, in KiB: now, or by `VmHWM` at its greatest."""
+    """The process's memory in KiB: now, or its peak with `VmHWM`."""
     status = pathlib.Path(f"/proc/{pid}/status").read_text()
     return int(re.search(rf"^{name}:\s+(\d+) kB", status, re.M)[1])
 
 
 def fetches_rows(server, folder, client):
-    """Behind so many GETs of 1 KiB, ten on each connection, all in one run."""
+    """The memory after so many GETs of 1 KiB, ten on each connection, all in one run."""
     row, done = dataclasses.replace(ROWS[1], new=ON_EACH), 0
     with serving(server, row, folder, "") as (pid, port, file):
         for requests in [10**4, 10**5, 10**6]:
@@ -35,7 +35,8 @@ def upload(client, row, file, port, requests):
 
 
 def uploads_row(server, folder, client, size, is_new):
-    """Over uploads of that many bytes into an office without a file, of a new name each, or in the place of a file that has a byte more or less."""
+    """The memory before, at its peak in, and after uploads of `size` bytes into an office without files. Each upload has a new
+    name, or replaces a file that is one byte longer or shorter."""
     row = Row("an upload", "PUT", size, upload=True)
     with serving(server, row, folder, "memory") as (pid, port, file):
         open_now = memory_of(pid)

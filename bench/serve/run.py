@@ -27,7 +27,7 @@ SWIFT_ROWS = [row for row in ROWS if not row.bad and not row.new]
 
 
 def commits(folder, seconds):
-    """Commits of one row of 1 KiB a second, by Python's sqlite3."""
+    """The number of commits of one row of 1 KiB per second, by Python's sqlite3."""
     file = folder / "commits"
     for old in folder.glob("commits*"):
         old.unlink()
@@ -41,7 +41,7 @@ def commits(folder, seconds):
 
 
 class Rounds:
-    """The servers, and the figures of each row and server, round by round."""
+    """The servers, and the figures for each row and server, round by round."""
 
     def __init__(self, words, folder):
         self.folder, self.seconds = folder, words.seconds
@@ -59,7 +59,7 @@ class Rounds:
         self.figures.setdefault((row, server.name), []).append(figure)
 
     def go(self, turn):
-        """One round."""
+        """Runs one round."""
         for row in ROWS:
             for server in self.servers[::1 if turn % 2 == 0 else -1]:
                 if row in self.rows[server.name]:
@@ -79,7 +79,7 @@ def rates_of(rounds, row, server):
 
 
 def rate_row(rounds, row):
-    """The best of a second, in brackets the median, and the ratio of `drop serve` to each peer."""
+    """Requests a second: the best, the median in brackets, and the ratio of `drop serve` to each peer."""
     ours = rates_of(rounds, row, Drop)
     cells = [row.name, shown(ours)]
     for peer in rounds.servers[1:]:
@@ -98,7 +98,7 @@ def print_rates(rounds):
 
 
 def print_within(rounds):
-    """How soon 99 in 100 answers come where many connections are served at once: the best round, in brackets the median."""
+    """Prints the time within which 99 of 100 answers come with many connections: the best round, and the median in brackets."""
     for row in [row for row in ROWS if row.many > 1]:
         for server in rounds.servers:
             found = [it.within for it in rounds.figures.get((row, server.name), [])]
@@ -108,7 +108,7 @@ def print_within(rounds):
 
 
 def print_wrong(rounds):
-    """Which answers had another status than owed."""
+    """Prints how many answers had an unexpected status."""
     counts = {key: sum(figure.wrong for figure in figures) for key, figures in rounds.figures.items()}
     wrong = [f"{count} of {name}, {row.name}" for (row, name), count in counts.items() if count]
     print(f"Answers of another status than owed: {'; '.join(wrong) or 'none'}.\n")

@@ -1,4 +1,4 @@
-"""What is asked of `drop serve`, and the servers that stand side by side: `drop serve` and nginx."""
+"""The requests to the servers, and two of the servers that are compared: `drop serve` and nginx."""
 
 import base64
 import contextlib
@@ -19,8 +19,8 @@ HERE = pathlib.Path(__file__).resolve().parent
 KIB, MIB, MOST = 1 << 10, 1 << 20, 8 << 20
 BOX = "bench"
 HOST = "127.0.0.1"
-UPLOADS = {KIB: 20000, MIB: 600, MOST: 1000}  # links to new names, more than a row takes
-FILES = {KIB: 1000, MIB: 40, MOST: 5}  # files that stand at first
+UPLOADS = {KIB: 20000, MIB: 600, MOST: 1000}  # links to new names, more than a row uses
+FILES = {KIB: 1000, MIB: 40, MOST: 5}  # initial files: their sizes and numbers
 
 
 def body_of(size):
@@ -28,7 +28,7 @@ def body_of(size):
 
 
 def free_ports(host, many):
-    """So many ports, each another one."""
+    """`many` free ports, all different."""
     with contextlib.ExitStack() as stack:
         servers = [stack.enter_context(socket.create_server((host, 0))) for _ in range(many)]
         return [server.getsockname()[1] for server in servers]
@@ -39,7 +39,7 @@ def free_port():
 
 
 def wait_for(port, host=HOST):
-    """Waits until something listens at the port, for a minute at most."""
+    """Waits at most a minute until something listens on the port."""
     for _ in range(1200):
         with contextlib.suppress(OSError), socket.create_connection((host, port)):
             return
@@ -49,15 +49,15 @@ def wait_for(port, host=HOST):
 
 @dataclasses.dataclass(frozen=True)
 class Row:
-    """What is asked: of each server targets of its own, a new name for each upload."""
+    """A kind of request. Each server has its own targets; each upload has a new name."""
 
     name: str
     method: str
     size: int = 0
     upload: bool = False
     bad: bool = False
-    new: int = 0  # a new connection for each so many requests
-    many: int = 1  # so many connections at once
+    new: int = 0  # a new connection after this many requests; 0: never
+    many: int = 1  # connections at the same time
 
 
 ROWS = [
@@ -74,7 +74,7 @@ ROWS = [
 
 
 def first_files():
-    """The name and the bytes of each file that stands at first."""
+    """The name and the bytes of each initial file."""
     for size, many in FILES.items():
         for number in range(many):
             yield f"f{size}-{number:06d}", body_of(size)
@@ -90,7 +90,7 @@ def names_of(row, mark):
 
 
 class Drop:
-    """`drop serve` over a copy of an office with the files that stand at first, or of one without a file."""
+    """`drop serve` on a copy of an office with the initial files, or with the given files."""
 
     name = "drop serve"
 
@@ -124,7 +124,7 @@ class Drop:
 
 
 class Nginx:
-    """nginx with links of `secure_link` and uploads by `dav`."""
+    """nginx with links by `secure_link` and uploads by `dav`."""
 
     name = "nginx"
 

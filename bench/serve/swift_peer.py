@@ -1,5 +1,5 @@
-"""An S3 server of Debian's packages as a peer: OpenStack Swift with its middleware `s3api`, on loopback, with one copy of each
-file on one disk. README.md beside this says more."""
+"""An S3 server from Debian's packages as a peer: OpenStack Swift with its middleware `s3api`, on loopback, with one copy of each
+file on one disk. More in README.md in this folder."""
 
 import contextlib
 import getpass
@@ -13,7 +13,7 @@ from servers import BOX, HOST, first_files, free_port, free_ports, wait_for
 
 KEY, SECRET, REGION = "bench:drop", b"a-secret-of-the-bench", "us-east-1"
 STORES = ["account", "container", "object"]
-INNER = "127.0.0.2"  # where the stores and memcached listen, so that no port of theirs is the proxy's
+INNER = "127.0.0.2"  # where the stores and memcached listen, so that their ports cannot clash with the proxy's
 PROGRAMS = [*(f"swift-{it}-server" for it in ["proxy", *STORES]), "swift-ring-builder", "memcached"]
 COMMON = """[DEFAULT]
 bind_ip = {host}
@@ -92,7 +92,7 @@ class Swift:
             yield self.link(row.method, f"{BOX}/{name}", port)
 
     def ask(self, port, method, wanted):
-        """Asks for each of these targets, with the body that stands beside it; each is to be answered with status 200."""
+        """Requests each of these targets with its body; each answer must have status 200."""
         with contextlib.closing(http.client.HTTPConnection(HOST, port)) as connection:
             for target, body in wanted:
                 connection.request(method, self.link(method, target, port), body)
@@ -102,14 +102,14 @@ class Swift:
                     raise SystemExit(f"Swift answered {answer.status} to {method} of {target}: {text}")
 
     def fill(self):
-        """A bucket, and the files that stand at first."""
+        """Creates a bucket and the initial files."""
         port = free_port()
         with self.started(port):
             self.ask(port, "PUT", [(BOX, b""), *((f"{BOX}/{name}", body) for name, body in first_files())])
 
     @contextlib.contextmanager
     def running(self, port):
-        """It runs, and has answered once, which makes its first connections."""
+        """Runs Swift, which has answered one request, so that its first connections exist."""
         with self.started(port) as pid:
             name, _ = next(first_files())
             self.ask(port, "GET", [(f"{BOX}/{name}", None)])
