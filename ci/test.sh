@@ -93,7 +93,7 @@ alone=(ci/test_{serve,kills,crowd,stops,page,clerk,memory,deploy,package}.py)
 SECONDS=0
 # The edits of a crate are tried once `rt ci` has built its library, in parallel with the other parts, most of which wait for
 # servers and browsers.
-run edits python3 -B ci/edits.py --beside "$work/rt-ci.status" --minutes 135 >"$work/edits" &
+run edits python3 -B ci/edits.py --beside "$work/rt-ci.status" --minutes 120 >"$work/edits" &
 count rt-ci rt ci
 count side-by-side tests -n "$(nproc)" "${beside[@]}"
 count one-by-one tests --shots "$work/shots" "${alone[@]}"
