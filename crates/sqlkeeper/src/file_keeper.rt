@@ -214,7 +214,8 @@ impl<S: Alter> SqlKeeper<S> {
     ) -> Result<SqlKeeper<S>, (OpenFault, Connection<S>)>
         ensures accepts { HasOurs (state S.Store conn)
             → IfOk result (λ k. ⟦<SqlKeeper<S> as Keeper>⟧.is_honest k
-            → (s : State) × ⟦<SqlKeeper<S> as Keeper>⟧.means k s) }
+            → (s : State) × KeepsState (state S.Store conn) s
+            × ⟦<SqlKeeper<S> as Keeper>⟧.means k s) }
         ensures means { (s : State) → KeepsState (state S.Store conn) s
             → IfOk result (λ k. ⟦<SqlKeeper<S> as Keeper>⟧.means k s) }
         ensures named { IfOk result (λ k. AreNamed (state S.Store conn).now.schema) }

@@ -1,4 +1,7 @@
 //! Secrets in files of their own.
+ghost use Rattle.std.specs.Prelude.{IfOk, IsOk};
+ghost use Rattle.sigv4.specs.Credential.{IsSecret};
+
 use crate::faults::Fault;
 use sigv4::is_secret;
 use std::fs;
@@ -9,7 +12,9 @@ use tasks::read_line;
 const LONGEST_SECRET: u16 = 128;
 
 /// Fails if this is not a secret.
-pub(crate) fn check_secret(secret: &[u8]) -> Result<(), Fault<'static>> {
+pub fn check_secret(secret: &[u8]) -> Result<(), Fault<'static>>
+    ensures { IsOk result → IsSecret secret.now }
+{
     if is_secret(secret) {
         Ok(())
     } else {
@@ -18,7 +23,9 @@ pub(crate) fn check_secret(secret: &[u8]) -> Result<(), Fault<'static>> {
 }
 
 /// The secret in a file. It must be the only line.
-pub(crate) fn read_secret_file(rt: &HostRuntime, name: &str) -> Result<Vec<u8>, Fault<'static>> {
+pub fn read_secret_file(rt: &HostRuntime, name: &str) -> Result<Vec<u8>, Fault<'static>>
+    ensures { IfOk result (λ secret. IsSecret secret.items) }
+{
     let file = fs::open(rt, name).map_err(unread)?;
     let Some(line) = read_line(rt.alloc(), file, LONGEST_SECRET).map_err(unread)? else {
         return Err(Fault::MalformedValue("secret"));

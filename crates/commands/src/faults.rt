@@ -2,28 +2,36 @@
 use desk::ListFault;
 use keeper::KeepFault;
 use office::DeskFault;
-use sqlkeeper::OpenFault;
 use std::alloc::AllocError;
 use thiserror::Error;
 
 /// Why the program could not do its task. The message follows `drop: ` on the line.
 #[derive(Clone, Copy, Debug, PartialEq, Eq, Error)]
-pub(crate) enum Fault<'a> {
+pub enum Fault<'a> {
     /// The argument of this name is malformed.
     #[error("malformed value: {0}")]
     MalformedValue(&'a str),
     /// The file with the secret could not be opened or read.
     #[error("cannot read the secret")]
     CannotReadSecret,
-    /// The office file does not exist, or could not be opened.
+    /// The office file does not exist, is no database, or could not be read.
     #[error("cannot open the office file")]
     CannotOpen,
     /// Another program has the office file open.
     #[error("cannot open the office file")]
     Held,
-    /// The file is not a fit office file, or its store failed.
-    #[error("{0}")]
-    Office(OpenFault),
+    /// The file that was to be made is not empty.
+    #[error("the office file exists already")]
+    Exists,
+    /// The tables are not those of an office, or the office breaks a rule.
+    #[error("the office file is damaged")]
+    Damaged,
+    /// The office has another version.
+    #[error("the office file has another version")]
+    OtherVersion,
+    /// The store of the office file failed.
+    #[error("the store refused")]
+    Store,
     /// The desk command could not be read.
     #[error("cannot read the command")]
     CannotReadCommand,
@@ -68,15 +76,6 @@ impl From<AllocError> for Fault<'_> {
     }
 }
 
-impl From<OpenFault> for Fault<'_> {
-    fn from(fault: OpenFault) -> Self {
-        match fault {
-            OpenFault::Memory => Fault::OutOfMemory,
-            other => Fault::Office(other),
-        }
-    }
-}
-
 impl From<DeskFault> for Fault<'_> {
     fn from(fault: DeskFault) -> Self {
         match fault {
@@ -103,7 +102,7 @@ impl From<KeepFault> for Fault<'_> {
     fn from(fault: KeepFault) -> Self {
         match fault {
             KeepFault::Memory => Fault::OutOfMemory,
-            KeepFault::Store | KeepFault::Full => Fault::Office(OpenFault::Store),
+            KeepFault::Store | KeepFault::Full => Fault::Store,
         }
     }
 }

@@ -1,8 +1,10 @@
 //! `drop export`: writes the files of an office to a folder.
+ghost use Rattle.boxes.specs.State.{State};
+ghost use Rattle.office.specs.Crashes.{AddsStanding};
+
 use crate::faults::Fault;
-use crate::opening::{OfficeWork, Purpose, work_over};
+use crate::work::OfficeWork;
 use exports::{ExportFault, Folder, PutFault, export};
-use office::Office;
 use rolls::Rolls;
 use std::alloc::Global;
 use std::fs::{DirBuilder, Files, OpenOptions, Permissions};
@@ -18,16 +20,26 @@ const OWNERS_FILE: u32 = 0o600;
 /// Open to the owner only.
 const OWNERS_FOLDER: u32 = 0o700;
 
-// The arguments of an export.
+/// An export: the folder to make, and the box to which it is limited, if one is named.
 #[derive(Drop)]
-struct ExportWork<'w> {
-    words: &'w Export<'w>,
+pub struct ExportWork<'w> {
+    /// The arguments.
+    pub words: Export<'w>,
 }
 
 impl<'a> OfficeWork<'a> for ExportWork<'_> {
-    fn run<K: Rolls>(self, rt: &HostRuntime, office: &mut Office<K>) -> Result<(), Fault<'a>> {
+    ghost use Rattle.std.specs.Prelude.{IsOk};
+    ghost use Rattle.commands.specs.Listing.{Looks};
+
+    type Gain = Result<(), Fault<'a>>;
+
+    ghost step = { λ work gain. Looks };
+
+    ghost idle = { λ work gain. IsOk gain → ⊥ };
+
+    fn run<K: Rolls>(self, rt: &'a HostRuntime, mut keeper: K) -> (Result<(), Fault<'a>>, K) {
         if make_folder(rt, self.words.folder).is_err() {
-            return Err(Fault::CannotMakeFolder);
+            return (Err(Fault::CannotMakeFolder), keeper);
         }
         let mut folder = ExportFolder {
             rt,
@@ -36,16 +48,16 @@ impl<'a> OfficeWork<'a> for ExportWork<'_> {
             made: Vec::new(rt.alloc()),
             whole: 0,
         };
-        match export_into(rt, &mut office.keeper, self.words, &mut folder) {
+        let done = match export_into(rt, &mut keeper, &self.words, &mut folder) {
             Ok(()) => Ok(()),
             Err(fault) => Err(told(fault, folder.whole)),
-        }
+        };
+        (done, keeper)
     }
-}
 
-/// Makes the folder that the arguments name, and exports the files of the office to it, or only those of the named box.
-pub(crate) fn do_export<'a>(rt: &HostRuntime, words: &Export<'_>) -> Result<(), Fault<'a>> {
-    work_over(rt, words.file, Purpose::Look, ExportWork { words })
+    fn refuse(self, fault: Fault<'a>) -> Result<(), Fault<'a>> {
+        Err(fault)
+    }
 }
 
 // Exports to the folder. The two lists lie beside the folders of the boxes. Their buffers are flushed even if the export fails.
@@ -54,7 +66,12 @@ fn export_into<K: Rolls, R: Files>(
     keeper: &mut K,
     words: &Export<'_>,
     folder: &mut ExportFolder<'_, R>,
-) -> Result<(), ExportFault> {
+) -> Result<(), ExportFault>
+    ensures same { (s : State) → K.Keeper.means keeper.old s → K.Keeper.means keeper.new s }
+    ensures honest { K.Keeper.is_honest keeper.new → K.Keeper.is_honest keeper.old }
+    ensures crash { (s : State) → K.Keeper.means keeper.old s → K.Keeper.is_honest keeper.new
+        → AddsStanding K.Keeper keeper.old keeper.new s }
+{
     let alloc = folder.alloc;
     let mut files = list_in(rt, alloc, words.folder, "files.csv", ExportFault::Files)?;
     let mut sums = list_in(rt, alloc, words.folder, "SHA256SUMS", ExportFault::Sums)?;

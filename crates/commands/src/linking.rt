@@ -1,6 +1,7 @@
 //! `drop link`: writes a link, signed with a key.
 use crate::faults::Fault;
-use crate::signing::{KeyWork, sign_by};
+use crate::signing::KeyWork;
+use crate::work::{Done, say};
 use boxes::{Command, has_form};
 use desk::read_command;
 use links::{LinkFault, LinkKey, LinkOrder, Method, OrderParam, is_host, read_moment, write_link};
@@ -11,44 +12,54 @@ use std::alloc::Global;
 use std::io::Write;
 use tasks::Link;
 
-/// Writes `http://`, the host and a link as one line to `out`.
-pub(crate) fn do_link(
-    rt: &HostRuntime,
-    words: &Link<'_>,
-    out: &mut impl Write,
-) -> Result<(), Fault<'static>> {
-    let order = read_order(rt.alloc(), words)?;
-    sign_by(rt, words.file, words.key, LinkWork { order, words, out })
-}
-
-// The link to write, and the output.
+/// A link to write, and the output, which gets `http://`, the host and the link as one line.
 #[derive(Drop)]
-struct LinkWork<'w, W: Drop> {
-    order: Order,
-    words: &'w Link<'w>,
-    out: W,
+pub struct LinkWork<'w, W: Drop> {
+    /// The parts of the link.
+    pub order: Order,
+    /// The others.
+    pub words: Link<'w>,
+    /// The output.
+    pub out: W,
 }
 
 impl<'a, W: Write + Drop> KeyWork<'a> for LinkWork<'_, W> {
-    fn run(mut self, alloc: Global, key: &LinkKey<'_>) -> Result<(), Fault<'a>> {
-        let line = line_of(alloc, key, &self.order, self.words)?;
-        let Ok(()) = self.out.write_all(&line) else {
-            return Err(Fault::CannotWrite);
+    type Out = W;
+
+    fn run(self, alloc: Global, key: &LinkKey<'_>) -> Done<'a, W> {
+        let LinkWork {
+            order,
+            words,
+            mut out,
+        } = self;
+        let result = match line_of(alloc, key, &order, &words) {
+            Ok(line) => say(&mut out, line.as_slice()),
+            Err(fault) => Err(fault),
         };
-        self.out.flush().map_err(|_| Fault::CannotWrite)
+        Done {
+            result,
+            out: Some(out),
+        }
+    }
+
+    fn refuse(self, fault: Fault<'a>) -> Done<'a, W> {
+        Done {
+            result: Err(fault),
+            out: Some(self.out),
+        }
     }
 }
 
-// The parts of a link besides its path.
+/// The parts of a link besides its path.
 #[derive(Clone, Copy, Debug)]
-struct Order {
+pub struct Order {
     method: Method,
     start: Moment,
     expires: u64,
 }
 
-// Reads the arguments. Fails if one is malformed.
-fn read_order(alloc: Global, words: &Link<'_>) -> Result<Order, Fault<'static>> {
+/// Reads the arguments. Fails if one is malformed.
+pub fn read_order(alloc: Global, words: &Link<'_>) -> Result<Order, Fault<'static>> {
     let Some(method) = Method::read(words.method.as_bytes()) else {
         return Err(Fault::MalformedValue("method"));
     };
@@ -69,7 +80,7 @@ fn read_order(alloc: Global, words: &Link<'_>) -> Result<Order, Fault<'static>> 
 }
 
 /// Fails if the host or the region is malformed.
-pub(crate) fn check_place(host: &[u8], region: &[u8]) -> Result<(), Fault<'static>> {
+pub fn check_place(host: &[u8], region: &[u8]) -> Result<(), Fault<'static>> {
     if !is_host(host) {
         return Err(Fault::MalformedValue("host"));
     }

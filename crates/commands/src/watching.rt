@@ -13,7 +13,7 @@ const MEGABYTE: u64 = 1_000_000;
 /// The machine's clock. It checks the length of the office file whenever the second has changed since the last call. Once
 /// opening the file would take over half of the memory limit, one line on standard error says so.
 #[derive(Drop)]
-pub(crate) struct WatchingClock<'a, R: time::Clock> {
+pub struct WatchingClock<'a, R: time::Clock> {
     rt: &'a R,
     clock: MachineClock<'a, R>,
     file: &'a str,

@@ -1,0 +1,29 @@
+//! What a service takes from outside: where it listens, and its clock.
+ghost use Rattle.std.specs.Prelude.{IfSome};
+
+use office::Clock;
+use sockets::Listener;
+use std::net::SocketAddrV4;
+
+/// Where a service listens, and its clock. `Machine` is the one of the program.
+pub trait Outside<'a> {
+    /// The listener.
+    type Listener: Listener;
+
+    /// The clock.
+    type Clock: Clock + Drop;
+
+    /// The listener listens at the address, which is given as its text, and nothing has come.
+    ghost listens: { Listener → Type 0 };
+
+    /// The clock was just made.
+    ghost begins: { Clock → Type 0 };
+
+    /// Listens at the address.
+    fn listen(&self, rt: &'a HostRuntime, address: SocketAddrV4) -> Option<Self::Listener>
+        ensures { IfSome result listens };
+
+    /// The clock of a service over the office file of this name, which the program has just opened.
+    fn clock(&self, rt: &'a HostRuntime, file: &'a str) -> Self::Clock
+        ensures { begins result };
+}

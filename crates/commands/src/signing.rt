@@ -1,0 +1,80 @@
+//! Signing with a key, whose secret is in an office or in a file.
+ghost use Rattle.std.specs.Prelude.{IsOk};
+
+use crate::faults::Fault;
+use crate::secrets::read_secret_file;
+use crate::work::{Done, OfficeWork};
+use links::LinkKey;
+use rolls::Rolls;
+use sigv4::is_key_id;
+use std::alloc::Global;
+
+/// The work with a signing key.
+pub trait KeyWork<'a> {
+    /// The output.
+    type Out: Drop;
+
+    /// Does the work.
+    fn run(self, alloc: Global, key: &LinkKey<'_>) -> Done<'a, Self::Out>;
+
+    /// What the work gives where there is no key.
+    fn refuse(self, fault: Fault<'a>) -> Done<'a, Self::Out>
+        ensures { IsOk result.result → ⊥ };
+}
+
+/// The same with the key of this id from an office.
+#[derive(Drop)]
+pub struct OfficeKey<'w, W: Drop> {
+    /// The id of the key.
+    pub id: &'w [u8],
+    /// The work.
+    pub work: W,
+}
+
+impl<'a, W: KeyWork<'a> + Drop> OfficeWork<'a> for OfficeKey<'_, W> {
+    ghost use Rattle.std.specs.Prelude.{IsOk};
+    ghost use Rattle.commands.specs.Listing.{Looks};
+
+    type Gain = Done<'a, W::Out>;
+
+    ghost step = { λ work gain. Looks };
+
+    ghost idle = { λ work gain. IsOk gain.result → ⊥ };
+
+    fn run<K: Rolls>(self, rt: &'a HostRuntime, mut keeper: K) -> (Done<'a, W::Out>, K) {
+        let OfficeKey { id, work } = self;
+        let done = match keeper.key(id) {
+            Ok(Some(row)) => {
+                let secret = row.secret.as_slice();
+                work.run(rt.alloc(), &LinkKey { id, secret })
+            }
+            Ok(None) => work.refuse(Fault::UnknownKey),
+            Err(fault) => work.refuse(Fault::from(fault)),
+        };
+        (done, keeper)
+    }
+
+    fn refuse(self, fault: Fault<'a>) -> Done<'a, W::Out> {
+        self.work.refuse(fault)
+    }
+}
+
+/// Does the work with the key of this id, whose secret is the line of the named file. No office is opened.
+pub fn sign_by_file<'a, W: KeyWork<'a> + Drop>(
+    rt: &HostRuntime,
+    name: &str,
+    id: &str,
+    work: W,
+) -> Done<'a, W::Out> {
+    let id = id.as_bytes();
+    if !is_key_id(id) {
+        return work.refuse(Fault::MalformedValue("key"));
+    }
+    match read_secret_file(rt, name) {
+        Ok(secret) => {
+            let secret = secret.as_slice();
+            work.run(rt.alloc(), &LinkKey { id, secret })
+        }
+        Err(fault) => work.refuse(fault),
+    }
+}

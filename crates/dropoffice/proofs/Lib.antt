@@ -1,0 +1,4 @@
+pub mod Before
+pub mod Ended
+pub mod InTurns
+pub mod Lines
