@@ -20,20 +20,15 @@ impl<K: Keeper> CachedKeeper<K> {
     /// Wraps a keeper, with an empty cache.
     pub fn new(alloc: Global, keeper: K) -> CachedKeeper<K>
         ensures same { result.keeper ≡ keeper }
-        ensures means { (s : State) → (⟦<CachedKeeper<K> as Keeper>⟧.means result s
-            ↔ K.means keeper s) }
-        ensures honest { ⟦<CachedKeeper<K> as Keeper>⟧.is_honest result
-            ↔ K.is_honest keeper }
-        ensures opened { ⟦<CachedKeeper<K> as Keeper>⟧.is_open result
-            ↔ K.is_open keeper }
+        ensures means { (s : State) → (⟦<CachedKeeper<K> as Keeper>⟧.means result s ↔ K.means keeper s) }
+        ensures honest { ⟦<CachedKeeper<K> as Keeper>⟧.is_honest result ↔ K.is_honest keeper }
+        ensures opened { ⟦<CachedKeeper<K> as Keeper>⟧.is_open result ↔ K.is_open keeper }
         ensures count { ⟦<CachedKeeper<K> as Keeper>⟧.faults result ≡ K.faults keeper }
         ensures store { ⟦<CachedKeeper<K> as Keeper>⟧.has_store ↔ K.has_store }
         ensures staged { (bytes : List ℕ) → (⟦<CachedKeeper<K> as Keeper>⟧.stages result bytes
             ↔ K.stages keeper bytes) }
-        ensures leaves { (t : State) → (⟦<CachedKeeper<K> as Keeper>⟧.leaves result t
-            ↔ K.leaves keeper t) }
-        ensures whole { ⟦<CachedKeeper<K> as Keeper>⟧.leaves_whole result
-            ↔ K.leaves_whole keeper }
+        ensures leaves { (t : State) → (⟦<CachedKeeper<K> as Keeper>⟧.leaves result t ↔ K.leaves keeper t) }
+        ensures whole { ⟦<CachedKeeper<K> as Keeper>⟧.leaves_whole result ↔ K.leaves_whole keeper }
     {
         CachedKeeper {
             keeper,
@@ -41,7 +36,7 @@ impl<K: Keeper> CachedKeeper<K> {
         }
     }
 
-    /// The inner keeper.
+    /// Gives the inner keeper back.
     pub fn into_inner(self) -> K
         ensures { result ≡ self.keeper }
     {
