@@ -89,7 +89,7 @@ fn spoken<'a, W: Drop, L, E, C, D: Disk>(worked: Worked<Done<'a, W>, D>) -> Ende
 }
 
 // The end of a service.
-fn served<'a, W, L, E, C, D: Disk>(
+fn served<'a, W, L: Drop, E: Drop, C: Drop, D: Disk>(
     worked: Worked<Session<'a, L, E, C>, D>,
 ) -> Ended<'a, W, L, E, C, D>
     ensures done { IsOk result.result → IsOk worked.gain.result }
