@@ -212,8 +212,8 @@ module _ {C K : Type 0} (gives : C → ℕ → C → Type 0) (p : Place) (left r
         written = appends;
         held = held_to k keeper keeper' true (Refused 40) less (refused_no_read 40);
         lasts = given_no_more (Refused 40) (refused_no_read 40);
-        survives = survives_asked r now asks;
         session = session.gave_up_at n ((text ++ body) ++ waits) waits s r now (stands waits) readable;
+        survives = survives_asked r now (refl, refl) asks;
       },
       tt,
     ),
@@ -255,8 +255,8 @@ module _ {C K : Type 0} (gives : C → ℕ → C → Type 0) (p : Place) (left r
         written = appends;
         held = held_to k keeper keeper' true WriteFault less write_no_read;
         lasts = given_no_more WriteFault write_no_read;
-        survives = survives_asked r now asks;
         session = session.write_failed_giving_up_at n ((text ++ body) ++ waits) waits s r now front (stands waits) readable begins;
+        survives = survives_asked r now (refl, refl) asks;
       },
       tt,
     ),

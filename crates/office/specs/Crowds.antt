@@ -8,7 +8,7 @@ use Rattle.office.specs.declared.connections.seat.Seat.{Seat}
 use Rattle.office.specs.declared.connections.session.SessionEnd.{SessionEnd}
 use Rattle.office.specs.Connections.{TellsMoments, is_fault}
 use Rattle.office.specs.Crashes.{Survives}
-use Rattle.office.specs.Interleaved.{Interleaved, SpeakInTurns, Thread, acts_in}
+use Rattle.office.specs.Interleaved.{HaveGivenUp, Interleaved, SpeakInTurns, Thread, acts_in}
 use Rattle.office.specs.Repeats.{RepeatsOnce}
 use Rattle.office.specs.Seats.{AreThreads, Gathers, HaveTurns, IsNew, LastsOver, Sends, StaysSo, TakesTurn, TellsOneMoment, TellsTurn, turns_of}
 
@@ -145,5 +145,5 @@ pub record ServesCrowd {C K R W : Type 0} (gives : C → ℕ → C → Type 0) (
   pub repeats : RepeatsOnce (acts_in run.turns)
   pub stays : StaysSo k threads keeper keeper' after
   pub lasts : LastsOver k threads keeper keeper' s after
-  pub survives : Survives k keeper keeper' s after
+  pub survives : Survives k keeper keeper' (HaveGivenUp run.turns 0 threads) s after
   pub faulty : faults ≡ count_by (λ c. is_fault_end c.end) threads

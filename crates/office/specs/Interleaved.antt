@@ -108,6 +108,27 @@ AreSpoken turns i [] = ⊤
 AreSpoken turns i (c ∷ cs) =
     Speaks most_messages c.stream (own_acts i turns) (own_moments i turns) c.answers c.end c.gave_up × AreSpoken turns (suc i) cs
 
+-- rest follows on the stream behind the messages of these acts
+abbrev pub IsBehind : List ℕ → List Act → List ℕ → Type 0
+IsBehind stream [] rest = rest ≡ stream
+IsBehind stream (a ∷ acts) rest = (more : List ℕ) × Next stream (frame.Message a.request) more × IsBehind more acts rest
+
+-- A connection gave up this request at this moment: its message was the first behind those of the acts, and its
+-- moment was told after theirs. stream, gave_up, acts and moments are those of the connection.
+pub record HasGivenUp (stream : List ℕ) (gave_up : Bool) (acts : List Act) (moments : List ℕ) (r : Request) (now : ℕ) : Type 0 where
+  pub marked : gave_up ≡ true
+  pub rest : List ℕ
+  pub more : List ℕ
+  pub behind : IsBehind stream acts rest
+  pub message : Next rest (frame.Message r) more
+  pub told : moments ≡ map (λ a. a.now) acts ++ now ∷ []
+
+-- one of the connections, from number i on, gave up this request at this moment
+abbrev pub HaveGivenUp : List Turn → ℕ → List Thread → Request → ℕ → Type 0
+HaveGivenUp turns i [] r now = ⊥
+HaveGivenUp turns i (c ∷ cs) r now =
+    HasGivenUp c.stream c.gave_up (own_acts i turns) (own_moments i turns) r now ⊎ HaveGivenUp turns (suc i) cs r now
+
 -- There is one order of all messages. By the rules of the machine it leads from the state to the state after,
 -- and each connection is what its own messages make of it.
 pub record Interleaved (s : State) (threads : List Thread) (moments : List ℕ) (after : State) : Type 0 where

@@ -132,8 +132,9 @@ impl<K: Keeper> Office<K> {
     /// messages, until it went or as it stands in its slot. Over all connections an upload acts once.
     ///
     /// If the keeper was open and no connection gave up, exactly that one state is kept. Changes survive a
-    /// crash, whatever was given up: a crash afterwards leaves the state after, or that state with one more
-    /// request.
+    /// crash: if nothing was given up except at a failed read, a crash afterwards leaves the state after. In
+    /// any case it leaves that state, or that state with one more request: one that a connection gave up,
+    /// done at its moment.
     ///
     /// Exactly the turns that the crowd gives are taken, in order, each by its own connection. Each tells at
     /// most one moment. The turn in which a connection ends answers no message in full. The connections that
