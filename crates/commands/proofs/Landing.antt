@@ -1,8 +1,8 @@
 -- What the clauses of a keeper come to if a crash left its state alone.
 use Rattle.std.proofs.Common.{◌≡◌, ◌∙◌, ◌⊎◌, ⊎_elim, inl, inr, Result, Ok, Err, refl, sym, subst, ℕ, List}
+use Rattle.sigtext.specs.Request.{Request}
 use Rattle.boxes.specs.State.{State}
 use Rattle.keeper.specs.Bound.{StaysBy}
-use Rattle.keeper.specs.Keeping.{LeavesAlone}
 use Rattle.keeper.specs.declared.keep.KeepFault.{KeepFault}
 use Rattle.keeper.specs.declared.keep.Keeper.{Ghosts}
 use Rattle.office.specs.Crashes.{AddsAsked, AddsStanding, Lasts, changed, unchanged, Survives, no_change, some_change}
@@ -10,18 +10,18 @@ use Rattle.office.specs.Crashes as crash
 use Rattle.office.specs.Premise.{IsLeft, WasKept}
 use Rattle.commands.specs.Asking.{Asked, IsLeftBy, IsOneMore, nothing}
 use Rattle.commands.specs.Listing.{Looks}
-use Rattle.commands.specs.Working.{Lands, Passes}
+use Rattle.commands.specs.Working.{Lands, Passes, StandsAlone}
 
-module _ {K : Type 0} {k : Ghosts K} {old new : K} {s : State} (alone : LeavesAlone k.leaves k.leaves_whole old s) where
+asked_or : {A B C : Type 0} → (A → B) → A ⊎ (B ⊎ C) → B ⊎ C
+asked_or f (inl a) = inl (f a)
+asked_or f (inr rest) = rest
+
+module _ {K : Type 0} {k : Ghosts K} {old new : K} {s : State} (alone : StandsAlone k old s) where
   pub standing : AddsStanding k old new s → (t : State) → k.leaves new t → t ≡ s
   standing adds t left = ⊎_elim (alone.alone t) (λ (same : t ≡ s). same) (adds.adds t left)
 
   pub standing_whole : AddsStanding k old new s → k.leaves_whole new
   standing_whole adds = adds.whole alone.whole
-
-  asked_or : {A B C : Type 0} → (A → B) → A ⊎ (B ⊎ C) → B ⊎ C
-  asked_or f (inl a) = inl (f a)
-  asked_or f (inr rest) = rest
 
   pub adding : {More : State → Type 0} → AddsAsked k old new s More → (t : State) → k.leaves new t → (t ≡ s) ⊎ More t
   adding adds t left = asked_or (alone.alone t) (adds.adds t left)
@@ -35,30 +35,33 @@ module _ {K : Type 0} {k : Ghosts K} {old new : K} {s : State} (alone : LeavesAl
   lasting_whole (changed only) = only.whole
   lasting_whole (unchanged same adds) = standing_whole adds
 
-  pub surviving : {after : State} → Survives k old new s after → (t : State) → k.leaves new t → (t ≡ after) ⊎ crash.IsOneMore after t
+  pub surviving : {given_up : Request → ℕ → Type 0} {after : State} → Survives k old new given_up s after → (t : State) → k.leaves new t → (t ≡ after) ⊎ crash.IsOneMore given_up after t
   surviving (some_change leaves whole) t left = leaves t left
-  surviving (no_change same adds) t left = subst (λ (x : State). (t ≡ x) ⊎ crash.IsOneMore x t) (sym same) (adding adds t left)
+  surviving {given_up = given_up} (no_change same adds) t left = subst (λ (x : State). (t ≡ x) ⊎ crash.IsOneMore given_up x t) (sym same) (adding adds t left)
 
-  pub surviving_whole : {after : State} → Survives k old new s after → k.leaves_whole new
+  pub surviving_whole : {given_up : Request → ℕ → Type 0} {after : State} → Survives k old new given_up s after → k.leaves_whole new
   surviving_whole (some_change leaves whole) = whole
   surviving_whole (no_change same adds) = adds.whole alone.whole
+
+-- a keeper of which a crash leaves nothing new
+pub stood : {K : Type 0} {k : Ghosts K} {old new : K} {Step : State → State → Asked → Type 0} → (k.is_honest new → k.is_honest old) → ((s : State) → k.means old s → k.means new s)
+    → ((s : State) → k.means old s → k.is_honest new → AddsStanding k old new s) → ((s : State) → WasKept k old new s → Step s s nothing) → Passes k old new Step
+stood honest same adds step = record {
+  honest = honest;
+  lands = λ s kept alone. record {
+    after = s;
+    asked = nothing;
+    left = record { means = same s kept.means; sound = kept.sound };
+    step = step s kept;
+    crash = λ t left. inl (standing alone (adds s kept.means kept.is_honest) t left);
+    whole = standing_whole alone (adds s kept.means kept.is_honest);
+  };
+}
 
 -- a keeper that was only asked
 pub looked : {K T : Type 0} {k : Ghosts K} {old new : K} {Step : State → State → Asked → Type 0} (r : Result T KeepFault) → StaysBy k old new r
     → ((s : State) → WasKept k old new s → Step s s nothing) → Passes k old new Step
-looked {k = k} {old = old} {new = new} r stays step = record {
-  honest = stays.honest;
-  lands = λ s kept alone.
-      let adds : AddsStanding k old new s = record { adds = λ t left. stays.crash s t kept.means kept.is_honest left; whole = stays.whole s kept.means kept.is_honest } in
-      record {
-        after = s;
-        asked = nothing;
-        left = record { means = stays.same s kept.means; sound = kept.sound };
-        step = step s kept;
-        crash = λ t left. inl (standing alone adds t left);
-        whole = standing_whole alone adds;
-      };
-}
+looked r stays step = stood stays.honest stays.same (λ s means honest. record { adds = λ t left. stays.crash s t means honest left; whole = stays.whole s means honest }) step
 
 pub looks : (s : State) → Looks s s nothing
 looks s = record { same = refl; none = refl }
@@ -93,7 +96,7 @@ pub record Wraps {K L : Type 0} (k : Ghosts K) (l : Ghosts L) (old new : K) (out
   pub before : l.is_honest outer → k.is_honest old
   pub means : (s : State) → k.means old s → l.is_honest outer' → l.means outer s
   pub within : (s : State) → l.means outer' s → k.means new s
-  pub alone : (s : State) → k.means old s → l.is_honest outer → LeavesAlone k.leaves k.leaves_whole old s → LeavesAlone l.leaves l.leaves_whole outer s
+  pub alone : (s : State) → k.means old s → l.is_honest outer → StandsAlone k old s → StandsAlone l outer s
   pub leaves : (t : State) → k.leaves new t → l.leaves outer' t
   pub whole : l.leaves_whole outer' → k.leaves_whole new
 

@@ -1,20 +1,20 @@
 -- What a desk line comes to for a keeper.
-use Rattle.std.proofs.Common.{◌≡◌, ◌⊎◌, ℕ, List, Option, Some, Result, Ok, Err, refl, inl, inr}
+use Rattle.std.proofs.Common.{◌≡◌, ◌⊎◌, ℕ, List, Option, Some, None, Result, Ok, Err, refl, inl, inr}
 use Rattle.std.specs.Prelude.{OnErr}
 use Rattle.boxes.specs.State.{State}
-use Rattle.keeper.specs.Keeping.{LeavesAlone}
 use Rattle.keeper.specs.declared.keep.Keeper.{Ghosts}
 use Rattle.office.specs.declared.requests.commanding.DeskFault.{DeskFault}
 use Rattle.office.specs.declared.requests.commanding.DeskFault.TheVariants as fault
 use Rattle.office.specs.Crashes.{Endures, IsToldBy, UndoneLasts}
 use Rattle.office.specs.DeskLines.{IsObeyedBy}
 use Rattle.office.specs.Premise.{WasKept}
+use Rattle.commands.specs.Asking.{Asked}
 use Rattle.commands.specs.Asking as asking
 use Rattle.commands.specs.Obeying.{IsGiven}
-use Rattle.commands.specs.Working.{Passes}
+use Rattle.commands.specs.Working.{Passes, StandsAlone}
 use Rattle.commands.proofs.Landing.{adding, lasting, lasting_whole, standing, standing_whole}
 
-module _ {T K : Type 0} {k : Ghosts K} {old new : K} {s : State} (alone : LeavesAlone k.leaves k.leaves_whole old s) (More : State → Type 0) where
+module _ (T : Type 0) {K : Type 0} (k : Ghosts K) (old new : K) (s : State) (alone : StandsAlone k old s) (More : State → Type 0) where
   undone : (e : DeskFault) → UndoneLasts {T = T} k old new s More (Err e) → (t : State) → k.leaves new t → (t ≡ s) ⊎ More t
   undone fault.Malformed adds t left = inl (standing alone adds t left)
   undone fault.NotPossible adds t left = inl (standing alone adds t left)
@@ -24,6 +24,12 @@ module _ {T K : Type 0} {k : Ghosts K} {old new : K} {s : State} (alone : Leaves
   undone_whole fault.Malformed adds = standing_whole alone adds
   undone_whole fault.NotPossible adds = standing_whole alone adds
   undone_whole (fault.Kept f) adds = adds.whole alone.whole
+
+-- if less is called a success
+pub given : (command : Option (List ℕ)) {Done Next : Type 0} → (Next → Done) → (s after : State) (asked : Asked) → IsGiven command Done s after asked → IsGiven command Next s after asked
+given None so s after asked (none, same, fails) = (none, same, λ next. fails (so next))
+given (Some text) so s after asked (is, inl done) = (is, inl done)
+given (Some text) so s after asked (is, inr (same, fails)) = (is, inr (same, λ next. fails (so next)))
 
 -- a line was given to an office
 pub told : {T K : Type 0} (k : Ghosts K) (old new : K) (line : List ℕ) (r : Result T DeskFault) {Done : Type 0} → (k.is_honest new → k.is_honest old)
@@ -42,14 +48,14 @@ told k old new line (Ok x) honest obeys same crash fails = record {
         whole = lasting_whole alone left.means.lasts;
       };
 }
-told k old new line (Err e) honest obeys same crash fails = record {
+told {T = T} k old new line (Err e) honest obeys same crash fails = record {
   honest = honest;
   lands = λ s kept alone. record {
     after = s;
     asked = asking.line line;
     left = record { means = same s kept.means; sound = kept.sound };
     step = (refl, inr (refl, fails));
-    crash = undone alone (IsToldBy s line) e (crash s kept);
-    whole = undone_whole alone (IsToldBy s line) e (crash s kept);
+    crash = undone T k old new s alone (IsToldBy s line) e (crash s kept);
+    whole = undone_whole T k old new s alone (IsToldBy s line) e (crash s kept);
   };
 }

@@ -17,7 +17,7 @@ pub record ReplaysAll {W : Type 0} (contents : W → Option (List ℕ)) (n momen
   pub served : ℕ
   pub faults : ℕ
   pub turn : InTurn (contents old) (contents out) s after moment served faults
-  pub were_asked : asked ≡ connections turn.connections turn.moments
+  pub were_asked : asked ≡ connections s turn.connections turn.moments after turn.run
   pub whole : Done → (served ≡ n) × (faults ≡ 0)
 
 -- the text names an office in memory with this clerk's key: `memory:`, the id, `/` and the secret

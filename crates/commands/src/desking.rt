@@ -69,7 +69,7 @@ fn obey<'a, K: Keeper>(office: &mut Office<K>, command: Option<Vec<u8>>) -> Resu
 /// Says that the command was done, if it was.
 pub fn tell<'a, W: Write + Drop>(obeyed: Result<(), Fault<'a>>, mut out: W) -> Done<'a, W>
     ensures said { Says W.contents done_line (IsOk result.result) out result.out }
-    ensures done { IsOk result.result → IsOk obeyed }
+    ensures done { IsOk result.result → IsOk obeyed.entry }
 {
     let told = match obeyed {
         Ok(()) => say(&mut out, b"done\n"),

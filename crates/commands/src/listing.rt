@@ -1,5 +1,5 @@
 //! `drop links`, `drop manifest`, `drop compare` and `drop list`: lists in CSV.
-ghost use Rattle.std.specs.Prelude.{◌≡◌, IfOk, IsOk, Some};
+ghost use Rattle.std.specs.Prelude.{◌≡◌, IfOk, IsOk, IsTrue, Some};
 ghost use Rattle.std.specs.Io.KnownBytes.{Keeps};
 ghost use Rattle.boxes.specs.Sound.{IsSound};
 ghost use Rattle.boxes.specs.State.{State};
@@ -234,19 +234,27 @@ fn failed<'a, W: Drop>(fault: Fault<'a>) -> Done<'a, W>
 // What a work gives behind a list. Flushes the buffer even if the list failed.
 fn told<'a, W: Write + Drop>(
     listed: Result<(), ListFault>,
-    mut writer: Counted<BufWriter<W>>,
+    writer: Counted<BufWriter<W>>,
 ) -> Done<'a, W>
     ensures { IsOk result.result → IsOk listed × ((out : W) × (result.out ≡ Some out)
         × Keeps (⟦<BufWriter<W> as Write>⟧.contents writer.inner) (W.contents out)) }
 {
-    let flushed = writer.flush();
-    let (out, _) = writer.inner.into_parts();
-    let result = match listed {
-        Ok(()) => flushed.map_err(|_| Fault::CannotWrite),
-        Err(fault) => Err(Fault::from(fault)),
-    };
+    let mut writer = writer.inner;
+    let is_flushed = writer.flush().is_ok();
+    let (out, _) = writer.into_parts();
     Done {
-        result,
+        result: listed_and_flushed(listed, is_flushed),
         out: Some(out),
+    }
+}
+
+// The result of a list, and of flushing it.
+fn listed_and_flushed<'a>(listed: Result<(), ListFault>, is_flushed: bool) -> Result<(), Fault<'a>>
+    ensures { IsOk result → IsOk listed × IsTrue is_flushed }
+{
+    match listed {
+        Ok(()) if is_flushed => Ok(()),
+        Ok(()) => Err(Fault::CannotWrite),
+        Err(fault) => Err(Fault::from(fault)),
     }
 }

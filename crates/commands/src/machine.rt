@@ -2,30 +2,38 @@
 use crate::outside::Outside;
 use crate::watching::WatchingClock;
 use sockets::send_at_once;
-use std::net::{SocketAddr, SocketAddrV4, TcpListener};
+use std::fs::Files;
+use std::net::{Net, SocketAddr, SocketAddrV4, TcpListener, TcpStream};
+use std::time;
 
 /// TCP sockets and the clock of the machine that runs the program. No clause says what they give.
 #[derive(Clone, Copy)]
-pub struct Machine;
+pub struct Machine<'a, R> {
+    /// The machine.
+    pub rt: &'a R,
+}
 
-impl<'a> Outside<'a> for Machine {
+impl<
+    'a,
+    R: time::Clock + Files + AllocGlobal + Eprint + Net<Listener = TcpListener, Stream = TcpStream>,
+> Outside<'a> for Machine<'a, R> {
     ghost use Rattle.std.specs.Prelude.{⊤};
 
     type Listener = TcpListener;
 
-    type Clock = WatchingClock<'a, HostRuntime>;
+    type Clock = WatchingClock<'a, R>;
 
     ghost listens = { λ _. ⊤ };
 
     ghost begins = { λ _. ⊤ };
 
-    fn listen(&self, rt: &'a HostRuntime, address: SocketAddrV4) -> Option<TcpListener> {
-        let listener = TcpListener::bind(rt, SocketAddr::V4(address)).ok()?;
+    fn listen(&self, address: SocketAddrV4) -> Option<TcpListener> {
+        let listener = TcpListener::bind(self.rt, SocketAddr::V4(address)).ok()?;
         send_at_once(&listener).ok()?;
         Some(listener)
     }
 
-    fn clock(&self, rt: &'a HostRuntime, file: &'a str) -> WatchingClock<'a, HostRuntime> {
-        WatchingClock::new(rt, file)
+    fn clock(&self, file: &'a str) -> WatchingClock<'a, R> {
+        WatchingClock::new(self.rt, file)
     }
 }

@@ -1,5 +1,5 @@
 //! `drop serve --manifest`: publishes the manifest in a file while the office is served.
-ghost use Rattle.std.specs.Prelude.{◌≡◌, None, IsOk};
+ghost use Rattle.std.specs.Prelude.{◌≡◌, None, IsOk, IsTrue};
 ghost use Rattle.commands.specs.Serving.{MayServe};
 ghost use Rattle.commands.specs.Working.{Passes};
 
@@ -14,8 +14,8 @@ use publishing::{Publisher, Sheet};
 use rolls::Rolls;
 use sockets::Listener;
 use std::io::{Read, Write};
-use wire::{Gathered, Outbox};
 use std::{fs, io};
+use wire::{Gathered, Outbox};
 
 // The file of a published manifest. Each addition is flushed at once.
 #[derive(Drop)]
@@ -48,12 +48,8 @@ pub struct PublishWork<'w, W: Drop, E: Drop, N: Drop> {
     pub outside: N,
 }
 
-impl<'a, W: Write + Drop, E: Write + Drop, N: Outside<'a> + Drop> OfficeWork<'a> for PublishWork<
-    'a,
-    W,
-    E,
-    N,
-> {
+impl<'a, W: Write + Drop, E: Write + Drop, N: Outside<'a> + Drop> OfficeWork<'a>
+    for PublishWork<'a, W, E, N> {
     ghost use Rattle.std.specs.Prelude.{IsOk};
     ghost use Rattle.commands.specs.Serving.{MayServe};
 
@@ -70,7 +66,10 @@ impl<'a, W: Write + Drop, E: Write + Drop, N: Outside<'a> + Drop> OfficeWork<'a>
         self,
         rt: &'a HostRuntime,
         keeper: K,
-    ) -> (Session<'a, N::Listener, <N::Listener as Listener>::End, N::Clock>, K) {
+    ) -> (
+        Session<'a, N::Listener, <N::Listener as Listener>::End, N::Clock>,
+        K,
+    ) {
         let keeper = CachedKeeper::new(rt.alloc(), keeper);
         let (session, keeper) = serve_published(rt, keeper, self);
         (session, keeper.into_inner())
@@ -91,11 +90,14 @@ fn serve_published<'a, K: Keeper, W: Write + Drop, E: Write + Drop, N: Outside<'
     rt: &'a HostRuntime,
     keeper: K,
     work: PublishWork<'a, W, E, N>,
-) -> (Session<'a, N::Listener, <N::Listener as Listener>::End, N::Clock>, K)
+) -> (
+    Session<'a, N::Listener, <N::Listener as Listener>::End, N::Clock>,
+    K,
+)
     ensures { Passes K.Keeper keeper result.1
         (MayServe N.listens N.begins N.Clock.now_gives N.Listener.told
         N.Listener.are_ends ⟦<Gathered<<N::Listener as Listener>::End> as Read>⟧.remaining
-        ⟦<Outbox<<N::Listener as Listener>::End> as Write>⟧.contents work.service.limits
+        ⟦<Outbox<<N::Listener as Listener>::End> as Write>⟧.contents work.entry.service.limits
         (IsOk result.0.result) result.0.served result.0.clock) }
 {
     let PublishWork {
@@ -112,34 +114,51 @@ fn serve_published<'a, K: Keeper, W: Write + Drop, E: Write + Drop, N: Outside<'
         let _ = writeln!(err, "drop: {}", Fault::CannotPublish);
         let mut office = Office::new(rt.alloc(), keeper);
         let session = serve_at(rt, &mut office, &service, &outside, &mut out);
-        return (unpublished(session), office.keeper);
+        return (published(session, false), office.keeper);
     };
-    let mut publisher = Publisher::begin(rt.alloc(), keeper, ManifestFile { file }, err);
-    if publisher.is_whole() && fs::rename(rt, part.as_str(), manifest).is_err() {
-        publisher.give_up();
-    }
-    let mut office = Office::new(rt.alloc(), publisher);
+    let publisher = Publisher::begin(rt.alloc(), keeper, ManifestFile { file }, err);
+    let is_placed = publisher.is_whole() && fs::rename(rt, part.as_str(), manifest).is_ok();
+    let mut office = Office::new(rt.alloc(), unless_placed(publisher, is_placed));
     let session = serve_at(rt, &mut office, &service, &outside, &mut out);
     let is_whole = office.keeper.is_whole();
-    (
-        if is_whole {
-            session
-        } else {
-            unpublished(session)
-        },
-        office.keeper.into_inner(),
-    )
+    (published(session, is_whole), office.keeper.into_inner())
 }
 
-// The same session, which fails since the manifest was not written.
-fn unpublished<'a, L, E, C>(session: Session<'a, L, E, C>) -> Session<'a, L, E, C>
-    ensures fault { IsOk result.result → ⊥ }
-    ensures served { result.served ≡ session.served }
-    ensures clock { result.clock ≡ session.clock }
+// Gives the manifest up if it is whole and was not placed.
+fn unless_placed<K: Keeper, S: Sheet + Drop, E: Write + Drop>(
+    mut publisher: Publisher<K, S, E>,
+    is_placed: bool,
+) -> Publisher<K, S, E>
+    ensures { result.keeper ≡ publisher.keeper }
+{
+    if publisher.is_whole() && !is_placed {
+        publisher.give_up();
+    }
+    publisher
+}
+
+// The same session. It fails if the manifest is not whole.
+fn published<'a, L, E, C>(session: Session<'a, L, E, C>, is_whole: bool) -> Session<'a, L, E, C>
+    ensures done { IsOk result.result → IsOk session.entry.result }
+    ensures whole { IsOk result.result → IsTrue is_whole }
+    ensures served { result.served ≡ session.entry.served }
+    ensures clock { result.clock ≡ session.entry.clock }
 {
     Session {
-        result: session.result.and(Err(Fault::CannotPublish)),
+        result: unless_lacking(session.result, is_whole),
         served: session.served,
         clock: session.clock,
+    }
+}
+
+// The same result. It is a fault if the manifest is not whole.
+fn unless_lacking<'a>(served: Result<(), Fault<'a>>, is_whole: bool) -> Result<(), Fault<'a>>
+    ensures done { IsOk result → IsOk served.entry }
+    ensures whole { IsOk result → IsTrue is_whole }
+{
+    match served {
+        Ok(()) if is_whole => Ok(()),
+        Ok(()) => Err(Fault::CannotPublish),
+        Err(fault) => Err(fault),
     }
 }

@@ -14,16 +14,16 @@ pub trait Outside<'a> {
     type Clock: Clock + Drop;
 
     /// The listener listens at the address, which is given as its text, and nothing has come.
-    ghost listens: { Listener → Type 0 };
+    ghost listens: { Self.Listener → Type 0 };
 
     /// The clock was just made.
-    ghost begins: { Clock → Type 0 };
+    ghost begins: { Self.Clock → Type 0 };
 
     /// Listens at the address.
-    fn listen(&self, rt: &'a HostRuntime, address: SocketAddrV4) -> Option<Self::Listener>
+    fn listen(&self, address: SocketAddrV4) -> Option<Self::Listener>
         ensures { IfSome result listens };
 
     /// The clock of a service over the office file of this name, which the program has just opened.
-    fn clock(&self, rt: &'a HostRuntime, file: &'a str) -> Self::Clock
+    fn clock(&self, file: &'a str) -> Self::Clock
         ensures { begins result };
 }

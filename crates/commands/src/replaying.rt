@@ -113,12 +113,9 @@ fn read_key(file: &str) -> Option<(&[u8], &[u8])>
 }
 
 // What a replay gives. Flushes the output.
-fn told<'a, W: Write + Drop>(
-    served: Result<u64, &'a str>,
-    mut writer: Counted<W>,
-) -> Done<'a, W>
+fn told<'a, W: Write + Drop>(served: Result<u64, &'a str>, mut writer: Counted<W>) -> Done<'a, W>
     ensures back { (out : W) × (result.out ≡ Some out) × Keeps (W.contents writer.inner) (W.contents out) }
-    ensures whole { IsOk result.result → served ≡ Ok 0 }
+    ensures whole { IsOk result.result → served.entry ≡ Ok 0 }
 {
     let went_out = writer.flush().is_ok();
     let result = match served {

@@ -71,7 +71,10 @@ impl<'a, W: Write + Drop, N: Outside<'a> + Drop> OfficeWork<'a> for ServeWork<'a
         self,
         rt: &'a HostRuntime,
         keeper: K,
-    ) -> (Session<'a, N::Listener, <N::Listener as Listener>::End, N::Clock>, K) {
+    ) -> (
+        Session<'a, N::Listener, <N::Listener as Listener>::End, N::Clock>,
+        K,
+    ) {
         let ServeWork {
             service,
             mut out,
@@ -153,13 +156,13 @@ pub(crate) fn serve_at<'a, K: Keeper, N: Outside<'a>, W: Write>(
         ⟦<Outbox<<N::Listener as Listener>::End> as Write>⟧.contents service.now.limits
         (IsOk result.result) result.served result.clock) }
 {
-    let Some(listener) = outside.listen(rt, service.address) else {
+    let Some(listener) = outside.listen(service.address) else {
         return unserved(Fault::CannotListen);
     };
     let Ok(poll) = Poll::new(rt) else {
         return unserved(Fault::CannotListen);
     };
-    let mut clock = outside.clock(rt, service.file);
+    let mut clock = outside.clock(service.file);
     if writeln!(out, "listening on {}", service.listen).is_err() || out.flush().is_err() {
         return unserved(Fault::CannotWrite);
     }

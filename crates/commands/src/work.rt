@@ -15,10 +15,10 @@ pub trait OfficeWork<'a> {
     type Gain: Drop;
 
     /// What the work did, from a state of the office to the state after, and what it was asked there.
-    ghost step: { Self → Gain → State → State → Asked → Type 0 };
+    ghost step: { Self → Self.Gain → State → State → Asked → Type 0 };
 
     /// What it gives where nothing was done.
-    ghost idle: { Self → Gain → Type 0 };
+    ghost idle: { Self → Self.Gain → Type 0 };
 
     /// Does the work on the office of a keeper. Returns what it gives, and the keeper.
     fn run<K: Rolls>(self, rt: &'a HostRuntime, keeper: K) -> (Self::Gain, K)

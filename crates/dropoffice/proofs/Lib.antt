@@ -1,4 +1,2 @@
-pub mod Before
+pub mod Crashing
 pub mod Ended
-pub mod InTurns
-pub mod Lines

@@ -1,5 +1,5 @@
 -- What a command leaves of an office file.
-use Rattle.std.specs.Prelude.{◌≡◌, ◌⊎◌, IsTrue, ⊤}
+use Rattle.std.specs.Prelude.{◌≡◌, ◌⊎◌, Option, Some, IsTrue, ⊤}
 use Rattle.sqlite_disk.specs.declared.Disk as disk
 use Rattle.sqlite.specs.State.{State, HasCleanDisk}
 use Rattle.sqlite.specs.Files.{file_state, image_of}
@@ -40,6 +40,11 @@ module _ {D : Type 0} {g : disk.Ghosts D} where
   LeavesOffice (left.Looked conn) s = KeepsState (file_state conn) s
   LeavesOffice (left.Closed files) s = LeavesState (image_of g files) s
   LeavesOffice (left.Unclosed store) s = ⊤
+
+  -- the files are closed
+  abbrev pub IsClosed : Option (Left D g) → Type 0
+  IsClosed (Some (left.Closed files)) = ⊤
+  IsClosed _ = ⊥
 
   -- whatever a crash now leaves of the files means a sound state like this
   abbrev pub MayCrashTo : Left D g → (Office → Type 0) → Type 0

@@ -31,7 +31,7 @@ use Rattle.commands.specs.Replaying.{ReplaysAll}
 use Rattle.commands.specs.Saying.{Says}
 use Rattle.commands.specs.Serving.{MayServe}
 use Rattle.commands.specs.declared.listing.Stock.{Stock}
-use Rattle.dropoffice.specs.Leaving.{IsUntouched, LeavesOffice, MayCrashTo, Migrated, Ran}
+use Rattle.dropoffice.specs.Leaving.{IsClosed, IsUntouched, LeavesOffice, MayCrashTo, Migrated, Ran}
 use Rattle.dropoffice.specs.declared.opening.Left.{Left}
 
 -- the command ran, or the office could not be opened: it failed, and the file is as it was
@@ -133,13 +133,17 @@ IsNoKey file = (rest : List ℕ) → file ≢ codes "key:" ++ rest
 abbrev pub IsNoMemory : List ℕ → Type 0
 IsNoMemory file = (rest : List ℕ) → file ≢ codes "memory:" ++ rest
 
--- the task opens an office file
-abbrev pub OpensFile : Task → Type 0
-OpensFile (task.Link words) = IsNoKey words.file.now
-OpensFile (task.Links words) = IsNoKey words.file.now
-OpensFile (task.Replay words) = IsNoMemory words.file.now
-OpensFile _ = ⊤
-
--- something is left of the file, if the task opens one
-abbrev pub LeavesFile : {X : Type 0} → Task → Option X → Type 0
-LeavesFile t left = OpensFile t → IsSome left
+-- What is left of the file if the task is done. A task that may change an office closes it; one that only looks leaves it open,
+-- and one that needs no office leaves nothing.
+abbrev pub LeavesFile : {D : Type 0} {g : disk.Ghosts D} → Task → Option (Left D g) → Type 0
+LeavesFile (task.Init words) left = IsClosed left
+LeavesFile (task.Desk words) left = IsClosed left
+LeavesFile (task.Link words) left = IsNoKey words.file.now → IsSome left
+LeavesFile (task.Links words) left = IsNoKey words.file.now → IsSome left
+LeavesFile (task.Manifest words) left = IsSome left
+LeavesFile (task.Compare words) left = IsSome left
+LeavesFile (task.List words) left = IsSome left
+LeavesFile (task.Export words) left = IsSome left
+LeavesFile (task.Replay words) left = IsNoMemory words.file.now → IsClosed left
+LeavesFile (task.Serve words) left = IsClosed left
+LeavesFile (task.Migrate words) left = IsClosed left

@@ -1,5 +1,5 @@
 //! `drop init`: makes an office file.
-ghost use Rattle.std.specs.Prelude.{◌≡◌, pos, neg_ℤ, ◌≤ℤ◌, IfOk, IfSome, IsOk, IsSome};
+ghost use Rattle.std.specs.Prelude.{◌≡◌, pos, neg_ℤ, ◌≤ℤ◌, IfOk, IfSome, IsOk};
 ghost use Rattle.sqlite.specs.State.{HasCleanDisk};
 ghost use Rattle.sqlite.specs.Held.{state};
 ghost use Rattle.sqlite.specs.WalFiles.{image_at};
@@ -8,7 +8,7 @@ ghost use Rattle.boxes.specs.FirstState.{first_state};
 ghost use Rattle.boxes.specs.State.{State};
 ghost use Rattle.sqltables.specs.Kept.{KeepsState, LeavesStates, MayLeave};
 ghost use Rattle.sqltables.specs.Schema.{s0};
-ghost use Rattle.dropoffice.specs.Leaving.{IsCleanLeft};
+ghost use Rattle.dropoffice.specs.Leaving.{IsCleanLeft, IsClosed};
 ghost use Rattle.dropoffice.specs.Performing.{IsFirstRow, IsGivenSecret, IsSecretOf, Made};
 
 use crate::opening::{Left, Purpose, Worked, connect, end_work, unfit, unopened_with};
@@ -35,7 +35,7 @@ pub(crate) fn do_init<S: Start>(
 ) -> Worked<Result<(), Fault<'static>>, FileFrom<S>>
     ensures made { IfSome result.left (λ left. IsCleanLeft left → IsOk result.gain
         → Made words.now (image_at S.Start) left) }
-    ensures opened { IsOk result.gain → IsSome result.left }
+    ensures opened { IsOk result.gain → IsOk result.closed → IsClosed result.left }
 {
     let (office, secret) = match read_words(rt, words) {
         Ok(read) => read,
@@ -159,7 +159,7 @@ fn make_office<S: Start>(
 ) -> Worked<Result<(), Fault<'static>>, FileFrom<S>>
     ensures made { IsFirstRow words.now office secret.now → IfSome result.left (λ left. IsCleanLeft left
         → IsOk result.gain → Made words.now (image_at S.Start) left) }
-    ensures opened { IsOk result.gain → IsSome result.left }
+    ensures opened { IsOk result.gain → IsOk result.closed → IsClosed result.left }
 {
     let conn = match connect(rt, words.file, Purpose::Change, start) {
         Ok(conn) => conn,

@@ -1,14 +1,16 @@
 //! `drop migrate`: migrates an office file from version 1 to version 2.
-ghost use Rattle.std.specs.Prelude.{IfErr, IfOk, IfSome, IsOk, IsSome};
+ghost use Rattle.std.specs.Prelude.{IfErr, IfOk, IfSome, IsOk};
 ghost use Rattle.sqlite.specs.State.{HasCleanDisk};
 ghost use Rattle.sqlite.specs.Held.{state};
 ghost use Rattle.sqlite.specs.WalFiles.{image_at};
 ghost use Rattle.sqlaudit.specs.Opened.{OnlyLooks};
 ghost use Rattle.dropoffice.specs.Holding.{HoldsOurs, MigratedOn, WasOurs};
-ghost use Rattle.dropoffice.specs.Leaving.{IsCleanLeft};
+ghost use Rattle.dropoffice.specs.Leaving.{IsCleanLeft, IsClosed};
 ghost use Rattle.dropoffice.specs.Performing.{MayMigrate};
 
-use crate::opening::{Left, Purpose, Worked, connect, end_work, require_file, unfit, unopened_with};
+use crate::opening::{
+    Left, Purpose, Worked, connect, end_work, require_file, unfit, unopened_with,
+};
 use crate::works::failed;
 use commands::{Done, Fault, tell};
 use sqlite::{Alter, Connection, FileFrom, Start};
@@ -26,7 +28,7 @@ pub(crate) fn do_migrate<'a, S: Start, W: Write + Drop>(
 ) -> Worked<Done<'a, W>, FileFrom<S>>
     ensures ran { HoldsOurs (image_at S.Start) → IfSome result.left (λ left. IsCleanLeft left
         → MayMigrate (image_at S.Start) left W.contents (IsOk result.gain.result) out result.gain.out) }
-    ensures opened { IsOk result.gain.result → IsSome result.left }
+    ensures opened { IsOk result.gain.result → IsClosed result.left }
 {
     if let Err(fault) = require_file(rt, words.file) {
         return unopened_with(failed(fault, out));

@@ -1,5 +1,5 @@
 //! The office file of a command: its connection, its keeper, and the command's work.
-ghost use Rattle.std.specs.Prelude.{◌≡◌, ◌⊎◌, IfErr, IfOk, IfSome, None};
+ghost use Rattle.std.specs.Prelude.{◌≡◌, ◌≢◌, ◌⊎◌, IfErr, IfOk, IfSome, IsOk, IsSome, None};
 ghost use Rattle.sqlite.specs.State.{HasCleanDisk};
 ghost use Rattle.sqlite.specs.Held.{state};
 ghost use Rattle.sqlite.specs.Files.{file_state, IsOpened};
@@ -8,7 +8,7 @@ ghost use Rattle.sqlite.specs.WalFiles.{image_at};
 ghost use Rattle.boxes.specs.State.{State};
 ghost use Rattle.sqltables.specs.Kept.{KeepsState, LeavesStates};
 ghost use Rattle.sqlaudit.specs.Opened.{OnlyLooks};
-ghost use Rattle.dropoffice.specs.Leaving.{IsCleanLeft, IsLeftOf, IsUntouched, LeavesOffice, MayCrashTo, Ran};
+ghost use Rattle.dropoffice.specs.Leaving.{IsCleanLeft, IsClosed, IsLeftOf, IsUntouched, LeavesOffice, MayCrashTo, Ran};
 ghost use Rattle.dropoffice.specs.Holding.{HoldsOurs, RanOn, WasOurs};
 
 use commands::{Fault, OfficeWork};
@@ -177,6 +177,7 @@ pub(crate) fn end_work<D: Disk + Drop>(
     conn: Connection<FileStore<D>>,
     purpose: Purpose,
 ) -> (Result<(), Fault<'static>>, Left<D>)
+    ensures closed { IsOk result.0 → purpose ≢ Purpose.Look → IsClosed (Some result.1) }
     ensures clean { IsCleanLeft result.1 → HasCleanDisk (file_state conn) }
     ensures leaves { IsCleanLeft result.1 → (s : State) → KeepsState (file_state conn) s
         → LeavesOffice result.1 s }
@@ -223,7 +224,9 @@ pub(crate) fn work_over<'a, S: Start, W: OfficeWork<'a> + Drop>(
     work: W,
     start: S,
 ) -> Worked<W::Gain, FileFrom<S>>
-    ensures idle { result.left ≡ None → W.idle work result.gain }
+    ensures idle { W.idle work result.gain ⊎ IsSome result.left }
+    ensures closed { W.idle work result.gain
+        ⊎ (IsOk result.closed → purpose ≢ Purpose.Look → IsClosed result.left) }
     ensures ran { HoldsOurs (image_at S.Start) → IfSome result.left (λ left. IsCleanLeft left
         → Ran (image_at S.Start) left (W.step work result.gain)
         ⊎ (W.idle work result.gain × IsUntouched (image_at S.Start) left)) }

@@ -61,7 +61,7 @@ struct Ended<'a, W, L, E, C, D: Disk> {
 fn plain<'a, W, L, E, C, D: Disk>(
     worked: Worked<Result<(), Fault<'a>>, D>,
 ) -> Ended<'a, W, L, E, C, D>
-    ensures done { IsOk result.result → IsOk worked.gain }
+    ensures done { IsOk result.result → IsOk worked.gain × IsOk worked.closed }
     ensures left { result.left ≡ worked.left }
 {
     Ended {
@@ -75,7 +75,7 @@ fn plain<'a, W, L, E, C, D: Disk>(
 
 // The end of a task that has an output.
 fn spoken<'a, W: Drop, L, E, C, D: Disk>(worked: Worked<Done<'a, W>, D>) -> Ended<'a, W, L, E, C, D>
-    ensures done { IsOk result.result → IsOk worked.gain.result }
+    ensures done { IsOk result.result → IsOk worked.gain.result × IsOk worked.closed }
     ensures out { result.out ≡ worked.gain.out }
     ensures left { result.left ≡ worked.left }
 {
@@ -92,7 +92,7 @@ fn spoken<'a, W: Drop, L, E, C, D: Disk>(worked: Worked<Done<'a, W>, D>) -> Ende
 fn served<'a, W, L: Drop, E: Drop, C: Drop, D: Disk>(
     worked: Worked<Session<'a, L, E, C>, D>,
 ) -> Ended<'a, W, L, E, C, D>
-    ensures done { IsOk result.result → IsOk worked.gain.result }
+    ensures done { IsOk result.result → IsOk worked.gain.result × IsOk worked.closed }
     ensures served { result.served ≡ worked.gain.served }
     ensures clock { result.clock ≡ worked.gain.clock }
     ensures left { result.left ≡ worked.left }

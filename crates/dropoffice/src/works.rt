@@ -3,7 +3,7 @@ ghost use Rattle.std.specs.Prelude.{IfSome, IsOk, IsSome};
 ghost use Rattle.sqlite.specs.WalFiles.{image_at};
 ghost use Rattle.commands.specs.Listing.{Compares, IsManifest, Looks, Writes};
 ghost use Rattle.dropoffice.specs.Holding.{HoldsOurs};
-ghost use Rattle.dropoffice.specs.Leaving.{IsCleanLeft};
+ghost use Rattle.dropoffice.specs.Leaving.{IsCleanLeft, IsClosed};
 ghost use Rattle.dropoffice.specs.Performing.{Answers, Commands, IsNoKey, IsNoMemory, Lists, MayRun, Serves};
 
 use crate::opening::{Purpose, Worked, require_file, unopened_with, work_over};
@@ -41,7 +41,7 @@ pub(crate) fn do_desk<'a, S: Start, R: Read + Drop, W: Write + Drop>(
     ensures ran { HoldsOurs (image_at S.Start) → IfSome result.left (λ left. IsCleanLeft left
         → MayRun (image_at S.Start) left (IsOk result.gain.result)
         (Commands (R.remaining input) words.now W.contents (IsOk result.gain.result) out result.gain.out)) }
-    ensures opened { IsOk result.gain.result → IsSome result.left }
+    ensures opened { IsOk result.gain.result → IsOk result.closed → IsClosed result.left }
 {
     if let Err(fault) = require_file(rt, words.file) {
         return unopened_with(failed(fault, out));
@@ -101,7 +101,13 @@ pub(crate) fn do_list<'a, S: Start, W: Write + Drop>(
     let Some(stock) = Stock::named(words.what) else {
         return unopened_with(failed(Fault::MalformedValue("what"), out));
     };
-    work_over(rt, words.file, Purpose::Look, ListWork { stock, out }, start)
+    work_over(
+        rt,
+        words.file,
+        Purpose::Look,
+        ListWork { stock, out },
+        start,
+    )
 }
 
 /// Makes the folder that the arguments name, and exports the files of the office to it, or only those of the named box.
@@ -188,7 +194,7 @@ pub(crate) fn do_replay<'a, S: Start, W: Write + Drop>(
     ensures ran { HoldsOurs (image_at S.Start) → IfSome result.left (λ left. IsCleanLeft left
         → MayRun (image_at S.Start) left (IsOk result.gain.result)
         (Answers words.now W.contents (IsOk result.gain.result) out result.gain.out)) }
-    ensures opened { IsOk result.gain.result → IsNoMemory words.now.file.now → IsSome result.left }
+    ensures opened { IsOk result.gain.result → IsNoMemory words.now.file.now → IsOk result.closed → IsClosed result.left }
 {
     if words.file.starts_with("memory:") {
         return unopened_with(replay_memory(rt, words, out));
@@ -220,7 +226,7 @@ pub(crate) fn do_serve<'a, S: Start, N: Outside<'a> + Drop, W: Write + Drop, E: 
         ⟦<Gathered<<N::Listener as Listener>::End> as Read>⟧.remaining
         ⟦<Outbox<<N::Listener as Listener>::End> as Write>⟧.contents
         (IsOk result.gain.result) result.gain.served result.gain.clock)) }
-    ensures opened { IsOk result.gain.result → IsSome result.left }
+    ensures opened { IsOk result.gain.result → IsOk result.closed → IsClosed result.left }
 {
     let service = match read_service(words) {
         Ok(service) => service,
