@@ -1,5 +1,5 @@
 //! A keeper that adds each receipt to a manifest.
-ghost use Rattle.std.specs.Prelude.{◌≡◌, ◌↔◌, ◌≤◌, ℕ, List, [], ◌∷◌, Some, IfOk, IsFalse, IsTrue, false, ⊤, Result};
+ghost use Rattle.std.specs.Prelude.{◌≡◌, ◌↔◌, ◌≤◌, ◌⊎◌, ℕ, List, [], ◌∷◌, Some, IfOk, IsFalse, IsTrue, false, ⊤, Result};
 ghost use Rattle.boxes.specs.Changes.{MayChange};
 ghost use Rattle.boxes.specs.Rows.{numbered_receipt};
 ghost use Rattle.boxes.specs.Sound.{IsMoment, IsSound};
@@ -10,7 +10,7 @@ ghost use Rattle.keeper.specs.Shelves.{set_receipt};
 ghost use Rattle.keeper.specs.declared.keep.KeepFault.{KeepFault};
 ghost use Rattle.desk.specs.Lists.{by_keeper, AreLines};
 ghost use Rattle.desk.specs.Manifests.{IsReceiptLine};
-ghost use Rattle.publishing.specs.Published.{AddsAll, IsBlank, IsPublished};
+ghost use Rattle.publishing.specs.Published.{Adds, AddsAll, IsBegun, IsBlank, IsPublished};
 
 use crate::sheet::Sheet;
 use boxes::{Change, NewFile, ReceiptRow};
@@ -78,13 +78,17 @@ impl<K: Keeper, S: Sheet + Drop, E: Write + Drop> Publisher<K, S, E> {
         self.keeper
     }
 
-    /// Whether the sheet holds the manifest of the keeper's office.
+    /// Whether the sheet holds the manifest of the keeper's office. If not, it holds a beginning of it.
     pub fn is_whole(&self) -> bool
         ensures whole { result ≡ self.now.is_whole }
         ensures published { (s : State)
             → ⟦<Publisher<K, S, E> as Keeper>⟧.means self.now s → IsSound s
             → ⟦<Publisher<K, S, E> as Keeper>⟧.is_honest self.now → IsTrue result
             → IsPublished s (S.text self.now.sheet) }
+        ensures begun { (s : State)
+            → ⟦<Publisher<K, S, E> as Keeper>⟧.means self.now s → IsSound s
+            → ⟦<Publisher<K, S, E> as Keeper>⟧.is_honest self.now
+            → IsBegun s (S.text self.now.sheet) }
     {
         self.is_whole
     }
@@ -145,6 +149,8 @@ impl<K, S: Sheet + Drop, E: Write + Drop> Publisher<K, S, E> {
         ensures whole { IsTrue self.new.is_whole → IsTrue self.old.is_whole }
         ensures added { IsTrue self.new.is_whole
             → AddsAll text.now (S.text self.old.sheet) (S.text self.new.sheet) }
+        ensures front { Adds {T = ⊤} {E = ⊤} text.now
+            (S.text self.old.sheet) (S.text self.new.sheet) (Err tt) }
     {
         if self.sheet.add(text).is_err() {
             self.give_up();
@@ -159,6 +165,9 @@ impl<K, S: Sheet + Drop, E: Write + Drop> Publisher<K, S, E> {
         ensures published { (s after : State) → MayChange s change.now after
             → IsPublished s (S.text self.old.sheet) → IsTrue self.new.is_whole
             → IsPublished after (S.text self.new.sheet) }
+        ensures begun { (s after : State) → MayChange s change.now after
+            → (IsTrue self.old.is_whole → IsPublished s (S.text self.old.sheet))
+            → IsBegun s (S.text self.old.sheet) → IsBegun after (S.text self.new.sheet) }
     {
         match change {
             Change::SetFile(file) => self.add(file),
@@ -174,6 +183,10 @@ impl<K, S: Sheet + Drop, E: Write + Drop> Publisher<K, S, E> {
         ensures added { IsMoment file.now.moment → IsTrue self.new.is_whole → (text : List ℕ)
             × AreLines IsReceiptLine (set_receipt file.now ∷ []) text
             × AddsAll text (S.text self.old.sheet) (S.text self.new.sheet) }
+        ensures front { IsMoment file.now.moment → (S.text self.new.sheet ≡ S.text self.old.sheet)
+            ⊎ ((text : List ℕ) × IsTrue self.old.is_whole
+            × AreLines IsReceiptLine (set_receipt file.now ∷ []) text
+            × Adds {T = ⊤} {E = ⊤} text (S.text self.old.sheet) (S.text self.new.sheet) (Err tt)) }
     {
         if !self.is_whole {
             return;
