@@ -35,7 +35,7 @@ pub struct Publisher<K, S: Drop, E: Drop> {
 impl<K: Keeper, S: Sheet + Drop, E: Write + Drop> Publisher<K, S, E> {
     /// Writes the manifest of the keeper's office to an empty sheet. The whole manifest is held in memory meanwhile. If the
     /// keeper or the sheet fails, or memory runs out, a line on `err` says so, and the manifest is not complete. The keeper is
-    /// only asked: it means and stages what it did before.
+    /// only asked: it means and stages what it did before. In the clauses, `told` says whether the keeper failed.
     pub fn begin(alloc: Global, mut keeper: K, sheet: S, err: E) -> Publisher<K, S, E>
         ensures means { (s : State) → K.means keeper s → IsBlank (S.text sheet)
             → ⟦<Publisher<K, S, E> as Keeper>⟧.means result s }
@@ -92,52 +92,14 @@ impl<K: Keeper, S: Sheet + Drop, E: Write + Drop> Publisher<K, S, E> {
     {
         self.is_whole
     }
-}
 
-// The manifest of the keeper's office.
-fn manifest_text<K: Keeper>(alloc: Global, keeper: &mut K) -> Result<Vec<u8>, ListFault>
-    ensures text { (s : State) → K.means keeper.old s → IsSound s → K.is_honest keeper.new
-        → IfOk result (λ text. IsPublished s (Some text.items)) }
-    ensures stays { StaysBy K.Keeper keeper.old keeper.new (by_keeper result) }
-    ensures staged { KeepsStaged K.stages keeper.old keeper.new }
-{
-    let mut writer = Counted::new(Vec::new(alloc));
-    manifest(alloc, keeper, &mut writer)?;
-    Ok(writer.inner)
-}
-
-// The line of a file's receipt.
-fn receipt_text(alloc: Global, file: &NewFile<'_>) -> Result<Vec<u8>, ListFault>
-    ensures { IsMoment file.now.moment → IfOk result
-        (λ text. AreLines IsReceiptLine (set_receipt file.now ∷ []) text.items) }
-{
-    match new_receipt(alloc, file) {
-        Ok(receipt) => receipts_text(alloc, &[receipt]),
-        Err(_) => Err(ListFault::Memory),
-    }
-}
-
-// The receipt of a file.
-fn new_receipt(alloc: Global, file: &NewFile<'_>) -> Result<ReceiptRow, AllocError>
-    ensures { IfOk result (λ r. numbered_receipt r ≡ set_receipt file.now) }
-{
-    Ok(ReceiptRow {
-        number: file.number,
-        in_box: Vec::from_slice(alloc, file.in_box)?,
-        name: Vec::from_slice(alloc, file.name)?,
-        size: file.size,
-        digest: file.digest,
-        moment: file.moment,
-        key: Vec::from_slice(alloc, file.key)?,
-    })
-}
-
-impl<K, S: Sheet + Drop, E: Write + Drop> Publisher<K, S, E> {
     /// Gives the manifest up and says so on `err`. No more lines are added.
     pub fn give_up(&mut self)
         ensures sheet { self.new.sheet ≡ self.old.sheet }
         ensures none { self.new.is_whole ≡ false }
         ensures keeper { self.new.keeper ≡ self.old.keeper }
+        ensures means { (s : State) → ⟦<Publisher<K, S, E> as Keeper>⟧.means self.old s
+            → ⟦<Publisher<K, S, E> as Keeper>⟧.means self.new s }
     {
         self.is_whole = false;
         let _ = writeln!(self.err, "drop: cannot write the manifest");
@@ -196,4 +158,42 @@ impl<K, S: Sheet + Drop, E: Write + Drop> Publisher<K, S, E> {
             Err(_) => self.give_up(),
         }
     }
+}
+
+// The manifest of the keeper's office.
+fn manifest_text<K: Keeper>(alloc: Global, keeper: &mut K) -> Result<Vec<u8>, ListFault>
+    ensures text { (s : State) → K.means keeper.old s → IsSound s → K.is_honest keeper.new
+        → IfOk result (λ text. IsPublished s (Some text.items)) }
+    ensures stays { StaysBy K.Keeper keeper.old keeper.new (by_keeper result) }
+    ensures staged { KeepsStaged K.stages keeper.old keeper.new }
+{
+    let mut writer = Counted::new(Vec::new(alloc));
+    manifest(alloc, keeper, &mut writer)?;
+    Ok(writer.inner)
+}
+
+// The line of a file's receipt.
+fn receipt_text(alloc: Global, file: &NewFile<'_>) -> Result<Vec<u8>, ListFault>
+    ensures { IsMoment file.now.moment → IfOk result
+        (λ text. AreLines IsReceiptLine (set_receipt file.now ∷ []) text.items) }
+{
+    match new_receipt(alloc, file) {
+        Ok(receipt) => receipts_text(alloc, &[receipt]),
+        Err(_) => Err(ListFault::Memory),
+    }
+}
+
+// The receipt of a file.
+fn new_receipt(alloc: Global, file: &NewFile<'_>) -> Result<ReceiptRow, AllocError>
+    ensures { IfOk result (λ r. numbered_receipt r ≡ set_receipt file.now) }
+{
+    Ok(ReceiptRow {
+        number: file.number,
+        in_box: Vec::from_slice(alloc, file.in_box)?,
+        name: Vec::from_slice(alloc, file.name)?,
+        size: file.size,
+        digest: file.digest,
+        moment: file.moment,
+        key: Vec::from_slice(alloc, file.key)?,
+    })
 }
