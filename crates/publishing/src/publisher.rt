@@ -1,5 +1,5 @@
 //! A keeper that adds each receipt to a manifest.
-ghost use Rattle.std.specs.Prelude.{◌≡◌, ◌↔◌, ◌≤◌, ℕ, List, [], ◌∷◌, Some, IfOk, IsFalse, IsTrue, false, ⊤, Result};
+ghost use Rattle.std.specs.Prelude.{◌≡◌, ◌↔◌, ◌≤◌, ◌⊎◌, ℕ, List, [], ◌∷◌, Some, IfOk, IsFalse, IsTrue, false, ⊤, Result};
 ghost use Rattle.boxes.specs.Changes.{MayChange};
 ghost use Rattle.boxes.specs.Rows.{numbered_receipt};
 ghost use Rattle.boxes.specs.Sound.{IsMoment, IsSound};
@@ -10,7 +10,7 @@ ghost use Rattle.keeper.specs.Shelves.{set_receipt};
 ghost use Rattle.keeper.specs.declared.keep.KeepFault.{KeepFault};
 ghost use Rattle.desk.specs.Lists.{by_keeper, AreLines};
 ghost use Rattle.desk.specs.Manifests.{IsReceiptLine};
-ghost use Rattle.publishing.specs.Published.{AddsAll, IsBlank, IsPublished};
+ghost use Rattle.publishing.specs.Published.{Adds, AddsAll, IsBegun, IsBlank, IsPublished};
 
 use crate::sheet::Sheet;
 use boxes::{Change, NewFile, ReceiptRow};
@@ -35,7 +35,7 @@ pub struct Publisher<K, S: Drop, E: Drop> {
 impl<K: Keeper, S: Sheet + Drop, E: Write + Drop> Publisher<K, S, E> {
     /// Writes the manifest of the keeper's office to an empty sheet. The whole manifest is held in memory meanwhile. If the
     /// keeper or the sheet fails, or memory runs out, a line on `err` says so, and the manifest is not complete. The keeper is
-    /// only asked: it means and stages what it did before.
+    /// only asked: it means and stages what it did before. In the clauses, `told` says whether the keeper failed.
     pub fn begin(alloc: Global, mut keeper: K, sheet: S, err: E) -> Publisher<K, S, E>
         ensures means { (s : State) → K.means keeper s → IsBlank (S.text sheet)
             → ⟦<Publisher<K, S, E> as Keeper>⟧.means result s }
@@ -78,15 +78,85 @@ impl<K: Keeper, S: Sheet + Drop, E: Write + Drop> Publisher<K, S, E> {
         self.keeper
     }
 
-    /// Whether the sheet holds the manifest of the keeper's office.
+    /// Whether the sheet holds the manifest of the keeper's office. If not, it holds a beginning of it.
     pub fn is_whole(&self) -> bool
         ensures whole { result ≡ self.now.is_whole }
         ensures published { (s : State)
             → ⟦<Publisher<K, S, E> as Keeper>⟧.means self.now s → IsSound s
             → ⟦<Publisher<K, S, E> as Keeper>⟧.is_honest self.now → IsTrue result
             → IsPublished s (S.text self.now.sheet) }
+        ensures begun { (s : State)
+            → ⟦<Publisher<K, S, E> as Keeper>⟧.means self.now s → IsSound s
+            → ⟦<Publisher<K, S, E> as Keeper>⟧.is_honest self.now
+            → IsBegun s (S.text self.now.sheet) }
     {
         self.is_whole
+    }
+
+    /// Gives the manifest up and says so on `err`. No more lines are added.
+    pub fn give_up(&mut self)
+        ensures sheet { self.new.sheet ≡ self.old.sheet }
+        ensures none { self.new.is_whole ≡ false }
+        ensures keeper { self.new.keeper ≡ self.old.keeper }
+        ensures means { (s : State) → ⟦<Publisher<K, S, E> as Keeper>⟧.means self.old s
+            → ⟦<Publisher<K, S, E> as Keeper>⟧.means self.new s }
+    {
+        self.is_whole = false;
+        let _ = writeln!(self.err, "drop: cannot write the manifest");
+    }
+
+    // Adds a text to the sheet.
+    fn put(&mut self, text: &[u8])
+        ensures keeper { self.new.keeper ≡ self.old.keeper }
+        ensures whole { IsTrue self.new.is_whole → IsTrue self.old.is_whole }
+        ensures added { IsTrue self.new.is_whole
+            → AddsAll text.now (S.text self.old.sheet) (S.text self.new.sheet) }
+        ensures front { Adds {T = ⊤} {E = ⊤} text.now
+            (S.text self.old.sheet) (S.text self.new.sheet) (Err tt) }
+    {
+        if self.sheet.add(text).is_err() {
+            self.give_up();
+        }
+    }
+
+    // Adds the line of the change's receipt, if the change made one.
+    pub(crate) fn note(&mut self, change: &Change<'_>)
+        ensures keeper { self.new.keeper ≡ self.old.keeper }
+        ensures whole { IsTrue self.new.is_whole → IsTrue self.old.is_whole }
+        ensures idle { IsFalse self.old.is_whole → self.new.sheet ≡ self.old.sheet }
+        ensures published { (s after : State) → MayChange s change.now after
+            → IsPublished s (S.text self.old.sheet) → IsTrue self.new.is_whole
+            → IsPublished after (S.text self.new.sheet) }
+        ensures begun { (s after : State) → MayChange s change.now after
+            → (IsTrue self.old.is_whole → IsPublished s (S.text self.old.sheet))
+            → IsBegun s (S.text self.old.sheet) → IsBegun after (S.text self.new.sheet) }
+    {
+        match change {
+            Change::SetFile(file) => self.add(file),
+            Change::Desk(_) => {}
+        }
+    }
+
+    // Adds the line of a file's receipt.
+    fn add(&mut self, file: &NewFile<'_>)
+        ensures keeper { self.new.keeper ≡ self.old.keeper }
+        ensures whole { IsTrue self.new.is_whole → IsTrue self.old.is_whole }
+        ensures idle { IsFalse self.old.is_whole → self.new.sheet ≡ self.old.sheet }
+        ensures added { IsMoment file.now.moment → IsTrue self.new.is_whole → (text : List ℕ)
+            × AreLines IsReceiptLine (set_receipt file.now ∷ []) text
+            × AddsAll text (S.text self.old.sheet) (S.text self.new.sheet) }
+        ensures front { IsMoment file.now.moment → (S.text self.new.sheet ≡ S.text self.old.sheet)
+            ⊎ ((text : List ℕ) × IsTrue self.old.is_whole
+            × AreLines IsReceiptLine (set_receipt file.now ∷ []) text
+            × Adds {T = ⊤} {E = ⊤} text (S.text self.old.sheet) (S.text self.new.sheet) (Err tt)) }
+    {
+        if !self.is_whole {
+            return;
+        }
+        match receipt_text(self.alloc, file) {
+            Ok(text) => self.put(&text),
+            Err(_) => self.give_up(),
+        }
     }
 }
 
@@ -126,61 +196,4 @@ fn new_receipt(alloc: Global, file: &NewFile<'_>) -> Result<ReceiptRow, AllocErr
         moment: file.moment,
         key: Vec::from_slice(alloc, file.key)?,
     })
-}
-
-impl<K, S: Sheet + Drop, E: Write + Drop> Publisher<K, S, E> {
-    /// Gives the manifest up and says so on `err`. No more lines are added.
-    pub fn give_up(&mut self)
-        ensures sheet { self.new.sheet ≡ self.old.sheet }
-        ensures none { self.new.is_whole ≡ false }
-        ensures keeper { self.new.keeper ≡ self.old.keeper }
-    {
-        self.is_whole = false;
-        let _ = writeln!(self.err, "drop: cannot write the manifest");
-    }
-
-    // Adds a text to the sheet.
-    fn put(&mut self, text: &[u8])
-        ensures keeper { self.new.keeper ≡ self.old.keeper }
-        ensures whole { IsTrue self.new.is_whole → IsTrue self.old.is_whole }
-        ensures added { IsTrue self.new.is_whole
-            → AddsAll text.now (S.text self.old.sheet) (S.text self.new.sheet) }
-    {
-        if self.sheet.add(text).is_err() {
-            self.give_up();
-        }
-    }
-
-    // Adds the line of the change's receipt, if the change made one.
-    pub(crate) fn note(&mut self, change: &Change<'_>)
-        ensures keeper { self.new.keeper ≡ self.old.keeper }
-        ensures whole { IsTrue self.new.is_whole → IsTrue self.old.is_whole }
-        ensures idle { IsFalse self.old.is_whole → self.new.sheet ≡ self.old.sheet }
-        ensures published { (s after : State) → MayChange s change.now after
-            → IsPublished s (S.text self.old.sheet) → IsTrue self.new.is_whole
-            → IsPublished after (S.text self.new.sheet) }
-    {
-        match change {
-            Change::SetFile(file) => self.add(file),
-            Change::Desk(_) => {}
-        }
-    }
-
-    // Adds the line of a file's receipt.
-    fn add(&mut self, file: &NewFile<'_>)
-        ensures keeper { self.new.keeper ≡ self.old.keeper }
-        ensures whole { IsTrue self.new.is_whole → IsTrue self.old.is_whole }
-        ensures idle { IsFalse self.old.is_whole → self.new.sheet ≡ self.old.sheet }
-        ensures added { IsMoment file.now.moment → IsTrue self.new.is_whole → (text : List ℕ)
-            × AreLines IsReceiptLine (set_receipt file.now ∷ []) text
-            × AddsAll text (S.text self.old.sheet) (S.text self.new.sheet) }
-    {
-        if !self.is_whole {
-            return;
-        }
-        match receipt_text(self.alloc, file) {
-            Ok(text) => self.put(&text),
-            Err(_) => self.give_up(),
-        }
-    }
 }

@@ -1,7 +1,7 @@
 //! `Publisher` implements `Keeper`.
 ghost use Rattle.std.specs.Prelude.{IsTrue};
 ghost use Rattle.boxes.specs.Sound.{IsSound};
-ghost use Rattle.publishing.specs.Published.{IsPublished};
+ghost use Rattle.publishing.specs.Published.{IsBegun, IsPublished};
 
 use crate::publisher::Publisher;
 use crate::sheet::Sheet;
@@ -11,7 +11,8 @@ use std::io::Write;
 
 impl<K: Keeper, S: Sheet + Drop, E: Write + Drop> Keeper for Publisher<K, S, E> {
     ghost means = { λ p s. K.means p.keeper s
-        × (K.is_honest p.keeper → IsSound s → IsTrue p.is_whole → IsPublished s (S.text p.sheet)) };
+        × (K.is_honest p.keeper → IsSound s → IsBegun s (S.text p.sheet)
+        × (IsTrue p.is_whole → IsPublished s (S.text p.sheet))) };
 
     ghost stages = { λ p bytes. K.stages p.keeper bytes };
 
