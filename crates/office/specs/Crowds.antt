@@ -8,7 +8,7 @@ use Rattle.office.specs.declared.connections.seat.Seat.{Seat}
 use Rattle.office.specs.declared.connections.session.SessionEnd.{SessionEnd}
 use Rattle.office.specs.Connections.{TellsMoments, is_fault}
 use Rattle.office.specs.Crashes.{Survives}
-use Rattle.office.specs.Interleaved.{HaveGivenUp, Interleaved, SpeakInTurns, Thread, acts_in}
+use Rattle.office.specs.Interleaved.{GaveUpWithinMessages, HaveGivenUp, Interleaved, SpeakInTurns, Thread, acts_in}
 use Rattle.office.specs.Repeats.{RepeatsOnce}
 use Rattle.office.specs.Seats.{AreThreads, Gathers, HaveTurns, IsNew, LastsOver, Sends, StaysSo, TakesTurn, TellsOneMoment, TellsTurn, turns_of}
 
@@ -142,6 +142,8 @@ pub record ServesCrowd {C K R W : Type 0} (gives : C → ℕ → C → Type 0) (
   -- Each turn of a connection answers exactly one message in full, except the turn in which it ends. That one
   -- is its last and answers none in full.
   pub by_turns : SpeakInTurns run.turns 0 threads
+  -- A connection gave up only within a message that had begun: never before bytes of it were read.
+  pub begun : GaveUpWithinMessages run.turns 0 threads
   pub repeats : RepeatsOnce (acts_in run.turns)
   pub stays : StaysSo k threads keeper keeper' after
   pub lasts : LastsOver k threads keeper keeper' s after
