@@ -67,6 +67,10 @@ abbrev pub whose_turn : (ℕ → ℕ) → Option Due → List ℕ
 whose_turn numbers None = []
 whose_turn numbers (Some due) = numbers due.index ∷ []
 
+-- each connection in the slots is one of the first n that came
+abbrev pub AreAmong : {X : Type 0} → (ℕ → ℕ) → ℕ → List (Option X) → Type 0
+AreAmong {X} numbers n slots = (p : ℕ) (x : X) → slot_at slots p ≡ Some x → numbers p < n
+
 -- The same changes around a crowd, and the turn that is then due. met: the connections that came and went so
 -- far; gave: the numbers of the slots, and the turns given so far.
 abbrev pub ChangesBy : {G R W : Type 0} → (R → Option (List ℕ)) → (W → Option (List ℕ)) → (G → List (Seat R W) → List (Seat R W) → Type 0) → (G → (ℕ → ℕ) → List ℕ → Type 0)
@@ -74,7 +78,7 @@ abbrev pub ChangesBy : {G R W : Type 0} → (R → Option (List ℕ)) → (W →
 ChangesBy {R = R} {W = W} remaining contents met gave before after old new due =
     (came gone : List (Seat R W)) → met before came gone
     → (more went : List (Seat R W)) × met after (came ++ more) (gone ++ went) × (changes : Changes remaining contents old new more went)
-    × ((numbers : ℕ → ℕ) (given : List ℕ) → gave before numbers given
+    × ((numbers : ℕ → ℕ) (given : List ℕ) → AreAmong numbers (length came) old → gave before numbers given
     → gave after (numbers_after changes (length came) numbers) (given ++ whose_turn (numbers_after changes (length came) numbers) due))
 
 -- Either bytes of the open connection in slot p were read ahead or put back in this way, nothing else was
