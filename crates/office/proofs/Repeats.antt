@@ -1,5 +1,5 @@
 -- An upload acts once over a whole run.
-use Rattle.std.proofs.Common.{◌≡◌, ◌∙◌, ℕ, suc, ◌+◌, Bool, List, [], ◌∷◌, ◌++◌, codes, length, refl, sym, ap, subst, append_assoc}
+use Rattle.std.proofs.Common.{◌≡◌, ◌∙◌, ℕ, suc, ◌+◌, Bool, true, List, [], ◌∷◌, ◌++◌, codes, length, refl, sym, ap, subst, append_assoc}
 use Rattle.std.specs.Prelude.{⊤}
 use Rattle.std.specs.List.{AllByRecursion}
 use Rattle.hex.specs.Hex.{encode_lower}
@@ -22,7 +22,7 @@ use Rattle.office.specs.Answering.{AcceptsRequest, put, fetch, post, Replies, re
 use Rattle.office.specs.Repeats.{Act, Acts, text_of, AreSessionActs, AreActs, IsUploadOf, GotReceipt, DropsFile, LeavesFile, RepeatsOnce, ActsOnce}
 use Rattle.office.specs.Repeats as act
 use Rattle.office.specs.Rules.{IsPut, Asks, Rule, place_of, upload_of}
-use Rattle.office.specs.Sessions.{EndsAtOnce, GaveUpAt, Session, Connection, Run, most_messages}
+use Rattle.office.specs.Sessions.{EndsAtOnce, Session, Connection, Run, most_messages}
 use Rattle.office.specs.Sessions as session
 use Rattle.office.specs.declared.connections.session.SessionEnd.{SessionEnd}
 use Rattle.office.proofs.Deciding.{holds_put, put_no_post, fetch_no_put}
@@ -190,14 +190,13 @@ last_acts _ _ _ _ _ _ _ _ (session.write_failed_giving_up_at n stream rest s r n
 last_acts _ _ _ _ _ _ _ _ (session.write_failed_giving_up_reading n stream s front may begins) once =
     over _ stream s _ _ _ (session.write_failed_giving_up_reading n stream s front may begins)
 
--- if it gave up a message, there is no act
-pub none_given_up : (n : ℕ) (stream : List ℕ) (s : State) (moments out : List ℕ) (e : SessionEnd) (gave_up : Bool) (after : State)
-    → (x : Session n stream s moments out e gave_up after) (once : EndsAtOnce x) (q : Request) (told : ℕ) → GaveUpAt x q told → (last_acts n stream s moments out e gave_up after x once).acts ≡ []
-unfolding last_acts
-none_given_up _ _ _ _ _ _ _ _ (session.served n stream rest s mid after r now moments text out e gave_up next answers more) once q told h = absurd once
-none_given_up _ _ _ _ _ _ _ _ (session.gave_up_at n stream rest s r now next readable) once q told h = refl
-none_given_up _ _ _ _ _ _ _ _ (session.write_failed_giving_up_at n stream rest s r now front next readable begins) once q told h = refl
-none_given_up _ _ _ _ _ _ _ _ _ once q told h = absurd h
+-- if the session gave up, there is no act
+pub none_acted : (n : ℕ) (stream : List ℕ) (s : State) (moments out : List ℕ) (e : SessionEnd) (gave_up : Bool) (after : State)
+    → (x : Session n stream s moments out e gave_up after) (once : EndsAtOnce x) → gave_up ≡ true → (last_acts n stream s moments out e gave_up after x once).acts ≡ []
+unfolding last_acts over
+none_acted _ _ _ _ _ _ _ _ (session.served n stream rest s mid after r now moments text out e gave_up next answers more) once given = absurd once
+none_acted _ _ _ _ _ _ _ _ (session.write_failed n stream rest s after r now text front next answers begins) once given = absurd cc
+none_acted _ _ _ _ _ _ _ _ _ once given = refl
 
 all_of : {n : ℕ} {stream : List ℕ} {s : State} {moments out : List ℕ} {e : SessionEnd} {gave_up : Bool} {after : State} → LastActs n stream s moments out e gave_up after → HasActs n stream s moments out e gave_up after
 all_of x = record { acts = x.acts; are = x.are; by_rules = x.by_rules }

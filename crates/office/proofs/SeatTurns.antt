@@ -7,7 +7,7 @@ use Rattle.std.specs.Io.KnownBytes.{Appends, Keeps, prepend_known}
 use Rattle.sigtext.specs.Counts.{Rose}
 use Rattle.keeper.specs.declared.keep.Keeper.{Ghosts}
 use Rattle.boxes.specs.State.{State}
-use Rattle.wire.specs.Feeds.{ahead_of, stood_at}
+use Rattle.wire.specs.Feeds.{ahead_of, resumed_at}
 use Rattle.wire.specs.Whole.{MayBegin}
 use Rattle.wire.specs.declared.counted.Counted.{Counted}
 use Rattle.wire.specs.declared.feed.Place.{Place}
@@ -16,7 +16,7 @@ use Rattle.wire.specs.declared.standing.Standing.{Standing}
 use Rattle.office.specs.Begins.{may_begin}
 use Rattle.office.specs.Connections.{TellsMoments}
 use Rattle.office.specs.Crashes.{Survives}
-use Rattle.office.specs.Interleaved.{HaveGivenUp, Interleaved, SpeakInTurns, Thread, Turn, acts_in}
+use Rattle.office.specs.Interleaved.{GaveUpWithinMessages, HaveGivenUp, Interleaved, SpeakInTurns, Thread, Turn, acts_in}
 use Rattle.office.specs.Premise.{IsLeft}
 use Rattle.office.specs.Repeats.{RepeatsOnce}
 use Rattle.office.specs.Seats.{AreThreads, Gathers, HaveTurns, LastsOver, Sends, IsNew, IsStreamOf, StaysSo, TakesTurn, TellsOneMoment, TellsTurn, TellsTurnOf, had_ended, went_on, ended, left_of, turns_of}
@@ -40,6 +40,15 @@ may_begin_there place.Between h = inr refl
 may_begin_there (place.Body n) h = absurd cc
 may_begin_there place.Over h = absurd cc
 
+-- a feed that was resumed there stands between messages
+pub resumed_between : (p : Place) → MayBegin p → resumed_at p ≡ place.Between
+resumed_between place.Fresh h = refl
+resumed_between place.Between h = refl
+resumed_between (place.Body n) (inl h) = absurd cc
+resumed_between (place.Body n) (inr h) = absurd cc
+resumed_between place.Over (inl h) = absurd cc
+resumed_between place.Over (inr h) = absurd cc
+
 pub none_of : (e : Option SessionEnd) → is_some e ≡ false → e ≡ None
 none_of None h = refl
 none_of (Some x) h = absurd cc
@@ -58,14 +67,14 @@ steps_by gives p p' old old' new new' reader reader' output output' clock clock'
     (subst (λ x. Steps gives p old x reader' output output' clock clock' k keeper keeper' s e) en
     (subst (λ x. Steps gives p old new x output output' clock clock' k keeper keeper' s e) er h)))
 
--- the step of a feed that stood where its seat's feed stood
+-- the step of a feed that was resumed with what its seat's feed had read
 pub steps_of : {C K R W : Type 0} (gives : C → ℕ → C → Type 0) (remaining : R → Option (List ℕ)) (seat : Seat R W) (standing : Standing) (new reader output output' : Option (List ℕ)) (clock clock' : C) (k : Ghosts K) (keeper keeper' : K)
     (s : State) (e e' : Option SessionEnd) → standing ≡ seat.standing → e ≡ e'
-    → Steps gives (stood_at standing) (prepend_known (ahead_of standing) (remaining seat.reader.inner)) new reader output output' clock clock' k keeper keeper' s e
-    → Steps gives (stood_at seat.standing) (left_of remaining seat) new reader output output' clock clock' k keeper keeper' s e'
+    → Steps gives place.Between (prepend_known (ahead_of standing) (remaining seat.reader.inner)) new reader output output' clock clock' k keeper keeper' s e
+    → Steps gives place.Between (left_of remaining seat) new reader output output' clock clock' k keeper keeper' s e'
 steps_of gives remaining seat standing new reader output output' clock clock' k keeper keeper' s e e' is ended_so h =
-    subst (λ x. Steps gives (stood_at seat.standing) (left_of remaining seat) new reader output output' clock clock' k keeper keeper' s x) ended_so
-    (subst (λ (x : Standing). Steps gives (stood_at x) (prepend_known (ahead_of x) (remaining seat.reader.inner)) new reader output output' clock clock' k keeper keeper' s e) is h)
+    subst (λ x. Steps gives place.Between (left_of remaining seat) new reader output output' clock clock' k keeper keeper' s x) ended_so
+    (subst (λ (x : Standing). Steps gives place.Between (prepend_known (ahead_of x) (remaining seat.reader.inner)) new reader output output' clock clock' k keeper keeper' s e) is h)
 
 -- ---- the faults that were told
 
@@ -220,7 +229,7 @@ module _ {R W : Type 0} (remaining : R → Option (List ℕ)) (contents : W → 
           so_far = answered_more gives k t.sittings clock clock' keeper keeper' s mid t.so_far p dx z at.within at.is was_open
               (left_of remaining new) (remaining new.reader.inner) (contents new.writer.inner) clock'' keeper'' after (subst (λ n. n ≤ most_messages) served new.few) goes;
         }
-    turns_more (ended n e was_open is served sum serves once) t =
+    turns_more (ended n e was_open is served sum serves once begun) t =
         let dx = sitting_of d d false None in
         let at = stands_there fs ns t.sittings p d dx lt t.are in
         let old = get_or ns p d in
@@ -231,7 +240,7 @@ module _ {R W : Type 0} (remaining : R → Option (List ℕ)) (contents : W → 
           sittings = set t.sittings p y;
           are = at.more new y (same_sitting at.first new old.served (Some e) serves.gave_up (lost_of serves.session) served is);
           so_far = closed_more gives k t.sittings clock clock' keeper keeper' s mid t.so_far p dx z at.within at.is was_open
-              (left_of remaining new) (remaining new.reader.inner) (contents new.writer.inner) clock'' keeper'' after n e sum serves once;
+              (left_of remaining new) (remaining new.reader.inner) (contents new.writer.inner) clock'' keeper'' after n e sum serves once begun;
         }
 
   -- ---- between two turns
@@ -351,6 +360,7 @@ module _ {R W : Type 0} (remaining : R → Option (List ℕ)) (contents : W → 
     pub each_counted : HaveTurns run.turns 0 ns
     pub one_moment : AllByRecursion TellsOneMoment run.turns
     pub by_turns : SpeakInTurns run.turns 0 threads
+    pub begun : GaveUpWithinMessages run.turns 0 threads
     pub repeats : RepeatsOnce (acts_in run.turns)
     pub stays : StaysSo k threads keeper keeper' after
     pub lasts : LastsOver k threads keeper keeper' s after
@@ -372,6 +382,7 @@ module _ {R W : Type 0} (remaining : R → Option (List ℕ)) (contents : W → 
           each_counted = have_turns w.run.turns 0 fs ns t.sittings t.are w.counts.each;
           one_moment = w.counts.one_moment;
           by_turns = w.by_turns;
+          begun = w.begun;
           repeats = repeats_once s (acts_in w.run.turns) mid w.run.order;
           stays = record {
             counted = λ none. (t.so_far.held (none_gave_up t.sittings w.threads w.are none)).0;

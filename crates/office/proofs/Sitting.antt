@@ -9,10 +9,10 @@ use Rattle.wire.specs.Framing as frame
 use Rattle.keeper.specs.declared.keep.Keeper.{Ghosts}
 use Rattle.boxes.specs.State.{State}
 use Rattle.office.specs.Connections.{IsKnown, IsStream}
-use Rattle.office.specs.Interleaved.{AnswersNone, HasGivenUp, IsBehind, Speaks, SpeaksInTurns, Turn, acts_in, moments_in}
+use Rattle.office.specs.Interleaved.{AnswersNone, GaveUpWithin, HasGivenUp, IsBehind, Speaks, SpeaksInTurns, Turn, acts_in, moments_in}
 use Rattle.office.specs.Interleaved as said
 use Rattle.office.specs.Repeats.{Act, text_of}
-use Rattle.office.specs.Sessions.{most_messages}
+use Rattle.office.specs.Sessions.{HasBegunMessage, most_messages}
 use Rattle.office.specs.Stepping.{Goes}
 use Rattle.office.specs.declared.connections.session.SessionEnd.{SessionEnd}
 use Rattle.office.specs.declared.connections.session.SessionEnd.TheVariants.{Ended, Truncated, Refused, Limit, ReadFault, WriteFault}
@@ -66,6 +66,7 @@ pub record Closed (x : Sitting) (e : SessionEnd) (turns : List Turn) : Type 0 wh
   pub written_to : Appends x.output x.written answers
   pub speaks : SpeaksInTurns most_messages stream turns answers (Some e) x.gave_up
   pub lost : (r : Request) (now : ℕ) → IsLost x.lost r now → HasGivenUp stream x.gave_up (acts_in turns) (moments_in turns) r now
+  pub begun : GaveUpWithin stream x.gave_up (acts_in turns)
 
 abbrev pub SitsSo : Option SessionEnd → Sitting → List Turn → Type 0
 SitsSo None x turns = Heard x turns
@@ -169,6 +170,7 @@ sent_so x written turns (Some e) holds h = record {
   written_to = Appends-kept x.output x.written written h.answers h.written_to holds;
   speaks = h.speaks;
   lost = h.lost;
+  begun = h.begun;
 }
 
 pub sent_sits : (x : Sitting) (written : Option (List ℕ)) (turns : List Turn) → Keeps x.written written → Sits x turns → Sits (sent_on x written) turns
@@ -238,19 +240,19 @@ module _ {C K : Type 0} {gives : C → ℕ → C → Type 0} {k : Ghosts K} (x :
 abbrev pub closed : Sitting → Option (List ℕ) → Option (List ℕ) → Option (List ℕ) → SessionEnd → Bool → Option Lost → Sitting
 closed x left reader written e gave_up lost = record x { left = left; reader = reader; written = written; end = Some e; gave_up = gave_up; lost = lost }
 
--- A message was given up in a turn without acts.
+-- A message was given up in a turn.
 pub record IsLostIn (stream : List ℕ) (gave_up : Bool) (t : Turn) (r : Request) (now : ℕ) : Type 0 where
   pub marked : gave_up ≡ true
   pub more : List ℕ
   pub message : Next stream (frame.Message r) more
-  pub acted : t.acts ≡ []
   pub told : t.moments ≡ now ∷ []
 
 pub closed_sits : (x : Sitting) (left reader written : Option (List ℕ)) (e : SessionEnd) (gave_up : Bool) (lost : Option Lost) (n : ℕ) (stream answers : List ℕ) (t : Turn) (turns : List Turn)
     → n + x.served ≡ most_messages → IsStream gave_up e x.left reader stream → Appends x.written written answers
     → (last : Speaks n stream t.acts t.moments answers (Some e) gave_up) → AnswersNone last → ((r : Request) (now : ℕ) → IsLost lost r now → IsLostIn stream gave_up t r now)
+    → (gave_up ≡ true → t.acts ≡ []) → (gave_up ≡ true → HasBegunMessage stream)
     → Heard x turns → Closed (closed x left reader written e gave_up lost) e (turns ++ t ∷ [])
-closed_sits x left reader written e gave_up lost n stream answers t turns sum read wrote last none given h = record {
+closed_sits x left reader written e gave_up lost n stream answers t turns sum read wrote last none given unacted begun h = record {
   stream = h.front ++ stream;
   answers = h.text ++ answers;
   read = stream_more gave_up e x.input x.left reader h.front stream h.taken read;
@@ -258,13 +260,19 @@ closed_sits x left reader written e gave_up lost n stream answers t turns sum re
   speaks = h.follows n most_messages stream (t ∷ []) answers (Some e) gave_up sum (said.ends n stream t answers e gave_up last none);
   lost = λ r now is.
       let g = given r now is in
-      let same : acts_in turns ++ [] ≡ acts_in (turns ++ t ∷ []) = ap (λ (l : List Act). acts_in turns ++ l) (sym g.acted) ∙ sym (acts_more turns t) in
       record {
         marked = g.marked;
         rest = stream;
         more = g.more;
-        behind = subst (λ (l : List Act). IsBehind (h.front ++ stream) l stream) same (h.behind stream stream [] refl);
+        behind = there g.marked;
         message = g.message;
-        told = moments_more turns t ∙ ap (λ (l : List ℕ). moments_in turns ++ l) g.told ∙ ap (λ (l : List ℕ). l ++ now ∷ []) (h.tied ∙ ap nows (sym (append-nil (acts_in turns)) ∙ same));
+        told = moments_more turns t ∙ ap (λ (l : List ℕ). moments_in turns ++ l) g.told ∙ ap (λ (l : List ℕ). l ++ now ∷ []) (h.tied ∙ ap nows (sym (append-nil (acts_in turns)) ∙ same g.marked));
       };
+  begun = λ is. (stream, there is, begun is);
 }
+  where
+    same : gave_up ≡ true → acts_in turns ++ [] ≡ acts_in (turns ++ t ∷ [])
+    same is = ap (λ (l : List Act). acts_in turns ++ l) (sym (unacted is)) ∙ sym (acts_more turns t)
+
+    there : gave_up ≡ true → IsBehind (h.front ++ stream) (acts_in (turns ++ t ∷ [])) stream
+    there is = subst (λ (l : List Act). IsBehind (h.front ++ stream) l stream) (same is) (h.behind stream stream [] refl)

@@ -13,19 +13,19 @@ use Rattle.wire.specs.Framing.{Next}
 use Rattle.wire.specs.Framing as frame
 use Rattle.office.specs.Connections.{Serves, TellsMoments}
 use Rattle.office.specs.Crashes.{LastsThrough, Survives, never_changed}
-use Rattle.office.specs.Interleaved.{AnswersNone, AreSpoken, AreTied, HasGivenUp, HaveGivenUp, Interleaved, SpeakInTurns, Speaks, SpeaksInTurns, Thread, Turn, acts_in, moments_in, own_acts, own_moments, own_turns}
+use Rattle.office.specs.Interleaved.{AnswersNone, AreSpoken, AreTied, GaveUpWithin, GaveUpWithinMessages, HasGivenUp, HaveGivenUp, Interleaved, SpeakInTurns, Speaks, SpeaksInTurns, Thread, Turn, acts_in, moments_in, own_acts, own_moments, own_turns}
 use Rattle.office.specs.Interleaved as said
 use Rattle.office.specs.Premise.{HoldsUp}
 use Rattle.office.specs.Repeats.{Act, Acts, text_of}
 use Rattle.office.specs.Seats.{IsStreamOf}
-use Rattle.office.specs.Sessions.{EndsAtOnce, GaveUpAt, Session, most_messages}
+use Rattle.office.specs.Sessions.{EndsAtOnce, GaveUpAt, HasBegunMessage, Session, most_messages}
 use Rattle.office.specs.Sessions as session
 use Rattle.office.specs.Stepping.{Goes}
 use Rattle.office.specs.declared.connections.session.SessionEnd.{SessionEnd}
 use Rattle.office.specs.declared.connections.session.SessionEnd.TheVariants.{ReadFault}
 use Rattle.office.proofs.Counting.{Counts, counts_more, counts_still, counts_turn, over_if, took_of}
 use Rattle.office.proofs.Endurance.{still, survives_more, survives_same, survives_through, then_survives, then_through}
-use Rattle.office.proofs.Repeats.{last_acts, none_given_up}
+use Rattle.office.proofs.Repeats.{last_acts, none_acted}
 use Rattle.office.proofs.RunSoFar.{told_more}
 use Rattle.office.proofs.SessionSteps.{few_moments}
 use Rattle.office.proofs.Unstaged.{rose_before, rose_later}
@@ -188,26 +188,24 @@ is_lost (session.gave_up_at n stream rest s r now next readable) once q told h =
 is_lost (session.write_failed_giving_up_at n stream rest s r now front next readable begins) once q told h = h
 is_lost _ once q told h = absurd h
 
--- it was given up in a turn without acts
+-- it was given up in a turn
 lost_in : {n : ℕ} {stream : List ℕ} {s : State} {moments out : List ℕ} {e : SessionEnd} {gave_up : Bool} {after : State}
-    → (x : Session n stream s moments out e gave_up after) (t : Turn) → t.moments ≡ moments → ((r : Request) (now : ℕ) → GaveUpAt x r now → t.acts ≡ [])
+    → (x : Session n stream s moments out e gave_up after) (t : Turn) → t.moments ≡ moments
     → (r : Request) (now : ℕ) → IsLost (lost_of x) r now → IsLostIn stream gave_up t r now
 unfolding lost_of
-lost_in (session.gave_up_at n stream rest s r now next readable) t told none q at h = record {
+lost_in (session.gave_up_at n stream rest s r now next readable) t told q at h = record {
   marked = refl;
   more = rest;
   message = subst (λ (z : Request). Next stream (frame.Message z) rest) (sym h.0) next;
-  acted = none q at h;
   told = told ∙ ap (λ (m : ℕ). m ∷ []) (sym h.1);
 }
-lost_in (session.write_failed_giving_up_at n stream rest s r now front next readable begins) t told none q at h = record {
+lost_in (session.write_failed_giving_up_at n stream rest s r now front next readable begins) t told q at h = record {
   marked = refl;
   more = rest;
   message = subst (λ (z : Request). Next stream (frame.Message z) rest) (sym h.0) next;
-  acted = none q at h;
   told = told ∙ ap (λ (m : ℕ). m ∷ []) (sym h.1);
 }
-lost_in _ t told none q at h = absurd h
+lost_in _ t told q at h = absurd h
 
 pub record SoFar {C K : Type 0} (gives : C → ℕ → C → Type 0) (k : Ghosts K) (sittings : List Sitting) (whose : List ℕ) (clock clock' : C) (keeper keeper' : K) (s mid : State) : Type 0 where
   pub turns : List Turn
@@ -337,9 +335,9 @@ module _ {C K : Type 0} (gives : C → ℕ → C → Type 0) (k : Ghosts K) wher
 
       -- the connection ends
       pub closed_more : (left reader written : Option (List ℕ)) (clock'' : C) (keeper'' : K) (after : State) (n : ℕ) (e : SessionEnd) → n + x.served ≡ most_messages
-          → (v : Serves n gives x.left reader x.written written clock' clock'' k keeper' keeper'' mid after e) → EndsAtOnce v.session
+          → (v : Serves n gives x.left reader x.written written clock' clock'' k keeper' keeper'' mid after e) → EndsAtOnce v.session → (v.gave_up ≡ true → HasBegunMessage v.stream)
           → SoFar gives k (set xs p (closed x left reader written e v.gave_up (lost_of v.session))) (whose ++ p ∷ []) clock clock'' keeper keeper'' s after
-      closed_more left reader written clock'' keeper'' after n e sum v once =
+      closed_more left reader written clock'' keeper'' after n e sum v once begun =
           let y = last_acts n v.stream mid v.moments v.answers e v.gave_up after v.session once in
           let speaks = speaks_of n v.stream mid v.moments v.answers e v.gave_up y.acts after y.are in
           let none = none_whole n v.stream mid v.moments v.answers e v.gave_up y.acts after y.are y.none in
@@ -355,7 +353,8 @@ module _ {C K : Type 0} (gives : C → ℕ → C → Type 0) (k : Ghosts K) wher
             by_rules = y.by_rules;
             moves = λ t told acted before h.
                 let last = last_turn n v.stream t y.acts v.moments v.answers e v.gave_up told acted speaks none in
-                closed_sits x left reader written e v.gave_up (lost_of v.session) n v.stream v.answers t before sum v.read v.written last.0 last.1 (lost_in v.session t told (λ r now given. acted ∙ none_given_up n v.stream mid v.moments v.answers e v.gave_up after v.session once r now given)) (open_sits x before is_open h);
+                closed_sits x left reader written e v.gave_up (lost_of v.session) n v.stream v.answers t before sum v.read v.written last.0 last.1 (lost_in v.session t told)
+                (λ given. acted ∙ none_acted n v.stream mid v.moments v.answers e v.gave_up after v.session once given) begun (open_sits x before is_open h);
             marked = unmarked;
             kept = λ r now h. absurd (subst (λ (o : Option Lost). IsLost o r now) unlost h);
             never_less = held_least k v.gave_up keeper' keeper'' v.held.0;
@@ -498,6 +497,7 @@ record HasThread (x : Sitting) (own : List Turn) : Type 0 where
   pub is : IsThreadOf x thread
   pub speaks : SpeaksInTurns most_messages thread.stream own thread.answers thread.end thread.gave_up
   pub lost : (r : Request) (now : ℕ) → IsLost x.lost r now → HasGivenUp thread.stream thread.gave_up (acts_in own) (moments_in own) r now
+  pub begun : GaveUpWithin thread.stream thread.gave_up (acts_in own)
 
 speaks_marked : (n : ℕ) (stream : List ℕ) (own : List Turn) (out : List ℕ) (e e' : Option SessionEnd) (g g' : Bool) → e ≡ e' → g ≡ g' → SpeaksInTurns n stream own out e g → SpeaksInTurns n stream own out e' g'
 speaks_marked n stream own out e e' g g' ee eg h = subst (λ z. SpeaksInTurns n stream own out z g') ee (subst (SpeaksInTurns n stream own out e) eg h)
@@ -518,6 +518,7 @@ thread_at x own None is h =
           (subst (λ z. SpeaksInTurns most_messages (h.front ++ []) z h.text None false) (append-nil own)
           (subst (λ z. SpeaksInTurns most_messages (h.front ++ []) (own ++ []) z None false) (append-nil h.text) all)));
       lost = λ r now is_lost. absurd (subst (λ (o : Option Lost). IsLost o r now) h.unlost is_lost);
+      begun = λ given. let marked = h.marked in absurd (cc (marked, given));
     }
 thread_at x own (Some e) is h = record {
   thread = record { stream = h.stream; answers = h.answers; end = x.end; gave_up = x.gave_up };
@@ -529,6 +530,7 @@ thread_at x own (Some e) is h = record {
   };
   speaks = speaks_marked most_messages h.stream own h.answers (Some e) x.end x.gave_up x.gave_up (sym is) refl h.speaks;
   lost = h.lost;
+  begun = h.begun;
 }
 
 -- the same over all turns
@@ -544,10 +546,11 @@ record HasThreads (turns : List Turn) (i : ℕ) (xs : List Sitting) : Type 0 whe
   pub by_turns : SpeakInTurns turns i threads
   pub spoken : AreSpoken turns i threads
   pub lost : (r : Request) (now : ℕ) → AreLost xs r now → HaveGivenUp turns i threads r now
+  pub begun : GaveUpWithinMessages turns i threads
   pub many : length threads ≡ length xs
 
 all_threads : (turns : List Turn) (i : ℕ) (xs : List Sitting) → AllSit turns i xs → HasThreads turns i xs
-all_threads turns i [] h = record { threads = []; are = tt; by_turns = tt; spoken = tt; lost = λ r now none. none; many = refl }
+all_threads turns i [] h = record { threads = []; are = tt; by_turns = tt; spoken = tt; lost = λ r now none. none; begun = tt; many = refl }
 all_threads turns i (x ∷ xs) h =
     let c = thread_at x (own_turns i turns) x.end refl h.0 in
     let cs = all_threads turns (suc i) xs h.1 in
@@ -559,6 +562,7 @@ all_threads turns i (x ∷ xs) h =
       lost = λ r now.
           either (IsLost x.lost r now) (AreLost xs r now) (HasGivenUp c.thread.stream c.thread.gave_up (own_acts i turns) (own_moments i turns) r now) (HaveGivenUp turns (suc i) cs.threads r now)
           (λ is. own_lost i turns c.thread r now (c.lost r now is)) (cs.lost r now);
+      begun = (subst (GaveUpWithin c.thread.stream c.thread.gave_up) (own_are i turns).0 c.begun, cs.begun);
       many = ap suc cs.many;
     }
   where
@@ -577,6 +581,7 @@ pub record Woven {C : Type 0} (gives : C → ℕ → C → Type 0) (xs : List Si
   pub by_turns : SpeakInTurns run.turns 0 threads
   pub counts : Counts run.turns xs whose
   pub lost : (r : Request) (now : ℕ) → AreLost xs r now → HaveGivenUp run.turns 0 threads r now
+  pub begun : GaveUpWithinMessages run.turns 0 threads
 
 pub finishes : {C K : Type 0} {whose : List ℕ} (gives : C → ℕ → C → Type 0) (k : Ghosts K) (xs : List Sitting) (clock clock' : C) (keeper keeper' : K) (s mid : State)
     → SoFar gives k xs whose clock clock' keeper keeper' s mid → Woven gives xs whose clock clock' s mid
@@ -592,6 +597,7 @@ finishes gives k xs clock clock' keeper keeper' s mid f =
       by_turns = x.by_turns;
       counts = f.counts;
       lost = x.lost;
+      begun = x.begun;
     }
 
 -- ---- properties of all threads are properties of all connections
