@@ -25,26 +25,26 @@ pub struct DeskWork<W: Drop> {
     pub out: W,
 }
 
-impl<'a, W: Write + Drop> OfficeWork<'a> for DeskWork<W> {
+impl<W: Write + Drop> OfficeWork for DeskWork<W> {
     ghost use Rattle.std.specs.Prelude.{IsOk, option_map};
     ghost use Rattle.commands.specs.Obeying.{TellsLine};
     ghost use Rattle.commands.specs.Saying.{HandsBack};
 
-    type Gain = Done<'a, W>;
+    type Gain = Done<W>;
 
     ghost step = { λ work gain. TellsLine W.contents (option_map (λ line. line.items) work.command)
         (IsOk gain.result) work.out gain.out };
 
     ghost idle = { λ work gain. HandsBack (IsOk gain.result) work.out gain.out };
 
-    fn run<K: Rolls>(self, rt: &'a HostRuntime, keeper: K) -> (Done<'a, W>, K) {
+    fn run<K: Rolls>(self, rt: &HostRuntime, keeper: K) -> (Done<W>, K) {
         let DeskWork { command, out } = self;
         let mut office = Office::new(rt.alloc(), keeper);
         let obeyed = obey(&mut office, command);
         (tell(obeyed, out), office.keeper)
     }
 
-    fn refuse(self, fault: Fault<'a>) -> Done<'a, W> {
+    fn refuse(self, fault: Fault) -> Done<W> {
         Done {
             result: Err(fault),
             out: Some(self.out),
@@ -53,7 +53,7 @@ impl<'a, W: Write + Drop> OfficeWork<'a> for DeskWork<W> {
 }
 
 // Does what the line says.
-fn obey<'a, K: Keeper>(office: &mut Office<K>, command: Option<Vec<u8>>) -> Result<(), Fault<'a>>
+fn obey<K: Keeper>(office: &mut Office<K>, command: Option<Vec<u8>>) -> Result<(), Fault>
     ensures { Passes K.Keeper office.old.keeper office.new.keeper
         (IsGiven (option_map (λ line. line.items) command) (IsOk result)) }
 {
@@ -67,7 +67,7 @@ fn obey<'a, K: Keeper>(office: &mut Office<K>, command: Option<Vec<u8>>) -> Resu
 }
 
 /// Says that the command was done, if it was.
-pub fn tell<'a, W: Write + Drop>(obeyed: Result<(), Fault<'a>>, mut out: W) -> Done<'a, W>
+pub fn tell<W: Write + Drop>(obeyed: Result<(), Fault>, mut out: W) -> Done<W>
     ensures said { Says W.contents done_line (IsOk result.result) out result.out }
     ensures done { IsOk result.result → IsOk obeyed.entry }
 {
@@ -91,7 +91,7 @@ pub fn read_command<R: Read + Drop>(
     alloc: Global,
     line: &str,
     input: R,
-) -> Result<Option<Vec<u8>>, Fault<'static>>
+) -> Result<Option<Vec<u8>>, Fault>
     ensures { IfOk result (λ command. IsCommandOf (R.remaining input) line.now
         (option_map (λ line. line.items) command)) }
 {
@@ -105,7 +105,7 @@ pub fn read_command<R: Read + Drop>(
 }
 
 // Why the command could not be read.
-fn unread(error: Error) -> Fault<'static> {
+fn unread(error: Error) -> Fault {
     match error.kind() {
         ErrorKind::OutOfMemory => Fault::OutOfMemory,
         _ => Fault::CannotReadCommand,

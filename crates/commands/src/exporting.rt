@@ -27,17 +27,17 @@ pub struct ExportWork<'w> {
     pub words: Export<'w>,
 }
 
-impl<'a> OfficeWork<'a> for ExportWork<'_> {
+impl OfficeWork for ExportWork<'_> {
     ghost use Rattle.std.specs.Prelude.{IsOk};
     ghost use Rattle.commands.specs.Listing.{Looks};
 
-    type Gain = Result<(), Fault<'a>>;
+    type Gain = Result<(), Fault>;
 
     ghost step = { λ work gain. Looks };
 
     ghost idle = { λ work gain. IsOk gain → ⊥ };
 
-    fn run<K: Rolls>(self, rt: &'a HostRuntime, mut keeper: K) -> (Result<(), Fault<'a>>, K) {
+    fn run<K: Rolls>(self, rt: &HostRuntime, mut keeper: K) -> (Result<(), Fault>, K) {
         if make_folder(rt, self.words.folder).is_err() {
             return (Err(Fault::CannotMakeFolder), keeper);
         }
@@ -55,7 +55,7 @@ impl<'a> OfficeWork<'a> for ExportWork<'_> {
         (done, keeper)
     }
 
-    fn refuse(self, fault: Fault<'a>) -> Result<(), Fault<'a>> {
+    fn refuse(self, fault: Fault) -> Result<(), Fault> {
         Err(fault)
     }
 }
@@ -107,7 +107,7 @@ fn list_in<R: Files>(
 }
 
 // The fault of an export that failed after `whole` complete files.
-fn told<'a>(fault: ExportFault, whole: u64) -> Fault<'a> {
+fn told(fault: ExportFault, whole: u64) -> Fault {
     match fault {
         ExportFault::Keep(fault) => Fault::from(fault),
         ExportFault::Memory | ExportFault::Put(PutFault::Memory) => Fault::OutOfMemory,

@@ -6,11 +6,11 @@ use std::alloc::AllocError;
 use thiserror::Error;
 
 /// Why the program could not do its task. The message follows `drop: ` on the line.
-#[derive(Clone, Copy, Debug, PartialEq, Eq, Error)]
-pub enum Fault<'a> {
+#[derive(Debug, Drop, Error)]
+pub enum Fault {
     /// The argument of this name is malformed.
     #[error("malformed value: {0}")]
-    MalformedValue(&'a str),
+    MalformedValue(&'static str),
     /// The file with the secret could not be opened or read.
     #[error("cannot read the secret")]
     CannotReadSecret,
@@ -46,7 +46,7 @@ pub enum Fault<'a> {
     List(ListFault),
     /// The file of this name could not be opened.
     #[error("cannot read {0}")]
-    CannotRead(&'a str),
+    CannotRead(String),
     /// A session ended with a read or write fault, or a connection could not be accepted.
     #[error("a connection failed")]
     ConnectionFailed,
@@ -70,13 +70,13 @@ pub enum Fault<'a> {
     CannotWrite,
 }
 
-impl From<AllocError> for Fault<'_> {
+impl From<AllocError> for Fault {
     fn from(_error: AllocError) -> Self {
         Fault::OutOfMemory
     }
 }
 
-impl From<DeskFault> for Fault<'_> {
+impl From<DeskFault> for Fault {
     fn from(fault: DeskFault) -> Self {
         match fault {
             DeskFault::Kept(fault) => Fault::from(fault),
@@ -85,7 +85,7 @@ impl From<DeskFault> for Fault<'_> {
     }
 }
 
-impl From<ListFault> for Fault<'_> {
+impl From<ListFault> for Fault {
     fn from(fault: ListFault) -> Self {
         match fault {
             // Host and region were checked before, so the key is at fault.
@@ -98,7 +98,7 @@ impl From<ListFault> for Fault<'_> {
     }
 }
 
-impl From<KeepFault> for Fault<'_> {
+impl From<KeepFault> for Fault {
     fn from(fault: KeepFault) -> Self {
         match fault {
             KeepFault::Memory => Fault::OutOfMemory,

@@ -23,10 +23,10 @@ pub struct LinkWork<'w, W: Drop> {
     pub out: W,
 }
 
-impl<'a, W: Write + Drop> KeyWork<'a> for LinkWork<'_, W> {
+impl<W: Write + Drop> KeyWork for LinkWork<'_, W> {
     type Out = W;
 
-    fn run(self, alloc: Global, key: &LinkKey<'_>) -> Done<'a, W> {
+    fn run(self, alloc: Global, key: &LinkKey<'_>) -> Done<W> {
         let LinkWork {
             order,
             words,
@@ -42,7 +42,7 @@ impl<'a, W: Write + Drop> KeyWork<'a> for LinkWork<'_, W> {
         }
     }
 
-    fn refuse(self, fault: Fault<'a>) -> Done<'a, W> {
+    fn refuse(self, fault: Fault) -> Done<W> {
         Done {
             result: Err(fault),
             out: Some(self.out),
@@ -59,7 +59,7 @@ pub struct Order {
 }
 
 /// Reads the arguments. Fails if one is malformed.
-pub fn read_order(alloc: Global, words: &Link<'_>) -> Result<Order, Fault<'static>> {
+pub fn read_order(alloc: Global, words: &Link<'_>) -> Result<Order, Fault> {
     let Some(method) = Method::read(words.method.as_bytes()) else {
         return Err(Fault::MalformedValue("method"));
     };
@@ -80,7 +80,7 @@ pub fn read_order(alloc: Global, words: &Link<'_>) -> Result<Order, Fault<'stati
 }
 
 /// Fails if the host or the region is malformed.
-pub fn check_place(host: &[u8], region: &[u8]) -> Result<(), Fault<'static>> {
+pub fn check_place(host: &[u8], region: &[u8]) -> Result<(), Fault> {
     if !is_host(host) {
         return Err(Fault::MalformedValue("host"));
     }
@@ -91,7 +91,7 @@ pub fn check_place(host: &[u8], region: &[u8]) -> Result<(), Fault<'static>> {
 }
 
 // Whether a link of this method may have this target: a box name, `/` and a file name; for POST a desk command.
-fn is_target(alloc: Global, method: Method, target: &[u8]) -> Result<bool, Fault<'static>> {
+fn is_target(alloc: Global, method: Method, target: &[u8]) -> Result<bool, Fault> {
     if method == Method::Post {
         return Ok(read_command(alloc, target)?.is_some());
     }
@@ -107,7 +107,7 @@ fn line_of(
     key: &LinkKey<'_>,
     order: &Order,
     words: &Link<'_>,
-) -> Result<Vec<u8>, Fault<'static>> {
+) -> Result<Vec<u8>, Fault> {
     let to_desk = order.method == Method::Post;
     let path = format!(in alloc; "/{}", if to_desk { "" } else { words.target })?;
     let command = [OrderParam {
@@ -125,13 +125,15 @@ fn line_of(
     let (host, region) = (words.host.as_bytes(), words.region.as_bytes());
     let mut line = Vec::from_slice(alloc, b"http://")?;
     line.extend_from_slice(host)?;
-    write_link(alloc, &order, key, host, region, &mut line).map_err(unwritten)?;
+    if let Err(fault) = write_link(alloc, &order, key, host, region, &mut line) {
+        return Err(unwritten(fault));
+    }
     line.extend_from_slice(b"\n")?;
     Ok(line)
 }
 
 // Why no link was written.
-fn unwritten(fault: LinkFault) -> Fault<'static> {
+fn unwritten(fault: LinkFault) -> Fault {
     match fault {
         LinkFault::Memory => Fault::OutOfMemory,
         LinkFault::Method => Fault::MalformedValue("method"),

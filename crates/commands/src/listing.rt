@@ -30,10 +30,10 @@ pub struct LinksWork<'w, R: Drop, W: Drop> {
     pub out: W,
 }
 
-impl<'a, R: Read + Drop, W: Write + Drop> KeyWork<'a> for LinksWork<'_, R, W> {
+impl<R: Read + Drop, W: Write + Drop> KeyWork for LinksWork<'_, R, W> {
     type Out = W;
 
-    fn run(self, alloc: Global, key: &LinkKey<'_>) -> Done<'a, W> {
+    fn run(self, alloc: Global, key: &LinkKey<'_>) -> Done<W> {
         let (host, region) = (self.words.host.as_bytes(), self.words.region.as_bytes());
         let mut writer = match buffered(alloc, self.out) {
             Ok(writer) => writer,
@@ -43,7 +43,7 @@ impl<'a, R: Read + Drop, W: Write + Drop> KeyWork<'a> for LinksWork<'_, R, W> {
         told(written.end, writer)
     }
 
-    fn refuse(self, fault: Fault<'a>) -> Done<'a, W> {
+    fn refuse(self, fault: Fault) -> Done<W> {
         Done {
             result: Err(fault),
             out: Some(self.out),
@@ -58,18 +58,18 @@ pub struct ManifestWork<W: Drop> {
     pub out: W,
 }
 
-impl<'a, W: Write + Drop> OfficeWork<'a> for ManifestWork<W> {
+impl<W: Write + Drop> OfficeWork for ManifestWork<W> {
     ghost use Rattle.commands.specs.Listing.{IsManifest, Writes};
     ghost use Rattle.std.specs.Prelude.{IsOk};
     ghost use Rattle.commands.specs.Saying.{HandsBack};
 
-    type Gain = Done<'a, W>;
+    type Gain = Done<W>;
 
     ghost step = { λ work gain. Writes W.contents IsManifest (IsOk gain.result) work.out gain.out };
 
     ghost idle = { λ work gain. HandsBack (IsOk gain.result) work.out gain.out };
 
-    fn run<K: Rolls>(self, rt: &'a HostRuntime, mut keeper: K) -> (Done<'a, W>, K) {
+    fn run<K: Rolls>(self, rt: &HostRuntime, mut keeper: K) -> (Done<W>, K) {
         let mut writer = match buffered(rt.alloc(), self.out) {
             Ok(writer) => writer,
             Err(fault) => return (failed(fault), keeper),
@@ -78,7 +78,7 @@ impl<'a, W: Write + Drop> OfficeWork<'a> for ManifestWork<W> {
         (told(written, writer), keeper)
     }
 
-    fn refuse(self, fault: Fault<'a>) -> Done<'a, W> {
+    fn refuse(self, fault: Fault) -> Done<W> {
         Done {
             result: Err(fault),
             out: Some(self.out),
@@ -95,18 +95,18 @@ pub struct CompareWork<R: Drop, W: Drop> {
     pub out: W,
 }
 
-impl<'a, R: Read + Drop, W: Write + Drop> OfficeWork<'a> for CompareWork<R, W> {
+impl<R: Read + Drop, W: Write + Drop> OfficeWork for CompareWork<R, W> {
     ghost use Rattle.commands.specs.Listing.{Compares};
     ghost use Rattle.std.specs.Prelude.{IsOk};
     ghost use Rattle.commands.specs.Saying.{HandsBack};
 
-    type Gain = Done<'a, W>;
+    type Gain = Done<W>;
 
     ghost step = { λ work gain. Compares W.contents (R.remaining work.input) (IsOk gain.result) work.out gain.out };
 
     ghost idle = { λ work gain. HandsBack (IsOk gain.result) work.out gain.out };
 
-    fn run<K: Rolls>(self, rt: &'a HostRuntime, mut keeper: K) -> (Done<'a, W>, K) {
+    fn run<K: Rolls>(self, rt: &HostRuntime, mut keeper: K) -> (Done<W>, K) {
         let CompareWork { input, out } = self;
         let mut writer = match buffered(rt.alloc(), out) {
             Ok(writer) => writer,
@@ -116,7 +116,7 @@ impl<'a, R: Read + Drop, W: Write + Drop> OfficeWork<'a> for CompareWork<R, W> {
         (told(compared.end, writer), keeper)
     }
 
-    fn refuse(self, fault: Fault<'a>) -> Done<'a, W> {
+    fn refuse(self, fault: Fault) -> Done<W> {
         Done {
             result: Err(fault),
             out: Some(self.out),
@@ -161,18 +161,18 @@ pub struct ListWork<W: Drop> {
     pub out: W,
 }
 
-impl<'a, W: Write + Drop> OfficeWork<'a> for ListWork<W> {
+impl<W: Write + Drop> OfficeWork for ListWork<W> {
     ghost use Rattle.commands.specs.Listing.{IsListOf, Writes};
     ghost use Rattle.std.specs.Prelude.{IsOk};
     ghost use Rattle.commands.specs.Saying.{HandsBack};
 
-    type Gain = Done<'a, W>;
+    type Gain = Done<W>;
 
     ghost step = { λ work gain. Writes W.contents (IsListOf work.stock) (IsOk gain.result) work.out gain.out };
 
     ghost idle = { λ work gain. HandsBack (IsOk gain.result) work.out gain.out };
 
-    fn run<K: Rolls>(self, rt: &'a HostRuntime, mut keeper: K) -> (Done<'a, W>, K) {
+    fn run<K: Rolls>(self, rt: &HostRuntime, mut keeper: K) -> (Done<W>, K) {
         let ListWork { stock, out } = self;
         let mut writer = match buffered(rt.alloc(), out) {
             Ok(writer) => writer,
@@ -182,7 +182,7 @@ impl<'a, W: Write + Drop> OfficeWork<'a> for ListWork<W> {
         (told(written, writer), keeper)
     }
 
-    fn refuse(self, fault: Fault<'a>) -> Done<'a, W> {
+    fn refuse(self, fault: Fault) -> Done<W> {
         Done {
             result: Err(fault),
             out: Some(self.out),
@@ -209,10 +209,10 @@ fn list<K: Rolls, W: Write>(
 }
 
 /// A buffered writer.
-pub(crate) fn buffered<'a, W: Write + Drop>(
+pub(crate) fn buffered<W: Write + Drop>(
     alloc: Global,
     out: W,
-) -> Result<Counted<BufWriter<W>>, Fault<'a>>
+) -> Result<Counted<BufWriter<W>>, Fault>
     ensures { IfOk result (λ writer. Keeps (W.contents out) (⟦<BufWriter<W> as Write>⟧.contents writer.inner)) }
 {
     match BufWriter::new(alloc, out) {
@@ -222,7 +222,7 @@ pub(crate) fn buffered<'a, W: Write + Drop>(
 }
 
 // What a work gives whose output is gone.
-fn failed<'a, W: Drop>(fault: Fault<'a>) -> Done<'a, W>
+fn failed<W: Drop>(fault: Fault) -> Done<W>
     ensures { IsOk result.result → ⊥ }
 {
     Done {
@@ -232,10 +232,10 @@ fn failed<'a, W: Drop>(fault: Fault<'a>) -> Done<'a, W>
 }
 
 // What a work gives behind a list. Flushes the buffer even if the list failed.
-fn told<'a, W: Write + Drop>(
+fn told<W: Write + Drop>(
     listed: Result<(), ListFault>,
     writer: Counted<BufWriter<W>>,
-) -> Done<'a, W>
+) -> Done<W>
     ensures { IsOk result.result → IsOk listed × ((out : W) × (result.out ≡ Some out)
         × Keeps (⟦<BufWriter<W> as Write>⟧.contents writer.inner) (W.contents out)) }
 {
@@ -249,7 +249,7 @@ fn told<'a, W: Write + Drop>(
 }
 
 // The result of a list, and of flushing it.
-fn listed_and_flushed<'a>(listed: Result<(), ListFault>, is_flushed: bool) -> Result<(), Fault<'a>>
+fn listed_and_flushed(listed: Result<(), ListFault>, is_flushed: bool) -> Result<(), Fault>
     ensures { IsOk result → IsOk listed × IsTrue is_flushed }
 {
     match listed {

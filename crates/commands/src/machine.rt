@@ -2,6 +2,7 @@
 use crate::outside::Outside;
 use crate::watching::WatchingClock;
 use sockets::send_at_once;
+use std::alloc::AllocError;
 use std::fs::Files;
 use std::net::{Net, SocketAddr, SocketAddrV4, TcpListener, TcpStream};
 use std::time;
@@ -16,7 +17,7 @@ pub struct Machine<'a, R> {
 impl<
     'a,
     R: time::Clock + Files + AllocGlobal + Eprint + Net<Listener = TcpListener, Stream = TcpStream>,
-> Outside<'a> for Machine<'a, R> {
+> Outside for Machine<'a, R> {
     ghost use Rattle.std.specs.Prelude.{⊤};
 
     type Listener = TcpListener;
@@ -33,7 +34,7 @@ impl<
         Some(listener)
     }
 
-    fn clock(&self, file: &'a str) -> WatchingClock<'a, R> {
+    fn clock(&self, file: &str) -> Result<WatchingClock<'a, R>, AllocError> {
         WatchingClock::new(self.rt, file)
     }
 }

@@ -48,12 +48,12 @@ pub struct PublishWork<'w, W: Drop, E: Drop, N: Drop> {
     pub outside: N,
 }
 
-impl<'a, W: Write + Drop, E: Write + Drop, N: Outside<'a> + Drop> OfficeWork<'a>
-    for PublishWork<'a, W, E, N> {
+impl<W: Write + Drop, E: Write + Drop, N: Outside + Drop> OfficeWork
+    for PublishWork<'_, W, E, N> {
     ghost use Rattle.std.specs.Prelude.{IsOk};
     ghost use Rattle.commands.specs.Serving.{MayServe};
 
-    type Gain = Session<'a, N::Listener, <N::Listener as Listener>::End, N::Clock>;
+    type Gain = Session<N::Listener, <N::Listener as Listener>::End, N::Clock>;
 
     ghost step = { λ work gain. MayServe N.listens N.begins N.Clock.now_gives N.Listener.told
         N.Listener.are_ends ⟦<Gathered<<N::Listener as Listener>::End> as Read>⟧.remaining
@@ -64,10 +64,10 @@ impl<'a, W: Write + Drop, E: Write + Drop, N: Outside<'a> + Drop> OfficeWork<'a>
 
     fn run<K: Rolls>(
         self,
-        rt: &'a HostRuntime,
+        rt: &HostRuntime,
         keeper: K,
     ) -> (
-        Session<'a, N::Listener, <N::Listener as Listener>::End, N::Clock>,
+        Session<N::Listener, <N::Listener as Listener>::End, N::Clock>,
         K,
     ) {
         let keeper = CachedKeeper::new(rt.alloc(), keeper);
@@ -77,8 +77,8 @@ impl<'a, W: Write + Drop, E: Write + Drop, N: Outside<'a> + Drop> OfficeWork<'a>
 
     fn refuse(
         self,
-        fault: Fault<'a>,
-    ) -> Session<'a, N::Listener, <N::Listener as Listener>::End, N::Clock> {
+        fault: Fault,
+    ) -> Session<N::Listener, <N::Listener as Listener>::End, N::Clock> {
         unserved(fault)
     }
 }
@@ -86,12 +86,12 @@ impl<'a, W: Write + Drop, E: Write + Drop, N: Outside<'a> + Drop> OfficeWork<'a>
 // Serves the office, and publishes its manifest in the file of this name. The manifest is first written to another file and
 // then renamed, so nobody reads a part of it. Each receipt is added as soon as it is given. If the manifest can't be written,
 // one line on `err` says so, and the office is served without it.
-fn serve_published<'a, K: Keeper, W: Write + Drop, E: Write + Drop, N: Outside<'a> + Drop>(
-    rt: &'a HostRuntime,
+fn serve_published<K: Keeper, W: Write + Drop, E: Write + Drop, N: Outside + Drop>(
+    rt: &HostRuntime,
     keeper: K,
-    work: PublishWork<'a, W, E, N>,
+    work: PublishWork<'_, W, E, N>,
 ) -> (
-    Session<'a, N::Listener, <N::Listener as Listener>::End, N::Clock>,
+    Session<N::Listener, <N::Listener as Listener>::End, N::Clock>,
     K,
 )
     ensures { Passes K.Keeper keeper result.1
@@ -138,7 +138,7 @@ fn unless_placed<K: Keeper, S: Sheet + Drop, E: Write + Drop>(
 }
 
 // The same session. It fails if the manifest is not whole.
-fn published<'a, L, E, C>(session: Session<'a, L, E, C>, is_whole: bool) -> Session<'a, L, E, C>
+fn published<L, E, C>(session: Session<L, E, C>, is_whole: bool) -> Session<L, E, C>
     ensures done { IsOk result.result → IsOk session.entry.result }
     ensures whole { IsOk result.result → IsTrue is_whole }
     ensures served { result.served ≡ session.entry.served }
@@ -152,7 +152,7 @@ fn published<'a, L, E, C>(session: Session<'a, L, E, C>, is_whole: bool) -> Sess
 }
 
 // The same result. It is a fault if the manifest is not whole.
-fn unless_lacking<'a>(served: Result<(), Fault<'a>>, is_whole: bool) -> Result<(), Fault<'a>>
+fn unless_lacking(served: Result<(), Fault>, is_whole: bool) -> Result<(), Fault>
     ensures done { IsOk result → IsOk served.entry }
     ensures whole { IsOk result → IsTrue is_whole }
 {

@@ -1,12 +1,13 @@
 //! What a service takes from outside: where it listens, and its clock.
-ghost use Rattle.std.specs.Prelude.{IfSome};
+ghost use Rattle.std.specs.Prelude.{IfOk, IfSome};
 
 use office::Clock;
 use sockets::Listener;
+use std::alloc::AllocError;
 use std::net::SocketAddrV4;
 
 /// Where a service listens, and its clock. `Machine` is the one of the program.
-pub trait Outside<'a> {
+pub trait Outside {
     /// The listener.
     type Listener: Listener;
 
@@ -23,7 +24,8 @@ pub trait Outside<'a> {
     fn listen(&self, address: SocketAddrV4) -> Option<Self::Listener>
         ensures { IfSome result listens };
 
-    /// The clock of a service over the office file of this name, which the program has just opened.
-    fn clock(&self, file: &'a str) -> Self::Clock
-        ensures { begins result };
+    /// The clock of a service over the office file of this name, which the program has just opened. The error means that memory
+    /// was refused.
+    fn clock(&self, file: &str) -> Result<Self::Clock, AllocError>
+        ensures { IfOk result begins };
 }

@@ -11,18 +11,18 @@ use links::read_moment;
 use office::{Office, replay_in_memory, replay_over};
 use rolls::Rolls;
 use sigv4::{Moment, is_key_id, is_secret};
-use std::alloc::AllocError;
+use std::alloc::{AllocError, Global};
 use std::fs::Files;
 use std::io::Write;
 use tasks::Replay;
 use wire::Counted;
 
 /// Answers the streams over a new office in memory, whose clerk's key is in the words, with every message at their moment.
-pub fn replay_memory<'a, R: Files + AllocGlobal, W: Write + Drop>(
+pub fn replay_memory<R: Files + AllocGlobal, W: Write + Drop>(
     rt: &R,
-    words: &Replay<'a>,
+    words: &Replay<'_>,
     out: W,
-) -> Done<'a, W>
+) -> Done<W>
     ensures { IsOk result.result → ReplaysNew W.contents words.now out result.out }
 {
     let (key, moment) = match read_words(words) {
@@ -37,7 +37,7 @@ pub fn replay_memory<'a, R: Files + AllocGlobal, W: Write + Drop>(
     let mut writer = Counted::new(out);
     let streams = words.streams.as_slice();
     match replay_in_memory(rt.alloc(), rt, key.0, key.1, streams, moment, &mut writer) {
-        Ok(served) => told(served, writer),
+        Ok(served) => told(rt.alloc(), served, writer),
         Err(AllocError) => Done {
             result: Err(Fault::OutOfMemory),
             out: Some(writer.inner),
@@ -46,7 +46,7 @@ pub fn replay_memory<'a, R: Files + AllocGlobal, W: Write + Drop>(
 }
 
 // The clerk's key and the moment in the words.
-fn read_words<'a>(words: &Replay<'a>) -> Result<((&'a [u8], &'a [u8]), Moment), Fault<'static>>
+fn read_words<'a>(words: &Replay<'a>) -> Result<((&'a [u8], &'a [u8]), Moment), Fault>
     ensures key { IfOk result (λ read. IsMemory words.now.file.now read.0.0.now read.0.1.now) }
     ensures moment { IfOk result (λ read. WritesMoment words.now.at.now read.1) }
 {
@@ -59,28 +59,28 @@ fn read_words<'a>(words: &Replay<'a>) -> Result<((&'a [u8], &'a [u8]), Moment), 
 
 /// The streams to answer over an office, the moment at which they are answered, and the output, which gets the answers.
 #[derive(Drop)]
-pub struct ReplayWork<'w, 'a, W: Drop> {
+pub struct ReplayWork<'w, W: Drop> {
     /// The names of the files that hold the bytes of the connections.
-    pub streams: &'w [&'a str],
+    pub streams: &'w [&'w str],
     /// The moment.
     pub moment: Moment,
     /// The output.
     pub out: W,
 }
 
-impl<'a, W: Write + Drop> OfficeWork<'a> for ReplayWork<'_, 'a, W> {
+impl<W: Write + Drop> OfficeWork for ReplayWork<'_, W> {
     ghost use Rattle.std.specs.Prelude.{IsOk, length};
     ghost use Rattle.commands.specs.Replaying.{ReplaysAll};
     ghost use Rattle.commands.specs.Saying.{HandsBack};
 
-    type Gain = Done<'a, W>;
+    type Gain = Done<W>;
 
     ghost step = { λ work gain. ReplaysAll W.contents (length work.streams.now) work.moment
         (IsOk gain.result) work.out gain.out };
 
     ghost idle = { λ work gain. HandsBack (IsOk gain.result) work.out gain.out };
 
-    fn run<K: Rolls>(self, rt: &'a HostRuntime, keeper: K) -> (Done<'a, W>, K) {
+    fn run<K: Rolls>(self, rt: &HostRuntime, keeper: K) -> (Done<W>, K) {
         let ReplayWork {
             streams,
             moment,
@@ -89,10 +89,10 @@ impl<'a, W: Write + Drop> OfficeWork<'a> for ReplayWork<'_, 'a, W> {
         let mut writer = Counted::new(out);
         let mut office = Office::new(rt.alloc(), CachedKeeper::new(rt.alloc(), keeper));
         let served = replay_over(rt, &mut office, streams, moment, &mut writer);
-        (told(served, writer), office.keeper.into_inner())
+        (told(rt.alloc(), served, writer), office.keeper.into_inner())
     }
 
-    fn refuse(self, fault: Fault<'a>) -> Done<'a, W> {
+    fn refuse(self, fault: Fault) -> Done<W> {
         Done {
             result: Err(fault),
             out: Some(self.out),
@@ -113,18 +113,30 @@ fn read_key(file: &str) -> Option<(&[u8], &[u8])>
 }
 
 // What a replay gives. Flushes the output.
-fn told<'a, W: Write + Drop>(served: Result<u64, &'a str>, mut writer: Counted<W>) -> Done<'a, W>
+fn told<W: Write + Drop>(
+    alloc: Global,
+    served: Result<u64, &str>,
+    mut writer: Counted<W>,
+) -> Done<W>
     ensures back { (out : W) × (result.out ≡ Some out) × Keeps (W.contents writer.inner) (W.contents out) }
     ensures whole { IsOk result.result → served.entry ≡ Ok 0 }
 {
     let went_out = writer.flush().is_ok();
     let result = match served {
-        Err(name) => Err(Fault::CannotRead(name)),
+        Err(name) => Err(unread(alloc, name)),
         Ok(0) if went_out => Ok(()),
         Ok(_) => Err(Fault::ConnectionFailed),
     };
     Done {
         result,
         out: Some(writer.inner),
+    }
+}
+
+// The fault of a file that could not be opened.
+fn unread(alloc: Global, name: &str) -> Fault {
+    match format!(in alloc; "{}", name) {
+        Ok(name) => Fault::CannotRead(name),
+        Err(AllocError) => Fault::OutOfMemory,
     }
 }

@@ -12,7 +12,7 @@ use tasks::read_line;
 const LONGEST_SECRET: u16 = 128;
 
 /// Fails if this is not a secret.
-pub fn check_secret(secret: &[u8]) -> Result<(), Fault<'static>>
+pub fn check_secret(secret: &[u8]) -> Result<(), Fault>
     ensures { IsOk result → IsSecret secret.now }
 {
     if is_secret(secret) {
@@ -23,19 +23,24 @@ pub fn check_secret(secret: &[u8]) -> Result<(), Fault<'static>>
 }
 
 /// The secret in a file. It must be the only line.
-pub fn read_secret_file(rt: &HostRuntime, name: &str) -> Result<Vec<u8>, Fault<'static>>
+pub fn read_secret_file(rt: &HostRuntime, name: &str) -> Result<Vec<u8>, Fault>
     ensures { IfOk result (λ secret. IsSecret secret.items) }
 {
-    let file = fs::open(rt, name).map_err(unread)?;
-    let Some(line) = read_line(rt.alloc(), file, LONGEST_SECRET).map_err(unread)? else {
-        return Err(Fault::MalformedValue("secret"));
+    let file = match fs::open(rt, name) {
+        Ok(file) => file,
+        Err(error) => return Err(unread(error)),
+    };
+    let line = match read_line(rt.alloc(), file, LONGEST_SECRET) {
+        Ok(Some(line)) => line,
+        Ok(None) => return Err(Fault::MalformedValue("secret")),
+        Err(error) => return Err(unread(error)),
     };
     check_secret(line.as_slice())?;
     Ok(line)
 }
 
 // Why the file with the secret could not be read.
-fn unread(error: Error) -> Fault<'static> {
+fn unread(error: Error) -> Fault {
     match error.kind() {
         ErrorKind::OutOfMemory => Fault::OutOfMemory,
         _ => Fault::CannotReadSecret,

@@ -34,9 +34,9 @@ pub struct Service<'a> {
 
 /// What a service gives: its result, and its listener, its clock and its connections as they were last, if it listened.
 #[derive(Drop)]
-pub struct Session<'a, L, E, C> {
+pub struct Session<L, E, C> {
     /// The result.
-    pub result: Result<(), Fault<'a>>,
+    pub result: Result<(), Fault>,
     /// The listener, the connections that are left, and the outcome.
     pub served: Option<Served<L, E>>,
     /// The clock.
@@ -54,11 +54,11 @@ pub struct ServeWork<'w, W: Drop, N: Drop> {
     pub outside: N,
 }
 
-impl<'a, W: Write + Drop, N: Outside<'a> + Drop> OfficeWork<'a> for ServeWork<'a, W, N> {
+impl<W: Write + Drop, N: Outside + Drop> OfficeWork for ServeWork<'_, W, N> {
     ghost use Rattle.std.specs.Prelude.{IsOk};
     ghost use Rattle.commands.specs.Serving.{MayServe};
 
-    type Gain = Session<'a, N::Listener, <N::Listener as Listener>::End, N::Clock>;
+    type Gain = Session<N::Listener, <N::Listener as Listener>::End, N::Clock>;
 
     ghost step = { λ work gain. MayServe N.listens N.begins N.Clock.now_gives N.Listener.told
         N.Listener.are_ends ⟦<Gathered<<N::Listener as Listener>::End> as Read>⟧.remaining
@@ -69,10 +69,10 @@ impl<'a, W: Write + Drop, N: Outside<'a> + Drop> OfficeWork<'a> for ServeWork<'a
 
     fn run<K: Rolls>(
         self,
-        rt: &'a HostRuntime,
+        rt: &HostRuntime,
         keeper: K,
     ) -> (
-        Session<'a, N::Listener, <N::Listener as Listener>::End, N::Clock>,
+        Session<N::Listener, <N::Listener as Listener>::End, N::Clock>,
         K,
     ) {
         let ServeWork {
@@ -87,14 +87,14 @@ impl<'a, W: Write + Drop, N: Outside<'a> + Drop> OfficeWork<'a> for ServeWork<'a
 
     fn refuse(
         self,
-        fault: Fault<'a>,
-    ) -> Session<'a, N::Listener, <N::Listener as Listener>::End, N::Clock> {
+        fault: Fault,
+    ) -> Session<N::Listener, <N::Listener as Listener>::End, N::Clock> {
         unserved(fault)
     }
 }
 
 /// Reads the arguments. Fails if one is malformed.
-pub fn read_service<'a>(words: &Serve<'a>) -> Result<Service<'a>, Fault<'static>> {
+pub fn read_service<'a>(words: &Serve<'a>) -> Result<Service<'a>, Fault> {
     let address = read_address(words.listen).ok_or(Fault::MalformedValue("listen"))?;
     let Ok(connections) = words.connections.parse::<u64>() else {
         return Err(Fault::MalformedValue("connections"));
@@ -131,7 +131,7 @@ fn read_address(text: &str) -> Option<SocketAddrV4> {
 }
 
 /// What a service gives that never listened.
-pub fn unserved<'a, L, E, C>(fault: Fault<'a>) -> Session<'a, L, E, C>
+pub fn unserved<L, E, C>(fault: Fault) -> Session<L, E, C>
     ensures { IsOk result.result → ⊥ }
 {
     Session {
@@ -143,13 +143,13 @@ pub fn unserved<'a, L, E, C>(fault: Fault<'a>) -> Session<'a, L, E, C>
 
 /// Listens at the address, says so on `out`, and serves the connections. Warns on standard error if the office file is too
 /// large for the memory.
-pub(crate) fn serve_at<'a, K: Keeper, N: Outside<'a>, W: Write>(
-    rt: &'a HostRuntime,
+pub(crate) fn serve_at<K: Keeper, N: Outside, W: Write>(
+    rt: &HostRuntime,
     office: &mut Office<K>,
-    service: &Service<'a>,
+    service: &Service<'_>,
     outside: &N,
     out: &mut W,
-) -> Session<'a, N::Listener, <N::Listener as Listener>::End, N::Clock>
+) -> Session<N::Listener, <N::Listener as Listener>::End, N::Clock>
     ensures { Passes K.Keeper office.old.keeper office.new.keeper
         (MayServe N.listens N.begins N.Clock.now_gives N.Listener.told
         N.Listener.are_ends ⟦<Gathered<<N::Listener as Listener>::End> as Read>⟧.remaining
@@ -162,7 +162,9 @@ pub(crate) fn serve_at<'a, K: Keeper, N: Outside<'a>, W: Write>(
     let Ok(poll) = Poll::new(rt) else {
         return unserved(Fault::CannotListen);
     };
-    let mut clock = outside.clock(service.file);
+    let Ok(mut clock) = outside.clock(service.file) else {
+        return unserved(Fault::OutOfMemory);
+    };
     if writeln!(out, "listening on {}", service.listen).is_err() || out.flush().is_err() {
         return unserved(Fault::CannotWrite);
     }
@@ -175,7 +177,7 @@ pub(crate) fn serve_at<'a, K: Keeper, N: Outside<'a>, W: Write>(
 }
 
 // The result of a service.
-fn result_of<'a>(outcome: &io::Result<Outcome>) -> Result<(), Fault<'a>>
+fn result_of(outcome: &io::Result<Outcome>) -> Result<(), Fault>
     ensures { IsOk result → IsOkAnd outcome.now IsFine }
 {
     let Ok(outcome) = outcome else {

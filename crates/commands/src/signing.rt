@@ -10,15 +10,15 @@ use sigv4::is_key_id;
 use std::alloc::Global;
 
 /// The work with a signing key.
-pub trait KeyWork<'a> {
+pub trait KeyWork {
     /// The output.
     type Out: Drop;
 
     /// Does the work.
-    fn run(self, alloc: Global, key: &LinkKey<'_>) -> Done<'a, Self::Out>;
+    fn run(self, alloc: Global, key: &LinkKey<'_>) -> Done<Self::Out>;
 
     /// What the work gives where there is no key.
-    fn refuse(self, fault: Fault<'a>) -> Done<'a, Self::Out>
+    fn refuse(self, fault: Fault) -> Done<Self::Out>
         ensures { IsOk result.result → ⊥ };
 }
 
@@ -31,17 +31,17 @@ pub struct OfficeKey<'w, W: Drop> {
     pub work: W,
 }
 
-impl<'a, W: KeyWork<'a> + Drop> OfficeWork<'a> for OfficeKey<'_, W> {
+impl<W: KeyWork + Drop> OfficeWork for OfficeKey<'_, W> {
     ghost use Rattle.std.specs.Prelude.{IsOk};
     ghost use Rattle.commands.specs.Listing.{Looks};
 
-    type Gain = Done<'a, W::Out>;
+    type Gain = Done<W::Out>;
 
     ghost step = { λ work gain. Looks };
 
     ghost idle = { λ work gain. IsOk gain.result → ⊥ };
 
-    fn run<K: Rolls>(self, rt: &'a HostRuntime, mut keeper: K) -> (Done<'a, W::Out>, K) {
+    fn run<K: Rolls>(self, rt: &HostRuntime, mut keeper: K) -> (Done<W::Out>, K) {
         let OfficeKey { id, work } = self;
         let done = match keeper.key(id) {
             Ok(Some(row)) => {
@@ -54,18 +54,18 @@ impl<'a, W: KeyWork<'a> + Drop> OfficeWork<'a> for OfficeKey<'_, W> {
         (done, keeper)
     }
 
-    fn refuse(self, fault: Fault<'a>) -> Done<'a, W::Out> {
+    fn refuse(self, fault: Fault) -> Done<W::Out> {
         self.work.refuse(fault)
     }
 }
 
 /// Does the work with the key of this id, whose secret is the line of the named file. No office is opened.
-pub fn sign_by_file<'a, W: KeyWork<'a> + Drop>(
+pub fn sign_by_file<W: KeyWork + Drop>(
     rt: &HostRuntime,
     name: &str,
     id: &str,
     work: W,
-) -> Done<'a, W::Out> {
+) -> Done<W::Out> {
     let id = id.as_bytes();
     if !is_key_id(id) {
         return work.refuse(Fault::MalformedValue("key"));

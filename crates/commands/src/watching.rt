@@ -4,6 +4,7 @@ ghost use Rattle.std.specs.Prelude.{◌↔◌, ◌<◌, ◌*◌, IsTrue};
 use crate::memory::{memory_bound, memory_taken};
 use office::{Clock, MachineClock};
 use sigv4::Moment;
+use std::alloc::AllocError;
 use std::fs::Files;
 use std::{fs, time};
 
@@ -16,7 +17,7 @@ const MEGABYTE: u64 = 1_000_000;
 pub struct WatchingClock<'a, R: time::Clock> {
     rt: &'a R,
     clock: MachineClock<'a, R>,
-    file: &'a str,
+    file: String,
     // The memory limit. `None` if it is not known, or after the line was written.
     memory: Option<u64>,
     // The memory that opening the file took beyond the file's length.
@@ -27,18 +28,18 @@ pub struct WatchingClock<'a, R: time::Clock> {
 
 impl<'a, R: time::Clock + Files + AllocGlobal + Eprint> WatchingClock<'a, R> {
     /// The clock for a file that the program has just opened as its first work. Checks the length at once.
-    pub(crate) fn new(rt: &'a R, file: &'a str) -> WatchingClock<'a, R> {
+    pub(crate) fn new(rt: &'a R, file: &str) -> Result<WatchingClock<'a, R>, AllocError> {
         let length = length_of(rt, file).unwrap_or(0);
         let mut clock = WatchingClock {
             rt,
             clock: MachineClock::new(rt),
-            file,
+            file: format!(in rt.alloc(); "{}", file)?,
             memory: memory_bound(rt),
             more: memory_taken(rt).saturating_sub(length),
             last: None,
         };
         clock.look();
-        clock
+        Ok(clock)
     }
 
     // Checks the length of the file. Each further byte takes at least one byte of memory.
@@ -46,7 +47,7 @@ impl<'a, R: time::Clock + Files + AllocGlobal + Eprint> WatchingClock<'a, R> {
         let Some(memory) = self.memory else {
             return;
         };
-        let Some(length) = length_of(self.rt, self.file) else {
+        let Some(length) = length_of(self.rt, self.file.as_str()) else {
             return;
         };
         let needed = length.saturating_add(self.more);

@@ -10,7 +10,7 @@ use rolls::Rolls;
 use std::io::Write;
 
 /// The work of a command on an office. It owns the keeper while it works, so that a clause can say what became of it.
-pub trait OfficeWork<'a> {
+pub trait OfficeWork {
     /// What the work gives: its result, and what it was handed besides the keeper.
     type Gain: Drop;
 
@@ -21,19 +21,19 @@ pub trait OfficeWork<'a> {
     ghost idle: { Self → Self.Gain → Type 0 };
 
     /// Does the work on the office of a keeper. Returns what it gives, and the keeper.
-    fn run<K: Rolls>(self, rt: &'a HostRuntime, keeper: K) -> (Self::Gain, K)
+    fn run<K: Rolls>(self, rt: &HostRuntime, keeper: K) -> (Self::Gain, K)
         ensures { Passes K.Keeper keeper result.1 (step self result.0) };
 
     /// What the work gives where the office could not be opened.
-    fn refuse(self, fault: Fault<'a>) -> Self::Gain
+    fn refuse(self, fault: Fault) -> Self::Gain
         ensures { idle self result };
 }
 
 /// The result of a work, and its output. There is no output if memory was refused for its buffer.
 #[derive(Drop)]
-pub struct Done<'a, W: Drop> {
+pub struct Done<W: Drop> {
     /// The result.
-    pub result: Result<(), Fault<'a>>,
+    pub result: Result<(), Fault>,
     /// The output.
     pub out: Option<W>,
 }
@@ -43,7 +43,7 @@ pub struct Done<'a, W: Drop> {
 /// # Errors
 ///
 /// The output failed. A beginning of the text may have been written.
-pub(crate) fn say<'a, W: Write>(out: &mut W, text: &[u8]) -> Result<(), Fault<'a>>
+pub(crate) fn say<W: Write>(out: &mut W, text: &[u8]) -> Result<(), Fault>
     ensures { OnOk result (Appends (W.contents out.old) (W.contents out.new) text.now) }
 {
     if out.write_all(text).is_err() || out.flush().is_err() {

@@ -1,5 +1,5 @@
 //! `drop init`: makes an office file.
-ghost use Rattle.std.specs.Prelude.{◌≡◌, pos, neg_ℤ, ◌≤ℤ◌, IfOk, IfSome, IsOk};
+ghost use Rattle.std.specs.Prelude.{◌≡◌, pos, neg_ℤ, ◌≤ℤ◌, IfOk, IfSome, IsOk, IsTrue};
 ghost use Rattle.sqlite.specs.State.{HasCleanDisk};
 ghost use Rattle.sqlite.specs.Held.{state};
 ghost use Rattle.sqlite.specs.WalFiles.{image_at};
@@ -32,7 +32,7 @@ pub(crate) fn do_init<S: Start>(
     rt: &HostRuntime,
     words: &Init<'_>,
     start: S,
-) -> Worked<Result<(), Fault<'static>>, FileFrom<S>>
+) -> Worked<Result<(), Fault>, FileFrom<S>>
     ensures made { IfSome result.left (λ left. IsCleanLeft left → IsOk result.gain
         → Made words.now (image_at S.Start) left) }
     ensures opened { IsOk result.gain → IsOk result.closed → IsClosed result.left }
@@ -59,7 +59,10 @@ pub(crate) fn do_init<S: Start>(
 }
 
 // The office's settings and the secret of its clerk.
-fn read_words(rt: &HostRuntime, words: &Init<'_>) -> Result<(OfficeRow, Vec<u8>), Fault<'static>>
+fn read_words(
+    rt: &HostRuntime,
+    words: &Init<'_>,
+) -> Result<(OfficeRow, Vec<u8>), Fault>
     ensures { IfOk result (λ read. IsFirstRow words.now read.0 read.1.items) }
 {
     let office = read_office(words)?;
@@ -68,7 +71,9 @@ fn read_words(rt: &HostRuntime, words: &Init<'_>) -> Result<(OfficeRow, Vec<u8>)
 }
 
 // Whether the new file may be removed: it is not an office, and no other program has it open.
-fn is_unmade(made: &Result<(), Fault<'_>>) -> bool {
+fn is_unmade(made: &Result<(), Fault>) -> bool
+    ensures { IsTrue result → IsOk made.now → ⊥ }
+{
     match made {
         Ok(()) | Err(Fault::Held | Fault::Exists) => false,
         Err(_) => true,
@@ -76,7 +81,7 @@ fn is_unmade(made: &Result<(), Fault<'_>>) -> bool {
 }
 
 // The office's settings. Fails if an argument is malformed.
-fn read_office(words: &Init<'_>) -> Result<OfficeRow, Fault<'static>>
+fn read_office(words: &Init<'_>) -> Result<OfficeRow, Fault>
     ensures clerk { IfOk result (λ office. IsKeyId words.now.clerk.now) }
     ensures east { IfOk result (λ office. (neg_ℤ (pos 840) ≤ℤ office.east) × (office.east ≤ℤ pos 840)) }
     ensures secret { IfOk result (λ office. IsGivenSecret words.now.secret) }
@@ -97,8 +102,8 @@ fn read_office(words: &Init<'_>) -> Result<OfficeRow, Fault<'static>>
 }
 
 // The secret: the argument itself, or the line of the named file.
-fn read_secret(rt: &HostRuntime, secret: Secret<'_>) -> Result<Vec<u8>, Fault<'static>>
-    ensures { IfOk result (λ text. IsGivenSecret secret → IsSecretOf secret text.items) }
+fn read_secret(rt: &HostRuntime, secret: Secret<'_>) -> Result<Vec<u8>, Fault>
+    ensures { IfOk result (λ text. IsGivenSecret secret.entry → IsSecretOf secret.entry text.items) }
 {
     match secret {
         Secret::Given(text) => Ok(Vec::from_slice(rt.alloc(), text.as_bytes())?),
@@ -124,7 +129,7 @@ fn allowance_of(text: &str) -> Option<Allowance> {
 }
 
 // Makes an empty file for the owner only, if there is no file. Whether it made one.
-fn make_file<R: Files>(rt: &R, file: &str) -> Result<bool, Fault<'static>> {
+fn make_file<R: Files>(rt: &R, file: &str) -> Result<bool, Fault> {
     let mut how = OpenOptions::new();
     how.read(true).write(true).create_new(true).mode(OWNERS);
     match how.open(rt, file) {
@@ -156,7 +161,7 @@ fn make_office<S: Start>(
     secret: &[u8],
     office: OfficeRow,
     start: S,
-) -> Worked<Result<(), Fault<'static>>, FileFrom<S>>
+) -> Worked<Result<(), Fault>, FileFrom<S>>
     ensures made { IsFirstRow words.now office secret.now → IfSome result.left (λ left. IsCleanLeft left
         → IsOk result.gain → Made words.now (image_at S.Start) left) }
     ensures opened { IsOk result.gain → IsOk result.closed → IsClosed result.left }
@@ -190,7 +195,7 @@ fn create_over<S: Alter + Drop>(
     office: OfficeRow,
     clerk: &[u8],
     secret: &[u8],
-) -> Result<Connection<S>, (Fault<'static>, Connection<S>)>
+) -> Result<Connection<S>, (Fault, Connection<S>)>
     ensures bare { IfOk result (λ made. (state S.Store conn).now.schema ≡ s0) }
     ensures made { neg_ℤ (pos 840) ≤ℤ office.east → office.east ≤ℤ pos 840 → IsKeyId clerk.now → IsSecret secret.now
         → IfOk result (λ made. HasCleanDisk (state S.Store made) → HasCleanDisk (state S.Store conn)

@@ -20,12 +20,12 @@ use std::io::Write;
 use tasks::OfficeFile;
 
 /// Migrates an office file to version 2, and writes the line `done` to `out`. A file of version 2 stays unchanged.
-pub(crate) fn do_migrate<'a, S: Start, W: Write + Drop>(
+pub(crate) fn do_migrate<S: Start, W: Write + Drop>(
     rt: &HostRuntime,
     words: &OfficeFile<'_>,
     out: W,
     start: S,
-) -> Worked<Done<'a, W>, FileFrom<S>>
+) -> Worked<Done<W>, FileFrom<S>>
     ensures ran { HoldsOurs (image_at S.Start) → IfSome result.left (λ left. IsCleanLeft left
         → MayMigrate (image_at S.Start) left W.contents (IsOk result.gain.result) out result.gain.out) }
     ensures opened { IsOk result.gain.result → IsClosed result.left }
@@ -58,7 +58,7 @@ pub(crate) fn do_migrate<'a, S: Start, W: Write + Drop>(
 fn migrate_over<S: Alter + Drop>(
     alloc: Global,
     conn: Connection<S>,
-) -> Result<Connection<S>, (Fault<'static>, Connection<S>)>
+) -> Result<Connection<S>, (Fault, Connection<S>)>
     ensures made { WasOurs (state S.Store conn) → IfOk result (λ made. HasCleanDisk (state S.Store made)
         → MigratedOn (state S.Store conn) (state S.Store made)) }
     ensures looked { IfErr result (λ r. OnlyLooks (state S.Store conn) (state S.Store r.1)) }

@@ -12,7 +12,7 @@ ghost use Rattle.dropoffice.specs.Leaving.{IsCleanLeft, IsClosed, IsLeftOf, IsUn
 ghost use Rattle.dropoffice.specs.Holding.{HoldsOurs, RanOn, WasOurs};
 
 use commands::{Fault, OfficeWork};
-use sqlite::{Alter, Connection, Error, ErrorCode, FileFrom, FileStore, Files, Options, Start};
+use sqlite::{Alter, Connection, Error, ErrorCode, FileFrom, FileStore, Files, Leftover, Options, Start};
 use sqlite_disk::Disk;
 use sqlite_std_file::OpenError;
 use sqlkeeper::{OpenFault, SqlKeeper};
@@ -35,17 +35,20 @@ const SERVED_SPILL: usize = 512;
 // The store of an office file. `S` stands for what the file and its log held.
 pub(crate) type Store<S> = FileStore<FileFrom<S>>;
 
-// Why a database could not be opened.
-fn unopened(error: Error) -> Fault<'static> {
-    match error {
-        Error::SqliteFailure(ErrorCode::OutOfMemory) => Fault::OutOfMemory,
-        Error::SqliteFailure(ErrorCode::DatabaseBusy) => Fault::Held,
+// Why a database could not be opened. What is left of its files says how far the engine came: files that it did not open are no
+// database; behind that, a page, the schema or a row is wrong.
+fn unopened<D: Disk>(error: Error, left: &Leftover<D>) -> Fault {
+    match (error, left) {
+        (Error::SqliteFailure(ErrorCode::OutOfMemory), _) => Fault::OutOfMemory,
+        (Error::SqliteFailure(ErrorCode::DatabaseBusy), _) => Fault::Held,
+        (Error::SqliteFailure(ErrorCode::DatabaseCorrupt), _) => Fault::Damaged,
+        (Error::SqliteFailure(ErrorCode::NotADatabase), Leftover::Unopened(_) | Leftover::Store(_)) => Fault::Damaged,
         _ => Fault::CannotOpen,
     }
 }
 
 // Why the files of a database could not be opened.
-fn unopened_files(error: OpenError) -> Fault<'static> {
+fn unopened_files(error: OpenError) -> Fault {
     match error {
         OpenError::OutOfMemory => Fault::OutOfMemory,
         OpenError::Busy => Fault::Held,
@@ -55,7 +58,7 @@ fn unopened_files(error: OpenError) -> Fault<'static> {
 }
 
 // The options for opening a database.
-fn options(rt: &HostRuntime, purpose: Purpose) -> Result<Options, Fault<'static>> {
+fn options(rt: &HostRuntime, purpose: Purpose) -> Result<Options, Fault> {
     let Ok(random) = RandomState::new(rt) else {
         return Err(Fault::CannotOpen);
     };
@@ -69,7 +72,7 @@ fn options(rt: &HostRuntime, purpose: Purpose) -> Result<Options, Fault<'static>
 }
 
 // Why a database could not be closed.
-fn unclosed(error: Error) -> Fault<'static> {
+fn unclosed(error: Error) -> Fault {
     match error {
         Error::SqliteFailure(ErrorCode::OutOfMemory) => Fault::OutOfMemory,
         _ => Fault::Store,
@@ -93,7 +96,7 @@ pub(crate) fn connect<S: Start>(
     file: &str,
     purpose: Purpose,
     start: S,
-) -> Result<Connection<Store<S>>, Fault<'static>>
+) -> Result<Connection<Store<S>>, Fault>
     ensures opened { IfOk result (λ c. HasCleanDisk (file_state c) → IsOpened c) }
     ensures found { IfOk result (λ c. HasCleanDisk (file_state c)
         → FindsIn (image_at S.Start) (file_state c)) }
@@ -109,12 +112,12 @@ pub(crate) fn connect<S: Start>(
     };
     match Connection::open_files(rt.alloc(), files, options) {
         Ok(conn) => Ok(conn),
-        Err((error, _)) => Err(unopened(error)),
+        Err((error, left)) => Err(unopened(error, &left)),
     }
 }
 
 /// Fails if there is no such file, so that none is made.
-pub(crate) fn require_file<R: fs::Files>(rt: &R, file: &str) -> Result<(), Fault<'static>> {
+pub(crate) fn require_file<R: fs::Files>(rt: &R, file: &str) -> Result<(), Fault> {
     match fs::metadata(rt, file) {
         Ok(_) => Ok(()),
         Err(_) => Err(Fault::CannotOpen),
@@ -122,7 +125,7 @@ pub(crate) fn require_file<R: fs::Files>(rt: &R, file: &str) -> Result<(), Fault
 }
 
 /// Why an office could not be made or migrated.
-pub(crate) fn unfit(fault: OpenFault) -> Fault<'static> {
+pub(crate) fn unfit(fault: OpenFault) -> Fault {
     match fault {
         OpenFault::Exists => Fault::Exists,
         OpenFault::Memory => Fault::OutOfMemory,
@@ -133,7 +136,7 @@ pub(crate) fn unfit(fault: OpenFault) -> Fault<'static> {
 }
 
 // Why an office could not be opened.
-fn unopenable(fault: OpenFault) -> Fault<'static> {
+fn unopenable(fault: OpenFault) -> Fault {
     match fault {
         OpenFault::Store => Fault::CannotOpen,
         other => unfit(other),
@@ -142,8 +145,8 @@ fn unopenable(fault: OpenFault) -> Fault<'static> {
 
 // Does the work on the office of a connection. Returns what the work gives, and the connection. The error means that the office
 // could not be opened.
-fn work_on<'a, S: Alter + Drop, W: OfficeWork<'a> + Drop>(
-    rt: &'a HostRuntime,
+fn work_on<S: Alter + Drop, W: OfficeWork + Drop>(
+    rt: &HostRuntime,
     conn: Connection<S>,
     work: W,
 ) -> Result<(W::Gain, Connection<S>), (W::Gain, Connection<S>)>
@@ -176,7 +179,7 @@ pub enum Left<D: Disk> {
 pub(crate) fn end_work<D: Disk + Drop>(
     conn: Connection<FileStore<D>>,
     purpose: Purpose,
-) -> (Result<(), Fault<'static>>, Left<D>)
+) -> (Result<(), Fault>, Left<D>)
     ensures closed { IsOk result.0 → purpose ≢ Purpose.Look → IsClosed (Some result.1) }
     ensures clean { IsCleanLeft result.1 → HasCleanDisk (file_state conn) }
     ensures leaves { IsCleanLeft result.1 → (s : State) → KeepsState (file_state conn) s
@@ -199,7 +202,7 @@ pub(crate) struct Worked<G: Drop, D: Disk> {
     /// What the work gives.
     pub(crate) gain: G,
     /// Whether the file was closed, if it was to be.
-    pub(crate) closed: Result<(), Fault<'static>>,
+    pub(crate) closed: Result<(), Fault>,
     /// What is left.
     pub(crate) left: Option<Left<D>>,
 }
@@ -217,8 +220,8 @@ pub(crate) fn unopened_with<G: Drop, D: Disk>(gain: G) -> Worked<G, D>
 }
 
 /// Does the work on the office of an existing file.
-pub(crate) fn work_over<'a, S: Start, W: OfficeWork<'a> + Drop>(
-    rt: &'a HostRuntime,
+pub(crate) fn work_over<S: Start, W: OfficeWork + Drop>(
+    rt: &HostRuntime,
     file: &str,
     purpose: Purpose,
     work: W,

@@ -49,8 +49,8 @@ pub struct Performed<W, L, E, C, D: Disk> {
 
 // The same before its fault is told.
 #[derive(Drop)]
-struct Ended<'a, W, L, E, C, D: Disk> {
-    result: Result<(), Fault<'a>>,
+struct Ended<W, L, E, C, D: Disk> {
+    result: Result<(), Fault>,
     out: Option<W>,
     served: Option<Served<L, E>>,
     clock: Option<C>,
@@ -58,11 +58,11 @@ struct Ended<'a, W, L, E, C, D: Disk> {
 }
 
 // The end of a task that only has a result.
-fn plain<'a, W, L, E, C, D: Disk>(
-    worked: Worked<Result<(), Fault<'a>>, D>,
-) -> Ended<'a, W, L, E, C, D>
-    ensures done { IsOk result.result → IsOk worked.gain × IsOk worked.closed }
-    ensures left { result.left ≡ worked.left }
+fn plain<W, L, E, C, D: Disk>(
+    worked: Worked<Result<(), Fault>, D>,
+) -> Ended<W, L, E, C, D>
+    ensures done { IsOk result.result → IsOk worked.entry.gain × IsOk worked.entry.closed }
+    ensures left { result.left ≡ worked.entry.left }
 {
     Ended {
         result: worked.gain.and(worked.closed),
@@ -74,10 +74,10 @@ fn plain<'a, W, L, E, C, D: Disk>(
 }
 
 // The end of a task that has an output.
-fn spoken<'a, W: Drop, L, E, C, D: Disk>(worked: Worked<Done<'a, W>, D>) -> Ended<'a, W, L, E, C, D>
-    ensures done { IsOk result.result → IsOk worked.gain.result × IsOk worked.closed }
-    ensures out { result.out ≡ worked.gain.out }
-    ensures left { result.left ≡ worked.left }
+fn spoken<W: Drop, L, E, C, D: Disk>(worked: Worked<Done<W>, D>) -> Ended<W, L, E, C, D>
+    ensures done { IsOk result.result → IsOk worked.entry.gain.result × IsOk worked.entry.closed }
+    ensures out { result.out ≡ worked.entry.gain.out }
+    ensures left { result.left ≡ worked.entry.left }
 {
     Ended {
         result: worked.gain.result.and(worked.closed),
@@ -89,13 +89,13 @@ fn spoken<'a, W: Drop, L, E, C, D: Disk>(worked: Worked<Done<'a, W>, D>) -> Ende
 }
 
 // The end of a service.
-fn served<'a, W, L: Drop, E: Drop, C: Drop, D: Disk>(
-    worked: Worked<Session<'a, L, E, C>, D>,
-) -> Ended<'a, W, L, E, C, D>
-    ensures done { IsOk result.result → IsOk worked.gain.result × IsOk worked.closed }
-    ensures served { result.served ≡ worked.gain.served }
-    ensures clock { result.clock ≡ worked.gain.clock }
-    ensures left { result.left ≡ worked.left }
+fn served<W, L: Drop, E: Drop, C: Drop, D: Disk>(
+    worked: Worked<Session<L, E, C>, D>,
+) -> Ended<W, L, E, C, D>
+    ensures done { IsOk result.result → IsOk worked.entry.gain.result × IsOk worked.entry.closed }
+    ensures served { result.served ≡ worked.entry.gain.served }
+    ensures clock { result.clock ≡ worked.entry.gain.clock }
+    ensures left { result.left ≡ worked.entry.left }
 {
     Ended {
         result: worked.gain.result.and(worked.closed),
@@ -107,15 +107,15 @@ fn served<'a, W, L: Drop, E: Drop, C: Drop, D: Disk>(
 }
 
 // Does the task.
-fn end_task<'a, S: Start, N: Outside<'a> + Drop, R: Read + Drop, W: Write + Drop, E: Write>(
-    rt: &'a HostRuntime,
-    task: &Task<'a>,
+fn end_task<S: Start, N: Outside + Drop, R: Read + Drop, W: Write + Drop, E: Write>(
+    rt: &HostRuntime,
+    task: &Task<'_>,
     input: R,
     out: W,
     err: &mut E,
     start: S,
     outside: N,
-) -> Ended<'a, W, N::Listener, <N::Listener as Listener>::End, N::Clock, FileFrom<S>>
+) -> Ended<W, N::Listener, <N::Listener as Listener>::End, N::Clock, FileFrom<S>>
     ensures office { HoldsOurs (image_at S.Start) → IfSome result.left (λ left. IsCleanLeft left
         → Performs N.listens N.begins N.Clock.now_gives N.Listener.told N.Listener.are_ends
         ⟦<Gathered<<N::Listener as Listener>::End> as Read>⟧.remaining
@@ -133,7 +133,7 @@ fn end_task<'a, S: Start, N: Outside<'a> + Drop, R: Read + Drop, W: Write + Drop
         Task::List(words) => spoken(do_list(rt, words, out, start)),
         Task::Export(words) => plain(do_export(rt, words, start)),
         Task::Replay(words) => spoken(do_replay(rt, words, out, start)),
-        Task::Serve(words) => served(do_serve(rt, words, out, err, start, outside)),
+        Task::Serve(words) => served(do_serve(rt, words, out, &mut *err, start, outside)),
         Task::Migrate(words) => spoken(do_migrate(rt, words, out, start)),
     }
 }
@@ -149,15 +149,14 @@ fn end_task<'a, S: Start, N: Outside<'a> + Drop, R: Read + Drop, W: Write + Drop
 /// means, what a crash now leaves, and what was written. They say nothing of paths, of other files, of the fault's line, or of a
 /// file that could not be opened.
 pub fn perform<
-    'a,
     S: Start,
-    N: Outside<'a> + Drop,
+    N: Outside + Drop,
     R: Read + Drop,
     W: Write + Drop,
     E: Write + Drop,
 >(
-    rt: &'a HostRuntime,
-    words: &'a [&'a str],
+    rt: &HostRuntime,
+    words: &[&str],
     input: R,
     mut out: W,
     mut err: E,
@@ -196,8 +195,8 @@ pub fn perform<
 }
 
 // Writes a fault's line, and returns the status. If that write fails too, only the status tells.
-fn status_of<E: Write>(done: Result<(), Fault<'_>>, err: &mut E) -> u8
-    ensures { result ≡ 0 → IsOk done }
+fn status_of<E: Write>(done: Result<(), Fault>, err: &mut E) -> u8
+    ensures { result ≡ 0 → IsOk done.entry }
 {
     match done {
         Ok(()) => DONE,

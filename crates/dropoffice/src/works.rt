@@ -20,7 +20,7 @@ use tasks::{Desk, Export, Link, Links, Listing, OfficeFile, Replay, Serve};
 use wire::{Gathered, Outbox};
 
 /// The command failed before the file was opened.
-pub(crate) fn failed<'a, W: Drop>(fault: Fault<'a>, out: W) -> Done<'a, W>
+pub(crate) fn failed<W: Drop>(fault: Fault, out: W) -> Done<W>
     ensures { IsOk result.result → ⊥ }
 {
     Done {
@@ -31,13 +31,13 @@ pub(crate) fn failed<'a, W: Drop>(fault: Fault<'a>, out: W) -> Done<'a, W>
 
 /// Does a desk command. A command in `input` is read after the check that the file exists, and before the file is opened. So
 /// nobody waits for the office while the command is typed.
-pub(crate) fn do_desk<'a, S: Start, R: Read + Drop, W: Write + Drop>(
-    rt: &'a HostRuntime,
-    words: &Desk<'a>,
+pub(crate) fn do_desk<S: Start, R: Read + Drop, W: Write + Drop>(
+    rt: &HostRuntime,
+    words: &Desk<'_>,
     input: R,
     out: W,
     start: S,
-) -> Worked<Done<'a, W>, FileFrom<S>>
+) -> Worked<Done<W>, FileFrom<S>>
     ensures ran { HoldsOurs (image_at S.Start) → IfSome result.left (λ left. IsCleanLeft left
         → MayRun (image_at S.Start) left (IsOk result.gain.result)
         (Commands (R.remaining input) words.now W.contents (IsOk result.gain.result) out result.gain.out)) }
@@ -55,12 +55,12 @@ pub(crate) fn do_desk<'a, S: Start, R: Read + Drop, W: Write + Drop>(
 }
 
 /// Writes the manifest of the office's receipts.
-pub(crate) fn do_manifest<'a, S: Start, W: Write + Drop>(
-    rt: &'a HostRuntime,
-    words: &OfficeFile<'a>,
+pub(crate) fn do_manifest<S: Start, W: Write + Drop>(
+    rt: &HostRuntime,
+    words: &OfficeFile<'_>,
     out: W,
     start: S,
-) -> Worked<Done<'a, W>, FileFrom<S>>
+) -> Worked<Done<W>, FileFrom<S>>
     ensures ran { HoldsOurs (image_at S.Start) → IfSome result.left (λ left. IsCleanLeft left
         → MayRun (image_at S.Start) left (IsOk result.gain.result)
         (Writes W.contents IsManifest (IsOk result.gain.result) out result.gain.out)) }
@@ -70,13 +70,13 @@ pub(crate) fn do_manifest<'a, S: Start, W: Write + Drop>(
 }
 
 /// Reads a manifest, and writes its comparison with the office.
-pub(crate) fn do_compare<'a, S: Start, R: Read + Drop, W: Write + Drop>(
-    rt: &'a HostRuntime,
-    words: &OfficeFile<'a>,
+pub(crate) fn do_compare<S: Start, R: Read + Drop, W: Write + Drop>(
+    rt: &HostRuntime,
+    words: &OfficeFile<'_>,
     input: R,
     out: W,
     start: S,
-) -> Worked<Done<'a, W>, FileFrom<S>>
+) -> Worked<Done<W>, FileFrom<S>>
     ensures ran { HoldsOurs (image_at S.Start) → IfSome result.left (λ left. IsCleanLeft left
         → MayRun (image_at S.Start) left (IsOk result.gain.result)
         (Compares W.contents (R.remaining input) (IsOk result.gain.result) out result.gain.out)) }
@@ -87,12 +87,12 @@ pub(crate) fn do_compare<'a, S: Start, R: Read + Drop, W: Write + Drop>(
 }
 
 /// Lists the keys, the boxes or the files of the office.
-pub(crate) fn do_list<'a, S: Start, W: Write + Drop>(
-    rt: &'a HostRuntime,
-    words: &Listing<'a>,
+pub(crate) fn do_list<S: Start, W: Write + Drop>(
+    rt: &HostRuntime,
+    words: &Listing<'_>,
     out: W,
     start: S,
-) -> Worked<Done<'a, W>, FileFrom<S>>
+) -> Worked<Done<W>, FileFrom<S>>
     ensures ran { HoldsOurs (image_at S.Start) → IfSome result.left (λ left. IsCleanLeft left
         → MayRun (image_at S.Start) left (IsOk result.gain.result)
         (Lists words.now W.contents (IsOk result.gain.result) out result.gain.out)) }
@@ -111,11 +111,11 @@ pub(crate) fn do_list<'a, S: Start, W: Write + Drop>(
 }
 
 /// Makes the folder that the arguments name, and exports the files of the office to it, or only those of the named box.
-pub(crate) fn do_export<'a, S: Start>(
-    rt: &'a HostRuntime,
-    words: &Export<'a>,
+pub(crate) fn do_export<S: Start>(
+    rt: &HostRuntime,
+    words: &Export<'_>,
     start: S,
-) -> Worked<Result<(), Fault<'a>>, FileFrom<S>>
+) -> Worked<Result<(), Fault>, FileFrom<S>>
     ensures ran { HoldsOurs (image_at S.Start) → IfSome result.left (λ left. IsCleanLeft left
         → MayRun (image_at S.Start) left (IsOk result.gain) Looks) }
     ensures opened { IsOk result.gain → IsSome result.left }
@@ -125,12 +125,12 @@ pub(crate) fn do_export<'a, S: Start>(
 }
 
 /// Writes a link, signed with the named key.
-pub(crate) fn do_link<'a, S: Start, W: Write + Drop>(
-    rt: &'a HostRuntime,
-    words: &Link<'a>,
+pub(crate) fn do_link<S: Start, W: Write + Drop>(
+    rt: &HostRuntime,
+    words: &Link<'_>,
     out: W,
     start: S,
-) -> Worked<Done<'a, W>, FileFrom<S>>
+) -> Worked<Done<W>, FileFrom<S>>
     ensures ran { HoldsOurs (image_at S.Start) → IfSome result.left (λ left. IsCleanLeft left
         → MayRun (image_at S.Start) left (IsOk result.gain.result) Looks) }
     ensures opened { IsOk result.gain.result → IsNoKey words.now.file.now → IsSome result.left }
@@ -145,13 +145,13 @@ pub(crate) fn do_link<'a, S: Start, W: Write + Drop>(
 }
 
 /// Reads a list of requested links, and writes it with the links, signed with the named key.
-pub(crate) fn do_links<'a, S: Start, R: Read + Drop, W: Write + Drop>(
-    rt: &'a HostRuntime,
-    words: &Links<'a>,
+pub(crate) fn do_links<S: Start, R: Read + Drop, W: Write + Drop>(
+    rt: &HostRuntime,
+    words: &Links<'_>,
     input: R,
     out: W,
     start: S,
-) -> Worked<Done<'a, W>, FileFrom<S>>
+) -> Worked<Done<W>, FileFrom<S>>
     ensures ran { HoldsOurs (image_at S.Start) → IfSome result.left (λ left. IsCleanLeft left
         → MayRun (image_at S.Start) left (IsOk result.gain.result) Looks) }
     ensures opened { IsOk result.gain.result → IsNoKey words.now.file.now → IsSome result.left }
@@ -166,13 +166,13 @@ pub(crate) fn do_links<'a, S: Start, R: Read + Drop, W: Write + Drop>(
 
 // Does the work with the key of this id. Its secret comes from the office in the file. For `key:SECRETFILE` it is the line of
 // that file, and no office is opened.
-fn sign_by<'a, S: Start, W: KeyWork<'a> + Drop>(
-    rt: &'a HostRuntime,
-    file: &'a str,
-    id: &'a str,
+fn sign_by<S: Start, W: KeyWork + Drop>(
+    rt: &HostRuntime,
+    file: &str,
+    id: &str,
     work: W,
     start: S,
-) -> Worked<Done<'a, W::Out>, FileFrom<S>>
+) -> Worked<Done<W::Out>, FileFrom<S>>
     ensures ran { HoldsOurs (image_at S.Start) → IfSome result.left (λ left. IsCleanLeft left
         → MayRun (image_at S.Start) left (IsOk result.gain.result) Looks) }
     ensures opened { IsOk result.gain.result → IsNoKey file.now → IsSome result.left }
@@ -185,12 +185,12 @@ fn sign_by<'a, S: Start, W: KeyWork<'a> + Drop>(
 }
 
 /// Answers the streams over the named office, in memory or in a file.
-pub(crate) fn do_replay<'a, S: Start, W: Write + Drop>(
-    rt: &'a HostRuntime,
-    words: &Replay<'a>,
+pub(crate) fn do_replay<S: Start, W: Write + Drop>(
+    rt: &HostRuntime,
+    words: &Replay<'_>,
     out: W,
     start: S,
-) -> Worked<Done<'a, W>, FileFrom<S>>
+) -> Worked<Done<W>, FileFrom<S>>
     ensures ran { HoldsOurs (image_at S.Start) → IfSome result.left (λ left. IsCleanLeft left
         → MayRun (image_at S.Start) left (IsOk result.gain.result)
         (Answers words.now W.contents (IsOk result.gain.result) out result.gain.out)) }
@@ -212,14 +212,14 @@ pub(crate) fn do_replay<'a, S: Start, W: Write + Drop>(
 }
 
 /// Serves the office of an existing file. With a name for its manifest, publishes the manifest in that file.
-pub(crate) fn do_serve<'a, S: Start, N: Outside<'a> + Drop, W: Write + Drop, E: Write + Drop>(
-    rt: &'a HostRuntime,
-    words: &Serve<'a>,
+pub(crate) fn do_serve<S: Start, N: Outside + Drop, W: Write + Drop, E: Write + Drop>(
+    rt: &HostRuntime,
+    words: &Serve<'_>,
     out: W,
     err: E,
     start: S,
     outside: N,
-) -> Worked<Session<'a, N::Listener, <N::Listener as Listener>::End, N::Clock>, FileFrom<S>>
+) -> Worked<Session<N::Listener, <N::Listener as Listener>::End, N::Clock>, FileFrom<S>>
     ensures ran { HoldsOurs (image_at S.Start) → IfSome result.left (λ left. IsCleanLeft left
         → MayRun (image_at S.Start) left (IsOk result.gain.result)
         (Serves N.listens N.begins N.Clock.now_gives N.Listener.told N.Listener.are_ends
