@@ -35,6 +35,8 @@ many_pass honest many = record {
           gone = many.gone;
           given = many.given;
           accepts = many.accepts;
+          left = many.left;
+          gave = many.gave;
           took = record {
             seats = crowd.seats;
             all = crowd.all;
@@ -48,6 +50,7 @@ many_pass honest many = record {
             each_counted = crowd.each_counted;
             one_moment = crowd.one_moment;
             by_turns = crowd.by_turns;
+            begun = crowd.begun;
             repeats = crowd.repeats;
             faulty = crowd.faulty;
           };

@@ -4,13 +4,13 @@ use Rattle.std.specs.List.{AllByRecursion, count_by, sum_by}
 use Rattle.boxes.specs.State.{State}
 use Rattle.office.specs.Connections.{TellsMoments}
 use Rattle.office.specs.Crowds.{is_fault_end, standing_in}
-use Rattle.office.specs.Interleaved.{Interleaved, SpeakInTurns, Thread, acts_in}
+use Rattle.office.specs.Interleaved.{GaveUpWithinMessages, Interleaved, SpeakInTurns, Thread, acts_in}
 use Rattle.office.specs.Repeats.{RepeatsOnce}
 use Rattle.office.specs.Seats.{AreThreads, HaveTurns, TellsOneMoment, turns_of}
 use Rattle.office.specs.declared.connections.seat.Seat.{Seat}
 use Rattle.wire.specs.declared.gathered.Gathered.{Gathered}
 use Rattle.wire.specs.declared.outbox.Outbox.{Outbox}
-use Rattle.sockets.specs.Accepting.{Accepts, at_least_one}
+use Rattle.sockets.specs.Accepting.{Accepts, HasGiven, at_least_one}
 use Rattle.sockets.specs.Listening.{Event}
 use Rattle.sockets.specs.declared.serving.Limits.{Limits}
 use Rattle.sockets.specs.declared.serving.Outcome.{Outcome}
@@ -34,6 +34,7 @@ pub record TookTurns {C R W : Type 0} (gives : C → ℕ → C → Type 0) (rema
   pub each_counted : HaveTurns run.turns 0 seats
   pub one_moment : AllByRecursion TellsOneMoment run.turns
   pub by_turns : SpeakInTurns run.turns 0 threads
+  pub begun : GaveUpWithinMessages run.turns 0 threads
   pub repeats : RepeatsOnce (acts_in run.turns)
   pub faulty : faults ≡ count_by (λ c. is_fault_end c.end) threads
 
@@ -45,6 +46,8 @@ pub record ServesFrom {C S E : Type 0} (gives : C → ℕ → C → Type 0) (tol
   pub gone : List (Seat (Gathered E) (Outbox E))
   pub given : List ℕ
   pub accepts : Accepts told told' are_ends connections most came gone slots outcome
+  pub left : ℕ
+  pub gave : HasGiven (length came) left given
   pub took : TookTurns gives remaining contents came gone slots clock clock' given outcome.faulty s after
   pub were_asked : asked ≡ turns took.threads took.run.turns
 

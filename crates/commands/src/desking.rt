@@ -69,7 +69,7 @@ fn obey<K: Keeper>(office: &mut Office<K>, command: Option<Vec<u8>>) -> Result<(
 /// Says that the command was done, if it was.
 pub fn tell<W: Write + Drop>(obeyed: Result<(), Fault>, mut out: W) -> Done<W>
     ensures said { Says W.contents done_line (IsOk result.result) out result.out }
-    ensures done { IsOk result.result → IsOk obeyed.entry }
+    ensures done { IsOk result.result → IsOk obeyed }
 {
     let told = match obeyed {
         Ok(()) => say(&mut out, b"done\n"),

@@ -139,10 +139,10 @@ fn unless_placed<K: Keeper, S: Sheet + Drop, E: Write + Drop>(
 
 // The same session. It fails if the manifest is not whole.
 fn published<L, E, C>(session: Session<L, E, C>, is_whole: bool) -> Session<L, E, C>
-    ensures done { IsOk result.result → IsOk session.entry.result }
+    ensures done { IsOk result.result → IsOk session.result }
     ensures whole { IsOk result.result → IsTrue is_whole }
-    ensures served { result.served ≡ session.entry.served }
-    ensures clock { result.clock ≡ session.entry.clock }
+    ensures served { result.served ≡ session.served }
+    ensures clock { result.clock ≡ session.clock }
 {
     Session {
         result: unless_lacking(session.result, is_whole),
@@ -153,7 +153,7 @@ fn published<L, E, C>(session: Session<L, E, C>, is_whole: bool) -> Session<L, E
 
 // The same result. It is a fault if the manifest is not whole.
 fn unless_lacking(served: Result<(), Fault>, is_whole: bool) -> Result<(), Fault>
-    ensures done { IsOk result → IsOk served.entry }
+    ensures done { IsOk result → IsOk served }
     ensures whole { IsOk result → IsTrue is_whole }
 {
     match served {

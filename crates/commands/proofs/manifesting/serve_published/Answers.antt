@@ -22,7 +22,7 @@ returns g c =
     (record {
       honest = λ honest. honest;
       before = λ honest. stays.honest (subst k.is_honest same honest);
-      means = λ s means clean. (subst (λ x. k.means x s) (sym same) (stays.same s means), λ honest sound is_whole. tt);
+      means = λ s means clean. (subst (λ x. k.means x s) (sym same) (stays.same s means), λ honest sound. (tt, λ is_whole. tt));
       within = λ s means. means.0;
       alone = λ s means clean alone. record {
         alone = λ t at. ⊎_elim (alone.alone t) (λ (is : t ≡ s). is) (stays.crash s t means (subst k.is_honest same clean) (subst (λ x. k.leaves x t) same at));

@@ -13,6 +13,9 @@ returns-in_default-new g c = unasked refl (λ s. inr (looks s, c.unserved-in_def
 pub returns-then-is_err : goal.returns-then-is_err
 returns-then-is_err g c = unasked refl (λ s. inr (looks s, c.unserved-then-is_err.ensures))
 
+pub returns-in_default-clock : goal.returns-in_default-clock
+returns-in_default-clock g c = unasked refl (λ s. inr (looks s, c.unserved-in_default-clock.ensures))
+
 pub returns : goal.returns
-returns g c = session c.args.service.now.limits _ c.serve-served.result c.in-Some.listener c.clock-clock.result c.serve-served.new.clock c.in-Some.ensures c.clock-clock.ensures
+returns g c = session c.args.service.now.limits _ c.serve-served.result c.in-Some.listener c.in-Ok-clock.clock c.serve-served.new.clock c.in-Some.ensures c.in-Ok-clock.ensures
     c.serve-served.ensures.honest c.serve-served.ensures.serves (λ e is. ap (λ (x : Office g.row.K.Denot). x.keeper) (of_err _ c.serve-served.result.outcome e is c.serve-served.ensures.nothing).1) c.result_of.ensures
